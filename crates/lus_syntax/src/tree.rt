@@ -1,0 +1,181 @@
+//! The tree of a source, in the order and the words of the grammar.
+
+use crate::token::Span;
+
+/// A name where it stands.
+#[derive(Debug, Drop)]
+pub struct Name {
+    pub text: String,
+    pub span: Span,
+}
+
+/// `bool`, `int`, or a declared type's name.
+#[derive(Debug, Drop)]
+pub enum TypeName {
+    Bool(Span),
+    Int(Span),
+    Declared(Name),
+}
+
+/// Fields of one type.
+#[derive(Debug, Drop)]
+pub struct Fields {
+    pub names: Vec<Name>,
+    pub type_name: TypeName,
+}
+
+/// What a type's name stands for.
+#[derive(Debug, Drop)]
+pub enum Definition {
+    Alias(TypeName),
+    Enumeration(Vec<Name>),
+    Structure(Vec<Fields>),
+}
+
+#[derive(Debug, Drop)]
+pub struct TypeDeclaration {
+    pub name: Name,
+    pub definition: Definition,
+}
+
+/// The right side of a constant.
+#[derive(Debug, Drop)]
+pub enum Literal {
+    Number(i64, Span),
+    /// The minus, and the number after it.
+    Negative(Span, i64, Span),
+    Truth(bool, Span),
+    Constructor(Name),
+}
+
+#[derive(Debug, Drop)]
+pub struct Constant {
+    pub name: Name,
+    pub type_name: Option<TypeName>,
+    pub value: Literal,
+}
+
+/// A constructor, or a truth value.
+#[derive(Debug, Drop)]
+pub enum Label {
+    Constructor(Name),
+    Truth(bool, Span),
+}
+
+/// When a clock ticks.
+#[derive(Debug, Drop)]
+pub enum Test {
+    /// `c`
+    Holds(Name),
+    /// `not c` or `not (c)`, with the place of the word.
+    Fails(Span, Name),
+    /// `A(c)`, `true(c)` or `false(c)`
+    Is(Label, Name),
+}
+
+/// Variables of one type on one clock.
+#[derive(Debug, Drop)]
+pub struct Group {
+    pub names: Vec<Name>,
+    pub type_name: TypeName,
+    pub test: Option<Test>,
+}
+
+/// An operator before its operand.
+#[derive(Clone, Copy, Debug, PartialEq, Eq)]
+pub enum Prefix {
+    Not,
+    Pre,
+    Negate,
+}
+
+/// An operator between its operands.
+#[derive(Clone, Copy, Debug, PartialEq, Eq)]
+pub enum Infix {
+    Fby,
+    Arrow,
+    Implies,
+    Or,
+    Xor,
+    And,
+    Equal,
+    NotEqual,
+    Less,
+    AtMost,
+    Greater,
+    AtLeast,
+    Add,
+    Subtract,
+    Multiply,
+    Divide,
+    Modulo,
+}
+
+/// What stands before the value of a part.
+#[derive(Debug, Drop)]
+pub enum Lead {
+    /// An argument.
+    Plain,
+    /// A field's name.
+    Field(Name),
+    /// A branch's parenthesis and label.
+    Branch(Span, Label),
+}
+
+/// An argument of a call, a field's value of a structure, or a branch of a merge.
+#[cycle(tree)]
+#[derive(Debug, Drop)]
+pub struct Part {
+    pub lead: Lead,
+    pub value: Expr,
+}
+
+/// An expression. A form that begins with a token of its own has that token's span.
+#[cycle(tree)]
+#[derive(Debug, Drop)]
+pub enum Expr {
+    Number(i64, Span),
+    Truth(bool, Span),
+    Name(Name),
+    Call(Name, Vec<Part>),
+    Structure(Name, Vec<Part>),
+    Merge(Span, Name, Vec<Part>),
+    Field(Box<Expr>, Name),
+    Parentheses(Span, Box<Expr>),
+    When(Box<Expr>, Test),
+    Unary(Prefix, Span, Box<Expr>),
+    Binary(Infix, Box<Expr>, Box<Expr>),
+    If(Span, Box<Expr>, Box<Expr>, Box<Expr>),
+}
+
+/// The variables on the left are what the right side gives.
+#[derive(Debug, Drop)]
+pub struct Equation {
+    pub left: Vec<Name>,
+    pub right: Expr,
+}
+
+/// A function is a node without memory.
+#[derive(Clone, Copy, Debug, PartialEq, Eq)]
+pub enum NodeKind {
+    Node,
+    Function,
+}
+
+#[derive(Debug, Drop)]
+pub struct Node {
+    pub kind: NodeKind,
+    pub name: Name,
+    pub inputs: Vec<Group>,
+    pub outputs: Vec<Group>,
+    pub locals: Vec<Group>,
+    pub equations: Vec<Equation>,
+}
+
+/// The declarations of a source, each kind in the order in which they stand.
+#[derive(Debug, Drop)]
+pub struct Tree {
+    pub types: Vec<TypeDeclaration>,
+    pub constants: Vec<Constant>,
+    pub nodes: Vec<Node>,
+}
