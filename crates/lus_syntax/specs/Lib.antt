@@ -1,3 +1,5 @@
 pub mod Lexemes
 pub mod Trees
 pub mod View
+pub mod Cycles
+pub mod Refusals
