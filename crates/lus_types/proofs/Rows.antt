@@ -18,6 +18,8 @@ use Rattle.lus_types.specs.Sized.{Counted, Bounded, leaves_at, nesting_at, call_
 use Rattle.lus_types.specs.Types.{kind_of}
 use Rattle.lus_types.specs.Meaning.{meant, program_of}
 use Rattle.lus_types.specs.WellTyped.{equation_typed, keeps_memory, IsTyped}
+use Rattle.lus_values.specs.Lists.{Each}
+use Rattle.lus_types.specs.Resolved.{NodeResolved}
 
 abbrev start : Place
 start = record { byte = 0; line = 1; column = 1 }
@@ -240,6 +242,13 @@ three_leaves = refl
 
 one_deep : nesting_at fields 0 ≡ 1
 one_deep = refl
+
+-- the programs that they mean keep what later passes rely on
+calls_resolved : Each (NodeResolved (program_of calls)) (program_of calls).nodes
+calls_resolved = search rules
+
+fields_resolved : Each (NodeResolved (program_of fields)) (program_of fields).nodes
+fields_resolved = search rules
 
 -- what breaks a rule
 

@@ -7,3 +7,4 @@ pub mod Types
 pub mod Meaning
 pub mod WellTyped
 pub mod Refusals
+pub mod Resolved
