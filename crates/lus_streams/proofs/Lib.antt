@@ -1,0 +1,11 @@
+pub mod Lists
+pub mod Orders
+pub mod Calls
+pub mod Unique
+pub mod Worlds
+pub mod Alike
+pub mod NilFree
+pub mod FlagLaw
+pub mod Examples
+pub mod Judged
+pub mod Sequences
