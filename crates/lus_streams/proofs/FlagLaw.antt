@@ -11,6 +11,7 @@ use Rattle.lus_streams.specs.Streams.{Instant, instant, Called, nobody, also, Wo
 use Rattle.lus_streams.specs.Order.{needs, needs_all, clock_variables, needs_right, needed, HasOrder}
 use Rattle.lus_streams.specs.Flags.{IsNilFree, flag, greatest, Required, DefinedFlag, AreFlagsOf, was_on, FlagHolds, PartFlagHolds, FlagsHold, OutputIs, HasOutput, CallsHaveOutputs}
 use Rattle.lus_streams.proofs.Lists.{each_left, each_right, each_append, each_all, each_implies, each_both, each_item, below_at, item_past, item_take}
+use Rattle.lus_streams.proofs.Definitions.{defined_on_clock}
 use Rattle.lus_streams.proofs.Orders.{by_order}
 use Rattle.lus_streams.proofs.Calls.{OfCall, OfSite, AtBase, each_equation_part, equation_calls, sites_of_parts, parts_of_sites}
 use Rattle.lus_streams.proofs.Worlds.{called_satisfies}
@@ -223,7 +224,7 @@ module _ (p : Program) (f : Node) (flags : ℕ → Bool) where
         let s : IsNilFree (entry now x) = subst IsNilFree (item_take None f.inputs (row_of now) x (ltb-true x f.inputs e)) (each_item IsNilFree None (take f.inputs (row_of now)) tt inputs x) in
         ((λ _. s), (λ _. s))
     follows_flag_holds x within false e hn h =
-        let r = result_flag_holds now past x (definition_of f x) (below_at (λ y. DefinedOnClock p f y (definition_of f y)) (length f.variables) clocks.defined x within) (below_at (λ y. DefinedFlag flags y (definition_of f y)) (length f.variables) meets.defined x within) (below_at (λ y. OutputIs p (definition_of f y)) (length f.variables) outputs x within) hn before (right_meets_premises (now ∷ past) f.equations x good) in
+        let r = result_flag_holds now past x (definition_of f x) (defined_on_clock p f x clocks) (below_at (λ y. DefinedFlag flags y (definition_of f y)) (length f.variables) meets.defined x within) (below_at (λ y. OutputIs p (definition_of f y)) (length f.variables) outputs x within) hn before (right_meets_premises (now ∷ past) f.equations x good) in
         let k = is_on (clock_of f x) now in
         ((λ fl. subst IsNilFree (sym h) (where_on_nil_free k (definition_value p (definition_of f x) now past) (r.0 fl))), (λ s. subst IsNilFree (sym h) (where_on_nil_free k (definition_value p (definition_of f x) now past) (r.1 s))))
 

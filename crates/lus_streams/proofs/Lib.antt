@@ -1,5 +1,6 @@
 pub mod Lists
 pub mod Orders
+pub mod Definitions
 pub mod Calls
 pub mod Unique
 pub mod Worlds

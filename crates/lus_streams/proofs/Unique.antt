@@ -12,6 +12,7 @@ use Rattle.lus_streams.specs.Equations.{Definition, given_by, place_in, equation
 use Rattle.lus_streams.specs.OnClock.{actuals, DefinedOnClock, IsOnClocks, ProgramOnClocks}
 use Rattle.lus_streams.specs.Order.{needs, needs_all, clock_variables, needs_right, needed, HasOrder, IsCausal}
 use Rattle.lus_streams.proofs.Calls.{OfCall, OfSite, AtBase, equation_calls, sites_of_parts, parts_of_sites}
+use Rattle.lus_streams.proofs.Definitions.{defined_on_clock}
 use Rattle.lus_streams.proofs.Orders.{by_order}
 use Rattle.lus_streams.proofs.Lists.{each_left, each_right, each_all, each_item, each_map_append, each_map_right, each_map_drop, below_at, item_past, item_take, ext_item}
 
@@ -137,7 +138,7 @@ module _ (p : Program) (now now' : Instant) (past : World) (same_base : is_prese
         let lt = ltb-true x f.inputs e in
         sym (item_take None f.inputs (row_of now) x lt) ∙ ap (λ r. item None r x) same_inputs ∙ item_take None f.inputs (row_of now') x lt
     follows_same x within false e hk hn h h' =
-        h ∙ ap₂ where_on (on_same (clock_of f x) hk) (result_same f x (definition_of f x) (below_at (λ y. DefinedOnClock p f y (definition_of f y)) (length f.variables) clocks.defined x within) hk hn (right_facts f f.equations x facts)) ∙ sym h'
+        h ∙ ap₂ where_on (on_same (clock_of f x) hk) (result_same f x (definition_of f x) (defined_on_clock p f x clocks) hk hn (right_facts f f.equations x facts)) ∙ sym h'
 
     variable_same : (x : ℕ) → Each Agree (needed f x) → Agree x
     variable_same x h =
@@ -187,7 +188,7 @@ module _ (p : Program) (causal : IsCausal p) (clocks : ProgramOnClocks p) where
   order_at = each_item HasOrder empty_node p.nodes ([], record { first = tt; all = tt }) causal
 
   pub clocks_at : (f : ℕ) → IsOnClocks p (node_at p f)
-  clocks_at = each_item (IsOnClocks p) empty_node p.nodes (record { declared = tt; defined = tt; rights = tt }) clocks
+  clocks_at = each_item (IsOnClocks p) empty_node p.nodes (record { declared = tt; lefts = tt; rights = tt }) clocks
 
   mutual
     instant_unique : (i i' : Instant) (f : ℕ) (past : World) → IsInstant p i f past → IsInstant p i' f past → is_present i ≡ is_present i'

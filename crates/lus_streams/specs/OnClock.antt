@@ -1,10 +1,10 @@
 -- Which programs are on clocks (Lustre V6 reference manual, "Clocks").
-use Rattle.std.specs.Prelude.{◌≡◌, ℕ, ◌+◌, ◌<◌, List, [], ◌∷◌, ◌++◌, length, Option, Some, None}
+use Rattle.std.specs.Prelude.{◌≡◌, ℕ, suc, ◌+◌, ◌<◌, List, [], ◌∷◌, ◌++◌, length, Option, Some, None}
 use Rattle.lus_values.specs.Lists.{item, Each, Below}
 use Rattle.lus_program.specs.declared.expr.Test.{Test}
-use Rattle.lus_program.specs.Programs.{Expression, variable, when, merge, call, Operands, none, more, Node, Program, no_variable, node_at}
+use Rattle.lus_program.specs.Programs.{Expression, variable, when, merge, call, Operands, none, more, Equation, Node, Program, no_variable, node_at}
 use Rattle.lus_streams.specs.Clocks.{Clock, clock_of, Part, at, operand, renamed_clock, base_of, parts}
-use Rattle.lus_streams.specs.Equations.{Definition, given_by, definition_of, equation_clock}
+use Rattle.lus_streams.specs.Equations.{Definition, given_by, equation_clock}
 
 -- x may be tested by y: an input by an input, an output by an input or an output, a local by any variable
 abbrev pub MayTest : Node → ℕ → ℕ → Type 0
@@ -48,6 +48,11 @@ module _ (p : Program) (f : Node) where
   DefinedOnClock x (Some (given_by (call g c args) n xs k)) = OutputOn (node_at p g) n args xs (base_of (node_at p g) k) (clock_of f x)
   DefinedOnClock x (Some (given_by e n xs k)) = clock_of f x ≡ k
 
+  -- the variables on the left of an equation, the first of which is output n, are on the clocks that the right side gives them
+  abbrev pub LeftOnClock : Equation → ℕ → List ℕ → Type 0
+  LeftOnClock q n [] = Unit {0}
+  LeftOnClock q n (x ∷ xs) = DefinedOnClock x (Some (given_by q.right n q.targets (equation_clock f q))) × LeftOnClock q (suc n) xs
+
   -- what a part asks of its clock: a variable is on it, `when` has its test and its variable on the rest, a merge its
   -- variable on it, a call its output; a literal takes the clock of its place, the other forms ask nothing of their own
   abbrev pub PartOnClock : Part → Type 0
@@ -65,7 +70,7 @@ module _ (p : Program) (f : Node) where
   -- declared clocks, equations and calls of a node are on clocks
   pub record IsOnClocks : Type 0 where
     pub declared : Below (length f.variables) (λ x. IsDeclared f x (test_of f x))
-    pub defined : Below (length f.variables) (λ x. DefinedOnClock x (definition_of f x))
+    pub lefts : Each (λ q. LeftOnClock q 0 q.targets) f.equations
     pub rights : Each (λ q. RightOnClock (parts p q.right (equation_clock f q))) f.equations
 
 abbrev pub ProgramOnClocks : Program → Type 0
