@@ -1,5 +1,11 @@
 pub mod Lexemes
 pub mod Trees
 pub mod View
+pub mod Places
+pub mod Texts
+pub mod Gaps
+pub mod Tokens
+pub mod Spans
+pub mod Reading
 pub mod Cycles
 pub mod Refusals

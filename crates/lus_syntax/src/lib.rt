@@ -1,13 +1,26 @@
 //! Tokens, the tree of a source, and refusals.
 #![tactic(auto)]
 
+mod fault;
+mod gap;
+mod kind;
+mod laws;
+mod lexer;
+mod place;
 mod refusal;
+mod table;
+mod text;
 mod token;
 mod tree;
 
+pub use laws::{one_reading, places_in_words};
+pub use lexer::lex;
 pub use refusal::{Cycle, Refusal, RefusalNumber};
 pub use token::{Place, Span, Symbol, Token, TokenKind, Word};
 pub use tree::{
     Constant, Definition, Equation, Expr, Fields, Group, Infix, Label, Lead, Literal, Name, Node,
     NodeKind, Part, Prefix, Test, Tree, TypeDeclaration, TypeName,
 };
+
+#[cfg(test)]
+mod tests;

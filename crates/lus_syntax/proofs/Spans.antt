@@ -1,0 +1,185 @@
+-- Where the tokens of a text stand.
+use Rattle.std.proofs.Common.{◌≡◌, ℕ, ◌+◌, ◌<◌, ◌≤◌, Bool, true, false, cond, List, [], ◌∷◌, ◌++◌, length, reverse, refl, sym, ap, ◌∙◌, arith, append_assoc, inl, inr, Result, Ok, Err}
+use Rattle.std.specs.Prelude.{not, ◌≢◌, MatchResult, IsErrAnd}
+use Rattle.std.specs.List.{count_by, take_while, AllByRecursion}
+use Rattle.std.proofs.lemmas.List.{reverse-append, reverse-reverse, length-reverse}
+use Rattle.std.proofs.lemmas.Bool.{cond-true, cond-false}
+use Rattle.std.proofs.lemmas.List.Sums.{sum_by-cons, sum_by-append, take_while-cons}
+use Rattle.lus_syntax.specs.declared.token.Place.{Place}
+use Rattle.lus_syntax.specs.declared.refusal.RefusalNumber.{RefusalNumber}
+use Rattle.lus_syntax.specs.declared.refusal.RefusalNumber.TheVariants.{Lexical, Unsupported, Limit, Memory}
+use Rattle.lus_syntax.specs.declared.refusal.Refusal.{Refusal}
+use Rattle.lus_syntax.specs.declared.fault.LexError.{LexError}
+use Rattle.lus_syntax.specs.declared.fault.LexError.TheVariants as errors
+use Rattle.lus_syntax.specs.Places.{is_feed, is_first, past_one, past, start, place_behind}
+use Rattle.lus_syntax.specs.Gaps.{Gap}
+use Rattle.lus_syntax.specs.Lexemes.{Lexeme}
+use Rattle.lus_syntax.specs.Tokens.{Reads, Run, Tokens, Faulty, IsAt}
+use Rattle.lus_syntax.specs.Reading.{IsFault, refusal_of}
+use Rattle.lus_syntax.specs.Spans.{StandsIn, InOrder, StandsAt}
+use Rattle.lus_syntax.proofs.Places.{past_push, past_append, past_byte}
+use Rattle.lus_syntax.proofs.Meanings.{text_nonempty}
+use Rattle.lus_syntax.proofs.Unique.{one_fault, no_fault, fault_number}
+
+-- ---- places in words
+
+pub count_cons : (p : ℕ → Bool) (b : ℕ) (bs : List ℕ) → count_by p (b ∷ bs) ≡ cond (p b) 1 0 + count_by p bs
+count_cons p b bs = sum_by-cons (λ x. cond (p x) 1 0) b bs
+
+same_place : (a b c d e f : ℕ) → a ≡ b → c ≡ d → e ≡ f → ◌≡◌ {A = Place} (record { byte = a; line = c; column = e }) (record { byte = b; line = d; column = f })
+same_place a b c d e f p q r = λ i. record { byte = p i; line = q i; column = r i }
+
+abbrev pub same_line : ℕ → Bool
+same_line b = not (is_feed b)
+
+-- the place behind these bytes, the last of them first
+abbrev place_before : List ℕ → Place
+place_before before = record { byte = length before; line = 1 + count_by is_feed before; column = 1 + count_by is_first (take_while same_line before) }
+
+pub new_line : (at : Place) (b : ℕ) → is_feed b ≡ true → past_one at b ≡ record { byte = at.byte + 1; line = at.line + 1; column = 1 }
+new_line at b e = cond-true (is_feed b) _ _ e
+
+pub on_line : (at : Place) (b : ℕ) (g : Bool) → is_feed b ≡ false → is_first b ≡ g → past_one at b ≡ record { byte = at.byte + 1; line = at.line; column = cond g (at.column + 1) at.column }
+on_line at b g e h = cond-false (is_feed b) _ _ e ∙ ap (λ (t : Bool). record { byte = at.byte + 1; line = at.line; column = cond t (at.column + 1) at.column }) h
+
+one_before : (b : ℕ) (bs : List ℕ) → past_one (place_before bs) b ≡ place_before (b ∷ bs)
+one_before b bs = go (is_feed b) (is_first b) refl refl
+  where
+    go : (f g : Bool) → is_feed b ≡ f → is_first b ≡ g → past_one (place_before bs) b ≡ place_before (b ∷ bs)
+    go true g e h =
+        let lines : 1 + count_by is_feed (b ∷ bs) ≡ 1 + count_by is_feed bs + 1 = rw (count_cons, e) (omega arith) in
+        let none : take_while same_line (b ∷ bs) ≡ [] = take_while-cons same_line b bs ∙ rw e refl in
+        let column : 1 + count_by is_first (take_while same_line (b ∷ bs)) ≡ 1 = ap (λ (x : List ℕ). 1 + count_by is_first x) none in
+        new_line (place_before bs) b e ∙ (same_place (length bs + 1) (length (b ∷ bs)) (1 + count_by is_feed bs + 1) (1 + count_by is_feed (b ∷ bs)) 1 (1 + count_by is_first (take_while same_line (b ∷ bs))) (omega arith) (sym lines) (sym column))
+    go false g e h =
+        let lines : 1 + count_by is_feed (b ∷ bs) ≡ 1 + count_by is_feed bs = rw (count_cons, e) (omega arith) in
+        let some : take_while same_line (b ∷ bs) ≡ b ∷ take_while same_line bs = take_while-cons same_line b bs ∙ rw e refl in
+        let counted : count_by is_first (take_while same_line (b ∷ bs)) ≡ cond g 1 0 + count_by is_first (take_while same_line bs) = ap (count_by is_first) some ∙ count_cons is_first b (take_while same_line bs) ∙ ap (λ (x : Bool). cond x 1 0 + count_by is_first (take_while same_line bs)) h in
+        let column : cond g (1 + count_by is_first (take_while same_line bs) + 1) (1 + count_by is_first (take_while same_line bs)) ≡ 1 + count_by is_first (take_while same_line (b ∷ bs)) = columns g (count_by is_first (take_while same_line bs)) (count_by is_first (take_while same_line (b ∷ bs))) counted in
+        on_line (place_before bs) b g e h ∙ (same_place (length bs + 1) (length (b ∷ bs)) (1 + count_by is_feed bs) (1 + count_by is_feed (b ∷ bs)) _ (1 + count_by is_first (take_while same_line (b ∷ bs))) (omega arith) (sym lines) column)
+      where
+        columns : (g : Bool) (n m : ℕ) → m ≡ cond g 1 0 + n → cond g (1 + n + 1) (1 + n) ≡ 1 + m
+        columns true n m e = omega (arith, e)
+        columns false n m e = omega (arith, e)
+
+past_reversed : (bs : List ℕ) → past start (reverse bs) ≡ place_before bs
+past_reversed [] = refl
+past_reversed (b ∷ bs) =
+    let e : reverse (b ∷ bs) ≡ reverse bs ++ b ∷ [] = reverse-append (b ∷ []) bs in
+    ap (past start) e ∙ past_push start (reverse bs) b ∙ ap (λ (x : Place). past_one x b) (past_reversed bs) ∙ one_before b bs
+
+pub count_by-reverse : (p : ℕ → Bool) (bs : List ℕ) → count_by p (reverse bs) ≡ count_by p bs
+count_by-reverse p [] = refl
+count_by-reverse p (b ∷ bs) =
+    let weight : ℕ → ℕ = λ x. cond (p x) 1 0 in
+    let split : count_by p (reverse (b ∷ bs)) ≡ count_by p (reverse bs) + count_by p (b ∷ []) = ap (count_by p) (reverse-append (b ∷ []) bs) ∙ sum_by-append weight (reverse bs) (b ∷ []) in
+    omega (arith, split, count_by-reverse p bs, count_cons p b bs, count_cons p b [])
+
+pub past_is : (front : List ℕ) → past start front ≡ place_behind front
+past_is front =
+    ap (past start) (sym (reverse-reverse front)) ∙ past_reversed (reverse front)
+    ∙ same_place (length (reverse front)) (length front) (1 + count_by is_feed (reverse front)) (1 + count_by is_feed front) _ _ (length-reverse front) (ap (λ (n : ℕ). 1 + n) (count_by-reverse is_feed front)) refl
+
+-- ---- fronts
+
+gap_front : (pieces : List (List ℕ)) (at : Place) (text : List ℕ) (to : Place) (here : List ℕ) → Gap pieces at text to here → (gap : List ℕ) × (text ≡ gap ++ here) × (to ≡ past at gap)
+gap_front [] at text to here g = ([], g.1, sym g.0)
+gap_front (p ∷ pieces) at text to here g =
+    let r = gap_front pieces (past at p) g.0 to here g.3 in
+    (p ++ r.0, g.1 ∙ ap (λ (x : List ℕ). p ++ x) r.1 ∙ sym (append_assoc p r.0 here), r.2 ∙ sym (past_append at p r.0))
+
+record Stands (whole front : List ℕ) (at : Place) (text : List ℕ) (t : Lexeme) (rest : List ℕ) : Type 0 where
+  next : List ℕ
+  parts : whole ≡ next ++ rest
+  ends : t.span.«end» ≡ past start next
+  stands : StandsIn whole t
+  order : at.byte ≤ t.span.start.byte
+  some : t.span.start.byte < t.span.«end».byte
+
+reads_stands : (whole front : List ℕ) (at : Place) (text : List ℕ) (t : Lexeme) (rest : List ℕ) → whole ≡ front ++ text → at ≡ past start front → Reads at text t rest → Stands whole front at text t rest
+reads_stands whole front at text t rest e place r =
+    let g = gap_front r.gap.0 at text t.span.start r.here r.gap.1 in
+    let l = r.token.longest in
+    let s = r.token.text in
+    let before : List ℕ = front ++ g.0 in
+    let parts : whole ≡ before ++ (s ++ rest) = e ∙ ap (λ (x : List ℕ). front ++ x) (g.1 ∙ ap (λ (x : List ℕ). g.0 ++ x) l.parts) ∙ sym (append_assoc front g.0 (s ++ rest)) in
+    let starts : t.span.start ≡ past start before = g.2 ∙ ap (λ (x : Place). past x g.0) place ∙ sym (past_append start front g.0) in
+    let ends : t.span.«end» ≡ past start (before ++ s) = r.token.ends ∙ ap (λ (x : Place). past x s) starts ∙ sym (past_append start before s) in
+    record {
+      next = before ++ s;
+      parts = parts ∙ sym (append_assoc before s rest);
+      ends = ends;
+      stands = record { front = before; text = s; rest = rest; parts = parts; start = starts ∙ past_is before; ends = ends ∙ past_is (before ++ s); means = r.token.means };
+      order = omega (arith, ap (λ (x : Place). x.byte) g.2, past_byte at g.0);
+      some = omega (arith, ap (λ (x : Place). x.byte) r.token.ends, past_byte t.span.start s, text_nonempty s l.is_one);
+    }
+
+run_stands : (ts : List Lexeme) (whole front : List ℕ) (at : Place) (text : List ℕ) (to : Place) (rest : List ℕ) → whole ≡ front ++ text → at ≡ past start front → Run ts at text to rest
+    → AllByRecursion (StandsIn whole) ts × InOrder at.byte ts
+run_stands [] whole front at text to rest e place r = (tt, tt)
+run_stands (t ∷ ts) whole front at text to rest e place r =
+    let s = reads_stands whole front at text t r.0 e place r.1 in
+    let ih = run_stands ts whole s.next t.span.«end» r.0 to rest s.parts s.ends r.2 in
+    ((s.stands, ih.0), (s.order, s.some, ih.1))
+
+pub tokens_stand : (text : List ℕ) (ts : List Lexeme) → Tokens text ts → AllByRecursion (StandsIn text) ts × InOrder 0 ts
+tokens_stand text ts t = run_stands ts text [] start text t.to t.rest refl refl t.run
+
+-- ---- faults
+
+run_front : (ts : List Lexeme) (at : Place) (text : List ℕ) (to : Place) (rest : List ℕ) → Run ts at text to rest → (front : List ℕ) × (text ≡ front ++ rest) × (to ≡ past at front)
+run_front [] at text to rest r = ([], r.1, sym r.0)
+run_front (t ∷ ts) at text to rest r =
+    let g = gap_front r.1.gap.0 at text t.span.start r.1.here r.1.gap.1 in
+    let s = r.1.token.text in
+    let next = run_front ts t.span.«end» r.0 to rest r.2 in
+    let whole : text ≡ g.0 ++ (s ++ (next.0 ++ rest)) = g.1 ∙ ap (λ (x : List ℕ). g.0 ++ x) (r.1.token.longest.parts ∙ ap (λ (x : List ℕ). s ++ x) next.1) in
+    let parts : g.0 ++ (s ++ (next.0 ++ rest)) ≡ (g.0 ++ (s ++ next.0)) ++ rest = simp append_assoc in
+    let behind : past t.span.start s ≡ past at (g.0 ++ s) = ap (λ (x : Place). past x s) g.2 ∙ sym (past_append at g.0 s) in
+    let place : to ≡ past (past at (g.0 ++ s)) next.0 = next.2 ∙ ap (λ (x : Place). past x next.0) (r.1.token.ends ∙ behind) in
+    (g.0 ++ (s ++ next.0), whole ∙ parts, place ∙ sym (past_append at (g.0 ++ s) next.0) ∙ ap (past at) (append_assoc g.0 s next.0))
+
+pub fault_stands : (text : List ℕ) (number : RefusalNumber) (place : Place) → Faulty text number place → StandsAt text place
+fault_stands text number place f =
+    let r = run_front f.before start text f.to f.rest f.run in
+    let g = gap_front f.breaks.gap.0 f.to f.rest place f.breaks.here f.breaks.gap.1 in
+    let parts : text ≡ (r.0 ++ g.0) ++ f.breaks.here = r.1 ∙ ap (λ (x : List ℕ). r.0 ++ x) g.1 ∙ sym (append_assoc r.0 g.0 f.breaks.here) in
+    let at : place ≡ past start (r.0 ++ g.0) = g.2 ∙ ap (λ (x : Place). past x g.0) r.2 ∙ sym (past_append start r.0 g.0) in
+    (r.0 ++ g.0, f.breaks.here, parts, at ∙ past_is (r.0 ++ g.0))
+
+-- ---- what a caller gets
+
+never_memory : (text : List ℕ) (number : RefusalNumber) (place : Place) → Faulty text number place → number ≡ Memory → ⊥
+never_memory text number place f e = elim (fault_number text number place f) [ inl a ↦ apart a | inr (inl b) ↦ other b | inr (inr d) ↦ third d ]
+  where
+    apart : number ≡ Lexical → ⊥
+    apart a = cc
+
+    other : number ≡ Unsupported → ⊥
+    other b = cc
+
+    third : number ≡ Limit → ⊥
+    third d = cc
+
+pub only_memory : (text : List ℕ) (e : LexError) (r : Refusal) → r ≡ refusal_of e → IsFault text e → (ts : List Lexeme) → Tokens text ts → r.number ≡ Memory
+only_memory text errors.Memory r is fault ts t = ap (λ (x : Refusal). x.number) is
+only_memory text (errors.Fault number place) r is fault ts t = absurd (no_fault text ts number place t fault)
+
+is_at : (r : Refusal) (number : RefusalNumber) (place : Place) → r ≡ refusal_of (errors.Fault number place) → IsAt r number place
+is_at r number place is = (ap (λ (x : Refusal). x.number) is, ap (λ (x : Refusal). x.line) is, ap (λ (x : Refusal). x.column) is)
+
+pub refused_at : (text : List ℕ) (e : LexError) (r : Refusal) → r ≡ refusal_of e → IsFault text e → (number : RefusalNumber) (place : Place) → Faulty text number place → r.number ≢ Memory → IsAt r number place
+refused_at text errors.Memory r is fault number place f some = absurd (some (ap (λ (x : Refusal). x.number) is))
+refused_at text (errors.Fault n p) r is fault number place f some =
+    let at = is_at r n p is in
+    let same = one_fault text n number p place fault f in
+    (at.0 ∙ same.0, at.1 ∙ ap (λ (x : Place). x.line) same.1, at.2 ∙ ap (λ (x : Place). x.column) same.1)
+
+pub memory_nowhere : (text : List ℕ) (e : LexError) (r : Refusal) → r ≡ refusal_of e → IsFault text e → r.number ≡ Memory → (r.line ≡ 0) × (r.column ≡ 0)
+memory_nowhere text errors.Memory r is fault none = (ap (λ (x : Refusal). x.line) is, ap (λ (x : Refusal). x.column) is)
+memory_nowhere text (errors.Fault number place) r is fault none = absurd (never_memory text number place fault (sym (is_at r number place is).0 ∙ none))
+
+-- a result that is such an error
+pub of_error : {X E : Type 0} (A : X → Type 0) (P Q : E → Type 0) (r : Result X E) → IsErrAnd r P → ((e : E) → P e → Q e) → MatchResult r A Q
+of_error A P Q (Ok x) is f = absurd is
+of_error A P Q (Err e) is f = f e is

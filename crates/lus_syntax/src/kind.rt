@@ -1,0 +1,137 @@
+//! What a token's text stands for.
+
+ghost use Rattle.std.specs.Prelude.{◌≡◌, true, pos, option_map};
+ghost use Rattle.lus_syntax.specs.Texts.{words, symbols, look_up, is_text, is_number, number_within, meaning};
+ghost use Rattle.lus_syntax.specs.Reading.{Gives};
+
+use crate::fault::LexError;
+use crate::refusal::RefusalNumber;
+use crate::table::look_up;
+use crate::text::begins_name;
+use crate::token::{Place, Symbol, TokenKind, Word};
+use std::alloc::Global;
+use std::str;
+
+// The words, and those that are kept back.
+static WORDS: [(&str, Option<Word>); 39] = [
+    ("node", Some(Word::Node)),
+    ("function", Some(Word::Function)),
+    ("returns", Some(Word::Returns)),
+    ("var", Some(Word::Var)),
+    ("let", Some(Word::Let)),
+    ("tel", Some(Word::Tel)),
+    ("type", Some(Word::Type)),
+    ("const", Some(Word::Const)),
+    ("enum", Some(Word::Enum)),
+    ("struct", Some(Word::Struct)),
+    ("bool", Some(Word::Bool)),
+    ("int", Some(Word::Int)),
+    ("true", Some(Word::True)),
+    ("false", Some(Word::False)),
+    ("not", Some(Word::Not)),
+    ("and", Some(Word::And)),
+    ("or", Some(Word::Or)),
+    ("xor", Some(Word::Xor)),
+    ("if", Some(Word::If)),
+    ("then", Some(Word::Then)),
+    ("else", Some(Word::Else)),
+    ("div", Some(Word::Div)),
+    ("mod", Some(Word::Mod)),
+    ("pre", Some(Word::Pre)),
+    ("fby", Some(Word::Fby)),
+    ("when", Some(Word::When)),
+    ("merge", Some(Word::Merge)),
+    ("real", None),
+    ("current", None),
+    ("assert", None),
+    ("extern", None),
+    ("unsafe", None),
+    ("condact", None),
+    ("package", None),
+    ("model", None),
+    ("with", None),
+    ("include", None),
+    ("operator", None),
+    ("nor", None),
+];
+
+// The symbols, and one that is kept back. A longer one stands before a shorter one.
+pub(crate) static SYMBOLS: [(&str, Option<Symbol>); 21] = [
+    ("<>", Some(Symbol::NotEqual)),
+    ("<=", Some(Symbol::AtMost)),
+    (">=", Some(Symbol::AtLeast)),
+    ("->", Some(Symbol::Arrow)),
+    ("=>", Some(Symbol::Implies)),
+    ("(", Some(Symbol::Open)),
+    (")", Some(Symbol::Close)),
+    ("{", Some(Symbol::OpenBrace)),
+    ("}", Some(Symbol::CloseBrace)),
+    (",", Some(Symbol::Comma)),
+    (";", Some(Symbol::Semicolon)),
+    (":", Some(Symbol::Colon)),
+    (".", Some(Symbol::Dot)),
+    ("=", Some(Symbol::Equal)),
+    ("<", Some(Symbol::Less)),
+    (">", Some(Symbol::Greater)),
+    ("+", Some(Symbol::Plus)),
+    ("-", Some(Symbol::Minus)),
+    ("*", Some(Symbol::Star)),
+    ("/", Some(Symbol::Slash)),
+    ("#", None),
+];
+
+#[tactic(auto, unfolding(crate::specs::Texts::words))]
+fn word_of(text: &str) -> Option<Option<Word>>
+    ensures { result ≡ look_up text.now words }
+{
+    look_up(&WORDS, text)
+}
+
+#[tactic(auto, unfolding(crate::specs::Texts::symbols))]
+fn symbol_of(text: &str) -> Option<Option<Symbol>>
+    ensures { result ≡ look_up text.now symbols }
+{
+    look_up(&SYMBOLS, text)
+}
+
+// The number that the digits write, within its limit.
+fn number_of(text: &str) -> Option<i64>
+    requires { is_number text.now ≡ true }
+    ensures { result ≡ option_map pos (number_within text.now) }
+{
+    text.parse::<i64>().ok()
+}
+
+/// What the text of a token stands for, at the place where it begins.
+pub(crate) fn kind_of(alloc: Global, bytes: &[u8], at: Place) -> Result<TokenKind, LexError>
+    requires { is_text bytes.now ≡ true }
+    ensures { Gives at result (meaning bytes.now) }
+{
+    kind_of_text(alloc, str::from_utf8(bytes).unwrap(), at)
+}
+
+#[tactic(auto, unfolding(crate::specs::Texts::meaning))]
+fn kind_of_text(alloc: Global, text: &str, at: Place) -> Result<TokenKind, LexError>
+    requires { is_text text.now ≡ true }
+    ensures { Gives at result (meaning text.now) }
+{
+    let first = text.as_bytes()[0];
+    if begins_name(first) {
+        match word_of(text) {
+            None => Ok(TokenKind::Identifier(String::from_str(alloc, text)?)),
+            Some(None) => Err(LexError::Fault(RefusalNumber::Unsupported, at)),
+            Some(Some(word)) => Ok(TokenKind::Keyword(word)),
+        }
+    } else if first.is_ascii_digit() {
+        match number_of(text) {
+            None => Err(LexError::Fault(RefusalNumber::Limit, at)),
+            Some(number) => Ok(TokenKind::Number(number)),
+        }
+    } else {
+        match symbol_of(text) {
+            None => Err(LexError::Fault(RefusalNumber::Lexical, at)),
+            Some(None) => Err(LexError::Fault(RefusalNumber::Unsupported, at)),
+            Some(Some(symbol)) => Ok(TokenKind::Punctuation(symbol)),
+        }
+    }
+}
