@@ -1,0 +1,8 @@
+//! Things that use each other: an order in which each comes after what it uses, or a cycle.
+#![tactic(auto)]
+
+mod laws;
+mod walk;
+
+pub use laws::orders_have_no_cycle;
+pub use walk::{GraphError, order_of};
