@@ -4,6 +4,7 @@ use Rattle.std.proofs.lemmas.Bool.{cases_eq, cases_lt}
 use Rattle.std.proofs.lemmas.List.{get_or-replicate, length-replicate, get_or-set_same, get_or-set_other, get_or_append_left, get_or-append_right, get_or-drop, get_or-take, length-map, get_or_past, get_or-map}
 use Rattle.std.proofs.Math.Seq.{get_or-append_seam, take-suc}
 use Rattle.std.proofs.lemmas.List.Elements.{Contains-append_cases, Contains-append_left, Contains-push}
+use Rattle.std.proofs.lemmas.List.Folds.{sum_by-replicate}
 use Rattle.std.proofs.lemmas.List.Sums.{sum_by-set}
 use Rattle.lus_values.specs.Lists.{item}
 use Rattle.lus_graph.specs.declared.walk.Mark.{Mark}
@@ -56,6 +57,7 @@ module _ (uses : Uses) (ms : List Mark) (path order : List ℕ) (x : ℕ) (s : I
       let m = marks.Open (length path) in
       record {
         size = length-set ms x m ∙ s.size;
+        counted = omega (arith, s.counted, s.size, more_length path x, sum_by-set one_if_new ms x m marks.New (omega (arith, s.size)), ap one_if_new new);
         path_open = λ k below. ⊎_elim
             (λ last. rw (last_item path x k last) (marked m lt ∙ ap marks.Open (sym last)))
             (λ other. let before : k < length path = omega (arith, more_length path x) in
@@ -114,6 +116,7 @@ module _ (uses : Uses) (ms : List Mark) (path order : List ℕ) (x : ℕ) (s : I
   pub closes : ((y : ℕ) → y < length uses → Contains (used uses x) y → Contains order y) → IsSound uses (set ms x marks.Done) path (order ++ x ∷ [])
   closes done = record {
     size = length-set ms x marks.Done ∙ s.size;
+    counted = omega (arith, s.counted, more_length path x, more_length order x, sum_by-set one_if_new ms x marks.Done marks.New within, ap one_if_new is_open);
     path_open = λ k below.
         let before : mark_at ms (get_or path k 0) ≡ marks.Open k = ap (mark_at ms) (sym (item_before path x k below)) ∙ s.path_open k (omega (arith, more_length path x)) in
         unmarked marks.Done (get_or path k 0) (λ e. let f = some_open _ k (length path) (ap (mark_at ms) (sym e) ∙ before) is_open in omega arith) ∙ before;
@@ -240,9 +243,10 @@ no_open m k e f = cc
 no_done : (m : Mark) → m ≡ marks.New → m ≡ marks.Done → ⊥
 no_done m e f = cc
 
-pub starts : (uses : Uses) (ms : List Mark) → length ms ≡ length uses → ((x : ℕ) → mark_at ms x ≡ marks.New) → IsSound uses ms [] []
-starts uses ms size new = record {
+pub starts : (uses : Uses) (ms : List Mark) → length ms ≡ length uses → new_count ms ≡ length uses → ((x : ℕ) → mark_at ms x ≡ marks.New) → IsSound uses ms [] []
+starts uses ms size counted new = record {
   size = size;
+  counted = omega (arith, counted);
   path_open = λ k lt. elim (no_item k lt) [ ];
   open_path = λ x k e. elim (no_open (mark_at ms x) k (new x) e) [ ];
   way = λ k lt. elim (no_item (suc k) lt) [ ];
@@ -257,6 +261,10 @@ all_new n x = ⊎_elim (λ lt. get_or-replicate n x marks.New marks.New lt) (λ 
 pub orders : (uses : Uses) (ms : List Mark) (path order : List ℕ) → IsSound uses ms path order → ((x : ℕ) → x < length uses → Contains order x) → IsOrder uses order
 orders uses ms path order s all = record {
   ordered = s.ordered;
+  size = omega (arith, s.counted);
   within = λ x among. ⊎_elim (λ lt. lt) (λ le. elim (no_done (mark_at ms x) (get_or_past ms x marks.New (omega (arith, s.size))) (s.order_done x among)) [ ]) (cases_lt x (length uses));
   whole = all;
 }
+
+pub new_at_first : (n : ℕ) → new_count (replicate n marks.New) ≡ n
+new_at_first n = sum_by-replicate one_if_new n marks.New ∙ omega arith

@@ -1,5 +1,5 @@
 -- What the walk keeps.
-use Rattle.std.specs.Prelude.{◌≡◌, ℕ, suc, ◌<◌, ◌≤◌, List, ◌++◌, length, drop, take, map, sum_by, Contains, Vec}
+use Rattle.std.specs.Prelude.{◌≡◌, ℕ, suc, ◌+◌, ◌<◌, ◌≤◌, List, ◌++◌, length, drop, take, map, sum_by, Contains, Vec}
 use Rattle.std.specs.declared.alloc.Global.{Global}
 use Rattle.lus_values.specs.Lists.{item}
 use Rattle.lus_graph.specs.declared.walk.Mark.{Mark}
@@ -26,6 +26,7 @@ new_count ms = sum_by one_if_new ms
 -- marks tell what stands on the path and in the order
 pub record IsSound (uses : Uses) (ms : List Mark) (path order : List ℕ) : Type 0 where
   pub size : length ms ≡ length uses
+  pub counted : length path + length order + new_count ms ≡ length uses
   pub path_open : (k : ℕ) → k < length path → mark_at ms (item 0 path k) ≡ marks.Open k
   pub open_path : (x k : ℕ) → mark_at ms x ≡ marks.Open k → (k < length path) × (item 0 path k ≡ x)
   pub way : IsWay uses path

@@ -26,6 +26,7 @@ pub data IsOrdered (uses : Uses) : List ℕ → Type 0 where
 -- an order of all things
 pub record IsOrder (uses : Uses) (order : List ℕ) : Type 0 where
   pub ordered : IsOrdered uses order
+  pub size : length order ≤ length uses
   pub within : (x : ℕ) → Contains order x → x < length uses
   pub whole : (x : ℕ) → x < length uses → Contains order x
 

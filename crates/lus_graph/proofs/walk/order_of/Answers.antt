@@ -3,7 +3,7 @@ use Rattle.std.proofs.lemmas.Bool.{cases_eq}
 use Rattle.std.proofs.lemmas.List.{length-replicate}
 use Rattle.lus_graph.specs.declared.walk.Mark.TheVariants as marks
 use Rattle.lus_graph.specs.Walks.{uses_of}
-use Rattle.lus_graph.proofs.Steps.{starts, all_new, orders, uses_length, no_item}
+use Rattle.lus_graph.proofs.Steps.{starts, all_new, new_at_first, orders, uses_length, no_item}
 use Rattle.lus_graph.proofs.walk.order_of.Goals as goal
 
 pub loop-thing-init : goal.loop-thing-init
@@ -13,7 +13,7 @@ loop-thing-init c =
     let path : c.new.result.items ≡ [] = search rules in
     let order : c.new-2.result.items ≡ [] = search rules in
     record {
-      sound = rw (items, path, order) (starts (uses_of c.args.uses.now) (replicate n marks.New) (length-replicate n marks.New ∙ sym (uses_length c.args.uses.now)) (all_new n));
+      sound = rw (items, path, order) (starts (uses_of c.args.uses.now) (replicate n marks.New) (length-replicate n marks.New ∙ sym (uses_length c.args.uses.now)) (new_at_first n ∙ sym (uses_length c.args.uses.now)) (all_new n));
       path = path;
       done = λ x lt. elim (no_item x lt) [ ];
     }
