@@ -8,3 +8,4 @@ pub mod Runs
 pub mod Unique
 pub mod Spans
 pub mod Characters
+mod Examples
