@@ -1,0 +1,10 @@
+pub mod NewestTests
+pub mod CallClocks
+pub mod NamedFormals
+pub mod Lookups
+pub mod Steps
+pub mod ExprViews
+pub mod Fits
+pub mod Equations
+pub mod Numbering
+pub mod Whole

@@ -1,0 +1,167 @@
+//! Whether an expression is on the clock of its place.
+
+ghost use Rattle.std.specs.Prelude.{◌≡◌, [], is_ok};
+ghost use Rattle.lus_program.specs.Programs.{node_at};
+ghost use Rattle.lus_program.specs.View.{expression_of, node_of, operands_of, program_seen};
+ghost use Rattle.lus_streams.specs.OnClock.{actuals};
+ghost use Rattle.lus_clocks.specs.Fitting.{fits, operands_fit, branches_fit, arguments_fit, names_in, output_fits};
+ghost use Rattle.lus_clocks.specs.View.{clock_in};
+
+use crate::call::{argument_clock, base_of, follows_base, names_tested};
+use crate::clock::{NewestTest, clock_at, clock_on, same_clock};
+use crate::formals::{formals_at, inputs_at, variables_at};
+use lus_program::{Expr, Node, Program};
+use lus_syntax::Place;
+
+/// Fails at a place where a clock isn't as it has to be.
+pub fn require(holds: bool, place: Place) -> Result<(), Place>
+    ensures { is_ok result ≡ holds }
+{
+    if holds { Ok(()) } else { Err(place) }
+}
+
+/// Where the first token of an expression stands.
+pub fn place_of(expr: &Expr) -> Place {
+    match expr {
+        Expr::Literal(place, _) => *place,
+        Expr::Variable(place, _) => *place,
+        Expr::Operate(place, _, _) => *place,
+        Expr::Pre(place, _) => *place,
+        Expr::Arrow(place, _, _) => *place,
+        Expr::Fby(place, _, _) => *place,
+        Expr::When(place, _, _) => *place,
+        Expr::Merge(place, _, _) => *place,
+        Expr::Call(place, _, _) => *place,
+    }
+}
+
+/// Fails at the first token of a part that isn't on its clock, where the expression is on this one.
+#[cycle(expressions)]
+pub fn check_expression(
+    program: &Program,
+    node: &Node,
+    expr: &Expr,
+    clock: Option<NewestTest>,
+) -> Result<(), Place>
+    ensures { is_ok result ≡ fits (program_seen program.now) (node_of node.now) (expression_of expr.now) (clock_in clock) }
+{
+    match expr {
+        Expr::Literal(_, _) => Ok(()),
+        Expr::Variable(place, variable) => {
+            require(
+                same_clock(clock_at(&node.variables, *variable as usize), clock),
+                *place,
+            )
+        }
+        Expr::Operate(_, _, operands) => check_operands(program, node, operands, clock),
+        Expr::Pre(_, operand) => check_expression(program, node, operand, clock),
+        Expr::Arrow(_, first, later) => {
+            check_expression(program, node, first, clock)?;
+            check_expression(program, node, later, clock)
+        }
+        Expr::Fby(_, first, later) => {
+            check_expression(program, node, first, clock)?;
+            check_expression(program, node, later, clock)
+        }
+        Expr::When(place, test, operand) => {
+            require(same_clock(clock_on(*test), clock), *place)?;
+            check_expression(
+                program,
+                node,
+                operand,
+                clock_at(&node.variables, test.variable as usize),
+            )
+        }
+        Expr::Merge(place, variable, branches) => {
+            require(
+                same_clock(clock_at(&node.variables, *variable as usize), clock),
+                *place,
+            )?;
+            check_branches(program, node, *variable, branches)
+        }
+        Expr::Call(place, called, arguments) => {
+            let base = base_of(program, node, *called, clock);
+            require(
+                is_output(program, node, *called, arguments, base, clock),
+                *place,
+            )?;
+            check_arguments(program, node, *called, arguments, base)
+        }
+    }
+}
+
+/// The one output of a call that is an expression is on this clock.
+fn is_output(
+    program: &Program,
+    node: &Node,
+    called: u32,
+    arguments: &[Expr],
+    base: Option<NewestTest>,
+    clock: Option<NewestTest>,
+) -> bool
+    ensures { result ≡ output_fits (node_of node.now) (node_at (program_seen program.now) called) (names_in (actuals (operands_of arguments.now) [])) 0 (clock_in base) (clock_in clock) }
+{
+    let first = inputs_at(program, called) as usize;
+    follows_base(
+        node,
+        variables_at(program, called),
+        first,
+        arguments,
+        &[],
+        base,
+        clock,
+    ) && names_tested(formals_at(program, called), arguments, &[])
+}
+
+#[cycle(expressions)]
+fn check_operands(
+    program: &Program,
+    node: &Node,
+    operands: &[Expr],
+    clock: Option<NewestTest>,
+) -> Result<(), Place>
+    ensures { is_ok result ≡ operands_fit (program_seen program.now) (node_of node.now) (operands_of operands.now) (clock_in clock) }
+{
+    for operand in operands {
+        check_expression(program, node, operand, clock)?;
+    }
+    Ok(())
+}
+
+/// Each branch is on the clock of the merge's variable with its own constructor.
+#[cycle(expressions)]
+fn check_branches(
+    program: &Program,
+    node: &Node,
+    variable: u32,
+    branches: &[Expr],
+) -> Result<(), Place>
+    ensures { is_ok result ≡ branches_fit (program_seen program.now) (node_of node.now) (operands_of branches.now) variable 0 }
+{
+    for (constructor, branch) in branches.iter().enumerate() {
+        let clock = NewestTest {
+            variable: variable as usize,
+            constructor,
+        };
+        check_expression(program, node, branch, Some(clock))?;
+    }
+    Ok(())
+}
+
+/// Each argument of a call with this base is on the clock of its formal.
+#[cycle(expressions)]
+pub fn check_arguments(
+    program: &Program,
+    node: &Node,
+    called: u32,
+    arguments: &[Expr],
+    base: Option<NewestTest>,
+) -> Result<(), Place>
+    ensures { is_ok result ≡ arguments_fit (program_seen program.now) (node_of node.now) (operands_of arguments.now) (node_at (program_seen program.now) called) (names_in (actuals (operands_of arguments.now) [])) (clock_in base) 0 }
+{
+    for (formal, argument) in arguments.iter().enumerate() {
+        let clock = argument_clock(variables_at(program, called), formal, arguments, base);
+        check_expression(program, node, argument, clock)?;
+    }
+    Ok(())
+}
