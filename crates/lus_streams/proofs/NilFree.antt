@@ -1,12 +1,13 @@
 -- Operators give no nil on operands without nil.
-use Rattle.std.proofs.Common.{◌≡◌, ℕ, zero, suc, ◌^◌, nat_lt, Bool, true, false, cond, ◌&&◌, ◌||◌, ℤ, pos, negsuc, ◌+ℤ◌, ◌*ℤ◌, neg_ℤ, List, [], ◌∷◌, Option, Some, None, refl, sym, ap, ◌∙◌, subst, IsTrue, true≢false, if◌then◌else◌, int_div, int_rem}
+use Rattle.std.proofs.Common.{◌≡◌, ℕ, zero, suc, Bool, true, false, not, cond, ◌&&◌, ◌||◌, ℤ, List, [], ◌∷◌, Option, Some, None, refl, sym, ap, ◌∙◌, subst, IsTrue, true≢false, if◌then◌else◌}
 use Rattle.lus_values.specs.declared.operator.Op.{Op}
 use Rattle.lus_values.specs.declared.operator.Op.TheVariants.{Negate, Add, Subtract, Multiply, Divide, Remainder, Not, And, Or, Xor, Implies, Equal, Different, Less, LessEqual, Greater, GreaterEqual}
 use Rattle.lus_values.specs.declared.operator.Operator.{Operator}
 use Rattle.lus_values.specs.declared.operator.Operator.TheVariants.{Compute, If, Structure, Field}
 use Rattle.lus_values.specs.Values.{Value, bool, int, struct, nil, Fields, end, field, fields_of}
 use Rattle.lus_values.specs.Lists.{Each}
-use Rattle.lus_values.specs.Operators.{ranged, divided, if_ranged, on_int, on_ints, on_bool, on_bools, on_two, order_of, compute, choose, field_at, project, is_nil, any_nil, give, apply}
+use Rattle.std.specs.Option.{option_and_then, option_map}
+use Rattle.lus_values.specs.Operators.{one_int, two_ints, one_bool, two_bools, two_values, on_int, on_ints, compare_ints, on_bools, compare, compute, choose, field_at, project, is_nil, any_nil, give, apply}
 use Rattle.lus_streams.specs.Flags.{nil_free, nil_free_fields, IsNilFree}
 
 abbrev pub AreNilFree : List Value → Type 0
@@ -24,64 +25,48 @@ pub and_true : (a b : Bool) → a ≡ true → b ≡ true → (a && b) ≡ true
 and_true true b h k = k
 and_true false b h k = h
 
-ranged_if : (b : Bool) (z : ℤ) → IsNilFree (if b then Some (int z) else None)
-ranged_if true z = refl
-ranged_if false z = tt
+-- what an operand gives on, if every value that it may give is without nil
+then_nil_free : {A : Type 0} (f : A → Option Value) → ((a : A) → IsNilFree (f a)) → (o : Option A) → IsNilFree (option_and_then f o)
+then_nil_free f h None = tt
+then_nil_free f h (Some a) = h a
 
-ranged_nil_free : (z : ℤ) → IsNilFree (ranged z)
-ranged_nil_free (pos n) = ranged_if (nat_lt n (2 ^ 63)) (pos n)
-ranged_nil_free (negsuc n) = ranged_if (nat_lt n (2 ^ 63)) (negsuc n)
+map_nil_free : {A : Type 0} (f : A → Value) → ((a : A) → IsTrue (nil_free (f a))) → (o : Option A) → IsNilFree (option_map f o)
+map_nil_free f h None = tt
+map_nil_free f h (Some a) = h a
 
-if_ranged_nil_free : (q r : Option Value) → IsNilFree r → IsNilFree (if_ranged q r)
-if_ranged_nil_free None r h = tt
-if_ranged_nil_free (Some q) r h = h
+on_int_nil_free : (f : ℤ → Option ℤ) (vs : List Value) → IsNilFree (on_int f vs)
+on_int_nil_free f vs = then_nil_free (λ a. option_map int (f a)) (λ a. map_nil_free int (λ z. refl) (f a)) (one_int vs)
 
-divided_nil_free : (f : ℤ → ℤ → ℤ) (a b : ℤ) → IsNilFree (divided f a b)
-divided_nil_free f a (pos zero) = tt
-divided_nil_free f a (pos (suc n)) = if_ranged_nil_free (ranged (int_div a (pos (suc n)))) (ranged (f a (pos (suc n)))) (ranged_nil_free (f a (pos (suc n))))
-divided_nil_free f a (negsuc n) = if_ranged_nil_free (ranged (int_div a (negsuc n))) (ranged (f a (negsuc n))) (ranged_nil_free (f a (negsuc n)))
+on_ints_nil_free : (f : ℤ → ℤ → Option ℤ) (vs : List Value) → IsNilFree (on_ints f vs)
+on_ints_nil_free f vs = then_nil_free (λ p. option_map int (f p.0 p.1)) (λ p. map_nil_free int (λ z. refl) (f p.0 p.1)) (two_ints vs)
 
-on_int_nil_free : (f : ℤ → Option Value) → ((a : ℤ) → IsNilFree (f a)) → (vs : List Value) → IsNilFree (on_int f vs)
-on_int_nil_free f h (int a ∷ []) = h a
-on_int_nil_free f h _ = tt
-
-on_ints_nil_free : (f : ℤ → ℤ → Option Value) → ((a b : ℤ) → IsNilFree (f a b)) → (vs : List Value) → IsNilFree (on_ints f vs)
-on_ints_nil_free f h (int a ∷ int b ∷ []) = h a b
-on_ints_nil_free f h _ = tt
-
-on_bool_nil_free : (f : Bool → Bool) (vs : List Value) → IsNilFree (on_bool f vs)
-on_bool_nil_free f (bool a ∷ []) = refl
-on_bool_nil_free f _ = tt
+compare_ints_nil_free : (f : ℤ → ℤ → Bool) (vs : List Value) → IsNilFree (compare_ints f vs)
+compare_ints_nil_free f vs = map_nil_free (λ p. bool (f p.0 p.1)) (λ p. refl) (two_ints vs)
 
 on_bools_nil_free : (f : Bool → Bool → Bool) (vs : List Value) → IsNilFree (on_bools f vs)
-on_bools_nil_free f (bool a ∷ bool b ∷ []) = refl
-on_bools_nil_free f _ = tt
+on_bools_nil_free f vs = map_nil_free (λ p. bool (f p.0 p.1)) (λ p. refl) (two_bools vs)
 
-on_two_nil_free : (f : Value → Value → Bool) (vs : List Value) → IsNilFree (on_two f vs)
-on_two_nil_free f (a ∷ b ∷ []) = refl
-on_two_nil_free f _ = tt
-
-order_nil_free : (f : ℤ → ℤ → Bool) (vs : List Value) → IsNilFree (order_of f vs)
-order_nil_free f vs = on_ints_nil_free (λ a b. Some (bool (f a b))) (λ a b. refl) vs
+compare_nil_free : (f : Value → Value → Bool) (vs : List Value) → IsNilFree (compare f vs)
+compare_nil_free f vs = map_nil_free (λ p. bool (f p.0 p.1)) (λ p. refl) (two_values vs)
 
 compute_nil_free : (op : Op) (vs : List Value) → IsNilFree (compute op vs)
-compute_nil_free Negate vs = on_int_nil_free (λ a. ranged (neg_ℤ a)) (λ a. ranged_nil_free (neg_ℤ a)) vs
-compute_nil_free Add vs = on_ints_nil_free (λ a b. ranged (a +ℤ b)) (λ a b. ranged_nil_free (a +ℤ b)) vs
-compute_nil_free Subtract vs = on_ints_nil_free (λ a b. ranged (a +ℤ neg_ℤ b)) (λ a b. ranged_nil_free (a +ℤ neg_ℤ b)) vs
-compute_nil_free Multiply vs = on_ints_nil_free (λ a b. ranged (a *ℤ b)) (λ a b. ranged_nil_free (a *ℤ b)) vs
-compute_nil_free Divide vs = on_ints_nil_free _ (divided_nil_free int_div) vs
-compute_nil_free Remainder vs = on_ints_nil_free _ (divided_nil_free int_rem) vs
-compute_nil_free Not vs = on_bool_nil_free _ vs
+compute_nil_free Negate vs = on_int_nil_free _ vs
+compute_nil_free Add vs = on_ints_nil_free _ vs
+compute_nil_free Subtract vs = on_ints_nil_free _ vs
+compute_nil_free Multiply vs = on_ints_nil_free _ vs
+compute_nil_free Divide vs = on_ints_nil_free _ vs
+compute_nil_free Remainder vs = on_ints_nil_free _ vs
+compute_nil_free Not vs = map_nil_free (λ a. bool (not a)) (λ a. refl) (one_bool vs)
 compute_nil_free And vs = on_bools_nil_free _ vs
 compute_nil_free Or vs = on_bools_nil_free _ vs
 compute_nil_free Xor vs = on_bools_nil_free _ vs
 compute_nil_free Implies vs = on_bools_nil_free _ vs
-compute_nil_free Equal vs = on_two_nil_free _ vs
-compute_nil_free Different vs = on_two_nil_free _ vs
-compute_nil_free Less vs = order_nil_free _ vs
-compute_nil_free LessEqual vs = order_nil_free _ vs
-compute_nil_free Greater vs = order_nil_free _ vs
-compute_nil_free GreaterEqual vs = order_nil_free _ vs
+compute_nil_free Equal vs = compare_nil_free _ vs
+compute_nil_free Different vs = compare_nil_free _ vs
+compute_nil_free Less vs = compare_ints_nil_free _ vs
+compute_nil_free LessEqual vs = compare_ints_nil_free _ vs
+compute_nil_free Greater vs = compare_ints_nil_free _ vs
+compute_nil_free GreaterEqual vs = compare_ints_nil_free _ vs
 
 if_nil_free : (c : Bool) (a b : Value) → IsTrue (nil_free a) → IsTrue (nil_free b) → IsTrue (nil_free (if c then a else b))
 if_nil_free true a b h k = h

@@ -1,1 +1,6 @@
 pub mod Views
+pub mod Equalities
+pub mod Remainders
+pub mod Alike
+pub mod Texts
+pub mod Places

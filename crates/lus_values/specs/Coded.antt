@@ -1,5 +1,5 @@
 -- A value as a list of marks that gives it back, by which the logic tells values apart.
-use Rattle.std.specs.Prelude.{◌≡◌, ◌⊎◌, ℕ, zero, suc, ℤ, Bool, List, [], ◌∷◌, Option}
+use Rattle.std.specs.Prelude.{◌≡◌, ◌⊎◌, ℕ, zero, suc, ℤ, Bool, List, [], ◌∷◌}
 use Rattle.std.specs.Coded.{Coded, code_by, coded×, coded⊎, coded_ℕ, coded_ℤ, coded_bool, coded_list, coded_option}
 use mathlib.Core.Logic.{inl, inr}
 use mathlib.Core.Path.{refl, ◌∙◌, ap}

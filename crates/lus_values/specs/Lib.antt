@@ -1,5 +1,10 @@
 pub mod Lists
 pub mod Values
+pub mod Integers
+pub mod Equality
 pub mod Operators
+pub mod Fitting
+pub mod Names
+pub mod Text
 pub mod View
 pub mod Coded

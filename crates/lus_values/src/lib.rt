@@ -1,12 +1,25 @@
 //! Values of streams, what operators give, and want of memory.
 #![tactic(auto)]
 
+mod application;
+mod equality;
+mod fitting;
 mod memory;
+mod names;
 mod operator;
 mod row;
+mod text;
 mod value;
 
+pub use application::{apply, try_apply};
+pub use equality::same;
+pub use fitting::fits_op;
 pub use memory::Memory;
+pub use names::Names;
 pub use operator::{Op, Operator};
 pub use row::Row;
+pub use text::{print, push_value};
 pub use value::{Value, copy};
+
+#[cfg(test)]
+mod tests;

@@ -7,6 +7,9 @@ use crate::memory::Memory;
 use std::alloc::Global;
 
 /// A value of a stream at an instant at which it is present.
+///
+/// Calls over a value recur once for each structure in a structure: at most 64 deep for values of a compiled program, whose
+/// types nest no deeper. A caller's own values are bounded by the caller alone, dropping them included.
 #[derive(Drop)]
 pub enum Value {
     Bool(bool),
