@@ -1,5 +1,5 @@
 -- Small sources: what they mean, and which rules they keep and break.
-use Rattle.std.proofs.Common.{rules, ◌≡◌, ℕ, refl, List, [], ◌∷◌, Option, Some, None, Bool, true, false, pos, negsuc, map}
+use Rattle.std.proofs.Common.{rules, ◌≡◌, ℕ, refl, List, [], ◌∷◌, Some, None, true, false, pos, negsuc}
 use Rattle.lus_syntax.specs.declared.token.Place.{Place}
 use Rattle.lus_syntax.specs.declared.token.Span.{Span}
 use Rattle.lus_syntax.specs.declared.tree.NodeKind.TheVariants as node_kinds
@@ -13,7 +13,7 @@ use Rattle.lus_program.specs.declared.types.Kind.TheVariants as kinds
 use Rattle.lus_program.specs.Programs as program
 use Rattle.lus_types.specs.Tables.{scope, kind_named}
 use Rattle.lus_types.specs.Named.{Named, all_new}
-use Rattle.lus_types.specs.Loopless.{Leads, step, node_uses, type_uses}
+use Rattle.lus_types.specs.Loopless.{Leads, step, node_uses}
 use Rattle.lus_types.specs.Sized.{Counted, Bounded, leaves_at, nesting_at, call_depth_at}
 use Rattle.lus_types.specs.Types.{kind_of}
 use Rattle.lus_types.specs.Meaning.{meant, program_of}

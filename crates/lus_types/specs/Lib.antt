@@ -7,4 +7,5 @@ pub mod Types
 pub mod Meaning
 pub mod WellTyped
 pub mod Refusals
+pub mod ScopeView
 pub mod Resolved

@@ -1,7 +1,7 @@
 -- Nothing leads back to itself. Lustre V6 reference manual, "Nodes": nodes aren't recursive, nor are types.
 use Rattle.std.specs.Prelude.{◌++◌, ℕ, List, [], ◌∷◌, Option, Some, None, map, flat_map, Contains}
 use Rattle.lus_syntax.specs.Lexemes.{Text}
-use Rattle.lus_syntax.specs.Trees.{Lead, Expression, Numeral, Truth, Name, Call, Structure, Merge, Field, Parentheses, When, Unary, Binary, If, Parts, End, More, TypeName, Definition, Alias, Enumeration, StructureOf, Node, Tree}
+use Rattle.lus_syntax.specs.Trees.{Expression, Numeral, Truth, Name, Call, Structure, Merge, Field, Parentheses, When, Unary, Binary, If, Parts, End, More, TypeName, Definition, Alias, Enumeration, StructureOf, Node, Tree}
 use Rattle.lus_values.specs.Lists.{item}
 use Rattle.lus_types.specs.Scopes.{entry}
 use Rattle.lus_types.specs.Tables.{numbered_from, of_type, definition_at}

@@ -1,6 +1,5 @@
 -- The program that a tree means: names become places. Where names are unknown or types are wrong it is of no use.
-use Rattle.std.specs.Prelude.{◌+◌, ◌++◌, ℕ, zero, suc, Bool, true, false, List, [], ◌∷◌, Option, Some, None, cond, map, flat_map, length, nat_eq, option_map, unwrap_or}
-use Rattle.std.specs.Option.{option_and_then}
+use Rattle.std.specs.Prelude.{◌+◌, ℕ, zero, suc, List, [], ◌∷◌, Option, Some, None, cond, map, flat_map, length, nat_eq, option_map, unwrap_or}
 use Rattle.lus_syntax.specs.Lexemes.{Text}
 use Rattle.lus_syntax.specs.declared.tree.Prefix.{Prefix}
 use Rattle.lus_syntax.specs.declared.tree.Prefix.TheVariants as prefixes
@@ -11,7 +10,7 @@ use Rattle.lus_syntax.specs.Trees.{Numeral, Truth, Name, Call, Structure, Merge,
 use Rattle.lus_values.specs.declared.operator.Op.{Op}
 use Rattle.lus_values.specs.declared.operator.Op.TheVariants as ops
 use Rattle.lus_values.specs.declared.operator.Operator.TheVariants as operators
-use Rattle.lus_values.specs.Values.{Value, bool, int, nil}
+use Rattle.lus_values.specs.Values.{bool, int, nil}
 use Rattle.lus_program.specs.declared.expr.Test.{Test}
 use Rattle.lus_program.specs.declared.types.Kind.{Kind}
 use Rattle.lus_program.specs.declared.types.Kind.TheVariants as kinds

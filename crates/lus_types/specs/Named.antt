@@ -46,7 +46,8 @@ known p gs = record {
   constants = map (λ c. c.name.text) p.constants;
   constructors = all_constructor_names p.types;
   types = map (λ d. d.name.text) p.types;
-  nodes = map (λ f. f.name.text) p.nodes }
+  nodes = map (λ f. f.name.text) p.nodes;
+}
 
 abbrev pub type_known : List Text → TypeName → Bool
 type_known types (BoolName s) = true

@@ -1,6 +1,5 @@
 -- What a program keeps that a well-formed tree means. Passes after types rely on this, and on nothing of the tree.
-use Rattle.std.specs.Prelude.{◌≡◌, ◌+◌, ◌++◌, ◌&&◌, ◌<◌, ◌≤◌, ℕ, zero, suc, Bool, true, false, List, [], ◌∷◌, Option, Some, None, map, flat_map, length, nat_eq, nat_lt, take, drop, slice_get, option_map, IsTrue}
-use Rattle.std.specs.List.{list_all}
+use Rattle.std.specs.Prelude.{◌≡◌, ◌+◌, ◌++◌, ◌<◌, ◌≤◌, ℕ, Bool, true, false, List, [], ◌∷◌, Option, Some, None, map, flat_map, length, nat_eq, nat_lt, take, drop, slice_get, option_map, IsTrue}
 use Rattle.std.specs.Option.{option_and_then}
 use Rattle.lus_values.specs.declared.operator.Op.{Op}
 use Rattle.lus_values.specs.declared.operator.Op.TheVariants as ops

@@ -6,8 +6,8 @@ use Rattle.lus_syntax.specs.Lexemes.{Text}
 use Rattle.lus_values.specs.Values.{Value}
 use Rattle.lus_program.specs.declared.types.Kind.{Kind}
 use Rattle.lus_program.specs.Programs.{Declared}
-use Rattle.lus_types.specs.declared.scope.Placed.{Placed}
-use Rattle.lus_types.specs.declared.scope.Constructor.{Constructor}
+use Rattle.lus_types.specs.declared.entries.Placed.{Placed}
+use Rattle.lus_types.specs.declared.entries.Constructor.{Constructor}
 
 -- what a call needs of a node: its place, and the types of its inputs and outputs
 pub record Signature : Type 0 where

@@ -1,6 +1,6 @@
 -- The limits of a source: counts, and what counts only where nothing leads back to itself.
-use Rattle.std.specs.Prelude.{◌+◌, ◌*◌, ◌≤◌, ℕ, zero, suc, Bool, true, false, List, [], ◌∷◌, length, sum_by, nat_lt}
-use Rattle.lus_syntax.specs.Trees.{Fields, Definition, Alias, Enumeration, StructureOf, Group, Node, Tree}
+use Rattle.std.specs.Prelude.{◌*◌, ◌≤◌, ℕ, suc, true, false, List, [], ◌∷◌, length, sum_by, nat_lt}
+use Rattle.lus_syntax.specs.Trees.{Fields, Definition, Alias, Enumeration, StructureOf, Group, Tree}
 use Rattle.lus_values.specs.Lists.{Each, Below}
 use Rattle.lus_types.specs.Tables.{groups, of_type, definition_at, within}
 use Rattle.lus_types.specs.Loopless.{node_uses}

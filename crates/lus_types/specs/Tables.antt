@@ -1,14 +1,14 @@
 -- The tables of a source: what its declarations give each name, in the order of the text.
-use Rattle.std.specs.Prelude.{◌++◌, ℕ, zero, suc, ℤ, pos, negsuc, neg_ℤ, List, [], ◌∷◌, Option, Some, None, map, flat_map, length}
+use Rattle.std.specs.Prelude.{◌++◌, ℕ, zero, suc, ℤ, pos, negsuc, neg_ℤ, List, [], ◌∷◌, Some, None, map, flat_map, length}
 use Rattle.lus_syntax.specs.Lexemes.{Text}
-use Rattle.lus_syntax.specs.Trees.{Named, TypeName, BoolName, IntName, DeclaredName, Fields, Definition, Alias, Enumeration, StructureOf, TypeDeclaration, Literal, Positive, Negative, TruthValue, ConstructorName, Constant, Group, Node, Tree}
+use Rattle.lus_syntax.specs.Trees.{Named, TypeName, BoolName, IntName, DeclaredName, Fields, Definition, Alias, Enumeration, StructureOf, Literal, Positive, Negative, TruthValue, ConstructorName, Group, Node, Tree}
 use Rattle.lus_values.specs.Lists.{item}
 use Rattle.lus_values.specs.Values.{Value, bool, int, enum, nil}
 use Rattle.lus_program.specs.declared.types.Kind.{Kind}
 use Rattle.lus_program.specs.declared.types.Kind.TheVariants as kinds
 use Rattle.lus_program.specs.Programs.{Field, Declared, alias, enumeration, structure}
-use Rattle.lus_types.specs.declared.scope.Placed.{Placed}
-use Rattle.lus_types.specs.declared.scope.Constructor.{Constructor}
+use Rattle.lus_types.specs.declared.entries.Placed.{Placed}
+use Rattle.lus_types.specs.declared.entries.Constructor.{Constructor}
 use Rattle.lus_types.specs.Scopes.{Scope, Signature, entry}
 
 -- each thing beside its number, from n on

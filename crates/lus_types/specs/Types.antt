@@ -1,5 +1,5 @@
 -- The types of expressions, form by form. Lustre V6 reference manual, "Expressions"; None where there is no type.
-use Rattle.std.specs.Prelude.{◌&&◌, ℕ, zero, suc, Bool, true, false, List, [], ◌∷◌, Option, Some, None, cond, length, nat_eq, nat_lt, map, option_map}
+use Rattle.std.specs.Prelude.{◌&&◌, ℕ, zero, suc, Bool, true, false, List, [], ◌∷◌, Option, Some, None, cond, length, nat_eq, nat_le, map, option_map}
 use Rattle.std.specs.List.{list_all}
 use Rattle.std.specs.Option.{option_and_then}
 use Rattle.std.specs.Str.{bytes_eq}
@@ -15,7 +15,7 @@ use Rattle.lus_program.specs.declared.expr.Test.{Test as PlacedTest}
 use Rattle.lus_program.specs.declared.types.Kind.{Kind}
 use Rattle.lus_program.specs.declared.types.Kind.TheVariants as kinds
 use Rattle.lus_program.specs.Programs.{Declared, alias, enumeration, structure, Field as DeclaredField}
-use Rattle.lus_types.specs.declared.scope.Placed.{Placed}
+use Rattle.lus_types.specs.declared.entries.Placed.{Placed}
 use Rattle.lus_types.specs.Scopes.{Scope, Signature, entry}
 
 abbrev pub same : Kind → Kind → Bool
@@ -98,13 +98,19 @@ abbrev pub count : ℕ → List ℕ → ℕ
 count n [] = 0
 count n (m ∷ ms) = cond (nat_eq n m) (suc (count n ms)) (count n ms)
 
-abbrev pub each_counted : ℕ → List ℕ → Bool
-each_counted zero ms = true
-each_counted (suc n) ms = nat_eq (count n ms) 1 && each_counted n ms
+-- the numbers from c on, n of them, stand in the list, each exactly once
+abbrev pub each_counted : ℕ → ℕ → List ℕ → Bool
+each_counted c zero ms = true
+each_counted c (suc n) ms = nat_eq (count c ms) 1 && each_counted (suc c) n ms
 
 -- the numbers below n stand in the list, each exactly once, and no other
 abbrev pub each_once : ℕ → List ℕ → Bool
-each_once n ms = list_all (λ m. nat_lt m n) ms && each_counted n ms
+each_once n ms = each_counted 0 n ms && nat_eq (length ms) n
+
+-- where a number stands first
+abbrev pub index_of : ℕ → List ℕ → Option ℕ
+index_of c [] = None
+index_of c (m ∷ ms) = cond (nat_eq c m) (Some 0) (option_map (λ i. suc i) (index_of c ms))
 
 abbrev pub is_argument : Lead → Bool
 is_argument Plain = true
@@ -133,6 +139,10 @@ constructors_in (alias k) = 0
 constructors_in (enumeration cs) = length cs
 constructors_in (structure fs) = 0
 
+-- no structure has more fields than the limit
+abbrev pub has_few_fields : Declared → Bool
+has_few_fields d = nat_le (length (fields_in d)) 64
+
 abbrev pub nothing_declared : Declared
 nothing_declared = alias kinds.Bool
 
@@ -141,6 +151,11 @@ abbrev pub test_variable : Test → Text
 test_variable (Holds c) = c.text
 test_variable (Fails p c) = c.text
 test_variable (Is l c) = c.text
+
+-- the place of a truth value among those of bool: false, true
+abbrev pub truth_place : Kind → Bool → Option ℕ
+truth_place k true = where_true (same k kinds.Bool) (Some 1)
+truth_place k false = where_true (same k kinds.Bool) (Some 0)
 
 module _ (s : Scope) where
   abbrev pub variable_kind : Text → Option Kind
@@ -169,11 +184,6 @@ module _ (s : Scope) where
   fields_of kinds.Int = []
   fields_of (kinds.Enum t) = []
   fields_of (kinds.Struct t) = fields_in (declared_at t)
-
-  -- the place of a truth value among those of bool: false, true
-  abbrev pub truth_place : Kind → Bool → Option ℕ
-  truth_place k true = where_true (same k kinds.Bool) (Some 1)
-  truth_place k false = where_true (same k kinds.Bool) (Some 0)
 
   -- the place of a label among the constructors of a type
   abbrev pub label_place : Kind → Label → Option ℕ

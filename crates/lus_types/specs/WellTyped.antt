@@ -9,14 +9,14 @@ use Rattle.lus_syntax.specs.declared.tree.Prefix.TheVariants as prefixes
 use Rattle.lus_syntax.specs.declared.tree.Infix.{Infix}
 use Rattle.lus_syntax.specs.declared.tree.Infix.TheVariants as infixes
 use Rattle.lus_syntax.specs.Lexemes.{Text}
-use Rattle.lus_syntax.specs.Trees.{Named, TypeName, Test, Expression, Numeral, Truth, Name, Call, Structure, Merge, Field, Parentheses, When, Unary, Binary, If, Parts, End, More, Constant, Equation, Node, Tree}
+use Rattle.lus_syntax.specs.Trees.{Named, Test, Expression, Numeral, Truth, Name, Call, Structure, Merge, Field, Parentheses, When, Unary, Binary, If, Parts, End, More, Constant, Equation, Node, Tree}
 use Rattle.lus_values.specs.Lists.{Each}
 use Rattle.lus_values.specs.Values.{Value}
 use Rattle.lus_program.specs.declared.types.Kind.{Kind}
 use Rattle.lus_program.specs.declared.types.Kind.TheVariants as kinds
 use Rattle.lus_types.specs.Scopes.{Scope, entry}
 use Rattle.lus_types.specs.Tables.{groups, scope, literal_value, kind_named}
-use Rattle.lus_types.specs.Types.{same, all_same, kind_of, kinds_of, value_kind, variable_kind, test_placed, outputs_of}
+use Rattle.lus_types.specs.Types.{all_same, kind_of, kinds_of, value_kind, variable_kind, test_placed, outputs_of}
 
 -- the expression has this type
 abbrev pub HasType : Scope → Expression → Kind → Type 0

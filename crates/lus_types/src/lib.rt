@@ -1,6 +1,17 @@
 //! Names become places: the program that a tree means, with the rules of names, types, recursion and limits.
 #![tactic(auto)]
 
+mod arrangement;
+mod elaboration;
+mod entries;
+mod fault;
+mod forms;
+mod kinds;
+mod parts;
 mod scope;
 
-pub use scope::{Constructor, Placed, Signature};
+pub use elaboration::elaborate;
+pub use entries::{Constructor, Placed, Signature};
+pub use fault::Fault;
+pub use forms::{Elaborated, test_placed};
+pub use scope::Scope;
