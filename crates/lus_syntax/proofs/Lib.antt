@@ -6,6 +6,8 @@ pub mod Meanings
 pub mod Blocks
 pub mod Runs
 pub mod Unique
+pub mod Cuts
 pub mod Spans
+pub mod Refused
 pub mod Characters
 mod Examples

@@ -53,7 +53,7 @@ parsed xs r is h =
 
 -- ---- texts of ASCII
 
-abbrev ascii : List ℕ → Bool
+abbrev pub ascii : List ℕ → Bool
 ascii xs = list_all (λ b. nat_lt b 128) xs
 
 symbols_ascii : list_all (λ e. ascii e.0) symbols ≡ true
@@ -72,7 +72,7 @@ name_ascii b h = grind (arith, nat_tests)
 digit_ascii : (b : ℕ) → is_ascii_digit b ≡ true → nat_lt b 128 ≡ true
 digit_ascii b h = grind (arith, nat_tests)
 
-text_ascii : (xs : List ℕ) → is_text xs ≡ true → ascii xs ≡ true
+pub text_ascii : (xs : List ℕ) → is_text xs ≡ true → ascii xs ≡ true
 unfolding is_symbol
 text_ascii [] t = refl
 text_ascii (b ∷ bs) t =

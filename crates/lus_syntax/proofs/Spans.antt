@@ -1,25 +1,20 @@
 -- Where the tokens of a text stand.
-use Rattle.std.proofs.Common.{◌≡◌, ℕ, ◌+◌, ◌<◌, ◌≤◌, Bool, true, false, cond, List, [], ◌∷◌, ◌++◌, length, reverse, refl, sym, ap, ◌∙◌, arith, append_assoc, inl, inr, Result, Ok, Err}
-use Rattle.std.specs.Prelude.{not, ◌≢◌, MatchResult, IsErrAnd}
+use Rattle.std.proofs.Common.{◌≡◌, ℕ, ◌+◌, ◌<◌, ◌≤◌, Bool, true, false, cond, List, [], ◌∷◌, ◌++◌, length, reverse, refl, sym, ap, subst, ◌∙◌, arith, append_assoc}
+use Rattle.std.specs.Prelude.{not, IsUtf8}
 use Rattle.std.specs.List.{count_by, take_while, AllByRecursion}
 use Rattle.std.proofs.lemmas.List.{reverse-append, reverse-reverse, length-reverse}
 use Rattle.std.proofs.lemmas.Bool.{cond-true, cond-false}
 use Rattle.std.proofs.lemmas.List.Sums.{sum_by-cons, sum_by-append, take_while-cons}
 use Rattle.lus_syntax.specs.declared.token.Place.{Place}
 use Rattle.lus_syntax.specs.declared.refusal.RefusalNumber.{RefusalNumber}
-use Rattle.lus_syntax.specs.declared.refusal.RefusalNumber.TheVariants.{Lexical, Unsupported, Limit, Memory}
-use Rattle.lus_syntax.specs.declared.refusal.Refusal.{Refusal}
-use Rattle.lus_syntax.specs.declared.fault.LexError.{LexError}
-use Rattle.lus_syntax.specs.declared.fault.LexError.TheVariants as errors
 use Rattle.lus_syntax.specs.Places.{is_feed, is_first, past_one, past, start, place_behind}
 use Rattle.lus_syntax.specs.Gaps.{Gap}
 use Rattle.lus_syntax.specs.Lexemes.{Lexeme}
-use Rattle.lus_syntax.specs.Tokens.{Reads, Run, Tokens, Faulty, IsAt}
-use Rattle.lus_syntax.specs.Reading.{IsFault, refusal_of}
+use Rattle.lus_syntax.specs.Tokens.{Reads, Run, Tokens, Faulty}
 use Rattle.lus_syntax.specs.Spans.{StandsIn, InOrder, StandsAt}
 use Rattle.lus_syntax.proofs.Places.{past_push, past_append, past_byte}
+use Rattle.lus_syntax.proofs.Cuts.{valid_front, gap_rest, reads_rest, run_rest}
 use Rattle.lus_syntax.proofs.Meanings.{text_nonempty}
-use Rattle.lus_syntax.proofs.Unique.{one_fault, no_fault, fault_number}
 
 -- ---- places in words
 
@@ -96,8 +91,8 @@ record Stands (whole front : List ℕ) (at : Place) (text : List ℕ) (t : Lexem
   order : at.byte ≤ t.span.start.byte
   some : t.span.start.byte < t.span.«end».byte
 
-reads_stands : (whole front : List ℕ) (at : Place) (text : List ℕ) (t : Lexeme) (rest : List ℕ) → whole ≡ front ++ text → at ≡ past start front → Reads at text t rest → Stands whole front at text t rest
-reads_stands whole front at text t rest e place r =
+reads_stands : (whole front : List ℕ) (at : Place) (text : List ℕ) (t : Lexeme) (rest : List ℕ) → whole ≡ front ++ text → at ≡ past start front → (IsUtf8 whole → IsUtf8 text) → Reads at text t rest → Stands whole front at text t rest
+reads_stands whole front at text t rest e place valid r =
     let g = gap_front r.gap.0 at text t.span.start r.here r.gap.1 in
     let l = r.token.longest in
     let s = r.token.text in
@@ -105,25 +100,27 @@ reads_stands whole front at text t rest e place r =
     let parts : whole ≡ before ++ (s ++ rest) = e ∙ ap (λ (x : List ℕ). front ++ x) (g.1 ∙ ap (λ (x : List ℕ). g.0 ++ x) l.parts) ∙ sym (append_assoc front g.0 (s ++ rest)) in
     let starts : t.span.start ≡ past start before = g.2 ∙ ap (λ (x : Place). past x g.0) place ∙ sym (past_append start front g.0) in
     let ends : t.span.«end» ≡ past start (before ++ s) = r.token.ends ∙ ap (λ (x : Place). past x s) starts ∙ sym (past_append start before s) in
+    let heres : IsUtf8 whole → IsUtf8 (s ++ rest) = λ w. subst (λ (x : List ℕ). IsUtf8 x) l.parts (gap_rest r.gap.0 at text t.span.start r.here r.gap.1 (valid w)) in
+    let fronts : IsUtf8 whole → IsUtf8 before = λ w. valid_front whole before (s ++ rest) parts w (heres w) in
     record {
       next = before ++ s;
       parts = parts ∙ sym (append_assoc before s rest);
       ends = ends;
-      stands = record { front = before; text = s; rest = rest; parts = parts; start = starts ∙ past_is before; ends = ends ∙ past_is (before ++ s); means = r.token.means };
+      stands = record { front = before; text = s; rest = rest; parts = parts; start = starts ∙ past_is before; ends = ends ∙ past_is (before ++ s); means = r.token.means; valid = fronts };
       order = omega (arith, ap (λ (x : Place). x.byte) g.2, past_byte at g.0);
       some = omega (arith, ap (λ (x : Place). x.byte) r.token.ends, past_byte t.span.start s, text_nonempty s l.is_one);
     }
 
-run_stands : (ts : List Lexeme) (whole front : List ℕ) (at : Place) (text : List ℕ) (to : Place) (rest : List ℕ) → whole ≡ front ++ text → at ≡ past start front → Run ts at text to rest
+run_stands : (ts : List Lexeme) (whole front : List ℕ) (at : Place) (text : List ℕ) (to : Place) (rest : List ℕ) → whole ≡ front ++ text → at ≡ past start front → (IsUtf8 whole → IsUtf8 text) → Run ts at text to rest
     → AllByRecursion (StandsIn whole) ts × InOrder at.byte ts
-run_stands [] whole front at text to rest e place r = (tt, tt)
-run_stands (t ∷ ts) whole front at text to rest e place r =
-    let s = reads_stands whole front at text t r.0 e place r.1 in
-    let ih = run_stands ts whole s.next t.span.«end» r.0 to rest s.parts s.ends r.2 in
+run_stands [] whole front at text to rest e place valid r = (tt, tt)
+run_stands (t ∷ ts) whole front at text to rest e place valid r =
+    let s = reads_stands whole front at text t r.0 e place valid r.1 in
+    let ih = run_stands ts whole s.next t.span.«end» r.0 to rest s.parts s.ends (λ w. reads_rest at text t r.0 r.1 (valid w)) r.2 in
     ((s.stands, ih.0), (s.order, s.some, ih.1))
 
 pub tokens_stand : (text : List ℕ) (ts : List Lexeme) → Tokens text ts → AllByRecursion (StandsIn text) ts × InOrder 0 ts
-tokens_stand text ts t = run_stands ts text [] start text t.to t.rest refl refl t.run
+tokens_stand text ts t = run_stands ts text [] start text t.to t.rest refl refl (λ w. w) t.run
 
 -- ---- faults
 
@@ -145,41 +142,11 @@ fault_stands text number place f =
     let g = gap_front f.breaks.gap.0 f.to f.rest place f.breaks.here f.breaks.gap.1 in
     let parts : text ≡ (r.0 ++ g.0) ++ f.breaks.here = r.1 ∙ ap (λ (x : List ℕ). r.0 ++ x) g.1 ∙ sym (append_assoc r.0 g.0 f.breaks.here) in
     let at : place ≡ past start (r.0 ++ g.0) = g.2 ∙ ap (λ (x : Place). past x g.0) r.2 ∙ sym (past_append start r.0 g.0) in
-    (r.0 ++ g.0, f.breaks.here, parts, at ∙ past_is (r.0 ++ g.0))
-
--- ---- what a caller gets
-
-never_memory : (text : List ℕ) (number : RefusalNumber) (place : Place) → Faulty text number place → number ≡ Memory → ⊥
-never_memory text number place f e = elim (fault_number text number place f) [ inl a ↦ apart a | inr (inl b) ↦ other b | inr (inr d) ↦ third d ]
-  where
-    apart : number ≡ Lexical → ⊥
-    apart a = cc
-
-    other : number ≡ Unsupported → ⊥
-    other b = cc
-
-    third : number ≡ Limit → ⊥
-    third d = cc
-
-pub only_memory : (text : List ℕ) (e : LexError) (r : Refusal) → r ≡ refusal_of e → IsFault text e → (ts : List Lexeme) → Tokens text ts → r.number ≡ Memory
-only_memory text errors.Memory r is fault ts t = ap (λ (x : Refusal). x.number) is
-only_memory text (errors.Fault number place) r is fault ts t = absurd (no_fault text ts number place t fault)
-
-is_at : (r : Refusal) (number : RefusalNumber) (place : Place) → r ≡ refusal_of (errors.Fault number place) → IsAt r number place
-is_at r number place is = (ap (λ (x : Refusal). x.number) is, ap (λ (x : Refusal). x.line) is, ap (λ (x : Refusal). x.column) is)
-
-pub refused_at : (text : List ℕ) (e : LexError) (r : Refusal) → r ≡ refusal_of e → IsFault text e → (number : RefusalNumber) (place : Place) → Faulty text number place → r.number ≢ Memory → IsAt r number place
-refused_at text errors.Memory r is fault number place f some = absurd (some (ap (λ (x : Refusal). x.number) is))
-refused_at text (errors.Fault n p) r is fault number place f some =
-    let at = is_at r n p is in
-    let same = one_fault text n number p place fault f in
-    (at.0 ∙ same.0, at.1 ∙ ap (λ (x : Place). x.line) same.1, at.2 ∙ ap (λ (x : Place). x.column) same.1)
-
-pub memory_nowhere : (text : List ℕ) (e : LexError) (r : Refusal) → r ≡ refusal_of e → IsFault text e → r.number ≡ Memory → (r.line ≡ 0) × (r.column ≡ 0)
-memory_nowhere text errors.Memory r is fault none = (ap (λ (x : Refusal). x.line) is, ap (λ (x : Refusal). x.column) is)
-memory_nowhere text (errors.Fault number place) r is fault none = absurd (never_memory text number place fault (sym (is_at r number place is).0 ∙ none))
-
--- a result that is such an error
-pub of_error : {X E : Type 0} (A : X → Type 0) (P Q : E → Type 0) (r : Result X E) → IsErrAnd r P → ((e : E) → P e → Q e) → MatchResult r A Q
-of_error A P Q (Ok x) is f = absurd is
-of_error A P Q (Err e) is f = f e is
+    let heres : IsUtf8 text → IsUtf8 f.breaks.here = λ w. gap_rest f.breaks.gap.0 f.to f.rest place f.breaks.here f.breaks.gap.1 (run_rest f.before start text f.to f.rest f.run w) in
+    record {
+      front = r.0 ++ g.0;
+      rest = f.breaks.here;
+      parts = parts;
+      is = at ∙ past_is (r.0 ++ g.0);
+      valid = λ w. valid_front text (r.0 ++ g.0) f.breaks.here parts w (heres w);
+    }

@@ -55,7 +55,7 @@ pub record Breaks (at : Place) (text : List ℕ) (number : RefusalNumber) (to : 
   pub gap : IsGap at text to here
   pub wrong : Wrong here number
 
--- after some tokens the text has this fault at this place: no token stands behind it, so it is the leftmost
+-- the text's leftmost fault: some tokens, and behind them this fault at this place, where no token can be read
 pub record Faulty (text : List ℕ) (number : RefusalNumber) (place : Place) : Type 0 where
   pub before : List Lexeme
   pub to : Place

@@ -181,6 +181,7 @@ fn a_refusal_prints_its_number_place_and_cycle(rt: HostRuntime) -> Result<(), Fa
         "E7 line 1 column 50 cycle a b"
     );
     assert_eq!(rt; cycle.cycle.names().len(), 2);
+    assert!(rt; Cycle::none().names().is_empty());
     let memory = Refusal::memory();
     assert_eq!(rt; format!(in alloc; "{memory}")?.as_str(), "E11");
     Ok(())

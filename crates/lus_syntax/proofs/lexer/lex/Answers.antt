@@ -1,5 +1,6 @@
 use Rattle.lus_syntax.proofs.Unique.{one_reading, no_fault}
-use Rattle.lus_syntax.proofs.Spans.{tokens_stand, only_memory, refused_at, memory_nowhere, of_error}
+use Rattle.lus_syntax.proofs.Spans.{tokens_stand}
+use Rattle.lus_syntax.proofs.Refused.{only_memory, refused_at, memory_nowhere, of_error}
 use Rattle.lus_syntax.proofs.lexer.lex.Goals as goal
 
 pub returns-in_err-tokens-clause-only : goal.returns-in_err-tokens-clause-only
