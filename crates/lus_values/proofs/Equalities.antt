@@ -68,7 +68,8 @@ mutual
   same_fields-self end = refl
   same_fields-self (field v fs) = both_true (same-self v) (same_fields-self fs)
 
-same_tells : (v w : Value) → IsTrue (same v w) ↔ (v ≡ w)
+-- the test is true exactly of equal values
+pub same_tells : (v w : Value) → IsTrue (same v w) ↔ (v ≡ w)
 same_tells v w = (same-true v w, λ e. subst (λ u. same v u ≡ true) e (same-self v))
 
 pub told_by_same : (b : Bool) (v w : Value) → b ≡ same v w → IsTrue b ↔ (v ≡ w)

@@ -1,5 +1,5 @@
 -- Where names stand, after one more name or one more type.
-use Rattle.std.proofs.Common.{◌≡◌, ◌∙◌, ◌+◌, ◌<◌, ◌≤◌, ℕ, String, Vec, Global, map, take, get_or, suc, Bool, true, false, cond, List, [], ◌∷◌, ◌++◌, length, Option, Some, None, refl, sym, ap, arith}
+use Rattle.std.proofs.Common.{◌≡◌, ◌∙◌, ◌+◌, ◌<◌, ℕ, String, Vec, Global, map, take, get_or, suc, Bool, true, false, cond, List, [], ◌∷◌, ◌++◌, length, Option, Some, None, refl, sym, ap, arith}
 use Rattle.std.specs.Prelude.{string_bytes}
 use Rattle.std.proofs.lemmas.Grind.{common_steps}
 use Rattle.std.specs.Option.{option_map, option_or}
@@ -69,10 +69,9 @@ numbers_of-push names ns text =
 
 pub found-all : (found : Option (ℕ × ℕ)) (types later : List (Vec (String Global) Global)) (names : Vec (String Global) Global) (xs : List (String Global)) (t i : ℕ) (text : Text)
     → found ≡ found_before (numbers_of (map (λ ns. map string_bytes ns.items) types) text) t xs i text
-    → t ≡ length types → xs ≡ names.items → length xs ≤ i → later ≡ types ++ names ∷ []
+    → t ≡ length types → map string_bytes names.items ≡ map string_bytes (take i xs) → later ≡ types ++ names ∷ []
     → found ≡ numbers_of (map (λ ns. map string_bytes ns.items) later) text
-found-all found types later names xs t i text e same_length same_names all pushed =
+found-all found types later names xs t i text e same_length copied pushed =
     let seen : map (λ ns. map string_bytes ns.items) later ≡ map (λ ns. map string_bytes ns.items) types ++ map string_bytes names.items ∷ [] = grind (arith, common_steps) in
-    let whole : take i xs ≡ names.items = grind (arith, common_steps) in
     let count : t ≡ length (map (λ ns. map string_bytes ns.items) types) = grind (arith, common_steps) in
-    e ∙ rw (seen, whole, count) (sym (numbers_of-push (map (λ ns. map string_bytes ns.items) types) (map string_bytes names.items) text))
+    e ∙ rw (seen, ← copied, count) (sym (numbers_of-push (map (λ ns. map string_bytes ns.items) types) (map string_bytes names.items) text))

@@ -1,6 +1,6 @@
 //! Names of constructors.
 
-ghost use Rattle.std.specs.Prelude.{◌≡◌, ◌^◌, ◌<◌, ◌≤◌, ◌++◌, ◌∷◌, [], ℕ, List, Some, None, IfOk, OnOk, length, map, vec_len, string_bytes, if◌then◌else◌};
+ghost use Rattle.std.specs.Prelude.{◌≡◌, ◌^◌, ◌<◌, ◌≤◌, ◌++◌, ◌∷◌, [], ℕ, List, Some, None, IfOk, OnOk, length, map, string_bytes, if◌then◌else◌};
 ghost use Rattle.std.specs.Option.{option_map, option_or};
 ghost use Rattle.std.specs.Str.{bytes_eq};
 ghost use Rattle.indexmap.specs.IndexMap.{get_by_text};
@@ -41,21 +41,23 @@ impl Names {
         }
     }
 
-    /// Adds the next type with its constructors in declared order: none, if it is no enumeration.
-    pub fn with_type(self, constructors: Vec<String>) -> Result<Names, Memory>
+    /// Adds the next type with copies of its constructors' names, in declared order: none, if it is no enumeration.
+    pub fn with_type(self, alloc: Global, constructors: &[String]) -> Result<Names, Memory>
         requires types { length self < 2 ^ 32 }
-        requires constructors { vec_len constructors ≤ 2 ^ 32 }
-        ensures { IfOk result (λ names. names ≡ self ++ map string_bytes constructors.items ∷ []) }
+        requires constructors { length constructors.now ≤ 2 ^ 32 }
+        ensures { IfOk result (λ names. names ≡ self ++ map string_bytes constructors.now ∷ []) }
     {
         let Names {
             mut types,
             mut numbers,
         } = self;
         let enumeration = types.len() as u32;
+        let mut names = Vec::new(alloc);
         for (constructor, name) in constructors.iter().enumerate() {
             declare(&mut numbers, name, (enumeration, constructor as u32))?;
+            names.push(name.clone()?)?;
         }
-        types.push(constructors)?;
+        types.push(names)?;
         Ok(Names { types, numbers })
     }
 

@@ -199,11 +199,11 @@ fn values_print_with_the_names_of_constructors(rt: HostRuntime) {
 
 /// An alias, and then an enumeration of two colours.
 fn colours(alloc: Global) -> Result<Names, Memory> {
-    let names = Names::new(alloc).with_type(Vec::new(alloc))?;
+    let names = Names::new(alloc).with_type(alloc, &[])?;
     let mut colours = Vec::new(alloc);
     colours.push(String::from_str(alloc, "Red")?)?;
     colours.push(String::from_str(alloc, "Green")?)?;
-    names.with_type(colours)
+    names.with_type(alloc, &colours)
 }
 
 #[test]
