@@ -3,4 +3,6 @@ pub mod Lookups
 pub mod Declarations
 pub mod Arranged
 pub mod Meant
+pub mod NamePlaces
+pub mod Looping
 mod Rows

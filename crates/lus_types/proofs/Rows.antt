@@ -13,7 +13,8 @@ use Rattle.lus_program.specs.declared.types.Kind.TheVariants as kinds
 use Rattle.lus_program.specs.Programs as program
 use Rattle.lus_types.specs.Tables.{scope, kind_named}
 use Rattle.lus_types.specs.Named.{Named, all_new}
-use Rattle.lus_types.specs.Loopless.{Leads, step, node_uses}
+use Rattle.lus_graph.specs.Ways.{Leads, step}
+use Rattle.lus_types.specs.Loopless.{node_uses}
 use Rattle.lus_types.specs.Sized.{Counted, Bounded, leaves_at, nesting_at, call_depth_at}
 use Rattle.lus_types.specs.Types.{kind_of}
 use Rattle.lus_types.specs.Meaning.{meant, program_of}

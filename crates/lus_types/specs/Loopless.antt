@@ -1,64 +1,63 @@
 -- Nothing leads back to itself. Lustre V6 reference manual, "Nodes": nodes aren't recursive, nor are types.
-use Rattle.std.specs.Prelude.{◌++◌, ℕ, List, [], ◌∷◌, Option, Some, None, map, flat_map, Contains}
+use Rattle.std.specs.Prelude.{◌++◌, ℕ, List, [], ◌∷◌, Option, Some, None, map, flat_map}
+use Rattle.std.specs.List.{position_from}
+use Rattle.std.specs.Option.{option_to_list}
+use Rattle.std.specs.Str.{bytes_eq}
+use Rattle.lus_graph.specs.Ways.{Uses, HasNoWayBack}
 use Rattle.lus_syntax.specs.Lexemes.{Text}
-use Rattle.lus_syntax.specs.Trees.{Expression, Numeral, Truth, Name, Call, Structure, Merge, Field, Parentheses, When, Unary, Binary, If, Parts, End, More, TypeName, Definition, Alias, Enumeration, StructureOf, Node, Tree}
-use Rattle.lus_values.specs.Lists.{item}
-use Rattle.lus_types.specs.Scopes.{entry}
-use Rattle.lus_types.specs.Tables.{numbered_from, of_type, definition_at}
+use Rattle.lus_syntax.specs.Trees.{Lead, Expression, Numeral, Truth, Name, Call, Structure, Merge, Field, Parentheses, When, Unary, Binary, If, Parts, End, More, TypeName, BoolName, IntName, DeclaredName, Definition, Alias, Enumeration, StructureOf, Node, Tree}
 
--- there is a way from x to y
-pub data Leads (uses : ℕ → List ℕ) : ℕ → ℕ → Type 0 where
-  step : {x y : ℕ} → Contains (uses x) y → Leads uses x y
-  then : {x y z : ℕ} → Contains (uses x) y → Leads uses y z → Leads uses x z
+-- the place of a name among these
+abbrev pub place_in : List Text → Text → Option ℕ
+place_in names n = position_from (λ m. bytes_eq n m) 0 names
 
-abbrev pub HasNoWayBack : (ℕ → List ℕ) → Type 0
-HasNoWayBack uses = (x : ℕ) → Leads uses x x → ⊥
+abbrev pub type_names : Tree → List Text
+type_names p = map (λ d. d.name.text) p.types
 
-abbrev pub named_type : Tree → TypeName → List ℕ
-named_type p y = of_type p [] [] (λ t. t ∷ []) y
+abbrev pub node_names : Tree → List Text
+node_names p = map (λ f. f.name.text) p.nodes
 
-abbrev pub definition_uses : Tree → Definition → List ℕ
-definition_uses p (Alias y) = named_type p y
-definition_uses p (Enumeration cs) = []
-definition_uses p (StructureOf fs) = flat_map (λ g. named_type p g.type_name) fs
+-- the declared type that a type's name names, among these
+abbrev pub named_type : List Text → TypeName → List ℕ
+named_type types (BoolName s) = []
+named_type types (IntName s) = []
+named_type types (DeclaredName n) = option_to_list (place_in types n.text)
+
+abbrev pub definition_uses : List Text → Definition → List ℕ
+definition_uses types (Alias y) = named_type types y
+definition_uses types (Enumeration cs) = []
+definition_uses types (StructureOf fs) = flat_map (λ g. named_type types g.type_name) fs
 
 -- the types that each type's declaration names
-abbrev pub type_uses : Tree → ℕ → List ℕ
-type_uses p t = definition_uses p (definition_at p t)
+abbrev pub type_uses : Tree → Uses
+type_uses p = map (λ d. definition_uses (type_names p) d.definition) p.types
 
-abbrev pub node_places : Tree → List (Text × ℕ)
-node_places p = map (λ e. (e.0.name.text, e.1)) (numbered_from 0 p.nodes)
-
-abbrev pub place_of : Option ℕ → List ℕ
-place_of None = []
-place_of (Some n) = n ∷ []
-
--- the nodes that an expression calls
+-- the nodes that an expression calls, among these
 abbrev mutual
-  pub called : Tree → Expression → List ℕ
-  called p (Numeral z s) = []
-  called p (Truth b s) = []
-  called p (Name n) = []
-  called p (Call f es) = place_of (entry (node_places p) f.text) ++ called_in p es
-  called p (Structure t fs) = called_in p fs
-  called p (Merge s c bs) = called_in p bs
-  called p (Field a x) = called p a
-  called p (Parentheses s a) = called p a
-  called p (When a t) = called p a
-  called p (Unary op s a) = called p a
-  called p (Binary op a b) = called p a ++ called p b
-  called p (If s c a b) = called p c ++ (called p a ++ called p b)
+  pub called : List Text → Expression → List ℕ
+  called nodes (Numeral z s) = []
+  called nodes (Truth b s) = []
+  called nodes (Name n) = []
+  called nodes (Call f es) = option_to_list (place_in nodes f.text) ++ called_in nodes es
+  called nodes (Structure t fs) = called_in nodes fs
+  called nodes (Merge s c bs) = called_in nodes bs
+  called nodes (Field a x) = called nodes a
+  called nodes (Parentheses s a) = called nodes a
+  called nodes (When a t) = called nodes a
+  called nodes (Unary op s a) = called nodes a
+  called nodes (Binary op a b) = called nodes a ++ called nodes b
+  called nodes (If s c a b) = called nodes c ++ (called nodes a ++ called nodes b)
 
-  pub called_in : Tree → Parts → List ℕ
-  called_in p End = []
-  called_in p (More l e ps) = called p e ++ called_in p ps
+  pub called_in : List Text → Parts → List ℕ
+  called_in nodes End = []
+  called_in nodes (More l e ps) = called nodes e ++ called_in nodes ps
 
-abbrev pub calls_of : Tree → Node → List ℕ
-calls_of p f = flat_map (λ q. called p q.right) f.equations
+abbrev pub calls_of : List Text → Node → List ℕ
+calls_of nodes f = flat_map (λ q. called nodes q.right) f.equations
 
 -- the nodes that each node calls
-abbrev pub node_uses : Tree → ℕ → List ℕ
-node_uses p = item [] (map (calls_of p) p.nodes)
+abbrev pub node_uses : Tree → Uses
+node_uses p = map (calls_of (node_names p)) p.nodes
 
 pub record Loopless (p : Tree) : Type 0 where
   pub types : HasNoWayBack (type_uses p)

@@ -10,7 +10,7 @@ use Rattle.lus_program.specs.declared.expr.Test.{Test}
 use Rattle.lus_program.specs.declared.types.Kind.{Kind}
 use Rattle.lus_program.specs.declared.types.Kind.TheVariants as kinds
 use Rattle.lus_program.specs.Programs.{Expression, literal, variable, operate, pre, arrow, fby, when, merge, call, Operands, none, more, calls, numbered, Declared, Variable, Equation, Node, Program}
-use Rattle.lus_types.specs.Loopless.{HasNoWayBack}
+use Rattle.lus_graph.specs.Ways.{Uses, HasNoWayBack}
 use Rattle.lus_types.specs.Types.{same, all_same, where_true, alike, both, compared, choice_kind, value_kind, the_one, common_kind, count, fields_in, constructors_in, nothing_declared}
 
 abbrev pub only : Kind → Kind → List Kind → Option Kind
@@ -165,8 +165,9 @@ abbrev mutual
   all_nodes_called none = []
   all_nodes_called (more e es) = nodes_called e ++ all_nodes_called es
 
-abbrev pub program_uses : Program → ℕ → List ℕ
-program_uses p g = item [] (map (λ f. flat_map (λ q. nodes_called q.right) f.equations) p.nodes) g
+-- the nodes that each node calls
+abbrev pub program_uses : Program → Uses
+program_uses p = map (λ f. flat_map (λ q. nodes_called q.right) f.equations) p.nodes
 
 -- each node is well typed and defines its variables, and none calls itself, directly or round
 pub record Resolved (p : Program) : Type 0 where

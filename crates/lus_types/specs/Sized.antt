@@ -3,6 +3,7 @@ use Rattle.std.specs.Prelude.{◌*◌, ◌≤◌, ℕ, suc, true, false, List, [
 use Rattle.lus_syntax.specs.Trees.{Fields, Definition, Alias, Enumeration, StructureOf, Group, Tree}
 use Rattle.lus_values.specs.Lists.{Each, Below}
 use Rattle.lus_types.specs.Tables.{groups, of_type, definition_at, within}
+use Rattle.lus_graph.specs.Ways.{used}
 use Rattle.lus_types.specs.Loopless.{node_uses}
 
 abbrev pub field_count : List Fields → ℕ
@@ -51,7 +52,7 @@ nesting_at p = within (length p.types) 0 (λ at t. definition_nesting p at (defi
 
 -- how deep each node's calls go: a node without calls has 1
 abbrev pub call_depth_at : Tree → ℕ → ℕ
-call_depth_at p = within (length p.nodes) 0 (λ at f. suc (greatest at (node_uses p f)))
+call_depth_at p = within (length p.nodes) 0 (λ at f. suc (greatest at (used (node_uses p) f)))
 
 pub record Bounded (p : Tree) : Type 0 where
   pub leaves : Below (length p.types) (λ t. leaves_at p t ≤ 1024)

@@ -8,10 +8,13 @@ mod fault;
 mod forms;
 mod kinds;
 mod parts;
+mod recursion;
 mod scope;
+mod uses;
 
 pub use elaboration::elaborate;
 pub use entries::{Constructor, Placed, Signature};
 pub use fault::Fault;
 pub use forms::{Elaborated, test_placed};
+pub use recursion::{Orders, check_recursion};
 pub use scope::Scope;

@@ -1,0 +1,9 @@
+use Rattle.std.proofs.Common.{◌≡◌, ◌++◌, drop, take, map, flat_map}
+use Rattle.std.specs.Prelude.{string_bytes}
+use Rattle.lus_graph.specs.Walks.{uses_of}
+use Rattle.lus_syntax.specs.View.{definition_seen, equation_seen, node_seen, type_name_seen, fields_seen}
+use Rattle.lus_types.specs.Loopless.{called, calls_of, definition_uses, named_type}
+use Rattle.lus_types.proofs.uses.node_uses.Given as goal
+
+abbrev pub invariant-loop-node : goal.invariant-loop-node
+invariant-loop-node l = uses_of l.uses.items ≡ map (λ f. calls_of (map string_bytes l.nodes.keys) (node_seen f)) (take l.node-index l.node-items)

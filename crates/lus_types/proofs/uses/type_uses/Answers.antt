@@ -1,0 +1,14 @@
+use Rattle.std.proofs.Common.{rules, arith, ◌≡◌, ◌∙◌, ap, sym, map, take}
+use Rattle.std.specs.Prelude.{string_bytes}
+use Rattle.std.proofs.lemmas.List.{take_all}
+use Rattle.std.proofs.lemmas.Simd.{map-map}
+use Rattle.lus_graph.specs.Walks.{uses_of}
+use Rattle.lus_syntax.specs.View.{definition_seen, node_seen, type_seen}
+use Rattle.lus_types.specs.Loopless.{calls_of, definition_uses}
+use Rattle.lus_types.proofs.uses.type_uses.Goals as goal
+
+pub returns : goal.returns
+returns c =
+    let all : uses_of c.loop-declaration.uses.items ≡ map (λ d. definition_uses (map string_bytes c.args.types.now.keys) (definition_seen d.definition)) c.args.tree.now.types.items =
+    c.loop-declaration.invariant ∙ ap (map (λ d. definition_uses (map string_bytes c.args.types.now.keys) (definition_seen d.definition))) (take_all c.loop-declaration.declaration-index c.deref-declaration-items.result.now c.loop-declaration-test.false ∙ c.deref-declaration-items.ensures.value) in
+    all ∙ rw (← c.requires.names) (sym (map-map (λ d. definition_uses (map string_bytes c.args.types.now.keys) d.definition) type_seen c.args.tree.now.types.items))
