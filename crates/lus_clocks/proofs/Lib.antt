@@ -8,3 +8,5 @@ pub mod Fits
 pub mod Equations
 pub mod Numbering
 pub mod Whole
+pub mod Rising
+pub mod Flagged

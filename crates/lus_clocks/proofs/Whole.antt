@@ -44,6 +44,10 @@ below_all : (P : ℕ → Type 0) (n : ℕ) → ((x : ℕ) → x < n → P x) →
 below_all P zero h = tt
 below_all P (suc n) h = (h n (omega arith), below_all P n (λ x lt. h x (omega arith)))
 
+pub one_less : (n x : ℕ) → x < n → (m : ℕ) × (n ≡ suc m)
+one_less zero x lt = absurd (not-suc-le-zero lt)
+one_less (suc m) x lt = (m, refl)
+
 module _ (f : Node) where
   allowed_is : (x y : ℕ) → may_test f x y ≡ true → MayTest f x y
   allowed_is x y h = (
@@ -69,10 +73,6 @@ module _ (f : Node) where
       let longer : clock_of f t.variable ≡ chain (suc m) f.variables t.variable = ap (λ i. chain i f.variables t.variable) n in
       let same : length (chain m f.variables t.variable) ≡ length (chain (suc m) f.variables t.variable) = omega (arith, ap length opened, ap length longer, h) in
       opened ∙ ap (λ k. t ∷ k) (chain_stays f.variables m t.variable same ∙ sym longer)
-
-  one_less : (n x : ℕ) → x < n → (m : ℕ) × (n ≡ suc m)
-  one_less zero x lt = absurd (not-suc-le-zero lt)
-  one_less (suc m) x lt = (m, refl)
 
   declared_is : (x : ℕ) → x < length f.variables → (o : Option Test) → test_of f x ≡ o → is_declared f x o ≡ true → IsDeclared f x o
   declared_is x lt None e h = tt

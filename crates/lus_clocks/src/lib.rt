@@ -7,6 +7,12 @@ mod clock;
 mod declared;
 mod equation;
 mod expression;
+mod flag;
+mod flagging;
 mod formals;
+mod raising;
+mod required;
+mod values;
 
 pub use checking::clocks_fit;
+pub use flagging::flags_fit;

@@ -1,0 +1,40 @@
+//! Whether nil stands in a program only where flags allow.
+
+ghost use Rattle.std.specs.Prelude.{◌≡◌, ◌≢◌, OnOk, IfErr};
+ghost use Rattle.lus_program.specs.Programs.{Program as PlainProgram};
+ghost use Rattle.lus_program.specs.View.{node_of, program_seen};
+ghost use Rattle.lus_streams.specs.Flags.{IsFlagged};
+ghost use Rattle.lus_clocks.specs.Raising.{HasFlags};
+
+use crate::raising::least_flags;
+use crate::required::check_required;
+use lus_program::{Node, Program};
+use lus_syntax::{Refusal, RefusalNumber};
+use std::alloc::Global;
+
+/// Tells whether some flags of a node meet all requirements: then the least do. What is required doesn't hang on the other
+/// nodes of the program.
+fn check_node(alloc: Global, node: &Node) -> Result<(), Refusal>
+    ensures ok { OnOk result ((p : PlainProgram) → HasFlags p (node_of node.now)) }
+    ensures err { IfErr result (λ refusal. refusal.number ≢ RefusalNumber.Memory → (p : PlainProgram) → HasFlags p (node_of node.now) → ⊥) }
+    ensures number { IfErr result (λ refusal. refusal.number ≢ RefusalNumber.Memory → refusal.number ≡ RefusalNumber.Nil) }
+{
+    let flags = least_flags(alloc, node)?;
+    match check_required(node, &flags) {
+        Ok(()) => Ok(()),
+        Err(place) => Err(Refusal::new(RefusalNumber::Nil, place.line, place.column)),
+    }
+}
+
+/// Tells whether in each node of a program some flags meet all requirements. A refusal stands at the first token of the
+/// operand that may be nil, or at a variable's place on the left of its equation.
+pub fn flags_fit(alloc: Global, program: &Program) -> Result<(), Refusal>
+    ensures ok { OnOk result (IsFlagged (program_seen program.now)) }
+    ensures err { IfErr result (λ refusal. refusal.number ≢ RefusalNumber.Memory → IsFlagged (program_seen program.now) → ⊥) }
+    ensures number { IfErr result (λ refusal. refusal.number ≢ RefusalNumber.Memory → refusal.number ≡ RefusalNumber.Nil) }
+{
+    for node in &program.nodes {
+        check_node(alloc, node)?;
+    }
+    Ok(())
+}

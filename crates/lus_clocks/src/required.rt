@@ -1,0 +1,147 @@
+//! Whether the text of a node meets what flags require of it.
+
+ghost use Rattle.std.specs.Prelude.{◌≡◌, not, map, take, is_ok};
+ghost use Rattle.lus_program.specs.View.{expression_of, operands_of, variable_of, node_of};
+ghost use Rattle.lus_streams.specs.Flags.{greatest};
+ghost use Rattle.lus_clocks.specs.Raising.{flags_in, meets, all_meet, rights_meet, tests_meet, none_raised, all_required};
+
+use crate::expression::{place_of, require};
+use crate::flag::{flag_at, flag_of};
+use crate::values::is_nil_free;
+use lus_program::{Expr, Node};
+use lus_syntax::Place;
+
+/// Where a variable stands on a left side; where none has it, its declaration, or the node's.
+fn place_of_variable(node: &Node, variable: usize) -> Place {
+    for equation in &node.equations {
+        for (index, target) in equation.targets.iter().enumerate() {
+            if *target as usize == variable {
+                if let Some(place) = equation.places.get(index) {
+                    return *place;
+                }
+            }
+        }
+    }
+    match node.variables.get(variable) {
+        Some(declared) => declared.place,
+        None => node.place,
+    }
+}
+
+/// Fails at the first token of an operand that may be nil, where an expression or a part of it requires that it isn't.
+#[cycle(requirements)]
+fn check_meets(node: &Node, flags: &[bool], expr: &Expr) -> Result<(), Place>
+    ensures { is_ok result ≡ meets (flags_in flags.now) (expression_of expr.now) }
+{
+    match expr {
+        Expr::Literal(place, value) => require(is_nil_free(value), *place),
+        Expr::Variable(_, _) => Ok(()),
+        Expr::Operate(_, _, operands) => check_all_meet(node, flags, operands),
+        Expr::Pre(_, operand) => {
+            require(!flag_of(flags, operand), place_of(operand))?;
+            check_meets(node, flags, operand)
+        }
+        Expr::Arrow(_, first, later) => {
+            check_meets(node, flags, first)?;
+            check_meets(node, flags, later)
+        }
+        Expr::Fby(_, first, later) => {
+            require(!flag_of(flags, later), place_of(later))?;
+            check_meets(node, flags, first)?;
+            check_meets(node, flags, later)
+        }
+        Expr::When(_, test, operand) => {
+            require(
+                !flag_at(flags, test.variable as usize),
+                place_of_variable(node, test.variable as usize),
+            )?;
+            check_meets(node, flags, operand)
+        }
+        Expr::Merge(_, variable, branches) => {
+            require(
+                !flag_at(flags, *variable as usize),
+                place_of_variable(node, *variable as usize),
+            )?;
+            check_flagless(flags, branches)?;
+            check_all_meet(node, flags, branches)
+        }
+        Expr::Call(_, _, arguments) => {
+            check_flagless(flags, arguments)?;
+            check_all_meet(node, flags, arguments)
+        }
+    }
+}
+
+#[cycle(requirements)]
+fn check_all_meet(node: &Node, flags: &[bool], operands: &[Expr]) -> Result<(), Place>
+    ensures { is_ok result ≡ all_meet (flags_in flags.now) (operands_of operands.now) }
+{
+    for operand in operands {
+        check_meets(node, flags, operand)?;
+    }
+    Ok(())
+}
+
+/// Fails at the first token of an operand that may be nil.
+fn check_flagless(flags: &[bool], operands: &[Expr]) -> Result<(), Place>
+    ensures { is_ok result ≡ not (greatest (flags_in flags.now) (operands_of operands.now)) }
+{
+    for operand in operands {
+        require(!flag_of(flags, operand), place_of(operand))?;
+    }
+    Ok(())
+}
+
+/// Fails where a right side of the equations doesn't meet its requirements.
+fn check_rights(node: &Node, flags: &[bool]) -> Result<(), Place>
+    ensures { is_ok result ≡ rights_meet (flags_in flags.now) node.now.equations.items }
+{
+    for equation in &node.equations {
+        check_meets(node, flags, &equation.right)?;
+    }
+    Ok(())
+}
+
+/// Fails where a variable that another is declared with may be nil.
+fn check_tests(node: &Node, flags: &[bool]) -> Result<(), Place>
+    ensures { is_ok result ≡ tests_meet (flags_in flags.now) (map variable_of node.now.variables.items) }
+{
+    for variable in &node.variables {
+        if let Some(test) = variable.test {
+            let flag = flag_at(flags, test.variable as usize);
+            require(!flag, place_of_variable(node, test.variable as usize))?;
+        }
+    }
+    Ok(())
+}
+
+/// The first of some flags.
+fn front(flags: &[bool], count: usize) -> &[bool]
+    ensures { result.now ≡ take count flags.now }
+{
+    if count < flags.len() {
+        &flags[..count]
+    } else {
+        flags
+    }
+}
+
+/// Fails where one of the first variables, which have these flags, may be nil.
+fn check_none_raised(node: &Node, flags: &[bool]) -> Result<(), Place>
+    ensures { is_ok result ≡ none_raised flags.now }
+{
+    for (variable, flag) in flags.iter().enumerate() {
+        require(!*flag, place_of_variable(node, variable))?;
+    }
+    Ok(())
+}
+
+/// Fails where flags, which meet the equations of a node, don't meet all else that is required.
+pub fn check_required(node: &Node, flags: &[bool]) -> Result<(), Place>
+    ensures { is_ok result ≡ all_required (node_of node.now) node.now.equations.items flags.now }
+{
+    let formals = node.inputs as usize + node.outputs as usize;
+    check_none_raised(node, front(flags, formals))?;
+    check_tests(node, flags)?;
+    check_rights(node, flags)
+}
