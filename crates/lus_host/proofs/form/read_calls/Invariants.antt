@@ -1,0 +1,10 @@
+use Rattle.std.proofs.Common.{◌≡◌, ◌++◌, drop, map, option_map}
+use Rattle.serde_json.specs.View.{view}
+use Rattle.lus_host.specs.Forms.{call_form, each}
+use Rattle.lus_host.specs.View.{call_seen}
+use Rattle.lus_host.proofs.form.read_calls.Given as goal
+
+abbrev pub invariant-loop-call : goal.invariant-loop-call
+invariant-loop-call l =
+    each call_form (map view l.calls)
+    ≡ option_map (λ rest. map call_seen l.forms.items ++ rest) (each call_form (map view (drop l.call-index l.calls)))
