@@ -3,6 +3,7 @@ pub mod Lookups
 pub mod Declarations
 pub mod Arranged
 pub mod Meant
+pub mod NameLists
 pub mod NamePlaces
 pub mod Looping
 mod Rows

@@ -8,5 +8,6 @@ pub mod Meaning
 pub mod WellTyped
 pub mod Refusals
 pub mod ScopeView
+pub mod NameView
 pub mod Resolved
 pub mod GraphErrors
