@@ -1,0 +1,64 @@
+-- What the words of the command line ask for, by the meaning that clap's own specification gives to the command.
+use Rattle.std.specs.Prelude.{◌==◌, ℕ, Bool, true, false, List, length, Option, Some, None, codes, if◌then◌else◌}
+use Rattle.std.specs.Str.{bytes_eq}
+use Rattle.clap.specs.Words.{App, Rule, new_app, new_rule, with_rule, first_of, matches_of, fault_of}
+use Rattle.clap.specs.declared.builder.ArgAction.TheVariants.{SetTrue}
+use Rattle.lus_cli.specs.declared.words.Task.{Task}
+use Rattle.lus_cli.specs.declared.words.Task.TheVariants as tasks
+
+abbrev pub Text : Type 0
+Text = List ℕ
+
+abbrev pub check_rule : Rule
+check_rule = record (new_rule (codes "check")) { long = Some (codes "check"); action = Some SetTrue }
+
+abbrev pub program_rule : Rule
+program_rule = record (new_rule (codes "PROGRAM")) { required = true }
+
+-- the command before its arguments: no name of the program among the words, no help, no version
+abbrev pub bare : App
+bare = record (new_app (codes "lus")) {
+  top = record ((new_app (codes "lus")).top) {
+    no_binary_name = true;
+    disable_help_flag = true;
+    disable_version_flag = true;
+  };
+}
+
+-- a flag `--check`, a required PROGRAM and an optional SCRIPTS
+abbrev pub lus : App
+lus = with_rule (with_rule (with_rule bare check_rule) program_rule) (new_rule (codes "SCRIPTS"))
+
+-- a well formed line asks for a check of a program, or for a run of a program with scripts
+pub data Asked : Type 0 where
+  check : Text → Asked
+  run : Text → Text → Asked
+
+-- SCRIPTS stands exactly where `--check` doesn't
+abbrev pub chosen : Bool → Option Text → Option Text → Option Asked
+chosen true (Some program) None = Some (check program)
+chosen false (Some program) (Some scripts) = Some (run program scripts)
+chosen true None None = None
+chosen true None (Some scripts) = None
+chosen true (Some program) (Some scripts) = None
+chosen false None None = None
+chosen false None (Some scripts) = None
+chosen false (Some program) None = None
+
+abbrev pub is_true : Option Text → Bool
+is_true None = false
+is_true (Some t) = bytes_eq t (codes "true")
+
+-- what the words after the program's own name ask for, where they are well formed
+unfoldable pub asked : List Text → Option Asked
+asked ws =
+    if length (fault_of lus ws) == 0
+    then chosen (is_true (first_of (codes "check") (matches_of lus ws)))
+    (first_of (codes "PROGRAM") (matches_of lus ws))
+    (first_of (codes "SCRIPTS") (matches_of lus ws))
+    else None
+
+-- a task as plain data
+abbrev pub task_seen : Task → Asked
+task_seen (tasks.Check program) = check program.now
+task_seen (tasks.Run program scripts) = run program.now scripts.now
