@@ -1,0 +1,12 @@
+pub mod Sound
+pub mod Complete
+pub mod Repeats
+pub mod SoundDeclarations
+pub mod CompleteDeclarations
+pub mod Loop
+pub mod Steps
+pub mod Dots
+pub mod Items
+pub mod Turns
+pub mod Shorter
+pub mod Refusals

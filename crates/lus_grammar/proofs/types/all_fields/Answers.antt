@@ -1,0 +1,32 @@
+use Rattle.std.proofs.Common.{◌≡◌, [], sym, ap, ◌∙◌}
+use Rattle.std.proofs.lemmas.Result.{err_from_is_err_and}
+use Rattle.lus_syntax.specs.declared.token.Symbol.TheVariants as symbols
+use Rattle.lus_syntax.specs.Lexemes.{Sign}
+use Rattle.lus_syntax.specs.View.{tokens_seen, fields_seen}
+use Rattle.lus_grammar.specs.Reading.{identifier_at}
+use Rattle.lus_grammar.specs.ReadingDeclarations.{after, further, rest_of, push_at, fields_at, group_at}
+use Rattle.lus_grammar.proofs.Turns.{first_fails, first_read, item_fails, item_read, ended, seen_push, seen_first}
+use Rattle.lus_grammar.proofs.Shorter.{fields_shorter}
+use Rattle.lus_grammar.proofs.types.all_fields.Goals as goal
+
+pub returns-in_err-first : goal.returns-in_err-first
+returns-in_err-first c =
+    let p = err_from_is_err_and c.from_residual.result c.from_residual.ensures.1 in
+    rw (p.1, p.2) (first_fails (further symbols.CloseBrace) fields_at [] (tokens_seen c.args.tokens.now) _ c.in_err-first.ensures)
+
+pub loop-after-init : goal.loop-after-init
+loop-after-init c = first_read (further symbols.CloseBrace) fields_at [] (tokens_seen c.args.tokens.now) _ _ _ c.in_ok-first.ensures (seen_first fields_seen _ _ _ c.in_ok-push.ensures.items c.new-found.ensures.items)
+
+pub returns-in_err-next : goal.returns-in_err-next
+returns-in_err-next c =
+    let p = err_from_is_err_and c.from_residual-in_err-next.result c.from_residual-in_err-next.ensures.1 in
+    rw (p.1, p.2) (item_fails (further symbols.CloseBrace) fields_at _ _ _ c.loop-after.invariant _ _ (sym c.in-Some.ensures) c.in_err-next.ensures)
+
+pub loop-after-smaller : goal.loop-after-smaller
+loop-after-smaller c = fields_shorter _ _ _ _ (sym c.in-Some.ensures) c.in_ok-next.ensures
+
+pub loop-after-preserved : goal.loop-after-preserved
+loop-after-preserved c = item_read (further symbols.CloseBrace) fields_at _ _ _ c.loop-after.invariant _ _ _ _ (sym c.in-Some.ensures) c.in_ok-next.ensures (fields_shorter _ _ _ _ (sym c.in-Some.ensures) c.in_ok-next.ensures) (seen_push fields_seen _ _ _ c.in_ok-push-2.ensures.items)
+
+pub returns : goal.returns
+returns c = ended (further symbols.CloseBrace) (push_at (further symbols.CloseBrace) fields_at) _ _ _ c.loop-after.invariant (sym c.in_default.ensures)

@@ -1,0 +1,56 @@
+-- What the parser answers, against what reading gives.
+use Rattle.std.specs.Prelude.{◌≡◌, ℕ, suc, ◌≤◌, List, Result, Ok, Err}
+use Rattle.lus_syntax.specs.declared.refusal.Refusal.{Refusal}
+use Rattle.lus_syntax.specs.declared.refusal.RefusalNumber.{RefusalNumber}
+use Rattle.lus_syntax.specs.declared.refusal.RefusalNumber.TheVariants as numbers
+use Rattle.lus_syntax.specs.Lexemes.{Lexeme}
+use Rattle.lus_syntax.specs.Trees.{Tree}
+use Rattle.lus_grammar.specs.declared.fault.ParseError.{ParseError}
+use Rattle.lus_grammar.specs.declared.fault.ParseError.TheVariants as errors
+use Rattle.lus_grammar.specs.Reading.{Fault, Syntax, Deep}
+use Rattle.lus_grammar.specs.Declarations.{SpellsProgram, tree_depth}
+
+-- the same fault, unless memory ran out
+abbrev pub Fails : {Y : Type 0} → ParseError → Result Y Fault → Type 0
+Fails errors.Memory read = Unit {0}
+Fails (errors.Syntax left) read = read ≡ Err Syntax
+Fails (errors.Deep left) read = read ≡ Err Deep
+
+-- what a function returned, seen by `look`, is what reading gives, unless memory ran out
+abbrev pub Gives : {X Y : Type 0} → (X → Y) → Result X ParseError → Result Y Fault → Type 0
+Gives look (Ok x) read = read ≡ Ok (look x)
+Gives look (Err e) read = Fails e read
+
+-- one less, or too deep
+abbrev pub Lowers : ℕ → Result ℕ ParseError → Type 0
+Lowers limit (Ok below) = limit ≡ suc below
+Lowers limit (Err errors.Memory) = ⊥
+Lowers limit (Err (errors.Syntax left)) = ⊥
+Lowers limit (Err (errors.Deep left)) = limit ≡ 0
+
+-- the number of a fault
+abbrev pub Numbered : ParseError → RefusalNumber → Type 0
+Numbered errors.Memory number = number ≡ numbers.Memory
+Numbered (errors.Syntax left) number = number ≡ numbers.Syntax
+Numbered (errors.Deep left) number = number ≡ numbers.Limit
+
+-- the fault that reading meets, by its number
+abbrev pub RefusedAs : {Y : Type 0} → RefusalNumber → Result Y Fault → Type 0
+RefusedAs numbers.Memory read = Unit {0}
+RefusedAs numbers.Syntax read = read ≡ Err Syntax
+RefusedAs numbers.Limit read = read ≡ Err Deep
+RefusedAs _ read = ⊥
+
+-- the tree that reading gives, or its fault, unless memory ran out
+abbrev pub Answers : {X Y : Type 0} → (X → Y) → Result X Refusal → Result Y Fault → Type 0
+Answers look (Ok x) read = read ≡ Ok (look x)
+Answers look (Err e) read = RefusedAs e.number read
+
+-- Lustre V6 reference manual, "Syntax": what a refusal of tokens says
+abbrev pub RefusedRightly : ℕ → List Lexeme → RefusalNumber → Type 0
+RefusedRightly limit ts numbers.Memory = Unit {0}
+-- they spell no tree
+RefusedRightly limit ts numbers.Syntax = (t : Tree) → SpellsProgram t ts → ⊥
+-- they spell no tree within the limit
+RefusedRightly limit ts numbers.Limit = (t : Tree) → SpellsProgram t ts → tree_depth t ≤ limit → ⊥
+RefusedRightly limit ts _ = ⊥

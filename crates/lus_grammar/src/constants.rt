@@ -1,0 +1,129 @@
+//! Declarations of constants.
+
+ghost use Rattle.std.specs.Prelude.{◌≡◌, map, option_map};
+ghost use Rattle.lus_syntax.specs.View.{tokens_seen, type_name_seen, literal_seen, constant_seen};
+ghost use Rattle.lus_grammar.specs.Answers.{Gives};
+ghost use Rattle.lus_grammar.specs.ReadingDeclarations.{several_at, at_name, negative_at, literal_at, type_of_at, constant_at};
+
+use crate::fault::{ParseError, Parsed};
+use crate::front::{begins_name, expect_symbol, identifier, symbol};
+use crate::types::type_name;
+use lus_syntax::{Constant, Literal, Name, Span, Symbol, Token, TokenKind, TypeName, Word};
+use std::alloc::Global;
+
+/// The number after a minus.
+#[tactic(auto, unfolding(crate::specs::ReadingDeclarations::negative_at))]
+fn negative(minus: Span, tokens: &[Token]) -> Parsed<'_, Literal>
+    ensures { Gives (λ x. (literal_seen x.0, tokens_seen x.1.now)) result (negative_at minus (tokens_seen tokens.now)) }
+{
+    match tokens {
+        [
+            Token {
+                kind: TokenKind::Number(number),
+                span,
+            },
+            rest @ ..,
+        ] => Ok((Literal::Negative(minus, *number, *span), rest)),
+        _ => Err(ParseError::Syntax(tokens.len())),
+    }
+}
+
+/// A constant's value.
+#[tactic(auto, unfolding(crate::specs::ReadingDeclarations::literal_at))]
+fn literal(alloc: Global, tokens: &[Token]) -> Parsed<'_, Literal>
+    ensures { Gives (λ x. (literal_seen x.0, tokens_seen x.1.now)) result (literal_at (tokens_seen tokens.now)) }
+{
+    match tokens {
+        [
+            Token {
+                kind: TokenKind::Number(number),
+                span,
+            },
+            rest @ ..,
+        ] => Ok((Literal::Number(*number, *span), rest)),
+        [
+            Token {
+                kind: TokenKind::Punctuation(Symbol::Minus),
+                span,
+            },
+            rest @ ..,
+        ] => negative(*span, rest),
+        [
+            Token {
+                kind: TokenKind::Keyword(Word::True),
+                span,
+            },
+            rest @ ..,
+        ] => Ok((Literal::Truth(true, *span), rest)),
+        [
+            Token {
+                kind: TokenKind::Keyword(Word::False),
+                span,
+            },
+            rest @ ..,
+        ] => Ok((Literal::Truth(false, *span), rest)),
+        [
+            Token {
+                kind: TokenKind::Identifier(text),
+                span,
+            },
+            rest @ ..,
+        ] => {
+            let name = Name {
+                text: text.clone()?,
+                span: *span,
+            };
+            Ok((Literal::Constructor(name), rest))
+        }
+        _ => Err(ParseError::Syntax(tokens.len())),
+    }
+}
+
+/// A type that may be written.
+#[tactic(auto, unfolding(crate::specs::ReadingDeclarations::type_of_at))]
+fn type_of(alloc: Global, tokens: &[Token]) -> Parsed<'_, Option<TypeName>>
+    ensures { Gives (λ x. (option_map type_name_seen x.0, tokens_seen x.1.now)) result (type_of_at (tokens_seen tokens.now)) }
+{
+    match symbol(Symbol::Colon, tokens) {
+        None => Ok((None, tokens)),
+        Some((_, rest)) => {
+            let (type_name, rest) = type_name(alloc, rest)?;
+            Ok((Some(type_name), rest))
+        }
+    }
+}
+
+#[tactic(auto, unfolding(crate::specs::ReadingDeclarations::constant_at))]
+fn constant(alloc: Global, tokens: &[Token]) -> Parsed<'_, Constant>
+    ensures { Gives (λ x. (constant_seen x.0, tokens_seen x.1.now)) result (constant_at (tokens_seen tokens.now)) }
+{
+    let (name, rest) = identifier(alloc, tokens)?;
+    let (type_name, rest) = type_of(alloc, rest)?;
+    let rest = expect_symbol(Symbol::Equal, rest)?;
+    let (value, rest) = literal(alloc, rest)?;
+    let rest = expect_symbol(Symbol::Semicolon, rest)?;
+    let constant = Constant {
+        name,
+        type_name,
+        value,
+    };
+    Ok((constant, rest))
+}
+
+/// What stands after `const`, behind the constants that were found before.
+pub fn constants(
+    alloc: Global,
+    mut found: Vec<Constant>,
+    tokens: &[Token],
+) -> Parsed<'_, Vec<Constant>>
+    ensures { Gives (λ x. (map constant_seen x.0.items, tokens_seen x.1.now)) result (several_at at_name constant_at (map constant_seen found.items) (tokens_seen tokens.now)) }
+{
+    let (first, mut rest) = constant(alloc, tokens)?;
+    found.push(first)?;
+    while begins_name(rest) {
+        let (next, after) = constant(alloc, rest)?;
+        found.push(next)?;
+        rest = after;
+    }
+    Ok((found, rest))
+}

@@ -1,0 +1,390 @@
+//! Expressions. The functions of the grammar's cycle stand together.
+
+ghost use Rattle.std.specs.Prelude.{◌≡◌, ◌<◌, ◌≤◌, ◌+◌, suc, [], map, length, List, option_map, IfOk};
+ghost use Rattle.lus_syntax.specs.View.{tokens_seen, expression_seen, name_seen, lead_seen, part_seen};
+ghost use Rattle.lus_grammar.specs.Expressions.{Whole, Arrow, Else, Primary, Dotted, Atom};
+ghost use Rattle.lus_grammar.specs.Reading.{found, item, part_at, parts_at, name_at, dots_at, truth_on, parentheses_at, branches_at, is_primary, read};
+ghost use Rattle.lus_grammar.specs.Rules.{level_of, operand_of, head_level, head_other};
+ghost use Rattle.lus_grammar.specs.Answers.{Gives, Lowers};
+
+use crate::fault::{ParseError, Read};
+use crate::form::Form;
+use crate::front::{expect_symbol, expect_word, identifier, symbol, test, word};
+use crate::operators::{Chain, Head, after_prefix, infix, prefix};
+use crate::parts::{lead, tail, turn};
+use crate::primaries::{dots, primary_shape, truth};
+use lus_syntax::{Expr, Infix, Name, Part, Span, Symbol, Token, TokenKind, Word};
+use std::alloc::Global;
+
+/// What a part of a part may have.
+fn lower(limit: u32, left: usize) -> Result<u32, ParseError>
+    ensures { Lowers limit result }
+{
+    if limit == 0 {
+        return Err(ParseError::Deep(left));
+    }
+    Ok(limit - 1)
+}
+
+#[cycle(parser)]
+#[tactic(auto, unfolding(crate::specs::Reading::read, crate::specs::Reading::read_whole, crate::specs::Reading::whole_at))]
+fn whole(alloc: Global, limit: u32, tokens: &[Token]) -> Read<'_>
+    requires { limit < 1000 }
+    ensures within { IfOk result (λ x. x.1 ≤ limit + 1) }
+    ensures exact { Gives (λ x. found (expression_seen x.0) x.1 (tokens_seen x.2.now)) result (read (suc limit) Whole (tokens_seen tokens.now)) }
+{
+    let (left, depth, rest) = arrow(alloc, limit, tokens)?;
+    if let Some((_, after)) = word(Word::Fby, rest) {
+        if !primary_shape(&left) {
+            return Err(ParseError::Syntax(rest.len()));
+        }
+        if depth > limit {
+            return Err(ParseError::Deep(rest.len()));
+        }
+        let (right, right_depth, after) = primary_inside(alloc, limit, after)?;
+        let tree = Expr::Binary(Infix::Fby, Box::new(alloc, left)?, Box::new(alloc, right)?);
+        return Ok((tree, depth.max(right_depth) + 1, after));
+    }
+    if let Some((_, after)) = word(Word::When, rest) {
+        if !primary_shape(&left) {
+            return Err(ParseError::Syntax(rest.len()));
+        }
+        if depth > limit {
+            return Err(ParseError::Deep(rest.len()));
+        }
+        let (test, after) = test(alloc, after)?;
+        let tree = Expr::When(Box::new(alloc, left)?, test);
+        return Ok((tree, depth + 1, after));
+    }
+    Ok((left, depth, rest))
+}
+
+/// A whole as a part, which may have the depth `limit`.
+#[cycle(parser)]
+#[tactic(auto, unfolding(crate::specs::Reading::read))]
+pub fn inside(alloc: Global, limit: u32, tokens: &[Token]) -> Read<'_>
+    requires { limit < 1000 }
+    ensures within { IfOk result (λ x. x.1 ≤ limit) }
+    ensures exact { Gives (λ x. found (expression_seen x.0) x.1 (tokens_seen x.2.now)) result (read limit Whole (tokens_seen tokens.now)) }
+{
+    if limit == 0 {
+        return Err(ParseError::Deep(tokens.len()));
+    }
+    whole(alloc, limit - 1, tokens)
+}
+
+/// A primary as a part.
+#[cycle(parser)]
+#[tactic(auto, unfolding(crate::specs::Reading::read))]
+fn primary_inside(alloc: Global, limit: u32, tokens: &[Token]) -> Read<'_>
+    requires { limit < 1000 }
+    ensures within { IfOk result (λ x. x.1 ≤ limit) }
+    ensures exact { Gives (λ x. found (expression_seen x.0) x.1 (tokens_seen x.2.now)) result (read limit Primary (tokens_seen tokens.now)) }
+{
+    if limit == 0 {
+        return Err(ParseError::Deep(tokens.len()));
+    }
+    primary(alloc, limit - 1, tokens)
+}
+
+#[cycle(parser)]
+#[tactic(auto, unfolding(crate::specs::Reading::read, crate::specs::Reading::read_arrow, crate::specs::Reading::choice_at, crate::specs::Reading::arrow_at))]
+fn arrow(alloc: Global, limit: u32, tokens: &[Token]) -> Read<'_>
+    requires { limit < 1000 }
+    ensures within { IfOk result (λ x. x.1 ≤ limit + 1) }
+    ensures exact { Gives (λ x. found (expression_seen x.0) x.1 (tokens_seen x.2.now)) result (read (suc limit) Arrow (tokens_seen tokens.now)) }
+{
+    if let Some((span, rest)) = word(Word::If, tokens) {
+        return branches(alloc, limit, span, rest);
+    }
+    let (left, depth, rest) = joined(alloc, Chain::Implication, limit, tokens)?;
+    match symbol(Symbol::Arrow, rest) {
+        None => Ok((left, depth, rest)),
+        Some((_, after)) => {
+            if depth > limit {
+                return Err(ParseError::Deep(rest.len()));
+            }
+            let below = lower(limit, rest.len())?;
+            let (right, right_depth, rest) = arrow(alloc, below, after)?;
+            let tree = Expr::Binary(
+                Infix::Arrow,
+                Box::new(alloc, left)?,
+                Box::new(alloc, right)?,
+            );
+            Ok((tree, depth.max(right_depth) + 1, rest))
+        }
+    }
+}
+
+/// What stands after `else`, as a part.
+#[cycle(parser)]
+#[tactic(auto, unfolding(crate::specs::Reading::read, crate::specs::Reading::read_else, crate::specs::Reading::choice_at))]
+fn otherwise(alloc: Global, limit: u32, tokens: &[Token]) -> Read<'_>
+    requires { limit < 1000 }
+    ensures within { IfOk result (λ x. x.1 ≤ limit) }
+    ensures exact { Gives (λ x. found (expression_seen x.0) x.1 (tokens_seen x.2.now)) result (read limit Else (tokens_seen tokens.now)) }
+{
+    if limit == 0 {
+        return Err(ParseError::Deep(tokens.len()));
+    }
+    match word(Word::If, tokens) {
+        Some((span, rest)) => branches(alloc, limit - 1, span, rest),
+        None => joined(alloc, Chain::Implication, limit - 1, tokens),
+    }
+}
+
+/// What stands after an `if`.
+#[cycle(parser)]
+#[tactic(auto, unfolding(crate::specs::Reading::branches_at))]
+fn branches(alloc: Global, limit: u32, span: Span, tokens: &[Token]) -> Read<'_>
+    requires { limit < 1000 }
+    ensures within { IfOk result (λ x. x.1 ≤ limit + 1) }
+    ensures exact { Gives (λ x. found (expression_seen x.0) x.1 (tokens_seen x.2.now)) result (branches_at (read limit Whole) (read limit Else) span (tokens_seen tokens.now)) }
+{
+    let (condition, first_depth, rest) = inside(alloc, limit, tokens)?;
+    let rest = expect_word(Word::Then, rest)?;
+    let (yes, second_depth, rest) = inside(alloc, limit, rest)?;
+    let rest = expect_word(Word::Else, rest)?;
+    let (no, third_depth, rest) = otherwise(alloc, limit, rest)?;
+    let depth = first_depth.max(second_depth.max(third_depth)) + 1;
+    let tree = Expr::If(
+        span,
+        Box::new(alloc, condition)?,
+        Box::new(alloc, yes)?,
+        Box::new(alloc, no)?,
+    );
+    Ok((tree, depth, rest))
+}
+
+#[cycle(parser)]
+fn joined(alloc: Global, chain: Chain, limit: u32, tokens: &[Token]) -> Read<'_>
+    requires { limit < 1000 }
+    ensures within { IfOk result (λ x. x.1 ≤ limit + 1) }
+    ensures exact { Gives (λ x. found (expression_seen x.0) x.1 (tokens_seen x.2.now)) result (read (suc limit) (level_of chain) (tokens_seen tokens.now)) }
+{
+    let (mut left, mut depth, mut rest) = operand(alloc, chain, limit, tokens)?;
+    while let Some((operator, after)) = infix(chain, &left, rest) {
+        if depth > limit {
+            return Err(ParseError::Deep(rest.len()));
+        }
+        let below = lower(limit, rest.len())?;
+        let (right, right_depth, after) = operand(alloc, chain, below, after)?;
+        left = Expr::Binary(operator, Box::new(alloc, left)?, Box::new(alloc, right)?);
+        depth = depth.max(right_depth) + 1;
+        rest = after;
+    }
+    Ok((left, depth, rest))
+}
+
+#[cycle(parser)]
+fn operand(alloc: Global, chain: Chain, limit: u32, tokens: &[Token]) -> Read<'_>
+    requires { limit < 1000 }
+    ensures within { IfOk result (λ x. x.1 ≤ limit + 1) }
+    ensures exact { Gives (λ x. found (expression_seen x.0) x.1 (tokens_seen x.2.now)) result (read (suc limit) (operand_of chain) (tokens_seen tokens.now)) }
+{
+    match chain {
+        Chain::Implication => joined(alloc, Chain::Disjunction, limit, tokens),
+        Chain::Disjunction => joined(alloc, Chain::Conjunction, limit, tokens),
+        Chain::Conjunction => prefixed(alloc, Head::Negation, limit, tokens),
+        Chain::Comparison => joined(alloc, Chain::Sum, limit, tokens),
+        Chain::Sum => joined(alloc, Chain::Term, limit, tokens),
+        Chain::Term => prefixed(alloc, Head::Signed, limit, tokens),
+    }
+}
+
+#[cycle(parser)]
+fn prefixed(alloc: Global, head: Head, limit: u32, tokens: &[Token]) -> Read<'_>
+    requires { limit < 1000 }
+    ensures within { IfOk result (λ x. x.1 ≤ limit + 1) }
+    ensures exact { Gives (λ x. found (expression_seen x.0) x.1 (tokens_seen x.2.now)) result (read (suc limit) (head_level head) (tokens_seen tokens.now)) }
+{
+    match prefix(head, tokens) {
+        None => bare(alloc, head, limit, tokens),
+        Some((operator, span, rest)) => {
+            let below = lower(limit, rest.len())?;
+            let (inner, depth, rest) = prefixed(alloc, after_prefix(head), below, rest)?;
+            Ok((
+                Expr::Unary(operator, span, Box::new(alloc, inner)?),
+                depth + 1,
+                rest,
+            ))
+        }
+    }
+}
+
+#[cycle(parser)]
+fn bare(alloc: Global, head: Head, limit: u32, tokens: &[Token]) -> Read<'_>
+    requires { limit < 1000 }
+    ensures within { IfOk result (λ x. x.1 ≤ limit + 1) }
+    ensures exact { Gives (λ x. found (expression_seen x.0) x.1 (tokens_seen x.2.now)) result (read (suc limit) (head_other head) (tokens_seen tokens.now)) }
+{
+    match head {
+        Head::Negation => joined(alloc, Chain::Comparison, limit, tokens),
+        Head::Negated => prefixed(alloc, Head::Signed, limit, tokens),
+        Head::Signed => primary(alloc, limit, tokens),
+    }
+}
+
+#[cycle(parser)]
+#[tactic(auto, unfolding(crate::specs::Reading::read, crate::specs::Reading::read_primary, crate::specs::Reading::primary_at, crate::specs::Reading::listed_at))]
+fn primary(alloc: Global, limit: u32, tokens: &[Token]) -> Read<'_>
+    requires { limit < 1000 }
+    ensures within { IfOk result (λ x. x.1 ≤ limit + 1) }
+    ensures exact { Gives (λ x. found (expression_seen x.0) x.1 (tokens_seen x.2.now)) result (read (suc limit) Primary (tokens_seen tokens.now)) }
+{
+    match word(Word::Merge, tokens) {
+        None => dotted(alloc, limit, tokens),
+        Some((span, rest)) => {
+            let (name, rest) = identifier(alloc, rest)?;
+            let (branches, depth, rest) = parts(alloc, Form::Merge, limit, rest)?;
+            Ok((Expr::Merge(span, name, branches), depth + 1, rest))
+        }
+    }
+}
+
+#[cycle(parser)]
+#[tactic(auto, unfolding(crate::specs::Reading::read, crate::specs::Reading::read_dotted, crate::specs::Reading::dotted_at))]
+fn dotted(alloc: Global, limit: u32, tokens: &[Token]) -> Read<'_>
+    requires { limit < 1000 }
+    ensures within { IfOk result (λ x. x.1 ≤ limit + 1) }
+    ensures exact { Gives (λ x. found (expression_seen x.0) x.1 (tokens_seen x.2.now)) result (read (suc limit) Dotted (tokens_seen tokens.now)) }
+{
+    let (left, depth, rest) = atom(alloc, limit, tokens)?;
+    dots(alloc, limit, left, depth, rest)
+}
+
+#[cycle(parser)]
+#[tactic(auto, unfolding(crate::specs::Reading::read, crate::specs::Reading::read_atom, crate::specs::Reading::atom_at))]
+fn atom(alloc: Global, limit: u32, tokens: &[Token]) -> Read<'_>
+    requires { limit < 1000 }
+    ensures within { IfOk result (λ x. x.1 ≤ limit + 1) }
+    ensures exact { Gives (λ x. found (expression_seen x.0) x.1 (tokens_seen x.2.now)) result (read (suc limit) Atom (tokens_seen tokens.now)) }
+{
+    match tokens {
+        [] => Err(ParseError::Syntax(0)),
+        [
+            Token {
+                kind: TokenKind::Number(number),
+                span,
+            },
+            rest @ ..,
+        ] => Ok((Expr::Number(*number, *span), 1, rest)),
+        [
+            Token {
+                kind: TokenKind::Identifier(text),
+                span,
+            },
+            rest @ ..,
+        ] => {
+            let name = Name {
+                text: text.clone()?,
+                span: *span,
+            };
+            named(alloc, limit, name, rest)
+        }
+        [
+            Token {
+                kind: TokenKind::Keyword(word),
+                span,
+            },
+            rest @ ..,
+        ] => truth(*word, *span, tokens.len(), rest),
+        [
+            Token {
+                kind: TokenKind::Punctuation(_),
+                ..
+            },
+            ..
+        ] => parentheses(alloc, limit, tokens),
+    }
+}
+
+/// A name, and what belongs to it.
+#[cycle(parser)]
+#[tactic(auto, unfolding(crate::specs::Reading::name_at, crate::specs::Reading::listed_at))]
+fn named(alloc: Global, limit: u32, name: Name, tokens: &[Token]) -> Read<'_>
+    requires { limit < 1000 }
+    ensures within { IfOk result (λ x. x.1 ≤ limit + 1) }
+    ensures exact { Gives (λ x. found (expression_seen x.0) x.1 (tokens_seen x.2.now)) result (name_at (read limit Whole) (name_seen name) (tokens_seen tokens.now)) }
+{
+    if let Some((_, rest)) = symbol(Symbol::Open, tokens) {
+        if let Some((_, after)) = symbol(Symbol::Close, rest) {
+            return Ok((Expr::Call(name, Vec::new(alloc)), 1, after));
+        }
+        let (arguments, depth, after) = parts(alloc, Form::Call, limit, rest)?;
+        return Ok((Expr::Call(name, arguments), depth + 1, after));
+    }
+    if let Some((_, rest)) = symbol(Symbol::OpenBrace, tokens) {
+        let (fields, depth, after) = parts(alloc, Form::Structure, limit, rest)?;
+        return Ok((Expr::Structure(name, fields), depth + 1, after));
+    }
+    Ok((Expr::Name(name), 1, tokens))
+}
+
+/// The parts of a call, a structure or a merge.
+#[cycle(parser)]
+fn parts(
+    alloc: Global,
+    form: Form,
+    limit: u32,
+    tokens: &[Token],
+) -> Result<(Vec<Part>, u32, &[Token]), ParseError>
+    requires { limit < 1000 }
+    ensures within { IfOk result (λ x. x.1 ≤ limit) }
+    ensures exact { Gives (λ x. (map part_seen x.0.items, x.1, tokens_seen x.2.now)) result (parts_at (length tokens.now + 1) form (read limit Whole) [] 0 (tokens_seen tokens.now)) }
+{
+    let mut found = Vec::new(alloc);
+    let mut deepest: u32 = 0;
+    let mut rest = tokens;
+    let count = tokens.len() + 1;
+    for _ in 0..count {
+        let (item, depth, after) = part(alloc, form, limit, rest)?;
+        found.push(item)?;
+        deepest = deepest.max(depth);
+        let (goes_on, after) = turn(form, after)?;
+        if !goes_on {
+            return Ok((found, deepest, after));
+        }
+        rest = after;
+    }
+    Err(ParseError::Syntax(rest.len()))
+}
+
+#[cycle(parser)]
+#[tactic(auto, unfolding(crate::specs::Reading::part_at))]
+fn part(
+    alloc: Global,
+    form: Form,
+    limit: u32,
+    tokens: &[Token],
+) -> Result<(Part, u32, &[Token]), ParseError>
+    requires { limit < 1000 }
+    ensures within { IfOk result (λ x. x.1 ≤ limit) }
+    ensures exact { Gives (λ x. item (lead_seen x.0.lead) (expression_seen x.0.value) x.1 (tokens_seen x.2.now)) result (part_at form (read limit Whole) (tokens_seen tokens.now)) }
+{
+    let (lead, rest) = lead(alloc, form, tokens)?;
+    let (value, depth, rest) = inside(alloc, limit, rest)?;
+    let rest = tail(form, rest)?;
+    Ok((Part { lead, value }, depth, rest))
+}
+
+#[cycle(parser)]
+#[tactic(auto, unfolding(crate::specs::Reading::parentheses_at))]
+fn parentheses(alloc: Global, limit: u32, tokens: &[Token]) -> Read<'_>
+    requires { limit < 1000 }
+    ensures within { IfOk result (λ x. x.1 ≤ limit + 1) }
+    ensures exact { Gives (λ x. found (expression_seen x.0) x.1 (tokens_seen x.2.now)) result (parentheses_at (read limit Whole) (tokens_seen tokens.now)) }
+{
+    match symbol(Symbol::Open, tokens) {
+        None => Err(ParseError::Syntax(tokens.len())),
+        Some((span, rest)) => {
+            let (inner, depth, rest) = inside(alloc, limit, rest)?;
+            let rest = expect_symbol(Symbol::Close, rest)?;
+            Ok((
+                Expr::Parentheses(span, Box::new(alloc, inner)?),
+                depth + 1,
+                rest,
+            ))
+        }
+    }
+}

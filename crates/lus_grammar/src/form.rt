@@ -1,0 +1,9 @@
+//! What parts belong to.
+
+/// A call's arguments, a structure's fields or a merge's branches.
+#[derive(Clone, Copy, Debug, PartialEq, Eq)]
+pub enum Form {
+    Call,
+    Structure,
+    Merge,
+}

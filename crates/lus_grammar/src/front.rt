@@ -1,0 +1,211 @@
+//! Tokens at the front: symbols, words, names, labels and tests.
+
+ghost use Rattle.std.specs.Prelude.{◌≡◌, ◌<◌, ◌≤◌, ◌+◌, suc, [], map, length, List, option_map, IfOk};
+ghost use Rattle.lus_syntax.specs.Lexemes.{Sign, Keyword};
+ghost use Rattle.lus_syntax.specs.View.{tokens_seen, name_seen, label_seen, test_seen};
+ghost use Rattle.lus_grammar.specs.Reading.{front, expect, identifier_at, label_at, closed_name_at, test_at};
+ghost use Rattle.lus_grammar.specs.ReadingDeclarations.{skip, further, begins_named, begins_equation};
+ghost use Rattle.lus_grammar.specs.Answers.{Gives};
+
+use crate::fault::ParseError;
+use lus_syntax::{Label, Name, Span, Symbol, Test, Token, TokenKind, Word};
+use std::alloc::Global;
+
+/// A symbol at the front: its span, and the tokens after it.
+pub fn symbol(wanted: Symbol, tokens: &[Token]) -> Option<(Span, &[Token])>
+    ensures { option_map (λ x. (x.0, tokens_seen x.1.now)) result ≡ front (Sign wanted) (tokens_seen tokens.now) }
+{
+    match tokens {
+        [
+            Token {
+                kind: TokenKind::Punctuation(found),
+                span,
+            },
+            rest @ ..,
+        ] if *found == wanted => { Some((*span, rest)) }
+        _ => None,
+    }
+}
+
+/// A word at the front: its span, and the tokens after it.
+pub fn word(wanted: Word, tokens: &[Token]) -> Option<(Span, &[Token])>
+    ensures { option_map (λ x. (x.0, tokens_seen x.1.now)) result ≡ front (Keyword wanted) (tokens_seen tokens.now) }
+{
+    match tokens {
+        [
+            Token {
+                kind: TokenKind::Keyword(found),
+                span,
+            },
+            rest @ ..,
+        ] if *found == wanted => { Some((*span, rest)) }
+        _ => None,
+    }
+}
+
+/// The tokens after a symbol that has to stand.
+pub fn expect_symbol(wanted: Symbol, tokens: &[Token]) -> Result<&[Token], ParseError>
+    ensures { Gives (λ x. tokens_seen x.now) result (expect (Sign wanted) (tokens_seen tokens.now)) }
+{
+    match symbol(wanted, tokens) {
+        None => Err(ParseError::Syntax(tokens.len())),
+        Some((_, rest)) => Ok(rest),
+    }
+}
+
+/// The tokens after a word that has to stand.
+pub fn expect_word(wanted: Word, tokens: &[Token]) -> Result<&[Token], ParseError>
+    ensures { Gives (λ x. tokens_seen x.now) result (expect (Keyword wanted) (tokens_seen tokens.now)) }
+{
+    match word(wanted, tokens) {
+        None => Err(ParseError::Syntax(tokens.len())),
+        Some((_, rest)) => Ok(rest),
+    }
+}
+
+/// The tokens after a symbol that may stand.
+pub fn skip_symbol(wanted: Symbol, tokens: &[Token]) -> &[Token]
+    ensures { tokens_seen result.now ≡ skip (Sign wanted) (tokens_seen tokens.now) }
+{
+    match symbol(wanted, tokens) {
+        None => tokens,
+        Some((_, rest)) => rest,
+    }
+}
+
+/// The tokens after a semicolon that isn't the last before `close`.
+pub fn further(close: Symbol, tokens: &[Token]) -> Option<&[Token]>
+    ensures { option_map (λ x. tokens_seen x.now) result ≡ further close (tokens_seen tokens.now) }
+{
+    let (_, rest) = symbol(Symbol::Semicolon, tokens)?;
+    match symbol(close, rest) {
+        None => Some(rest),
+        Some(_) => None,
+    }
+}
+
+/// Whether a name stands at the front.
+pub fn begins_name(tokens: &[Token]) -> bool
+    ensures { result ≡ begins_named (tokens_seen tokens.now) }
+{
+    matches!(
+        tokens,
+        [
+            Token {
+                kind: TokenKind::Identifier(_),
+                ..
+            },
+            ..
+        ]
+    )
+}
+
+/// Whether an equation may stand at the front.
+pub fn begins_equation(tokens: &[Token]) -> bool
+    ensures { result ≡ begins_equation (tokens_seen tokens.now) }
+{
+    matches!(
+        tokens,
+        [
+            Token {
+                kind: TokenKind::Identifier(_) | TokenKind::Punctuation(Symbol::Open),
+                ..
+            },
+            ..
+        ]
+    )
+}
+
+/// A name at the front.
+#[tactic(auto, unfolding(crate::specs::Reading::identifier_at))]
+pub fn identifier(alloc: Global, tokens: &[Token]) -> Result<(Name, &[Token]), ParseError>
+    ensures { Gives (λ x. (name_seen x.0, tokens_seen x.1.now)) result (identifier_at (tokens_seen tokens.now)) }
+{
+    match tokens {
+        [
+            Token {
+                kind: TokenKind::Identifier(text),
+                span,
+            },
+            rest @ ..,
+        ] => {
+            let name = Name {
+                text: text.clone()?,
+                span: *span,
+            };
+            Ok((name, rest))
+        }
+        _ => Err(ParseError::Syntax(tokens.len())),
+    }
+}
+
+/// A constructor or a truth value at the front.
+#[tactic(auto, unfolding(crate::specs::Reading::label_at))]
+pub fn label(alloc: Global, tokens: &[Token]) -> Result<(Label, &[Token]), ParseError>
+    ensures { Gives (λ x. (label_seen x.0, tokens_seen x.1.now)) result (label_at (tokens_seen tokens.now)) }
+{
+    match tokens {
+        [
+            Token {
+                kind: TokenKind::Identifier(text),
+                span,
+            },
+            rest @ ..,
+        ] => {
+            let name = Name {
+                text: text.clone()?,
+                span: *span,
+            };
+            Ok((Label::Constructor(name), rest))
+        }
+        [
+            Token {
+                kind: TokenKind::Keyword(Word::True),
+                span,
+            },
+            rest @ ..,
+        ] => Ok((Label::Truth(true, *span), rest)),
+        [
+            Token {
+                kind: TokenKind::Keyword(Word::False),
+                span,
+            },
+            rest @ ..,
+        ] => Ok((Label::Truth(false, *span), rest)),
+        _ => Err(ParseError::Syntax(tokens.len())),
+    }
+}
+
+/// A name and a closing parenthesis.
+#[tactic(auto, unfolding(crate::specs::Reading::closed_name_at))]
+pub fn closed_name(alloc: Global, tokens: &[Token]) -> Result<(Name, &[Token]), ParseError>
+    ensures { Gives (λ x. (name_seen x.0, tokens_seen x.1.now)) result (closed_name_at (tokens_seen tokens.now)) }
+{
+    let (name, rest) = identifier(alloc, tokens)?;
+    let rest = expect_symbol(Symbol::Close, rest)?;
+    Ok((name, rest))
+}
+
+/// The test after `when`.
+#[tactic(auto, unfolding(crate::specs::Reading::test_at))]
+pub fn test(alloc: Global, tokens: &[Token]) -> Result<(Test, &[Token]), ParseError>
+    ensures { Gives (λ x. (test_seen x.0, tokens_seen x.1.now)) result (test_at (tokens_seen tokens.now)) }
+{
+    if let Some((span, rest)) = word(Word::Not, tokens) {
+        if let Some((_, inside)) = symbol(Symbol::Open, rest) {
+            let (name, rest) = closed_name(alloc, inside)?;
+            return Ok((Test::Fails(span, name), rest));
+        }
+        let (name, rest) = identifier(alloc, rest)?;
+        return Ok((Test::Fails(span, name), rest));
+    }
+    let (label, rest) = label(alloc, tokens)?;
+    if let Some((_, inside)) = symbol(Symbol::Open, rest) {
+        let (name, rest) = closed_name(alloc, inside)?;
+        return Ok((Test::Is(label, name), rest));
+    }
+    match label {
+        Label::Constructor(name) => Ok((Test::Holds(name), rest)),
+        Label::Truth(_, _) => Err(ParseError::Syntax(rest.len())),
+    }
+}

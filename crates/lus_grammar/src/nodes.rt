@@ -1,0 +1,98 @@
+//! Equations and nodes.
+
+ghost use Rattle.std.specs.Prelude.{◌≡◌, [], map};
+ghost use Rattle.lus_syntax.specs.View.{tokens_seen, names_seen, equation_seen, node_seen};
+ghost use Rattle.lus_grammar.specs.Answers.{Gives};
+ghost use Rattle.lus_grammar.specs.ReadingDeclarations.{others_at, at_equation, left_at, ended, equation_at, body_at, node_at};
+
+use crate::expressions::inside;
+use crate::fault::Parsed;
+use crate::front::{begins_equation, expect_symbol, expect_word, identifier, skip_symbol, symbol};
+use crate::types::names;
+use crate::variables::{inputs, locals, outputs};
+use lus_syntax::{Equation, Name, Node, NodeKind, Symbol, Token, Word};
+use std::alloc::Global;
+
+/// How deep a right side may be.
+pub const LIMIT: u32 = 100;
+
+/// The variables on the left, in parentheses or not.
+#[tactic(auto, unfolding(crate::specs::ReadingDeclarations::left_at))]
+fn left(alloc: Global, tokens: &[Token]) -> Parsed<'_, Vec<Name>>
+    ensures { Gives (λ x. (names_seen x.0.items, tokens_seen x.1.now)) result (left_at (tokens_seen tokens.now)) }
+{
+    match symbol(Symbol::Open, tokens) {
+        None => names(alloc, tokens),
+        Some((_, rest)) => {
+            let (names, rest) = names(alloc, rest)?;
+            let rest = expect_symbol(Symbol::Close, rest)?;
+            Ok((names, rest))
+        }
+    }
+}
+
+#[tactic(auto, unfolding(crate::specs::ReadingDeclarations::equation_at))]
+fn equation(alloc: Global, tokens: &[Token]) -> Parsed<'_, Equation>
+    ensures { Gives (λ x. (equation_seen x.0, tokens_seen x.1.now)) result (equation_at LIMIT (tokens_seen tokens.now)) }
+{
+    let (left, rest) = left(alloc, tokens)?;
+    let rest = expect_symbol(Symbol::Equal, rest)?;
+    let (right, _, rest) = inside(alloc, LIMIT, rest)?;
+    let rest = expect_symbol(Symbol::Semicolon, rest)?;
+    Ok((Equation { left, right }, rest))
+}
+
+fn equations(alloc: Global, tokens: &[Token]) -> Parsed<'_, Vec<Equation>>
+    ensures { Gives (λ x. (map equation_seen x.0.items, tokens_seen x.1.now)) result (others_at at_equation (equation_at LIMIT) [] (tokens_seen tokens.now)) }
+{
+    let mut found = Vec::new(alloc);
+    let mut rest = tokens;
+    while begins_equation(rest) {
+        let (next, after) = equation(alloc, rest)?;
+        found.push(next)?;
+        rest = after;
+    }
+    Ok((found, rest))
+}
+
+/// The tokens after what may follow `tel`.
+fn after_end(tokens: &[Token]) -> &[Token]
+    ensures { tokens_seen result.now ≡ ended (tokens_seen tokens.now) }
+{
+    match symbol(Symbol::Semicolon, tokens) {
+        Some((_, rest)) => rest,
+        None => skip_symbol(Symbol::Dot, tokens),
+    }
+}
+
+/// The equations of a node, from `let` to its end.
+#[tactic(auto, unfolding(crate::specs::ReadingDeclarations::body_at))]
+fn body(alloc: Global, tokens: &[Token]) -> Parsed<'_, Vec<Equation>>
+    ensures { Gives (λ x. (map equation_seen x.0.items, tokens_seen x.1.now)) result (body_at LIMIT (tokens_seen tokens.now)) }
+{
+    let rest = expect_word(Word::Let, tokens)?;
+    let (equations, rest) = equations(alloc, rest)?;
+    let rest = expect_word(Word::Tel, rest)?;
+    Ok((equations, after_end(rest)))
+}
+
+/// What stands after `node` or `function`.
+#[tactic(auto, unfolding(crate::specs::ReadingDeclarations::node_at))]
+pub fn node(alloc: Global, kind: NodeKind, tokens: &[Token]) -> Parsed<'_, Node>
+    ensures { Gives (λ x. (node_seen x.0, tokens_seen x.1.now)) result (node_at LIMIT kind (tokens_seen tokens.now)) }
+{
+    let (name, rest) = identifier(alloc, tokens)?;
+    let (inputs, rest) = inputs(alloc, rest)?;
+    let (outputs, rest) = outputs(alloc, rest)?;
+    let (locals, rest) = locals(alloc, rest)?;
+    let (equations, rest) = body(alloc, rest)?;
+    let node = Node {
+        kind,
+        name,
+        inputs,
+        outputs,
+        locals,
+        equations,
+    };
+    Ok((node, rest))
+}

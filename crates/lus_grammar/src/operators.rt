@@ -1,0 +1,204 @@
+//! Operators, and how they mix.
+
+ghost use Rattle.std.specs.Prelude.{◌≡◌, ◌<◌, ◌≤◌, ◌+◌, suc, [], map, length, List, option_map, IfOk};
+ghost use Rattle.lus_syntax.specs.Lexemes.{Sign, Keyword};
+ghost use Rattle.lus_syntax.specs.View.{tokens_seen, expression_seen};
+ghost use Rattle.lus_grammar.specs.Expressions.{infix_of, mixing_of, mixes, may_join};
+ghost use Rattle.lus_grammar.specs.Reading.{infix_at, prefix_at};
+ghost use Rattle.lus_grammar.specs.Rules.{level_of, head_level, head_operand};
+
+use lus_syntax::{Expr, Infix, Prefix, Span, Symbol, Token, TokenKind, Word};
+
+/// How an operator mixes with the others of its rule.
+#[derive(Clone, Copy, Debug, PartialEq, Eq)]
+pub enum Mixing {
+    Implication,
+    Or,
+    Xor,
+    Comparison,
+    Free,
+}
+
+/// The rules that read operands and operators between them.
+#[derive(Clone, Copy, Debug, PartialEq, Eq)]
+pub enum Chain {
+    Implication,
+    Disjunction,
+    Conjunction,
+    Comparison,
+    Sum,
+    Term,
+}
+
+/// The rules that read operators before an operand.
+#[derive(Clone, Copy, Debug, PartialEq, Eq)]
+pub enum Head {
+    Negation,
+    Negated,
+    Signed,
+}
+
+fn mixing_of(operator: Infix) -> Mixing
+    ensures { result ≡ mixing_of operator }
+{
+    match operator {
+        Infix::Implies => Mixing::Implication,
+        Infix::Or => Mixing::Or,
+        Infix::Xor => Mixing::Xor,
+        Infix::Equal
+        | Infix::NotEqual
+        | Infix::Less
+        | Infix::AtMost
+        | Infix::Greater
+        | Infix::AtLeast => Mixing::Comparison,
+        _ => Mixing::Free,
+    }
+}
+
+fn may_mix(before: Mixing, after: Mixing) -> bool
+    ensures { result ≡ mixes before after }
+{
+    match (before, after) {
+        (Mixing::Implication, Mixing::Implication) => false,
+        (Mixing::Or, Mixing::Xor) => false,
+        (Mixing::Xor, Mixing::Or) => false,
+        (Mixing::Comparison, Mixing::Comparison) => false,
+        _ => true,
+    }
+}
+
+/// Whether an operator may stand after a left operand.
+fn joins(operator: Infix, left: &Expr) -> bool
+    ensures { result ≡ may_join operator (expression_seen left.now) }
+{
+    match left {
+        Expr::Binary(before, _, _) => may_mix(mixing_of(*before), mixing_of(operator)),
+        _ => true,
+    }
+}
+
+fn infix_symbol(chain: Chain, symbol: Symbol) -> Option<Infix>
+    ensures { result ≡ infix_of (level_of chain) (Sign symbol) }
+{
+    match (chain, symbol) {
+        (Chain::Implication, Symbol::Implies) => Some(Infix::Implies),
+        (Chain::Comparison, Symbol::Equal) => Some(Infix::Equal),
+        (Chain::Comparison, Symbol::NotEqual) => Some(Infix::NotEqual),
+        (Chain::Comparison, Symbol::Less) => Some(Infix::Less),
+        (Chain::Comparison, Symbol::AtMost) => Some(Infix::AtMost),
+        (Chain::Comparison, Symbol::Greater) => Some(Infix::Greater),
+        (Chain::Comparison, Symbol::AtLeast) => Some(Infix::AtLeast),
+        (Chain::Sum, Symbol::Plus) => Some(Infix::Add),
+        (Chain::Sum, Symbol::Minus) => Some(Infix::Subtract),
+        (Chain::Term, Symbol::Star) => Some(Infix::Multiply),
+        (Chain::Term, Symbol::Slash) => Some(Infix::Divide),
+        _ => None,
+    }
+}
+
+fn infix_word(chain: Chain, word: Word) -> Option<Infix>
+    ensures { result ≡ infix_of (level_of chain) (Keyword word) }
+{
+    match (chain, word) {
+        (Chain::Disjunction, Word::Or) => Some(Infix::Or),
+        (Chain::Disjunction, Word::Xor) => Some(Infix::Xor),
+        (Chain::Conjunction, Word::And) => Some(Infix::And),
+        (Chain::Term, Word::Div) => Some(Infix::Divide),
+        (Chain::Term, Word::Mod) => Some(Infix::Modulo),
+        _ => None,
+    }
+}
+
+/// An operator of the rule at the front that may stand after `left`, and the tokens after it.
+pub fn infix<'a>(chain: Chain, left: &Expr, tokens: &'a [Token]) -> Option<(Infix, &'a [Token])>
+    ensures { option_map (λ x. (x.0, tokens_seen x.1.now)) result ≡ infix_at (level_of chain) (expression_seen left.now) (tokens_seen tokens.now) }
+{
+    let (operator, rest) = match tokens {
+        [] => return None,
+        [
+            Token {
+                kind: TokenKind::Punctuation(symbol),
+                ..
+            },
+            rest @ ..,
+        ] => (infix_symbol(chain, *symbol)?, rest),
+        [
+            Token {
+                kind: TokenKind::Keyword(word),
+                ..
+            },
+            rest @ ..,
+        ] => (infix_word(chain, *word)?, rest),
+        [
+            Token {
+                kind: TokenKind::Identifier(_) | TokenKind::Number(_),
+                ..
+            },
+            ..
+        ] => return None,
+    };
+    if joins(operator, left) {
+        Some((operator, rest))
+    } else {
+        None
+    }
+}
+
+/// An operator before an operand, its span, and the tokens after it.
+pub fn prefix(head: Head, tokens: &[Token]) -> Option<(Prefix, Span, &[Token])>
+    ensures { option_map (λ x. (x.0, x.1, tokens_seen x.2.now)) result ≡ prefix_at (head_level head) (tokens_seen tokens.now) }
+{
+    match (head, tokens) {
+        (
+            Head::Negation,
+            [
+                Token {
+                    kind: TokenKind::Keyword(Word::Not),
+                    span,
+                },
+                rest @ ..,
+            ],
+        ) => Some((Prefix::Not, *span, rest)),
+        (
+            Head::Negated,
+            [
+                Token {
+                    kind: TokenKind::Keyword(Word::Not),
+                    span,
+                },
+                rest @ ..,
+            ],
+        ) => Some((Prefix::Not, *span, rest)),
+        (
+            Head::Signed,
+            [
+                Token {
+                    kind: TokenKind::Keyword(Word::Pre),
+                    span,
+                },
+                rest @ ..,
+            ],
+        ) => Some((Prefix::Pre, *span, rest)),
+        (
+            Head::Signed,
+            [
+                Token {
+                    kind: TokenKind::Punctuation(Symbol::Minus),
+                    span,
+                },
+                rest @ ..,
+            ],
+        ) => Some((Prefix::Negate, *span, rest)),
+        _ => None,
+    }
+}
+
+/// The rule for what stands after an operator before an operand.
+pub fn after_prefix(head: Head) -> Head
+    ensures { result ≡ head_operand head }
+{
+    match head {
+        Head::Negation | Head::Negated => Head::Negated,
+        Head::Signed => Head::Signed,
+    }
+}

@@ -1,0 +1,162 @@
+//! Whole sources.
+
+ghost use Rattle.std.specs.Prelude.{◌≡◌, ◌≤◌, List, Ok, IfOk, IfErr, MatchResult};
+ghost use Rattle.lus_syntax.specs.declared.refusal.RefusalNumber.TheVariants.{Memory};
+ghost use Rattle.lus_syntax.specs.Lexemes.{Lexeme};
+ghost use Rattle.lus_syntax.specs.Trees.{Tree as PlainTree};
+ghost use Rattle.lus_syntax.specs.View.{tokens_seen, tree_seen};
+ghost use Rattle.lus_grammar.specs.Declarations.{SpellsProgram, tree_depth};
+ghost use Rattle.lus_grammar.specs.Answers.{Gives, Numbered, Answers, RefusedRightly};
+ghost use Rattle.lus_grammar.specs.ReadingDeclarations.{more_node, declaration_at, program_at};
+
+use crate::constants::constants;
+use crate::fault::{ParseError, Parsed};
+use crate::nodes::{LIMIT, node};
+use crate::types::type_declarations;
+use lus_syntax::{NodeKind, Place, Refusal, RefusalNumber, Token, TokenKind, Tree, Word};
+use std::alloc::Global;
+
+/// A node behind the declarations that were found before.
+fn with_node(alloc: Global, kind: NodeKind, found: Tree, tokens: &[Token]) -> Parsed<'_, Tree>
+    ensures { Gives (λ x. (tree_seen x.0, tokens_seen x.1.now)) result (more_node LIMIT kind (tree_seen found) (tokens_seen tokens.now)) }
+{
+    let Tree {
+        types,
+        constants,
+        mut nodes,
+    } = found;
+    let (next, rest) = node(alloc, kind, tokens)?;
+    nodes.push(next)?;
+    let tree = Tree {
+        types,
+        constants,
+        nodes,
+    };
+    Ok((tree, rest))
+}
+
+/// One declaration behind those that were found before.
+#[tactic(auto, unfolding(crate::specs::ReadingDeclarations::declaration_at))]
+fn declaration(alloc: Global, found: Tree, tokens: &[Token]) -> Parsed<'_, Tree>
+    ensures { Gives (λ x. (tree_seen x.0, tokens_seen x.1.now)) result (declaration_at LIMIT (tree_seen found) (tokens_seen tokens.now)) }
+{
+    match tokens {
+        [
+            Token {
+                kind: TokenKind::Keyword(Word::Type),
+                ..
+            },
+            rest @ ..,
+        ] => {
+            let (types, rest) = type_declarations(alloc, found.types, rest)?;
+            let tree = Tree {
+                types,
+                constants: found.constants,
+                nodes: found.nodes,
+            };
+            Ok((tree, rest))
+        }
+        [
+            Token {
+                kind: TokenKind::Keyword(Word::Const),
+                ..
+            },
+            rest @ ..,
+        ] => {
+            let (constants, rest) = constants(alloc, found.constants, rest)?;
+            let tree = Tree {
+                types: found.types,
+                constants,
+                nodes: found.nodes,
+            };
+            Ok((tree, rest))
+        }
+        [
+            Token {
+                kind: TokenKind::Keyword(Word::Node),
+                ..
+            },
+            rest @ ..,
+        ] => with_node(alloc, NodeKind::Node, found, rest),
+        [
+            Token {
+                kind: TokenKind::Keyword(Word::Function),
+                ..
+            },
+            rest @ ..,
+        ] => with_node(alloc, NodeKind::Function, found, rest),
+        _ => Err(ParseError::Syntax(tokens.len())),
+    }
+}
+
+/// The declarations of a whole source.
+fn program(alloc: Global, tokens: &[Token]) -> Result<Tree, ParseError>
+    ensures { Gives tree_seen result (program_at LIMIT (tokens_seen tokens.now)) }
+{
+    let mut tree = Tree {
+        types: Vec::new(alloc),
+        constants: Vec::new(alloc),
+        nodes: Vec::new(alloc),
+    };
+    let mut rest = tokens;
+    while !rest.is_empty() {
+        let (more, after) = declaration(alloc, tree, rest)?;
+        tree = more;
+        rest = after;
+    }
+    Ok(tree)
+}
+
+/// Where the last `left` tokens begin, or the tokens end.
+fn place(left: usize, tokens: &[Token]) -> Place {
+    let index = tokens.len().saturating_sub(left);
+    match (tokens.get(index), tokens.last()) {
+        (Some(token), _) => token.span.start,
+        (None, Some(last)) => last.span.end,
+        (None, None) => Place {
+            byte: 0,
+            line: 1,
+            column: 1,
+        },
+    }
+}
+
+fn refusal_at(number: RefusalNumber, left: usize, tokens: &[Token]) -> Refusal
+    ensures { result.number ≡ number }
+{
+    let place = place(left, tokens);
+    Refusal::new(number, place.line, place.column)
+}
+
+fn refusal(error: ParseError, tokens: &[Token]) -> Refusal
+    ensures { Numbered error result.number }
+{
+    match error {
+        ParseError::Memory => Refusal::memory(),
+        ParseError::Syntax(left) => refusal_at(RefusalNumber::Syntax, left, tokens),
+        ParseError::Deep(left) => refusal_at(RefusalNumber::Limit, left, tokens),
+    }
+}
+
+/// The one tree that the tokens spell, if no right side is deeper than 100.
+///
+/// Where the tokens spell no tree, `Syntax` stands at the start of the first token that no continuation admits, or at
+/// the end of the last token (line 1, column 1 where there are none). `Limit` stands at a token of a right side that is
+/// too deep.
+pub fn parse(alloc: Global, tokens: &[Token]) -> Result<Tree, Refusal>
+    ensures exact { Answers tree_seen result (program_at LIMIT (tokens_seen tokens.now)) }
+    ensures spelled { IfOk result (λ t. SpellsProgram (tree_seen t) (tokens_seen tokens.now) × (tree_depth (tree_seen t) ≤ LIMIT)) }
+    ensures refused { IfErr result (λ e. RefusedRightly LIMIT (tokens_seen tokens.now) e.number) }
+    ensures parsed { (tree : PlainTree) → SpellsProgram tree (tokens_seen tokens.now) → tree_depth tree ≤ LIMIT → MatchResult result (λ t. tree_seen t ≡ tree) (λ e. e.number ≡ Memory) }
+{
+    match program(alloc, tokens) {
+        Ok(tree) => Ok(tree),
+        Err(error) => Err(refusal(error, tokens)),
+    }
+}
+
+/// Tokens spell at most one tree.
+#[tactic(auto, using(crate::proofs::CompleteDeclarations::one_tree))]
+pub fn one_tree()
+    ensures { (ts : List Lexeme) (t u : PlainTree) → SpellsProgram t ts → SpellsProgram u ts → t ≡ u }
+{}
