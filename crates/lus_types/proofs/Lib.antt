@@ -6,4 +6,5 @@ pub mod Meant
 pub mod NameLists
 pub mod NamePlaces
 pub mod Looping
+pub mod Counting
 mod Rows

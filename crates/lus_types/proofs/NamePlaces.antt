@@ -1,5 +1,5 @@
 -- The place of a name among the keys of a table.
-use Rattle.std.proofs.Common.{◌≡◌, ◌∙◌, ◌+◌, refl, ap, ℕ, List, [], ◌∷◌, Option, Some, None, map, cond, String, Global}
+use Rattle.std.proofs.Common.{◌≡◌, ◌∙◌, ◌+◌, refl, ap, ℕ, List, [], ◌∷◌, Some, map, cond, String, Global}
 use Rattle.std.specs.Prelude.{string_bytes}
 use Rattle.std.specs.List.{position, position_from}
 use Rattle.std.specs.Str.{bytes_eq}

@@ -1,11 +1,11 @@
 -- Nothing leads back to itself. Lustre V6 reference manual, "Nodes": nodes aren't recursive, nor are types.
-use Rattle.std.specs.Prelude.{◌++◌, ℕ, List, [], ◌∷◌, Option, Some, None, map, flat_map}
+use Rattle.std.specs.Prelude.{◌++◌, ℕ, List, [], Option, map, flat_map}
 use Rattle.std.specs.List.{position_from}
 use Rattle.std.specs.Option.{option_to_list}
 use Rattle.std.specs.Str.{bytes_eq}
 use Rattle.lus_graph.specs.Ways.{Uses, HasNoWayBack}
 use Rattle.lus_syntax.specs.Lexemes.{Text}
-use Rattle.lus_syntax.specs.Trees.{Lead, Expression, Numeral, Truth, Name, Call, Structure, Merge, Field, Parentheses, When, Unary, Binary, If, Parts, End, More, TypeName, BoolName, IntName, DeclaredName, Definition, Alias, Enumeration, StructureOf, Node, Tree}
+use Rattle.lus_syntax.specs.Trees.{Expression, Numeral, Truth, Name, Call, Structure, Merge, Field, Parentheses, When, Unary, Binary, If, Parts, End, More, TypeName, BoolName, IntName, DeclaredName, Definition, Alias, Enumeration, StructureOf, Node, Tree}
 
 -- the place of a name among these
 abbrev pub place_in : List Text → Text → Option ℕ

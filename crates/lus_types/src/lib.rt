@@ -2,6 +2,7 @@
 #![tactic(auto)]
 
 mod arrangement;
+mod counts;
 mod elaboration;
 mod entries;
 mod equations;
@@ -15,6 +16,7 @@ mod recursion;
 mod scope;
 mod uses;
 
+pub use counts::check_counts;
 pub use elaboration::elaborate;
 pub use entries::{Constructor, Placed, Signature};
 pub use equations::{Given, equation, right_side};

@@ -1,4 +1,3 @@
-use Rattle.std.proofs.Common.{◌≡◌}
 use Rattle.lus_graph.specs.Walks.{IsCycleError}
 use Rattle.lus_syntax.specs.View.{tree_seen}
 use Rattle.lus_types.specs.Loopless.{node_uses}

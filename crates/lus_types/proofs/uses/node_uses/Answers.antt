@@ -1,10 +1,10 @@
-use Rattle.std.proofs.Common.{rules, arith, ◌≡◌, ◌∙◌, ap, sym, map, take}
+use Rattle.std.proofs.Common.{◌≡◌, ◌∙◌, ap, sym, map}
 use Rattle.std.specs.Prelude.{string_bytes}
 use Rattle.std.proofs.lemmas.List.{take_all}
 use Rattle.std.proofs.lemmas.Simd.{map-map}
 use Rattle.lus_graph.specs.Walks.{uses_of}
-use Rattle.lus_syntax.specs.View.{definition_seen, node_seen, type_seen}
-use Rattle.lus_types.specs.Loopless.{calls_of, definition_uses}
+use Rattle.lus_syntax.specs.View.{node_seen}
+use Rattle.lus_types.specs.Loopless.{calls_of}
 use Rattle.lus_types.proofs.uses.node_uses.Goals as goal
 
 pub returns : goal.returns

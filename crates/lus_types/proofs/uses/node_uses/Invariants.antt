@@ -1,8 +1,8 @@
-use Rattle.std.proofs.Common.{◌≡◌, ◌++◌, drop, take, map, flat_map}
+use Rattle.std.proofs.Common.{◌≡◌, take, map}
 use Rattle.std.specs.Prelude.{string_bytes}
 use Rattle.lus_graph.specs.Walks.{uses_of}
-use Rattle.lus_syntax.specs.View.{definition_seen, equation_seen, node_seen, type_name_seen, fields_seen}
-use Rattle.lus_types.specs.Loopless.{called, calls_of, definition_uses, named_type}
+use Rattle.lus_syntax.specs.View.{node_seen}
+use Rattle.lus_types.specs.Loopless.{calls_of}
 use Rattle.lus_types.proofs.uses.node_uses.Given as goal
 
 abbrev pub invariant-loop-node : goal.invariant-loop-node

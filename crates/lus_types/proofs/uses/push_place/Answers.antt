@@ -1,4 +1,4 @@
-use Rattle.std.proofs.Common.{rules, arith, ◌≡◌, ◌∙◌, ap, sym, map, Some, None}
+use Rattle.std.proofs.Common.{rules, ◌≡◌, ◌∙◌, sym, map, Some, None}
 use Rattle.std.specs.Prelude.{string_bytes}
 use Rattle.lus_types.specs.Loopless.{place_in}
 use Rattle.lus_types.proofs.NamePlaces.{place_found}
