@@ -15,3 +15,6 @@ mod types;
 mod variables;
 
 pub use program::{one_tree, parse};
+
+#[cfg(test)]
+mod tests;
