@@ -46,7 +46,7 @@ abbrev pub Answers : {X Y : Type 0} → (X → Y) → Result X Refusal → Resul
 Answers look (Ok x) read = read ≡ Ok (look x)
 Answers look (Err e) read = RefusedAs e.number read
 
--- Lustre V6 reference manual, "Syntax": what a refusal of tokens says
+-- what a refusal of tokens says, by its number
 abbrev pub RefusedRightly : ℕ → List Lexeme → RefusalNumber → Type 0
 RefusedRightly limit ts numbers.Memory = Unit {0}
 -- they spell no tree
