@@ -1,0 +1,16 @@
+use Rattle.std.proofs.Common.{◌≡◌, ◌++◌, drop, take, map, length}
+use Rattle.std.specs.Prelude.{option_map}
+use Rattle.lus_syntax.specs.View.{expression_seen, part_seen}
+use Rattle.lus_syntax.specs.Trees.{parts_of}
+use Rattle.lus_program.specs.View.{expression_of}
+use Rattle.lus_meaning.specs.Types.{kinds_of}
+use Rattle.lus_meaning.specs.Meaning.{meant}
+use Rattle.lus_meaning.specs.ScopeView.{scope_of}
+use Rattle.lus_elaboration.proofs.elaboration.+elaborate.Given as goal
+
+abbrev pub invariant-elaborate_all-loop-part : goal.invariant-elaborate_all-loop-part
+invariant-elaborate_all-loop-part l = record {
+  typed : kinds_of (scope_of l.scope) (parts_of (map part_seen l.parts)) ≡ option_map (λ ks. l.kinds.items ++ ks) (kinds_of (scope_of l.scope) (parts_of (map part_seen (drop l.part-index l.parts))));
+  meant : map expression_of l.operands.items ≡ map (λ p. meant (scope_of l.scope) (expression_seen p.value)) (take l.part-index l.parts);
+  alike : length l.operands.items ≡ l.part-index;
+}

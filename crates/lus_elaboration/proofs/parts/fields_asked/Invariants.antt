@@ -1,0 +1,13 @@
+use Rattle.std.proofs.Common.{◌≡◌, ◌++◌, map, drop, length}
+use Rattle.std.specs.Prelude.{option_map}
+use Rattle.lus_syntax.specs.View.{part_seen}
+use Rattle.lus_syntax.specs.Trees.{parts_of}
+use Rattle.lus_meaning.specs.Types.{fields_asked}
+use Rattle.lus_meaning.specs.ScopeView.{scope_of}
+use Rattle.lus_elaboration.proofs.parts.fields_asked.Given as goal
+
+abbrev pub invariant-loop-part : goal.invariant-loop-part
+invariant-loop-part l = record {
+  so_far : fields_asked (scope_of l.scope) l.kind (parts_of (map part_seen l.fields)) ≡ option_map (λ xs. l.asked.items ++ xs) (fields_asked (scope_of l.scope) l.kind (parts_of (map part_seen (drop l.part-index l.fields))));
+  alike : length l.asked.items ≡ l.part-index;
+}

@@ -1,0 +1,29 @@
+use Rattle.std.proofs.Common.{◌≡◌, ◌∙◌, ap, sym, rules, map, Some, length}
+use Rattle.std.proofs.lemmas.List.{length-map}
+use Rattle.lus_syntax.specs.View.{part_seen, name_seen}
+use Rattle.lus_syntax.specs.Trees.{parts_of}
+use Rattle.lus_values.specs.declared.operator.Operator.TheVariants as operators
+use Rattle.lus_program.specs.View.{operands_of, field_of}
+use Rattle.lus_program.specs.Programs.{operate}
+use Rattle.lus_program.proofs.OperandViews.{seen_operate}
+use Rattle.lus_meaning.specs.Scopes.{entry}
+use Rattle.lus_meaning.specs.Types.{fields_of}
+use Rattle.lus_meaning.specs.Meaning.{in_order}
+use Rattle.lus_meaning.specs.ScopeView.{scope_of}
+use Rattle.lus_elaboration.proofs.Meant.{structure_is}
+use Rattle.lus_elaboration.proofs.parts.structure.Goals as goal
+
+pub returns-clause-meant : goal.returns-clause-meant
+returns-clause-meant c =
+    let s = scope_of c.args.scope.now in
+    let n = (name_seen c.args.name.now).text in
+    let kind = c.in-Some.kind in
+    let out = operands_of c.in-Some-2.operands.items in
+    let size = length c.fields_of-size.result.now in
+    let named : entry s.types n ≡ Some kind = search rules in
+    let placed : c.in_ok-places.places.items ≡ map (λ x. x.place) c.in_ok-asked.asked.items = rw (← c.deref-3.ensures.value) c.in_ok-places.ensures in
+    let sized : size ≡ length (fields_of s kind) = sym (length-map c.fields_of-size.result.now field_of) ∙ ap length c.fields_of-size.ensures.fields in
+    let ordered : out ≡ in_order size c.in_ok-places.places.items (operands_of c.args.operands.items) = rw c.in-Some-2.is at c.in_ok-operands.ensures.order in
+    seen_operate c.args.name.now.span.start (operators.Structure c.type_number.result) c.in-Some-2.operands
+    ∙ ap (λ t. operate (operators.Structure t) out) c.type_number.ensures
+    ∙ structure_is s n kind (parts_of (map part_seen c.args.fields.now)) c.in_ok-asked.asked.items c.in_ok-places.places.items size out (operands_of c.args.operands.items) named c.in_ok-asked.ensures.fields placed sized ordered

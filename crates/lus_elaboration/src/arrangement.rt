@@ -1,0 +1,47 @@
+//! Branches and fields in the order in which their type declares them.
+
+ghost use Rattle.std.specs.Prelude.{◌≡◌, ◌+◌, Some, None, IfOk, IfSome, length, is_some};
+ghost use Rattle.lus_program.specs.View.{operands_of};
+ghost use Rattle.lus_meaning.specs.Types.{each_once, index_of as index};
+ghost use Rattle.lus_meaning.specs.Meaning.{in_order};
+
+use lus_program::Expr;
+use std::alloc::{AllocError, Global};
+
+fn index_of(places: &[u32], place: usize) -> Option<usize>
+    ensures { result ≡ index place places.now }
+{
+    for (index, found) in places.iter().enumerate() {
+        if place == *found as usize {
+            return Some(index);
+        }
+    }
+    None
+}
+
+/// The operands in the order of the places beside them, where each place below `count` stands exactly once and no other
+/// does.
+pub fn arranged(
+    alloc: Global,
+    count: usize,
+    mut places: Vec<u32>,
+    mut operands: Vec<Expr>,
+) -> Result<Option<Vec<Expr>>, AllocError>
+    requires { length operands.items ≡ length places.items }
+    ensures once { IfOk result (λ r. is_some r ≡ each_once count places.items) }
+    ensures order { IfOk result (λ r. IfSome r (λ es. operands_of es.items ≡ in_order count places.items (operands_of operands.items))) }
+{
+    let mut arranged = Vec::new(alloc);
+    for place in 0..count {
+        let Some(index) = index_of(&places, place) else {
+            return Ok(None);
+        };
+        places.remove(index);
+        arranged.push(operands.remove(index))?;
+    }
+    if places.is_empty() {
+        Ok(Some(arranged))
+    } else {
+        Ok(None)
+    }
+}

@@ -1,0 +1,97 @@
+//! The program's expression for an expression of the source, and its type.
+
+ghost use Rattle.std.specs.Prelude.{◌≡◌, Some, None, IfOk, IfErr, length, map};
+ghost use Rattle.lus_syntax.specs.View.{expression_seen, part_seen};
+ghost use Rattle.lus_syntax.specs.Trees.{parts_of};
+ghost use Rattle.lus_program.specs.View.{expression_of, operands_of};
+ghost use Rattle.lus_meaning.specs.Types.{kind_of, kinds_of};
+ghost use Rattle.lus_meaning.specs.Meaning.{meant, all_meant};
+ghost use Rattle.lus_meaning.specs.ScopeView.{scope_of, Faulty};
+
+use lus_meaning::Fault;
+use crate::forms::{Elaborated, binary, choice, field, named, place_of, sampled, unary};
+use crate::parts::{call, merge, structure};
+use lus_meaning::Scope;
+use lus_program::{Expr, Kind};
+use lus_syntax::{Expr as Source, Part};
+use lus_values::Value;
+use std::alloc::Global;
+
+/// The program's expression for an expression, and its type; a fault at its first token where it has none.
+#[cycle(elaborate)]
+pub fn elaborate(alloc: Global, scope: &Scope, source: &Source) -> Result<Elaborated, Fault>
+    ensures typed { IfOk result (λ x. kind_of (scope_of scope.now) (expression_seen source.now) ≡ Some x.kind) }
+    ensures meant { IfOk result (λ x. expression_of x.expr ≡ meant (scope_of scope.now) (expression_seen source.now)) }
+    ensures refused { IfErr result (Faulty (kind_of (scope_of scope.now) (expression_seen source.now) ≡ None)) }
+{
+    let place = place_of(source);
+    match source {
+        Source::Number(number, _) => Ok(Elaborated {
+            expr: Expr::Literal(place, Value::Int(*number)),
+            kind: Kind::Int,
+        }),
+        Source::Truth(truth, _) => Ok(Elaborated {
+            expr: Expr::Literal(place, Value::Bool(*truth)),
+            kind: Kind::Bool,
+        }),
+        Source::Name(name) => named(alloc, scope, name),
+        Source::Call(name, arguments) => {
+            let (operands, kinds) = elaborate_all(alloc, scope, arguments)?;
+            call(scope, name, arguments, operands, &kinds)
+        }
+        Source::Structure(name, fields) => {
+            let (operands, kinds) = elaborate_all(alloc, scope, fields)?;
+            structure(alloc, scope, name, fields, operands, &kinds)
+        }
+        Source::Merge(_, variable, branches) => {
+            let (operands, kinds) = elaborate_all(alloc, scope, branches)?;
+            merge(alloc, scope, place, variable, branches, operands, &kinds)
+        }
+        Source::Field(operand, name) => {
+            let operand = elaborate(alloc, scope, operand)?;
+            field(alloc, scope, place, operand, name)
+        }
+        Source::Parentheses(_, inner) => elaborate(alloc, scope, inner),
+        Source::When(operand, test) => {
+            let operand = elaborate(alloc, scope, operand)?;
+            sampled(alloc, scope, place, operand, test)
+        }
+        Source::Unary(op, _, operand) => {
+            let operand = elaborate(alloc, scope, operand)?;
+            unary(alloc, place, *op, operand)
+        }
+        Source::Binary(op, left, right) => {
+            let left = elaborate(alloc, scope, left)?;
+            let right = elaborate(alloc, scope, right)?;
+            binary(alloc, place, *op, left, right)
+        }
+        Source::If(_, condition, left, right) => {
+            let condition = elaborate(alloc, scope, condition)?;
+            let left = elaborate(alloc, scope, left)?;
+            let right = elaborate(alloc, scope, right)?;
+            choice(alloc, place, condition, left, right)
+        }
+    }
+}
+
+/// The values of parts one by one, and their types.
+#[cycle(elaborate)]
+pub fn elaborate_all(
+    alloc: Global,
+    scope: &Scope,
+    parts: &[Part],
+) -> Result<(Vec<Expr>, Vec<Kind>), Fault>
+    ensures typed { IfOk result (λ x. kinds_of (scope_of scope.now) (parts_of (map part_seen parts.now)) ≡ Some x.1.items) }
+    ensures meant { IfOk result (λ x. operands_of x.0.items ≡ all_meant (scope_of scope.now) (parts_of (map part_seen parts.now))) }
+    ensures alike { IfOk result (λ x. length x.0.items ≡ length parts.now) }
+    ensures refused { IfErr result (Faulty (kinds_of (scope_of scope.now) (parts_of (map part_seen parts.now)) ≡ None)) }
+{
+    let mut operands = Vec::new(alloc);
+    let mut kinds = Vec::new(alloc);
+    for part in parts {
+        let Elaborated { expr, kind } = elaborate(alloc, scope, &part.value)?;
+        operands.push(expr)?;
+        kinds.push(kind)?;
+    }
+    Ok((operands, kinds))
+}

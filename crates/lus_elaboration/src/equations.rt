@@ -1,0 +1,137 @@
+//! Equations: what a whole right side gives, and what the left side takes.
+
+ghost use Rattle.std.specs.Prelude.{◌≡◌, IfOk, IfErr, Some, None, map, unwrap_or, true, false};
+ghost use Rattle.lus_syntax.specs.View.{expression_seen, equation_seen, name_seen, names_seen};
+ghost use Rattle.lus_program.specs.View.{expression_of};
+ghost use Rattle.lus_program.specs.declared.types.Kind.TheVariants.{Bool as BoolKind};
+ghost use Rattle.lus_meaning.specs.Types.{variable_kind};
+ghost use Rattle.lus_meaning.specs.Meaning.{meant, variable_place};
+ghost use Rattle.lus_meaning.specs.WellTyped.{kinds_given, left_kinds as kinds_of_left, equation_typed};
+ghost use Rattle.lus_meaning.specs.ScopeView.{scope_of, Faulty};
+
+use crate::elaboration::{elaborate, elaborate_all};
+use lus_meaning::Fault;
+use crate::forms::place_of;
+use crate::kinds::all_same;
+use crate::parts::callee;
+use lus_meaning::Scope;
+use lus_program::{Equation, Expr, Kind};
+use lus_syntax::{Equation as SourceEquation, Expr as Source, Name, Place};
+use std::alloc::{AllocError, Global};
+
+/// A whole right side, with the types of what it gives.
+#[derive(Drop)]
+pub struct Given {
+    pub expr: Expr,
+    pub kinds: Vec<Kind>,
+}
+
+/// A whole right side; a call there may have several outputs.
+pub fn right_side(alloc: Global, scope: &Scope, source: &Source) -> Result<Given, Fault>
+    ensures typed { IfOk result (λ x. kinds_given (scope_of scope.now) (expression_seen source.now) ≡ Some x.kinds.items) }
+    ensures meant { IfOk result (λ x. expression_of x.expr ≡ meant (scope_of scope.now) (expression_seen source.now)) }
+    ensures refused { IfErr result (Faulty (kinds_given (scope_of scope.now) (expression_seen source.now) ≡ None)) }
+{
+    match source {
+        Source::Parentheses(_, inner) => right_side(alloc, scope, inner),
+        Source::Call(name, arguments) => {
+            let (operands, kinds) = elaborate_all(alloc, scope, arguments)?;
+            let node = callee(scope, name, arguments, &kinds)?;
+            Ok(Given {
+                expr: Expr::Call(name.span.start, node.place, operands),
+                kinds: copied(alloc, &node.outputs)?,
+            })
+        }
+        Source::Number(_, _)
+        | Source::Truth(_, _)
+        | Source::Name(_)
+        | Source::Structure(_, _)
+        | Source::Merge(_, _, _)
+        | Source::Field(_, _)
+        | Source::When(_, _)
+        | Source::Unary(_, _, _)
+        | Source::Binary(_, _, _)
+        | Source::If(_, _, _, _) => {
+            let whole = elaborate(alloc, scope, source)?;
+            Ok(Given {
+                expr: whole.expr,
+                kinds: vec![in alloc; whole.kind]?,
+            })
+        }
+    }
+}
+
+fn copied(alloc: Global, kinds: &[Kind]) -> Result<Vec<Kind>, AllocError>
+    ensures { IfOk result (λ ks. ks.items ≡ kinds.now) }
+{
+    let mut copies = Vec::new(alloc);
+    for kind in kinds {
+        copies.push(*kind)?;
+    }
+    Ok(copies)
+}
+
+fn left_kinds(alloc: Global, scope: &Scope, names: &[Name]) -> Result<Vec<Kind>, AllocError>
+    ensures { IfOk result (λ ks. ks.items ≡ kinds_of_left (scope_of scope.now) (names_seen names.now)) }
+{
+    let mut kinds = Vec::new(alloc);
+    for name in names {
+        kinds.push(left_kind(scope, name))?;
+    }
+    Ok(kinds)
+}
+
+fn left_kind(scope: &Scope, name: &Name) -> Kind
+    ensures { result ≡ unwrap_or (variable_kind (scope_of scope.now) (name_seen name.now).text) BoolKind }
+{
+    match scope.variable(&name.text) {
+        Some(variable) => variable.kind,
+        None => Kind::Bool,
+    }
+}
+
+fn target(scope: &Scope, name: &Name) -> u32
+    ensures { result ≡ variable_place (scope_of scope.now) (name_seen name.now).text }
+{
+    match scope.variable(&name.text) {
+        Some(variable) => variable.place,
+        None => 0,
+    }
+}
+
+fn targets(alloc: Global, scope: &Scope, names: &[Name]) -> Result<Vec<u32>, AllocError>
+    ensures { IfOk result (λ ts. ts.items ≡ map (λ x. variable_place (scope_of scope.now) x.text) (names_seen names.now)) }
+{
+    let mut targets = Vec::new(alloc);
+    for name in names {
+        targets.push(target(scope, name))?;
+    }
+    Ok(targets)
+}
+
+fn places(alloc: Global, names: &[Name]) -> Result<Vec<Place>, AllocError> {
+    let mut places = Vec::new(alloc);
+    for name in names {
+        places.push(name.span.start)?;
+    }
+    Ok(places)
+}
+
+/// An equation of the program: the right side gives what the left side has.
+pub fn equation(alloc: Global, scope: &Scope, source: &SourceEquation) -> Result<Equation, Fault>
+    ensures typed { IfOk result (λ q. equation_typed (scope_of scope.now) (equation_seen source.now) ≡ true) }
+    ensures targets { IfOk result (λ q. q.targets.items ≡ map (λ x. variable_place (scope_of scope.now) x.text) (names_seen source.now.left.items)) }
+    ensures meant { IfOk result (λ q. expression_of q.right ≡ meant (scope_of scope.now) (expression_seen source.now.right)) }
+    ensures refused { IfErr result (Faulty (equation_typed (scope_of scope.now) (equation_seen source.now) ≡ false)) }
+{
+    let given = right_side(alloc, scope, &source.right)?;
+    let kinds = left_kinds(alloc, scope, &source.left)?;
+    if !all_same(&given.kinds, &kinds) {
+        return Err(Fault::At(place_of(&source.right)));
+    }
+    Ok(Equation {
+        targets: targets(alloc, scope, &source.left)?,
+        places: places(alloc, &source.left)?,
+        right: given.expr,
+    })
+}

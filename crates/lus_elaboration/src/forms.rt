@@ -1,0 +1,299 @@
+//! What each form of expression means, its parts being elaborated already, and its type.
+
+ghost use Rattle.std.specs.Prelude.{◌≡◌, Some, None, IfOk, IfErr, map, option_map, unwrap_or, ℕ, length};
+ghost use Rattle.std.specs.Option.{option_and_then};
+ghost use Rattle.lus_syntax.specs.View.{name_seen, test_seen, part_seen, label_seen};
+ghost use Rattle.lus_syntax.specs.Trees.{parts_of};
+ghost use Rattle.lus_values.specs.declared.operator.Operator.TheVariants.{If as IfOperator};
+ghost use Rattle.lus_program.specs.Programs.{more, when as when_meant, merge as merge_meant, call as call_meant, operate};
+ghost use Rattle.lus_program.specs.View.{expression_of, operands_of};
+ghost use Rattle.lus_meaning.specs.Scopes.{entry};
+ghost use Rattle.lus_meaning.specs.Types.{name_kind, prefix_kind as kind_of_prefix, infix_kind as kind_of_infix, choice_kind as kind_of_choice, field_kind, test_placed as placed_test, truth_place as place_of_truth, label_place as place_of_label, asked_place as place_asked, test_variable as variable_of_test};
+ghost use Rattle.lus_meaning.specs.Meaning.{name_meant, prefix_meant, infix_meant, compute as computed, one, two, test_meant, field_meant, node_place};
+ghost use Rattle.lus_meaning.specs.ScopeView.{scope_of, Faulty};
+
+use lus_meaning::Fault;
+use crate::kinds::{choice_kind, infix_kind, prefix_kind, same, value_kind};
+use lus_meaning::{Scope, field as field_named};
+use lus_program::{Expr, Kind, Test};
+use lus_syntax::{
+    Expr as Source, Infix, Label, Lead, Name, Part, Place, Prefix, Test as SourceTest,
+};
+use lus_values::{Op, Operator};
+use std::alloc::{AllocError, Global};
+
+/// An expression of the program and its type.
+#[derive(Drop)]
+pub struct Elaborated {
+    pub expr: Expr,
+    pub kind: Kind,
+}
+
+/// The place of an expression's first token.
+pub fn place_of(source: &Source) -> Place {
+    match source {
+        Source::Number(_, span) => span.start,
+        Source::Truth(_, span) => span.start,
+        Source::Name(name) => name.span.start,
+        Source::Call(name, _) => name.span.start,
+        Source::Structure(name, _) => name.span.start,
+        Source::Merge(span, _, _) => span.start,
+        Source::Field(operand, _) => place_of(operand),
+        Source::Parentheses(span, _) => span.start,
+        Source::When(operand, _) => place_of(operand),
+        Source::Unary(_, span, _) => span.start,
+        Source::Binary(_, left, _) => place_of(left),
+        Source::If(span, _, _, _) => span.start,
+    }
+}
+
+/// A name: a variable hides a constant or a constructor.
+pub fn named(alloc: Global, scope: &Scope, name: &Name) -> Result<Elaborated, Fault>
+    ensures typed { IfOk result (λ x. name_kind (scope_of scope.now) (name_seen name.now).text ≡ Some x.kind) }
+    ensures meant { IfOk result (λ x. expression_of x.expr ≡ name_meant (scope_of scope.now) (name_seen name.now).text) }
+    ensures refused { IfErr result (Faulty (name_kind (scope_of scope.now) (name_seen name.now).text ≡ None)) }
+{
+    let place = name.span.start;
+    if let Some(variable) = scope.variable(&name.text) {
+        return Ok(Elaborated {
+            expr: Expr::Variable(place, variable.place),
+            kind: variable.kind,
+        });
+    }
+    let Some(value) = scope.value(alloc, &name.text)? else {
+        return Err(Fault::At(place));
+    };
+    let Some(kind) = value_kind(&value) else {
+        return Err(Fault::At(place));
+    };
+    Ok(Elaborated {
+        expr: Expr::Literal(place, value),
+        kind,
+    })
+}
+
+/// An operator before its operand.
+pub fn unary(
+    alloc: Global,
+    place: Place,
+    op: Prefix,
+    operand: Elaborated,
+) -> Result<Elaborated, Fault>
+    ensures typed { IfOk result (λ x. kind_of_prefix op operand.kind ≡ Some x.kind) }
+    ensures meant { IfOk result (λ x. expression_of x.expr ≡ prefix_meant op (expression_of operand.expr)) }
+    ensures refused { IfErr result (Faulty (kind_of_prefix op operand.kind ≡ None)) }
+{
+    let Some(kind) = prefix_kind(op, operand.kind) else {
+        return Err(Fault::At(place));
+    };
+    let expr = prefixed(alloc, place, op, operand.expr)?;
+    Ok(Elaborated { expr, kind })
+}
+
+fn prefixed(alloc: Global, place: Place, op: Prefix, operand: Expr) -> Result<Expr, AllocError>
+    ensures { IfOk result (λ x. expression_of x ≡ prefix_meant op (expression_of operand)) }
+{
+    match op {
+        Prefix::Not => operate_one(alloc, place, Operator::Compute(Op::Not), operand),
+        Prefix::Negate => operate_one(alloc, place, Operator::Compute(Op::Negate), operand),
+        Prefix::Pre => Ok(Expr::Pre(place, Box::new(alloc, operand)?)),
+    }
+}
+
+/// An operator between its operands.
+pub fn binary(
+    alloc: Global,
+    place: Place,
+    op: Infix,
+    left: Elaborated,
+    right: Elaborated,
+) -> Result<Elaborated, Fault>
+    ensures typed { IfOk result (λ x. kind_of_infix op left.kind right.kind ≡ Some x.kind) }
+    ensures meant { IfOk result (λ x. expression_of x.expr ≡ infix_meant op (expression_of left.expr) (expression_of right.expr)) }
+    ensures refused { IfErr result (Faulty (kind_of_infix op left.kind right.kind ≡ None)) }
+{
+    let Some(kind) = infix_kind(op, left.kind, right.kind) else {
+        return Err(Fault::At(place));
+    };
+    let expr = joined(alloc, place, op, left.expr, right.expr)?;
+    Ok(Elaborated { expr, kind })
+}
+
+fn joined(
+    alloc: Global,
+    place: Place,
+    op: Infix,
+    left: Expr,
+    right: Expr,
+) -> Result<Expr, AllocError>
+    ensures { IfOk result (λ x. expression_of x ≡ infix_meant op (expression_of left) (expression_of right)) }
+{
+    match op {
+        Infix::Fby => Ok(Expr::Fby(place, Box::new(alloc, left)?, Box::new(alloc, right)?)),
+        Infix::Arrow => Ok(Expr::Arrow(place, Box::new(alloc, left)?, Box::new(alloc, right)?)),
+        Infix::Implies => compute(alloc, place, Op::Implies, left, right),
+        Infix::Or => compute(alloc, place, Op::Or, left, right),
+        Infix::Xor => compute(alloc, place, Op::Xor, left, right),
+        Infix::And => compute(alloc, place, Op::And, left, right),
+        Infix::Equal => compute(alloc, place, Op::Equal, left, right),
+        Infix::NotEqual => compute(alloc, place, Op::Different, left, right),
+        Infix::Less => compute(alloc, place, Op::Less, left, right),
+        Infix::AtMost => compute(alloc, place, Op::LessEqual, left, right),
+        Infix::Greater => compute(alloc, place, Op::Greater, left, right),
+        Infix::AtLeast => compute(alloc, place, Op::GreaterEqual, left, right),
+        Infix::Add => compute(alloc, place, Op::Add, left, right),
+        Infix::Subtract => compute(alloc, place, Op::Subtract, left, right),
+        Infix::Multiply => compute(alloc, place, Op::Multiply, left, right),
+        Infix::Divide => compute(alloc, place, Op::Divide, left, right),
+        Infix::Modulo => compute(alloc, place, Op::Remainder, left, right),
+    }
+}
+
+fn operate_one(
+    alloc: Global,
+    place: Place,
+    operator: Operator,
+    operand: Expr,
+) -> Result<Expr, AllocError>
+    ensures { IfOk result (λ x. expression_of x ≡ operate operator (one (expression_of operand))) }
+{
+    let operands = vec![in alloc; operand]?;
+    Ok(Expr::Operate(place, operator, operands))
+}
+
+fn compute(alloc: Global, place: Place, op: Op, left: Expr, right: Expr) -> Result<Expr, AllocError>
+    ensures { IfOk result (λ x. expression_of x ≡ computed op (expression_of left) (expression_of right)) }
+{
+    let operands = vec![in alloc; left, right]?;
+    Ok(Expr::Operate(place, Operator::Compute(op), operands))
+}
+
+/// `if`
+pub fn choice(
+    alloc: Global,
+    place: Place,
+    condition: Elaborated,
+    left: Elaborated,
+    right: Elaborated,
+) -> Result<Elaborated, Fault>
+    ensures typed { IfOk result (λ x. kind_of_choice condition.kind left.kind right.kind ≡ Some x.kind) }
+    ensures meant { IfOk result (λ x. expression_of x.expr ≡ operate IfOperator (more (expression_of condition.expr) (two (expression_of left.expr) (expression_of right.expr)))) }
+    ensures refused { IfErr result (Faulty (kind_of_choice condition.kind left.kind right.kind ≡ None)) }
+{
+    let Some(kind) = choice_kind(condition.kind, left.kind, right.kind) else {
+        return Err(Fault::At(place));
+    };
+    let operands = vec![in alloc; condition.expr, left.expr, right.expr]?;
+    Ok(Elaborated {
+        expr: Expr::Operate(place, Operator::If, operands),
+        kind,
+    })
+}
+
+/// A field of a structure.
+pub fn field(
+    alloc: Global,
+    scope: &Scope,
+    place: Place,
+    operand: Elaborated,
+    name: &Name,
+) -> Result<Elaborated, Fault>
+    ensures typed { IfOk result (λ x. field_kind (scope_of scope.now) operand.kind (name_seen name.now).text ≡ Some x.kind) }
+    ensures meant { IfOk result (λ x. expression_of x.expr ≡ field_meant (scope_of scope.now) (Some operand.kind) (name_seen name.now).text (expression_of operand.expr)) }
+    ensures refused { IfErr result (Faulty (field_kind (scope_of scope.now) operand.kind (name_seen name.now).text ≡ None)) }
+{
+    let fields = scope.fields_of(operand.kind);
+    let Some(found) = field_named(fields, &name.text) else {
+        return Err(Fault::At(name.span.start));
+    };
+    let expr = operate_one(alloc, place, Operator::Field(found.place), operand.expr)?;
+    Ok(Elaborated {
+        expr,
+        kind: found.kind,
+    })
+}
+
+fn truth_place(kind: Kind, truth: bool) -> Option<u32>
+    ensures { result ≡ place_of_truth kind truth }
+{
+    if !same(kind, Kind::Bool) {
+        return None;
+    }
+    if truth { Some(1) } else { Some(0) }
+}
+
+/// The place of a label among the constructors of a type.
+pub fn label_place(scope: &Scope, kind: Kind, label: &Label) -> Option<u32>
+    ensures { result ≡ place_of_label (scope_of scope.now) kind (label_seen label.now) }
+{
+    match label {
+        Label::Truth(truth, _) => truth_place(kind, *truth),
+        Label::Constructor(name) => {
+            let Some(found) = scope.constructor(&name.text) else {
+                return None;
+            };
+            if same(kind, Kind::Enum(found.enumeration)) {
+                Some(found.place)
+            } else {
+                None
+            }
+        }
+    }
+}
+
+fn asked_place(scope: &Scope, kind: Kind, test: &SourceTest) -> Option<u32>
+    ensures { result ≡ place_asked (scope_of scope.now) kind (test_seen test.now) }
+{
+    match test {
+        SourceTest::Holds(_) => truth_place(kind, true),
+        SourceTest::Fails(_, _) => truth_place(kind, false),
+        SourceTest::Is(label, _) => label_place(scope, kind, label),
+    }
+}
+
+fn clock_variable(test: &SourceTest) -> &Name
+    ensures { (name_seen result.now).text ≡ variable_of_test (test_seen test.now) }
+{
+    match test {
+        SourceTest::Holds(variable) => variable,
+        SourceTest::Fails(_, variable) => variable,
+        SourceTest::Is(_, variable) => variable,
+    }
+}
+
+/// The test of the program: its label is of its variable's type.
+pub fn test_placed(scope: &Scope, test: &SourceTest) -> Option<Test>
+    ensures { result ≡ placed_test (scope_of scope.now) (test_seen test.now) }
+{
+    let Some(variable) = scope.variable(&clock_variable(test).text) else {
+        return None;
+    };
+    let Some(constructor) = asked_place(scope, variable.kind, test) else {
+        return None;
+    };
+    Some(Test {
+        variable: variable.place,
+        constructor,
+    })
+}
+
+/// `when`
+pub fn sampled(
+    alloc: Global,
+    scope: &Scope,
+    place: Place,
+    operand: Elaborated,
+    test: &SourceTest,
+) -> Result<Elaborated, Fault>
+    ensures typed { IfOk result (λ x. option_map (λ t. operand.kind) (placed_test (scope_of scope.now) (test_seen test.now)) ≡ Some x.kind) }
+    ensures meant { IfOk result (λ x. expression_of x.expr ≡ when_meant (test_meant (scope_of scope.now) (test_seen test.now)) (expression_of operand.expr)) }
+    ensures refused { IfErr result (Faulty (option_map (λ t. operand.kind) (placed_test (scope_of scope.now) (test_seen test.now)) ≡ None)) }
+{
+    let Some(found) = test_placed(scope, test) else {
+        return Err(Fault::At(clock_variable(test).span.start));
+    };
+    Ok(Elaborated {
+        expr: Expr::When(place, found, Box::new(alloc, operand.expr)?),
+        kind: operand.kind,
+    })
+}

@@ -1,0 +1,256 @@
+//! Forms with parts: calls, structures and merges, their parts being elaborated already.
+
+ghost use Rattle.std.specs.Prelude.{◌≡◌, Some, None, IfOk, IfErr, length, map, unwrap_or};
+ghost use Rattle.std.specs.Option.{option_and_then};
+ghost use Rattle.lus_syntax.specs.View.{name_seen, part_seen, lead_seen};
+ghost use Rattle.lus_syntax.specs.Trees.{parts_of};
+ghost use Rattle.lus_program.specs.declared.types.Kind.TheVariants.{Bool as BoolKind};
+ghost use Rattle.lus_program.specs.Programs.{merge as merge_meant, call as call_meant};
+ghost use Rattle.lus_program.specs.View.{expression_of, operands_of};
+ghost use Rattle.lus_meaning.specs.Scopes.{entry};
+ghost use Rattle.lus_meaning.specs.Types.{all_same as all_same_kinds, are_arguments as arguments_alone, branch_place as place_of_branch, branch_places as places_of_branches, field_asked as asked_field, fields_asked as asked_fields, outputs_of, the_one as one_kind, merge_kind, structure_kind, variable_kind};
+ghost use Rattle.lus_meaning.specs.Meaning.{node_place, branches_meant, structure_meant, variable_place, type_number as number_of_type};
+ghost use Rattle.lus_meaning.specs.ScopeView.{scope_of, Faulty};
+
+use crate::arrangement::arranged;
+use lus_meaning::{Placed, Signature};
+use lus_meaning::Fault;
+use crate::forms::{Elaborated, label_place, place_of};
+use crate::kinds::{all_same, common_kind, same, the_one};
+use lus_meaning::{Scope, field as field_named};
+use lus_program::{Expr, Kind};
+use lus_syntax::{Label, Lead, Name, Part, Place};
+use lus_values::Operator;
+use std::alloc::{AllocError, Global};
+
+fn are_arguments(parts: &[Part]) -> bool
+    ensures { result ≡ arguments_alone (parts_of (map part_seen parts.now)) }
+{
+    for part in parts {
+        match &part.lead {
+            Lead::Plain => {}
+            Lead::Field(_) => return false,
+            Lead::Branch(_, _) => return false,
+        }
+    }
+    true
+}
+
+/// The called node, where it takes arguments of these types.
+pub fn callee<'a>(
+    scope: &'a Scope,
+    name: &Name,
+    arguments: &[Part],
+    kinds: &[Kind],
+) -> Result<&'a Signature, Fault>
+    ensures typed { IfOk result (λ g. outputs_of (scope_of scope.now) (name_seen name.now).text (parts_of (map part_seen arguments.now)) kinds.now ≡ Some g.now.outputs.items) }
+    ensures placed { IfOk result (λ g. g.now.place ≡ node_place (scope_of scope.now) (name_seen name.now).text) }
+    ensures refused { IfErr result (Faulty (outputs_of (scope_of scope.now) (name_seen name.now).text (parts_of (map part_seen arguments.now)) kinds.now ≡ None)) }
+{
+    let Some(node) = scope.node(&name.text) else {
+        return Err(Fault::At(name.span.start));
+    };
+    if are_arguments(arguments) && all_same(&node.inputs, kinds) {
+        Ok(node)
+    } else {
+        Err(Fault::At(name.span.start))
+    }
+}
+
+/// A call with one output.
+pub fn call(
+    scope: &Scope,
+    name: &Name,
+    arguments: &[Part],
+    operands: Vec<Expr>,
+    kinds: &[Kind],
+) -> Result<Elaborated, Fault>
+    ensures typed { IfOk result (λ x. option_and_then one_kind (outputs_of (scope_of scope.now) (name_seen name.now).text (parts_of (map part_seen arguments.now)) kinds.now) ≡ Some x.kind) }
+    ensures meant { IfOk result (λ x. expression_of x.expr ≡ call_meant (node_place (scope_of scope.now) (name_seen name.now).text) 0 (operands_of operands.items)) }
+    ensures refused { IfErr result (Faulty (option_and_then one_kind (outputs_of (scope_of scope.now) (name_seen name.now).text (parts_of (map part_seen arguments.now)) kinds.now) ≡ None)) }
+{
+    let place = name.span.start;
+    let node = callee(scope, name, arguments, kinds)?;
+    let Some(kind) = the_one(&node.outputs) else {
+        return Err(Fault::At(place));
+    };
+    Ok(Elaborated {
+        expr: Expr::Call(place, node.place, operands),
+        kind,
+    })
+}
+
+fn branch_place(scope: &Scope, kind: Kind, lead: &Lead) -> Option<u32>
+    ensures { result ≡ place_of_branch (scope_of scope.now) kind (lead_seen lead.now) }
+{
+    match lead {
+        Lead::Branch(_, label) => label_place(scope, kind, label),
+        Lead::Plain => None,
+        Lead::Field(_) => None,
+    }
+}
+
+/// The constructors before the arrows of a merge over a variable of this type.
+fn branch_places(
+    alloc: Global,
+    scope: &Scope,
+    kind: Kind,
+    branches: &[Part],
+) -> Result<Vec<u32>, Fault>
+    ensures places { IfOk result (λ cs. places_of_branches (scope_of scope.now) kind (parts_of (map part_seen branches.now)) ≡ Some cs.items) }
+    ensures alike { IfOk result (λ cs. length cs.items ≡ length branches.now) }
+    ensures refused { IfErr result (Faulty (places_of_branches (scope_of scope.now) kind (parts_of (map part_seen branches.now)) ≡ None)) }
+{
+    let mut places = Vec::new(alloc);
+    for branch in branches {
+        let Some(place) = branch_place(scope, kind, &branch.lead) else {
+            return Err(Fault::At(part_place(branch)));
+        };
+        places.push(place)?;
+    }
+    Ok(places)
+}
+
+/// A merge: each constructor of its variable's type stands exactly once, and the branches are of one type.
+pub fn merge(
+    alloc: Global,
+    scope: &Scope,
+    place: Place,
+    variable: &Name,
+    branches: &[Part],
+    operands: Vec<Expr>,
+    kinds: &[Kind],
+) -> Result<Elaborated, Fault>
+    requires { length operands.items ≡ length branches.now }
+    ensures typed { IfOk result (λ x. option_and_then (λ k. merge_kind (scope_of scope.now) k (parts_of (map part_seen branches.now)) kinds.now) (variable_kind (scope_of scope.now) (name_seen variable.now).text) ≡ Some x.kind) }
+    ensures meant { IfOk result (λ x. expression_of x.expr ≡ merge_meant (variable_place (scope_of scope.now) (name_seen variable.now).text) (branches_meant (scope_of scope.now) (unwrap_or (variable_kind (scope_of scope.now) (name_seen variable.now).text) BoolKind) (parts_of (map part_seen branches.now)) (operands_of operands.items))) }
+    ensures refused { IfErr result (Faulty (option_and_then (λ k. merge_kind (scope_of scope.now) k (parts_of (map part_seen branches.now)) kinds.now) (variable_kind (scope_of scope.now) (name_seen variable.now).text) ≡ None)) }
+{
+    let Some(clock) = scope.variable(&variable.text) else {
+        return Err(Fault::At(variable.span.start));
+    };
+    let places = branch_places(alloc, scope, clock.kind, branches)?;
+    let size = scope.size_of(clock.kind);
+    let Some(operands) = arranged(alloc, size, places, operands)? else {
+        return Err(Fault::At(place));
+    };
+    let Some(kind) = common_kind(kinds) else {
+        return Err(Fault::At(place));
+    };
+    Ok(Elaborated {
+        expr: Expr::Merge(place, clock.place, operands),
+        kind,
+    })
+}
+
+fn field_asked(scope: &Scope, kind: Kind, lead: &Lead) -> Option<Placed>
+    ensures { result ≡ asked_field (scope_of scope.now) kind (lead_seen lead.now) }
+{
+    match lead {
+        Lead::Field(name) => field_named(scope.fields_of(kind), &name.text),
+        Lead::Plain => None,
+        Lead::Branch(_, _) => None,
+    }
+}
+
+/// The fields of a structure of this type, as its parts name them.
+fn fields_asked(
+    alloc: Global,
+    scope: &Scope,
+    kind: Kind,
+    fields: &[Part],
+) -> Result<Vec<Placed>, Fault>
+    ensures fields { IfOk result (λ xs. asked_fields (scope_of scope.now) kind (parts_of (map part_seen fields.now)) ≡ Some xs.items) }
+    ensures alike { IfOk result (λ xs. length xs.items ≡ length fields.now) }
+    ensures refused { IfErr result (Faulty (asked_fields (scope_of scope.now) kind (parts_of (map part_seen fields.now)) ≡ None)) }
+{
+    let mut asked = Vec::new(alloc);
+    for part in fields {
+        let Some(found) = field_asked(scope, kind, &part.lead) else {
+            return Err(Fault::At(part_place(part)));
+        };
+        asked.push(found)?;
+    }
+    Ok(asked)
+}
+
+/// Whether values of these types fit the fields, one by one.
+fn all_fit(fields: &[Placed], kinds: &[Kind]) -> bool
+    ensures { result ≡ all_same_kinds (map (λ x. x.kind) fields.now) kinds.now }
+{
+    match fields {
+        [] => match kinds {
+            [] => true,
+            [_, _rest @ ..] => false,
+        },
+        [field, fields @ ..] => match kinds {
+            [] => false,
+            [kind, kinds @ ..] => same(field.kind, *kind) && all_fit(fields, kinds),
+        },
+    }
+}
+
+fn places_of(alloc: Global, fields: &[Placed]) -> Result<Vec<u32>, AllocError>
+    ensures { IfOk result (λ ps. ps.items ≡ map (λ x. x.place) fields.now) }
+{
+    let mut places = Vec::new(alloc);
+    for field in fields {
+        places.push(field.place)?;
+    }
+    Ok(places)
+}
+
+/// The place of a type's declaration.
+fn type_number(kind: Kind) -> u32
+    ensures { result ≡ number_of_type kind }
+{
+    match kind {
+        Kind::Bool => 0,
+        Kind::Int => 0,
+        Kind::Enum(declaration) => declaration,
+        Kind::Struct(declaration) => declaration,
+    }
+}
+
+/// A structure's value: each field stands exactly once, with a value of its type.
+pub fn structure(
+    alloc: Global,
+    scope: &Scope,
+    name: &Name,
+    fields: &[Part],
+    operands: Vec<Expr>,
+    kinds: &[Kind],
+) -> Result<Elaborated, Fault>
+    requires { length operands.items ≡ length fields.now }
+    ensures typed { IfOk result (λ x. option_and_then (λ k. structure_kind (scope_of scope.now) k (parts_of (map part_seen fields.now)) kinds.now) (entry (scope_of scope.now).types (name_seen name.now).text) ≡ Some x.kind) }
+    ensures meant { IfOk result (λ x. expression_of x.expr ≡ structure_meant (scope_of scope.now) (unwrap_or (entry (scope_of scope.now).types (name_seen name.now).text) BoolKind) (parts_of (map part_seen fields.now)) (operands_of operands.items)) }
+    ensures refused { IfErr result (Faulty (option_and_then (λ k. structure_kind (scope_of scope.now) k (parts_of (map part_seen fields.now)) kinds.now) (entry (scope_of scope.now).types (name_seen name.now).text) ≡ None)) }
+{
+    let place = name.span.start;
+    let Some(kind) = scope.kind(&name.text) else {
+        return Err(Fault::At(place));
+    };
+    let asked = fields_asked(alloc, scope, kind, fields)?;
+    if !all_fit(&asked, kinds) {
+        return Err(Fault::At(place));
+    }
+    let places = places_of(alloc, &asked)?;
+    let size = scope.fields_of(kind).len();
+    let Some(operands) = arranged(alloc, size, places, operands)? else {
+        return Err(Fault::At(place));
+    };
+    Ok(Elaborated {
+        expr: Expr::Operate(place, Operator::Structure(type_number(kind)), operands),
+        kind,
+    })
+}
+
+/// The place of a part: its field, its label, or its value.
+fn part_place(part: &Part) -> Place {
+    match &part.lead {
+        Lead::Plain => place_of(&part.value),
+        Lead::Field(name) => name.span.start,
+        Lead::Branch(_, Label::Constructor(name)) => name.span.start,
+        Lead::Branch(_, Label::Truth(_, span)) => span.start,
+    }
+}

@@ -1,0 +1,3 @@
+pub mod NamePlaces
+pub mod Looping
+pub mod Counting

@@ -1,0 +1,12 @@
+use Rattle.lus_graph.proofs.NoWayBack.{order_has_none}
+use Rattle.lus_syntax.specs.View.{tree_seen}
+use Rattle.lus_meaning.specs.Loopless.{node_uses, type_uses}
+use Rattle.lus_limits.proofs.recursion.check_recursion.Goals as goal
+
+pub returns-clause-loopless : goal.returns-clause-loopless
+returns-clause-loopless c =
+    let p = tree_seen c.args.tree.now in
+    record {
+      types = order_has_none (type_uses p) c.in_ok-types.types.items c.in_ok-types.ensures.order;
+      nodes = order_has_none (node_uses p) c.in_ok-nodes.nodes.items c.in_ok-nodes.ensures.order;
+    }

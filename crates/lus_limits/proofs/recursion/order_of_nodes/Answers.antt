@@ -1,0 +1,10 @@
+use Rattle.lus_graph.specs.Walks.{IsCycleError}
+use Rattle.lus_syntax.specs.View.{tree_seen}
+use Rattle.lus_meaning.specs.Loopless.{node_uses}
+use Rattle.lus_limits.proofs.Looping.{loops}
+use Rattle.lus_limits.proofs.recursion.order_of_nodes.Goals as goal
+
+pub returns-clause-refused : goal.returns-clause-refused
+returns-clause-refused c =
+    let cycle : IsCycleError (node_uses (tree_seen c.args.tree.now)) c.in-Err.error = rw (c.deref.ensures.value, c.in_ok-uses.ensures) at c.in-Err.ensures.cycle in
+    loops (node_uses (tree_seen c.args.tree.now)) c.in-Err.error c.looping_node.result.number cycle c.looping_node.ensures

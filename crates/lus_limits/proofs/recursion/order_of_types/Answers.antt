@@ -1,0 +1,10 @@
+use Rattle.lus_graph.specs.Walks.{IsCycleError}
+use Rattle.lus_syntax.specs.View.{tree_seen}
+use Rattle.lus_meaning.specs.Loopless.{type_uses}
+use Rattle.lus_limits.proofs.Looping.{loops}
+use Rattle.lus_limits.proofs.recursion.order_of_types.Goals as goal
+
+pub returns-clause-refused : goal.returns-clause-refused
+returns-clause-refused c =
+    let cycle : IsCycleError (type_uses (tree_seen c.args.tree.now)) c.in-Err.error = rw (c.deref.ensures.value, c.in_ok-uses.ensures) at c.in-Err.ensures.cycle in
+    loops (type_uses (tree_seen c.args.tree.now)) c.in-Err.error c.looping_type.result.number cycle c.looping_type.ensures

@@ -1,0 +1,90 @@
+//! Counts of declarations, against the limits of the language.
+
+ghost use Rattle.std.specs.Prelude.{◌≡◌, ◌+◌, ◌<◌, ◌≤◌, OnOk, OnErr, MatchOption, map, true};
+ghost use Rattle.std.specs.Bool.{Decides};
+ghost use Rattle.lus_syntax.specs.View.{definition_seen, fields_seen, group_seen, node_seen, tree_seen};
+ghost use Rattle.lus_meaning.specs.Sized.{Counted, DefinitionCounted, field_count, variable_count};
+ghost use Rattle.lus_meaning.specs.Tables.{groups};
+
+use lus_syntax::{Definition, Fields, Group, Node, Place, Tree};
+
+/// The most types, the most constants and the most nodes of a source, and the most variables of a node.
+const MOST_DECLARED: usize = 1000;
+
+const MOST_CONSTRUCTORS: usize = 256;
+
+const MOST_FIELDS: usize = 64;
+
+/// Tells whether a source declares no more than the limits admit. The place is that of a name past a limit, or of the type
+/// or the node that has too much.
+pub fn check_counts(tree: &Tree) -> Result<(), Place>
+    ensures ok { OnOk result (Counted (tree_seen tree.now)) }
+    ensures err { OnErr result (Counted (tree_seen tree.now) → ⊥) }
+{
+    if let Some(past) = tree.types.get(MOST_DECLARED) {
+        return Err(past.name.span.start);
+    }
+    if let Some(past) = tree.constants.get(MOST_DECLARED) {
+        return Err(past.name.span.start);
+    }
+    if let Some(past) = tree.nodes.get(MOST_DECLARED) {
+        return Err(past.name.span.start);
+    }
+    for declaration in &tree.types {
+        if !is_counted(&declaration.definition) {
+            return Err(declaration.name.span.start);
+        }
+    }
+    for node in &tree.nodes {
+        if !has_few_variables(node) {
+            return Err(node.name.span.start);
+        }
+    }
+    Ok(())
+}
+
+/// Whether a type has no more constructors or fields than the limits admit.
+fn is_counted(definition: &Definition) -> bool
+    ensures { Decides result (DefinitionCounted (definition_seen definition.now)) }
+{
+    match definition {
+        Definition::Alias(_) => true,
+        Definition::Enumeration(constructors) => constructors.len() <= MOST_CONSTRUCTORS,
+        Definition::Structure(fields) => fields_left(fields, MOST_FIELDS).is_some(),
+    }
+}
+
+/// Whether a node has no more variables than the limit admits.
+fn has_few_variables(node: &Node) -> bool
+    ensures { Decides result (variable_count (groups (node_seen node.now)) ≤ 1000) }
+{
+    let Some(left) = variables_left(&node.inputs, MOST_DECLARED) else {
+        return false;
+    };
+    let Some(left) = variables_left(&node.outputs, left) else {
+        return false;
+    };
+    variables_left(&node.locals, left).is_some()
+}
+
+/// How many of so many more fields there may be behind these.
+fn fields_left(groups: &[Fields], most: usize) -> Option<usize>
+    ensures { MatchOption result (most < field_count (map fields_seen groups.now)) (λ left. left + field_count (map fields_seen groups.now) ≡ most) }
+{
+    let mut left = most;
+    for group in groups {
+        left = left.checked_sub(group.names.len())?;
+    }
+    Some(left)
+}
+
+/// How many of so many more variables there may be behind these.
+fn variables_left(groups: &[Group], most: usize) -> Option<usize>
+    ensures { MatchOption result (most < variable_count (map group_seen groups.now)) (λ left. left + variable_count (map group_seen groups.now) ≡ most) }
+{
+    let mut left = most;
+    for group in groups {
+        left = left.checked_sub(group.names.len())?;
+    }
+    Some(left)
+}

@@ -1,0 +1,4 @@
+pub mod Steps
+pub mod Lookups
+pub mod Declarations
+mod Rows

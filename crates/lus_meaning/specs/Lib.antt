@@ -1,0 +1,11 @@
+pub mod Scopes
+pub mod Tables
+pub mod Named
+pub mod Loopless
+pub mod Sized
+pub mod Types
+pub mod Meaning
+pub mod WellTyped
+pub mod Refusals
+pub mod ScopeView
+pub mod Resolved

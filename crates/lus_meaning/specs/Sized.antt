@@ -1,0 +1,60 @@
+-- The limits of a source: counts, and what counts only where nothing leads back to itself.
+use Rattle.std.specs.Prelude.{◌*◌, ◌≤◌, ℕ, suc, true, false, List, [], ◌∷◌, length, sum_by, nat_lt}
+use Rattle.lus_syntax.specs.Trees.{Fields, Definition, Alias, Enumeration, StructureOf, Group, Tree}
+use Rattle.lus_values.specs.Lists.{Each, Below}
+use Rattle.lus_meaning.specs.Tables.{groups, of_type, definition_at, within}
+use Rattle.lus_graph.specs.Ways.{used}
+use Rattle.lus_meaning.specs.Loopless.{node_uses}
+
+abbrev pub field_count : List Fields → ℕ
+field_count fs = sum_by (λ g. length g.names) fs
+
+abbrev pub variable_count : List Group → ℕ
+variable_count gs = sum_by (λ g. length g.names) gs
+
+abbrev pub DefinitionCounted : Definition → Type 0
+DefinitionCounted (Alias y) = Unit {0}
+DefinitionCounted (Enumeration cs) = length cs ≤ 256
+DefinitionCounted (StructureOf fs) = field_count fs ≤ 64
+
+-- the counts of declarations
+pub record Counted (p : Tree) : Type 0 where
+  pub types : length p.types ≤ 1000
+  pub constants : length p.constants ≤ 1000
+  pub nodes : length p.nodes ≤ 1000
+  pub definitions : Each (λ d. DefinitionCounted d.definition) p.types
+  pub variables : Each (λ f. variable_count (groups f) ≤ 1000) p.nodes
+
+abbrev pub greater : ℕ → ℕ → ℕ
+greater m n = elim (nat_lt m n) [ true ↦ n | false ↦ m ]
+
+abbrev pub greatest : {X : Type 0} → (X → ℕ) → List X → ℕ
+greatest f [] = 0
+greatest f (x ∷ xs) = greater (f x) (greatest f xs)
+
+abbrev pub definition_leaves : Tree → (ℕ → ℕ) → Definition → ℕ
+definition_leaves p at (Alias y) = of_type p 1 1 at y
+definition_leaves p at (Enumeration cs) = 1
+definition_leaves p at (StructureOf fs) = sum_by (λ g. length g.names * of_type p 1 1 at g.type_name) fs
+
+-- the leaves of each type: bool, int and an enumeration have 1, a structure has those of its fields
+abbrev pub leaves_at : Tree → ℕ → ℕ
+leaves_at p = within (length p.types) 0 (λ at t. definition_leaves p at (definition_at p t))
+
+abbrev pub definition_nesting : Tree → (ℕ → ℕ) → Definition → ℕ
+definition_nesting p at (Alias y) = of_type p 0 0 at y
+definition_nesting p at (Enumeration cs) = 0
+definition_nesting p at (StructureOf fs) = suc (greatest (λ g. of_type p 0 0 at g.type_name) fs)
+
+-- how deep structures stand in each type: a structure is one deeper than its deepest field
+abbrev pub nesting_at : Tree → ℕ → ℕ
+nesting_at p = within (length p.types) 0 (λ at t. definition_nesting p at (definition_at p t))
+
+-- how deep each node's calls go: a node without calls has 1
+abbrev pub call_depth_at : Tree → ℕ → ℕ
+call_depth_at p = within (length p.nodes) 0 (λ at f. suc (greatest at (used (node_uses p) f)))
+
+pub record Bounded (p : Tree) : Type 0 where
+  pub leaves : Below (length p.types) (λ t. leaves_at p t ≤ 1024)
+  pub nesting : Below (length p.types) (λ t. nesting_at p t ≤ 64)
+  pub calls : Below (length p.nodes) (λ f. call_depth_at p f ≤ 64)

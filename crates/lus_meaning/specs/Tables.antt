@@ -1,0 +1,114 @@
+-- The tables of a source: what its declarations give each name, in the order of the text.
+use Rattle.std.specs.Prelude.{◌++◌, ℕ, zero, suc, ℤ, pos, negsuc, neg_ℤ, List, [], ◌∷◌, Some, None, map, flat_map, length}
+use Rattle.lus_syntax.specs.Lexemes.{Text}
+use Rattle.lus_syntax.specs.Trees.{Named, TypeName, BoolName, IntName, DeclaredName, Fields, Definition, Alias, Enumeration, StructureOf, Literal, Positive, Negative, TruthValue, ConstructorName, Group, Node, Tree}
+use Rattle.lus_values.specs.Lists.{item}
+use Rattle.lus_values.specs.Values.{Value, bool, int, enum, nil}
+use Rattle.lus_program.specs.declared.types.Kind.{Kind}
+use Rattle.lus_program.specs.declared.types.Kind.TheVariants as kinds
+use Rattle.lus_program.specs.Programs.{Field, Declared, alias, enumeration, structure}
+use Rattle.lus_meaning.specs.declared.entries.Placed.{Placed}
+use Rattle.lus_meaning.specs.declared.entries.Constructor.{Constructor}
+use Rattle.lus_meaning.specs.Scopes.{Scope, Signature, entry}
+
+-- each thing beside its number, from n on
+abbrev pub numbered_from : {X : Type 0} → ℕ → List X → List (X × ℕ)
+numbered_from n [] = []
+numbered_from n (x ∷ xs) = (x, n) ∷ numbered_from (suc n) xs
+
+abbrev pub text_of : Named → Text
+text_of n = n.text
+
+-- names of one type, one by one
+abbrev pub each_of : {X : Type 0} → List Named → X → List (Text × X)
+each_of ns x = map (λ n. (n.text, x)) ns
+
+-- What a thing has by what the things have that it uses, followed n times, and d past that. Where nothing leads back to
+-- itself, following as often as there are things is enough.
+abbrev pub within : {X : Type 0} → ℕ → X → ((ℕ → X) → ℕ → X) → ℕ → X
+within zero d step x = d
+within (suc n) d step x = step (within n d step) x
+
+-- types: a declared type is the place of its declaration among the source's types
+
+abbrev pub type_places : Tree → List (Text × ℕ)
+type_places p = map (λ e. (e.0.name.text, e.1)) (numbered_from 0 p.types)
+
+abbrev pub no_definition : Definition
+no_definition = Enumeration []
+
+abbrev pub definition_at : Tree → ℕ → Definition
+definition_at p t = item no_definition (map (λ d. d.definition) p.types) t
+
+-- what a type's name has: x where it is bool's, y where it is int's, else what `at` gives its declaration
+abbrev pub of_type : {X : Type 0} → Tree → X → X → (ℕ → X) → TypeName → X
+of_type p x y at (BoolName s) = x
+of_type p x y at (IntName s) = y
+of_type p x y at (DeclaredName n) = elim (entry (type_places p) n.text) [ Some t ↦ at t | None ↦ x ]
+
+-- an alias is the type it names
+abbrev pub definition_kind : Tree → (ℕ → Kind) → ℕ → Definition → Kind
+definition_kind p at t (Alias y) = of_type p kinds.Bool kinds.Int at y
+definition_kind p at t (Enumeration cs) = kinds.Enum t
+definition_kind p at t (StructureOf fs) = kinds.Struct t
+
+abbrev pub kind_at : Tree → ℕ → Kind
+kind_at p = within (length p.types) kinds.Bool (λ at t. definition_kind p at t (definition_at p t))
+
+-- the type that a name means; bool for an unknown one
+abbrev pub kind_named : Tree → TypeName → Kind
+kind_named p y = of_type p kinds.Bool kinds.Int (kind_at p) y
+
+abbrev pub fields_declared : Tree → List Fields → List Field
+fields_declared p fs = flat_map (λ g. map (λ n. record { name = n.text; kind = kind_named p g.type_name }) g.names) fs
+
+abbrev pub declared_as : Tree → Definition → Declared
+declared_as p (Alias y) = alias (kind_named p y)
+declared_as p (Enumeration cs) = enumeration (map text_of cs)
+declared_as p (StructureOf fs) = structure (fields_declared p fs)
+
+-- values: constructors and constants
+
+abbrev pub constructors_of : Definition → ℕ → List (Text × Constructor)
+constructors_of (Enumeration cs) t = map (λ e. (e.0.text, record { enumeration = t; place = e.1 })) (numbered_from 0 cs)
+constructors_of d t = []
+
+abbrev pub all_constructors : Tree → List (Text × Constructor)
+all_constructors p = flat_map (λ e. constructors_of e.0.definition e.1) (numbered_from 0 p.types)
+
+-- a number after a minus; no token is a number below 0
+abbrev pub minus : ℤ → ℤ
+minus (pos n) = neg_ℤ (pos n)
+minus (negsuc n) = negsuc n
+
+abbrev pub literal_value : Tree → Literal → Value
+literal_value p (Positive z s) = int z
+literal_value p (Negative m z s) = int (minus z)
+literal_value p (TruthValue b s) = bool b
+literal_value p (ConstructorName c) = elim (entry (all_constructors p) c.text) [ Some k ↦ enum k.enumeration k.place | None ↦ nil ]
+
+-- nodes and their variables
+
+-- the declarations of a node's variables: inputs, outputs, locals
+abbrev pub groups : Node → List Group
+groups f = f.inputs ++ (f.outputs ++ f.locals)
+
+abbrev pub group_kinds : Tree → List Group → List (Text × Kind)
+group_kinds p gs = flat_map (λ g. each_of g.names (kind_named p g.type_name)) gs
+
+abbrev pub placed : List (Text × Kind) → List (Text × Placed)
+placed xs = map (λ e. (e.0.0, record { place = e.1; kind = e.0.1 })) (numbered_from 0 xs)
+
+abbrev pub signature : Tree → Node → ℕ → Signature
+signature p f n = record { place = n; kind = f.kind; inputs = map (λ e. e.1) (group_kinds p f.inputs); outputs = map (λ e. e.1) (group_kinds p f.outputs) }
+
+-- what the names in a node's text stand for
+abbrev pub scope : Tree → Node → Scope
+scope p f = record {
+  variables = placed (group_kinds p (groups f));
+  constants = map (λ c. (c.name.text, literal_value p c.value)) p.constants;
+  constructors = all_constructors p;
+  types = map (λ e. (e.0.name.text, kind_at p e.1)) (numbered_from 0 p.types);
+  declared = map (λ d. declared_as p d.definition) p.types;
+  nodes = map (λ e. (e.0.name.text, signature p e.0 e.1)) (numbered_from 0 p.nodes);
+}

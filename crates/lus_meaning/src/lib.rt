@@ -1,0 +1,10 @@
+//! What a source means: the rules of names, recursion, limits and types, and the program that a tree means.
+#![tactic(auto)]
+
+mod entries;
+mod fault;
+mod scope;
+
+pub use entries::{Constructor, Placed, Signature};
+pub use fault::Fault;
+pub use scope::{Scope, field};

@@ -1,9 +1,0 @@
-use Rattle.std.proofs.Common.{◌≡◌, take, map}
-use Rattle.std.specs.Prelude.{string_bytes}
-use Rattle.lus_graph.specs.Walks.{uses_of}
-use Rattle.lus_syntax.specs.View.{node_seen}
-use Rattle.lus_types.specs.Loopless.{calls_of}
-use Rattle.lus_types.proofs.uses.node_uses.Given as goal
-
-abbrev pub invariant-loop-node : goal.invariant-loop-node
-invariant-loop-node l = uses_of l.uses.items ≡ map (λ f. calls_of (map string_bytes l.nodes.keys) (node_seen f)) (take l.node-index l.node-items)
