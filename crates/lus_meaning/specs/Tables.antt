@@ -1,8 +1,8 @@
 -- The tables of a source: what its declarations give each name, in the order of the text.
-use Rattle.std.specs.Prelude.{◌++◌, ℕ, zero, suc, ℤ, pos, negsuc, neg_ℤ, List, [], ◌∷◌, Some, None, map, flat_map, length}
+use Rattle.std.specs.Prelude.{◌≡◌, ◌++◌, ℕ, zero, suc, ℤ, pos, negsuc, neg_ℤ, List, [], ◌∷◌, Some, None, map, flat_map, length}
 use Rattle.lus_syntax.specs.Lexemes.{Text}
 use Rattle.lus_syntax.specs.Trees.{Named, TypeName, BoolName, IntName, DeclaredName, Fields, Definition, Alias, Enumeration, StructureOf, Literal, Positive, Negative, TruthValue, ConstructorName, Group, Node, Tree}
-use Rattle.lus_values.specs.Lists.{item}
+use Rattle.lus_values.specs.Lists.{item, Below}
 use Rattle.lus_values.specs.Values.{Value, bool, int, enum, nil}
 use Rattle.lus_program.specs.declared.types.Kind.{Kind}
 use Rattle.lus_program.specs.declared.types.Kind.TheVariants as kinds
@@ -55,6 +55,11 @@ definition_kind p at t (StructureOf fs) = kinds.Struct t
 abbrev pub kind_at : Tree → ℕ → Kind
 kind_at p = within (length p.types) kinds.Bool (λ at t. definition_kind p at t (definition_at p t))
 
+-- the types that the declarations of a source declare, one by one
+pub record AreKinds (p : Tree) (ks : List Kind) : Type 0 where
+  pub size : length ks ≡ length p.types
+  pub each : Below (length p.types) (λ t. item kinds.Bool ks t ≡ kind_at p t)
+
 -- the type that a name means; bool for an unknown one
 abbrev pub kind_named : Tree → TypeName → Kind
 kind_named p y = of_type p kinds.Bool kinds.Int (kind_at p) y
@@ -102,13 +107,17 @@ placed xs = map (λ e. (e.0.0, record { place = e.1; kind = e.0.1 })) (numbered_
 abbrev pub signature : Tree → Node → ℕ → Signature
 signature p f n = record { place = n; kind = f.kind; inputs = map (λ e. e.1) (group_kinds p f.inputs); outputs = map (λ e. e.1) (group_kinds p f.outputs) }
 
--- what the names in a node's text stand for
-abbrev pub scope : Tree → Node → Scope
-scope p f = record {
-  variables = placed (group_kinds p (groups f));
+-- what the names of a source stand for, its nodes' variables aside
+abbrev pub tables : Tree → Scope
+tables p = record {
+  variables = [];
   constants = map (λ c. (c.name.text, literal_value p c.value)) p.constants;
   constructors = all_constructors p;
   types = map (λ e. (e.0.name.text, kind_at p e.1)) (numbered_from 0 p.types);
   declared = map (λ d. declared_as p d.definition) p.types;
   nodes = map (λ e. (e.0.name.text, signature p e.0 e.1)) (numbered_from 0 p.nodes);
 }
+
+-- what the names in a node's text stand for
+abbrev pub scope : Tree → Node → Scope
+scope p f = record (tables p) { variables = placed (group_kinds p (groups f)) }
