@@ -1,3 +1,6 @@
 pub mod NamePlaces
 pub mod Looping
 pub mod Counting
+pub mod AlongOrders
+pub mod TypesByUses
+pub mod TypeTables

@@ -2,8 +2,11 @@
 #![tactic(auto)]
 
 mod counts;
+mod declared_kinds;
+mod named;
 mod recursion;
 mod uses;
 
 pub use counts::check_counts;
+pub use declared_kinds::kinds_of_types;
 pub use recursion::{Orders, check_recursion};

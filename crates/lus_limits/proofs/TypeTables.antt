@@ -1,0 +1,69 @@
+-- Tables of what declared types have, filled along an order.
+use Rattle.std.proofs.Common.{arith, ◌≡◌, ◌∙◌, refl, sym, ap, ℕ, ◌+◌, ◌<◌, ◌≤◌, List, length, get_or, set, take, map, Contains, String, Global}
+use Rattle.std.specs.Prelude.{string_bytes}
+use Rattle.std.proofs.lemmas.List.{length-map, get_or-map, get_or_default}
+use Rattle.lus_syntax.specs.declared.tree.Tree.{Tree as StoredTree}
+use Rattle.lus_syntax.specs.declared.tree.TypeDeclaration.{TypeDeclaration as StoredType}
+use Rattle.lus_syntax.specs.declared.tree.Definition.{Definition as StoredDefinition}
+use Rattle.lus_syntax.specs.Lexemes.{Text}
+use Rattle.lus_syntax.specs.Trees.{TypeDeclaration}
+use Rattle.lus_syntax.specs.View.{definition_seen, type_seen, tree_seen}
+use Rattle.lus_program.specs.declared.types.Kind.{Kind}
+use Rattle.lus_program.specs.declared.types.Kind.TheVariants as kind_names
+use Rattle.lus_values.specs.Lists.{item}
+use Rattle.lus_graph.specs.Ways.{IsOrder}
+use Rattle.lus_meaning.specs.Loopless.{definition_uses, type_names, type_uses}
+use Rattle.lus_meaning.specs.Tables.{definition_at, definition_kind, kind_at, no_definition, AreKinds}
+use Rattle.lus_limits.specs.ByNames.{kind_of}
+use Rattle.lus_limits.proofs.AlongOrders.{IsFilled, filled_more, filled_at, below_all}
+use Rattle.lus_limits.proofs.TypesByUses.{kind_is, kind_step_local, types_inside}
+
+-- the place of the order at i
+pub at_place : (order : List ℕ) (i : ℕ) → i < length order → Contains order (get_or order i 0)
+at_place order i lt = (i, lt, get_or_default order i (get_or order i 0) 0 lt)
+
+module _ (t : StoredTree) where
+  pub uses_length : length (type_uses (tree_seen t)) ≡ length t.types.items
+  uses_length = length-map (map type_seen t.types.items) (λ d. definition_uses (type_names (tree_seen t)) d.definition) ∙ length-map t.types.items type_seen
+
+  names_length : length (type_names (tree_seen t)) ≡ length t.types.items
+  names_length = length-map (map type_seen t.types.items) (λ d. d.name.text) ∙ length-map t.types.items type_seen
+
+  types_length : length (map type_seen t.types.items) ≡ length t.types.items
+  types_length = length-map t.types.items type_seen
+
+  pub names_few : (keys : List (String Global)) (x : ℕ) → length keys ≤ 1000 → map string_bytes keys ≡ type_names (tree_seen t) → x < length t.types.items → x < 1000
+  names_few keys x few named lt = omega (arith, length-map keys string_bytes, ap length named, names_length)
+
+  -- a type's definition, as it lies in the tree
+  pub definition_here : (x : ℕ) (d : StoredType) → x < length t.types.items → definition_at (tree_seen t) x ≡ definition_seen (get_or t.types.items x d).definition
+  definition_here x d lt =
+      get_or-map (λ e. e.definition) (map type_seen t.types.items) x (type_seen d) no_definition (omega (arith, types_length))
+      ∙ ap (λ (e : TypeDeclaration). e.definition) (get_or-map type_seen t.types.items x d (type_seen d) lt)
+
+  module _ (order : List ℕ) (o : IsOrder (type_uses (tree_seen t)) order) where
+    size_fits : length order ≤ length (map type_seen t.types.items)
+    size_fits = omega (arith, o.size, uses_length, types_length)
+
+    -- a place of the order is that of a type
+    pub type_fits : (i : ℕ) → i < length order → get_or order i 0 < length t.types.items
+    type_fits i lt = omega (arith, o.within (get_or order i 0) (at_place order i lt), uses_length)
+
+    -- one type more
+    pub kind_more : (i : ℕ) (names : List Text) (table : List Kind) (v : Kind) (d : StoredDefinition) → i < length order → names ≡ type_names (tree_seen t) → length table ≡ length t.types.items
+        → definition_at (tree_seen t) (get_or order i 0) ≡ definition_seen d → v ≡ kind_of names (item kind_names.Bool table) (get_or order i 0) (definition_seen d)
+        → IsFilled kind_names.Bool (kind_at (tree_seen t)) (take i order) table → IsFilled kind_names.Bool (kind_at (tree_seen t)) (take (i + 1) order) (set table (get_or order i 0) v)
+    kind_more i names table v d lt named size here is filled =
+        let p = tree_seen t in
+        let x = get_or order i 0 in
+        let right : v ≡ definition_kind p (item kind_names.Bool table) x (definition_at p x) =
+        is ∙ rw (here, named) (sym (kind_is p (item kind_names.Bool table) x (definition_seen d))) in
+        let room : x < length table = omega (arith, size, type_fits i lt) in
+        filled_more (type_uses p) kind_names.Bool (λ at k. definition_kind p at k (definition_at p k)) (kind_step_local p) (types_inside p) order kind_names.Bool table (length p.types) i x v o.ordered size_fits lt refl room filled right
+
+    -- all types
+    pub kinds_whole : (i : ℕ) (table : List Kind) → length order ≤ i → length table ≡ length t.types.items → IsFilled kind_names.Bool (kind_at (tree_seen t)) (take i order) table → AreKinds (tree_seen t) table
+    kinds_whole i table le size filled = record {
+      size = size ∙ sym types_length;
+      each = below_all (length (map type_seen t.types.items)) (λ k. item kind_names.Bool table k ≡ kind_at (tree_seen t) k) (λ k lt. filled_at (type_uses (tree_seen t)) order kind_names.Bool (kind_at (tree_seen t)) table i k o le filled (omega (arith, uses_length, types_length)));
+    }

@@ -1,0 +1,41 @@
+use Rattle.std.proofs.Common.{rules, ◌≡◌, ◌∙◌, sym, ap, ◌<◌, length, get_or, length-set, map}
+use Rattle.std.specs.Prelude.{string_bytes}
+use Rattle.lus_syntax.specs.declared.tree.TypeDeclaration.{TypeDeclaration}
+use Rattle.lus_syntax.specs.View.{definition_seen, tree_seen}
+use Rattle.lus_meaning.specs.Tables.{definition_at}
+use Rattle.lus_limits.proofs.TypeTables.{type_fits, kind_more, kinds_whole, definition_here, names_few}
+use Rattle.lus_limits.proofs.declared_kinds.kinds_of_types.Goals as goal
+
+pub index-requires : goal.index-requires
+index-requires c =
+    let fits : get_or c.args.order.now c.loop-place.place-index 0 < length c.args.tree.now.types.items = type_fits c.args.tree.now c.args.order.now c.requires.order c.loop-place.place-index c.loop-place-test.true in
+    search rules
+
+pub kind_of-requires : goal.kind_of-requires
+kind_of-requires c =
+    let fits : get_or c.args.order.now c.loop-place.place-index 0 < length c.args.tree.now.types.items = type_fits c.args.tree.now c.args.order.now c.requires.order c.loop-place.place-index c.loop-place-test.true in
+    let few : get_or c.args.order.now c.loop-place.place-index 0 < 1000 = names_few c.args.tree.now c.args.types.now.keys _ c.requires.few_types c.requires.type_names fits in
+    search rules
+
+pub index_mut-requires : goal.index_mut-requires
+index_mut-requires c =
+    let fits : get_or c.args.order.now c.loop-place.place-index 0 < length c.args.tree.now.types.items = type_fits c.args.tree.now c.args.order.now c.requires.order c.loop-place.place-index c.loop-place-test.true in
+    let size = c.loop-place.invariant.size in
+    search rules
+
+pub loop-place-preserved : goal.loop-place-preserved
+loop-place-preserved c =
+    let t = c.args.tree.now in
+    let i = c.loop-place.place-index in
+    let x = get_or c.args.order.now i 0 in
+    let fits : x < length t.types.items = type_fits t c.args.order.now c.requires.order i c.loop-place-test.true in
+    let here : definition_at (tree_seen t) x ≡ definition_seen c.index.result.now.definition =
+    definition_here t x c.index.result.now fits ∙ ap (λ (d : TypeDeclaration). definition_seen d.definition) (sym c.index.ensures) in
+    let is = rw c.deref.ensures.value at c.kind_of.ensures in
+    record {
+      size = length-set c.loop-place.kinds.items x c.kind_of.result ∙ c.loop-place.invariant.size;
+      filled = kind_more t c.args.order.now c.requires.order i (map string_bytes c.args.types.now.keys) c.loop-place.kinds.items c.kind_of.result c.index.result.now.definition c.loop-place-test.true c.requires.type_names c.loop-place.invariant.size here is c.loop-place.invariant.filled;
+    }
+
+pub returns : goal.returns
+returns c = kinds_whole c.args.tree.now c.args.order.now c.requires.order c.loop-place.place-index c.loop-place.kinds.items c.loop-place-test.false c.loop-place.invariant.size c.loop-place.invariant.filled

@@ -1,0 +1,49 @@
+//! The types that declarations declare.
+
+ghost use Rattle.std.specs.Prelude.{◌≡◌, ◌<◌, ◌≤◌, IfOk, length, map, string_bytes};
+ghost use Rattle.lus_values.specs.Lists.{item};
+ghost use Rattle.lus_program.specs.declared.types.Kind.TheVariants as kind_names;
+ghost use Rattle.lus_graph.specs.Ways.{IsOrder};
+ghost use Rattle.lus_syntax.specs.View.{definition_seen, tree_seen};
+ghost use Rattle.lus_meaning.specs.Loopless.{type_names, type_uses as uses_of_types};
+ghost use Rattle.lus_meaning.specs.Tables.{AreKinds};
+ghost use Rattle.lus_limits.specs.ByNames.{kind_of as kind_by_names};
+
+use crate::named::of_name;
+use indexmap::IndexSet;
+use lus_program::Kind;
+use lus_syntax::{Definition, Tree};
+use lus_values::Memory;
+use std::alloc::Global;
+
+/// The types that the declarations of a source declare, one by one, by an order in which what a type uses stands before it.
+pub fn kinds_of_types(
+    alloc: Global,
+    tree: &Tree,
+    types: &IndexSet<String>,
+    order: &[usize],
+) -> Result<Vec<Kind>, Memory>
+    requires few_types { length types.now.keys ≤ 1000 }
+    requires type_names { map string_bytes types.now.keys ≡ type_names (tree_seen tree.now) }
+    requires order { IsOrder (uses_of_types (tree_seen tree.now)) order.now }
+    ensures { IfOk result (λ kinds. AreKinds (tree_seen tree.now) kinds.items) }
+{
+    let mut kinds = vec![in alloc; Kind::Bool; tree.types.len()]?;
+    for place in order {
+        let definition = &tree.types[*place].definition;
+        kinds[*place] = kind_of(types, *place, definition, &kinds);
+    }
+    Ok(kinds)
+}
+
+/// The type that a type's declaration declares, by those of the types that it names.
+fn kind_of(types: &IndexSet<String>, place: usize, definition: &Definition, kinds: &[Kind]) -> Kind
+    requires few { place < 1000 }
+    ensures { result ≡ kind_by_names (map string_bytes types.now.keys) (item kind_names.Bool kinds.now) place (definition_seen definition.now) }
+{
+    match definition {
+        Definition::Alias(name) => of_name(types, name, Kind::Bool, Kind::Int, kinds),
+        Definition::Enumeration(_) => Kind::Enum(place as u32),
+        Definition::Structure(_) => Kind::Struct(place as u32),
+    }
+}
