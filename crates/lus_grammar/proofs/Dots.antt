@@ -7,7 +7,7 @@ use Rattle.lus_grammar.specs.declared.fault.ParseError.{ParseError}
 use Rattle.lus_grammar.specs.declared.fault.ParseError.TheVariants as errors
 use Rattle.lus_syntax.specs.Lexemes.{Lexeme, Sign}
 use Rattle.lus_syntax.specs.Trees.{Expression, Named, Field}
-use Rattle.lus_grammar.specs.Reading.{Fault, Syntax, Deep, Found, found, Read, ◌>>=◌, front, identifier_at, dots_at}
+use Rattle.lus_spelling.specs.Reading.{Fault, Syntax, Deep, Found, found, Read, ◌>>=◌, front, identifier_at, dots_at}
 use Rattle.lus_grammar.specs.Answers.{Fails}
 
 -- with enough turns, going on from `left` gives `total`

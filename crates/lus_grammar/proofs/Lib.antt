@@ -1,8 +1,3 @@
-pub mod Sound
-pub mod Complete
-pub mod Repeats
-pub mod SoundDeclarations
-pub mod CompleteDeclarations
 pub mod Loop
 pub mod Steps
 pub mod Dots

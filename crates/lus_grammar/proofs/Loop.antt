@@ -8,8 +8,8 @@ use Rattle.lus_grammar.specs.declared.fault.ParseError.{ParseError}
 use Rattle.lus_grammar.specs.declared.fault.ParseError.TheVariants as errors
 use Rattle.lus_syntax.specs.Lexemes.{Lexeme}
 use Rattle.lus_syntax.specs.Trees.{Expression, Binary}
-use Rattle.lus_grammar.specs.Expressions.{Level}
-use Rattle.lus_grammar.specs.Reading.{Fault, Syntax, Deep, Found, found, Read, Reader, ◌>>=◌, infix_at, join, more_at, chain_at, read, read_implication, read_disjunction, read_conjunction, read_comparison, read_sum, read_term}
+use Rattle.lus_spelling.specs.Expressions.{Level}
+use Rattle.lus_spelling.specs.Reading.{Fault, Syntax, Deep, Found, found, Read, Reader, ◌>>=◌, infix_at, join, more_at, chain_at, read, read_implication, read_disjunction, read_conjunction, read_comparison, read_sum, read_term}
 use Rattle.lus_grammar.specs.Rules.{level_of, operand_of}
 use Rattle.lus_grammar.specs.Answers.{Fails, Lowers}
 

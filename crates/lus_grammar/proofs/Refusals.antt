@@ -7,12 +7,12 @@ use Rattle.lus_grammar.specs.declared.fault.ParseError.{ParseError}
 use Rattle.lus_grammar.specs.declared.fault.ParseError.TheVariants as errors
 use Rattle.lus_syntax.specs.Lexemes.{Lexeme}
 use Rattle.lus_syntax.specs.Trees.{Tree}
-use Rattle.lus_grammar.specs.Declarations.{SpellsProgram, tree_depth}
-use Rattle.lus_grammar.specs.Reading.{Fault, Syntax, Deep}
-use Rattle.lus_grammar.specs.ReadingDeclarations.{program_at}
+use Rattle.lus_spelling.specs.Declarations.{SpellsProgram, tree_depth}
+use Rattle.lus_spelling.specs.Reading.{Fault, Syntax, Deep}
+use Rattle.lus_spelling.specs.ReadingDeclarations.{program_at}
 use Rattle.lus_grammar.specs.Answers.{Fails, Numbered, RefusedAs, RefusedRightly}
-use Rattle.lus_grammar.proofs.Repeats.{same_result}
-use Rattle.lus_grammar.proofs.CompleteDeclarations.{program_read}
+use Rattle.lus_spelling.proofs.Repeats.{same_result}
+use Rattle.lus_spelling.proofs.CompleteDeclarations.{program_read}
 
 pub refused_as : {Y : Type 0} (e : ParseError) (number : RefusalNumber) (read : Result Y Fault) → Numbered e number → Fails e read → RefusedAs number read
 refused_as errors.Memory number read n h = subst (λ (m : RefusalNumber). RefusedAs m read) (sym n) tt

@@ -8,14 +8,14 @@ use Rattle.lus_syntax.specs.declared.tree.NodeKind.{NodeKind}
 use Rattle.lus_syntax.specs.declared.tree.NodeKind.TheVariants as kinds
 use Rattle.lus_syntax.specs.Lexemes.{Kind, Sign, Keyword, Lexeme, tok}
 use Rattle.lus_syntax.specs.Trees.{Named, Fields, TypeDeclaration, Constant, Group, Equation, Node, Tree}
-use Rattle.lus_grammar.specs.Lists.{listed}
-use Rattle.lus_grammar.specs.Declarations.{name, SpellsFields, fields, SpellsType, SpellsConstant, SpellsGroup, group, SpellsLocal, kind_word, SpellsNode, tree}
-use Rattle.lus_grammar.specs.Reading.{identifier_at, ◌>>=◌}
-use Rattle.lus_grammar.specs.ReadingDeclarations.{Reads, several_at, after, further, at_name, at_equation, fields_at, type_at, constant_at, group_at, local_at, equation_at, node_at, add_node, declaration_on, declaration_at}
-use Rattle.lus_grammar.proofs.Sound.{bind_ok}
-use Rattle.lus_grammar.proofs.Repeats.{same_result, Spelled, shorter, several_sound, AddedSome}
-use Rattle.lus_grammar.proofs.SoundDeclarations.{after_is, further_is, here_is, name_sound, fields_sound, type_sound, constant_sound, group_sound, local_sound, equation_sound, EquationWithin, node_sound, NodeWithin, named_next}
-use Rattle.lus_grammar.proofs.CompleteDeclarations.{name_long, fields_long, type_long, constant_long, group_long, local_long, equation_long, node_long}
+use Rattle.lus_spelling.specs.Lists.{listed}
+use Rattle.lus_spelling.specs.Declarations.{name, SpellsFields, fields, SpellsType, SpellsConstant, SpellsGroup, group, SpellsLocal, kind_word, SpellsNode, tree}
+use Rattle.lus_spelling.specs.Reading.{identifier_at, ◌>>=◌}
+use Rattle.lus_spelling.specs.ReadingDeclarations.{Reads, several_at, after, further, at_name, at_equation, fields_at, type_at, constant_at, group_at, local_at, equation_at, node_at, add_node, declaration_on, declaration_at}
+use Rattle.lus_spelling.proofs.Sound.{bind_ok}
+use Rattle.lus_spelling.proofs.Repeats.{same_result, Spelled, shorter, several_sound, AddedSome}
+use Rattle.lus_spelling.proofs.SoundDeclarations.{after_is, further_is, here_is, name_sound, fields_sound, type_sound, constant_sound, group_sound, local_sound, equation_sound, EquationWithin, node_sound, NodeWithin, named_next}
+use Rattle.lus_spelling.proofs.CompleteDeclarations.{name_long, fields_long, type_long, constant_long, group_long, local_long, equation_long, node_long}
 
 behind : (t : Lexeme) (ts r rest : List Lexeme) → ts ≡ t ∷ r → length rest < length r → length rest < length ts
 behind t ts r rest e lt = let n = ap length e in omega (arith, n, lt)

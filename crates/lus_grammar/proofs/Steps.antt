@@ -10,11 +10,11 @@ use Rattle.lus_grammar.specs.declared.fault.ParseError.{ParseError}
 use Rattle.lus_grammar.specs.declared.fault.ParseError.TheVariants as errors
 use Rattle.lus_grammar.specs.declared.operators.Head.{Head}
 use Rattle.lus_grammar.specs.declared.operators.Head.TheVariants as heads
-use Rattle.lus_grammar.specs.declared.form.Form.TheVariants as forms
+use Rattle.lus_spelling.specs.declared.form.Form.TheVariants as forms
 use Rattle.lus_syntax.specs.Lexemes.{Lexeme, Sign, Keyword}
 use Rattle.lus_syntax.specs.Trees.{Named, Call, Structure, Merge, End, Expression, Unary}
-use Rattle.lus_grammar.specs.Expressions.{Primary, Level, Whole, Arrow, Else, Implication}
-use Rattle.lus_grammar.specs.Reading.{Fault, Syntax, Deep, Found, found, Read, Reader, ◌>>=◌, front, identifier_at, name_at, call_on, listed_at, primary_at, prefix_at, prefixed_on, prefixed_at, join, choice_at, arrow_at, read, read_arrow, read_implication, read_negation, read_negated, read_signed, read_comparison, read_primary}
+use Rattle.lus_spelling.specs.Expressions.{Primary, Level, Whole, Arrow, Else, Implication}
+use Rattle.lus_spelling.specs.Reading.{Fault, Syntax, Deep, Found, found, Read, Reader, ◌>>=◌, front, identifier_at, name_at, call_on, listed_at, primary_at, prefix_at, prefixed_on, prefixed_at, join, choice_at, arrow_at, read, read_arrow, read_implication, read_negation, read_negated, read_signed, read_comparison, read_primary}
 use Rattle.lus_grammar.specs.Rules.{head_level, head_operand, head_other}
 use Rattle.lus_grammar.specs.Answers.{Fails, Lowers}
 

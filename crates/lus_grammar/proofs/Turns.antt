@@ -8,13 +8,13 @@ use Rattle.lus_syntax.specs.declared.token.Symbol.TheVariants as symbols
 use Rattle.lus_syntax.specs.declared.token.Word.TheVariants as words
 use Rattle.lus_syntax.specs.Lexemes.{Kind, Sign, Keyword, Lexeme}
 use Rattle.lus_syntax.specs.Trees.{Named, Fields, TypeDeclaration, Constant, Group, Equation, Tree}
-use Rattle.lus_grammar.specs.Reading.{Fault, Syntax, Deep, ◌>>=◌}
+use Rattle.lus_spelling.specs.Reading.{Fault, Syntax, Deep, ◌>>=◌}
 use Rattle.std.proofs.lemmas.Bool.{eqb-true}
 use Rattle.std.proofs.lemmas.List.{map_push}
-use Rattle.lus_grammar.specs.ReadingDeclarations.{Reads, repeat_on, repeat_at, push_at, others_at, several_at, begins_named, at_name, begins_equation, at_equation, at_token, declaration_at, program_at}
+use Rattle.lus_spelling.specs.ReadingDeclarations.{Reads, repeat_on, repeat_at, push_at, others_at, several_at, begins_named, at_name, begins_equation, at_equation, at_token, declaration_at, program_at}
 use Rattle.lus_syntax.specs.declared.token.Token.{Token}
 use Rattle.lus_syntax.specs.View.{tokens_seen}
-use Rattle.lus_grammar.specs.Declarations.{tree}
+use Rattle.lus_spelling.specs.Declarations.{tree}
 use Rattle.std.specs.Prelude.{◌==◌}
 use Rattle.lus_grammar.specs.Answers.{Fails}
 use Rattle.lus_grammar.proofs.Steps.{bind_fails}

@@ -7,8 +7,8 @@ use Rattle.lus_syntax.specs.Lexemes.{Lexeme}
 use Rattle.lus_syntax.specs.Trees.{Tree}
 use Rattle.lus_grammar.specs.declared.fault.ParseError.{ParseError}
 use Rattle.lus_grammar.specs.declared.fault.ParseError.TheVariants as errors
-use Rattle.lus_grammar.specs.Reading.{Fault, Syntax, Deep}
-use Rattle.lus_grammar.specs.Declarations.{SpellsProgram, tree_depth}
+use Rattle.lus_spelling.specs.Reading.{Fault, Syntax, Deep}
+use Rattle.lus_spelling.specs.Declarations.{SpellsProgram, tree_depth}
 
 -- the same fault, unless memory ran out
 abbrev pub Fails : {Y : Type 0} → ParseError → Result Y Fault → Type 0

@@ -3,7 +3,7 @@ use Rattle.lus_grammar.specs.declared.operators.Chain.{Chain}
 use Rattle.lus_grammar.specs.declared.operators.Chain.TheVariants as chains
 use Rattle.lus_grammar.specs.declared.operators.Head.{Head}
 use Rattle.lus_grammar.specs.declared.operators.Head.TheVariants as heads
-use Rattle.lus_grammar.specs.Expressions.{Level, Implication, Disjunction, Conjunction, Negation, Negated, Comparison, Sum, Term, Signed, Primary}
+use Rattle.lus_spelling.specs.Expressions.{Level, Implication, Disjunction, Conjunction, Negation, Negated, Comparison, Sum, Term, Signed, Primary}
 
 abbrev pub level_of : Chain → Level
 level_of chains.Implication = Implication

@@ -3,7 +3,7 @@
 ghost use Rattle.std.specs.Prelude.{◌≡◌, map, option_map};
 ghost use Rattle.lus_syntax.specs.View.{tokens_seen, type_name_seen, literal_seen, constant_seen};
 ghost use Rattle.lus_grammar.specs.Answers.{Gives};
-ghost use Rattle.lus_grammar.specs.ReadingDeclarations.{several_at, at_name, negative_at, literal_at, type_of_at, constant_at};
+ghost use Rattle.lus_spelling.specs.ReadingDeclarations.{several_at, at_name, negative_at, literal_at, type_of_at, constant_at};
 
 use crate::fault::{ParseError, Parsed};
 use crate::front::{begins_name, expect_symbol, identifier, symbol};
@@ -12,7 +12,7 @@ use lus_syntax::{Constant, Literal, Name, Span, Symbol, Token, TokenKind, TypeNa
 use std::alloc::Global;
 
 /// The number after a minus.
-#[tactic(auto, unfolding(crate::specs::ReadingDeclarations::negative_at))]
+#[tactic(auto, unfolding(lus_spelling::specs::ReadingDeclarations::negative_at))]
 fn negative(minus: Span, tokens: &[Token]) -> Parsed<'_, Literal>
     ensures { Gives (λ x. (literal_seen x.0, tokens_seen x.1.now)) result (negative_at minus (tokens_seen tokens.now)) }
 {
@@ -29,7 +29,7 @@ fn negative(minus: Span, tokens: &[Token]) -> Parsed<'_, Literal>
 }
 
 /// A constant's value.
-#[tactic(auto, unfolding(crate::specs::ReadingDeclarations::literal_at))]
+#[tactic(auto, unfolding(lus_spelling::specs::ReadingDeclarations::literal_at))]
 fn literal(alloc: Global, tokens: &[Token]) -> Parsed<'_, Literal>
     ensures { Gives (λ x. (literal_seen x.0, tokens_seen x.1.now)) result (literal_at (tokens_seen tokens.now)) }
 {
@@ -80,7 +80,7 @@ fn literal(alloc: Global, tokens: &[Token]) -> Parsed<'_, Literal>
 }
 
 /// A type that may be written.
-#[tactic(auto, unfolding(crate::specs::ReadingDeclarations::type_of_at))]
+#[tactic(auto, unfolding(lus_spelling::specs::ReadingDeclarations::type_of_at))]
 fn type_of(alloc: Global, tokens: &[Token]) -> Parsed<'_, Option<TypeName>>
     ensures { Gives (λ x. (option_map type_name_seen x.0, tokens_seen x.1.now)) result (type_of_at (tokens_seen tokens.now)) }
 {
@@ -93,7 +93,7 @@ fn type_of(alloc: Global, tokens: &[Token]) -> Parsed<'_, Option<TypeName>>
     }
 }
 
-#[tactic(auto, unfolding(crate::specs::ReadingDeclarations::constant_at))]
+#[tactic(auto, unfolding(lus_spelling::specs::ReadingDeclarations::constant_at))]
 fn constant(alloc: Global, tokens: &[Token]) -> Parsed<'_, Constant>
     ensures { Gives (λ x. (constant_seen x.0, tokens_seen x.1.now)) result (constant_at (tokens_seen tokens.now)) }
 {

@@ -2,17 +2,17 @@
 
 ghost use Rattle.std.specs.Prelude.{◌≡◌, ◌<◌, ◌≤◌, ◌+◌, suc, [], map, length, List, option_map, IfOk};
 ghost use Rattle.lus_syntax.specs.View.{tokens_seen, expression_seen, name_seen, lead_seen, part_seen};
-ghost use Rattle.lus_grammar.specs.Expressions.{Whole, Arrow, Else, Primary, Dotted, Atom};
-ghost use Rattle.lus_grammar.specs.Reading.{found, item, part_at, parts_at, name_at, dots_at, truth_on, parentheses_at, branches_at, is_primary, read};
+ghost use Rattle.lus_spelling.specs.Expressions.{Whole, Arrow, Else, Primary, Dotted, Atom};
+ghost use Rattle.lus_spelling.specs.Reading.{found, item, part_at, parts_at, name_at, dots_at, truth_on, parentheses_at, branches_at, is_primary, read};
 ghost use Rattle.lus_grammar.specs.Rules.{level_of, operand_of, head_level, head_other};
 ghost use Rattle.lus_grammar.specs.Answers.{Gives, Lowers};
 
 use crate::fault::{ParseError, Read};
-use crate::form::Form;
 use crate::front::{expect_symbol, expect_word, identifier, symbol, test, word};
 use crate::operators::{Chain, Head, after_prefix, infix, prefix};
 use crate::parts::{lead, tail, turn};
 use crate::primaries::{dots, primary_shape, truth};
+use lus_spelling::Form;
 use lus_syntax::{Expr, Infix, Name, Part, Span, Symbol, Token, TokenKind, Word};
 use std::alloc::Global;
 
@@ -27,7 +27,7 @@ fn lower(limit: u32, left: usize) -> Result<u32, ParseError>
 }
 
 #[cycle(parser)]
-#[tactic(auto, unfolding(crate::specs::Reading::read, crate::specs::Reading::read_whole, crate::specs::Reading::whole_at))]
+#[tactic(auto, unfolding(lus_spelling::specs::Reading::read, lus_spelling::specs::Reading::read_whole, lus_spelling::specs::Reading::whole_at))]
 fn whole(alloc: Global, limit: u32, tokens: &[Token]) -> Read<'_>
     requires { limit < 1000 }
     ensures within { IfOk result (λ x. x.1 ≤ limit + 1) }
@@ -61,7 +61,7 @@ fn whole(alloc: Global, limit: u32, tokens: &[Token]) -> Read<'_>
 
 /// A whole as a part, which may have the depth `limit`.
 #[cycle(parser)]
-#[tactic(auto, unfolding(crate::specs::Reading::read))]
+#[tactic(auto, unfolding(lus_spelling::specs::Reading::read))]
 pub fn inside(alloc: Global, limit: u32, tokens: &[Token]) -> Read<'_>
     requires { limit < 1000 }
     ensures within { IfOk result (λ x. x.1 ≤ limit) }
@@ -75,7 +75,7 @@ pub fn inside(alloc: Global, limit: u32, tokens: &[Token]) -> Read<'_>
 
 /// A primary as a part.
 #[cycle(parser)]
-#[tactic(auto, unfolding(crate::specs::Reading::read))]
+#[tactic(auto, unfolding(lus_spelling::specs::Reading::read))]
 fn primary_inside(alloc: Global, limit: u32, tokens: &[Token]) -> Read<'_>
     requires { limit < 1000 }
     ensures within { IfOk result (λ x. x.1 ≤ limit) }
@@ -88,7 +88,7 @@ fn primary_inside(alloc: Global, limit: u32, tokens: &[Token]) -> Read<'_>
 }
 
 #[cycle(parser)]
-#[tactic(auto, unfolding(crate::specs::Reading::read, crate::specs::Reading::read_arrow, crate::specs::Reading::choice_at, crate::specs::Reading::arrow_at))]
+#[tactic(auto, unfolding(lus_spelling::specs::Reading::read, lus_spelling::specs::Reading::read_arrow, lus_spelling::specs::Reading::choice_at, lus_spelling::specs::Reading::arrow_at))]
 fn arrow(alloc: Global, limit: u32, tokens: &[Token]) -> Read<'_>
     requires { limit < 1000 }
     ensures within { IfOk result (λ x. x.1 ≤ limit + 1) }
@@ -118,7 +118,7 @@ fn arrow(alloc: Global, limit: u32, tokens: &[Token]) -> Read<'_>
 
 /// What stands after `else`, as a part.
 #[cycle(parser)]
-#[tactic(auto, unfolding(crate::specs::Reading::read, crate::specs::Reading::read_else, crate::specs::Reading::choice_at))]
+#[tactic(auto, unfolding(lus_spelling::specs::Reading::read, lus_spelling::specs::Reading::read_else, lus_spelling::specs::Reading::choice_at))]
 fn otherwise(alloc: Global, limit: u32, tokens: &[Token]) -> Read<'_>
     requires { limit < 1000 }
     ensures within { IfOk result (λ x. x.1 ≤ limit) }
@@ -135,7 +135,7 @@ fn otherwise(alloc: Global, limit: u32, tokens: &[Token]) -> Read<'_>
 
 /// What stands after an `if`.
 #[cycle(parser)]
-#[tactic(auto, unfolding(crate::specs::Reading::branches_at))]
+#[tactic(auto, unfolding(lus_spelling::specs::Reading::branches_at))]
 fn branches(alloc: Global, limit: u32, span: Span, tokens: &[Token]) -> Read<'_>
     requires { limit < 1000 }
     ensures within { IfOk result (λ x. x.1 ≤ limit + 1) }
@@ -226,7 +226,7 @@ fn bare(alloc: Global, head: Head, limit: u32, tokens: &[Token]) -> Read<'_>
 }
 
 #[cycle(parser)]
-#[tactic(auto, unfolding(crate::specs::Reading::read, crate::specs::Reading::read_primary, crate::specs::Reading::primary_at, crate::specs::Reading::listed_at))]
+#[tactic(auto, unfolding(lus_spelling::specs::Reading::read, lus_spelling::specs::Reading::read_primary, lus_spelling::specs::Reading::primary_at, lus_spelling::specs::Reading::listed_at))]
 fn primary(alloc: Global, limit: u32, tokens: &[Token]) -> Read<'_>
     requires { limit < 1000 }
     ensures within { IfOk result (λ x. x.1 ≤ limit + 1) }
@@ -243,7 +243,7 @@ fn primary(alloc: Global, limit: u32, tokens: &[Token]) -> Read<'_>
 }
 
 #[cycle(parser)]
-#[tactic(auto, unfolding(crate::specs::Reading::read, crate::specs::Reading::read_dotted, crate::specs::Reading::dotted_at))]
+#[tactic(auto, unfolding(lus_spelling::specs::Reading::read, lus_spelling::specs::Reading::read_dotted, lus_spelling::specs::Reading::dotted_at))]
 fn dotted(alloc: Global, limit: u32, tokens: &[Token]) -> Read<'_>
     requires { limit < 1000 }
     ensures within { IfOk result (λ x. x.1 ≤ limit + 1) }
@@ -254,7 +254,7 @@ fn dotted(alloc: Global, limit: u32, tokens: &[Token]) -> Read<'_>
 }
 
 #[cycle(parser)]
-#[tactic(auto, unfolding(crate::specs::Reading::read, crate::specs::Reading::read_atom, crate::specs::Reading::atom_at))]
+#[tactic(auto, unfolding(lus_spelling::specs::Reading::read, lus_spelling::specs::Reading::read_atom, lus_spelling::specs::Reading::atom_at))]
 fn atom(alloc: Global, limit: u32, tokens: &[Token]) -> Read<'_>
     requires { limit < 1000 }
     ensures within { IfOk result (λ x. x.1 ≤ limit + 1) }
@@ -301,7 +301,7 @@ fn atom(alloc: Global, limit: u32, tokens: &[Token]) -> Read<'_>
 
 /// A name, and what belongs to it.
 #[cycle(parser)]
-#[tactic(auto, unfolding(crate::specs::Reading::name_at, crate::specs::Reading::listed_at))]
+#[tactic(auto, unfolding(lus_spelling::specs::Reading::name_at, lus_spelling::specs::Reading::listed_at))]
 fn named(alloc: Global, limit: u32, name: Name, tokens: &[Token]) -> Read<'_>
     requires { limit < 1000 }
     ensures within { IfOk result (λ x. x.1 ≤ limit + 1) }
@@ -351,7 +351,7 @@ fn parts(
 }
 
 #[cycle(parser)]
-#[tactic(auto, unfolding(crate::specs::Reading::part_at))]
+#[tactic(auto, unfolding(lus_spelling::specs::Reading::part_at))]
 fn part(
     alloc: Global,
     form: Form,
@@ -369,7 +369,7 @@ fn part(
 }
 
 #[cycle(parser)]
-#[tactic(auto, unfolding(crate::specs::Reading::parentheses_at))]
+#[tactic(auto, unfolding(lus_spelling::specs::Reading::parentheses_at))]
 fn parentheses(alloc: Global, limit: u32, tokens: &[Token]) -> Read<'_>
     requires { limit < 1000 }
     ensures within { IfOk result (λ x. x.1 ≤ limit + 1) }

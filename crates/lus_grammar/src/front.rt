@@ -3,8 +3,8 @@
 ghost use Rattle.std.specs.Prelude.{◌≡◌, ◌<◌, ◌≤◌, ◌+◌, suc, [], map, length, List, option_map, IfOk};
 ghost use Rattle.lus_syntax.specs.Lexemes.{Sign, Keyword};
 ghost use Rattle.lus_syntax.specs.View.{tokens_seen, name_seen, label_seen, test_seen};
-ghost use Rattle.lus_grammar.specs.Reading.{front, expect, identifier_at, label_at, closed_name_at, test_at};
-ghost use Rattle.lus_grammar.specs.ReadingDeclarations.{skip, further, begins_named, begins_equation};
+ghost use Rattle.lus_spelling.specs.Reading.{front, expect, identifier_at, label_at, closed_name_at, test_at};
+ghost use Rattle.lus_spelling.specs.ReadingDeclarations.{skip, further, begins_named, begins_equation};
 ghost use Rattle.lus_grammar.specs.Answers.{Gives};
 
 use crate::fault::ParseError;
@@ -117,7 +117,7 @@ pub fn begins_equation(tokens: &[Token]) -> bool
 }
 
 /// A name at the front.
-#[tactic(auto, unfolding(crate::specs::Reading::identifier_at))]
+#[tactic(auto, unfolding(lus_spelling::specs::Reading::identifier_at))]
 pub fn identifier(alloc: Global, tokens: &[Token]) -> Result<(Name, &[Token]), ParseError>
     ensures { Gives (λ x. (name_seen x.0, tokens_seen x.1.now)) result (identifier_at (tokens_seen tokens.now)) }
 {
@@ -140,7 +140,7 @@ pub fn identifier(alloc: Global, tokens: &[Token]) -> Result<(Name, &[Token]), P
 }
 
 /// A constructor or a truth value at the front.
-#[tactic(auto, unfolding(crate::specs::Reading::label_at))]
+#[tactic(auto, unfolding(lus_spelling::specs::Reading::label_at))]
 pub fn label(alloc: Global, tokens: &[Token]) -> Result<(Label, &[Token]), ParseError>
     ensures { Gives (λ x. (label_seen x.0, tokens_seen x.1.now)) result (label_at (tokens_seen tokens.now)) }
 {
@@ -177,7 +177,7 @@ pub fn label(alloc: Global, tokens: &[Token]) -> Result<(Label, &[Token]), Parse
 }
 
 /// A name and a closing parenthesis.
-#[tactic(auto, unfolding(crate::specs::Reading::closed_name_at))]
+#[tactic(auto, unfolding(lus_spelling::specs::Reading::closed_name_at))]
 pub fn closed_name(alloc: Global, tokens: &[Token]) -> Result<(Name, &[Token]), ParseError>
     ensures { Gives (λ x. (name_seen x.0, tokens_seen x.1.now)) result (closed_name_at (tokens_seen tokens.now)) }
 {
@@ -187,7 +187,7 @@ pub fn closed_name(alloc: Global, tokens: &[Token]) -> Result<(Name, &[Token]), 
 }
 
 /// The test after `when`.
-#[tactic(auto, unfolding(crate::specs::Reading::test_at))]
+#[tactic(auto, unfolding(lus_spelling::specs::Reading::test_at))]
 pub fn test(alloc: Global, tokens: &[Token]) -> Result<(Test, &[Token]), ParseError>
     ensures { Gives (λ x. (test_seen x.0, tokens_seen x.1.now)) result (test_at (tokens_seen tokens.now)) }
 {

@@ -1,10 +1,9 @@
-//! Which tokens spell which tree, and the parser.
+//! The parser.
 #![tactic(auto)]
 
 mod constants;
 mod expressions;
 mod fault;
-mod form;
 mod front;
 mod nodes;
 mod operators;
@@ -14,7 +13,8 @@ mod program;
 mod types;
 mod variables;
 
-pub use program::{one_tree, parse};
+pub use lus_spelling::one_tree;
+pub use program::parse;
 
 #[cfg(test)]
 mod tests;

@@ -3,7 +3,7 @@
 ghost use Rattle.std.specs.Prelude.{◌≡◌, [], map};
 ghost use Rattle.lus_syntax.specs.View.{tokens_seen, names_seen, equation_seen, node_seen};
 ghost use Rattle.lus_grammar.specs.Answers.{Gives};
-ghost use Rattle.lus_grammar.specs.ReadingDeclarations.{others_at, at_equation, left_at, ended, equation_at, body_at, node_at};
+ghost use Rattle.lus_spelling.specs.ReadingDeclarations.{others_at, at_equation, left_at, ended, equation_at, body_at, node_at};
 
 use crate::expressions::inside;
 use crate::fault::Parsed;
@@ -17,7 +17,7 @@ use std::alloc::Global;
 pub const LIMIT: u32 = 100;
 
 /// The variables on the left, in parentheses or not.
-#[tactic(auto, unfolding(crate::specs::ReadingDeclarations::left_at))]
+#[tactic(auto, unfolding(lus_spelling::specs::ReadingDeclarations::left_at))]
 fn left(alloc: Global, tokens: &[Token]) -> Parsed<'_, Vec<Name>>
     ensures { Gives (λ x. (names_seen x.0.items, tokens_seen x.1.now)) result (left_at (tokens_seen tokens.now)) }
 {
@@ -31,7 +31,7 @@ fn left(alloc: Global, tokens: &[Token]) -> Parsed<'_, Vec<Name>>
     }
 }
 
-#[tactic(auto, unfolding(crate::specs::ReadingDeclarations::equation_at))]
+#[tactic(auto, unfolding(lus_spelling::specs::ReadingDeclarations::equation_at))]
 fn equation(alloc: Global, tokens: &[Token]) -> Parsed<'_, Equation>
     ensures { Gives (λ x. (equation_seen x.0, tokens_seen x.1.now)) result (equation_at LIMIT (tokens_seen tokens.now)) }
 {
@@ -66,7 +66,7 @@ fn after_end(tokens: &[Token]) -> &[Token]
 }
 
 /// The equations of a node, from `let` to its end.
-#[tactic(auto, unfolding(crate::specs::ReadingDeclarations::body_at))]
+#[tactic(auto, unfolding(lus_spelling::specs::ReadingDeclarations::body_at))]
 fn body(alloc: Global, tokens: &[Token]) -> Parsed<'_, Vec<Equation>>
     ensures { Gives (λ x. (map equation_seen x.0.items, tokens_seen x.1.now)) result (body_at LIMIT (tokens_seen tokens.now)) }
 {
@@ -77,7 +77,7 @@ fn body(alloc: Global, tokens: &[Token]) -> Parsed<'_, Vec<Equation>>
 }
 
 /// What stands after `node` or `function`.
-#[tactic(auto, unfolding(crate::specs::ReadingDeclarations::node_at))]
+#[tactic(auto, unfolding(lus_spelling::specs::ReadingDeclarations::node_at))]
 pub fn node(alloc: Global, kind: NodeKind, tokens: &[Token]) -> Parsed<'_, Node>
     ensures { Gives (λ x. (node_seen x.0, tokens_seen x.1.now)) result (node_at LIMIT kind (tokens_seen tokens.now)) }
 {

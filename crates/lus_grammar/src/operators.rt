@@ -3,21 +3,12 @@
 ghost use Rattle.std.specs.Prelude.{◌≡◌, ◌<◌, ◌≤◌, ◌+◌, suc, [], map, length, List, option_map, IfOk};
 ghost use Rattle.lus_syntax.specs.Lexemes.{Sign, Keyword};
 ghost use Rattle.lus_syntax.specs.View.{tokens_seen, expression_seen};
-ghost use Rattle.lus_grammar.specs.Expressions.{infix_of, mixing_of, mixes, may_join};
-ghost use Rattle.lus_grammar.specs.Reading.{infix_at, prefix_at};
+ghost use Rattle.lus_spelling.specs.Expressions.{infix_of, mixing_of, mixes, may_join};
+ghost use Rattle.lus_spelling.specs.Reading.{infix_at, prefix_at};
 ghost use Rattle.lus_grammar.specs.Rules.{level_of, head_level, head_operand};
 
+use lus_spelling::Mixing;
 use lus_syntax::{Expr, Infix, Prefix, Span, Symbol, Token, TokenKind, Word};
-
-/// How an operator mixes with the others of its rule.
-#[derive(Clone, Copy, Debug, PartialEq, Eq)]
-pub enum Mixing {
-    Implication,
-    Or,
-    Xor,
-    Comparison,
-    Free,
-}
 
 /// The rules that read operands and operators between them.
 #[derive(Clone, Copy, Debug, PartialEq, Eq)]

@@ -2,12 +2,12 @@
 
 ghost use Rattle.std.specs.Prelude.{◌≡◌, ◌<◌, ◌≤◌, ◌+◌, suc, [], map, length, List, option_map, IfOk};
 ghost use Rattle.lus_syntax.specs.View.{tokens_seen, lead_seen};
-ghost use Rattle.lus_grammar.specs.Reading.{turn_at, lead_at, tail_at};
+ghost use Rattle.lus_spelling.specs.Reading.{turn_at, lead_at, tail_at};
 ghost use Rattle.lus_grammar.specs.Answers.{Gives};
 
 use crate::fault::ParseError;
-use crate::form::Form;
 use crate::front::{expect_symbol, identifier, label, symbol};
+use lus_spelling::Form;
 use lus_syntax::{Lead, Symbol, Token};
 use std::alloc::Global;
 
@@ -41,7 +41,7 @@ pub fn turn(form: Form, tokens: &[Token]) -> Result<(bool, &[Token]), ParseError
 }
 
 /// What stands before the value of a part.
-#[tactic(auto, unfolding(crate::specs::Reading::lead_at))]
+#[tactic(auto, unfolding(lus_spelling::specs::Reading::lead_at))]
 pub fn lead(alloc: Global, form: Form, tokens: &[Token]) -> Result<(Lead, &[Token]), ParseError>
     ensures { Gives (λ x. (lead_seen x.0, tokens_seen x.1.now)) result (lead_at form (tokens_seen tokens.now)) }
 {

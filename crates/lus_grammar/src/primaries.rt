@@ -2,7 +2,7 @@
 
 ghost use Rattle.std.specs.Prelude.{◌≡◌, ◌<◌, ◌≤◌, ◌+◌, suc, IfOk};
 ghost use Rattle.lus_syntax.specs.View.{tokens_seen, expression_seen};
-ghost use Rattle.lus_grammar.specs.Reading.{found, dots_at, truth_on, is_primary};
+ghost use Rattle.lus_spelling.specs.Reading.{found, dots_at, truth_on, is_primary};
 ghost use Rattle.lus_grammar.specs.Answers.{Gives};
 
 use crate::fault::{ParseError, Read};

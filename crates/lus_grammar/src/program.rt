@@ -1,13 +1,12 @@
 //! Whole sources.
 
-ghost use Rattle.std.specs.Prelude.{◌≡◌, ◌≤◌, List, Ok, IfOk, IfErr, MatchResult};
+ghost use Rattle.std.specs.Prelude.{◌≡◌, ◌≤◌, Ok, IfOk, IfErr, MatchResult};
 ghost use Rattle.lus_syntax.specs.declared.refusal.RefusalNumber.TheVariants.{Memory};
-ghost use Rattle.lus_syntax.specs.Lexemes.{Lexeme};
 ghost use Rattle.lus_syntax.specs.Trees.{Tree as PlainTree};
 ghost use Rattle.lus_syntax.specs.View.{tokens_seen, tree_seen};
-ghost use Rattle.lus_grammar.specs.Declarations.{SpellsProgram, tree_depth};
+ghost use Rattle.lus_spelling.specs.Declarations.{SpellsProgram, tree_depth};
 ghost use Rattle.lus_grammar.specs.Answers.{Gives, Numbered, Answers, RefusedRightly};
-ghost use Rattle.lus_grammar.specs.ReadingDeclarations.{more_node, declaration_at, program_at};
+ghost use Rattle.lus_spelling.specs.ReadingDeclarations.{more_node, declaration_at, program_at};
 
 use crate::constants::constants;
 use crate::fault::{ParseError, Parsed};
@@ -36,7 +35,7 @@ fn with_node(alloc: Global, kind: NodeKind, found: Tree, tokens: &[Token]) -> Pa
 }
 
 /// One declaration behind those that were found before.
-#[tactic(auto, unfolding(crate::specs::ReadingDeclarations::declaration_at))]
+#[tactic(auto, unfolding(lus_spelling::specs::ReadingDeclarations::declaration_at))]
 fn declaration(alloc: Global, found: Tree, tokens: &[Token]) -> Parsed<'_, Tree>
     ensures { Gives (λ x. (tree_seen x.0, tokens_seen x.1.now)) result (declaration_at LIMIT (tree_seen found) (tokens_seen tokens.now)) }
 {
@@ -154,9 +153,3 @@ pub fn parse(alloc: Global, tokens: &[Token]) -> Result<Tree, Refusal>
         Err(error) => Err(refusal(error, tokens)),
     }
 }
-
-/// Tokens spell at most one tree.
-#[tactic(auto, using(crate::proofs::CompleteDeclarations::one_tree))]
-pub fn one_tree()
-    ensures { (ts : List Lexeme) (t u : PlainTree) → SpellsProgram t ts → SpellsProgram u ts → t ≡ u }
-{}

@@ -4,7 +4,7 @@ ghost use Rattle.std.specs.Prelude.{◌≡◌, [], map, option_map};
 ghost use Rattle.lus_syntax.specs.declared.token.Symbol.TheVariants.{CloseBrace};
 ghost use Rattle.lus_syntax.specs.View.{tokens_seen, names_seen, type_name_seen, fields_seen, definition_seen, type_seen};
 ghost use Rattle.lus_grammar.specs.Answers.{Gives};
-ghost use Rattle.lus_grammar.specs.ReadingDeclarations.{several_at, further, at_name, names_at, type_name_at, fields_at, enumeration_at, structure_at, definition_at, type_at};
+ghost use Rattle.lus_spelling.specs.ReadingDeclarations.{several_at, further, at_name, names_at, type_name_at, fields_at, enumeration_at, structure_at, definition_at, type_at};
 
 use crate::fault::{ParseError, Parsed};
 use crate::front::{begins_name, expect_symbol, further, identifier, skip_symbol, symbol, word};
@@ -29,7 +29,7 @@ pub fn names(alloc: Global, tokens: &[Token]) -> Parsed<'_, Vec<Name>>
 }
 
 /// `bool`, `int` or a name.
-#[tactic(auto, unfolding(crate::specs::ReadingDeclarations::type_name_at))]
+#[tactic(auto, unfolding(lus_spelling::specs::ReadingDeclarations::type_name_at))]
 pub fn type_name(alloc: Global, tokens: &[Token]) -> Parsed<'_, TypeName>
     ensures { Gives (λ x. (type_name_seen x.0, tokens_seen x.1.now)) result (type_name_at (tokens_seen tokens.now)) }
 {
@@ -66,7 +66,7 @@ pub fn type_name(alloc: Global, tokens: &[Token]) -> Parsed<'_, TypeName>
 }
 
 /// Names and their type.
-#[tactic(auto, unfolding(crate::specs::ReadingDeclarations::fields_at))]
+#[tactic(auto, unfolding(lus_spelling::specs::ReadingDeclarations::fields_at))]
 pub fn fields(alloc: Global, tokens: &[Token]) -> Parsed<'_, Fields>
     ensures { Gives (λ x. (fields_seen x.0, tokens_seen x.1.now)) result (fields_at (tokens_seen tokens.now)) }
 {
@@ -92,7 +92,7 @@ fn all_fields(alloc: Global, tokens: &[Token]) -> Parsed<'_, Vec<Fields>>
 }
 
 /// What stands after `enum`.
-#[tactic(auto, unfolding(crate::specs::ReadingDeclarations::enumeration_at))]
+#[tactic(auto, unfolding(lus_spelling::specs::ReadingDeclarations::enumeration_at))]
 fn enumeration(alloc: Global, tokens: &[Token]) -> Parsed<'_, Definition>
     ensures { Gives (λ x. (definition_seen x.0, tokens_seen x.1.now)) result (enumeration_at (tokens_seen tokens.now)) }
 {
@@ -103,7 +103,7 @@ fn enumeration(alloc: Global, tokens: &[Token]) -> Parsed<'_, Definition>
 }
 
 /// What may stand after `struct`.
-#[tactic(auto, unfolding(crate::specs::ReadingDeclarations::structure_at))]
+#[tactic(auto, unfolding(lus_spelling::specs::ReadingDeclarations::structure_at))]
 fn structure(alloc: Global, tokens: &[Token]) -> Parsed<'_, Definition>
     ensures { Gives (λ x. (definition_seen x.0, tokens_seen x.1.now)) result (structure_at (tokens_seen tokens.now)) }
 {
@@ -114,7 +114,7 @@ fn structure(alloc: Global, tokens: &[Token]) -> Parsed<'_, Definition>
 }
 
 /// What a type's name stands for.
-#[tactic(auto, unfolding(crate::specs::ReadingDeclarations::definition_at))]
+#[tactic(auto, unfolding(lus_spelling::specs::ReadingDeclarations::definition_at))]
 fn definition(alloc: Global, tokens: &[Token]) -> Parsed<'_, Definition>
     ensures { Gives (λ x. (definition_seen x.0, tokens_seen x.1.now)) result (definition_at (tokens_seen tokens.now)) }
 {
@@ -131,7 +131,7 @@ fn definition(alloc: Global, tokens: &[Token]) -> Parsed<'_, Definition>
     Ok((Definition::Alias(type_name), rest))
 }
 
-#[tactic(auto, unfolding(crate::specs::ReadingDeclarations::type_at))]
+#[tactic(auto, unfolding(lus_spelling::specs::ReadingDeclarations::type_at))]
 fn type_declaration(alloc: Global, tokens: &[Token]) -> Parsed<'_, TypeDeclaration>
     ensures { Gives (λ x. (type_seen x.0, tokens_seen x.1.now)) result (type_at (tokens_seen tokens.now)) }
 {

@@ -4,7 +4,7 @@ ghost use Rattle.std.specs.Prelude.{◌≡◌, [], map, option_map};
 ghost use Rattle.lus_syntax.specs.declared.token.Symbol.TheVariants.{Close};
 ghost use Rattle.lus_syntax.specs.View.{tokens_seen, test_seen, group_seen};
 ghost use Rattle.lus_grammar.specs.Answers.{Gives};
-ghost use Rattle.lus_grammar.specs.ReadingDeclarations.{several_at, further, at_name, clock_at, group_at, variables_at, inputs_at, outputs_at, local_at, locals_at};
+ghost use Rattle.lus_spelling.specs.ReadingDeclarations.{several_at, further, at_name, clock_at, group_at, variables_at, inputs_at, outputs_at, local_at, locals_at};
 
 use crate::fault::Parsed;
 use crate::front::{
@@ -15,7 +15,7 @@ use lus_syntax::{Fields, Group, Symbol, Test, Token, Word};
 use std::alloc::Global;
 
 /// A clock that may be written.
-#[tactic(auto, unfolding(crate::specs::ReadingDeclarations::clock_at))]
+#[tactic(auto, unfolding(lus_spelling::specs::ReadingDeclarations::clock_at))]
 fn clock(alloc: Global, tokens: &[Token]) -> Parsed<'_, Option<Test>>
     ensures { Gives (λ x. (option_map test_seen x.0, tokens_seen x.1.now)) result (clock_at (tokens_seen tokens.now)) }
 {
@@ -29,7 +29,7 @@ fn clock(alloc: Global, tokens: &[Token]) -> Parsed<'_, Option<Test>>
 }
 
 /// Variables of one type on one clock.
-#[tactic(auto, unfolding(crate::specs::ReadingDeclarations::group_at))]
+#[tactic(auto, unfolding(lus_spelling::specs::ReadingDeclarations::group_at))]
 fn group(alloc: Global, tokens: &[Token]) -> Parsed<'_, Group>
     ensures { Gives (λ x. (group_seen x.0, tokens_seen x.1.now)) result (group_at (tokens_seen tokens.now)) }
 {
@@ -59,7 +59,7 @@ fn groups(alloc: Global, tokens: &[Token]) -> Parsed<'_, Vec<Group>>
 }
 
 /// Groups, and a last semicolon that may stand.
-#[tactic(auto, unfolding(crate::specs::ReadingDeclarations::variables_at))]
+#[tactic(auto, unfolding(lus_spelling::specs::ReadingDeclarations::variables_at))]
 fn variables(alloc: Global, tokens: &[Token]) -> Parsed<'_, Vec<Group>>
     ensures { Gives (λ x. (map group_seen x.0.items, tokens_seen x.1.now)) result (variables_at (tokens_seen tokens.now)) }
 {
@@ -68,7 +68,7 @@ fn variables(alloc: Global, tokens: &[Token]) -> Parsed<'_, Vec<Group>>
 }
 
 /// The inputs of a node, in parentheses.
-#[tactic(auto, unfolding(crate::specs::ReadingDeclarations::inputs_at))]
+#[tactic(auto, unfolding(lus_spelling::specs::ReadingDeclarations::inputs_at))]
 pub fn inputs(alloc: Global, tokens: &[Token]) -> Parsed<'_, Vec<Group>>
     ensures { Gives (λ x. (map group_seen x.0.items, tokens_seen x.1.now)) result (inputs_at (tokens_seen tokens.now)) }
 {
@@ -82,7 +82,7 @@ pub fn inputs(alloc: Global, tokens: &[Token]) -> Parsed<'_, Vec<Group>>
 }
 
 /// `returns`, the outputs of a node in parentheses, and a semicolon that may stand.
-#[tactic(auto, unfolding(crate::specs::ReadingDeclarations::outputs_at))]
+#[tactic(auto, unfolding(lus_spelling::specs::ReadingDeclarations::outputs_at))]
 pub fn outputs(alloc: Global, tokens: &[Token]) -> Parsed<'_, Vec<Group>>
     ensures { Gives (λ x. (map group_seen x.0.items, tokens_seen x.1.now)) result (outputs_at (tokens_seen tokens.now)) }
 {
@@ -94,7 +94,7 @@ pub fn outputs(alloc: Global, tokens: &[Token]) -> Parsed<'_, Vec<Group>>
 }
 
 /// A group and its semicolon.
-#[tactic(auto, unfolding(crate::specs::ReadingDeclarations::local_at))]
+#[tactic(auto, unfolding(lus_spelling::specs::ReadingDeclarations::local_at))]
 fn local(alloc: Global, tokens: &[Token]) -> Parsed<'_, Group>
     ensures { Gives (λ x. (group_seen x.0, tokens_seen x.1.now)) result (local_at (tokens_seen tokens.now)) }
 {

@@ -1,17 +1,17 @@
 use Rattle.std.proofs.Common.{◌≡◌, suc, ◌+◌, sym, ap, ◌∙◌, refl, arith}
 use Rattle.std.proofs.lemmas.Result.{err_from_is_err_and}
-use Rattle.lus_grammar.specs.Reading.{found, read}
+use Rattle.lus_spelling.specs.Reading.{found, read}
 use Rattle.lus_syntax.specs.View.{tokens_seen, expression_seen}
 use Rattle.lus_grammar.specs.Rules.{level_of, operand_of}
 use Rattle.lus_grammar.proofs.Loop.{starts, first_fails, too_deep, nothing_left, right_fails, goes_on, is_done}
 use Rattle.lus_grammar.proofs.Steps.{arrow_nothing, prefixed_nothing, prefixed_fails, prefixed_bare, prefixed_ok}
 use Rattle.std.specs.Prelude.{map}
 use Rattle.std.proofs.lemmas.List.{map_push}
-use Rattle.lus_grammar.specs.declared.form.Form.TheVariants as forms
+use Rattle.lus_spelling.specs.declared.form.Form.TheVariants as forms
 use Rattle.lus_syntax.specs.Trees.{Call, Structure, Merge, parts_of}
-use Rattle.lus_grammar.specs.Expressions.{Whole}
+use Rattle.lus_spelling.specs.Expressions.{Whole}
 use Rattle.lus_syntax.specs.View.{name_seen, lead_seen, part_seen}
-use Rattle.lus_grammar.specs.Reading.{item}
+use Rattle.lus_spelling.specs.Reading.{item}
 use Rattle.lus_syntax.proofs.TreeViews.{seen_call, seen_structure, seen_merge}
 use Rattle.lus_grammar.proofs.Items.{part_fails, turn_fails, all_read, goes_on as goes_on_parts, runs_out, listed_fails, listed_ok, seen_length}
 use Rattle.lus_grammar.proofs.Steps.{call_none, call_some, brace_some, primary_merge}

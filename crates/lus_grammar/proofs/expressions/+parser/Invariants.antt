@@ -4,8 +4,8 @@ use Rattle.lus_grammar.specs.declared.operators.Chain.TheVariants as chains
 use Rattle.lus_grammar.specs.declared.operators.Head.{Head}
 use Rattle.lus_grammar.specs.declared.operators.Head.TheVariants as heads
 use Rattle.std.specs.Prelude.{map, length, []}
-use Rattle.lus_grammar.specs.Expressions.{Whole}
-use Rattle.lus_grammar.specs.Reading.{found, read, parts_at}
+use Rattle.lus_spelling.specs.Expressions.{Whole}
+use Rattle.lus_spelling.specs.Reading.{found, read, parts_at}
 use Rattle.lus_syntax.specs.View.{tokens_seen, expression_seen, part_seen}
 use Rattle.lus_grammar.specs.Rules.{level_of, operand_of}
 use Rattle.lus_grammar.proofs.Loop.{Remains}

@@ -1,7 +1,7 @@
 use Rattle.std.proofs.Common.{◌≡◌, [], map, ap}
 use Rattle.std.proofs.lemmas.Result.{err_from_is_err_and}
 use Rattle.lus_syntax.specs.View.{tokens_seen, equation_seen}
-use Rattle.lus_grammar.specs.ReadingDeclarations.{at_equation, push_at, equation_at}
+use Rattle.lus_spelling.specs.ReadingDeclarations.{at_equation, push_at, equation_at}
 use Rattle.lus_grammar.proofs.Turns.{begun, item_fails, item_read, ended, seen_push, equation_turn, equation_stop}
 use Rattle.lus_grammar.proofs.Shorter.{equation_shorter}
 use Rattle.lus_grammar.proofs.nodes.equations.Goals as goal

@@ -1,5 +1,5 @@
 use Rattle.std.proofs.Common.{suc, ◌+◌, ◌-◌, ◌≤◌}
-use Rattle.lus_grammar.specs.Reading.{found, dots_at}
+use Rattle.lus_spelling.specs.Reading.{found, dots_at}
 use Rattle.lus_syntax.specs.View.{tokens_seen, expression_seen}
 use Rattle.lus_grammar.proofs.Dots.{Dotting}
 use Rattle.lus_grammar.proofs.primaries.dots.Given as goal

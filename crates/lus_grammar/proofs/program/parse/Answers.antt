@@ -1,5 +1,5 @@
 use Rattle.lus_syntax.specs.View.{tokens_seen}
-use Rattle.lus_grammar.proofs.SoundDeclarations.{program_sound}
+use Rattle.lus_spelling.proofs.SoundDeclarations.{program_sound}
 use Rattle.lus_grammar.proofs.Refusals.{refused_as, refused_rightly, only_memory, same_tree}
 use Rattle.lus_grammar.proofs.program.parse.Goals as goal
 

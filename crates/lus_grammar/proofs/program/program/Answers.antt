@@ -1,7 +1,7 @@
 use Rattle.std.proofs.Common.{◌≡◌, sym}
 use Rattle.std.proofs.lemmas.Result.{err_from_is_err_and}
 use Rattle.lus_syntax.specs.View.{tokens_seen}
-use Rattle.lus_grammar.specs.ReadingDeclarations.{at_token, declaration_at}
+use Rattle.lus_spelling.specs.ReadingDeclarations.{at_token, declaration_at}
 use Rattle.lus_grammar.proofs.Turns.{ended, step_fails, goes_on, token_stop, token_turn, program_fails, program_ok}
 use Rattle.lus_grammar.proofs.Shorter.{declaration_shorter}
 use Rattle.lus_grammar.proofs.program.program.Goals as goal

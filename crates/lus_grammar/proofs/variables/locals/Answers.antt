@@ -3,7 +3,7 @@ use Rattle.std.proofs.lemmas.Result.{err_from_is_err_and}
 use Rattle.lus_syntax.specs.declared.token.Word.TheVariants as words
 use Rattle.lus_syntax.specs.Lexemes.{Keyword}
 use Rattle.lus_syntax.specs.View.{tokens_seen, group_seen}
-use Rattle.lus_grammar.specs.ReadingDeclarations.{after, rest_of, at_name, several_at, local_at}
+use Rattle.lus_spelling.specs.ReadingDeclarations.{after, rest_of, at_name, several_at, local_at}
 use Rattle.lus_grammar.proofs.Turns.{begun, ended, step_fails, goes_on}
 use Rattle.lus_grammar.proofs.Shorter.{section_shorter}
 use Rattle.lus_grammar.proofs.variables.locals.Goals as goal

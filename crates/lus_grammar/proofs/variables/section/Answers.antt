@@ -1,7 +1,7 @@
 use Rattle.std.proofs.Common.{◌≡◌, map, sym, ap, ◌∙◌}
 use Rattle.std.proofs.lemmas.Result.{err_from_is_err_and}
 use Rattle.lus_syntax.specs.View.{tokens_seen, group_seen}
-use Rattle.lus_grammar.specs.ReadingDeclarations.{at_name, push_at, local_at}
+use Rattle.lus_spelling.specs.ReadingDeclarations.{at_name, push_at, local_at}
 use Rattle.lus_grammar.proofs.Turns.{first_fails, first_read, item_fails, item_read, ended, seen_push, named_turn, named_stop}
 use Rattle.lus_grammar.proofs.Shorter.{local_shorter}
 use Rattle.lus_grammar.proofs.variables.section.Goals as goal

@@ -8,9 +8,9 @@ use Rattle.lus_syntax.specs.declared.tree.NodeKind.{NodeKind}
 use Rattle.lus_syntax.specs.declared.tree.NodeKind.TheVariants as kinds
 use Rattle.lus_syntax.specs.Lexemes.{Kind, Identifier, Number, Sign, Keyword, Lexeme}
 use Rattle.lus_syntax.specs.Trees.{Named, named, Test, TypeName, BoolName, IntName, DeclaredName, Fields, Definition, Alias, Enumeration, StructureOf, TypeDeclaration, Literal, Positive, Negative, TruthValue, ConstructorName, Constant, Group, Equation, Node, Tree}
-use Rattle.lus_grammar.specs.Expressions.{Whole}
-use Rattle.lus_grammar.specs.Reading.{Fault, Syntax, Found, ◌>>=◌, front, expect, identifier_at, test_at, read}
-use Rattle.lus_grammar.specs.Declarations.{tree}
+use Rattle.lus_spelling.specs.Expressions.{Whole}
+use Rattle.lus_spelling.specs.Reading.{Fault, Syntax, Found, ◌>>=◌, front, expect, identifier_at, test_at, read}
+use Rattle.lus_spelling.specs.Declarations.{tree}
 
 -- what is read, and the tokens after it
 abbrev pub Reads : Type 0 → Type 0

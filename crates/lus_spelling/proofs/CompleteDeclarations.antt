@@ -11,13 +11,13 @@ use Rattle.lus_syntax.specs.declared.tree.NodeKind.{NodeKind}
 use Rattle.lus_syntax.specs.declared.tree.NodeKind.TheVariants as kinds
 use Rattle.lus_syntax.specs.Lexemes.{Kind, Identifier, Number, Sign, Keyword, Lexeme, tok}
 use Rattle.lus_syntax.specs.Trees.{Named, named, Test, TypeName, BoolName, IntName, DeclaredName, Fields, Definition, Alias, Enumeration, StructureOf, TypeDeclaration, Literal, Positive, Negative, TruthValue, ConstructorName, Constant, Group, Equation, Expression, Node, Tree}
-use Rattle.lus_grammar.specs.Expressions.{ident, Whole, Spells, SpellsTest, depth}
-use Rattle.lus_grammar.specs.Lists.{Mark, mark, Nothing, nothing, Optional, absent, present, Repeated, none, again, Listed, listed}
-use Rattle.lus_grammar.specs.Declarations.{SpellsName, name, SpellsNames, type_token, SpellsFields, fields, SpellsDefinition, alias, enumeration, structure, SpellsType, type_declaration, SpellsTypes, types, literal, SpellsTypeOf, untyped, typed, SpellsConstant, constant, SpellsConstants, constants, SpellsClock, always, sampled, SpellsGroup, group, SpellsVariables, variables, SpellsInputs, no_inputs, inputs, SpellsOutputs, outputs, SpellsLocal, local, SpellsLocals, no_locals, locals, SpellsLeft, left, left_in, SpellsEquation, equation, SpellsEnd, unmarked, semicolon, dot, SpellsBody, body, kind_word, SpellsNode, node, tree, SpellsProgram, empty, with_types, with_constants, with_node, greatest_by, equation_depth, node_depth, tree_depth}
-use Rattle.lus_grammar.specs.Reading.{Fault, Syntax, Deep, Found, found, ◌>>=◌, front, expect, identifier_at, test_at, read}
-use Rattle.lus_grammar.specs.ReadingDeclarations.{Reads, repeat_on, repeat_at, push_at, others_at, several_at, rest_of, after, not_last, further_on, further, begins_named, at_name, begins_equation, at_equation, at_token, skipped, skip, names_at, type_name_on, type_name_at, fields_at, enumeration_at, structure_at, brace_or, struct_or, enum_or, definition_at, type_at, negative_on, negative_at, literal_on, literal_at, type_of_on, type_of_at, constant_at, clock_on, clock_at, group_at, variables_at, inputs_on, inputs_at, outputs_at, local_at, locals_at, left_on, left_at, ended_on, ended, equation_at, body_at, node_at, add_node, declaration_on, declaration_at, program_at}
-use Rattle.lus_grammar.proofs.Complete.{weight, no_light, test_again, complete}
-use Rattle.lus_grammar.proofs.Repeats.{same_result, every, every_true, repeat_complete, several_complete}
+use Rattle.lus_spelling.specs.Expressions.{ident, Whole, Spells, SpellsTest, depth}
+use Rattle.lus_spelling.specs.Lists.{Mark, mark, Nothing, nothing, Optional, absent, present, Repeated, none, again, Listed, listed}
+use Rattle.lus_spelling.specs.Declarations.{SpellsName, name, SpellsNames, type_token, SpellsFields, fields, SpellsDefinition, alias, enumeration, structure, SpellsType, type_declaration, SpellsTypes, types, literal, SpellsTypeOf, untyped, typed, SpellsConstant, constant, SpellsConstants, constants, SpellsClock, always, sampled, SpellsGroup, group, SpellsVariables, variables, SpellsInputs, no_inputs, inputs, SpellsOutputs, outputs, SpellsLocal, local, SpellsLocals, no_locals, locals, SpellsLeft, left, left_in, SpellsEquation, equation, SpellsEnd, unmarked, semicolon, dot, SpellsBody, body, kind_word, SpellsNode, node, tree, SpellsProgram, empty, with_types, with_constants, with_node, greatest_by, equation_depth, node_depth, tree_depth}
+use Rattle.lus_spelling.specs.Reading.{Fault, Syntax, Deep, Found, found, ◌>>=◌, front, expect, identifier_at, test_at, read}
+use Rattle.lus_spelling.specs.ReadingDeclarations.{Reads, repeat_on, repeat_at, push_at, others_at, several_at, rest_of, after, not_last, further_on, further, begins_named, at_name, begins_equation, at_equation, at_token, skipped, skip, names_at, type_name_on, type_name_at, fields_at, enumeration_at, structure_at, brace_or, struct_or, enum_or, definition_at, type_at, negative_on, negative_at, literal_on, literal_at, type_of_on, type_of_at, constant_at, clock_on, clock_at, group_at, variables_at, inputs_on, inputs_at, outputs_at, local_at, locals_at, left_on, left_at, ended_on, ended, equation_at, body_at, node_at, add_node, declaration_on, declaration_at, program_at}
+use Rattle.lus_spelling.proofs.Complete.{weight, no_light, test_again, complete}
+use Rattle.lus_spelling.proofs.Repeats.{same_result, every, every_true, repeat_complete, several_complete}
 
 abbrev Anything : List Lexeme → Type 0
 Anything ts = Unit {0}

@@ -9,8 +9,8 @@ use Rattle.lus_syntax.specs.declared.tree.NodeKind.{NodeKind}
 use Rattle.lus_syntax.specs.declared.tree.NodeKind.TheVariants as kinds
 use Rattle.lus_syntax.specs.Lexemes.{Kind, Number, Sign, Keyword, Lexeme, tok}
 use Rattle.lus_syntax.specs.Trees.{Named, Test, TypeName, BoolName, IntName, DeclaredName, Fields, Definition, Alias, Enumeration, StructureOf, TypeDeclaration, Literal, Positive, Negative, TruthValue, ConstructorName, Constant, Group, Equation, Expression, Node, Tree}
-use Rattle.lus_grammar.specs.Expressions.{ident, SpellsTest, Whole, Spells, depth}
-use Rattle.lus_grammar.specs.Lists.{Mark, Nothing, Optional, Repeated, Listed}
+use Rattle.lus_spelling.specs.Expressions.{ident, SpellsTest, Whole, Spells, depth}
+use Rattle.lus_spelling.specs.Lists.{Mark, Nothing, Optional, Repeated, Listed}
 
 -- ---- names
 

@@ -10,9 +10,9 @@ use Rattle.lus_syntax.specs.declared.tree.Infix.TheVariants as operators
 use Rattle.lus_syntax.specs.declared.tree.Prefix.{Prefix}
 use Rattle.lus_syntax.specs.Lexemes.{Kind, Identifier, Number, Sign, Keyword, Lexeme, tok}
 use Rattle.lus_syntax.specs.Trees.{Named, named, Label, Constructor, Boolean, Test, Holds, Fails, Is, Lead, Plain, Of, Branch, Expression, Numeral, Truth, Name, Call, Structure, Merge, Field, Parentheses, When, Unary, Binary, If, Parts, End, More, parts_of}
-use Rattle.lus_grammar.specs.declared.form.Form.{Form}
-use Rattle.lus_grammar.specs.declared.form.Form.TheVariants as forms
-use Rattle.lus_grammar.specs.Expressions.{Level, Whole, Arrow, Else, Choice, Implication, Disjunction, Conjunction, Negation, Negated, Comparison, Sum, Term, Signed, Primary, Dotted, Atom, infix_of, may_join, prefix_of}
+use Rattle.lus_spelling.specs.declared.form.Form.{Form}
+use Rattle.lus_spelling.specs.declared.form.Form.TheVariants as forms
+use Rattle.lus_spelling.specs.Expressions.{Level, Whole, Arrow, Else, Choice, Implication, Disjunction, Conjunction, Negation, Negated, Comparison, Sum, Term, Signed, Primary, Dotted, Atom, infix_of, may_join, prefix_of}
 
 pub data Fault : Type 0 where
   Syntax : Fault

@@ -10,10 +10,10 @@ use Rattle.lus_syntax.specs.declared.tree.Prefix.{Prefix}
 use Rattle.lus_syntax.specs.declared.tree.Prefix.TheVariants as prefixes
 use Rattle.lus_syntax.specs.Lexemes.{Kind, Identifier, Number, Sign, Keyword, Lexeme, tok}
 use Rattle.lus_syntax.specs.Trees.{Named, Label, Constructor, Boolean, Test, Holds, Fails, Is, Lead, Plain, Of, Branch, Expression, Numeral, Truth, Name, Call, Structure, Merge, Field, Parentheses, When, Unary, Binary, If, Parts, End, More}
-use Rattle.lus_grammar.specs.declared.form.Form.{Form}
-use Rattle.lus_grammar.specs.declared.form.Form.TheVariants as forms
-use Rattle.lus_grammar.specs.declared.operators.Mixing.{Mixing}
-use Rattle.lus_grammar.specs.declared.operators.Mixing.TheVariants as mixings
+use Rattle.lus_spelling.specs.declared.form.Form.{Form}
+use Rattle.lus_spelling.specs.declared.form.Form.TheVariants as forms
+use Rattle.lus_spelling.specs.declared.mixing.Mixing.{Mixing}
+use Rattle.lus_spelling.specs.declared.mixing.Mixing.TheVariants as mixings
 
 -- the token of a name
 abbrev pub ident : Named → Lexeme

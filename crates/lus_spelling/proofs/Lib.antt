@@ -1,0 +1,5 @@
+pub mod Sound
+pub mod Complete
+pub mod Repeats
+pub mod SoundDeclarations
+pub mod CompleteDeclarations
