@@ -1,0 +1,173 @@
+//! Nodes: the tests of their variables and their equations are well typed, and a function keeps no memory.
+
+ghost use Rattle.std.specs.Prelude.{◌≡◌, ◌≤◌, ◌+◌, ◌++◌, IfOk, IfErr, OnOk, flat_map, is_none, length, map, option_map, true, false};
+ghost use Rattle.std.specs.List.{list_all};
+ghost use Rattle.lus_syntax.specs.View.{equation_seen, group_seen, node_seen, test_seen, tree_seen};
+ghost use Rattle.lus_program.specs.View.{equations_from, node_of, variable_of};
+ghost use Rattle.lus_meaning.specs.Tables.{groups, scope as scope_in};
+ghost use Rattle.lus_meaning.specs.Sized.{variable_count};
+ghost use Rattle.lus_meaning.specs.Meaning.{equations_meant, node_meant, test_meant};
+ghost use Rattle.lus_meaning.specs.WellTyped.{NodeTyped, equation_typed, is_pure, keeps_memory, test_typed};
+ghost use Rattle.lus_meaning.specs.ScopeView.{scope_of, Faulty};
+ghost use Rattle.lus_types.specs.TypeEntries.{variables_in};
+
+use crate::constants::kind_named;
+use lus_elaboration::{equation, memory, test_placed};
+use lus_meaning::{Fault, Scope};
+use lus_program::{Equation, Node, Test, Variable};
+use lus_syntax::{
+    Equation as SourceEquation, Group, Node as SourceNode, NodeKind, Place, Test as SourceTest,
+    Tree,
+};
+use std::alloc::Global;
+
+/// The place of a test's variable.
+fn test_place(test: &SourceTest) -> Place {
+    match test {
+        SourceTest::Holds(variable) => variable.span.start,
+        SourceTest::Fails(_, variable) => variable.span.start,
+        SourceTest::Is(_, variable) => variable.span.start,
+    }
+}
+
+/// The test of a group of variables, where it has one.
+fn group_test(scope: &Scope, test: &Option<SourceTest>) -> Result<Option<Test>, Fault>
+    ensures meant { IfOk result (λ t. t ≡ option_map (test_meant (scope_of scope.now)) (option_map test_seen test.now)) }
+    ensures typed { OnOk result (test_typed (scope_of scope.now) (option_map test_seen test.now) ≡ true) }
+    ensures refused { IfErr result (Faulty (test_typed (scope_of scope.now) (option_map test_seen test.now) ≡ false)) }
+{
+    match test {
+        None => Ok(None),
+        Some(test) => match test_placed(scope, test) {
+            Some(found) => Ok(Some(found)),
+            None => Err(Fault::At(test_place(test))),
+        },
+    }
+}
+
+/// Appends the variables that a group declares.
+fn push_group(scope: &Scope, group: &Group, variables: &mut Vec<Variable>) -> Result<(), Fault>
+    ensures meant { OnOk result (map variable_of variables.new.items ≡ map variable_of variables.old.items ++ variables_in (scope_of scope.now) (group_seen group.now)) }
+    ensures typed { OnOk result (test_typed (scope_of scope.now) (group_seen group.now).test ≡ true) }
+    ensures refused { IfErr result (Faulty (test_typed (scope_of scope.now) (group_seen group.now).test ≡ false)) }
+{
+    let test = group_test(scope, &group.test)?;
+    let kind = kind_named(scope, &group.type_name);
+    for name in &group.names {
+        variables.push(Variable {
+            name: name.text.clone()?,
+            place: name.span.start,
+            kind,
+            test,
+        })?;
+    }
+    Ok(())
+}
+
+/// Appends the variables that groups declare.
+fn push_groups(scope: &Scope, groups: &[Group], variables: &mut Vec<Variable>) -> Result<(), Fault>
+    ensures meant { OnOk result (map variable_of variables.new.items ≡ map variable_of variables.old.items ++ flat_map (variables_in (scope_of scope.now)) (map group_seen groups.now)) }
+    ensures counted { OnOk result (length variables.new.items ≡ length variables.old.items + variable_count (map group_seen groups.now)) }
+    ensures typed { OnOk result (list_all (λ g. test_typed (scope_of scope.now) g.test) (map group_seen groups.now) ≡ true) }
+    ensures refused { IfErr result (Faulty (list_all (λ g. test_typed (scope_of scope.now) g.test) (map group_seen groups.now) ≡ false)) }
+{
+    for group in groups {
+        push_group(scope, group, variables)?;
+    }
+    Ok(())
+}
+
+/// The variables of a node, and how many of them are inputs and outputs.
+#[derive(Drop)]
+struct Variables {
+    all: Vec<Variable>,
+    inputs: u32,
+    outputs: u32,
+}
+
+/// The variables of a node.
+fn node_variables(alloc: Global, scope: &Scope, source: &SourceNode) -> Result<Variables, Fault>
+    requires { variable_count (groups (node_seen source.now)) ≤ 1000 }
+    ensures meant { IfOk result (λ v. map variable_of v.all.items ≡ flat_map (variables_in (scope_of scope.now)) (groups (node_seen source.now))) }
+    ensures inputs { IfOk result (λ v. v.inputs ≡ variable_count (node_seen source.now).inputs) }
+    ensures outputs { IfOk result (λ v. v.outputs ≡ variable_count (node_seen source.now).outputs) }
+    ensures typed { OnOk result (list_all (λ g. test_typed (scope_of scope.now) g.test) (groups (node_seen source.now)) ≡ true) }
+    ensures refused { IfErr result (Faulty (list_all (λ g. test_typed (scope_of scope.now) g.test) (groups (node_seen source.now)) ≡ false)) }
+{
+    let mut all = Vec::new(alloc);
+    push_groups(scope, &source.inputs, &mut all)?;
+    let inputs = all.len();
+    push_groups(scope, &source.outputs, &mut all)?;
+    let outputs = all.len() - inputs;
+    push_groups(scope, &source.locals, &mut all)?;
+    Ok(Variables {
+        all,
+        inputs: inputs as u32,
+        outputs: outputs as u32,
+    })
+}
+
+/// The equations of a node.
+fn equations(
+    alloc: Global,
+    scope: &Scope,
+    sources: &[SourceEquation],
+) -> Result<Vec<Equation>, Fault>
+    ensures meant { IfOk result (λ qs. equations_from 0 qs.items ≡ equations_meant (scope_of scope.now) 0 (map equation_seen sources.now)) }
+    ensures typed { OnOk result (list_all (equation_typed (scope_of scope.now)) (map equation_seen sources.now) ≡ true) }
+    ensures refused { IfErr result (Faulty (list_all (equation_typed (scope_of scope.now)) (map equation_seen sources.now) ≡ false)) }
+{
+    let mut equations = Vec::new(alloc);
+    for source in sources {
+        equations.push(equation(alloc, scope, source)?)?;
+    }
+    Ok(equations)
+}
+
+/// The first place at which equations have a memory.
+fn memory_in(scope: &Scope, sources: &[SourceEquation]) -> Option<Place>
+    ensures { is_none result ≡ list_all (λ q. is_pure (scope_of scope.now) q.right) (map equation_seen sources.now) }
+{
+    for source in sources {
+        if let Some(place) = memory(scope, &source.right) {
+            return Some(place);
+        }
+    }
+    None
+}
+
+/// A function keeps no memory.
+fn check_memory(scope: &Scope, kind: NodeKind, sources: &[SourceEquation]) -> Result<(), Fault>
+    ensures typed { OnOk result (keeps_memory kind (scope_of scope.now) (map equation_seen sources.now) ≡ true) }
+    ensures refused { IfErr result (Faulty (keeps_memory kind (scope_of scope.now) (map equation_seen sources.now) ≡ false)) }
+{
+    match kind {
+        NodeKind::Node => Ok(()),
+        NodeKind::Function => match memory_in(scope, sources) {
+            Some(place) => Err(Fault::At(place)),
+            None => Ok(()),
+        },
+    }
+}
+
+/// A node, as the program has it, where it is well typed.
+pub fn node(alloc: Global, tree: &Tree, scope: &Scope, source: &SourceNode) -> Result<Node, Fault>
+    requires scoped { scope_of scope.now ≡ scope_in (tree_seen tree.now) (node_seen source.now) }
+    requires few { variable_count (groups (node_seen source.now)) ≤ 1000 }
+    ensures meant { IfOk result (λ n. node_of n ≡ node_meant (tree_seen tree.now) (node_seen source.now)) }
+    ensures typed { OnOk result (NodeTyped (tree_seen tree.now) (node_seen source.now)) }
+    ensures refused { IfErr result (Faulty (NodeTyped (tree_seen tree.now) (node_seen source.now) → ⊥)) }
+{
+    let variables = node_variables(alloc, scope, source)?;
+    let equations = equations(alloc, scope, &source.equations)?;
+    check_memory(scope, source.kind, &source.equations)?;
+    Ok(Node {
+        kind: source.kind,
+        name: source.name.text.clone()?,
+        place: source.name.span.start,
+        inputs: variables.inputs,
+        outputs: variables.outputs,
+        variables: variables.all,
+        equations,
+    })
+}
