@@ -1,0 +1,10 @@
+//! The causal order of each node's variables.
+#![tactic(auto)]
+
+mod definers;
+mod needs;
+mod ordering;
+mod refusing;
+mod uses;
+
+pub use ordering::orders_of;
