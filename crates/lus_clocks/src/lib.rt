@@ -10,9 +10,11 @@ mod expression;
 mod flag;
 mod flagging;
 mod formals;
+mod passes;
 mod raising;
 mod required;
 mod values;
 
 pub use checking::clocks_fit;
 pub use flagging::flags_fit;
+pub use passes::{Clocked, Initialised, check_clocks, check_nil};

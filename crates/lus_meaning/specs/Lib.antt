@@ -9,3 +9,4 @@ pub mod WellTyped
 pub mod Refusals
 pub mod ScopeView
 pub mod Resolved
+pub mod MeantPrograms

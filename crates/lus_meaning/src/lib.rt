@@ -4,7 +4,9 @@
 mod entries;
 mod fault;
 mod scope;
+mod typed;
 
 pub use entries::{Constructor, Placed, Signature};
 pub use fault::Fault;
 pub use scope::{Scope, field};
+pub use typed::Typed;

@@ -1,0 +1,103 @@
+//! The checks as passes over a typed program. Contracts see what they give as the program.
+
+ghost use Rattle.std.specs.Prelude.{◌≡◌, ◌≢◌, IfOk, IfErr, OnOk};
+ghost use Rattle.lus_syntax.specs.declared.refusal.RefusalNumber.TheVariants as numbers;
+ghost use Rattle.lus_program.specs.View.{program_seen};
+ghost use Rattle.lus_streams.specs.OnClock.{ProgramOnClocks};
+ghost use Rattle.lus_streams.specs.Flags.{IsFlagged};
+
+use crate::checking::clocks_fit;
+use crate::flagging::flags_fit;
+use lus_meaning::Typed;
+use lus_program::Program;
+use lus_syntax::Refusal;
+use std::alloc::Global;
+use std::marker::Model;
+
+/// A typed program that is on clocks.
+#[derive(Drop)]
+pub struct Clocked {
+    typed: Typed,
+}
+
+impl Model for Clocked {
+    ghost use Rattle.std.specs.Coded.{codes};
+    ghost use Rattle.lus_program.specs.contracts.expr.Expr as expr;
+    ghost use Rattle.lus_program.specs.declared.node.Program.{Program as StoredProgram};
+    ghost use Rattle.lus_program.specs.View.{program_seen};
+    ghost use Rattle.lus_streams.specs.OnClock.{ProgramOnClocks};
+
+    ghost Value = { StoredProgram };
+
+    ghost coded = { Prim.hlevel (codes, expr.the_row.coded) };
+
+    ghost view = { λ c. c.typed };
+
+    ghost invariant = { λ c. ProgramOnClocks (program_seen c.typed) };
+}
+
+impl Clocked {
+    /// The program that is on clocks.
+    pub fn program(&self) -> &Program
+        ensures { result.now ≡ self.now }
+    {
+        self.typed.program()
+    }
+}
+
+/// Checks that every declared clock, equation and call is on clocks. A refusal stands at the declared variable, or at the
+/// first token of an expression.
+pub fn check_clocks(typed: Typed) -> Result<Clocked, Refusal>
+    ensures same { IfOk result (λ clocked. clocked ≡ typed) }
+    ensures ok { OnOk result (ProgramOnClocks (program_seen typed)) }
+    ensures refused { IfErr result (λ e. (ProgramOnClocks (program_seen typed) → ⊥) × (e.number ≡ numbers.Clock)) }
+{
+    match clocks_fit(typed.program()) {
+        Ok(()) => Ok(Clocked { typed }),
+        Err(refusal) => Err(refusal),
+    }
+}
+
+/// A program that is on clocks, in which nil stands only where flags allow.
+#[derive(Drop)]
+pub struct Initialised {
+    clocked: Clocked,
+}
+
+impl Model for Initialised {
+    ghost use Rattle.std.specs.Coded.{codes};
+    ghost use Rattle.lus_program.specs.contracts.expr.Expr as expr;
+    ghost use Rattle.lus_program.specs.declared.node.Program.{Program as StoredProgram};
+    ghost use Rattle.lus_program.specs.View.{program_seen};
+    ghost use Rattle.lus_streams.specs.Flags.{IsFlagged};
+
+    ghost Value = { StoredProgram };
+
+    ghost coded = { Prim.hlevel (codes, expr.the_row.coded) };
+
+    ghost view = { λ i. i.clocked };
+
+    ghost invariant = { λ i. IsFlagged (program_seen i.clocked) };
+}
+
+impl Initialised {
+    /// The program in which nil stands only where flags allow.
+    pub fn program(&self) -> &Program
+        ensures { result.now ≡ self.now }
+    {
+        self.clocked.program()
+    }
+}
+
+/// Checks that nil stands only where flags allow. A refusal stands at the first token of the operand that may be nil, or
+/// at a variable's place on the left of its equation.
+pub fn check_nil(alloc: Global, clocked: Clocked) -> Result<Initialised, Refusal>
+    ensures same { IfOk result (λ initialised. initialised ≡ clocked) }
+    ensures ok { OnOk result (IsFlagged (program_seen clocked)) }
+    ensures refused { IfErr result (λ e. e.number ≢ numbers.Memory → (IsFlagged (program_seen clocked) → ⊥) × (e.number ≡ numbers.Nil)) }
+{
+    match flags_fit(alloc, clocked.program()) {
+        Ok(()) => Ok(Initialised { clocked }),
+        Err(refusal) => Err(refusal),
+    }
+}
