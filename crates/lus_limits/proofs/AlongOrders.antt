@@ -1,9 +1,9 @@
 -- What things have by what they use is found along an order, each thing once.
-use Rattle.std.proofs.Common.{arith, ◌≡◌, ◌∙◌, sym, ℕ, zero, suc, ◌+◌, ◌<◌, ◌≤◌, List, [], ◌∷◌, ◌++◌, length, get_or, set, take, Contains, ⊎_elim, length-append, add-one}
+use Rattle.std.proofs.Common.{refl, arith, ◌≡◌, ◌∙◌, sym, ℕ, zero, suc, ◌+◌, ◌<◌, ◌≤◌, List, [], ◌∷◌, ◌++◌, length, get_or, set, take, Contains, All, ⊎_elim, length-append, add-one}
 use Rattle.std.proofs.lemmas.Bool.{cases_eq, cases_lt}
-use Rattle.std.proofs.lemmas.List.{get_or-set_same, get_or-set_other, get_or_append_left, take_all, take-append-le}
+use Rattle.std.proofs.lemmas.List.{get_or-set_same, get_or-set_other, get_or_append_left, take_all, take-append-le, get_or_default}
 use Rattle.std.proofs.lemmas.Grind.{get_or_default_zero}
-use Rattle.std.proofs.lemmas.List.Elements.{Contains-append_cases}
+use Rattle.std.proofs.lemmas.List.Elements.{All-get_or, Contains-append_cases}
 use Rattle.std.proofs.Math.Seq.{get_or-append_seam, take-suc}
 use Rattle.lus_values.specs.Lists.{item, Below}
 use Rattle.lus_graph.specs.Ways.{Uses, used, IsOrdered, empty, next, IsOrder}
@@ -114,3 +114,29 @@ below_at (suc n) P k lt all = ⊎_elim
     (λ same. let e : k ≡ n = same in rw e all.0)
     (λ other. below_at n P k (omega arith) all.1)
     (cases_eq k n)
+
+-- numbers against a limit
+module _ (uses : Uses) (order : List ℕ) (o : IsOrder uses order) (inside : IsInside uses) (n d e most : ℕ) (step : (ℕ → ℕ) → ℕ → ℕ) (local : IsLocal uses step) (count : n ≡ length uses) where
+  -- one thing past the limit is not all within it
+  pub one_past : (i : ℕ) (table : List ℕ) (v : ℕ) → i < length order → IsFilled e (within n d step) (take i order) table → v ≡ step (item e table) (get_or order i 0) → most < v → Below n (λ k. within n d step k ≤ most) → ⊥
+  one_past i table v lt filled is past all =
+      let x = get_or order i 0 in
+      let right : v ≡ within n d step x = next_right uses d step local inside order e table n i x v o.ordered (omega (arith, o.size)) lt refl filled is in
+      let thing : x < n = omega (arith, o.within x (i, lt, get_or_default order i x 0 lt)) in
+      let le : within n d step x ≤ most = below_at n (λ k. within n d step k ≤ most) x thing all in
+      omega arith
+
+  -- a full table within the limit
+  pub all_within : (i : ℕ) (table : List ℕ) → length order ≤ i → length table ≡ n → IsFilled e (within n d step) (take i order) table → All (λ k. k ≤ most) table → Below n (λ k. within n d step k ≤ most)
+  all_within i table le size filled small = below_all n (λ k. within n d step k ≤ most) (λ k lt.
+      let right : item e table k ≡ within n d step k = filled_at uses order e (within n d step) table i k o le filled (omega arith) in
+      let low : item e table k ≤ most = All-get_or (λ m. m ≤ most) table k e (omega arith) small in
+      omega arith)
+
+  pub one_more : (i : ℕ) (table : List ℕ) (v : ℕ) → i < length order → length table ≡ n → IsFilled e (within n d step) (take i order) table → v ≡ step (item e table) (get_or order i 0)
+      → IsFilled e (within n d step) (take (i + 1) order) (set table (get_or order i 0) v)
+  one_more i table v lt size filled is =
+      let x = get_or order i 0 in
+      let thing : x < length uses = o.within x (i, lt, get_or_default order i x 0 lt) in
+      let room : x < length table = omega arith in
+      filled_more uses d step local inside order e table n i x v o.ordered (omega (arith, o.size)) lt refl room filled is

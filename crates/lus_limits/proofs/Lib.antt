@@ -4,3 +4,5 @@ pub mod Counting
 pub mod AlongOrders
 pub mod TypesByUses
 pub mod TypeTables
+pub mod Greatest
+pub mod CallsByUses

@@ -1,5 +1,5 @@
 -- Tables of what declared types have, filled along an order.
-use Rattle.std.proofs.Common.{arith, ◌≡◌, ◌∙◌, refl, sym, ap, ℕ, ◌+◌, ◌<◌, ◌≤◌, List, length, get_or, set, take, map, Contains, String, Global}
+use Rattle.std.proofs.Common.{arith, ◌≡◌, ◌∙◌, refl, sym, ap, ℕ, ◌+◌, ◌<◌, ◌≤◌, List, length, get_or, set, take, map, Contains, All, String, Global}
 use Rattle.std.specs.Prelude.{string_bytes}
 use Rattle.std.proofs.lemmas.List.{length-map, get_or-map, get_or_default}
 use Rattle.lus_syntax.specs.declared.tree.Tree.{Tree as StoredTree}
@@ -10,13 +10,14 @@ use Rattle.lus_syntax.specs.Trees.{TypeDeclaration}
 use Rattle.lus_syntax.specs.View.{definition_seen, type_seen, tree_seen}
 use Rattle.lus_program.specs.declared.types.Kind.{Kind}
 use Rattle.lus_program.specs.declared.types.Kind.TheVariants as kind_names
-use Rattle.lus_values.specs.Lists.{item}
+use Rattle.lus_values.specs.Lists.{item, Below}
 use Rattle.lus_graph.specs.Ways.{IsOrder}
 use Rattle.lus_meaning.specs.Loopless.{definition_uses, type_names, type_uses}
 use Rattle.lus_meaning.specs.Tables.{definition_at, definition_kind, kind_at, no_definition, AreKinds}
-use Rattle.lus_limits.specs.ByNames.{kind_of}
-use Rattle.lus_limits.proofs.AlongOrders.{IsFilled, filled_more, filled_at, below_all}
-use Rattle.lus_limits.proofs.TypesByUses.{kind_is, kind_step_local, types_inside}
+use Rattle.lus_meaning.specs.Sized.{definition_leaves, definition_nesting, leaves_at, nesting_at}
+use Rattle.lus_limits.specs.ByNames.{kind_of, leaves_of, nesting_of}
+use Rattle.lus_limits.proofs.AlongOrders.{IsFilled, filled_more, filled_at, below_all, one_more, one_past, all_within}
+use Rattle.lus_limits.proofs.TypesByUses.{kind_is, kind_step_local, leaves_are, leaves_step_local, nesting_is, nesting_step_local, types_inside}
 
 -- the place of the order at i
 pub at_place : (order : List ℕ) (i : ℕ) → i < length order → Contains order (get_or order i 0)
@@ -67,3 +68,47 @@ module _ (t : StoredTree) where
       size = size ∙ sym types_length;
       each = below_all (length (map type_seen t.types.items)) (λ k. item kind_names.Bool table k ≡ kind_at (tree_seen t) k) (λ k lt. filled_at (type_uses (tree_seen t)) order kind_names.Bool (kind_at (tree_seen t)) table i k o le filled (omega (arith, uses_length, types_length)));
     }
+
+    count : length (map type_seen t.types.items) ≡ length (type_uses (tree_seen t))
+    count = types_length ∙ sym uses_length
+
+    module _ (i : ℕ) (names : List Text) (table : List ℕ) (v : ℕ) (d : StoredDefinition) (lt : i < length order) (named : names ≡ type_names (tree_seen t)) (here : definition_at (tree_seen t) (get_or order i 0) ≡ definition_seen d) where
+      leaves_right : v ≡ leaves_of names (item 1 table) (definition_seen d) → v ≡ definition_leaves (tree_seen t) (item 1 table) (definition_at (tree_seen t) (get_or order i 0))
+      leaves_right is = is ∙ rw (here, named) (sym (leaves_are (tree_seen t) (item 1 table) (definition_seen d)))
+
+      pub leaves_more : length table ≡ length t.types.items → IsFilled 1 (leaves_at (tree_seen t)) (take i order) table → v ≡ leaves_of names (item 1 table) (definition_seen d)
+          → IsFilled 1 (leaves_at (tree_seen t)) (take (i + 1) order) (set table (get_or order i 0) v)
+      leaves_more size filled is =
+          let p = tree_seen t in
+          one_more (type_uses p) order o (types_inside p) (length p.types) 0 1 1024 (λ at k. definition_leaves p at (definition_at p k)) (leaves_step_local p) count i table v lt (size ∙ sym types_length) filled (leaves_right is)
+
+      pub leaves_past : IsFilled 1 (leaves_at (tree_seen t)) (take i order) table → v ≡ leaves_of names (item 1 table) (definition_seen d) → 1024 < v → Below (length (map type_seen t.types.items)) (λ k. leaves_at (tree_seen t) k ≤ 1024) → ⊥
+      leaves_past filled is past =
+          let p = tree_seen t in
+          one_past (type_uses p) order o (types_inside p) (length p.types) 0 1 1024 (λ at k. definition_leaves p at (definition_at p k)) (leaves_step_local p) count i table v lt filled (leaves_right is) past
+
+      nesting_right : v ≡ nesting_of names (item 0 table) (definition_seen d) → v ≡ definition_nesting (tree_seen t) (item 0 table) (definition_at (tree_seen t) (get_or order i 0))
+      nesting_right is = is ∙ rw (here, named) (sym (nesting_is (tree_seen t) (item 0 table) (definition_seen d)))
+
+      pub nesting_more : length table ≡ length t.types.items → IsFilled 0 (nesting_at (tree_seen t)) (take i order) table → v ≡ nesting_of names (item 0 table) (definition_seen d)
+          → IsFilled 0 (nesting_at (tree_seen t)) (take (i + 1) order) (set table (get_or order i 0) v)
+      nesting_more size filled is =
+          let p = tree_seen t in
+          one_more (type_uses p) order o (types_inside p) (length p.types) 0 0 64 (λ at k. definition_nesting p at (definition_at p k)) (nesting_step_local p) count i table v lt (size ∙ sym types_length) filled (nesting_right is)
+
+      pub nesting_past : IsFilled 0 (nesting_at (tree_seen t)) (take i order) table → v ≡ nesting_of names (item 0 table) (definition_seen d) → 64 < v → Below (length (map type_seen t.types.items)) (λ k. nesting_at (tree_seen t) k ≤ 64) → ⊥
+      nesting_past filled is past =
+          let p = tree_seen t in
+          one_past (type_uses p) order o (types_inside p) (length p.types) 0 0 64 (λ at k. definition_nesting p at (definition_at p k)) (nesting_step_local p) count i table v lt filled (nesting_right is) past
+
+    pub leaves_whole : (i : ℕ) (table : List ℕ) → length order ≤ i → length table ≡ length t.types.items → IsFilled 1 (leaves_at (tree_seen t)) (take i order) table → All (λ k. k ≤ 1024) table
+        → Below (length (map type_seen t.types.items)) (λ k. leaves_at (tree_seen t) k ≤ 1024)
+    leaves_whole i table le size filled small =
+        let p = tree_seen t in
+        all_within (type_uses p) order o (types_inside p) (length p.types) 0 1 1024 (λ at k. definition_leaves p at (definition_at p k)) (leaves_step_local p) count i table le (size ∙ sym types_length) filled small
+
+    pub nesting_whole : (i : ℕ) (table : List ℕ) → length order ≤ i → length table ≡ length t.types.items → IsFilled 0 (nesting_at (tree_seen t)) (take i order) table → All (λ k. k ≤ 64) table
+        → Below (length (map type_seen t.types.items)) (λ k. nesting_at (tree_seen t) k ≤ 64)
+    nesting_whole i table le size filled small =
+        let p = tree_seen t in
+        all_within (type_uses p) order o (types_inside p) (length p.types) 0 0 64 (λ at k. definition_nesting p at (definition_at p k)) (nesting_step_local p) count i table le (size ∙ sym types_length) filled small

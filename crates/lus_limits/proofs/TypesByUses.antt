@@ -1,10 +1,10 @@
 -- What a declared type has comes from what the types have that its declaration names.
-use Rattle.std.proofs.Common.{arith, ◌≡◌, ◌∙◌, refl, sym, ap, ℕ, zero, suc, ◌+◌, ◌*◌, ◌<◌, List, [], ◌∷◌, Option, Some, None, Bool, true, false, cond, length, get_or, map, flat_map, sum_by, Contains, All, add-one, zero-add}
+use Rattle.std.proofs.Common.{arith, ◌≡◌, ◌∙◌, refl, sym, ap, ℕ, zero, suc, ◌*◌, ◌<◌, List, [], ◌∷◌, Option, Some, None, cond, length, get_or, map, flat_map, sum_by, Contains, All, add-one}
 use Rattle.std.specs.Option.{option_to_list}
 use Rattle.std.specs.List.{position_from}
 use Rattle.std.specs.Str.{bytes_eq}
 use Rattle.std.proofs.lemmas.List.{length-map}
-use Rattle.std.proofs.lemmas.List.Elements.{Contains-append_left, Contains-append_right, All-nil, All-cons, All-append, All-contains, All-weaker}
+use Rattle.std.proofs.lemmas.List.Elements.{Contains-append_left, Contains-append_right, All-nil, All-append, All-contains}
 use Rattle.std.proofs.lemmas.List.Sums.{sum_by-cons}
 use Rattle.lus_syntax.specs.Lexemes.{Text}
 use Rattle.lus_syntax.specs.Trees.{TypeName, BoolName, IntName, DeclaredName, Fields, Definition, Alias, Enumeration, StructureOf, TypeDeclaration, Tree}
@@ -16,6 +16,7 @@ use Rattle.lus_meaning.specs.Loopless.{place_in, type_names, named_type, definit
 use Rattle.lus_meaning.specs.Tables.{numbered_from, type_places, of_type, definition_at, no_definition, definition_kind}
 use Rattle.lus_meaning.specs.Sized.{greatest, definition_leaves, definition_nesting}
 use Rattle.lus_limits.specs.ByNames.{of_name, leaves_of, nesting_of, kind_of}
+use Rattle.lus_limits.proofs.NamePlaces.{places_inside}
 use Rattle.lus_limits.proofs.AlongOrders.{IsLocal, IsInside}
 
 -- by places and by names
@@ -57,19 +58,6 @@ pub kind_is : (p : Tree) (at : ℕ → Kind) (t : ℕ) (d : Definition) → defi
 kind_is p at t (Alias y) = of_type_is p kinds.Bool kinds.Int at y
 kind_is p at t (Enumeration cs) = refl
 kind_is p at t (StructureOf fs) = refl
-
--- places that are found
-
-within_cons : (b : Bool) (k n : ℕ) (o : Option ℕ) → All (λ t. t < k + 1 + n) (option_to_list o) → All (λ t. t < k + suc n) (option_to_list (cond b (Some k) o))
-within_cons true k n o all = All-cons (λ t. t < k + suc n) k [] (omega arith) (All-nil (λ t. t < k + suc n))
-within_cons false k n o all = All-weaker (λ t. t < k + 1 + n) (λ t. t < k + suc n) (λ t lt. omega arith) (option_to_list o) all
-
-within_from : (test : Text → Bool) (k : ℕ) (names : List Text) → All (λ t. t < k + length names) (option_to_list (position_from test k names))
-within_from test k [] = All-nil (λ t. t < k + 0)
-within_from test k (m ∷ names) = within_cons (test m) k (length names) (position_from test (k + 1) names) (within_from test (k + 1) names)
-
-pub places_inside : (names : List Text) (n : Text) → All (λ t. t < length names) (option_to_list (place_in names n))
-places_inside names n = let all = within_from (λ m. bytes_eq n m) 0 names in rw (← zero-add (length names)) all
 
 -- locality
 

@@ -1,2 +1,3 @@
 pub mod ByNames
 pub mod GraphErrors
+pub mod Limits
