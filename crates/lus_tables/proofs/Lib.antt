@@ -1,0 +1,4 @@
+pub mod Appending
+pub mod Placing
+pub mod Groups
+pub mod OfSource

@@ -1,0 +1,125 @@
+-- The tables that the code makes are those of the source.
+use Rattle.std.proofs.Common.{arith, ◌≡◌, ◌∙◌, refl, sym, ap, subst, ℕ, zero, suc, ◌+◌, ◌<◌, ◌≤◌, ◌&&◌, List, [], ◌∷◌, Option, Some, None, Bool, true, false, cond, IsTrue, inl, inr, map, length, length-append, option_map}
+use Rattle.std.specs.List.{list_all}
+use Rattle.std.specs.Str.{bytes_eq}
+use Rattle.std.proofs.lemmas.Bool.{cases_lt, le-leb}
+use Rattle.std.proofs.lemmas.List.{length-map}
+use Rattle.std.proofs.lemmas.List.Sums.{sum_by-cons}
+use Rattle.lus_syntax.specs.Lexemes.{Text}
+use Rattle.lus_syntax.specs.Trees.{TypeName, BoolName, IntName, DeclaredName, Fields, Definition, Alias, Enumeration, StructureOf, TypeDeclaration, Node, Literal, Positive, Negative, TruthValue, ConstructorName, Tree}
+use Rattle.lus_values.specs.Lists.{Below, Each, item}
+use Rattle.lus_values.specs.Values.{Value}
+use Rattle.lus_program.specs.declared.types.Kind.{Kind}
+use Rattle.lus_program.specs.declared.types.Kind.TheVariants as kinds
+use Rattle.lus_program.specs.Programs.{Declared}
+use Rattle.lus_meaning.specs.declared.entries.Placed.{Placed}
+use Rattle.lus_meaning.specs.Scopes.{Scope, entry}
+use Rattle.lus_meaning.specs.Sized.{DefinitionCounted, field_count}
+use Rattle.lus_meaning.specs.Tables.{AreKinds, all_constructors, declared_as, kind_at, group_kinds, groups, kind_named, literal_value, numbered_from, placed, scope, tables, type_places}
+use Rattle.lus_meaning.specs.Types.{has_few_fields}
+use Rattle.lus_tables.specs.ByTable.{declared_by, fields_by, fields_of_kind, kind_in, kinds_by, signature_by, value_in}
+
+-- ---- types
+
+entry-of_places : {X : Type 0} (f : ℕ → X) (es : List (TypeDeclaration × ℕ)) (n : Text) → entry (map (λ e. (e.0.name.text, f e.1)) es) n ≡ option_map f (entry (map (λ e. (e.0.name.text, e.1)) es) n)
+entry-of_places f [] n = refl
+entry-of_places f (e ∷ es) n =
+    ap (cond (bytes_eq n e.0.name.text) (Some (f e.1))) (entry-of_places f es n) ∙ cond_map (bytes_eq n e.0.name.text) (entry (map (λ e. (e.0.name.text, e.1)) es) n)
+  where
+    cond_map : (b : Bool) (r : Option ℕ) → cond b (Some (f e.1)) (option_map f r) ≡ option_map f (cond b (Some e.1) r)
+    cond_map true r = refl
+    cond_map false r = refl
+
+kind_of_place : (f : ℕ → Kind) (o : Option ℕ) → ◌≡◌ {A = Kind} (elim (option_map f o) [ Some k ↦ k | None ↦ kinds.Bool ]) (elim o [ Some t ↦ f t | None ↦ kinds.Bool ])
+kind_of_place f None = refl
+kind_of_place f (Some t) = refl
+
+module _ (p : Tree) where
+  kind_in-table : (y : TypeName) → kind_in (tables p).types y ≡ kind_named p y
+  kind_in-table (BoolName s) = refl
+  kind_in-table (IntName s) = refl
+  kind_in-table (DeclaredName n) =
+      ap (λ (o : Option Kind). elim o as (λ _. Kind) [ Some k ↦ k | None ↦ kinds.Bool ]) (entry-of_places (kind_at p) (numbered_from 0 p.types) n.text)
+      ∙ kind_of_place (kind_at p) (entry (type_places p) n.text)
+
+  -- the types of the table are those that the names mean
+  pub kind_in-tables : kind_in (tables p).types ≡ kind_named p
+  kind_in-tables = λ i y. kind_in-table y i
+
+below_at : (P : ℕ → Type 0) (n : ℕ) → Below n P → (x : ℕ) → x < n → P x
+below_at P zero h x lt = absurd (omega arith)
+below_at P (suc n) h x lt = elim (cases_lt x n) [ inl less ↦ below_at P n h.1 x less | inr more ↦ (let e : n ≡ x = omega arith in subst P e h.0) ]
+
+abbrev row_with : {X : Type 0} → (ℕ → X) → TypeDeclaration × ℕ → Text × X
+row_with f e = (e.0.name.text, f e.1)
+
+rows_agree : {X : Type 0} (f g : ℕ → X) (ds : List TypeDeclaration) (n m : ℕ) → n + length ds ≤ m → Below m (λ t. f t ≡ g t)
+    → map (row_with f) (numbered_from n ds) ≡ map (row_with g) (numbered_from n ds)
+rows_agree f g [] n m within same = refl
+rows_agree f g (d ∷ ds) n m within same =
+    ap (λ x. (d.name.text, x) ∷ map (row_with f) (numbered_from (suc n) ds)) (below_at (λ t. f t ≡ g t) m same n (omega arith))
+    ∙ ap (λ l. (d.name.text, g n) ∷ l) (rows_agree f g ds (suc n) m (omega arith) same)
+
+-- ---- declarations
+
+declared_by-named : (p : Tree) (d : Definition) → declared_by (kind_named p) d ≡ declared_as p d
+declared_by-named p (Alias y) = refl
+declared_by-named p (Enumeration cs) = refl
+declared_by-named p (StructureOf fs) = refl
+
+-- the values of the table are those of the literals
+pub value_in-all : (p : Tree) (l : Literal) → value_in (all_constructors p) l ≡ literal_value p l
+value_in-all p (Positive z s) = refl
+value_in-all p (Negative m z s) = refl
+value_in-all p (TruthValue b s) = refl
+value_in-all p (ConstructorName c) = refl
+
+-- what each table is made of
+pub record IsMade (p : Tree) (ks : List Kind) (s : Scope) : Type 0 where
+  pub variables : s.variables ≡ []
+  pub types : s.types ≡ map (λ e. (e.0.name.text, item kinds.Bool ks e.1)) (numbered_from 0 p.types)
+  pub declared : s.declared ≡ map (λ d. declared_by (kind_in s.types) d.definition) p.types
+  pub constructors : s.constructors ≡ all_constructors p
+  pub constants : s.constants ≡ map (λ c. (c.name.text, value_in s.constructors c.value)) p.constants
+  pub nodes : s.nodes ≡ map (λ e. (e.0.name.text, signature_by (kind_in s.types) e.0 e.1)) (numbered_from 0 p.nodes)
+
+pub made_of_source : (p : Tree) (ks : List Kind) (s : Scope) → AreKinds p ks → IsMade p ks s → s ≡ tables p
+made_of_source p ks s are made =
+    let types : s.types ≡ (tables p).types = made.types ∙ rows_agree (item kinds.Bool ks) (kind_at p) p.types 0 (length p.types) (omega arith) are.each in
+    let kind : kind_in s.types ≡ kind_named p = ap kind_in types ∙ kind_in-tables p in
+    let declared : s.declared ≡ (tables p).declared = made.declared ∙ ap (λ k. map (λ d. declared_by k d.definition) p.types) kind ∙ ap (λ (f : Definition → Declared). map (λ d. f d.definition) p.types) (λ i d. declared_by-named p d i) in
+    let value : value_in s.constructors ≡ literal_value p = ap value_in made.constructors ∙ (λ i l. value_in-all p l i) in
+    let constants : s.constants ≡ (tables p).constants = made.constants ∙ ap (λ (f : Literal → Value). map (λ c. (c.name.text, f c.value)) p.constants) value in
+    let nodes : s.nodes ≡ (tables p).nodes = made.nodes ∙ ap (λ k. map (λ e. (e.0.name.text, signature_by k e.0 e.1)) (numbered_from 0 p.nodes)) kind in
+    λ i. record { variables = made.variables i; constants = constants i; constructors = made.constructors i; types = types i; declared = declared i; nodes = nodes i }
+
+-- ---- few fields
+
+module _ (kind : TypeName → Kind) where
+  length-fields_by : (fs : List Fields) → length (fields_by kind fs) ≡ field_count fs
+  length-fields_by [] = refl
+  length-fields_by (g ∷ fs) =
+      length-append (fields_of_kind g.names (kind g.type_name)) (fields_by kind fs)
+      ∙ ap (λ n. n + length (fields_by kind fs)) (length-map g.names (λ n. record { name = n.text; kind = kind g.type_name }))
+      ∙ ap (λ n. length g.names + n) (length-fields_by fs) ∙ sym (sum_by-cons (λ h. length h.names) g fs)
+
+  has_few : (d : Definition) → DefinitionCounted d → IsTrue (has_few_fields (declared_by kind d))
+  has_few (Alias y) few = refl
+  has_few (Enumeration cs) few = refl
+  has_few (StructureOf fs) few = le-leb (length (fields_by kind fs)) 64 (subst (λ n. n ≤ 64) (sym (length-fields_by fs)) few)
+
+  and_is : (a b : Bool) → IsTrue a → IsTrue b → IsTrue (a && b)
+  and_is true b p q = q
+  and_is false b p q = p
+
+  pub all_have_few : (ds : List TypeDeclaration) → Each (λ d. DefinitionCounted d.definition) ds → IsTrue (list_all has_few_fields (map (λ d. declared_by kind d.definition) ds))
+  all_have_few [] each = refl
+  all_have_few (d ∷ ds) each = and_is (has_few_fields (declared_by kind d.definition)) _ (has_few d.definition each.0) (all_have_few ds each.1)
+
+-- ---- variables
+
+pub entered_of_source : (p : Tree) (s : Scope) (vs : List (Text × Placed)) (f : Node) → record s { variables = [] } ≡ tables p → vs ≡ placed (kinds_by (kind_in s.types) (groups f)) → record s { variables = vs } ≡ scope p f
+entered_of_source p s vs f made are =
+    let kind : kind_in s.types ≡ kind_named p = ap (λ t. kind_in t.types) made ∙ kind_in-tables p in
+    let placed_by : vs ≡ placed (group_kinds p (groups f)) = are ∙ ap (λ k. placed (kinds_by k (groups f))) kind in
+    λ i. record (made i) { variables = placed_by i }

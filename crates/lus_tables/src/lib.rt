@@ -1,0 +1,12 @@
+//! The tables of a source: what its declarations give each name.
+#![tactic(auto)]
+
+mod nodes;
+mod scopes;
+mod table;
+mod types;
+mod values;
+mod variables;
+
+pub use scopes::{enter, tables};
+pub use values::literal;

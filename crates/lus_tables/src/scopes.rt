@@ -1,0 +1,71 @@
+//! The tables in which the names of a source are looked up.
+
+ghost use Rattle.std.specs.Prelude.{◌≡◌, ◌≤◌, IfOk, OnErr, OnOk, []};
+ghost use Rattle.lus_syntax.specs.View.{node_seen, tree_seen};
+ghost use Rattle.lus_syntax.specs.Trees.{Tree as PlainTree};
+ghost use Rattle.lus_meaning.specs.Named.{Distinct, Named, names_in};
+ghost use Rattle.lus_meaning.specs.ScopeView.{entries_of, scope_of};
+ghost use Rattle.lus_meaning.specs.Sized.{Counted, variable_count};
+ghost use Rattle.lus_meaning.specs.Tables.{AreKinds, groups, placed, scope as scope_in, tables as tables_of};
+ghost use Rattle.lus_tables.specs.ByTable.{kind_in, kinds_by};
+
+use crate::nodes::nodes;
+use crate::types::{declared, types};
+use crate::values::{constants, constructors};
+use crate::variables::place_groups;
+use indexmap::IndexMap;
+use lus_meaning::{Placed, Scope};
+use lus_program::Kind;
+use lus_syntax::{Node, Tree};
+use lus_values::Memory;
+use std::alloc::Global;
+
+/// The tables of a source whose declared types are these, one by one; no variables.
+pub fn tables(alloc: Global, tree: &Tree, kinds: &[Kind]) -> Result<Scope, Memory>
+    requires counted { Counted (tree_seen tree.now) }
+    requires named { Named (tree_seen tree.now) }
+    requires kinds { AreKinds (tree_seen tree.now) kinds.now }
+    ensures { IfOk result (λ s. scope_of s ≡ tables_of (tree_seen tree.now)) }
+{
+    let types = types(alloc, &tree.types, kinds)?;
+    let declared = declared(alloc, &types, &tree.types)?;
+    let constructors = constructors(alloc, &tree.types)?;
+    let constants = constants(alloc, &constructors, &tree.constants)?;
+    let nodes = nodes(alloc, &types, &tree.nodes)?;
+    Ok(Scope {
+        variables: IndexMap::new(alloc),
+        constants,
+        constructors,
+        types,
+        declared,
+        nodes,
+    })
+}
+
+/// Puts a node's variables in the place of those that the tables have.
+pub fn enter(alloc: Global, scope: &mut Scope, node: &Node) -> Result<(), Memory>
+    requires distinct { Distinct (names_in (groups (node_seen node.now))) }
+    requires few { variable_count (groups (node_seen node.now)) ≤ 1000 }
+    ensures entered { OnOk result ((p : PlainTree) → record (scope_of scope.old) { variables = [] } ≡ tables_of p → scope_of scope.new ≡ scope_in p (node_seen node.now)) }
+    ensures kept { OnErr result (scope.new ≡ scope.old) }
+{
+    scope.variables = variables(alloc, &scope.types, node)?;
+    Ok(())
+}
+
+/// The table of a node's variables.
+fn variables(
+    alloc: Global,
+    types: &IndexMap<String, Kind>,
+    node: &Node,
+) -> Result<IndexMap<String, Placed>, Memory>
+    requires distinct { Distinct (names_in (groups (node_seen node.now))) }
+    requires few { variable_count (groups (node_seen node.now)) ≤ 1000 }
+    ensures { IfOk result (λ table. entries_of (λ x. x) table.entries ≡ placed (kinds_by (kind_in (entries_of (λ x. x) types.now.entries)) (groups (node_seen node.now)))) }
+{
+    let mut table = IndexMap::new(alloc);
+    place_groups(&mut table, types, &node.inputs)?;
+    place_groups(&mut table, types, &node.outputs)?;
+    place_groups(&mut table, types, &node.locals)?;
+    Ok(table)
+}
