@@ -1,17 +1,18 @@
 -- An order by uses, turned round, is an order by needs.
-use Rattle.std.proofs.Common.{arith, ◌≡◌, ◌∙◌, refl, sym, ap, subst, ℕ, zero, suc, ◌-◌, ◌<◌, List, [], ◌∷◌, length, reverse, Contains, Option, Some, None, IsTrue, ⊎_elim}
-use Rattle.std.proofs.lemmas.List.{reverse-append, length-reverse, get_or-reverse}
+use Rattle.std.proofs.Common.{arith, ◌≡◌, ◌∙◌, refl, sym, ap, subst, ℕ, zero, suc, ◌-◌, ◌<◌, ◌≤◌, List, [], ◌∷◌, length, reverse, Contains, Option, Some, None, IsTrue, ⊎_elim, not-suc-le-zero, length-append}
+use Rattle.std.proofs.lemmas.List.{reverse-append, length-reverse, get_or-reverse, get_or_append_left, get_or_push, get_or_default}
+use Rattle.std.proofs.lemmas.Bool.{cases_lt}
 use Rattle.std.proofs.lemmas.List.Elements.{Contains-append_cases, Contains-append_left, Contains-append_right, Contains-push}
 use Rattle.lus_values.specs.Lists.{item, Each, Below}
-use Rattle.lus_graph.specs.Ways.{Uses, used, IsOrdered, empty, next, IsOrder as IsUseOrder}
+use Rattle.lus_graph.specs.Ways.{Uses, used, IsOrdered, empty, next, IsDistinct, IsOrder as IsUseOrder}
 use Rattle.lus_graph.proofs.Steps.{no_item, one_item}
 use Rattle.lus_program.specs.declared.expr.Test.{Test}
 use Rattle.lus_program.specs.Programs.{Node, no_variable}
 use Rattle.lus_streams.specs.Clocks.{chain, clock_of}
 use Rattle.lus_streams.specs.Equations.{definition_of}
-use Rattle.lus_streams.specs.Order.{clock_variables, needs_right, needed, is_in, HasNeedsFirst, IsOrder}
+use Rattle.lus_streams.specs.Order.{clock_variables, needs_right, needed, is_in, HasNeedsFirst}
 use Rattle.lus_streams.proofs.Lists.{each_append, each_implies, each_in, below_at}
-use Rattle.lus_order.specs.Orders.{NeedsVariables}
+use Rattle.lus_order.specs.Orders.{NeedsVariables, OrdersVariables}
 use Rattle.lus_order.specs.Uses.{tested, uses_by, AreUses}
 use Rattle.lus_order.proofs.Cycles.{contains_in, used_needed}
 
@@ -22,6 +23,20 @@ has_uses uses xs (next {before = before} {x = z} ordered fresh all) x y c lt d =
     (λ (old : Contains before x). has_uses uses before ordered x y old lt d)
     (λ (last : Contains (z ∷ []) x). let same : z ≡ x = one_item z x last in all y lt (rw same d))
     (Contains-append_cases before (z ∷ []) x c))
+
+-- none stands twice in it
+distinct : (uses : Uses) (xs : List ℕ) → IsOrdered uses xs → IsDistinct xs
+distinct uses xs empty j k lt below e = absurd (not-suc-le-zero below)
+distinct uses xs (next {before = before} {x = z} ordered fresh all) j k lt below e = ⊎_elim
+    (λ (near : k < length before).
+    let first : j < length before = omega arith in
+    distinct uses before ordered j k lt near (sym (get_or_append_left before (z ∷ []) 0 j first) ∙ e ∙ get_or_append_left before (z ∷ []) 0 k near))
+    (λ (last : length before ≤ k).
+    let place : length before ≡ k = omega (arith, below, length-append before (z ∷ [])) in
+    let first : j < length before = omega arith in
+    let same : item 0 before j ≡ z = sym (get_or_append_left before (z ∷ []) 0 j first) ∙ e ∙ get_or_push before z 0 k place in
+    fresh (j, first, get_or_default before j z 0 first ∙ same))
+    (cases_lt k (length before))
 
 -- what is in a list is in it turned round
 contains_reversed : (xs : List ℕ) (y : ℕ) → Contains xs y → IsTrue (is_in (reverse xs) y)
@@ -89,8 +104,12 @@ module _ (f : Node) (uses : Uses) (are : AreUses f uses) (within : NeedsVariable
       subst (HasNeedsFirst f) (sym (reverse-append before (x ∷ [])))
       (needs_in before ordered x (all x (Contains-push before x)) has, needs_first before ordered (λ y c. all y (Contains-append_left before (x ∷ []) y c)))
 
-  pub need_order : (order : List ℕ) → IsUseOrder uses order → IsOrder f (reverse order)
+  pub need_order : (order : List ℕ) → IsUseOrder uses order → OrdersVariables f order
   need_order order o = record {
-    first = needs_first order o.ordered o.within;
-    all = below_all (λ x. IsTrue (is_in (reverse order) x)) (length f.variables) (λ x lt. contains_reversed order x (o.whole x (omega (arith, are.size))));
+    order = record {
+      first = needs_first order o.ordered o.within;
+      all = below_all (λ x. IsTrue (is_in (reverse order) x)) (length f.variables) (λ x lt. contains_reversed order x (o.whole x (omega (arith, are.size))));
+    };
+    within = λ x c. let lt = o.within x c in omega (arith, lt, are.size);
+    distinct = distinct uses order o.ordered;
   }

@@ -1,7 +1,13 @@
 -- Orders of variables, and cycles of needs (Halbwachs, Caspi, Raymond and Pilaud 1991, on cyclic definitions).
-use Rattle.std.specs.Prelude.{◌≡◌, ℕ, suc, Bool, ◌<◌, ◌≤◌, List, [], ◌∷◌, length, map, reverse, Contains}
+use Rattle.std.specs.Prelude.{◌≡◌, ℕ, suc, Bool, ◌<◌, ◌≤◌, List, [], ◌∷◌, length, map, reverse, Contains, Some, slice_get}
 use Rattle.lus_values.specs.Lists.{item, Each, Below}
 use Rattle.lus_syntax.specs.Lexemes.{Text}
+use Rattle.lus_syntax.specs.declared.refusal.Refusal.{Refusal}
+use Rattle.lus_syntax.specs.declared.token.Place.{Place}
+use Rattle.lus_program.specs.declared.node.Equation.{Equation as StoredEquation}
+use Rattle.lus_program.specs.declared.node.Node.{Node as StoredNode}
+use Rattle.lus_program.specs.declared.node.Program.{Program as StoredProgram}
+use Rattle.lus_program.specs.View.{node_of}
 use Rattle.lus_graph.specs.Ways.{IsDistinct}
 use Rattle.lus_program.specs.Programs.{Node, Program, no_variable, node_at}
 use Rattle.lus_streams.specs.Order.{needed, IsOrder}
@@ -13,10 +19,16 @@ use Rattle.lus_streams.specs.Streams.{Instant, World, Satisfies}
 abbrev pub NeedsVariables : Node → Type 0
 NeedsVariables f = Below (length f.variables) (λ x. Each (λ y. y < length f.variables) (needed f x))
 
--- for each of the first n nodes, a list of its variables in which each comes after those that it needs
+-- all variables of f, each once, in an order in which each comes after those that it needs
+pub record OrdersVariables (f : Node) (xs : List ℕ) : Type 0 where
+  pub order : IsOrder f (reverse xs)
+  pub within : (x : ℕ) → Contains xs x → x < length f.variables
+  pub distinct : IsDistinct xs
+
+-- for each of the first n nodes, an order of its variables
 pub record AreFirstOrders (p : Program) (n : ℕ) (orders : List (List ℕ)) : Type 0 where
   pub size : length orders ≡ n
-  pub each : (f : ℕ) → f < n → IsOrder (node_at p f) (reverse (item [] orders f))
+  pub each : (f : ℕ) → f < n → OrdersVariables (node_at p f) (item [] orders f)
 
 abbrev pub AreOrders : Program → List (List ℕ) → Type 0
 AreOrders p orders = AreFirstOrders p (length p.nodes) orders
@@ -33,14 +45,25 @@ pub record IsNeedCycle (f : Node) (xs : List ℕ) : Type 0 where
 abbrev pub name_of : Node → ℕ → Text
 name_of f x = (item no_variable f.variables x).name
 
--- these are the names of a cycle of needs of node f
-pub record NamesCycle (f : Node) (names : List Text) : Type 0 where
-  pub cycle : List ℕ
-  pub is_cycle : IsNeedCycle f cycle
-  pub named : names ≡ map (name_of f) cycle
+-- an equation has x on its left, at this place of the source
+abbrev pub HasTarget : StoredEquation → ℕ → Place → Type 0
+HasTarget q x place = (k : ℕ) × (slice_get q.targets.items k ≡ Some x) × (slice_get q.places.items k ≡ Some place)
 
-abbrev pub NamesCycleOf : Program → List Text → Type 0
-NamesCycleOf p names = (f : ℕ) × (f < length p.nodes) × NamesCycle (node_at p f) names
+-- x stands at this place on the left of its equation
+abbrev pub StandsLeft : StoredNode → ℕ → Place → Type 0
+StandsLeft f x place = (q : StoredEquation) × Contains f.equations.items q × HasTarget q x place
+
+-- a refusal names the variables of a cycle of needs of f, and has the first one's place on the left, if it has one
+pub record TellsCycle (f : StoredNode) (e : Refusal) : Type 0 where
+  pub cycle : List ℕ
+  pub is_cycle : IsNeedCycle (node_of f) cycle
+  pub named : e.cycle ≡ map (name_of (node_of f)) cycle
+  pub place : Place
+  pub placed : (e.line ≡ place.line) × (e.column ≡ place.column)
+  pub left : (some : Place) → StandsLeft f (item 0 cycle 0) some → StandsLeft f (item 0 cycle 0) place
+
+abbrev pub TellsCycleOf : StoredProgram → Refusal → Type 0
+TellsCycleOf p e = (f : StoredNode) × Contains p.nodes.items f × TellsCycle f e
 
 -- whatever flags meet the requirements of each node, in each world without nil in its inputs they hold at the newest instant
 abbrev pub FlagsHoldIn : Program → Type 0

@@ -8,7 +8,7 @@ ghost use Rattle.lus_streams.specs.OnClock.{ProgramOnClocks};
 ghost use Rattle.lus_streams.specs.Order.{IsOrder, HasOrder, IsCausal};
 ghost use Rattle.lus_streams.specs.Flags.{CallsHaveOutputs};
 ghost use Rattle.lus_streams.specs.Laws.{StreamsAreUnique};
-ghost use Rattle.lus_order.specs.Orders.{NeedsVariables, AreOrders, NamesCycle, NamesCycleOf, FlagsHoldIn};
+ghost use Rattle.lus_order.specs.Orders.{NeedsVariables, AreOrders, OrdersVariables, TellsCycle, TellsCycleOf, FlagsHoldIn};
 
 use crate::refusing::refusal_of;
 use crate::uses::uses_in;
@@ -35,8 +35,8 @@ fn narrowed(alloc: Global, places: &[usize]) -> Result<Vec<u32>, Memory>
 /// An order of a node's variables.
 fn order_of_node(alloc: Global, node: &Node) -> Result<Vec<u32>, Refusal>
     requires { NeedsVariables (node_of node.now) }
-    ensures order { IfOk result (λ order. IsOrder (node_of node.now) (reverse order.items)) }
-    ensures refused { IfErr result (λ e. e.number ≢ numbers.Memory → (e.number ≡ numbers.Cycle) × NamesCycle (node_of node.now) e.cycle) }
+    ensures order { IfOk result (λ order. OrdersVariables (node_of node.now) order.items) }
+    ensures refused { IfErr result (λ e. e.number ≢ numbers.Memory → (e.number ≡ numbers.Cycle) × TellsCycle node.now e) }
 {
     let uses = uses_in(alloc, node)?;
     match order_of(alloc, &uses) {
@@ -45,8 +45,8 @@ fn order_of_node(alloc: Global, node: &Node) -> Result<Vec<u32>, Refusal>
     }
 }
 
-/// For each node, in the program's order, all its variables in an order in which each comes after those that it needs at
-/// the same instant; else a refusal with a cycle of variables, where the first of them is defined. On clocks, a program with
+/// For each node, in the program's order, all its variables, each once and after those that it needs at the same instant;
+/// else a refusal with a cycle of variables, at the place where the first of them is defined. On clocks, a program with
 /// orders has unique streams, and flags hold in them.
 ///
 /// Linear in variables and needs.
@@ -55,7 +55,7 @@ pub fn orders_of(alloc: Global, program: &Program) -> Result<Vec<Vec<u32>>, Refu
     ensures order { IfOk result (λ orders. AreOrders (program_seen program.now) (map (λ order. order.items) orders.items)) }
     ensures causal { OnOk result (IsCausal (program_seen program.now)) }
     ensures refused { IfErr result (λ e. e.number ≢ numbers.Memory → (IsCausal (program_seen program.now) → ⊥) × (e.number ≡ numbers.Cycle)) }
-    ensures cycle { IfErr result (λ e. e.number ≡ numbers.Cycle → NamesCycleOf (program_seen program.now) e.cycle) }
+    ensures cycle { IfErr result (λ e. e.number ≡ numbers.Cycle → TellsCycleOf program.now e) }
     ensures unique { OnOk result (ProgramOnClocks (program_seen program.now) → StreamsAreUnique (program_seen program.now)) }
     ensures flags { OnOk result (ProgramOnClocks (program_seen program.now) → Each (CallsHaveOutputs (program_seen program.now)) (program_seen program.now).nodes → FlagsHoldIn (program_seen program.now)) }
 {

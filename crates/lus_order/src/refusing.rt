@@ -1,27 +1,38 @@
 //! The refusal of a node whose variables have no order.
 
-ghost use Rattle.std.specs.Prelude.{◌≡◌, ◌≢◌, ℕ, ◌<◌, map, length, string_bytes, IfOk};
+ghost use Rattle.std.specs.Prelude.{◌≡◌, ◌≢◌, ℕ, ◌<◌, map, length, string_bytes, IfOk, MatchOption};
 ghost use Rattle.lus_values.specs.Lists.{item};
 ghost use Rattle.lus_syntax.specs.declared.refusal.RefusalNumber.TheVariants as numbers;
+ghost use Rattle.lus_syntax.specs.declared.token.Place.{Place as PlaceType};
 ghost use Rattle.lus_program.specs.View.{node_of};
-ghost use Rattle.lus_order.specs.Orders.{name_of, IsNeedCycle, NamesCycle};
+ghost use Rattle.lus_order.specs.Orders.{name_of, IsNeedCycle, HasTarget, StandsLeft, TellsCycle};
 ghost use Rattle.lus_order.specs.Uses.{IsNeedCycleError};
 
 use lus_graph::GraphError;
-use lus_program::Node;
+use lus_program::{Equation, Node};
 use lus_syntax::{Place, Refusal};
 use lus_values::Memory;
 use std::alloc::Global;
 
+/// Where a variable stands on the left of an equation.
+fn place_in(equation: &Equation, variable: usize) -> Option<Place>
+    ensures { MatchOption result ((place : PlaceType) → HasTarget equation.now variable place → ⊥) (HasTarget equation.now variable) }
+{
+    for (index, target) in equation.targets.iter().enumerate() {
+        if *target as usize == variable {
+            return equation.places.get(index).copied();
+        }
+    }
+    None
+}
+
 /// Where a variable stands on a left side; where none has it, its declaration, or the node's.
-fn place_of_variable(node: &Node, variable: usize) -> Place {
+fn place_of_variable(node: &Node, variable: usize) -> Place
+    ensures { (some : PlaceType) → StandsLeft node.now variable some → StandsLeft node.now variable result }
+{
     for equation in &node.equations {
-        for (index, target) in equation.targets.iter().enumerate() {
-            if *target as usize == variable {
-                if let Some(place) = equation.places.get(index) {
-                    return *place;
-                }
-            }
+        if let Some(place) = place_in(equation, variable) {
+            return place;
         }
     }
     match node.variables.get(variable) {
@@ -45,7 +56,7 @@ fn names_of(alloc: Global, node: &Node, variables: &[usize]) -> Result<Vec<Strin
 /// The refusal of a node with this cycle of needs.
 fn refusal_with(alloc: Global, node: &Node, cycle: &[usize]) -> Refusal
     requires { IsNeedCycle (node_of node.now) cycle.now }
-    ensures { result.number ≢ numbers.Memory → (result.number ≡ numbers.Cycle) × NamesCycle (node_of node.now) result.cycle }
+    ensures { result.number ≢ numbers.Memory → (result.number ≡ numbers.Cycle) × TellsCycle node.now result }
 {
     match names_of(alloc, node, cycle) {
         Ok(names) => {
@@ -59,7 +70,7 @@ fn refusal_with(alloc: Global, node: &Node, cycle: &[usize]) -> Refusal
 /// The refusal of a node whose uses have this error.
 pub fn refusal_of(alloc: Global, node: &Node, error: &GraphError) -> Refusal
     requires { IsNeedCycleError (node_of node.now) error.now }
-    ensures { result.number ≢ numbers.Memory → (result.number ≡ numbers.Cycle) × NamesCycle (node_of node.now) result.cycle }
+    ensures { result.number ≢ numbers.Memory → (result.number ≡ numbers.Cycle) × TellsCycle node.now result }
 {
     match error {
         GraphError::Memory => Refusal::memory(),
