@@ -6,7 +6,7 @@ ghost use Rattle.lus_graph.specs.Ways.{IsOrder};
 ghost use Rattle.lus_syntax.specs.View.{tree_seen};
 ghost use Rattle.lus_meaning.specs.Loopless.{node_names, node_uses as calls_of_nodes};
 ghost use Rattle.lus_meaning.specs.ScopeView.{Faulty};
-ghost use Rattle.lus_meaning.specs.Sized.{call_depth_at, greater, greatest};
+ghost use Rattle.lus_meaning.specs.Sized.{call_depth_at, greatest};
 
 use crate::uses::node_uses;
 use indexmap::IndexSet;
@@ -46,14 +46,7 @@ fn deepest_call(called: &[u32], depths: &[usize]) -> usize
 {
     let mut deepest = 0;
     for place in called {
-        deepest = larger(deepest, depths.get(*place as usize).copied().unwrap_or(0));
+        deepest = deepest.max(depths.get(*place as usize).copied().unwrap_or(0));
     }
     deepest
-}
-
-/// The larger of two numbers.
-pub fn larger(m: usize, n: usize) -> usize
-    ensures { result ≡ greater m n }
-{
-    if m < n { n } else { m }
 }

@@ -10,7 +10,7 @@ ghost use Rattle.lus_meaning.specs.Sized.{Bounded, greatest, leaves_at, nesting_
 ghost use Rattle.lus_limits.specs.Limits.{IsLimited};
 ghost use Rattle.lus_limits.specs.ByNames.{leaves_of as leaves_by_names, nesting_of as nesting_by_names, of_name as by_name};
 
-use crate::calls::{check_calls, larger};
+use crate::calls::check_calls;
 use crate::named::of_name;
 use crate::recursion::Orders;
 use indexmap::IndexSet;
@@ -127,7 +127,7 @@ fn deepest_field(types: &IndexSet<String>, groups: &[Fields], nesting: &[usize])
 {
     let mut deepest = 0;
     for group in groups {
-        deepest = larger(deepest, of_name(types, &group.type_name, 0, 0, nesting));
+        deepest = deepest.max(of_name(types, &group.type_name, 0, 0, nesting));
     }
     deepest
 }
