@@ -1,1 +1,6 @@
 pub mod NameLists
+pub mod NewNames
+pub mod GroupNames
+pub mod NodeParts
+pub mod Eaches
+pub mod Faults

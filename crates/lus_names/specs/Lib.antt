@@ -1,1 +1,2 @@
 pub mod NameView
+pub mod Parts

@@ -1,6 +1,13 @@
 //! Names: what is used is declared, and nothing twice.
 #![tactic(auto)]
 
+mod checking;
+mod declarations;
+mod definitions;
+mod left;
 mod names;
+mod nodes;
+mod refusing;
 
-pub use names::{Names, declare, has, unknown};
+pub use checking::check_names;
+pub use names::Names;

@@ -8,9 +8,10 @@ ghost use Rattle.lus_meaning.specs.Named.{is_in, all_new, knows, knows_parts};
 ghost use Rattle.lus_names.specs.NameView.{texts, known_seen};
 ghost use Rattle.lus_meaning.specs.ScopeView.{Faulty};
 
-use lus_meaning::Fault;
 use indexmap::IndexSet;
+use lus_meaning::Fault;
 use lus_syntax::{Expr, Label, Lead, Name, Part, Place, Test};
+use std::alloc::Global;
 
 /// The names of each space, in the order of their declarations.
 #[derive(Drop)]
@@ -49,6 +50,20 @@ impl Names {
     ghost use Rattle.lus_syntax.specs.View.{name_seen, lead_seen, label_seen, test_seen};
     ghost use Rattle.lus_meaning.specs.Named.{is_in, knows_lead, knows_label, knows_test, knows_name as name_known};
     ghost use Rattle.lus_names.specs.NameView.{known_seen};
+    ghost use Rattle.lus_names.specs.Parts.{nothing};
+
+    /// No names yet.
+    pub fn new(alloc: Global) -> Self
+        ensures { known_seen result ≡ nothing }
+    {
+        Names {
+            variables: IndexSet::new(alloc),
+            constants: IndexSet::new(alloc),
+            constructors: IndexSet::new(alloc),
+            types: IndexSet::new(alloc),
+            nodes: IndexSet::new(alloc),
+        }
+    }
 
     fn knows_name(&self, name: &str) -> bool
         ensures { result ≡ name_known (known_seen self.now) name.now }
@@ -71,7 +86,7 @@ impl Names {
         }
     }
 
-    fn unknown_test(&self, test: &Test) -> Option<Place>
+    pub fn unknown_test(&self, test: &Test) -> Option<Place>
         ensures { is_none result ≡ knows_test (known_seen self.now) (test_seen test.now) }
     {
         match test {

@@ -1,0 +1,45 @@
+-- The rules of names, part by part.
+use Rattle.std.specs.Prelude.{List, [], ◌++◌, ◌&&◌, Bool, map, flat_map, IsTrue}
+use Rattle.std.specs.List.{list_all}
+use Rattle.lus_values.specs.Lists.{Each}
+use Rattle.lus_syntax.specs.Lexemes.{Text}
+use Rattle.lus_syntax.specs.Trees.{Equation, Group, Node, Tree}
+use Rattle.lus_meaning.specs.Tables.{text_of, groups}
+use Rattle.lus_meaning.specs.Named.{DefinitionNamed, Distinct, Known, NodeNamed, constant_known, defined_names, is_in, known, left_names, names_in, test_known, type_known}
+
+-- no names
+abbrev pub nothing : Known
+nothing = record { variables = []; constants = []; constructors = []; types = []; nodes = [] }
+
+-- what stands for something in a node's text
+abbrev pub in_node : Known → Node → Known
+in_node k f = record k { variables = names_in (groups f) }
+
+-- what stands for something outside of nodes
+abbrev pub outside : Known → Known
+outside k = record k { variables = [] }
+
+-- the type and the clock of a declaration
+abbrev pub group_known : Known → Group → Bool
+group_known k g = type_known k.types g.type_name && test_known k g.test
+
+abbrev pub names_left : List Equation → List Text
+names_left qs = flat_map (λ q. map text_of q.left) qs
+
+-- each output and each local stands on exactly one left side, once
+pub record LeftsNamed (f : Node) : Type 0 where
+  pub distinct : Distinct (left_names f)
+  pub defined : IsTrue (list_all (is_in (defined_names f)) (left_names f))
+  pub whole : IsTrue (list_all (is_in (left_names f)) (defined_names f))
+
+-- no name is declared twice in its space
+pub record AreDistinct (p : Tree) : Type 0 where
+  pub types : Distinct (known p []).types
+  pub values : Distinct ((known p []).constants ++ (known p []).constructors)
+  pub nodes : Distinct (known p []).nodes
+
+-- what each declaration uses is declared
+pub record UsesKnown (p : Tree) : Type 0 where
+  pub definitions : Each (λ d. DefinitionNamed (known p []).types d.definition) p.types
+  pub constants : IsTrue (list_all (constant_known (known p [])) p.constants)
+  pub nodes : Each (λ f. NodeNamed (in_node (known p []) f) f) p.nodes
