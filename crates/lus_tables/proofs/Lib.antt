@@ -2,3 +2,4 @@ pub mod Appending
 pub mod Placing
 pub mod Groups
 pub mod OfSource
+pub mod EachNode

@@ -47,6 +47,7 @@ pub fn enter(alloc: Global, scope: &mut Scope, node: &Node) -> Result<(), Memory
     requires distinct { Distinct (names_in (groups (node_seen node.now))) }
     requires few { variable_count (groups (node_seen node.now)) ≤ 1000 }
     ensures entered { OnOk result ((p : PlainTree) → record (scope_of scope.old) { variables = [] } ≡ tables_of p → scope_of scope.new ≡ scope_in p (node_seen node.now)) }
+    ensures others { OnOk result (record (scope_of scope.new) { variables = [] } ≡ record (scope_of scope.old) { variables = [] }) }
     ensures kept { OnErr result (scope.new ≡ scope.old) }
 {
     scope.variables = variables(alloc, &scope.types, node)?;
