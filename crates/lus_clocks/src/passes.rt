@@ -37,6 +37,14 @@ impl Model for Clocked {
 }
 
 impl Clocked {
+    /// The typed program that is on clocks.
+    pub fn typed(&self) -> &Typed
+        ensures same { result.now ≡ self.now }
+        ensures on_clocks { ProgramOnClocks (program_seen self.now) }
+    {
+        &self.typed
+    }
+
     /// The program that is on clocks.
     pub fn program(&self) -> &Program
         ensures { result.now ≡ self.now }
@@ -81,6 +89,14 @@ impl Model for Initialised {
 }
 
 impl Initialised {
+    /// The program on clocks in which nil stands only where flags allow.
+    pub fn clocked(&self) -> &Clocked
+        ensures same { result.now ≡ self.now }
+        ensures flagged { IsFlagged (program_seen self.now) }
+    {
+        &self.clocked
+    }
+
     /// The program in which nil stands only where flags allow.
     pub fn program(&self) -> &Program
         ensures { result.now ≡ self.now }

@@ -50,7 +50,7 @@ each_contained : (P : ℕ → Type 0) (ys : List ℕ) → ((y : ℕ) → Contain
 each_contained P [] h = tt
 each_contained P (y ∷ ys) h = (h y (0, omega arith, refl), each_contained P ys (λ z c. h z (suc c.0, omega arith, c.2)))
 
-below_all : (P : ℕ → Type 0) (n : ℕ) → ((x : ℕ) → x < n → P x) → Below n P
+pub below_all : (P : ℕ → Type 0) (n : ℕ) → ((x : ℕ) → x < n → P x) → Below n P
 below_all P zero h = tt
 below_all P (suc n) h = (h n (omega arith), below_all P n (λ x lt. h x (omega arith)))
 
