@@ -9,7 +9,7 @@ use Rattle.lus_program.specs.declared.node.Variable.{Variable}
 use Rattle.lus_program.specs.View.{variable_of}
 use Rattle.lus_meaning.specs.Scopes.{Scope}
 use Rattle.lus_meaning.specs.Sized.{variable_count}
-use Rattle.lus_types.specs.TypeEntries.{variables_in}
+use Rattle.lus_types.specs.GroupVariables.{variables_in}
 
 length-variables : (s : Scope) (gs : List Group) → length (flat_map (variables_in s) gs) ≡ variable_count gs
 length-variables s [] = refl

@@ -1,5 +1,6 @@
-pub mod TypeLookups
+pub mod ValueTypes
 pub mod Numbering
 pub mod Groups
 pub mod NodesMeant
 pub mod Faults
+pub mod FirstFaults

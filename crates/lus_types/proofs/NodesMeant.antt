@@ -1,5 +1,5 @@
 -- A node of the code is the one that is meant, part by part.
-use Rattle.std.proofs.Common.{◌≡◌, ◌∙◌, refl, ap, sym, ℕ, ◌+◌, List, [], ◌∷◌, ◌++◌, length, map, flat_map, true, false, length-append}
+use Rattle.std.proofs.Common.{◌≡◌, ◌∙◌, refl, ap, sym, ℕ, ◌+◌, List, [], ◌∷◌, length, map, flat_map, true, false, length-append}
 use Rattle.std.specs.List.{list_all}
 use Rattle.std.specs.Prelude.{option_map, string_bytes}
 use Rattle.std.proofs.lemmas.List.{length-map}
@@ -16,18 +16,15 @@ use Rattle.lus_meaning.specs.Sized.{variable_count}
 use Rattle.lus_meaning.specs.Tables.{each_of, group_kinds, groups, kind_named, scope}
 use Rattle.lus_meaning.specs.Meaning.{equations_meant, node_meant, test_meant, variables_of}
 use Rattle.lus_meaning.specs.WellTyped.{NodeTyped, test_typed}
-use Rattle.lus_types.specs.TypeEntries.{variables_in}
-use Rattle.lus_types.proofs.TypeLookups.{kind_in-tables}
+use Rattle.lus_types.specs.GroupVariables.{variables_in}
+use Rattle.lus_tables.proofs.OfSource.{kind_in-tables}
 
 length-kinds : (p : tree.Tree) (gs : List tree.Group) → length (group_kinds p gs) ≡ variable_count gs
 length-kinds p [] = refl
 length-kinds p (g ∷ gs) = length-append (each_of g.names (kind_named p g.type_name)) (group_kinds p gs) ∙ ap (λ n. n + length (group_kinds p gs)) (length-map g.names _) ∙ ap (λ n. length g.names + n) (length-kinds p gs) ∙ sym (sum_by-cons (λ h. length h.names) g gs)
 
 variables_are : (p : tree.Tree) (f : tree.Node) (gs : List tree.Group) → flat_map (variables_in (scope p f)) gs ≡ flat_map (variables_of p (scope p f)) gs
-variables_are p f [] = refl
-variables_are p f (g ∷ gs) =
-    ap (λ (k : Kind). map (λ n. record { name = n.text; kind = k; test = option_map (test_meant (scope p f)) g.test }) g.names ++ flat_map (variables_in (scope p f)) gs) (kind_in-tables p g.type_name)
-    ∙ ap (λ vs. variables_of p (scope p f) g ++ vs) (variables_are p f gs)
+variables_are p f gs = ap (λ (kind : tree.TypeName → Kind). flat_map (λ g. map (λ n. record { name = n.text; kind = kind g.type_name; test = option_map (test_meant (scope p f)) g.test }) g.names) gs) (kind_in-tables p)
 
 same_node : (k l : NodeKind) (a b : Text) (m n o q : ℕ) (us vs : List Variable) (es fs : List Equation) → k ≡ l → a ≡ b → m ≡ n → o ≡ q → us ≡ vs → es ≡ fs
     → (let x : Node = record { kind = k; name = a; inputs = m; outputs = o; variables = us; equations = es } in x) ≡ record { kind = l; name = b; inputs = n; outputs = q; variables = vs; equations = fs }

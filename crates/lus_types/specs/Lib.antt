@@ -1,1 +1,4 @@
-pub mod TypeEntries
+pub mod GroupVariables
+pub mod Numbers
+pub mod ProgramSets
+pub mod WellFormedProps

@@ -7,7 +7,7 @@ ghost use Rattle.lus_meaning.specs.Tables.{literal_value, tables};
 ghost use Rattle.lus_meaning.specs.Types.{value_kind};
 ghost use Rattle.lus_meaning.specs.WellTyped.{constant_typed};
 ghost use Rattle.lus_meaning.specs.ScopeView.{Faulty, scope_of};
-ghost use Rattle.lus_types.specs.TypeEntries.{kind_in};
+ghost use Rattle.lus_tables.specs.ByTable.{kind_in};
 
 use lus_elaboration::same;
 use lus_meaning::{Fault, Scope};

@@ -3,6 +3,7 @@
 
 mod constants;
 mod nodes;
+mod passes;
+mod typed;
 
-pub use constants::check_constants;
-pub use nodes::node;
+pub use typed::{Typed, check_types};

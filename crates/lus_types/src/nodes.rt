@@ -9,7 +9,7 @@ ghost use Rattle.lus_meaning.specs.Sized.{variable_count};
 ghost use Rattle.lus_meaning.specs.Meaning.{equations_meant, node_meant, test_meant};
 ghost use Rattle.lus_meaning.specs.WellTyped.{NodeTyped, equation_typed, is_pure, keeps_memory, test_typed};
 ghost use Rattle.lus_meaning.specs.ScopeView.{scope_of, Faulty};
-ghost use Rattle.lus_types.specs.TypeEntries.{variables_in};
+ghost use Rattle.lus_types.specs.GroupVariables.{variables_in};
 
 use crate::constants::kind_named;
 use lus_elaboration::{equation, memory, test_placed};
