@@ -1,10 +1,10 @@
 //! The names in the declarations of types and constants.
 
-ghost use Rattle.std.specs.Prelude.{◌≡◌, ◌++◌, map, is_none, option_map, OnOk, IfErr, true, false};
+ghost use Rattle.std.specs.Prelude.{◌≡◌, map, is_none, OnOk, IfErr, true, false};
 ghost use Rattle.std.specs.List.{list_all};
 ghost use Rattle.lus_values.specs.Lists.{Each};
 ghost use Rattle.lus_syntax.specs.View.{constant_seen, definition_seen, fields_seen, literal_seen, type_name_seen, type_seen};
-ghost use Rattle.lus_meaning.specs.Named.{DefinitionNamed, Distinct, all_new, constant_known, field_names, literal_known, maybe_known, type_known};
+ghost use Rattle.lus_meaning.specs.Named.{DefinitionNamed, all_new, constant_known, field_names, literal_known, maybe_known, type_known};
 ghost use Rattle.lus_meaning.specs.ScopeView.{Faulty};
 ghost use Rattle.lus_names.specs.NameView.{known_seen, texts};
 

@@ -1,6 +1,6 @@
 //! The names of a node.
 
-ghost use Rattle.std.specs.Prelude.{◌≡◌, ◌++◌, ◌&&◌, map, is_none, option_map, OnOk, IfErr, true, false};
+ghost use Rattle.std.specs.Prelude.{◌≡◌, ◌++◌, ◌&&◌, map, is_none, OnOk, IfErr, true, false};
 ghost use Rattle.std.specs.List.{list_all};
 ghost use Rattle.lus_values.specs.Lists.{Each};
 ghost use Rattle.lus_syntax.specs.View.{equation_seen, group_seen, node_seen};
