@@ -1,4 +1,2 @@
 pub mod GroupVariables
 pub mod Numbers
-pub mod ProgramSets
-pub mod WellFormedProps

@@ -4,6 +4,6 @@
 mod constants;
 mod nodes;
 mod passes;
-mod typed;
+mod typing;
 
-pub use typed::{Typed, check_types};
+pub use typing::check_types;

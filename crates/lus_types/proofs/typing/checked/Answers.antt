@@ -1,7 +1,7 @@
 use Rattle.std.proofs.lemmas.Result.{err_from_is_err_and}
 use Rattle.lus_syntax.specs.View.{tree_seen}
 use Rattle.lus_types.proofs.FirstFaults.{recursion_fails, sizes_fail, types_hold, types_refuse}
-use Rattle.lus_types.proofs.typed.checked.Goals as goal
+use Rattle.lus_types.proofs.typing.checked.Goals as goal
 
 pub returns-in_err-orders-clause-refused : goal.returns-in_err-orders-clause-refused
 returns-in_err-orders-clause-refused c =

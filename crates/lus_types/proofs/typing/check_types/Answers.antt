@@ -1,5 +1,5 @@
 use Rattle.std.proofs.lemmas.Result.{err_from_is_err_and}
-use Rattle.lus_types.proofs.typed.check_types.Goals as goal
+use Rattle.lus_types.proofs.typing.check_types.Goals as goal
 
 pub returns-in_err-program-clause-refused : goal.returns-in_err-program-clause-refused
 returns-in_err-program-clause-refused c =

@@ -1,4 +1,4 @@
-//! What stands for a source from here on: its tree, and the program that it means.
+//! The checks of a source's declarations, one behind another.
 
 ghost use Rattle.std.specs.Prelude.{◌≡◌, ◌≢◌, IfErr, IfOk, OnOk};
 ghost use Rattle.lus_syntax.specs.declared.refusal.RefusalNumber.TheVariants as numbers;
@@ -6,33 +6,23 @@ ghost use Rattle.lus_syntax.specs.View.{tree_seen};
 ghost use Rattle.lus_program.specs.View.{program_seen};
 ghost use Rattle.lus_meaning.specs.Meaning.{program_of};
 ghost use Rattle.lus_meaning.specs.Refusals.{FirstFails, WellFormed};
-ghost use Rattle.lus_types.specs.ProgramSets.{program_set};
-ghost use Rattle.lus_types.specs.WellFormedProps.{well_formed_prop};
 
 use crate::passes::{counts, names, recursion, sizes, types};
+use lus_meaning::Typed;
 use lus_program::Program;
 use lus_syntax::{Refusal, Tree};
 use std::alloc::Global;
-
-/// A tree, and the program that it means.
-#[derive(Drop)]
-pub struct Typed {
-    pub tree: Tree,
-    pub program: Program,
-    ghost means: { program_seen program ≡ program_of (tree_seen tree) } by { program_set (program_seen program) (program_of (tree_seen tree)) },
-    ghost well_formed: { WellFormed (tree_seen tree) } by { well_formed_prop (tree_seen tree) },
-}
 
 /// Checks a source against the limits of its declarations, then its names, recursion, the limits of sizes, and types, each
 /// over the whole source; gives the program that it means. Refuses by the number of the first of these that fails (E10, E4,
 /// E9, E10, E5) at a place of a fault of it, or for want of memory (E11).
 pub fn check_types(alloc: Global, tree: Tree) -> Result<Typed, Refusal>
-    ensures same { IfOk result (λ typed. tree_seen typed.tree ≡ tree_seen tree) }
     ensures ok { OnOk result (WellFormed (tree_seen tree)) }
+    ensures means { IfOk result (λ typed. program_seen typed ≡ program_of (tree_seen tree)) }
     ensures refused { IfErr result (λ e. e.number ≢ numbers.Memory → FirstFails (tree_seen tree) e.number) }
 {
     let program = checked(alloc, &tree)?;
-    Ok(Typed { tree, program })
+    Ok(Typed::new(tree, program))
 }
 
 /// The program that a source means, where no pass refuses it.
