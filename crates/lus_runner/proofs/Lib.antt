@@ -2,6 +2,7 @@ pub mod Numbering
 pub mod Operands
 pub mod PlacedEquations
 pub mod Shapes
+pub mod RightSides
 pub mod Solutions
 pub mod PlainStreams
 pub mod PlainSteps

@@ -16,10 +16,10 @@ use Rattle.lus_machine.specs.declared.request.Reply.{Reply}
 use Rattle.lus_machine.specs.declared.request.Reply.TheVariants.{Outputs, Done, Refused}
 use Rattle.lus_machine.specs.declared.request.Why.TheVariants.{Shape, Presence, Fault, NoSave}
 use Rattle.lus_runner.specs.Plain.{plain_node, IsPlain}
-use Rattle.lus_runner.specs.Evaluation.{filled, IsFilled, all_computed, fits, IsComputedReply}
+use Rattle.lus_runner.specs.Evaluation.{filled, IsFilled, all_computed, IsSolved, fits, IsComputedReply}
 use Rattle.lus_runner.specs.Replies.{entries_fit, IsStep, IsReply}
 use Rattle.lus_runner.proofs.Shapes.{fitting_lengths}
-use Rattle.lus_runner.proofs.Solutions.{filled_back, filled_reversed, length_filled}
+use Rattle.lus_runner.proofs.Solutions.{value_is_defined, filled_back, filled_reversed, length_filled, row_solves}
 use Rattle.lus_runner.proofs.PlainSteps.{is_step, only_row}
 
 pub found_node : (d : StoredNode) (nodes : List StoredNode) (k : ℕ) → k < length nodes → item empty_node (map node_of nodes) k ≡ node_of (slice_index_or nodes k d)
@@ -41,6 +41,25 @@ input_count node inputs formals h =
 pub filled_width : (n : ℕ) (node : StoredNode) (inputs row : Row) (order : List ℕ) → IsFilled n inputs node.equations.items order row → length row ≡ n
 filled_width n node inputs row order h =
     ap length (h.filled ∙ filled_reversed (length inputs) node.equations.items h.start order) ∙ length_filled (length inputs) node.equations.items h.start (reverse order) ∙ h.width
+
+row_is_filled : (node : StoredNode) (inputs row : Row) (order : List ℕ) → length inputs ≡ node.inputs → (h : IsFilled (length node.variables.items) inputs node.equations.items order row)
+    → row ≡ filled_back node.inputs node.equations.items h.start (reverse order)
+row_is_filled node inputs row order count h =
+    h.filled ∙ ap (λ n. filled n node.equations.items h.start order) count ∙ filled_reversed node.inputs node.equations.items h.start order
+
+start_width : (node : StoredNode) (inputs row : Row) (order : List ℕ) (h : IsFilled (length node.variables.items) inputs node.equations.items order row) → length h.start ≡ length (node_of node).variables
+start_width node inputs row order h = h.width ∙ sym (length-map node.variables.items variable_of)
+
+-- in a row that is filled in a causal order each variable holds what its equation gives
+pub filled_solved : (node : StoredNode) (inputs row : Row) (order : List ℕ) → length inputs ≡ node.inputs → IsOrder (node_of node) (reverse order)
+    → IsFilled (length node.variables.items) inputs node.equations.items order row → IsSolved node.inputs node.equations.items row
+filled_solved node inputs row order count o h =
+    let qs = node.equations.items in
+    let back = filled_back node.inputs qs h.start (reverse order) in
+    subst (IsSolved node.inputs qs) (sym (row_is_filled node inputs row order count h))
+    (λ x lt ge.
+    row_solves node h.start node.inputs (reverse order) o (start_width node inputs row order h) x (subst (λ n. x < n) (length_filled node.inputs qs h.start (reverse order)) lt) ge
+    ∙ sym (value_is_defined back qs x))
 
 module _ (program : StoredProgram) (place : ℕ) (order : List ℕ) (inputs : Row) (node : StoredNode)
     (here : node_at (program_seen program) place ≡ node_of node) (is_plain : IsPlain (program_seen program))
@@ -69,10 +88,10 @@ module _ (program : StoredProgram) (place : ℕ) (order : List ℕ) (inputs : Ro
     count = input_count node inputs (omega (arith, stored_formals)) fit
 
     width : length h.start ≡ length (node_of node).variables
-    width = h.width ∙ sym (length-map node.variables.items variable_of)
+    width = start_width node inputs row order h
 
     row_is : row ≡ filled_back node.inputs node.equations.items h.start (reverse order)
-    row_is = h.filled ∙ ap (λ n. filled n node.equations.items h.start order) count ∙ filled_reversed node.inputs node.equations.items h.start order
+    row_is = row_is_filled node inputs row order count h
 
     row_steps : list_all is_some inputs ≡ true → all_computed row node.equations.items ≡ true → (past : World) → IsStep p place inputs past (instant true row nobody)
     row_steps present computed past =

@@ -1,5 +1,5 @@
 -- How the runner computes the instant of a plain node.
-use Rattle.std.specs.Prelude.{◌≡◌, ◌<◌, ◌&&◌, ℕ, suc, Bool, true, false, nat_lt, List, [], ◌∷◌, map, length, take, drop, Option, Some, None, is_some, slice_get, slice_set, if◌then◌else◌}
+use Rattle.std.specs.Prelude.{◌≡◌, ◌<◌, ◌≤◌, ◌&&◌, ℕ, suc, Bool, true, false, nat_lt, List, [], ◌∷◌, map, length, take, drop, Option, Some, None, is_some, slice_get, slice_set, if◌then◌else◌}
 use Rattle.std.specs.List.{list_all}
 use Rattle.lus_values.specs.declared.operator.Operator.{Operator}
 use Rattle.lus_values.specs.declared.operator.Operator.TheVariants.{Compute, If}
@@ -78,6 +78,14 @@ pub record IsFilled (n : ℕ) (inputs : Row) (qs : List StoredEquation) (order :
 abbrev pub all_computed : Row → List StoredEquation → Bool
 all_computed r [] = true
 all_computed r (q ∷ qs) = is_some (evaluated r (expression_of q.right)) && all_computed r qs
+
+-- the right side at a place has a value
+abbrev pub right_computed : Row → List StoredEquation → ℕ → Bool
+right_computed r qs n = elim (slice_get qs n) [ None ↦ true | Some q ↦ is_some (evaluated r (expression_of q.right)) ]
+
+-- each variable after the inputs holds what its equation gives
+abbrev pub IsSolved : ℕ → List StoredEquation → Row → Type 0
+IsSolved inputs qs r = (x : ℕ) → x < length r → inputs ≤ x → item None r x ≡ value_at r qs (first_with 0 qs x)
 
 -- the inputs are the node's in number and type
 abbrev pub fits : StoredNode → Row → Bool

@@ -10,7 +10,7 @@ use Rattle.lus_machine.specs.declared.request.Reply.{Reply}
 use Rattle.lus_machine.specs.declared.request.Reply.TheVariants.{Outputs, Refused}
 use Rattle.lus_machine.specs.declared.request.Why.TheVariants.{Shape, Presence, Fault}
 
--- a value is of this type; nil is of none
+-- a value is of this plain type; nil is of none
 abbrev pub of_kind : Kind → Value → Bool
 of_kind kinds.Bool (bool b) = true
 of_kind kinds.Int (int z) = true

@@ -2,9 +2,8 @@
 
 ghost use Rattle.std.specs.Prelude.{◌≡◌, ◌≤◌, IfOk, length, map, take};
 ghost use Rattle.lus_values.specs.View.{entry_of};
-ghost use Rattle.lus_runner.specs.Evaluation.{value_at, computed_row, filled, IsFilled, all_computed, AreDefinitions};
+ghost use Rattle.lus_runner.specs.Evaluation.{value_at, computed_row, filled, IsFilled, AreDefinitions};
 
-use crate::definitions::definitions;
 use crate::evaluation::{copy_entries, value_of};
 use lus_program::{Equation, Node};
 use lus_values::{Memory, Value};
@@ -87,37 +86,22 @@ fn start(
 pub fn filled_row(
     alloc: Global,
     node: &Node,
+    places: &[Option<usize>],
     order: &[u32],
     inputs: &[Option<Value>],
 ) -> Result<Vec<Option<Value>>, Memory>
-    requires { length inputs.now ≤ length node.now.variables.items }
+    requires formals { length inputs.now ≤ length node.now.variables.items }
+    requires places { AreDefinitions (length node.now.variables.items) node.now.equations.items places.now }
     ensures { IfOk result (λ row. IsFilled (length node.now.variables.items) (map entry_of inputs.now) node.now.equations.items order.now (map entry_of row.items)) }
 {
-    let places = definitions(alloc, node)?;
     let mut row = start(alloc, inputs, node.variables.len())?;
     fill(
         alloc,
         &node.equations,
-        &places,
+        places,
         inputs.len(),
         &mut row,
         order,
     )?;
     Ok(row)
-}
-
-/// Whether every right side has a value in a row.
-pub fn all_computed(
-    alloc: Global,
-    equations: &[Equation],
-    row: &[Option<Value>],
-) -> Result<bool, Memory>
-    ensures { IfOk result (λ all. all ≡ all_computed (map entry_of row.now) equations.now) }
-{
-    for equation in equations {
-        if value_of(alloc, row, &equation.right)?.is_none() {
-            return Ok(false);
-        }
-    }
-    Ok(true)
 }

@@ -3,6 +3,7 @@
 
 mod definitions;
 mod evaluation;
+mod faults;
 mod filling;
 mod inputs;
 mod plain;

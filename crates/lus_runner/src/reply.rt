@@ -3,14 +3,16 @@
 ghost use Rattle.std.specs.Prelude.{◌≡◌, ◌≤◌, ◌<◌, ◌+◌, IfOk, length, map, take, drop, reverse};
 ghost use Rattle.lus_values.specs.View.{entry_of};
 ghost use Rattle.lus_program.specs.Programs.{node_at};
-ghost use Rattle.lus_program.specs.View.{program_seen};
+ghost use Rattle.lus_program.specs.View.{node_of, program_seen};
 ghost use Rattle.lus_streams.specs.Order.{IsOrder};
 ghost use Rattle.lus_runner.specs.Evaluation.{IsComputedReply};
 ghost use Rattle.lus_runner.specs.Plain.{IsPlain};
 ghost use Rattle.lus_runner.specs.Replies.{IsReply};
 
+use crate::definitions::definitions;
 use crate::evaluation::copy_entries;
-use crate::filling::{all_computed, filled_row};
+use crate::faults::all_computed;
+use crate::filling::filled_row;
 use crate::inputs::{all_present, entries_fit};
 use lus_machine::{Reply, Why};
 use lus_program::{Node, Program};
@@ -33,7 +35,8 @@ fn reply_of(
     order: &[u32],
     inputs: &[Option<Value>],
 ) -> Result<Reply, Memory>
-    requires { node.now.inputs + node.now.outputs ≤ length node.now.variables.items }
+    requires formals { node.now.inputs + node.now.outputs ≤ length node.now.variables.items }
+    requires ordered { IsOrder (node_of node.now) (reverse order.now) }
     ensures { IfOk result (λ reply. IsComputedReply node.now order.now (map entry_of inputs.now) reply) }
 {
     let count = node.inputs as usize;
@@ -43,8 +46,9 @@ fn reply_of(
     if !all_present(inputs) {
         return Ok(Reply::Refused(Why::Presence));
     }
-    let row = filled_row(alloc, node, order, inputs)?;
-    if !all_computed(alloc, &node.equations, &row)? {
+    let places = definitions(alloc, node)?;
+    let row = filled_row(alloc, node, &places, order, inputs)?;
+    if !all_computed(alloc, &node.equations, &places, count, &row)? {
         return Ok(Reply::Refused(Why::Fault));
     }
     let outputs = copy_part(alloc, &row, count, node.outputs as usize)?;
@@ -53,7 +57,7 @@ fn reply_of(
 
 /// The reply of a plain node to a step with these inputs, after any instants: a refusal, or the outputs of the instant.
 ///
-/// The order has each variable after those that it needs.
+/// The order has each variable after those that it needs. Linear in the node's text; fails for want of memory alone.
 pub fn step(
     alloc: Global,
     program: &Program,
