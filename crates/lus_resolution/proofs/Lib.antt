@@ -1,0 +1,6 @@
+pub mod Options
+pub mod Entries
+pub mod Calls
+pub mod CallsMeant
+pub mod Signatures
+pub mod Outputs
