@@ -39,6 +39,14 @@ impl Model for Ordered {
 }
 
 impl Ordered {
+    /// The program on clocks that is ordered.
+    pub fn initialised(&self) -> &Initialised
+        ensures same { result.now ≡ self.now.program }
+        ensures causal { IsCausal (program_seen self.now.program) }
+    {
+        &self.initialised
+    }
+
     /// The program that is ordered.
     pub fn program(&self) -> &Program
         ensures { result.now ≡ self.now.program }
