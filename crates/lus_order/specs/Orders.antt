@@ -65,10 +65,6 @@ pub record TellsCycle (f : StoredNode) (e : Refusal) : Type 0 where
 abbrev pub TellsCycleOf : StoredProgram → Refusal → Type 0
 TellsCycleOf p e = (f : StoredNode) × Contains p.nodes.items f × TellsCycle f e
 
--- each node has an output
-abbrev pub HaveOutputs : Program → Type 0
-HaveOutputs p = Each (λ f. 0 < f.outputs) p.nodes
-
 -- whatever flags meet the requirements of each node, in each world without nil in its inputs they hold at the newest instant
 abbrev pub FlagsHoldIn : Program → Type 0
 FlagsHoldIn p =

@@ -5,7 +5,8 @@ ghost use Rattle.lus_syntax.specs.declared.refusal.RefusalNumber.TheVariants as 
 ghost use Rattle.lus_program.specs.View.{program_seen};
 ghost use Rattle.lus_streams.specs.Order.{IsCausal};
 ghost use Rattle.lus_streams.specs.Laws.{StreamsAreUnique};
-ghost use Rattle.lus_order.specs.Orders.{AreOrders, TellsCycleOf, HaveOutputs, FlagsHoldIn};
+ghost use Rattle.lus_resolution.specs.Laws.{HasTargets};
+ghost use Rattle.lus_order.specs.Orders.{AreOrders, TellsCycleOf, FlagsHoldIn};
 
 use crate::ordering::orders_of;
 use lus_clocks::Initialised;
@@ -64,7 +65,7 @@ impl Ordered {
 }
 
 /// Orders the variables of each node, each after those that it needs at the same instant. The program's streams are then
-/// unique, and where each node has an output, flags hold in them. A refusal has a cycle of variables, and stands where the first of them is defined.
+/// unique, and where each equation has a variable on its left, flags hold in them. A refusal has a cycle of variables, and stands where the first of them is defined.
 pub fn order(alloc: Global, initialised: Initialised) -> Result<Ordered, Refusal>
     ensures same { IfOk result (λ ordered. ordered.program ≡ initialised) }
     ensures order { IfOk result (λ ordered. AreOrders (program_seen initialised) ordered.orders) }
@@ -72,7 +73,7 @@ pub fn order(alloc: Global, initialised: Initialised) -> Result<Ordered, Refusal
     ensures refused { IfErr result (λ e. e.number ≢ numbers.Memory → (IsCausal (program_seen initialised) → ⊥) × (e.number ≡ numbers.Cycle)) }
     ensures cycle { IfErr result (λ e. e.number ≡ numbers.Cycle → TellsCycleOf initialised e) }
     ensures unique { OnOk result (StreamsAreUnique (program_seen initialised)) }
-    ensures flags { OnOk result (HaveOutputs (program_seen initialised) → FlagsHoldIn (program_seen initialised)) }
+    ensures flags { OnOk result (HasTargets (program_seen initialised) → FlagsHoldIn (program_seen initialised)) }
 {
     let typed = initialised.clocked().typed();
     let _tree = typed.tree();
