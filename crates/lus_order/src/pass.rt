@@ -65,7 +65,8 @@ impl Ordered {
 }
 
 /// Orders the variables of each node, each after those that it needs at the same instant. The program's streams are then
-/// unique, and where each equation has a variable on its left, flags hold in them. A refusal has a cycle of variables, and stands where the first of them is defined.
+/// unique, and where each equation has a variable on its left, flags hold in them. A refusal has a cycle of variables, and
+/// stands where the first of them is defined.
 pub fn order(alloc: Global, initialised: Initialised) -> Result<Ordered, Refusal>
     ensures same { IfOk result (λ ordered. ordered.program ≡ initialised) }
     ensures order { IfOk result (λ ordered. AreOrders (program_seen initialised) ordered.orders) }
