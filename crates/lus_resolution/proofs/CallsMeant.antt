@@ -47,10 +47,7 @@ place_given s g (Some h) e = let same : h ≡ g = cc in ap (λ i. i.place) same
 pub node_place_is : (s : Scope) (t : Text) (g : Signature) → entry s.nodes t ≡ Some g → node_place s t ≡ g.place
 node_place_is s t g e = place_given s g (entry s.nodes t) e
 
-module _ (P : ℕ → Type 0) (s : Scope) (holds : (t : Text) (g : Signature) → entry s.nodes t ≡ Some g → 0 < length g.outputs → P g.place) where
-  of_call : (t : Text) (ls : List Kind) → IsCall s t ls → 0 < length ls → P (node_place s t)
-  of_call t ls c some = subst P (sym (node_place_is s t c.signature c.known)) (holds t c.signature c.known (subst (λ l. 0 < length l) (sym c.outputs) some))
-
+module _ (P : ℕ → Type 0) where
   cond_called : (b : Bool) (e d : Expression) → EachCall P e → EachCall P d → EachCall P (cond b e d)
   cond_called true e d h k = h
   cond_called false e d h k = k
@@ -60,24 +57,24 @@ module _ (P : ℕ → Type 0) (s : Scope) (holds : (t : Text) (g : Signature) �
   beside_called c (m ∷ ms) none h = tt
   beside_called c (m ∷ ms) (more e es) h = cond_called (nat_eq c m) e (beside c ms es) h.0 (beside_called c ms es h.1)
 
-  order_called : (c k : ℕ) (ms : List ℕ) (es : Operands) → EachCallIn P es → EachCallIn P (in_order_from c k ms es)
+  pub order_called : (c k : ℕ) (ms : List ℕ) (es : Operands) → EachCallIn P es → EachCallIn P (in_order_from c k ms es)
   order_called c zero ms es h = tt
   order_called c (suc k) ms es h = (beside_called c ms es h, order_called (suc c) k ms es h)
 
-  name_called : (v : Value) (o : Option Placed) → EachCall P (elim o [ Some x ↦ variable x.place | None ↦ literal v ])
+  pub name_called : (v : Value) (o : Option Placed) → EachCall P (elim o [ Some x ↦ variable x.place | None ↦ literal v ])
   name_called v None = tt
   name_called v (Some x) = tt
 
-  field_called : (o : Option Placed) (a : Expression) → EachCall P a → EachCall P (elim o [ Some f ↦ operate (operators.Field f.place) (one a) | None ↦ operate (operators.Field 0) (one a) ])
+  pub field_called : (o : Option Placed) (a : Expression) → EachCall P a → EachCall P (elim o [ Some f ↦ operate (operators.Field f.place) (one a) | None ↦ operate (operators.Field 0) (one a) ])
   field_called None a h = (h, tt)
   field_called (Some f) a h = (h, tt)
 
-  prefix_called : (op : Prefix) (a : Expression) → EachCall P a → EachCall P (prefix_meant op a)
+  pub prefix_called : (op : Prefix) (a : Expression) → EachCall P a → EachCall P (prefix_meant op a)
   prefix_called prefixes.Not a h = (h, tt)
   prefix_called prefixes.Negate a h = (h, tt)
   prefix_called prefixes.Pre a h = h
 
-  infix_called : (op : Infix) (a b : Expression) → EachCall P a → EachCall P b → EachCall P (infix_meant op a b)
+  pub infix_called : (op : Infix) (a b : Expression) → EachCall P a → EachCall P b → EachCall P (infix_meant op a b)
   infix_called infixes.Fby a b h k = (h, k)
   infix_called infixes.Arrow a b h k = (h, k)
   infix_called infixes.Implies a b h k = (h, (k, tt))
@@ -96,11 +93,15 @@ module _ (P : ℕ → Type 0) (s : Scope) (holds : (t : Text) (g : Signature) �
   infix_called infixes.Divide a b h k = (h, (k, tt))
   infix_called infixes.Modulo a b h k = (h, (k, tt))
 
+module _ (P : ℕ → Type 0) (s : Scope) (holds : (t : Text) (g : Signature) → entry s.nodes t ≡ Some g → 0 < length g.outputs → P g.place) where
+  of_call : (t : Text) (ls : List Kind) → IsCall s t ls → 0 < length ls → P (node_place s t)
+  of_call t ls c some = subst P (sym (node_place_is s t c.signature c.known)) (holds t c.signature c.known (subst (λ l. 0 < length l) (sym c.outputs) some))
+
   mutual
     meant_called : (e : tree.Expression) (k : Kind) → kind_of s e ≡ Some k → EachCall P (meant s e)
     meant_called (Numeral z p) k h = tt
     meant_called (Truth b p) k h = tt
-    meant_called (Name m) k h = name_called (unwrap_or (name_value s m.text) nil) (entry s.variables m.text)
+    meant_called (Name m) k h = name_called P (unwrap_or (name_value s m.text) nil) (entry s.variables m.text)
     meant_called (Call f es) k h =
         let args = and_then_gives (λ ks. option_and_then the_one (outputs_of s f.text es ks)) (kinds_of s es) k h in
         let outs = and_then_gives the_one (outputs_of s f.text es args.0) k args.2 in
@@ -109,25 +110,25 @@ module _ (P : ℕ → Type 0) (s : Scope) (holds : (t : Text) (g : Signature) �
     meant_called (Structure t fs) k h =
         let given = and_then_gives (λ ks. option_and_then (λ l. structure_kind s l fs ks) (entry s.types t.text)) (kinds_of s fs) k h in
         let l = unwrap_or (entry s.types t.text) kinds.Bool in
-        order_called 0 (length (fields_of s l)) (map (λ x. x.place) (unwrap_or (fields_asked s l fs) [])) (all_meant s fs) (all_called fs given.0 given.1)
+        order_called P 0 (length (fields_of s l)) (map (λ x. x.place) (unwrap_or (fields_asked s l fs) [])) (all_meant s fs) (all_called fs given.0 given.1)
     meant_called (Merge p c bs) k h =
         let given = and_then_gives (λ ks. option_and_then (λ l. merge_kind s l bs ks) (variable_kind s c.text)) (kinds_of s bs) k h in
         let l = unwrap_or (variable_kind s c.text) kinds.Bool in
-        order_called 0 (size_of s l) (unwrap_or (branch_places s l bs) []) (all_meant s bs) (all_called bs given.0 given.1)
+        order_called P 0 (size_of s l) (unwrap_or (branch_places s l bs) []) (all_meant s bs) (all_called bs given.0 given.1)
     meant_called (Field a x) k h =
         let given = and_then_gives (λ l. field_kind s l x.text) (kind_of s a) k h in
-        field_called (field_named (fields_of s (unwrap_or (kind_of s a) kinds.Bool)) x.text) (meant s a) (meant_called a given.0 given.1)
+        field_called P (field_named (fields_of s (unwrap_or (kind_of s a) kinds.Bool)) x.text) (meant s a) (meant_called a given.0 given.1)
     meant_called (Parentheses p a) k h = meant_called a k h
     meant_called (When a t) k h =
         let given = and_then_gives (λ l. option_map (λ c. l) (test_placed s t)) (kind_of s a) k h in
         meant_called a given.0 given.1
     meant_called (Unary op p a) k h =
         let given = and_then_gives (prefix_kind op) (kind_of s a) k h in
-        prefix_called op (meant s a) (meant_called a given.0 given.1)
+        prefix_called P op (meant s a) (meant_called a given.0 given.1)
     meant_called (Binary op a b) k h =
         let first = and_then_gives (λ l. option_and_then (infix_kind op l) (kind_of s b)) (kind_of s a) k h in
         let last = and_then_gives (infix_kind op first.0) (kind_of s b) k first.2 in
-        infix_called op (meant s a) (meant s b) (meant_called a first.0 first.1) (meant_called b last.0 last.1)
+        infix_called P op (meant s a) (meant s b) (meant_called a first.0 first.1) (meant_called b last.0 last.1)
     meant_called (If p c a b) k h =
         let test = and_then_gives (λ m. option_and_then (λ l. option_and_then (choice_kind m l) (kind_of s b)) (kind_of s a)) (kind_of s c) k h in
         let first = and_then_gives (λ l. option_and_then (choice_kind test.0 l) (kind_of s b)) (kind_of s a) k test.2 in

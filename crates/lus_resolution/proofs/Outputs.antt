@@ -4,31 +4,26 @@ use Rattle.std.specs.Prelude.{unwrap_or}
 use Rattle.std.specs.List.{list_all}
 use Rattle.std.proofs.Math.ListN.{length-map}
 use Rattle.lus_values.specs.Lists.{Each, Below}
-use Rattle.lus_values.specs.Values.{Value, nil}
-use Rattle.lus_values.specs.declared.operator.Operator.TheVariants as operators
-use Rattle.lus_syntax.specs.declared.tree.Prefix.{Prefix}
-use Rattle.lus_syntax.specs.declared.tree.Prefix.TheVariants as prefixes
-use Rattle.lus_syntax.specs.declared.tree.Infix.{Infix}
-use Rattle.lus_syntax.specs.declared.tree.Infix.TheVariants as infixes
+use Rattle.lus_values.specs.Values.{nil}
 use Rattle.lus_syntax.specs.Lexemes.{Text}
 use Rattle.lus_syntax.specs.Trees as tree
 use Rattle.lus_syntax.specs.Trees.{Numeral, Truth, Name, Call, Structure, Merge, Field, Parentheses, When, Unary, Binary, If, Parts, End, More, Tree}
 use Rattle.lus_program.specs.declared.types.Kind.{Kind}
-use Rattle.lus_program.specs.Programs.{Expression, literal, variable, operate, call, calls, numbered, Equation, Node, node_at}
+use Rattle.lus_program.specs.Programs.{Expression, call, calls, numbered, Equation, Node, node_at}
 use Rattle.lus_streams.specs.Clocks.{Clock, parts}
 use Rattle.lus_streams.specs.Equations.{Definition, given_by, place_in, equation_clock, definition_in, definition_of, equation_parts}
 use Rattle.lus_streams.specs.Flags.{HasOutput, OutputIs, CallsHaveOutputs}
 use Rattle.lus_streams.proofs.Lists.{each_append}
 use Rattle.lus_streams.proofs.NilFree.{and_left, and_right}
-use Rattle.lus_meaning.specs.declared.entries.Placed.{Placed}
 use Rattle.lus_meaning.specs.Scopes.{Scope, Signature, entry}
 use Rattle.lus_meaning.specs.Tables.{scope}
 use Rattle.lus_meaning.specs.Types.{field_named, fields_of, name_value, outputs_of, kind_of, kinds_of}
 use Rattle.lus_meaning.specs.WellTyped.{kinds_given, left_kinds, are_given, equation_typed, NodeTyped}
-use Rattle.lus_meaning.specs.Meaning.{one, prefix_meant, infix_meant, variable_place, meant, equations_meant, node_meant, program_of}
+use Rattle.lus_meaning.specs.Meaning.{prefix_meant, infix_meant, variable_place, meant, equations_meant, node_meant, program_of}
 use Rattle.lus_resolution.specs.Laws.{MeantCallsHaveOutputs}
 use Rattle.lus_resolution.proofs.Options.{and_then_gives, all_same_is}
 use Rattle.lus_resolution.proofs.Calls.{EachCall, each_call_numbered, HasSome, parts_have}
+use Rattle.lus_resolution.proofs.Forms.{IsNoCall, name_no_call, field_no_call, prefix_no_call, infix_no_call}
 use Rattle.lus_resolution.proofs.CallsMeant.{call_gives, node_place_is, right_called}
 use Rattle.lus_resolution.proofs.Signatures.{signed, outputs_are}
 
@@ -40,7 +35,7 @@ place_within : (x : ℕ) (ys : List ℕ) (n i : ℕ) → place_in x ys n ≡ Som
 place_within x [] n i e = cc
 place_within x (y ∷ ys) n i e = place_or x y n ys i (nat_eq x y) (place_within x ys (suc n) i) e
 
-given_kinds : (o : Option (List Kind)) (ls : List Kind) → are_given o ls ≡ true → o ≡ Some ls
+pub given_kinds : (o : Option (List Kind)) (ls : List Kind) → are_given o ls ≡ true → o ≡ Some ls
 given_kinds None ls e = absurd (true≢false (sym e))
 given_kinds (Some ks) ls e = ap Some (all_same_is ks ls e)
 
@@ -58,37 +53,9 @@ module _ (p : Tree) where
   output_is (call g c es) i n xs k h lt = omega (arith, h, lt)
   output_is e i n xs k h lt = tt
 
-  name_gives : (v : Value) (o : Option Placed) (n : ℕ) → Gives (elim o [ Some x ↦ variable x.place | None ↦ literal v ]) n
-  name_gives v None n = tt
-  name_gives v (Some x) n = tt
-
-  field_gives : (o : Option Placed) (a : Expression) (n : ℕ) → Gives (elim o [ Some f ↦ operate (operators.Field f.place) (one a) | None ↦ operate (operators.Field 0) (one a) ]) n
-  field_gives None a n = tt
-  field_gives (Some f) a n = tt
-
-  prefix_gives : (op : Prefix) (a : Expression) (n : ℕ) → Gives (prefix_meant op a) n
-  prefix_gives prefixes.Not a n = tt
-  prefix_gives prefixes.Negate a n = tt
-  prefix_gives prefixes.Pre a n = tt
-
-  infix_gives : (op : Infix) (a b : Expression) (n : ℕ) → Gives (infix_meant op a b) n
-  infix_gives infixes.Fby a b n = tt
-  infix_gives infixes.Arrow a b n = tt
-  infix_gives infixes.Implies a b n = tt
-  infix_gives infixes.Or a b n = tt
-  infix_gives infixes.Xor a b n = tt
-  infix_gives infixes.And a b n = tt
-  infix_gives infixes.Equal a b n = tt
-  infix_gives infixes.NotEqual a b n = tt
-  infix_gives infixes.Less a b n = tt
-  infix_gives infixes.AtMost a b n = tt
-  infix_gives infixes.Greater a b n = tt
-  infix_gives infixes.AtLeast a b n = tt
-  infix_gives infixes.Add a b n = tt
-  infix_gives infixes.Subtract a b n = tt
-  infix_gives infixes.Multiply a b n = tt
-  infix_gives infixes.Divide a b n = tt
-  infix_gives infixes.Modulo a b n = tt
+  no_call_gives : (e : Expression) (n : ℕ) → IsNoCall e → Gives e n
+  no_call_gives (call g c es) n h = absurd h
+  no_call_gives e n h = tt
 
   module _ (f : tree.Node) where
     abbrev s : Scope
@@ -100,7 +67,7 @@ module _ (p : Tree) where
     meant_gives : (e : tree.Expression) (ks : List Kind) → kinds_given s e ≡ Some ks → Gives (meant s e) (length ks)
     meant_gives (Numeral z q) ks h = tt
     meant_gives (Truth b q) ks h = tt
-    meant_gives (Name m) ks h = name_gives (unwrap_or (name_value s m.text) nil) (entry s.variables m.text) (length ks)
+    meant_gives (Name m) ks h = no_call_gives (meant s (Name m)) (length ks) (name_no_call (unwrap_or (name_value s m.text) nil) (entry s.variables m.text))
     meant_gives (Call g es) ks h =
         let args = and_then_gives (λ ls. outputs_of s g.text es ls) (kinds_of s es) ks h in
         let c = call_gives s g.text es args.0 ks args.2 in
@@ -108,11 +75,11 @@ module _ (p : Tree) where
         ap (λ i. (node_at (program_of p) i).outputs) (node_place_is s g.text c.signature c.known) ∙ same ∙ ap length c.outputs
     meant_gives (Structure t fs) ks h = tt
     meant_gives (Merge q c bs) ks h = tt
-    meant_gives (Field a x) ks h = field_gives (field_named (fields_of s (unwrap_or (kind_of s a) _)) x.text) (meant s a) (length ks)
+    meant_gives (Field a x) ks h = no_call_gives (meant s (Field a x)) (length ks) (field_no_call (field_named (fields_of s (unwrap_or (kind_of s a) _)) x.text) (meant s a))
     meant_gives (Parentheses q a) ks h = meant_gives a ks h
     meant_gives (When a t) ks h = tt
-    meant_gives (Unary op q a) ks h = prefix_gives op (meant s a) (length ks)
-    meant_gives (Binary op a b) ks h = infix_gives op (meant s a) (meant s b) (length ks)
+    meant_gives (Unary op q a) ks h = no_call_gives (prefix_meant op (meant s a)) (length ks) (prefix_no_call op (meant s a))
+    meant_gives (Binary op a b) ks h = no_call_gives (infix_meant op (meant s a) (meant s b)) (length ks) (infix_no_call op (meant s a) (meant s b))
     meant_gives (If q c a b) ks h = tt
 
     abbrev target_places : tree.Equation → List ℕ

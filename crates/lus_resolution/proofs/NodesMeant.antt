@@ -1,0 +1,97 @@
+-- Nodes of a well-formed tree mean nodes that are resolved.
+use Rattle.std.proofs.Common.{arith, ◌≡◌, ◌∙◌, refl, sym, ap, subst, ℕ, zero, suc, ◌+◌, ◌<◌, true, List, [], ◌∷◌, length, map, Option, Some, None, IsTrue, true≢false}
+use Rattle.std.specs.Prelude.{flat_map, option_map, is_some, unwrap_or}
+use Rattle.std.specs.List.{list_all}
+use Rattle.lus_values.specs.Lists.{Each, Below}
+use Rattle.lus_syntax.specs.Trees as tree
+use Rattle.lus_syntax.specs.Trees.{Group, Tree}
+use Rattle.lus_program.specs.declared.expr.Test.{Test}
+use Rattle.lus_program.specs.Programs.{Node, calls}
+use Rattle.lus_streams.proofs.Lists.{each_left, each_right, each_append}
+use Rattle.lus_streams.proofs.NilFree.{and_left, and_right}
+use Rattle.lus_meaning.specs.Scopes.{Scope}
+use Rattle.lus_meaning.specs.Tables.{text_of, groups, kind_named, scope}
+use Rattle.lus_meaning.specs.Types.{test_placed}
+use Rattle.lus_meaning.specs.Named.{known, NodeNamed}
+use Rattle.lus_meaning.specs.Refusals.{WellFormed}
+use Rattle.lus_meaning.specs.WellTyped.{kinds_given, left_kinds, equation_typed, test_typed, NodeTyped}
+use Rattle.lus_meaning.specs.Meaning.{test_meant, no_test, meant, variables_of, equations_meant, node_meant, program_of}
+use Rattle.lus_meaning.specs.Resolved.{test_fits, VariableFits, EquationFits, AreNumbered, IsDefined, NodeResolved}
+use Rattle.lus_resolution.specs.Laws.{HasFields, TreeHasFields}
+use Rattle.lus_resolution.proofs.Outputs.{given_kinds}
+use Rattle.lus_resolution.proofs.Numbering.{calls-numbered, numbered-numbered, given-numbered}
+use Rattle.lus_resolution.proofs.KindsMeant.{placed_fits, given_is}
+use Rattle.lus_resolution.proofs.Scoped.{formals_are, scope_agrees}
+use Rattle.lus_resolution.proofs.Lefts.{IsLeft, all_left, lefts_are, targets_within, is_defined}
+
+pub below_each : (P : ℕ → Type 0) (n : ℕ) → ((x : ℕ) → x < n → P x) → Below n P
+below_each P zero h = tt
+below_each P (suc n) h = (h n (omega arith), below_each P n (λ x lt. h x (omega (arith, lt))))
+
+equations_numbered : (s : Scope) (n : ℕ) (qs : List tree.Equation) → AreNumbered n (equations_meant s n qs)
+equations_numbered s n [] = tt
+equations_numbered s n (q ∷ qs) =
+    let e = meant s q.right in
+    (numbered-numbered e n n, subst (λ k. AreNumbered (n + k) (equations_meant s (n + calls e) qs)) (sym (calls-numbered e n)) (equations_numbered s (n + calls e) qs))
+
+module _ (p : Tree) (f : tree.Node) where
+  abbrev s : Scope
+  s = scope p f
+
+  abbrev g : Node
+  g = node_meant p f
+
+  abbrev Fits : Option Test → Type 0
+  Fits o = elim o [ None ↦ Unit {0} | Some t ↦ IsTrue (test_fits (program_of p) g t) ]
+
+  placed_or : (t : tree.Test) (o : Option Test) → test_placed s t ≡ o → is_some o ≡ true → IsTrue (test_fits (program_of p) g (test_meant s t))
+  placed_or t None e h = absurd (true≢false (sym h))
+  placed_or t (Some u) e h =
+      let meaning : test_meant s t ≡ u = ap (λ o. unwrap_or o (no_test s)) e in
+      subst (λ v. test_fits (program_of p) g v ≡ true) (sym meaning) (placed_fits s (program_of p) g (scope_agrees p f) t u e)
+
+  test_is : (o : Option tree.Test) → test_typed s o ≡ true → Fits (option_map (test_meant s) o)
+  test_is None h = tt
+  test_is (Some t) h = placed_or t (test_placed s t) refl h
+
+  names_fit : (h : Group) (ns : List tree.Named) → test_typed s h.test ≡ true
+      → Each (VariableFits (program_of p) g) (map (λ (n : tree.Named). record { name = n.text; kind = kind_named p h.type_name; test = option_map (test_meant s) h.test }) ns)
+  names_fit h [] e = tt
+  names_fit h (n ∷ ns) e = (test_is h.test e, names_fit h ns e)
+
+  variables_fit : (gs : List Group) → list_all (λ h. test_typed s h.test) gs ≡ true → Each (VariableFits (program_of p) g) (flat_map (variables_of p s) gs)
+  variables_fit [] e = tt
+  variables_fit (h ∷ gs) e =
+      each_append (VariableFits (program_of p) g) (variables_of p s h) (flat_map (variables_of p s) gs)
+      (names_fit h h.names (and_left (test_typed s h.test) (list_all (λ i. test_typed s i.test) gs) e))
+      (variables_fit gs (and_right (test_typed s h.test) (list_all (λ i. test_typed s i.test) gs) e))
+
+  module _ (named : NodeNamed (known p (groups f)) f) where
+    equations_fit : (n : ℕ) (qs : List tree.Equation) → list_all (equation_typed s) qs ≡ true → Each (IsLeft p f named) (flat_map (λ (q : tree.Equation). map text_of q.left) qs) → Each (λ q. HasFields q.right) qs
+        → Each (EquationFits (program_of p) g) (equations_meant s n qs)
+    equations_fit n [] typed left fields = tt
+    equations_fit n (q ∷ qs) typed left fields =
+        let ks = left_kinds s q.left in
+        let here = given_kinds (kinds_given s q.right) ks (and_left (equation_typed s q) (list_all (equation_typed s) qs) typed) in
+        let rest = flat_map (λ (r : tree.Equation). map text_of r.left) qs in (
+          ap (option_map (map Some)) (given-numbered (program_of p) g (meant s q.right) n ∙ given_is s (program_of p) g (scope_agrees p f) q.right ks fields.0 here)
+              ∙ ap Some (lefts_are p f named q.left (each_left (IsLeft p f named) (map text_of q.left) rest left)),
+          equations_fit (n + calls (meant s q.right)) qs (and_right (equation_typed s q) (list_all (equation_typed s) qs) typed) (each_right (IsLeft p f named) (map text_of q.left) rest left) fields.1,
+        )
+
+    node_resolved : NodeTyped p f → Each (λ q. HasFields q.right) f.equations → NodeResolved (program_of p) g
+    node_resolved typed fields = record {
+      formals = formals_are p f;
+      variables = variables_fit (groups f) typed.tests;
+      targets = targets_within p f named;
+      defined = below_each (IsDefined g) (length g.variables) (is_defined p f named);
+      equations = equations_fit 0 f.equations typed.equations (all_left p f named) fields;
+      numbered = equations_numbered s 0 f.equations;
+    }
+
+nodes_resolved : (p : Tree) (fs : List tree.Node) → Each (λ f. NodeNamed (known p (groups f)) f) fs → Each (NodeTyped p) fs → Each (λ f. Each (λ q. HasFields q.right) f.equations) fs → Each (NodeResolved (program_of p)) (map (node_meant p) fs)
+nodes_resolved p [] named typed fields = tt
+nodes_resolved p (f ∷ fs) named typed fields = (node_resolved p f named.0 typed.0 fields.0, nodes_resolved p fs named.1 typed.1 fields.1)
+
+pub meant_nodes_resolved : (p : Tree) → WellFormed p → TreeHasFields p → Each (NodeResolved (program_of p)) (program_of p).nodes
+meant_nodes_resolved p formed fields = nodes_resolved p p.nodes formed.named.each formed.typed.nodes fields
