@@ -19,3 +19,6 @@ pub use refusal::ScriptRefusal;
 pub use scripts::{Call, Caller, Instance, MOST_BYTES, Scripts, read_scripts};
 pub use sink::{Sink, write_all};
 pub use source::{ReadError, Source, read_at_most};
+
+#[cfg(test)]
+mod tests;
