@@ -1,0 +1,81 @@
+-- A text is read as one tree at most, so it means one program at most, and none where a pass refuses it.
+use Rattle.std.proofs.Common.{◌≡◌, ◌≢◌, ◌∙◌, ◌⊎◌, inl, inr, refl, sym, ap, subst, ℕ, ◌≤◌, List}
+use Rattle.lus_syntax.specs.declared.refusal.RefusalNumber.{RefusalNumber}
+use Rattle.lus_syntax.specs.declared.refusal.RefusalNumber.TheVariants as numbers
+use Rattle.lus_syntax.specs.Lexemes.{Lexeme, Text}
+use Rattle.lus_syntax.specs.declared.refusal.Refusal.{Refusal}
+use Rattle.lus_syntax.specs.Tokens.{Tokens, Faulty, TellsFault}
+use Rattle.lus_syntax.specs.Trees.{Tree}
+use Rattle.lus_syntax.proofs.Unique as unique
+use Rattle.lus_spelling.specs.Declarations.{SpellsProgram, tree_depth}
+use Rattle.lus_spelling.proofs.CompleteDeclarations as spelling
+use Rattle.lus_grammar.specs.Answers.{RefusedRightly}
+use Rattle.lus_program.specs.Programs.{Program}
+use Rattle.lus_meaning.specs.Meaning.{program_of}
+use Rattle.lus_meaning.specs.Refusals.{WellFormed, FirstFails}
+use Rattle.lus_streams.specs.OnClock.{ProgramOnClocks}
+use Rattle.lus_streams.specs.Flags.{IsFlagged}
+use Rattle.lus_streams.specs.Order.{IsCausal}
+use Rattle.lus_cli.specs.Acceptance.{IsRead, Accepted, RefusedAt, no_tokens, no_tree, ill_formed, off_clocks, not_flagged, not_causal, IsRefused, HasOneProgram}
+
+read_once : (text : Text) (t u : Tree) → IsRead text t → IsRead text u → t ≡ u
+read_once text t u a b =
+    let same = unique.one_reading text a.tokens b.tokens a.lexed b.lexed in
+    spelling.one_tree a.tokens t u a.spelled (rw same b.spelled)
+
+pub one_program : (text : Text) → HasOneProgram text
+one_program text p q a b = a.means ∙ ap program_of (read_once text a.tree b.tree a.read b.read) ∙ sym b.means
+
+ill_formed_is : (tree : Tree) (n : RefusalNumber) → FirstFails tree n → WellFormed tree → ⊥
+ill_formed_is tree numbers.Lexical fails w = fails
+ill_formed_is tree numbers.Syntax fails w = fails
+ill_formed_is tree numbers.Unsupported fails w = fails
+ill_formed_is tree numbers.Name fails w = fails.1 w.named
+ill_formed_is tree numbers.Type fails w = fails.4 w.typed
+ill_formed_is tree numbers.Clock fails w = fails
+ill_formed_is tree numbers.Cycle fails w = fails
+ill_formed_is tree numbers.Nil fails w = fails
+ill_formed_is tree numbers.Recursion fails w = fails.2 w.loopless
+ill_formed_is tree numbers.Limit (inl not_counted) w = not_counted w.counted
+ill_formed_is tree numbers.Limit (inr fails) w = fails.3 w.bounded
+ill_formed_is tree numbers.Memory fails w = fails
+
+no_tree_is : (ts : List Lexeme) (n : RefusalNumber) → n ≢ numbers.Memory → RefusedRightly 100 ts n → (t : Tree) → SpellsProgram t ts → tree_depth t ≤ 100 → ⊥
+no_tree_is ts numbers.Syntax h none t spelled depth = none t spelled
+no_tree_is ts numbers.Limit h none t spelled depth = none t spelled depth
+no_tree_is ts numbers.Memory h none t spelled depth = h refl
+no_tree_is ts numbers.Lexical h none t spelled depth = none
+no_tree_is ts numbers.Unsupported h none t spelled depth = none
+no_tree_is ts numbers.Name h none t spelled depth = none
+no_tree_is ts numbers.Type h none t spelled depth = none
+no_tree_is ts numbers.Clock h none t spelled depth = none
+no_tree_is ts numbers.Cycle h none t spelled depth = none
+no_tree_is ts numbers.Nil h none t spelled depth = none
+no_tree_is ts numbers.Recursion h none t spelled depth = none
+
+means_too : (text : Text) (tree : Tree) (p : Program) → Accepted text p → IsRead text tree → p ≡ program_of tree
+means_too text tree p a read = a.means ∙ ap program_of (read_once text a.tree tree a.read read)
+
+pub refused_at : (text : Text) (n : RefusalNumber) → RefusedAt text n → IsRefused text
+refused_at text n (no_tokens place fault) p a = unique.no_fault text a.read.tokens n place a.read.lexed fault
+refused_at text n (no_tree ts lexed h none) p a =
+    let same = unique.one_reading text ts a.read.tokens lexed a.read.lexed in
+    no_tree_is ts n h none a.tree (rw same a.read.spelled) a.read.depth
+refused_at text n (ill_formed tree read fails) p a = ill_formed_is tree n fails (rw (read_once text tree a.tree read a.read) a.well_formed)
+refused_at text n (off_clocks tree read well_formed off) p a = off (subst ProgramOnClocks (means_too text tree p a read) a.on_clocks)
+refused_at text n (not_flagged tree read well_formed on_clocks not) p a = not (subst IsFlagged (means_too text tree p a read) a.flagged)
+refused_at text n (not_causal tree read well_formed on_clocks flagged not) p a = not (subst IsCausal (means_too text tree p a read) a.causal)
+
+pub lexed_wrong : (text : Text) (e : Refusal) → (e.number ≢ numbers.Memory → TellsFault text e) → e.number ≢ numbers.Memory → RefusedAt text e.number
+lexed_wrong text e tells h = no_tokens (tells h).0 (tells h).1
+
+-- a program that the text's tree means, and what refuses it
+module _ (text : Text) (tree : Tree) (read : IsRead text tree) (well_formed : WellFormed tree) (p : Program) (means : p ≡ program_of tree) where
+  pub off_clocks_at : (n : RefusalNumber) → (ProgramOnClocks p → ⊥) → n ≡ numbers.Clock → RefusedAt text n
+  off_clocks_at n off e = subst (RefusedAt text) (sym e) (off_clocks tree read well_formed (subst (λ q. ProgramOnClocks q → ⊥) means off))
+
+  pub not_flagged_at : (n : RefusalNumber) → ProgramOnClocks p → (IsFlagged p → ⊥) → n ≡ numbers.Nil → RefusedAt text n
+  not_flagged_at n on not e = subst (RefusedAt text) (sym e) (not_flagged tree read well_formed (subst ProgramOnClocks means on) (subst (λ q. IsFlagged q → ⊥) means not))
+
+  pub not_causal_at : (n : RefusalNumber) → ProgramOnClocks p → IsFlagged p → (IsCausal p → ⊥) → n ≡ numbers.Cycle → RefusedAt text n
+  not_causal_at n on flagged not e = subst (RefusedAt text) (sym e) (not_causal tree read well_formed (subst ProgramOnClocks means on) (subst IsFlagged means flagged) (subst (λ q. IsCausal q → ⊥) means not))

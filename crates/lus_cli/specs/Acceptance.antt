@@ -1,0 +1,50 @@
+-- Which texts are accepted, as which program, and which pass refuses the others first.
+use Rattle.std.specs.Prelude.{◌≡◌, ◌≢◌, ◌≤◌, ℕ, List}
+use Rattle.lus_syntax.specs.declared.refusal.RefusalNumber.{RefusalNumber}
+use Rattle.lus_syntax.specs.declared.refusal.RefusalNumber.TheVariants as numbers
+use Rattle.lus_syntax.specs.declared.token.Place.{Place}
+use Rattle.lus_syntax.specs.Lexemes.{Lexeme, Text}
+use Rattle.lus_syntax.specs.Tokens.{Tokens, Faulty}
+use Rattle.lus_syntax.specs.Trees.{Tree}
+use Rattle.lus_spelling.specs.Declarations.{SpellsProgram, tree_depth}
+use Rattle.lus_grammar.specs.Answers.{RefusedRightly}
+use Rattle.lus_program.specs.Programs.{Program}
+use Rattle.lus_meaning.specs.Meaning.{program_of}
+use Rattle.lus_meaning.specs.Refusals.{WellFormed, FirstFails}
+use Rattle.lus_streams.specs.OnClock.{ProgramOnClocks}
+use Rattle.lus_streams.specs.Flags.{IsFlagged}
+use Rattle.lus_streams.specs.Order.{IsCausal}
+
+-- the text's tokens spell this tree, of depth at most 100
+pub record IsRead (text : Text) (tree : Tree) : Type 0 where
+  pub tokens : List Lexeme
+  pub lexed : Tokens text tokens
+  pub spelled : SpellsProgram tree tokens
+  pub depth : tree_depth tree ≤ 100
+
+-- the text's tree is well formed and means this program, which is on clocks, has its flags and is causal
+pub record Accepted (text : Text) (p : Program) : Type 0 where
+  pub tree : Tree
+  pub read : IsRead text tree
+  pub well_formed : WellFormed tree
+  pub means : p ≡ program_of tree
+  pub on_clocks : ProgramOnClocks p
+  pub flagged : IsFlagged p
+  pub causal : IsCausal p
+
+-- the first pass that refuses the text, by its number: each case says that the passes before it don't
+pub data RefusedAt (text : Text) : RefusalNumber → Type 0 where
+  no_tokens : {n : RefusalNumber} → (place : Place) → Faulty text n place → RefusedAt text n
+  no_tree : {n : RefusalNumber} → (ts : List Lexeme) → Tokens text ts → n ≢ numbers.Memory → RefusedRightly 100 ts n → RefusedAt text n
+  ill_formed : {n : RefusalNumber} → (tree : Tree) → IsRead text tree → FirstFails tree n → RefusedAt text n
+  off_clocks : (tree : Tree) → IsRead text tree → WellFormed tree → (ProgramOnClocks (program_of tree) → ⊥) → RefusedAt text numbers.Clock
+  not_flagged : (tree : Tree) → IsRead text tree → WellFormed tree → ProgramOnClocks (program_of tree) → (IsFlagged (program_of tree) → ⊥) → RefusedAt text numbers.Nil
+  not_causal : (tree : Tree) → IsRead text tree → WellFormed tree → ProgramOnClocks (program_of tree) → IsFlagged (program_of tree) → (IsCausal (program_of tree) → ⊥) → RefusedAt text numbers.Cycle
+
+-- no program is accepted for the text
+abbrev pub IsRefused : Text → Type 0
+IsRefused text = (p : Program) → Accepted text p → ⊥
+
+-- two programs of one text are one
+abbrev pub HasOneProgram : Text → Type 0
+HasOneProgram text = (p q : Program) → Accepted text p → Accepted text q → p ≡ q
