@@ -1,2 +1,4 @@
 pub mod CommandLine
 pub mod Acceptance
+pub mod Sources
+pub mod Errors

@@ -25,7 +25,7 @@ fn read(alloc: Global, text: &str) -> Result<Tree, Refusal>
 
 /// The program of a text, by the passes behind one another.
 fn program_of(alloc: Global, text: &str) -> Result<Ordered, Refusal>
-    ensures ok { IfOk result (λ program. Accepted text.now (program_seen program)) }
+    ensures ok { IfOk result (λ ordered. Accepted text.now (program_seen ordered.program)) }
     ensures first { IfErr result (λ e. e.number ≢ numbers.Memory → RefusedAt text.now e.number) }
 {
     let tree = read(alloc, text)?;
@@ -38,7 +38,7 @@ fn program_of(alloc: Global, text: &str) -> Result<Ordered, Refusal>
 /// The program of a text. A refusal is that of the first pass that fails over the whole text: tokens, grammar, counts,
 /// names, recursion, limits, types, clocks, nil, order.
 pub fn compile(alloc: Global, text: &str) -> Result<Ordered, Refusal>
-    ensures ok { IfOk result (λ program. Accepted text.now (program_seen program)) }
+    ensures ok { IfOk result (λ ordered. Accepted text.now (program_seen ordered.program)) }
     ensures first { IfErr result (λ e. e.number ≢ numbers.Memory → RefusedAt text.now e.number) }
     ensures refused { IfErr result (λ e. e.number ≢ numbers.Memory → IsRefused text.now) }
 {

@@ -1,8 +1,15 @@
 //! The command line of `lus`.
 #![tactic(auto)]
 
+mod checking;
 mod compilation;
+mod error;
+mod source;
+mod text;
 mod words;
 
+pub use checking::check;
 pub use compilation::compile;
+pub use error::RunError;
+pub use text::text_of;
 pub use words::{Task, WordsError, read_words};
