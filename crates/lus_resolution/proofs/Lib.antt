@@ -16,3 +16,4 @@ pub mod Lefts
 pub mod NodesMeant
 pub mod CallsNamed
 pub mod ProgramsMeant
+pub mod SpelledTrees

@@ -1,7 +1,9 @@
 -- What the program keeps that a well-formed tree means.
-use Rattle.std.specs.Prelude.{◌<◌, length}
+use Rattle.std.specs.Prelude.{◌<◌, List, length}
 use Rattle.lus_values.specs.Lists.{Each}
 use Rattle.lus_syntax.specs.Trees.{Expression, Numeral, Truth, Name, Call, Structure, Merge, Field, Parentheses, When, Unary, Binary, If, Parts, End, More, Tree}
+use Rattle.lus_syntax.specs.Lexemes.{Lexeme}
+use Rattle.lus_spelling.specs.Declarations.{SpellsProgram}
 use Rattle.lus_program.specs.Programs.{Program}
 use Rattle.lus_streams.specs.Flags.{CallsHaveOutputs}
 use Rattle.lus_meaning.specs.Meaning.{program_of}
@@ -41,3 +43,7 @@ MeantCallsHaveOutputs = (t : Tree) → WellFormed t → HasTargets (program_of t
 
 abbrev pub MeantProgramsAreResolved : Type 0
 MeantProgramsAreResolved = (t : Tree) → WellFormed t → TreeHasFields t → Resolved (program_of t)
+
+-- what these laws ask of a tree holds of each that tokens spell
+abbrev pub SpelledTreesAreWhole : Type 0
+SpelledTreesAreWhole = (t : Tree) (xs : List Lexeme) → SpellsProgram t xs → TreeHasFields t × HasTargets (program_of t)
