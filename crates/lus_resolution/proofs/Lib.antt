@@ -17,3 +17,4 @@ pub mod NodesMeant
 pub mod CallsNamed
 pub mod ProgramsMeant
 pub mod SpelledTrees
+mod Examples
