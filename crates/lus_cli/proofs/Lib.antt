@@ -1,2 +1,5 @@
 pub mod Acceptances
 pub mod Sources
+pub mod Formals
+pub mod Runs
+pub mod Scripts

@@ -19,7 +19,7 @@ read_whole n bytes left e less =
     let within : length left ≤ n = omega (arith, length-take n left) in
     e ∙ take_all n left within
 
-read_part : (n : ℕ) (bytes left : Bytes) → bytes ≡ take n left → length bytes ≤ length left
+pub read_part : (n : ℕ) (bytes left : Bytes) → bytes ≡ take n left → length bytes ≤ length left
 read_part n bytes left e =
     let size : length bytes ≡ length (take n left) = ap length e in
     omega (arith, length-take n left)

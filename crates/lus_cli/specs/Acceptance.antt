@@ -32,6 +32,10 @@ pub record Accepted (text : Text) (p : Program) : Type 0 where
   pub flagged : IsFlagged p
   pub causal : IsCausal p
 
+-- some text is accepted as this program
+abbrev pub IsAccepted : Program → Type 0
+IsAccepted p = (text : Text) × Accepted text p
+
 -- the first pass that refuses the text, by its number: each case says that the passes before it don't
 pub data RefusedAt (text : Text) : RefusalNumber → Type 0 where
   no_tokens : {n : RefusalNumber} → (place : Place) → Faulty text n place → RefusedAt text n

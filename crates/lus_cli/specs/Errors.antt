@@ -1,6 +1,11 @@
 -- Which errors a check and a run may answer, by what the devices had left.
-use Rattle.std.specs.Prelude.{◌≡◌, ◌≢◌, ⊤, ◌⊎◌, List, Option}
-use Rattle.lus_host.specs.Devices.{Bytes}
+use Rattle.std.specs.Prelude.{◌≡◌, ℕ, ⊤, ◌⊎◌, Option, IfSome}
+use Rattle.lus_syntax.specs.declared.refusal.RefusalNumber.TheVariants as numbers
+use Rattle.lus_program.specs.Programs.{Program}
+use Rattle.lus_runner.specs.Plain.{IsPlain}
+use Rattle.lus_host.specs.Devices.{Bytes, one_more}
+use Rattle.lus_cli.specs.Acceptance.{Accepted}
+use Rattle.lus_cli.specs.Refusals.{IsScriptsError}
 use Rattle.lus_cli.specs.Sources.{IsRightRefusal}
 use Rattle.lus_cli.specs.declared.error.RunError.{RunError}
 use Rattle.lus_cli.specs.declared.error.RunError.TheVariants as errors
@@ -17,3 +22,28 @@ IsReadingError left (errors.Scripts e) = ⊥
 abbrev pub IsCheckError : Option Bytes → RunError → Type 0
 IsCheckError left errors.Write = ⊤
 IsCheckError left e = IsReadingError left e
+
+-- a program that isn't plain is refused as unsupported, and scripts rightly, or the device or memory failed
+abbrev pub IsAnsweringError : Program → Option Bytes → RunError → Type 0
+IsAnsweringError p left (errors.Program e) = (IsPlain p → ⊥) × (e.number ≡ numbers.Unsupported) × (e.line ≡ 1) × (e.column ≡ 1)
+IsAnsweringError p left (errors.Scripts e) = IsPlain p × IfSome left (λ bytes. IsScriptsError p bytes (errors.Scripts e))
+IsAnsweringError p left errors.Read = ⊤
+IsAnsweringError p left errors.Memory = ⊤
+IsAnsweringError p left errors.Write = ⊥
+
+-- the text is accepted as a program that isn't plain
+abbrev pub IsNotPlain : Bytes → Type 0
+IsNotPlain text = (p : Program) × Accepted text p × (IsPlain p → ⊥)
+
+-- a program is refused rightly, also as unsupported if it isn't plain, and scripts are, or a device or memory failed
+abbrev pub IsRunError : Option Bytes → Option Bytes → RunError → Type 0
+IsRunError program scripts (errors.Program e) = IsRightRefusal program e ⊎ (IfSome program IsNotPlain × (e.number ≡ numbers.Unsupported))
+IsRunError program scripts (errors.Scripts e) =
+    IfSome program (λ text. IfSome scripts (λ bytes. (p : Program) × Accepted text p × IsPlain p × IsScriptsError p bytes (errors.Scripts e)))
+IsRunError program scripts errors.Read = ⊤
+IsRunError program scripts errors.Memory = ⊤
+IsRunError program scripts errors.Write = ⊤
+
+-- one of two counts of failures grew by one
+abbrev pub OneFailed : Option ℕ → Option ℕ → Option ℕ → Option ℕ → Type 0
+OneFailed a_old a_new b_old b_new = ((a_new ≡ one_more a_old) × (b_new ≡ b_old)) ⊎ ((a_new ≡ a_old) × (b_new ≡ one_more b_old))

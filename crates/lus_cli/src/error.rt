@@ -5,7 +5,7 @@ ghost use Rattle.lus_cli.specs.declared.error.RunError.TheVariants.{Memory as Of
 
 use lus_host::ScriptRefusal;
 use lus_syntax::Refusal;
-use std::alloc::AllocError;
+use std::alloc::{AllocError, AllocFailed};
 use thiserror::Error;
 
 /// Why a check or a run ended before its end.
@@ -27,6 +27,14 @@ impl From<AllocError> for RunError {
     ghost from_gives = { λ _ e. e ≡ OfMemory };
 
     fn from(_error: AllocError) -> RunError {
+        RunError::Memory
+    }
+}
+
+impl<T: Drop> From<AllocFailed<T>> for RunError {
+    ghost from_gives = { λ _ e. e ≡ OfMemory };
+
+    fn from(_error: AllocFailed<T>) -> RunError {
         RunError::Memory
     }
 }

@@ -1,9 +1,13 @@
 //! The command line of `lus`.
 #![tactic(auto)]
 
+mod answering;
 mod checking;
 mod compilation;
 mod error;
+mod history;
+mod naming;
+mod running;
 mod source;
 mod text;
 mod words;
@@ -11,5 +15,6 @@ mod words;
 pub use checking::check;
 pub use compilation::compile;
 pub use error::RunError;
+pub use running::run;
 pub use text::text_of;
 pub use words::{Task, WordsError, read_words};

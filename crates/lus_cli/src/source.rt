@@ -4,7 +4,7 @@ ghost use Rattle.std.specs.Prelude.{◌≡◌, ◌≢◌, ◌≤◌, IfOk, IfErr
 ghost use Rattle.lus_syntax.specs.declared.refusal.RefusalNumber.TheVariants as numbers;
 ghost use Rattle.lus_program.specs.View.{program_seen};
 ghost use Rattle.lus_host.specs.Devices.{one_more};
-ghost use Rattle.lus_cli.specs.Acceptance.{Accepted};
+ghost use Rattle.lus_cli.specs.Acceptance.{Accepted, IsAccepted};
 ghost use Rattle.lus_cli.specs.Errors.{IsReadingError};
 ghost use Rattle.lus_cli.specs.Sources.{ProgramRefused, most_bytes};
 
@@ -31,6 +31,7 @@ fn program_of(alloc: Global, bytes: &[u8]) -> Result<Ordered, Refusal>
 /// Reads the program of a device to its end, or to the first byte that is one too many.
 pub(crate) fn read_program<P: Source>(alloc: Global, program: &mut P) -> Result<Ordered, RunError>
     ensures ok { IfOk result (λ ordered. IfSome (P.left program.old) (λ bytes. Accepted bytes (program_seen ordered.program))) }
+    ensures accepted { IfOk result (λ ordered. IsAccepted (program_seen ordered.program)) }
     ensures refused { IfErr result (λ e. IsReadingError (P.left program.old) e) }
     ensures quiet { (result ≡ Err RunError.Read → ⊥) → P.failures program.new ≡ P.failures program.old }
     ensures failed { result ≡ Err RunError.Read → P.failures program.new ≡ one_more (P.failures program.old) }

@@ -1,0 +1,73 @@
+//! Answering the calls of scripts.
+
+ghost use Rattle.std.specs.Prelude.{◌≡◌, ◌<◌, ◌⊎◌, IfOk, IfErr, length};
+ghost use Rattle.lus_program.specs.View.{program_seen};
+ghost use Rattle.lus_runner.specs.Plain.{IsPlain};
+ghost use Rattle.lus_runner.specs.Replies.{IsReply};
+ghost use Rattle.lus_host.specs.declared.refusal.ScriptRefusal.TheVariants as refusals;
+ghost use Rattle.lus_cli.specs.Runs.{AreAnswers, HasFormals, IsAnswer};
+
+use crate::error::RunError;
+use lus_host::{Call, ScriptRefusal};
+use lus_machine::{Entry, Reply, Request};
+use lus_order::Ordered;
+use lus_runner::step;
+use lus_values::{Memory, Row};
+use std::alloc::Global;
+
+/// The reply of a node to a step.
+fn reply(alloc: Global, ordered: &Ordered, node: usize, inputs: &Row) -> Result<Reply, Memory>
+    requires plain { IsPlain (program_seen ordered.now.program) }
+    requires formals { HasFormals (program_seen ordered.now.program) }
+    requires within { node < length ordered.now.program.nodes.items }
+    ensures { IfOk result (λ reply. IsReply (program_seen ordered.now.program) node inputs.now reply) }
+{
+    let program = ordered.program();
+    let orders = ordered.orders();
+    step(alloc, program, node, &orders[node], inputs)
+}
+
+/// The entry of a call, which steps.
+fn answer(alloc: Global, ordered: &Ordered, node: usize, call: &Call) -> Result<Entry, RunError>
+    requires plain { IsPlain (program_seen ordered.now.program) }
+    requires formals { HasFormals (program_seen ordered.now.program) }
+    requires within { node < length ordered.now.program.nodes.items }
+    ensures ok { IfOk result (λ entry. IsAnswer (program_seen ordered.now.program) node call.now entry) }
+    ensures errors { IfErr result (λ e. (e ≡ RunError.Memory) ⊎ (e ≡ RunError.Scripts refusals.Form)) }
+{
+    match &call.request {
+        Request::Step(inputs) => match (
+            call.request.copy(alloc),
+            reply(alloc, ordered, node, inputs),
+        ) {
+            (Ok(request), Ok(reply)) => Ok(Entry {
+                caller: 0,
+                request,
+                reply,
+            }),
+            _ => Err(RunError::Memory),
+        },
+        _ => Err(RunError::Scripts(ScriptRefusal::Form)),
+    }
+}
+
+/// The entries of calls, in order.
+pub(crate) fn answers(
+    alloc: Global,
+    ordered: &Ordered,
+    node: usize,
+    calls: &[Call],
+) -> Result<Vec<Entry>, RunError>
+    requires plain { IsPlain (program_seen ordered.now.program) }
+    requires formals { HasFormals (program_seen ordered.now.program) }
+    requires within { node < length ordered.now.program.nodes.items }
+    ensures ok { IfOk result (λ entries. AreAnswers (program_seen ordered.now.program) node calls.now entries.items) }
+    ensures errors { IfErr result (λ e. (e ≡ RunError.Memory) ⊎ (e ≡ RunError.Scripts refusals.Form)) }
+{
+    let mut entries = Vec::new(alloc);
+    for call in calls {
+        let entry = answer(alloc, ordered, node, call)?;
+        entries.push(entry)?;
+    }
+    Ok(entries)
+}
