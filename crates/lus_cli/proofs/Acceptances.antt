@@ -1,10 +1,10 @@
 -- A text is read as one tree at most, so it means one program at most, and none where a pass refuses it.
-use Rattle.std.proofs.Common.{◌≡◌, ◌≢◌, ◌∙◌, ◌⊎◌, inl, inr, refl, sym, ap, subst, ℕ, ◌≤◌, List}
+use Rattle.std.proofs.Common.{◌≡◌, ◌≢◌, ◌∙◌, inl, inr, refl, sym, ap, subst, ◌≤◌, List}
 use Rattle.lus_syntax.specs.declared.refusal.RefusalNumber.{RefusalNumber}
 use Rattle.lus_syntax.specs.declared.refusal.RefusalNumber.TheVariants as numbers
 use Rattle.lus_syntax.specs.Lexemes.{Lexeme, Text}
 use Rattle.lus_syntax.specs.declared.refusal.Refusal.{Refusal}
-use Rattle.lus_syntax.specs.Tokens.{Tokens, Faulty, TellsFault}
+use Rattle.lus_syntax.specs.Tokens.{TellsFault}
 use Rattle.lus_syntax.specs.Trees.{Tree}
 use Rattle.lus_syntax.proofs.Unique as unique
 use Rattle.lus_spelling.specs.Declarations.{SpellsProgram, tree_depth}

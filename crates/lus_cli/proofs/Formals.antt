@@ -9,7 +9,7 @@ use Rattle.lus_syntax.specs.Trees.{Definition, Alias, Enumeration, StructureOf, 
 use Rattle.lus_program.specs.Programs.{Program}
 use Rattle.lus_meaning.specs.Scopes.{Scope}
 use Rattle.lus_meaning.specs.Sized.{DefinitionCounted}
-use Rattle.lus_meaning.specs.Tables.{declared_as, each_of, groups, group_kinds, kind_named, scope, text_of}
+use Rattle.lus_meaning.specs.Tables.{declared_as, each_of, group_kinds, kind_named, scope, text_of}
 use Rattle.lus_meaning.specs.Meaning.{variables_of, node_meant, program_of}
 use Rattle.lus_cli.specs.Acceptance.{Accepted}
 use Rattle.lus_cli.specs.Runs.{CanBeNamed, HasFormals, constructors_of}

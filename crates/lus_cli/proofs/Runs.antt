@@ -5,7 +5,6 @@ use Rattle.std.proofs.lemmas.Option.{IfSome_then}
 use Rattle.serde_json.specs.Data.{Data}
 use Rattle.serde_json.specs.Read.{read}
 use Rattle.lus_program.specs.Programs.{Program}
-use Rattle.lus_runner.specs.Plain.{IsPlain}
 use Rattle.lus_host.specs.Devices.{Bytes}
 use Rattle.lus_host.specs.Scripts.{Scripts, scripts_of}
 use Rattle.lus_host.specs.declared.refusal.ScriptRefusal.{ScriptRefusal}

@@ -1,5 +1,5 @@
 -- Bytes of scripts that are read up to one more than there may be are answered and refused as those left are.
-use Rattle.std.proofs.Common.{◌≡◌, refl, sym, subst, ℕ, ◌+◌, ◌<◌, ◌≤◌, List, length, take, arith, Option, Result, Ok, Err, IfOk, IfSome}
+use Rattle.std.proofs.Common.{◌≡◌, subst, ℕ, ◌+◌, ◌<◌, ◌≤◌, List, length, take, arith, Option, Result, Ok, Err, IfOk, IfSome}
 use Rattle.std.proofs.lemmas.Option.{IfSome_then}
 use Rattle.lus_syntax.specs.Lexemes.{Text}
 use Rattle.lus_program.specs.Programs.{Program}

@@ -5,7 +5,7 @@ use Rattle.lus_syntax.specs.declared.refusal.Refusal.{Refusal}
 use Rattle.lus_syntax.specs.declared.refusal.RefusalNumber.{RefusalNumber}
 use Rattle.lus_program.specs.Programs.{Program}
 use Rattle.lus_host.specs.Devices.{Bytes}
-use Rattle.lus_cli.specs.Acceptance.{Accepted, RefusedAt}
+use Rattle.lus_cli.specs.Acceptance.{Accepted}
 use Rattle.lus_cli.specs.Sources.{IsNoText, too_long, no_utf8, ProgramRefused, is_too_long, is_no_utf8, is_refused, most_bytes}
 
 pub no_text : (bytes : Bytes) (e : Refusal) → IsNoText bytes e → ProgramRefused bytes e.number

@@ -1,5 +1,5 @@
 -- Which texts are accepted, as which program, and which pass refuses the others first.
-use Rattle.std.specs.Prelude.{◌≡◌, ◌≢◌, ◌≤◌, ℕ, List}
+use Rattle.std.specs.Prelude.{◌≡◌, ◌≢◌, ◌≤◌, List}
 use Rattle.lus_syntax.specs.declared.refusal.RefusalNumber.{RefusalNumber}
 use Rattle.lus_syntax.specs.declared.refusal.RefusalNumber.TheVariants as numbers
 use Rattle.lus_syntax.specs.declared.token.Place.{Place}

@@ -14,13 +14,10 @@ use Rattle.lus_runner.specs.Plain.{IsPlain}
 use Rattle.lus_runner.specs.Replies.{IsReply}
 use Rattle.lus_host.specs.Devices.{Bytes}
 use Rattle.lus_host.specs.Forms.{InstanceForm}
-use Rattle.lus_host.specs.Journals.{Journal, journals_text}
-use Rattle.lus_host.specs.Scripts.{Caller, Scripts, scripts_of}
+use Rattle.lus_host.specs.Journals.{journals_text}
+use Rattle.lus_host.specs.Scripts.{Scripts, scripts_of}
 use Rattle.lus_host.specs.declared.scripts.Call.{Call}
-use Rattle.lus_host.specs.declared.refusal.ScriptRefusal.{ScriptRefusal}
-use Rattle.lus_host.specs.declared.refusal.ScriptRefusal.TheVariants as refusals
 use Rattle.lus_cli.specs.Acceptance.{Accepted}
-use Rattle.lus_cli.specs.Sources.{most_bytes}
 
 -- a type's constructors
 abbrev pub constructors_of : Declared → List Text

@@ -1,5 +1,5 @@
 -- What bytes are the text of a program, why bytes are refused, and what a check writes.
-use Rattle.std.specs.Prelude.{◌≡◌, ◌≤◌, ◌<◌, ◌≢◌, ℕ, List, ◌++◌, codes, length, take, IsUtf8, Option, IfSome}
+use Rattle.std.specs.Prelude.{◌≡◌, ◌≤◌, ◌<◌, ◌≢◌, ℕ, ◌++◌, codes, length, take, IsUtf8, Option, IfSome}
 use Rattle.std.specs.Fmt.{decimal}
 use Rattle.std.specs.Str.Lossy.{utf8_valid_len}
 use Rattle.lus_syntax.specs.declared.refusal.Refusal.{Refusal}

@@ -1,4 +1,4 @@
-use Rattle.std.proofs.Common.{◌≡◌, List, [], length, drop, sym, subst, arith}
+use Rattle.std.proofs.Common.{◌≡◌, [], drop, sym, subst, arith}
 use Rattle.std.proofs.lemmas.List.{append-nil, drop_all}
 use Rattle.lus_program.specs.View.{program_seen}
 use Rattle.lus_cli.specs.Runs.{AreAnswers}

@@ -1,4 +1,4 @@
-use Rattle.std.proofs.Common.{IfErr, ◌≡◌, ◌∙◌, ap, subst, sym}
+use Rattle.std.proofs.Common.{◌∙◌, ap, subst, sym}
 use Rattle.std.proofs.lemmas.Result.{err_from_is_err_and, IfErr-weaker}
 use Rattle.lus_syntax.specs.View.{tree_seen}
 use Rattle.lus_program.specs.View.{program_seen}

@@ -1,4 +1,4 @@
-use Rattle.std.proofs.Common.{IfErr, subst, sym}
+use Rattle.std.proofs.Common.{subst, sym}
 use Rattle.std.proofs.lemmas.Result.{err_from_is_err_and, IfErr-weaker}
 use Rattle.lus_syntax.specs.Tokens.{Tokens}
 use Rattle.lus_syntax.specs.View.{tokens_seen}

@@ -1,4 +1,4 @@
-use Rattle.std.proofs.Common.{◌≡◌, ◌∙◌, ◌≤◌, ◌⊎◌, inl, inr, IfErr, Ok, Err, ap, sym, subst, length}
+use Rattle.std.proofs.Common.{◌≡◌, ◌∙◌, ◌≤◌, inl, inr, Ok, Err, ap, sym, length}
 use Rattle.std.proofs.lemmas.Result.{IfErr-weaker}
 use Rattle.lus_program.specs.View.{program_seen}
 use Rattle.lus_host.specs.Scripts.{scripts_of}

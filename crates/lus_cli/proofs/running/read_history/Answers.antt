@@ -1,4 +1,4 @@
-use Rattle.std.proofs.Common.{◌≡◌, refl, sym, subst, take, string_bytes, IfOk, IfErr, IfSome}
+use Rattle.std.proofs.Common.{◌≡◌, refl, sym, subst, take, string_bytes, IfSome}
 use Rattle.std.proofs.lemmas.Option.{IfSome_then}
 use Rattle.std.proofs.lemmas.Result.{IfErr-weaker}
 use Rattle.lus_program.specs.View.{program_seen}

@@ -1,4 +1,4 @@
-use Rattle.std.proofs.Common.{IfErr, subst}
+use Rattle.std.proofs.Common.{subst}
 use Rattle.std.proofs.lemmas.Result.{IfErr-weaker}
 use Rattle.lus_cli.specs.Acceptance.{RefusedAt}
 use Rattle.lus_cli.specs.Sources.{is_refused}

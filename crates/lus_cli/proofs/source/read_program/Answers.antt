@@ -1,4 +1,4 @@
-use Rattle.std.proofs.Common.{◌≡◌, ◌≤◌, refl, subst, sym, ap, length, IfSome}
+use Rattle.std.proofs.Common.{◌≤◌, refl, subst, length}
 use Rattle.std.proofs.lemmas.Option.{IfSome_then}
 use Rattle.lus_program.specs.View.{program_seen}
 use Rattle.lus_cli.specs.Acceptance.{Accepted}
