@@ -4,3 +4,4 @@ pub mod Sources
 pub mod Runs
 pub mod Refusals
 pub mod Errors
+pub mod Faults

@@ -1,0 +1,80 @@
+-- How a command ends short: the status of the process, and the line on standard error.
+use Rattle.std.specs.Prelude.{◌≡◌, ◌≢◌, ◌⊎◌, ℕ, ◌++◌, codes, Option}
+use Rattle.lus_host.specs.Devices.{Bytes, WritesBeginning, one_more, with_text}
+use Rattle.lus_host.specs.declared.refusal.ScriptRefusal.{ScriptRefusal}
+use Rattle.lus_host.specs.declared.refusal.ScriptRefusal.TheVariants as scripts
+use Rattle.lus_syntax.specs.Refusals.{refusal_text}
+use Rattle.lus_syntax.specs.declared.refusal.Refusal.{Refusal}
+use Rattle.lus_syntax.specs.declared.refusal.RefusalNumber.{RefusalNumber}
+use Rattle.lus_syntax.specs.declared.refusal.RefusalNumber.TheVariants as numbers
+use Rattle.lus_cli.specs.CommandLine.{Text}
+use Rattle.lus_cli.specs.declared.words.WordsError.{WordsError}
+use Rattle.lus_cli.specs.declared.words.WordsError.TheVariants as words
+use Rattle.lus_cli.specs.declared.error.RunError.{RunError}
+use Rattle.lus_cli.specs.declared.error.RunError.TheVariants as runs
+use Rattle.lus_cli.specs.declared.fault.Fault.{Fault}
+use Rattle.lus_cli.specs.declared.fault.Fault.TheVariants as faults
+
+abbrev pub words_fault : WordsError → Fault
+words_fault words.Mistaken = faults.Words
+words_fault words.Memory = faults.Memory
+
+abbrev pub program_fault : RefusalNumber → Refusal → Fault
+program_fault numbers.Memory r = faults.Memory
+program_fault number r = faults.Program r
+
+abbrev pub scripts_fault : ScriptRefusal → Fault
+scripts_fault scripts.Memory = faults.Memory
+scripts_fault r = faults.Scripts r
+
+-- want of memory is one fault, whatever wanted it
+abbrev pub run_fault : RunError → Fault
+run_fault (runs.Program r) = program_fault r.number r
+run_fault (runs.Scripts r) = scripts_fault r
+run_fault runs.Read = faults.File
+run_fault runs.Write = faults.Output
+run_fault runs.Memory = faults.Memory
+
+abbrev pub fault_status : Fault → ℕ
+fault_status (faults.Program r) = 1
+fault_status (faults.Scripts r) = 2
+fault_status faults.Words = 2
+fault_status faults.File = 3
+fault_status faults.Output = 3
+fault_status faults.Memory = 4
+
+abbrev pub script_text : ScriptRefusal → Text
+script_text scripts.Json = codes "S1"
+script_text scripts.Form = codes "S2"
+script_text scripts.Unknown = codes "S3"
+script_text scripts.Double = codes "S4"
+script_text scripts.Limit = codes "S5"
+script_text scripts.Memory = codes "S6"
+
+abbrev pub fault_text : Fault → Text
+fault_text (faults.Program r) = refusal_text r
+fault_text (faults.Scripts r) = script_text r
+fault_text faults.Words = codes "words"
+fault_text faults.File = codes "file"
+fault_text faults.Output = codes "output"
+fault_text faults.Memory = codes "memory"
+
+abbrev pub fault_line : Fault → Text
+fault_line f = codes "error " ++ fault_text f ++ codes "\n"
+
+-- the line is written whole, or the device failed once and a beginning of it is written
+abbrev pub Told : Text → Option Bytes → Option Bytes → Option ℕ → Option ℕ → Type 0
+Told line old new before after =
+    ((new ≡ with_text old line) × (after ≡ before)) ⊎ (WritesBeginning old new line × (after ≡ one_more before))
+
+-- the status and the line are the fault's, or those of want of memory
+abbrev pub IsToldBy : ℕ → Fault → Option Bytes → Option Bytes → Option ℕ → Option ℕ → Type 0
+IsToldBy status f old new before after =
+    ((status ≡ fault_status f) × Told (fault_line f) old new before after)
+    ⊎ ((status ≡ 4) × Told (codes "error memory\n") old new before after)
+
+-- the output failed where the fault is its own; unless memory was wanted, nothing else has written to it
+abbrev pub IsLeftBy : Fault → Option Bytes → Option Bytes → Option ℕ → Option ℕ → Type 0
+IsLeftBy f old new before after =
+    (f ≡ faults.Output → after ≡ one_more before) × (f ≢ faults.Output → after ≡ before)
+    × (f ≢ faults.Output → f ≢ faults.Memory → new ≡ old)

@@ -1,0 +1,110 @@
+//! Why a command ends short: the status of the process, and the fault's line.
+
+ghost use Rattle.std.specs.Prelude.{◌≡◌, Some};
+ghost use Rattle.lus_cli.specs.Faults.{fault_status, fault_text, program_fault, run_fault, script_text, words_fault};
+
+use crate::{RunError, WordsError};
+use lus_host::ScriptRefusal;
+use lus_syntax::{Refusal, RefusalNumber};
+use std::error::Error;
+use std::fmt;
+
+/// Why a command ended short.
+#[derive(Debug, Drop)]
+pub enum Fault {
+    /// The words ask for nothing that there is.
+    Words,
+    /// A file couldn't be opened or read.
+    File,
+    /// The output couldn't be written.
+    Output,
+    /// Want of memory.
+    Memory,
+    /// The program was refused.
+    Program(Refusal),
+    /// The scripts were refused.
+    Scripts(ScriptRefusal),
+}
+
+impl Fault {
+    /// The status of the process: 1 for a refused program, 2 for refused scripts or words, 3 for a device that failed, and
+    /// 4 for want of memory.
+    pub fn status(&self) -> u8
+        ensures { result ≡ fault_status self.now }
+    {
+        match self {
+            Fault::Program(_) => 1,
+            Fault::Scripts(_) | Fault::Words => 2,
+            Fault::File | Fault::Output => 3,
+            Fault::Memory => 4,
+        }
+    }
+}
+
+/// How a refusal of scripts is printed.
+fn script_text(refusal: ScriptRefusal) -> &'static str
+    ensures { result.now ≡ script_text refusal }
+{
+    match refusal {
+        ScriptRefusal::Json => "S1",
+        ScriptRefusal::Form => "S2",
+        ScriptRefusal::Unknown => "S3",
+        ScriptRefusal::Double => "S4",
+        ScriptRefusal::Limit => "S5",
+        ScriptRefusal::Memory => "S6",
+    }
+}
+
+/// Writes what stands in the fault's line behind `error `, as `words` or `E2 line 2 column 12`.
+impl fmt::Display for Fault {
+    ghost output = { λ fault. Some (fault_text fault) };
+
+    fn fmt<W: fmt::Write>(&self, f: &mut fmt::Formatter<W>) -> fmt::Result {
+        match self {
+            Fault::Words => f.write_str("words"),
+            Fault::File => f.write_str("file"),
+            Fault::Output => f.write_str("output"),
+            Fault::Memory => f.write_str("memory"),
+            Fault::Program(refusal) => write!(f, "{refusal}"),
+            Fault::Scripts(refusal) => f.write_str(script_text(*refusal)),
+        }
+    }
+}
+
+impl Error for Fault {}
+
+impl From<WordsError> for Fault {
+    ghost from_gives = { λ e f. f ≡ words_fault e };
+
+    fn from(error: WordsError) -> Fault {
+        match error {
+            WordsError::Mistaken => Fault::Words,
+            WordsError::Memory => Fault::Memory,
+        }
+    }
+}
+
+/// Want of memory is one fault, whatever wanted it.
+impl From<RunError> for Fault {
+    ghost from_gives = { λ e f. f ≡ run_fault e };
+
+    fn from(error: RunError) -> Fault {
+        match error {
+            RunError::Program(refusal) => program_fault(refusal),
+            RunError::Scripts(ScriptRefusal::Memory) | RunError::Memory => Fault::Memory,
+            RunError::Scripts(refusal) => Fault::Scripts(refusal),
+            RunError::Read => Fault::File,
+            RunError::Write => Fault::Output,
+        }
+    }
+}
+
+fn program_fault(refusal: Refusal) -> Fault
+    ensures { result ≡ program_fault refusal.number refusal }
+{
+    if refusal.number == RefusalNumber::Memory {
+        Fault::Memory
+    } else {
+        Fault::Program(refusal)
+    }
+}
