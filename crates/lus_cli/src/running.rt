@@ -1,11 +1,11 @@
 //! Running a program with scripts.
 
-ghost use Rattle.std.specs.Prelude.{◌≡◌, ◌≢◌, ℕ, OnOk, OnErr, IfOk, IfErr, IfSome, Err, true, ◌⊎◌, string_bytes};
+ghost use Rattle.std.specs.Prelude.{IsTrue, ◌≡◌, ◌≢◌, ℕ, OnOk, OnErr, IfOk, IfErr, IfSome, Err, true, ◌⊎◌, string_bytes};
 ghost use Rattle.lus_program.specs.View.{program_seen};
 ghost use Rattle.lus_runner.specs.Plain.{IsPlain};
 ghost use Rattle.lus_host.specs.Devices.{Bytes, WritesBeginning, one_more, with_text};
 ghost use Rattle.lus_host.specs.View.{instance_kept};
-ghost use Rattle.lus_cli.specs.Errors.{IsAnsweringError, IsRunError, OneFailed};
+ghost use Rattle.lus_cli.specs.Errors.{DeclaresConstants, IsAnsweringError, IsRunError, OneFailed};
 ghost use Rattle.lus_cli.specs.Runs.{Answers, CanBeNamed, HasFormals, Ran, names_of, run_text};
 
 use crate::error::RunError;
@@ -45,7 +45,23 @@ fn read_history<S: Source>(
     }
 }
 
-/// Reads scripts for a program, which is refused if it isn't plain.
+/// Whether the source of a program declares constants.
+fn declares_constants(ordered: &Ordered) -> bool
+    ensures { IsTrue result → DeclaresConstants (program_seen ordered.now.program) }
+{
+    let tree = ordered.initialised().clocked().typed().tree();
+    !tree.constants.is_empty()
+}
+
+fn unsupported() -> Refusal
+    ensures number { result.number ≡ RefusalNumber.Unsupported }
+    ensures line { result.line ≡ 1 }
+    ensures column { result.column ≡ 1 }
+{
+    Refusal::new(RefusalNumber::Unsupported, 1, 1)
+}
+
+/// Reads scripts for a program, which is refused if it can't be run yet.
 fn plain_history<S: Source>(
     alloc: Global,
     ordered: &Ordered,
@@ -61,10 +77,13 @@ fn plain_history<S: Source>(
     ensures quiet { (result ≡ Err RunError.Read → ⊥) → S.failures scripts.new ≡ S.failures scripts.old }
     ensures failed { result ≡ Err RunError.Read → S.failures scripts.new ≡ one_more (S.failures scripts.old) }
 {
+    if declares_constants(ordered) {
+        return Err(RunError::Program(unsupported()));
+    }
     if is_plain(ordered.program()) {
         read_history(alloc, ordered, scripts)
     } else {
-        Err(RunError::Program(Refusal::new(RefusalNumber::Unsupported, 1, 1)))
+        Err(RunError::Program(unsupported()))
     }
 }
 
@@ -113,8 +132,9 @@ fn run_history<P: Source, S: Source>(
 
 /// Reads a program and scripts, answers the calls of the scripts' caller, and writes the journal.
 ///
-/// A refusal of the program is that of the first pass that fails; an accepted one that isn't plain is unsupported. Where the
-/// output fails, a beginning of the journal is written, and for want of memory that or nothing, and else nothing.
+/// A refusal of the program is that of the first pass that fails; an accepted one that isn't plain, or that declares
+/// constants, is unsupported. Where the output fails, a beginning of the journal is written, and for want of memory that or
+/// nothing, and else nothing.
 pub fn run<P: Source, S: Source, O: Sink>(
     alloc: Global,
     program: &mut P,
