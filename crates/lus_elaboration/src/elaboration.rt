@@ -8,10 +8,9 @@ ghost use Rattle.lus_meaning.specs.Types.{kind_of, kinds_of};
 ghost use Rattle.lus_meaning.specs.Meaning.{meant, all_meant};
 ghost use Rattle.lus_meaning.specs.ScopeView.{scope_of, Faulty};
 
-use lus_meaning::Fault;
 use crate::forms::{Elaborated, binary, choice, field, named, place_of, sampled, unary};
 use crate::parts::{call, merge, structure};
-use lus_meaning::Scope;
+use lus_meaning::{Fault, Scope};
 use lus_program::{Expr, Kind};
 use lus_syntax::{Expr as Source, Part};
 use lus_values::Value;

@@ -10,11 +10,10 @@ ghost use Rattle.lus_meaning.specs.WellTyped.{kinds_given, left_kinds as kinds_o
 ghost use Rattle.lus_meaning.specs.ScopeView.{scope_of, Faulty};
 
 use crate::elaboration::{elaborate, elaborate_all};
-use lus_meaning::Fault;
 use crate::forms::place_of;
 use crate::kinds::all_same;
 use crate::parts::callee;
-use lus_meaning::Scope;
+use lus_meaning::{Fault, Scope};
 use lus_program::{Equation, Expr, Kind};
 use lus_syntax::{Equation as SourceEquation, Expr as Source, Name, Place};
 use std::alloc::{AllocError, Global};

@@ -12,9 +12,8 @@ ghost use Rattle.lus_meaning.specs.Types.{name_kind, prefix_kind as kind_of_pref
 ghost use Rattle.lus_meaning.specs.Meaning.{name_meant, prefix_meant, infix_meant, compute as computed, one, two, test_meant, field_meant, node_place};
 ghost use Rattle.lus_meaning.specs.ScopeView.{scope_of, Faulty};
 
-use lus_meaning::Fault;
 use crate::kinds::{choice_kind, infix_kind, prefix_kind, same, value_kind};
-use lus_meaning::{Scope, field as field_named};
+use lus_meaning::{Fault, Scope, field as field_named};
 use lus_program::{Expr, Kind, Test};
 use lus_syntax::{
     Expr as Source, Infix, Label, Lead, Name, Part, Place, Prefix, Test as SourceTest,

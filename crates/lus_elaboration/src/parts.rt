@@ -13,11 +13,9 @@ ghost use Rattle.lus_meaning.specs.Meaning.{node_place, branches_meant, structur
 ghost use Rattle.lus_meaning.specs.ScopeView.{scope_of, Faulty};
 
 use crate::arrangement::arranged;
-use lus_meaning::{Placed, Signature};
-use lus_meaning::Fault;
 use crate::forms::{Elaborated, label_place, place_of};
 use crate::kinds::{all_same, common_kind, same, the_one};
-use lus_meaning::{Scope, field as field_named};
+use lus_meaning::{Fault, Placed, Scope, Signature, field as field_named};
 use lus_program::{Expr, Kind};
 use lus_syntax::{Label, Lead, Name, Part, Place};
 use lus_values::Operator;
