@@ -3,3 +3,4 @@ pub mod Sources
 pub mod Formals
 pub mod Runs
 pub mod Scripts
+pub mod AcceptedPrograms

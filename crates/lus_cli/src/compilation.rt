@@ -2,10 +2,9 @@
 
 ghost use Rattle.std.specs.Prelude.{◌≡◌, ◌≢◌, IfOk, IfErr};
 ghost use Rattle.lus_syntax.specs.declared.refusal.RefusalNumber.TheVariants as numbers;
-ghost use Rattle.lus_syntax.specs.Lexemes.{Text};
 ghost use Rattle.lus_syntax.specs.View.{tree_seen};
 ghost use Rattle.lus_program.specs.View.{program_seen};
-ghost use Rattle.lus_cli.specs.Acceptance.{IsRead, Accepted, RefusedAt, IsRefused, HasOneProgram};
+ghost use Rattle.lus_cli.specs.Acceptance.{IsRead, Accepted, RefusedAt, IsRefused};
 
 use lus_clocks::{check_clocks, check_nil};
 use lus_grammar::parse;
@@ -44,8 +43,3 @@ pub fn compile(alloc: Global, text: &str) -> Result<Ordered, Refusal>
 {
     program_of(alloc, text)
 }
-
-/// A text is accepted as one program at most.
-pub fn one_program()
-    ensures { (text : Text) → HasOneProgram text }
-{}
