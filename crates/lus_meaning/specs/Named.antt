@@ -1,10 +1,10 @@
 -- The rules of names. Lustre V6 reference manual, "Lexical aspects" and "Nodes": types, values (constants and
 -- constructors) and nodes are three spaces of names; what is used is declared, and nothing twice.
-use Rattle.std.specs.Prelude.{◌++◌, ◌&&◌, ◌||◌, Bool, true, false, not, List, [], ◌∷◌, Option, Some, None, map, flat_map, IsTrue}
+use Rattle.std.specs.Prelude.{◌++◌, ◌&&◌, ◌||◌, Bool, true, false, not, List, [], ◌∷◌, Option, Some, None, length, map, flat_map, nat_lt, IsTrue}
 use Rattle.std.specs.List.{list_all}
 use Rattle.std.specs.Str.{bytes_eq}
 use Rattle.lus_syntax.specs.Lexemes.{Text}
-use Rattle.lus_syntax.specs.Trees.{Label, Constructor, Boolean, Test, Holds, Fails, Is, Lead, Plain, Of, Branch, Expression, Numeral, Truth, Name, Call, Structure, Merge, Field, Parentheses, When, Unary, Binary, If, Parts, End, More, TypeName, BoolName, IntName, DeclaredName, Fields, Definition, Alias, Enumeration, StructureOf, TypeDeclaration, Literal, Positive, Negative, TruthValue, ConstructorName, Constant, Group, Node, Tree}
+use Rattle.lus_syntax.specs.Trees.{Label, Constructor, Boolean, Test, Holds, Fails, Is, Lead, Plain, Of, Branch, Expression, Numeral, Truth, Name, Call, Structure, Merge, Field, Parentheses, When, Unary, Binary, If, Parts, End, More, TypeName, BoolName, IntName, DeclaredName, Fields, Definition, Alias, Enumeration, StructureOf, TypeDeclaration, Literal, Positive, Negative, TruthValue, ConstructorName, Constant, Group, Equation, Node, Tree}
 use Rattle.lus_values.specs.Lists.{Each}
 use Rattle.lus_meaning.specs.Tables.{text_of, groups}
 
@@ -108,7 +108,11 @@ defined_names f = names_in (f.outputs ++ f.locals)
 abbrev pub left_names : Node → List Text
 left_names f = flat_map (λ q. map text_of q.left) f.equations
 
--- each output and each local stands on exactly one left side, once
+-- a variable stands on the left
+abbrev pub has_left : Equation → Bool
+has_left q = nat_lt 0 (length q.left)
+
+-- each output and each local stands on exactly one left side, once, and no left side is empty
 pub record NodeNamed (k : Known) (f : Node) : Type 0 where
   pub distinct : Distinct k.variables
   pub types : IsTrue (list_all (λ g. type_known k.types g.type_name) (groups f))
@@ -116,6 +120,7 @@ pub record NodeNamed (k : Known) (f : Node) : Type 0 where
   pub left_distinct : Distinct (left_names f)
   pub left_defined : IsTrue (list_all (is_in (defined_names f)) (left_names f))
   pub left_whole : IsTrue (list_all (is_in (left_names f)) (defined_names f))
+  pub left_some : IsTrue (list_all has_left f.equations)
   pub rights : IsTrue (list_all (λ q. knows k q.right) f.equations)
 
 abbrev pub field_names : List Fields → List Text

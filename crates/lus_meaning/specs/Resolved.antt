@@ -145,6 +145,7 @@ pub record NodeResolved (p : Program) (f : Node) : Type 0 where
   pub variables : Each (VariableFits p f) f.variables
   pub targets : Each (λ x. x < length f.variables) (targets_of f)
   pub defined : Below (length f.variables) (IsDefined f)
+  pub lefts : Each (λ q. 0 < length q.targets) f.equations
   pub equations : Each (EquationFits p f) f.equations
   pub numbered : AreNumbered 0 f.equations
 

@@ -152,6 +152,11 @@ test_variable (Holds c) = c.text
 test_variable (Fails p c) = c.text
 test_variable (Is l c) = c.text
 
+-- whether it is a structure's type
+abbrev pub is_structure : Kind → Bool
+is_structure (kinds.Struct t) = true
+is_structure k = false
+
 -- the place of a truth value among those of bool: false, true
 abbrev pub truth_place : Kind → Bool → Option ℕ
 truth_place k true = where_true (same k kinds.Bool) (Some 1)
@@ -227,9 +232,13 @@ module _ (s : Scope) where
   abbrev pub merge_kind : Kind → Parts → List Kind → Option Kind
   merge_kind k bs ks = option_and_then (λ cs. where_true (each_once (size_of k) cs) (common_kind ks)) (branch_places k bs)
 
-  -- each field stands exactly once, with a value of its type
+  -- the fields stand each exactly once, with values of their types
+  abbrev pub fields_kind : Kind → Parts → List Kind → Option Kind
+  fields_kind k fs ks = option_and_then (λ xs. where_true (all_same (map (λ x. x.kind) xs) ks && each_once (length (fields_of k)) (map (λ x. x.place) xs)) (Some k)) (fields_asked k fs)
+
+  -- only a structure's type has fields
   abbrev pub structure_kind : Kind → Parts → List Kind → Option Kind
-  structure_kind k fs ks = option_and_then (λ xs. where_true (all_same (map (λ x. x.kind) xs) ks && each_once (length (fields_of k)) (map (λ x. x.place) xs)) (Some k)) (fields_asked k fs)
+  structure_kind k fs ks = where_true (is_structure k) (fields_kind k fs ks)
 
   abbrev pub field_kind : Kind → Text → Option Kind
   field_kind k x = option_map (λ f. f.kind) (field_named (fields_of k) x)

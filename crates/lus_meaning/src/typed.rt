@@ -5,13 +5,13 @@ ghost use Rattle.lus_syntax.specs.View.{tree_seen};
 ghost use Rattle.lus_program.specs.View.{program_seen};
 ghost use Rattle.lus_meaning.specs.Meaning.{program_of};
 ghost use Rattle.lus_meaning.specs.Refusals.{WellFormed};
+ghost use Rattle.lus_meaning.specs.Resolved.{Resolved};
 
 use lus_program::Program;
 use lus_syntax::Tree;
 use std::marker::Model;
 
-/// A tree that keeps the rules of names, recursion, limits and types, and the program that it means. Contracts see it as
-/// the program.
+/// A tree that keeps the rules of names, recursion, limits and types, and the program that it means.
 #[derive(Drop)]
 pub struct Typed {
     tree: Tree,
@@ -21,15 +21,15 @@ pub struct Typed {
 impl Model for Typed {
     ghost use Rattle.std.specs.Coded.{codes};
     ghost use Rattle.lus_program.specs.contracts.expr.Expr as expr;
-    ghost use Rattle.lus_program.specs.declared.node.Program.{Program as StoredProgram};
+    ghost use Rattle.lus_meaning.specs.TypedPrograms.{TypedProgram};
 
-    ghost Value = { StoredProgram };
+    ghost Value = { TypedProgram };
 
     ghost coded = { Prim.hlevel (codes, expr.the_row.coded) };
 
     ghost use Rattle.lus_meaning.specs.MeantPrograms.{IsMeant};
 
-    ghost view = { λ t. t.program };
+    ghost view = { λ t. record { tree = t.tree; program = t.program } };
 
     ghost invariant = { IsMeant };
 }
@@ -39,22 +39,25 @@ impl Typed {
     pub fn new(tree: Tree, program: Program) -> Typed
         requires well_formed { WellFormed (tree_seen tree) }
         requires means { program_seen program ≡ program_of (tree_seen tree) }
-        ensures { result ≡ program }
+        requires resolved { Resolved (program_seen program) }
+        ensures { result ≡ record { tree = tree; program = program } }
     {
         Typed { tree, program }
     }
 
     /// The tree that means the program.
     pub fn tree(&self) -> &Tree
+        ensures same { result.now ≡ self.now.tree }
         ensures well_formed { WellFormed (tree_seen result.now) }
-        ensures means { program_seen self.now ≡ program_of (tree_seen result.now) }
+        ensures means { program_seen self.now.program ≡ program_of (tree_seen result.now) }
     {
         &self.tree
     }
 
     /// The program that the tree means.
     pub fn program(&self) -> &Program
-        ensures { result.now ≡ self.now }
+        ensures same { result.now ≡ self.now.program }
+        ensures resolved { Resolved (program_seen result.now) }
     {
         &self.program
     }
