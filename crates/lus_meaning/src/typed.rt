@@ -20,12 +20,13 @@ pub struct Typed {
 
 impl Model for Typed {
     ghost use Rattle.std.specs.Coded.{codes};
-    ghost use Rattle.lus_program.specs.contracts.expr.Expr as expr;
+    ghost use Rattle.lus_program.specs.contracts.expr.Expr as program_expr;
+    ghost use Rattle.lus_syntax.specs.contracts.tree.Expr as tree_expr;
     ghost use Rattle.lus_meaning.specs.TypedPrograms.{TypedProgram};
 
     ghost Value = { TypedProgram };
 
-    ghost coded = { Prim.hlevel (codes, expr.the_row.coded) };
+    ghost coded = { Prim.hlevel (codes, program_expr.the_row.coded, tree_expr.the_row.coded) };
 
     ghost use Rattle.lus_meaning.specs.MeantPrograms.{IsMeant};
 

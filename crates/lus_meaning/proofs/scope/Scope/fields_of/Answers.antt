@@ -14,4 +14,4 @@ returns-in-Some-Structure-clause-few c =
     let here : slice_get items c.in-Struct.declaration ≡ Some declaration = rw c.deref.ensures.value at read in
     let few = few_fields_at items c.in-Struct.declaration declaration c.args.self.now.few_fields here in
     let shown = rw c.in-Some-Structure.field-0-is at few in
-    omega (arith, c.as_slice.ensures.value, ap length c.as_slice.ensures.value, simp length-map at shown)
+    omega (arith, ap length c.as_slice.ensures.value, simp length-map at shown)
