@@ -34,6 +34,7 @@ node_named k f distinct known lefts =
       left_distinct = lefts.distinct;
       left_defined = lefts.defined;
       left_whole = lefts.whole;
+      left_some = lefts.some;
       rights = and_second (list_all (group_known k) (groups f)) _ known;
     }
 
@@ -46,7 +47,7 @@ unknown_part k f unknown named =
     cc
 
 pub lefts_of : (k : Known) (f : Node) → NodeNamed k f → LeftsNamed f
-lefts_of k f named = record { distinct = named.left_distinct; defined = named.left_defined; whole = named.left_whole }
+lefts_of k f named = record { distinct = named.left_distinct; defined = named.left_defined; whole = named.left_whole; some = named.left_some }
 
 module _ (k : Known) (variables : List Text) (f : Node) (found : Option Place) (its_own : variables ≡ names_in (groups f)) (is : is_none found ≡ parts_known (record k { variables = variables }) f) where
   here : is_none found ≡ parts_known (in_node k f) f

@@ -5,7 +5,7 @@ use Rattle.lus_values.specs.Lists.{Each}
 use Rattle.lus_syntax.specs.Lexemes.{Text}
 use Rattle.lus_syntax.specs.Trees.{Equation, Group, Node, Tree}
 use Rattle.lus_meaning.specs.Tables.{text_of, groups}
-use Rattle.lus_meaning.specs.Named.{DefinitionNamed, Distinct, Known, NodeNamed, constant_known, defined_names, is_in, known, left_names, names_in, test_known, type_known}
+use Rattle.lus_meaning.specs.Named.{DefinitionNamed, Distinct, Known, NodeNamed, constant_known, defined_names, has_left, is_in, known, left_names, names_in, test_known, type_known}
 
 -- no names
 abbrev pub nothing : Known
@@ -26,11 +26,12 @@ group_known k g = type_known k.types g.type_name && test_known k g.test
 abbrev pub names_left : List Equation → List Text
 names_left qs = flat_map (λ q. map text_of q.left) qs
 
--- each output and each local stands on exactly one left side, once
+-- each output and each local stands on exactly one left side, once, and no left side is empty
 pub record LeftsNamed (f : Node) : Type 0 where
   pub distinct : Distinct (left_names f)
   pub defined : IsTrue (list_all (is_in (defined_names f)) (left_names f))
   pub whole : IsTrue (list_all (is_in (left_names f)) (defined_names f))
+  pub some : IsTrue (list_all has_left f.equations)
 
 -- no name is declared twice in its space
 pub record AreDistinct (p : Tree) : Type 0 where

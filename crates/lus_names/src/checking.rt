@@ -18,7 +18,7 @@ use std::alloc::Global;
 
 /// Checks the names of a source, and gives the tables of what its declarations name, with no variables. A fault stands at the
 /// name: a doubled one where it is declared again, an unknown one where it is used, an output or a local without an equation
-/// where it is declared.
+/// where it is declared, an equation with nothing on its left at its node's name.
 pub fn check_names(alloc: Global, tree: &Tree) -> Result<Names, Fault>
     ensures named { OnOk result (Named (tree_seen tree.now)) }
     ensures tables { IfOk result (λ names. known_seen names ≡ known (tree_seen tree.now) []) }

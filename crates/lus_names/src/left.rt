@@ -4,7 +4,7 @@ ghost use Rattle.std.specs.Prelude.{◌≡◌, ◌++◌, map, is_none, OnOk, IfO
 ghost use Rattle.std.specs.List.{list_all};
 ghost use Rattle.lus_syntax.specs.View.{equation_seen, group_seen, names_seen, node_seen};
 ghost use Rattle.lus_meaning.specs.Tables.{groups, text_of};
-ghost use Rattle.lus_meaning.specs.Named.{Distinct, all_new, defined_names, is_in, names_in};
+ghost use Rattle.lus_meaning.specs.Named.{Distinct, all_new, defined_names, has_left, is_in, names_in};
 ghost use Rattle.lus_meaning.specs.ScopeView.{Faulty};
 ghost use Rattle.lus_names.specs.NameView.{texts};
 ghost use Rattle.lus_names.specs.Parts.{LeftsNamed, names_left};
@@ -16,12 +16,13 @@ use lus_meaning::Fault;
 use lus_syntax::{Equation, Group, Name, Node, Place};
 use std::alloc::Global;
 
-/// Checks that equations define each output and each local of a node once, and nothing else.
+/// Checks that equations define each output and each local of a node once, and nothing else, each at least one of them.
 pub fn check_lefts(alloc: Global, node: &Node) -> Result<(), Fault>
     requires distinct { Distinct (names_in (groups (node_seen node.now))) }
     ensures named { OnOk result (LeftsNamed (node_seen node.now)) }
     ensures refused { IfErr result (Faulty (LeftsNamed (node_seen node.now) → ⊥)) }
 {
+    refuse(without_left(node))?;
     let defined = defined_table(alloc, node)?;
     refuse(undefined(&defined, &node.equations))?;
     let mut left = IndexSet::new(alloc);
@@ -62,6 +63,19 @@ fn declare_lefts(table: &mut IndexSet<String>, equations: &[Equation]) -> Result
         declare(table, &equation.left)?;
     }
     Ok(())
+}
+
+/// The name of a node that has an equation with nothing on its left: such an equation comes from no text, and has no place of
+/// its own.
+fn without_left(node: &Node) -> Option<Place>
+    ensures { is_none result ≡ list_all has_left (node_seen node.now).equations }
+{
+    for equation in &node.equations {
+        if equation.left.is_empty() {
+            return Some(node.name.span.start);
+        }
+    }
+    None
 }
 
 /// The first variable on a left side that is no output and no local.
