@@ -1,12 +1,11 @@
 -- What a scope says of a node that it and its program keep, and how fields stand.
-use Rattle.std.proofs.Common.{arith, ◌≡◌, refl, ap, ℕ, suc, ◌+◌, ◌<◌, Bool, true, false, cond, List, [], ◌∷◌, map, Option, Some}
+use Rattle.std.proofs.Common.{arith, ◌≡◌, ap, ℕ, suc, ◌+◌, ◌<◌, Bool, true, false, cond, List, [], ◌∷◌, map, Option, Some}
 use Rattle.std.specs.Prelude.{slice_get, option_map}
 use Rattle.std.specs.Str.{bytes_eq}
 use Rattle.lus_values.specs.Lists.{Each}
 use Rattle.lus_syntax.specs.Lexemes.{Text}
 use Rattle.lus_syntax.specs.Trees.{Lead, Plain, Of, Branch, Parts, End, More}
 use Rattle.lus_program.specs.declared.types.Kind.{Kind}
-use Rattle.lus_program.specs.declared.types.Kind.TheVariants as kinds
 use Rattle.lus_program.specs.Programs.{Field, Node, Program}
 use Rattle.lus_meaning.specs.declared.entries.Placed.{Placed}
 use Rattle.lus_meaning.specs.declared.entries.Constructor.{Constructor}
@@ -69,10 +68,3 @@ module _ (s : Scope) where
       let here : field_asked s k l ≡ Some x = let a = first.1 in cc in
       let there : fields_asked s k ps ≡ Some xs = let a = rest.1 in cc in
       (asked_at k l x here, all_asked_at k ps xs there)
-
-  -- what has fields is a structure
-  pub first_field : (k : Kind) (l : Lead) (x : Placed) → field_asked s k l ≡ Some x → (t : ℕ) × (k ≡ kinds.Struct t)
-  first_field kinds.Bool l x e = let f = asked_at kinds.Bool l x e in let g = f.kind in cc
-  first_field kinds.Int l x e = let f = asked_at kinds.Int l x e in let g = f.kind in cc
-  first_field (kinds.Enum t) l x e = let f = asked_at (kinds.Enum t) l x e in let g = f.kind in cc
-  first_field (kinds.Struct t) l x e = (t, refl)

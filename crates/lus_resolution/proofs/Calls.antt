@@ -1,7 +1,7 @@
--- What holds of each node that an expression calls, whatever the numbers of its calls and in each of its parts.
-use Rattle.std.proofs.Common.{ℕ, suc, ◌+◌, ◌<◌, ◌∷◌, drop}
+-- What holds of each node that an expression calls, and so of each of its parts.
+use Rattle.std.proofs.Common.{ℕ, suc, ◌<◌, ◌∷◌, drop}
 use Rattle.lus_values.specs.Lists.{Each}
-use Rattle.lus_program.specs.Programs.{Expression, literal, variable, operate, pre, arrow, fby, when, merge, call, Operands, none, more, calls, numbered, all_numbered, Node, Program, node_at}
+use Rattle.lus_program.specs.Programs.{Expression, literal, variable, operate, pre, arrow, fby, when, merge, call, Operands, none, more, Node, Program, node_at}
 use Rattle.lus_streams.specs.Clocks.{Clock, formal_clock, base_of, parts, operand_parts, branch_parts, argument_parts}
 use Rattle.lus_streams.specs.Flags.{HasOutput}
 use Rattle.lus_streams.proofs.Lists.{each_append}
@@ -22,22 +22,6 @@ module _ (P : ℕ → Type 0) where
     pub EachCallIn : Operands → Type 0
     EachCallIn none = Unit {0}
     EachCallIn (more e es) = EachCall e × EachCallIn es
-
-  mutual
-    pub each_call_numbered : (e : Expression) (n : ℕ) → EachCall e → EachCall (numbered n e)
-    each_call_numbered (literal v) n h = tt
-    each_call_numbered (variable x) n h = tt
-    each_call_numbered (operate o es) n h = each_call_in_numbered es n h
-    each_call_numbered (pre a) n h = each_call_numbered a n h
-    each_call_numbered (arrow a b) n h = (each_call_numbered a n h.0, each_call_numbered b (n + calls a) h.1)
-    each_call_numbered (fby a b) n h = (each_call_numbered a n h.0, each_call_numbered b (n + calls a) h.1)
-    each_call_numbered (when t a) n h = each_call_numbered a n h
-    each_call_numbered (merge x bs) n h = each_call_in_numbered bs n h
-    each_call_numbered (call g c es) n h = (h.0, each_call_in_numbered es (suc n) h.1)
-
-    each_call_in_numbered : (es : Operands) (n : ℕ) → EachCallIn es → EachCallIn (all_numbered n es)
-    each_call_in_numbered none n h = tt
-    each_call_in_numbered (more e es) n h = (each_call_numbered e n h.0, each_call_in_numbered es (n + calls e) h.1)
 
 module _ (p : Program) where
   abbrev pub HasSome : ℕ → Type 0

@@ -1,5 +1,5 @@
--- What the laws ask of a tree beside its being well formed: trees that no tokens spell, whose programs lack what is promised.
-use Rattle.std.proofs.Common.{◌≡◌, ℕ, refl, List, [], ◌∷◌, None, Some, true, arith}
+-- Trees that no tokens spell: their programs lack what is promised, so they are not well formed.
+use Rattle.std.proofs.Common.{◌≡◌, ℕ, refl, List, [], ◌∷◌, None, Some, false, arith}
 use Rattle.lus_syntax.specs.declared.token.Place.{Place}
 use Rattle.lus_syntax.specs.declared.token.Span.{Span}
 use Rattle.lus_syntax.specs.declared.tree.NodeKind.TheVariants as node_kinds
@@ -7,6 +7,7 @@ use Rattle.lus_syntax.specs.Trees as tree
 use Rattle.lus_program.specs.declared.types.Kind.TheVariants as kinds
 use Rattle.lus_streams.specs.Clocks.{at}
 use Rattle.lus_streams.specs.Flags.{HasOutput}
+use Rattle.lus_meaning.specs.Named.{has_left}
 use Rattle.lus_meaning.specs.Tables.{scope}
 use Rattle.lus_meaning.specs.WellTyped.{equation_typed}
 use Rattle.lus_meaning.specs.Meaning.{meant, node_meant, program_of}
@@ -25,7 +26,7 @@ n c = tree.named (c ∷ []) here
 abbrev node : ℕ → List tree.Group → List tree.Equation → tree.Node
 node c outputs qs = record { kind = node_kinds.Node; name = n c; inputs = []; outputs = outputs; locals = []; equations = qs }
 
--- type a = int; node f() returns (y: int); let y = a {}; tel: the structure is an integer in the tree, and none in the program
+-- type a = int; node f() returns (y: int); let y = a {}; tel: a structure without fields, which means no integer
 
 abbrev hollow : tree.Equation
 hollow = record { left = n 121 ∷ []; right = tree.Structure (n 97) tree.End }
@@ -36,13 +37,13 @@ f = node 102 (record { names = n 121 ∷ []; type_name = tree.IntName here; test
 abbrev aliased : tree.Tree
 aliased = record { types = record { name = n 97; definition = tree.Alias (tree.IntName here) } ∷ []; constants = []; nodes = f ∷ [] }
 
-hollow_is_typed : equation_typed (scope aliased f) hollow ≡ true
-hollow_is_typed = refl
+hollow_is_untyped : equation_typed (scope aliased f) hollow ≡ false
+hollow_is_untyped = refl
 
 hollow_is_no_integer : kinds_given_in (program_of aliased) (node_meant aliased f) (meant (scope aliased f) hollow.right) ≡ Some (kinds.Struct 0 ∷ [])
 hollow_is_no_integer = refl
 
--- node g() returns (); let tel; node h() returns (); let = g(); tel: a call without outputs
+-- node g() returns (); let tel; node h() returns (); let = g(); tel: a call without outputs, and nothing on its left
 
 abbrev bare : tree.Equation
 bare = record { left = []; right = tree.Call (n 103) tree.End }
@@ -53,8 +54,8 @@ h = node 104 [] (bare ∷ [])
 abbrev silent : tree.Tree
 silent = record { types = []; constants = []; nodes = node 103 [] [] ∷ h ∷ [] }
 
-bare_is_typed : equation_typed (scope silent h) bare ≡ true
-bare_is_typed = refl
+bare_has_no_left : has_left bare ≡ false
+bare_has_no_left = refl
 
 bare_has_no_output : HasOutput (program_of silent) (at [] (meant (scope silent h) bare.right)) → ⊥
 bare_has_no_output some = absurd (omega (arith, some))

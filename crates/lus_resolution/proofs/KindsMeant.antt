@@ -25,16 +25,15 @@ use Rattle.lus_program.specs.Programs.{Expression, variable, literal, operate, w
 use Rattle.lus_meaning.specs.declared.entries.Placed.{Placed}
 use Rattle.lus_meaning.specs.declared.entries.Constructor.{Constructor as EnumConstructor}
 use Rattle.lus_meaning.specs.Scopes.{Scope, entry}
-use Rattle.lus_meaning.specs.Types.{same, all_same, where_true, prefix_kind, infix_kind, choice_kind, value_kind, call_kinds, the_one, common_kind, each_counted, each_once, are_arguments, field_named, fields_in, constructors_in, test_variable, truth_place, variable_kind, name_value, size_of, fields_of, label_place, asked_place, asked_of, test_placed, branch_place, branch_places, field_asked, fields_asked, merge_kind, structure_kind, field_kind, outputs_of, kind_of, kinds_of}
+use Rattle.lus_meaning.specs.Types.{same, all_same, where_true, prefix_kind, infix_kind, choice_kind, value_kind, call_kinds, the_one, common_kind, each_counted, each_once, are_arguments, field_named, fields_in, constructors_in, test_variable, truth_place, variable_kind, name_value, size_of, fields_of, label_place, asked_place, asked_of, test_placed, branch_place, branch_places, fields_asked, merge_kind, structure_kind, field_kind, outputs_of, kind_of, kinds_of}
 use Rattle.lus_meaning.specs.WellTyped.{kinds_given}
 use Rattle.lus_meaning.specs.Meaning.{one, two, in_order, prefix_meant, infix_meant, variable_place, no_test, test_meant, node_place, structure_meant, branches_meant, meant, all_meant}
 use Rattle.lus_meaning.specs.Resolved.{values_of, field_kinds, operator_kind, call_results, results, kind_of_variable, test_fits, merged, kind_in, kinds_in, kinds_given_in}
 use Rattle.lus_streams.proofs.NilFree.{and_left, and_right, and_true}
-use Rattle.lus_resolution.specs.Laws.{HasFields, HaveFields}
 use Rattle.lus_resolution.proofs.Options.{and_then_gives, map_gives, where_true_gives, same_is, all_same_is, where_true_is, same_self, all_same_self}
 use Rattle.lus_resolution.proofs.Numbering.{paired, put}
 use Rattle.lus_resolution.proofs.Arranging.{kinds_from, kinds_from_are, order_kinds}
-use Rattle.lus_resolution.proofs.Agreeing.{Agrees, IsField, field_at, all_asked_at, first_field}
+use Rattle.lus_resolution.proofs.Agreeing.{Agrees, IsField, field_at, all_asked_at}
 use Rattle.lus_resolution.proofs.Forms.{IsNoCall, name_no_call, field_no_call, prefix_no_call, infix_no_call, one_given}
 use Rattle.lus_resolution.proofs.CallsMeant.{node_place_is}
 
@@ -273,79 +272,77 @@ module _ (s : Scope) (p : Program) (f : Node) (agrees : Agrees s p f) where
       ∙ where_true_is (all_same (field_kinds p k) (field_kinds p k)) (Some k) (all_same_self (field_kinds p k))
       ∙ all.1
 
-  structure_is : (k : Kind) (d : Lead) (v : tree.Expression) (fs : Parts) (es : Operands) (ks : List Kind) (l : Kind) (o : Option Kind) → o ≡ Some k → kinds_in p f es ≡ Some ks → structure_kind s k (More d v fs) ks ≡ Some l
-      → kind_in p f (structure_meant s (unwrap_or o kinds.Bool) (More d v fs) es) ≡ Some l
-  structure_is k d v fs es ks l o e h g =
-      let found = and_then_gives (λ xs. where_true (all_same (map (λ x. x.kind) xs) ks && each_once (length (fields_of s k)) (map (λ x. x.place) xs)) (Some k)) (fields_asked s k (More d v fs)) l g in
-      let first = and_then_gives (λ x. option_map (λ xs. x ∷ xs) (fields_asked s k fs)) (field_asked s k d) found.0 found.1 in
-      let is = first_field s k d first.0 first.1 in
-      ap (λ x. kind_in p f (structure_meant s (unwrap_or x kinds.Bool) (More d v fs) es)) (e ∙ ap Some is.1)
-      ∙ built_is is.0 (More d v fs) es ks l h (subst (λ m. structure_kind s m (More d v fs) ks ≡ Some l) is.1 g)
+  -- only a structure's type has values written as structures
+  structure_is : (k : Kind) (fs : Parts) (es : Operands) (ks : List Kind) (l : Kind) (o : Option Kind) → o ≡ Some k → kinds_in p f es ≡ Some ks → structure_kind s k fs ks ≡ Some l
+      → kind_in p f (structure_meant s (unwrap_or o kinds.Bool) fs es) ≡ Some l
+  structure_is kinds.Bool fs es ks l o e h g = cc
+  structure_is kinds.Int fs es ks l o e h g = cc
+  structure_is (kinds.Enum t) fs es ks l o e h g = cc
+  structure_is (kinds.Struct t) fs es ks l o e h g = ap (λ x. kind_in p f (structure_meant s (unwrap_or x kinds.Bool) fs es)) e ∙ built_is t fs es ks l h g
 
   mutual
-    pub meant_is : (e : tree.Expression) (k : Kind) → HasFields e → kind_of s e ≡ Some k → kind_in p f (meant s e) ≡ Some k
-    meant_is (Numeral z q) k has h = h
-    meant_is (Truth b q) k has h = h
-    meant_is (Name n) k has h = name_is n.text (name_value s n.text) (entry s.variables n.text) k refl h
-    meant_is (Call g es) k has h =
+    pub meant_is : (e : tree.Expression) (k : Kind) → kind_of s e ≡ Some k → kind_in p f (meant s e) ≡ Some k
+    meant_is (Numeral z q) k h = h
+    meant_is (Truth b q) k h = h
+    meant_is (Name n) k h = name_is n.text (name_value s n.text) (entry s.variables n.text) k refl h
+    meant_is (Call g es) k h =
         let args = and_then_gives (λ ks. option_and_then the_one (outputs_of s g.text es ks)) (kinds_of s es) k h in
         let outs = and_then_gives the_one (outputs_of s g.text es args.0) k args.2 in
-        call_is g.text es (all_meant s es) args.0 outs.0 k (all_meant_are es args.0 has args.1) outs.1 outs.2
-    meant_is (Structure t End) k has h = absurd has
-    meant_is (Structure t (More l e fs)) k has h =
-        let given = and_then_gives (λ ks. option_and_then (λ m. structure_kind s m (More l e fs) ks) (entry s.types t.text)) (kinds_of s (More l e fs)) k h in
-        let known = and_then_gives (λ m. structure_kind s m (More l e fs) given.0) (entry s.types t.text) k given.2 in
-        structure_is known.0 l e fs (all_meant s (More l e fs)) given.0 k (entry s.types t.text) known.1 (all_meant_are (More l e fs) given.0 has given.1) known.2
-    meant_is (Merge q c bs) k has h =
+        call_is g.text es (all_meant s es) args.0 outs.0 k (all_meant_are es args.0 args.1) outs.1 outs.2
+    meant_is (Structure t fs) k h =
+        let given = and_then_gives (λ ks. option_and_then (λ m. structure_kind s m fs ks) (entry s.types t.text)) (kinds_of s fs) k h in
+        let known = and_then_gives (λ m. structure_kind s m fs given.0) (entry s.types t.text) k given.2 in
+        structure_is known.0 fs (all_meant s fs) given.0 k (entry s.types t.text) known.1 (all_meant_are fs given.0 given.1) known.2
+    meant_is (Merge q c bs) k h =
         let given = and_then_gives (λ ks. option_and_then (λ m. merge_kind s m bs ks) (variable_kind s c.text)) (kinds_of s bs) k h in
         let known = and_then_gives (λ m. merge_kind s m bs given.0) (variable_kind s c.text) k given.2 in
-        merge_is c.text bs (all_meant s bs) given.0 known.0 k (variable_kind s c.text) known.1 known.1 given.1 (all_meant_are bs given.0 has given.1) known.2
-    meant_is (Field a x) k has h =
+        merge_is c.text bs (all_meant s bs) given.0 known.0 k (variable_kind s c.text) known.1 known.1 given.1 (all_meant_are bs given.0 given.1) known.2
+    meant_is (Field a x) k h =
         let given = and_then_gives (λ m. field_kind s m x.text) (kind_of s a) k h in
-        field_is x.text given.0 k (meant s a) (kind_of s a) given.1 (meant_is a given.0 has given.1) given.2
-    meant_is (Parentheses q a) k has h = meant_is a k has h
-    meant_is (When a t) k has h =
+        field_is x.text given.0 k (meant s a) (kind_of s a) given.1 (meant_is a given.0 given.1) given.2
+    meant_is (Parentheses q a) k h = meant_is a k h
+    meant_is (When a t) k h =
         let given = and_then_gives (λ m. option_map (λ c. m) (test_placed s t)) (kind_of s a) k h in
         let placed = map_gives (λ c. given.0) (test_placed s t) k given.2 in
-        when_is t placed.0 (meant s a) k placed.1 (meant_is a given.0 has given.1 ∙ ap Some placed.2)
-    meant_is (Unary op q a) k has h =
+        when_is t placed.0 (meant s a) k placed.1 (meant_is a given.0 given.1 ∙ ap Some placed.2)
+    meant_is (Unary op q a) k h =
         let given = and_then_gives (prefix_kind op) (kind_of s a) k h in
-        prefix_is op (meant s a) given.0 k (meant_is a given.0 has given.1) given.2
-    meant_is (Binary op a b) k has h =
+        prefix_is op (meant s a) given.0 k (meant_is a given.0 given.1) given.2
+    meant_is (Binary op a b) k h =
         let first = and_then_gives (λ m. option_and_then (infix_kind op m) (kind_of s b)) (kind_of s a) k h in
         let last = and_then_gives (infix_kind op first.0) (kind_of s b) k first.2 in
-        infix_is op (meant s a) (meant s b) first.0 last.0 k (meant_is a first.0 has.0 first.1) (meant_is b last.0 has.1 last.1) last.2
-    meant_is (If q c a b) k has h =
+        infix_is op (meant s a) (meant s b) first.0 last.0 k (meant_is a first.0 first.1) (meant_is b last.0 last.1) last.2
+    meant_is (If q c a b) k h =
         let test = and_then_gives (λ m. option_and_then (λ l. option_and_then (choice_kind m l) (kind_of s b)) (kind_of s a)) (kind_of s c) k h in
         let first = and_then_gives (λ l. option_and_then (choice_kind test.0 l) (kind_of s b)) (kind_of s a) k test.2 in
         let last = and_then_gives (choice_kind test.0 first.0) (kind_of s b) k first.2 in
-        of_three operators.If (meant s c) (meant s a) (meant s b) test.0 first.0 last.0 (meant_is c test.0 has.0 test.1) (meant_is a first.0 has.1 first.1) (meant_is b last.0 has.2 last.1) ∙ last.2
+        of_three operators.If (meant s c) (meant s a) (meant s b) test.0 first.0 last.0 (meant_is c test.0 test.1) (meant_is a first.0 first.1) (meant_is b last.0 last.1) ∙ last.2
 
-    pub all_meant_are : (ps : Parts) (ks : List Kind) → HaveFields ps → kinds_of s ps ≡ Some ks → kinds_in p f (all_meant s ps) ≡ Some ks
-    all_meant_are End ks has h = h
-    all_meant_are (More l e ps) ks has h =
+    pub all_meant_are : (ps : Parts) (ks : List Kind) → kinds_of s ps ≡ Some ks → kinds_in p f (all_meant s ps) ≡ Some ks
+    all_meant_are End ks h = h
+    all_meant_are (More l e ps) ks h =
         let first = and_then_gives (λ k. option_map (λ ls. k ∷ ls) (kinds_of s ps)) (kind_of s e) ks h in
         let rest = map_gives (λ ls. first.0 ∷ ls) (kinds_of s ps) ks first.2 in
-        ap₂ (put p f) (meant_is e first.0 has.0 first.1) (all_meant_are ps rest.0 has.1 rest.1) ∙ ap Some rest.2
+        ap₂ (put p f) (meant_is e first.0 first.1) (all_meant_are ps rest.0 rest.1) ∙ ap Some rest.2
 
   -- a whole right side
-  alone_is : (e : tree.Expression) (ks : List Kind) → IsNoCall (meant s e) → HasFields e → option_map (λ k. k ∷ []) (kind_of s e) ≡ Some ks → kinds_given_in p f (meant s e) ≡ Some ks
-  alone_is e ks plain has h =
+  alone_is : (e : tree.Expression) (ks : List Kind) → IsNoCall (meant s e) → option_map (λ k. k ∷ []) (kind_of s e) ≡ Some ks → kinds_given_in p f (meant s e) ≡ Some ks
+  alone_is e ks plain h =
       let given = map_gives (λ k. k ∷ []) (kind_of s e) ks h in
-      one_given p f (meant s e) plain ∙ ap (option_map (λ k. k ∷ [])) (meant_is e given.0 has given.1) ∙ ap Some given.2
+      one_given p f (meant s e) plain ∙ ap (option_map (λ k. k ∷ [])) (meant_is e given.0 given.1) ∙ ap Some given.2
 
-  pub given_is : (e : tree.Expression) (ks : List Kind) → HasFields e → kinds_given s e ≡ Some ks → kinds_given_in p f (meant s e) ≡ Some ks
-  given_is (Numeral z q) ks has h = alone_is (Numeral z q) ks tt has h
-  given_is (Truth b q) ks has h = alone_is (Truth b q) ks tt has h
-  given_is (Name n) ks has h = alone_is (Name n) ks (name_no_call (unwrap_or (name_value s n.text) nil) (entry s.variables n.text)) has h
-  given_is (Call g es) ks has h =
+  pub given_is : (e : tree.Expression) (ks : List Kind) → kinds_given s e ≡ Some ks → kinds_given_in p f (meant s e) ≡ Some ks
+  given_is (Numeral z q) ks h = alone_is (Numeral z q) ks tt h
+  given_is (Truth b q) ks h = alone_is (Truth b q) ks tt h
+  given_is (Name n) ks h = alone_is (Name n) ks (name_no_call (unwrap_or (name_value s n.text) nil) (entry s.variables n.text)) h
+  given_is (Call g es) ks h =
       let args = and_then_gives (λ ls. outputs_of s g.text es ls) (kinds_of s es) ks h in
-      ap (option_and_then (results p (node_place s g.text))) (all_meant_are es args.0 has args.1) ∙ result_is g.text es args.0 ks args.2
-  given_is (Structure t fs) ks has h = alone_is (Structure t fs) ks tt has h
-  given_is (Merge q c bs) ks has h = alone_is (Merge q c bs) ks tt has h
-  given_is (Field a x) ks has h = alone_is (Field a x) ks (field_no_call (field_named (fields_of s (unwrap_or (kind_of s a) kinds.Bool)) x.text) (meant s a)) has h
-  given_is (Parentheses q a) ks has h = given_is a ks has h
-  given_is (When a t) ks has h = alone_is (When a t) ks tt has h
-  given_is (Unary op q a) ks has h = alone_is (Unary op q a) ks (prefix_no_call op (meant s a)) has h
-  given_is (Binary op a b) ks has h = alone_is (Binary op a b) ks (infix_no_call op (meant s a) (meant s b)) has h
-  given_is (If q c a b) ks has h = alone_is (If q c a b) ks tt has h
+      ap (option_and_then (results p (node_place s g.text))) (all_meant_are es args.0 args.1) ∙ result_is g.text es args.0 ks args.2
+  given_is (Structure t fs) ks h = alone_is (Structure t fs) ks tt h
+  given_is (Merge q c bs) ks h = alone_is (Merge q c bs) ks tt h
+  given_is (Field a x) ks h = alone_is (Field a x) ks (field_no_call (field_named (fields_of s (unwrap_or (kind_of s a) kinds.Bool)) x.text) (meant s a)) h
+  given_is (Parentheses q a) ks h = given_is a ks h
+  given_is (When a t) ks h = alone_is (When a t) ks tt h
+  given_is (Unary op q a) ks h = alone_is (Unary op q a) ks (prefix_no_call op (meant s a)) h
+  given_is (Binary op a b) ks h = alone_is (Binary op a b) ks (infix_no_call op (meant s a) (meant s b)) h
+  given_is (If q c a b) ks h = alone_is (If q c a b) ks tt h

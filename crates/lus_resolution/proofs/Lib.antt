@@ -1,9 +1,9 @@
+pub mod Lists
 pub mod Options
 pub mod Entries
 pub mod Calls
 pub mod CallsMeant
 pub mod Signatures
-pub mod Outputs
 pub mod Numbering
 pub mod Arranging
 pub mod Agreeing
@@ -16,5 +16,6 @@ pub mod Lefts
 pub mod NodesMeant
 pub mod CallsNamed
 pub mod ProgramsMeant
-pub mod SpelledTrees
+pub mod Typed
+pub mod CallsResolved
 mod Examples

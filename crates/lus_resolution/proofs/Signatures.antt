@@ -1,14 +1,12 @@
 -- A signature is that of a node of the program.
-use Rattle.std.proofs.Common.{arith, ◌≡◌, ◌∙◌, sym, ap, length, Some, option_map}
-use Rattle.std.proofs.lemmas.Option.{slice_get-map, get_or_from_slice_get}
-use Rattle.std.proofs.Math.ListN.{length-map}
+use Rattle.std.proofs.Common.{arith, ◌≡◌, ◌∙◌, sym, ap, Some, option_map}
+use Rattle.std.proofs.lemmas.Option.{slice_get-map}
 use Rattle.std.specs.Prelude.{slice_get}
 use Rattle.lus_syntax.specs.Lexemes.{Text}
 use Rattle.lus_syntax.specs.Trees as tree
 use Rattle.lus_syntax.specs.Trees.{Tree}
-use Rattle.lus_program.specs.Programs.{empty_node, node_at}
 use Rattle.lus_meaning.specs.Scopes.{Signature, entry}
-use Rattle.lus_meaning.specs.Tables.{group_kinds, signature, tables}
+use Rattle.lus_meaning.specs.Tables.{signature, tables}
 use Rattle.lus_meaning.specs.Meaning.{node_meant, program_of}
 use Rattle.lus_resolution.proofs.Entries.{IsAt, entry_at}
 
@@ -31,9 +29,3 @@ module _ (p : Tree) where
 
   pub signed : (t : Text) (g : Signature) → entry (tables p).nodes t ≡ Some g → IsSigned g
   signed t g e = signed_at t g (entry_at (λ f. f.name.text) (signature p) 0 p.nodes t g e)
-
-  pub outputs_are : (g : Signature) → IsSigned g → (node_at (program_of p) g.place).outputs ≡ length g.outputs
-  outputs_are g h =
-      ap (λ f. f.outputs) (get_or_from_slice_get (program_of p).nodes g.place (node_meant p h.node) empty_node h.at)
-      ∙ sym (length-map (group_kinds p h.node.outputs) (λ e. e.1))
-      ∙ ap (λ i. length i.outputs) (sym h.is)
