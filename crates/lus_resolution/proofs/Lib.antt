@@ -18,4 +18,5 @@ pub mod CallsNamed
 pub mod ProgramsMeant
 pub mod Typed
 pub mod CallsResolved
+pub mod NeedsResolved
 mod Examples
