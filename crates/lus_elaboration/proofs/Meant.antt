@@ -9,26 +9,26 @@ use Rattle.lus_syntax.specs.declared.token.Span.{Span}
 use Rattle.lus_syntax.specs.Trees.{Named, Call, Structure, Merge, Parts, parts_of}
 use Rattle.lus_values.specs.declared.operator.Operator.TheVariants as operators
 use Rattle.lus_program.specs.declared.types.Kind.{Kind}
-use Rattle.lus_program.specs.declared.types.Kind.TheVariants.{Bool as BoolKind}
+use Rattle.lus_program.specs.declared.types.Kind.TheVariants as kinds
 use Rattle.lus_program.specs.Programs.{Operands, more, merge, operate}
 use Rattle.lus_program.specs.declared.expr.Expr.{Expr}
 use Rattle.lus_program.specs.View.{expression_of, operands_of}
 use Rattle.lus_meaning.specs.declared.entries.Placed.{Placed}
 use Rattle.lus_meaning.specs.Scopes.{Scope, entry}
 use Rattle.lus_meaning.specs.Types.{branch_places, fields_asked, fields_of, size_of, variable_kind, kind_of, kinds_of, the_one, outputs_of, structure_kind, merge_kind}
-use Rattle.lus_meaning.specs.Meaning.{branches_meant, structure_meant, variable_place, in_order, type_number, meant, all_meant}
+use Rattle.lus_meaning.specs.Meaning.{branches_meant, structure_meant, variable_place, in_order, meant, all_meant}
 
 pub merge_is : (s : Scope) (n : Text) (clock : Placed) (bs : Parts) (ps : List ℕ) (size : ℕ) (out es : Operands)
     → entry s.variables n ≡ Some clock → branch_places s clock.kind bs ≡ Some ps → size ≡ size_of s clock.kind → out ≡ in_order size ps es
-    → merge clock.place out ≡ merge (variable_place s n) (branches_meant s (unwrap_or (variable_kind s n) BoolKind) bs es)
+    → merge clock.place out ≡ merge (variable_place s n) (branches_meant s (unwrap_or (variable_kind s n) kinds.Bool) bs es)
 merge_is s n clock bs ps size out es var places sized ordered =
     let at : variable_place s n ≡ clock.place = ap (λ (e : Option Placed). elim e [ Some x ↦ x.place | None ↦ 0 ]) var in
     rw at (rw var (rw places (ap (merge clock.place) (ordered ∙ ap (λ m. in_order m ps es) sized))))
 
-pub structure_is : (s : Scope) (n : Text) (k : Kind) (fs : Parts) (xs : List Placed) (ps : List ℕ) (size : ℕ) (out es : Operands)
-    → entry s.types n ≡ Some k → fields_asked s k fs ≡ Some xs → ps ≡ map (λ x. x.place) xs → size ≡ length (fields_of s k) → out ≡ in_order size ps es
-    → operate (operators.Structure (type_number k)) out ≡ structure_meant s (unwrap_or (entry s.types n) BoolKind) fs es
-structure_is s n k fs xs ps size out es named asked placed sized ordered = rw named (rw asked (ap (operate (operators.Structure (type_number k))) (ordered ∙ ap (λ m. in_order m ps es) sized ∙ ap (λ l. in_order (length (fields_of s k)) l es) placed)))
+pub structure_is : (s : Scope) (n : Text) (t : ℕ) (fs : Parts) (xs : List Placed) (ps : List ℕ) (size : ℕ) (out es : Operands)
+    → entry s.types n ≡ Some (kinds.Struct t) → fields_asked s (kinds.Struct t) fs ≡ Some xs → ps ≡ map (λ x. x.place) xs → size ≡ length (fields_of s (kinds.Struct t)) → out ≡ in_order size ps es
+    → operate (operators.Structure t) out ≡ structure_meant s (unwrap_or (entry s.types n) kinds.Bool) fs es
+structure_is s n t fs xs ps size out es named asked placed sized ordered = rw named (rw asked (ap (operate (operators.Structure t)) (ordered ∙ ap (λ m. in_order m ps es) sized ∙ ap (λ l. in_order (length (fields_of s (kinds.Struct t))) l es) placed)))
 
 pub all_meant_is : (s : Scope) (ps : List Part) → (es : List Expr) → map expression_of es ≡ map (λ p. meant s (expression_seen p.value)) ps → operands_of es ≡ all_meant s (parts_of (map part_seen ps))
 all_meant_is s [] [] e = refl

@@ -9,7 +9,7 @@ ghost use Rattle.lus_program.specs.Programs.{merge as merge_meant, call as call_
 ghost use Rattle.lus_program.specs.View.{expression_of, operands_of};
 ghost use Rattle.lus_meaning.specs.Scopes.{entry};
 ghost use Rattle.lus_meaning.specs.Types.{all_same as all_same_kinds, are_arguments as arguments_alone, branch_place as place_of_branch, branch_places as places_of_branches, field_asked as asked_field, fields_asked as asked_fields, outputs_of, the_one as one_kind, merge_kind, structure_kind, variable_kind};
-ghost use Rattle.lus_meaning.specs.Meaning.{node_place, branches_meant, structure_meant, variable_place, type_number as number_of_type};
+ghost use Rattle.lus_meaning.specs.Meaning.{node_place, branches_meant, structure_meant, variable_place};
 ghost use Rattle.lus_meaning.specs.ScopeView.{scope_of, Faulty};
 
 use crate::arrangement::arranged;
@@ -198,19 +198,7 @@ fn places_of(alloc: Global, fields: &[Placed]) -> Result<Vec<u32>, AllocError>
     Ok(places)
 }
 
-/// The place of a type's declaration.
-fn type_number(kind: Kind) -> u32
-    ensures { result ≡ number_of_type kind }
-{
-    match kind {
-        Kind::Bool => 0,
-        Kind::Int => 0,
-        Kind::Enum(declaration) => declaration,
-        Kind::Struct(declaration) => declaration,
-    }
-}
-
-/// A structure's value: each field stands exactly once, with a value of its type.
+/// A structure's value: its type is a structure, and each field stands exactly once, with a value of its type.
 pub fn structure(
     alloc: Global,
     scope: &Scope,
@@ -228,6 +216,9 @@ pub fn structure(
     let Some(kind) = scope.kind(&name.text) else {
         return Err(Fault::At(place));
     };
+    let Kind::Struct(declaration) = kind else {
+        return Err(Fault::At(place));
+    };
     let asked = fields_asked(alloc, scope, kind, fields)?;
     if !all_fit(&asked, kinds) {
         return Err(Fault::At(place));
@@ -238,7 +229,7 @@ pub fn structure(
         return Err(Fault::At(place));
     };
     Ok(Elaborated {
-        expr: Expr::Operate(place, Operator::Structure(type_number(kind)), operands),
+        expr: Expr::Operate(place, Operator::Structure(declaration), operands),
         kind,
     })
 }

@@ -3,8 +3,8 @@ use Rattle.std.proofs.lemmas.List.{length-map}
 use Rattle.lus_syntax.specs.View.{part_seen, name_seen}
 use Rattle.lus_syntax.specs.Trees.{parts_of}
 use Rattle.lus_values.specs.declared.operator.Operator.TheVariants as operators
+use Rattle.lus_program.specs.declared.types.Kind.TheVariants as kinds
 use Rattle.lus_program.specs.View.{operands_of, field_of}
-use Rattle.lus_program.specs.Programs.{operate}
 use Rattle.lus_program.proofs.OperandViews.{seen_operate}
 use Rattle.lus_meaning.specs.Scopes.{entry}
 use Rattle.lus_meaning.specs.Types.{fields_of}
@@ -17,13 +17,12 @@ pub returns-clause-meant : goal.returns-clause-meant
 returns-clause-meant c =
     let s = scope_of c.args.scope.now in
     let n = (name_seen c.args.name.now).text in
-    let kind = c.in-Some.kind in
+    let t = c.in-Struct.declaration in
     let out = operands_of c.in-Some-2.operands.items in
     let size = length c.fields_of-size.result.now in
-    let named : entry s.types n ≡ Some kind = search rules in
+    let named : entry s.types n ≡ Some (kinds.Struct t) = search rules in
     let placed : c.in_ok-places.places.items ≡ map (λ x. x.place) c.in_ok-asked.asked.items = rw (← c.deref-3.ensures.value) c.in_ok-places.ensures in
-    let sized : size ≡ length (fields_of s kind) = sym (length-map c.fields_of-size.result.now field_of) ∙ ap length c.fields_of-size.ensures.fields in
+    let sized : size ≡ length (fields_of s (kinds.Struct t)) = sym (length-map c.fields_of-size.result.now field_of) ∙ ap length c.fields_of-size.ensures.fields in
     let ordered : out ≡ in_order size c.in_ok-places.places.items (operands_of c.args.operands.items) = rw c.in-Some-2.is at c.in_ok-operands.ensures.order in
-    seen_operate c.args.name.now.span.start (operators.Structure c.type_number.result) c.in-Some-2.operands
-    ∙ ap (λ t. operate (operators.Structure t) out) c.type_number.ensures
-    ∙ structure_is s n kind (parts_of (map part_seen c.args.fields.now)) c.in_ok-asked.asked.items c.in_ok-places.places.items size out (operands_of c.args.operands.items) named c.in_ok-asked.ensures.fields placed sized ordered
+    seen_operate c.args.name.now.span.start (operators.Structure t) c.in-Some-2.operands
+    ∙ structure_is s n t (parts_of (map part_seen c.args.fields.now)) c.in_ok-asked.asked.items c.in_ok-places.places.items size out (operands_of c.args.operands.items) named c.in_ok-asked.ensures.fields placed sized ordered
