@@ -13,13 +13,13 @@ use Rattle.lus_graph.specs.Ways.{Uses, used, empty, next, IsOrder, IsWay, IsDist
 use Rattle.lus_graph.specs.Walks.{uses_of, mark_at, one_if_new, new_count, IsSound, IsReached, IsTurned}
 
 -- the last of a list with one more
-last_item : (xs : List ℕ) (x k : ℕ) → k ≡ length xs → get_or (xs ++ x ∷ []) k 0 ≡ x
+pub last_item : (xs : List ℕ) (x k : ℕ) → k ≡ length xs → get_or (xs ++ x ∷ []) k 0 ≡ x
 last_item xs x k e = rw e (get_or-append_seam xs x [] 0)
 
 item_before : (xs : List ℕ) (x k : ℕ) → k < length xs → get_or (xs ++ x ∷ []) k 0 ≡ get_or xs k 0
 item_before xs x k lt = get_or_append_left xs (x ∷ []) 0 k lt
 
-more_length : (xs : List ℕ) (x : ℕ) → length (xs ++ x ∷ []) ≡ suc (length xs)
+pub more_length : (xs : List ℕ) (x : ℕ) → length (xs ++ x ∷ []) ≡ suc (length xs)
 more_length xs x = length-append xs (x ∷ []) ∙ omega arith
 
 not_below : (k : ℕ) → suc k < 1 → ⊥

@@ -1,13 +1,14 @@
 -- What things have by what they use is found along an order, each thing once.
-use Rattle.std.proofs.Common.{refl, arith, ◌≡◌, ◌∙◌, sym, ℕ, zero, suc, ◌+◌, ◌<◌, ◌≤◌, List, [], ◌∷◌, ◌++◌, length, get_or, set, take, Contains, All, ⊎_elim, length-append, add-one}
+use Rattle.std.proofs.Common.{refl, arith, ◌≡◌, ◌∙◌, sym, ℕ, zero, suc, ◌+◌, ◌<◌, ◌≤◌, List, [], ◌∷◌, ◌++◌, length, get_or, set, take, Contains, All, ⊎_elim, add-one}
 use Rattle.std.proofs.lemmas.Bool.{cases_eq, cases_lt}
 use Rattle.std.proofs.lemmas.List.{get_or-set_same, get_or-set_other, get_or_append_left, take_all, take-append-le, get_or_default}
 use Rattle.std.proofs.lemmas.Grind.{get_or_default_zero}
 use Rattle.std.proofs.lemmas.List.Elements.{All-get_or, Contains-append_cases}
-use Rattle.std.proofs.Math.Seq.{get_or-append_seam, take-suc}
+use Rattle.std.proofs.Math.Seq.{take-suc}
 use Rattle.lus_values.specs.Lists.{item, Below}
+use Rattle.lus_values.proofs.Lists.{below_all, below_at}
 use Rattle.lus_graph.specs.Ways.{Uses, used, IsOrdered, empty, next, IsOrder}
-use Rattle.lus_graph.proofs.Steps.{no_item, one_item}
+use Rattle.lus_graph.proofs.Steps.{last_item, more_length, no_item, one_item}
 use Rattle.lus_meaning.specs.Tables.{within}
 
 -- what a thing has comes from what the things have that it uses
@@ -22,17 +23,11 @@ IsInside uses = (x y : ℕ) → Contains (used uses x) y → y < length uses
 abbrev pub IsFilled : {X : Type 0} → X → (ℕ → X) → List ℕ → List X → Type 0
 IsFilled e value front table = (y : ℕ) → Contains front y → item e table y ≡ value y
 
-more_length : (xs : List ℕ) (x : ℕ) → length (xs ++ x ∷ []) ≡ suc (length xs)
-more_length xs x = length-append xs (x ∷ []) ∙ omega arith
-
 too_short : (xs : List ℕ) (x : ℕ) → length (xs ++ x ∷ []) ≤ 0 → ⊥
 too_short xs x le = omega (arith, more_length xs x)
 
 front_before : (before : List ℕ) (z i : ℕ) → i ≤ length before → take i (before ++ z ∷ []) ≡ take i before
 front_before before z i le = take-append-le i before (z ∷ []) le
-
-last_item : (before : List ℕ) (z i : ℕ) → i ≡ length before → get_or (before ++ z ∷ []) i 0 ≡ z
-last_item before z i e = rw e (get_or-append_seam before z [] 0)
 
 more_front : (order : List ℕ) (i x : ℕ) → i < length order → x ≡ get_or order i 0 → take (i + 1) order ≡ take i order ++ x ∷ []
 more_front order i x lt here = rw (add-one i, here) (take-suc order i 0 lt)
@@ -103,18 +98,6 @@ filled_at uses order e value table n x whole le filled lt =
 pub filled_none : {X : Type 0} (e : X) (value : ℕ → X) (order : List ℕ) (table : List X) → IsFilled e value (take 0 order) table
 filled_none e value order table y among = elim (no_item among.0 among.1) [ ]
 
--- what holds of each number below n
-pub below_all : (n : ℕ) (P : ℕ → Type 0) → ((k : ℕ) → k < n → P k) → Below n P
-below_all zero P each = tt
-below_all (suc n) P each = (each n (omega arith), below_all n P (λ k lt. each k (omega arith)))
-
-pub below_at : (n : ℕ) (P : ℕ → Type 0) (k : ℕ) → k < n → Below n P → P k
-below_at zero P k lt all = elim (no_item k lt) [ ]
-below_at (suc n) P k lt all = ⊎_elim
-    (λ same. let e : k ≡ n = same in rw e all.0)
-    (λ other. below_at n P k (omega arith) all.1)
-    (cases_eq k n)
-
 -- numbers against a limit
 module _ (uses : Uses) (order : List ℕ) (o : IsOrder uses order) (inside : IsInside uses) (n d e most : ℕ) (step : (ℕ → ℕ) → ℕ → ℕ) (local : IsLocal uses step) (count : n ≡ length uses) where
   -- one thing past the limit is not all within it
@@ -123,12 +106,12 @@ module _ (uses : Uses) (order : List ℕ) (o : IsOrder uses order) (inside : IsI
       let x = get_or order i 0 in
       let right : v ≡ within n d step x = next_right uses d step local inside order e table n i x v o.ordered (omega (arith, o.size)) lt refl filled is in
       let thing : x < n = omega (arith, o.within x (i, lt, get_or_default order i x 0 lt)) in
-      let le : within n d step x ≤ most = below_at n (λ k. within n d step k ≤ most) x thing all in
+      let le : within n d step x ≤ most = below_at (λ k. within n d step k ≤ most) n all x thing in
       omega arith
 
   -- a full table within the limit
   pub all_within : (i : ℕ) (table : List ℕ) → length order ≤ i → length table ≡ n → IsFilled e (within n d step) (take i order) table → All (λ k. k ≤ most) table → Below n (λ k. within n d step k ≤ most)
-  all_within i table le size filled small = below_all n (λ k. within n d step k ≤ most) (λ k lt.
+  all_within i table le size filled small = below_all (λ k. within n d step k ≤ most) n (λ k lt.
       let right : item e table k ≡ within n d step k = filled_at uses order e (within n d step) table i k o le filled (omega arith) in
       let low : item e table k ≤ most = All-get_or (λ m. m ≤ most) table k e (omega arith) small in
       omega arith)

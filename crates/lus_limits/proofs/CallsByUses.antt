@@ -10,6 +10,7 @@ use Rattle.lus_syntax.specs.View.{node_seen, tree_seen}
 use Rattle.lus_values.specs.Lists.{item, Below}
 use Rattle.lus_graph.specs.Ways.{Uses, used, IsOrder}
 use Rattle.lus_graph.specs.Walks.{uses_of}
+use Rattle.lus_graph.proofs.Steps.{used_at}
 use Rattle.lus_meaning.specs.Loopless.{called, called_in, calls_of, node_names, node_uses, place_in}
 use Rattle.lus_meaning.specs.Sized.{call_depth_at, greatest}
 use Rattle.lus_limits.proofs.NamePlaces.{places_inside}
@@ -88,7 +89,7 @@ module _ (t : StoredTree) where
 
 -- what a place uses, as it lies in the code's lists
 pub used_here : (us : List (Vec ℕ Global)) (uses : Uses) (x : ℕ) (v : Vec ℕ Global) → uses_of us ≡ uses → x < length us → v ≡ get_or us x v → used uses x ≡ v.items
-used_here us uses x v e lt here = ap (λ (u : Uses). used u x) (sym e) ∙ get_or-map (λ (w : Vec ℕ Global). w.items) us x v [] lt ∙ ap (λ (w : Vec ℕ Global). w.items) (sym here)
+used_here us uses x v e lt here = ap (λ (u : Uses). used u x) (sym e) ∙ sym (used_at us x v lt here)
 
 pub uses_length : (us : List (Vec ℕ Global)) (uses : Uses) → uses_of us ≡ uses → length us ≡ length uses
 uses_length us uses e = sym (length-map us (λ (w : Vec ℕ Global). w.items)) ∙ ap length e

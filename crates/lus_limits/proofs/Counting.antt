@@ -1,9 +1,8 @@
 -- What is counted one group at a time.
-use Rattle.std.proofs.Common.{arith, ◌≡◌, ◌∙◌, sym, ap, ℕ, zero, suc, ◌+◌, ◌<◌, ◌≤◌, Bool, true, false, List, [], ◌∷◌, subst, length, take, map, sum_by, get_or}
+use Rattle.std.proofs.Common.{arith, ◌≡◌, ◌∙◌, sym, ap, ℕ, ◌+◌, ◌<◌, ◌≤◌, Bool, true, false, List, length, take, map, sum_by, get_or}
 use Rattle.std.specs.Bool.{Decides}
 use Rattle.std.proofs.lemmas.List.{length-map, get_or-map, take-map}
 use Rattle.std.proofs.lemmas.List.Sums.{sum_by_more_le}
-use Rattle.lus_values.specs.Lists.{Each}
 
 -- so many are left behind the first i, and the next has more than that
 pub past_most : {X Y : Type 0} (seen : X → Y) (size : Y → ℕ) (xs : List X) (i left most n : ℕ) (x : X) → i < length xs → x ≡ get_or xs i x → size (seen x) ≡ n
@@ -13,21 +12,6 @@ past_most seen size xs i left most n x lt here counted before less =
     let within : sum_by size (take i (map seen xs)) + size (get_or (map seen xs) i (seen x)) ≤ sum_by size (map seen xs) = sum_by_more_le size (map seen xs) i (seen x) (rw (length-map xs seen) lt) in
     let front : sum_by size (take i (map seen xs)) ≡ sum_by size (map seen (take i xs)) = ap (sum_by size) (take-map seen i xs) in
     omega (arith, ap size read)
-
-nowhere : (i : ℕ) → i < 0 → ⊥
-nowhere i lt = omega arith
-
--- what holds of each holds of one
-pub each_at : {X : Type 0} (P : X → Type 0) (xs : List X) (i : ℕ) (d : X) → i < length xs → Each P xs → P (get_or xs i d)
-each_at P [] i d lt all = elim (nowhere i lt) [ ]
-each_at P (x ∷ xs) zero d lt all = all.0
-each_at P (x ∷ xs) (suc i) d lt all = each_at P xs i d (omega arith) all.1
-
--- and of what one is seen as
-pub each_seen : {X Y : Type 0} (seen : X → Y) (P : Y → Type 0) (xs : List X) (i : ℕ) (x : X) → i < length xs → x ≡ get_or xs i x → Each P (map seen xs) → P (seen x)
-each_seen seen P xs i x lt here all =
-    let read : get_or (map seen xs) i (seen x) ≡ seen x = get_or-map seen xs i x (seen x) lt ∙ ap seen (sym here) in
-    subst P read (each_at P (map seen xs) i (seen x) (rw (length-map xs seen) lt) all)
 
 -- a test that fails
 pub refuted : (b : Bool) (P : Type 0) → Decides b P → b ≡ false → P → ⊥

@@ -11,12 +11,13 @@ use Rattle.lus_syntax.specs.View.{definition_seen, type_seen, tree_seen}
 use Rattle.lus_program.specs.declared.types.Kind.{Kind}
 use Rattle.lus_program.specs.declared.types.Kind.TheVariants as kind_names
 use Rattle.lus_values.specs.Lists.{item, Below}
+use Rattle.lus_values.proofs.Lists.{below_all}
 use Rattle.lus_graph.specs.Ways.{IsOrder}
 use Rattle.lus_meaning.specs.Loopless.{definition_uses, type_names, type_uses}
 use Rattle.lus_meaning.specs.Tables.{definition_at, definition_kind, kind_at, no_definition, AreKinds}
 use Rattle.lus_meaning.specs.Sized.{definition_leaves, definition_nesting, leaves_at, nesting_at}
 use Rattle.lus_limits.specs.ByNames.{kind_of, leaves_of, nesting_of}
-use Rattle.lus_limits.proofs.AlongOrders.{IsFilled, filled_more, filled_at, below_all, one_more, one_past, all_within}
+use Rattle.lus_limits.proofs.AlongOrders.{IsFilled, filled_more, filled_at, one_more, one_past, all_within}
 use Rattle.lus_limits.proofs.TypesByUses.{kind_is, kind_step_local, leaves_are, leaves_step_local, nesting_is, nesting_step_local, types_inside}
 
 -- the place of the order at i
@@ -66,7 +67,7 @@ module _ (t : StoredTree) where
     pub kinds_whole : (i : ℕ) (table : List Kind) → length order ≤ i → length table ≡ length t.types.items → IsFilled kind_names.Bool (kind_at (tree_seen t)) (take i order) table → AreKinds (tree_seen t) table
     kinds_whole i table le size filled = record {
       size = size ∙ sym types_length;
-      each = below_all (length (map type_seen t.types.items)) (λ k. item kind_names.Bool table k ≡ kind_at (tree_seen t) k) (λ k lt. filled_at (type_uses (tree_seen t)) order kind_names.Bool (kind_at (tree_seen t)) table i k o le filled (omega (arith, uses_length, types_length)));
+      each = below_all (λ k. item kind_names.Bool table k ≡ kind_at (tree_seen t) k) (length (map type_seen t.types.items)) (λ k lt. filled_at (type_uses (tree_seen t)) order kind_names.Bool (kind_at (tree_seen t)) table i k o le filled (omega (arith, uses_length, types_length)));
     }
 
     count : length (map type_seen t.types.items) ≡ length (type_uses (tree_seen t))

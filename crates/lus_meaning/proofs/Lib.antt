@@ -1,4 +1,6 @@
 pub mod Steps
 pub mod Lookups
 pub mod Declarations
+pub mod AppendedNames
+pub mod Faults
 mod Rows

@@ -2,5 +2,3 @@ pub mod NameLists
 pub mod NewNames
 pub mod GroupNames
 pub mod NodeParts
-pub mod Eaches
-pub mod Faults

@@ -4,3 +4,4 @@ pub mod Remainders
 pub mod Alike
 pub mod Texts
 pub mod Places
+pub mod Lists

@@ -3,7 +3,8 @@ use Rattle.lus_syntax.specs.View.{definition_seen, node_seen, type_seen}
 use Rattle.lus_values.specs.Lists.{Each}
 use Rattle.lus_meaning.specs.Sized.{DefinitionCounted, variable_count}
 use Rattle.lus_meaning.specs.Tables.{groups}
-use Rattle.lus_limits.proofs.Counting.{each_seen, refuted}
+use Rattle.lus_values.proofs.Lists.{each_seen}
+use Rattle.lus_limits.proofs.Counting.{refuted}
 use Rattle.lus_limits.proofs.counts.check_counts.Goals as goal
 
 pub returns-then-not-is_counted-clause-err : goal.returns-then-not-is_counted-clause-err

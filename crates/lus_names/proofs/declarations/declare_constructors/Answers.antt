@@ -5,7 +5,7 @@ use Rattle.lus_syntax.specs.View.{type_seen}
 use Rattle.lus_meaning.specs.Named.{all_constructor_names}
 use Rattle.lus_meaning.proofs.Steps.{drop_step}
 use Rattle.lus_names.proofs.NewNames.{remaining_doubled, remaining_step}
-use Rattle.lus_names.proofs.Faults.{passed_on}
+use Rattle.lus_meaning.proofs.Faults.{passed_on}
 use Rattle.lus_names.proofs.declarations.declare_constructors.Goals as goal
 
 pub returns-in_err-declare-clause-doubled : goal.returns-in_err-declare-clause-doubled

@@ -5,7 +5,7 @@ use Rattle.std.proofs.lemmas.Result.{on_ok_weaker}
 use Rattle.lus_syntax.specs.View.{constant_seen, type_seen}
 use Rattle.lus_meaning.specs.Named.{all_constructor_names}
 use Rattle.lus_names.specs.NameView.{texts}
-use Rattle.lus_names.proofs.Faults.{passed_on, refused_by}
+use Rattle.lus_meaning.proofs.Faults.{passed_on, refused_by}
 use Rattle.lus_names.proofs.NewNames.{apart, distinct_apart, first_doubled, last_doubled, new_from_empty, not_apart}
 use Rattle.lus_names.proofs.declarations.declare_values.Goals as goal
 

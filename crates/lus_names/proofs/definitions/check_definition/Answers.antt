@@ -8,7 +8,7 @@ use Rattle.lus_syntax.specs.Trees.{Fields, StructureOf}
 use Rattle.lus_syntax.specs.View.{fields_seen}
 use Rattle.lus_meaning.specs.Named.{DefinitionNamed, type_known}
 use Rattle.lus_names.specs.NameView.{texts}
-use Rattle.lus_names.proofs.Faults.{passed_on}
+use Rattle.lus_meaning.proofs.Faults.{passed_on}
 use Rattle.lus_names.proofs.definitions.check_definition.Goals as goal
 
 unknown_field_type : (types : List Text) (fs : List Fields) (found : Option Place) → is_none found ≡ list_all (λ g. type_known types g.type_name) fs → is_none found ≡ false → DefinitionNamed types (StructureOf fs) → ⊥

@@ -2,8 +2,8 @@
 use Rattle.lus_syntax.specs.View.{type_seen}
 use Rattle.lus_meaning.specs.Named.{DefinitionNamed}
 use Rattle.lus_names.specs.NameView.{texts}
-use Rattle.lus_names.proofs.Eaches.{each_seen}
-use Rattle.lus_names.proofs.Faults.{passed_on}
+use Rattle.lus_values.proofs.Lists.{each_seen}
+use Rattle.lus_meaning.proofs.Faults.{passed_on}
 use Rattle.lus_names.proofs.definitions.check_definitions.Goals as goal
 
 pub returns-in_err-check_definition-clause-refused : goal.returns-in_err-check_definition-clause-refused

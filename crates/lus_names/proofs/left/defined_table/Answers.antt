@@ -2,7 +2,7 @@
 use Rattle.std.proofs.Common.{rules, ◌≡◌, [], map}
 use Rattle.lus_syntax.specs.View.{group_seen}
 use Rattle.lus_names.specs.NameView.{texts}
-use Rattle.lus_names.proofs.Faults.{passed_on}
+use Rattle.lus_meaning.proofs.Faults.{passed_on}
 use Rattle.lus_names.proofs.GroupNames.{locals_are_new, outputs_are_new}
 use Rattle.lus_names.proofs.left.defined_table.Goals as goal
 

@@ -5,7 +5,7 @@ use Rattle.lus_syntax.specs.View.{node_seen}
 use Rattle.lus_meaning.specs.Named.{names_in}
 use Rattle.lus_meaning.specs.Tables.{groups}
 use Rattle.lus_names.specs.NameView.{known_seen, texts}
-use Rattle.lus_names.proofs.Faults.{passed_on}
+use Rattle.lus_meaning.proofs.Faults.{passed_on}
 use Rattle.lus_names.proofs.NewNames.{from_empty, new_from_empty}
 use Rattle.lus_names.proofs.NodeParts.{part_unknown, parts_named}
 use Rattle.lus_names.proofs.nodes.check_node.Goals as goal

@@ -4,8 +4,8 @@ use Rattle.lus_syntax.specs.View.{node_seen}
 use Rattle.lus_meaning.specs.Named.{Known, NodeNamed}
 use Rattle.lus_names.specs.NameView.{known_seen}
 use Rattle.lus_names.specs.Parts.{in_node}
-use Rattle.lus_names.proofs.Eaches.{each_seen}
-use Rattle.lus_names.proofs.Faults.{passed_on}
+use Rattle.lus_values.proofs.Lists.{each_seen}
+use Rattle.lus_meaning.proofs.Faults.{passed_on}
 use Rattle.lus_names.proofs.nodes.check_nodes.Goals as goal
 
 pub returns-in_err-check_node-clause-refused : goal.returns-in_err-check_node-clause-refused

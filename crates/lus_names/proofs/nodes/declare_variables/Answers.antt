@@ -3,7 +3,7 @@ use Rattle.std.proofs.Common.{◌∙◌, map, sym}
 use Rattle.std.proofs.lemmas.Result.{on_ok_weaker}
 use Rattle.lus_syntax.specs.View.{group_seen}
 use Rattle.lus_names.specs.NameView.{texts}
-use Rattle.lus_names.proofs.Faults.{passed_on, refused_by}
+use Rattle.lus_meaning.proofs.Faults.{passed_on, refused_by}
 use Rattle.lus_names.proofs.GroupNames.{all_remaining}
 use Rattle.lus_names.proofs.NewNames.{remaining_doubled, remaining_step}
 use Rattle.lus_names.proofs.nodes.declare_variables.Goals as goal
