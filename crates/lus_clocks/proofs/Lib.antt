@@ -3,7 +3,6 @@ pub mod CallClocks
 pub mod NamedFormals
 pub mod Lookups
 pub mod Steps
-pub mod ExprViews
 pub mod Fits
 pub mod Equations
 pub mod Numbering

@@ -1,10 +1,11 @@
-//! The checks as passes over a typed program. Contracts see what they give as the program.
+//! The checks as passes over a typed program. Contracts see what they give as the typed program.
 
 ghost use Rattle.std.specs.Prelude.{◌≡◌, ◌≢◌, IfOk, IfErr, OnOk};
 ghost use Rattle.lus_syntax.specs.declared.refusal.RefusalNumber.TheVariants as numbers;
 ghost use Rattle.lus_program.specs.View.{program_seen};
 ghost use Rattle.lus_streams.specs.OnClock.{ProgramOnClocks};
 ghost use Rattle.lus_streams.specs.Flags.{IsFlagged};
+ghost use Rattle.lus_meaning.specs.Resolved.{Resolved};
 
 use crate::checking::clocks_fit;
 use crate::flagging::flags_fit;
@@ -22,32 +23,35 @@ pub struct Clocked {
 
 impl Model for Clocked {
     ghost use Rattle.std.specs.Coded.{codes};
-    ghost use Rattle.lus_program.specs.contracts.expr.Expr as expr;
-    ghost use Rattle.lus_program.specs.declared.node.Program.{Program as StoredProgram};
+    ghost use Rattle.lus_program.specs.contracts.expr.Expr as program_expr;
+    ghost use Rattle.lus_syntax.specs.contracts.tree.Expr as tree_expr;
     ghost use Rattle.lus_program.specs.View.{program_seen};
     ghost use Rattle.lus_streams.specs.OnClock.{ProgramOnClocks};
+    ghost use Rattle.lus_meaning.specs.TypedPrograms.{TypedProgram};
 
-    ghost Value = { StoredProgram };
+    ghost Value = { TypedProgram };
 
-    ghost coded = { Prim.hlevel (codes, expr.the_row.coded) };
+    ghost coded = { Prim.hlevel (codes, program_expr.the_row.coded, tree_expr.the_row.coded) };
 
     ghost view = { λ c. c.typed };
 
-    ghost invariant = { λ c. ProgramOnClocks (program_seen c.typed) };
+    ghost invariant = { λ c. ProgramOnClocks (program_seen c.typed.program) };
 }
 
 impl Clocked {
     /// The typed program that is on clocks.
     pub fn typed(&self) -> &Typed
         ensures same { result.now ≡ self.now }
-        ensures on_clocks { ProgramOnClocks (program_seen self.now) }
+        ensures on_clocks { ProgramOnClocks (program_seen result.now.program) }
     {
         &self.typed
     }
 
     /// The program that is on clocks.
     pub fn program(&self) -> &Program
-        ensures { result.now ≡ self.now }
+        ensures same { result.now ≡ self.now.program }
+        ensures resolved { Resolved (program_seen result.now) }
+        ensures on_clocks { ProgramOnClocks (program_seen result.now) }
     {
         self.typed.program()
     }
@@ -57,8 +61,8 @@ impl Clocked {
 /// first token of an expression.
 pub fn check_clocks(typed: Typed) -> Result<Clocked, Refusal>
     ensures same { IfOk result (λ clocked. clocked ≡ typed) }
-    ensures ok { OnOk result (ProgramOnClocks (program_seen typed)) }
-    ensures refused { IfErr result (λ e. (ProgramOnClocks (program_seen typed) → ⊥) × (e.number ≡ numbers.Clock)) }
+    ensures ok { OnOk result (ProgramOnClocks (program_seen typed.program)) }
+    ensures refused { IfErr result (λ e. (ProgramOnClocks (program_seen typed.program) → ⊥) × (e.number ≡ numbers.Clock)) }
 {
     match clocks_fit(typed.program()) {
         Ok(()) => Ok(Clocked { typed }),
@@ -74,32 +78,36 @@ pub struct Initialised {
 
 impl Model for Initialised {
     ghost use Rattle.std.specs.Coded.{codes};
-    ghost use Rattle.lus_program.specs.contracts.expr.Expr as expr;
-    ghost use Rattle.lus_program.specs.declared.node.Program.{Program as StoredProgram};
+    ghost use Rattle.lus_program.specs.contracts.expr.Expr as program_expr;
+    ghost use Rattle.lus_syntax.specs.contracts.tree.Expr as tree_expr;
     ghost use Rattle.lus_program.specs.View.{program_seen};
     ghost use Rattle.lus_streams.specs.Flags.{IsFlagged};
+    ghost use Rattle.lus_meaning.specs.TypedPrograms.{TypedProgram};
 
-    ghost Value = { StoredProgram };
+    ghost Value = { TypedProgram };
 
-    ghost coded = { Prim.hlevel (codes, expr.the_row.coded) };
+    ghost coded = { Prim.hlevel (codes, program_expr.the_row.coded, tree_expr.the_row.coded) };
 
     ghost view = { λ i. i.clocked };
 
-    ghost invariant = { λ i. IsFlagged (program_seen i.clocked) };
+    ghost invariant = { λ i. IsFlagged (program_seen i.clocked.program) };
 }
 
 impl Initialised {
     /// The program on clocks in which nil stands only where flags allow.
     pub fn clocked(&self) -> &Clocked
         ensures same { result.now ≡ self.now }
-        ensures flagged { IsFlagged (program_seen self.now) }
+        ensures flagged { IsFlagged (program_seen result.now.program) }
     {
         &self.clocked
     }
 
     /// The program in which nil stands only where flags allow.
     pub fn program(&self) -> &Program
-        ensures { result.now ≡ self.now }
+        ensures same { result.now ≡ self.now.program }
+        ensures resolved { Resolved (program_seen result.now) }
+        ensures on_clocks { ProgramOnClocks (program_seen result.now) }
+        ensures flagged { IsFlagged (program_seen result.now) }
     {
         self.clocked.program()
     }
@@ -109,8 +117,8 @@ impl Initialised {
 /// at a variable's place on the left of its equation.
 pub fn check_nil(alloc: Global, clocked: Clocked) -> Result<Initialised, Refusal>
     ensures same { IfOk result (λ initialised. initialised ≡ clocked) }
-    ensures ok { OnOk result (IsFlagged (program_seen clocked)) }
-    ensures refused { IfErr result (λ e. e.number ≢ numbers.Memory → (IsFlagged (program_seen clocked) → ⊥) × (e.number ≡ numbers.Nil)) }
+    ensures ok { OnOk result (IsFlagged (program_seen clocked.program)) }
+    ensures refused { IfErr result (λ e. e.number ≢ numbers.Memory → (IsFlagged (program_seen clocked.program) → ⊥) × (e.number ≡ numbers.Nil)) }
 {
     match flags_fit(alloc, clocked.program()) {
         Ok(()) => Ok(Initialised { clocked }),

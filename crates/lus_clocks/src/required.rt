@@ -11,23 +11,6 @@ use crate::values::is_nil_free;
 use lus_program::{Expr, Node};
 use lus_syntax::Place;
 
-/// Where a variable stands on a left side; where none has it, its declaration, or the node's.
-fn place_of_variable(node: &Node, variable: usize) -> Place {
-    for equation in &node.equations {
-        for (index, target) in equation.targets.iter().enumerate() {
-            if *target as usize == variable {
-                if let Some(place) = equation.places.get(index) {
-                    return *place;
-                }
-            }
-        }
-    }
-    match node.variables.get(variable) {
-        Some(declared) => declared.place,
-        None => node.place,
-    }
-}
-
 /// Fails at the first token of an operand that may be nil, where an expression or a part of it requires that it isn't.
 #[cycle(requirements)]
 fn check_meets(node: &Node, flags: &[bool], expr: &Expr) -> Result<(), Place>
@@ -53,14 +36,14 @@ fn check_meets(node: &Node, flags: &[bool], expr: &Expr) -> Result<(), Place>
         Expr::When(_, test, operand) => {
             require(
                 !flag_at(flags, test.variable as usize),
-                place_of_variable(node, test.variable as usize),
+                node.place_of(test.variable as usize),
             )?;
             check_meets(node, flags, operand)
         }
         Expr::Merge(_, variable, branches) => {
             require(
                 !flag_at(flags, *variable as usize),
-                place_of_variable(node, *variable as usize),
+                node.place_of(*variable as usize),
             )?;
             check_flagless(flags, branches)?;
             check_all_meet(node, flags, branches)
@@ -109,7 +92,7 @@ fn check_tests(node: &Node, flags: &[bool]) -> Result<(), Place>
     for variable in &node.variables {
         if let Some(test) = variable.test {
             let flag = flag_at(flags, test.variable as usize);
-            require(!flag, place_of_variable(node, test.variable as usize))?;
+            require(!flag, node.place_of(test.variable as usize))?;
         }
     }
     Ok(())
@@ -131,7 +114,7 @@ fn check_none_raised(node: &Node, flags: &[bool]) -> Result<(), Place>
     ensures { is_ok result ≡ none_raised flags.now }
 {
     for (variable, flag) in flags.iter().enumerate() {
-        require(!*flag, place_of_variable(node, variable))?;
+        require(!*flag, node.place_of(variable))?;
     }
     Ok(())
 }

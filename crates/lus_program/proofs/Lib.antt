@@ -1,1 +1,2 @@
 pub mod OperandViews
+pub mod Lefts
