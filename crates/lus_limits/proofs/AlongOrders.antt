@@ -95,9 +95,6 @@ filled_at uses order e value table n x whole le filled lt =
     let all : take n order ≡ order = take_all n order le in
     filled x (rw all (whole.whole x lt))
 
-pub filled_none : {X : Type 0} (e : X) (value : ℕ → X) (order : List ℕ) (table : List X) → IsFilled e value (take 0 order) table
-filled_none e value order table y among = elim (no_item among.0 among.1) [ ]
-
 -- numbers against a limit
 module _ (uses : Uses) (order : List ℕ) (o : IsOrder uses order) (inside : IsInside uses) (n d e most : ℕ) (step : (ℕ → ℕ) → ℕ → ℕ) (local : IsLocal uses step) (count : n ≡ length uses) where
   -- one thing past the limit is not all within it

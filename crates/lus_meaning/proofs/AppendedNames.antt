@@ -1,5 +1,5 @@
 -- Names among two lists, names that are new behind two lists, and two lists of names that are new.
-use Rattle.std.proofs.Common.{◌≡◌, append-nil, append_assoc, refl, Bool, ap, sym, List, [], ◌∷◌, ◌++◌, true, false, not, ◌&&◌, ◌||◌}
+use Rattle.std.proofs.Common.{◌≡◌, append-nil, append_assoc, refl, Bool, sym, List, [], ◌∷◌, ◌++◌, true, false, not, ◌&&◌, ◌||◌}
 use Rattle.std.proofs.Math.Bool.{and_assoc, or_assoc}
 use Rattle.std.specs.Str.{bytes_eq}
 use Rattle.std.specs.List.{list_all}

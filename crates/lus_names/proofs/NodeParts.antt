@@ -46,9 +46,6 @@ unknown_part k f unknown named =
     let all : parts_known k f ≡ true = rw (groups_known k (groups f), types, tests, rights) refl in
     cc
 
-pub lefts_of : (k : Known) (f : Node) → NodeNamed k f → LeftsNamed f
-lefts_of k f named = record { distinct = named.left_distinct; defined = named.left_defined; whole = named.left_whole; some = named.left_some }
-
 module _ (k : Known) (variables : List Text) (f : Node) (found : Option Place) (its_own : variables ≡ names_in (groups f)) (is : is_none found ≡ parts_known (record k { variables = variables }) f) where
   here : is_none found ≡ parts_known (in_node k f) f
   here = is ∙ ap (λ vs. parts_known (record k { variables = vs }) f) its_own
