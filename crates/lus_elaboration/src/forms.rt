@@ -1,23 +1,18 @@
 //! What each form of expression means, its parts being elaborated already, and its type.
 
-ghost use Rattle.std.specs.Prelude.{◌≡◌, Some, None, IfOk, IfErr, map, option_map, unwrap_or, ℕ, length};
-ghost use Rattle.std.specs.Option.{option_and_then};
-ghost use Rattle.lus_syntax.specs.View.{name_seen, test_seen, part_seen, label_seen};
-ghost use Rattle.lus_syntax.specs.Trees.{parts_of};
+ghost use Rattle.std.specs.Prelude.{◌≡◌, Some, None, IfOk, IfErr, option_map};
+ghost use Rattle.lus_syntax.specs.View.{name_seen, test_seen, label_seen};
 ghost use Rattle.lus_values.specs.declared.operator.Operator.TheVariants.{If as IfOperator};
-ghost use Rattle.lus_program.specs.Programs.{more, when as when_meant, merge as merge_meant, call as call_meant, operate};
-ghost use Rattle.lus_program.specs.View.{expression_of, operands_of};
-ghost use Rattle.lus_meaning.specs.Scopes.{entry};
+ghost use Rattle.lus_program.specs.Programs.{more, when as when_meant, operate};
+ghost use Rattle.lus_program.specs.View.{expression_of};
 ghost use Rattle.lus_meaning.specs.Types.{name_kind, prefix_kind as kind_of_prefix, infix_kind as kind_of_infix, choice_kind as kind_of_choice, field_kind, test_placed as placed_test, truth_place as place_of_truth, label_place as place_of_label, asked_place as place_asked, test_variable as variable_of_test};
-ghost use Rattle.lus_meaning.specs.Meaning.{name_meant, prefix_meant, infix_meant, compute as computed, one, two, test_meant, field_meant, node_place};
+ghost use Rattle.lus_meaning.specs.Meaning.{name_meant, prefix_meant, infix_meant, compute as computed, one, two, test_meant, field_meant};
 ghost use Rattle.lus_meaning.specs.ScopeView.{scope_of, Faulty};
 
 use crate::kinds::{choice_kind, infix_kind, prefix_kind, same, value_kind};
 use lus_meaning::{Fault, Scope, field as field_named};
 use lus_program::{Expr, Kind, Test};
-use lus_syntax::{
-    Expr as Source, Infix, Label, Lead, Name, Part, Place, Prefix, Test as SourceTest,
-};
+use lus_syntax::{Expr as Source, Infix, Label, Name, Place, Prefix, Test as SourceTest};
 use lus_values::{Op, Operator};
 use std::alloc::{AllocError, Global};
 
@@ -250,7 +245,8 @@ fn asked_place(scope: &Scope, kind: Kind, test: &SourceTest) -> Option<u32>
     }
 }
 
-fn clock_variable(test: &SourceTest) -> &Name
+/// The variable that a test asks about.
+pub fn clock_variable(test: &SourceTest) -> &Name
     ensures { (name_seen result.now).text ≡ variable_of_test (test_seen test.now) }
 {
     match test {

@@ -11,6 +11,6 @@ mod purity;
 
 pub use elaboration::elaborate;
 pub use equations::{Given, equation, right_side};
-pub use forms::{Elaborated, test_placed};
+pub use forms::{Elaborated, clock_variable, test_placed};
 pub use kinds::{same, value_kind};
 pub use purity::memory;
