@@ -1,9 +1,9 @@
 -- A node's variables, declaration by declaration.
-use Rattle.std.proofs.Common.{arith, ◌≡◌, ◌∙◌, refl, sym, ap, subst, ◌+◌, ◌≤◌, List, [], ◌∷◌, ◌++◌, String, Global, map, length, length-append, true}
+use Rattle.std.proofs.Common.{arith, ◌≡◌, ◌∙◌, refl, sym, ap, subst, ◌+◌, ◌≤◌, List, [], ◌∷◌, ◌++◌, String, Global, map, length, length-append, flat_map, true}
 use Rattle.std.proofs.lemmas.Grind.{flat_map-append}
 use Rattle.std.proofs.lemmas.List.{length-map, map-append}
 use Rattle.std.proofs.lemmas.List.Sums.{sum_by-append, sum_by-cons}
-use Rattle.lus_syntax.specs.Trees.{TypeName, Group}
+use Rattle.lus_syntax.specs.Trees.{Named, TypeName, Group}
 use Rattle.lus_program.specs.declared.types.Kind.{Kind}
 use Rattle.lus_meaning.specs.declared.entries.Placed.{Placed}
 use Rattle.lus_meaning.specs.Named.{Distinct, all_new, names_in}
@@ -17,6 +17,14 @@ use Rattle.lus_tables.proofs.Placing.{length_after, names-each_of, names-placed_
 pub variable_count-cons : (g : Group) (gs : List Group) → variable_count (g ∷ gs) ≡ length g.names + variable_count gs
 variable_count-cons g gs = sum_by-cons (λ h. length h.names) g gs
 
+-- one thing for each variable of groups
+pub length-for_each : {X : Type 0} (thing : Group → Named → X) (gs : List Group) → length (flat_map (λ g. map (thing g) g.names) gs) ≡ variable_count gs
+length-for_each thing [] = refl
+length-for_each thing (g ∷ gs) =
+    length-append (map (thing g) g.names) (flat_map (λ h. map (thing h) h.names) gs)
+    ∙ ap (λ n. n + length (flat_map (λ h. map (thing h) h.names) gs)) (length-map g.names (thing g))
+    ∙ ap (λ n. length g.names + n) (length-for_each thing gs) ∙ sym (variable_count-cons g gs)
+
 module _ (kind : TypeName → Kind) where
   names-kinds_by : (gs : List Group) → names (kinds_by kind gs) ≡ names_in gs
   names-kinds_by [] = refl
@@ -25,11 +33,7 @@ module _ (kind : TypeName → Kind) where
       ∙ ap (λ l. l ++ names (kinds_by kind gs)) (names-each_of g.names (kind g.type_name)) ∙ ap (λ l. map text_of g.names ++ l) (names-kinds_by gs)
 
   length-kinds_by : (gs : List Group) → length (kinds_by kind gs) ≡ variable_count gs
-  length-kinds_by [] = refl
-  length-kinds_by (g ∷ gs) =
-      length-append (each_of g.names (kind g.type_name)) (kinds_by kind gs)
-      ∙ ap (λ n. n + length (kinds_by kind gs)) (length-map g.names (λ n. (n.text, kind g.type_name)))
-      ∙ ap (λ n. length g.names + n) (length-kinds_by gs) ∙ sym (variable_count-cons g gs)
+  length-kinds_by gs = length-for_each (λ g n. (n.text, kind g.type_name)) gs
 
   pub kinds_by-append : (gs hs : List Group) → kinds_by kind (gs ++ hs) ≡ kinds_by kind gs ++ kinds_by kind hs
   kinds_by-append gs hs = flat_map-append (λ g. each_of g.names (kind g.type_name)) gs hs

@@ -9,4 +9,5 @@ mod values;
 mod variables;
 
 pub use scopes::{enter, tables};
+pub use types::kind_of_name;
 pub use values::literal;
