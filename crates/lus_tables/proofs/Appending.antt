@@ -1,6 +1,7 @@
 -- A table of names, name by name.
-use Rattle.std.proofs.Common.{◌≡◌, ◌∙◌, refl, sym, ap, List, [], ◌∷◌, ◌++◌, Bool, true, false, not, ◌&&◌, ◌||◌, String, Global, map, append-nil, append_assoc}
+use Rattle.std.proofs.Common.{◌≡◌, ◌∙◌, refl, sym, ap, List, [], ◌∷◌, ◌++◌, Bool, true, false, not, ◌||◌, String, Global, map, append_assoc}
 use Rattle.std.specs.Prelude.{string_bytes, if◌then◌else◌}
+use Rattle.std.specs.List.{list_all}
 use Rattle.std.specs.Str.{bytes_eq}
 use Rattle.std.specs.String.{string_eq}
 use Rattle.std.proofs.lemmas.List.{map-append}
@@ -8,6 +9,7 @@ use Rattle.indexmap.specs.IndexMap.{insert_entry}
 use Rattle.lus_syntax.specs.Lexemes.{Text}
 use Rattle.lus_meaning.specs.Named.{is_in, all_new}
 use Rattle.lus_meaning.specs.ScopeView.{entries_of}
+use Rattle.lus_meaning.proofs.AppendedNames.{all_new_apart, appended_are_new}
 use Rattle.lus_meaning.proofs.Steps.{and_first, and_second}
 use Rattle.lus_tables.specs.ByTable.{names}
 
@@ -28,27 +30,13 @@ insert_entry-absent {X} (x ∷ es) k v n e absent =
     ap (λ b. entries_of (λ (y : X). y) (if b then (x.0, v) ∷ es else x ∷ insert_entry string_eq es k v)) other
     ∙ ap (λ l. (string_bytes x.0, x.1) ∷ l) (insert_entry-absent es k v n e (or_second (bytes_eq n (string_bytes x.0)) _ absent))
 
-not_true : (b : Bool) → not b ≡ true → b ≡ false
-not_true true e = cc
-not_true false e = refl
-
--- the first of names that are all new
-pub first_absent : (before : List Text) (n : Text) (ns : List Text) → all_new before (n ∷ ns) ≡ true → is_in before n ≡ false
-first_absent before n ns h = not_true (is_in before n) (and_first (not (is_in before n)) _ h)
-
-and_is : (a b : Bool) → a ≡ true → b ≡ true → (a && b) ≡ true
-and_is true b p q = q
-and_is false b p q = p
-
 -- of new names, those in front
 pub front_new : (before ns ms : List Text) → all_new before (ns ++ ms) ≡ true → all_new before ns ≡ true
-front_new before [] ms h = refl
-front_new before (n ∷ ns) ms h = and_is (not (is_in before n)) _ (and_first (not (is_in before n)) _ h) (front_new (before ++ n ∷ []) ns ms (and_second (not (is_in before n)) _ h))
+front_new before ns ms h = and_first (all_new before ns) (all_new (before ++ ns) ms) (sym (appended_are_new before ns ms) ∙ h)
 
 -- and the others behind them
 pub back_new : (before ns ms : List Text) → all_new before (ns ++ ms) ≡ true → all_new (before ++ ns) ms ≡ true
-back_new before [] ms h = rw (append-nil before) h
-back_new before (n ∷ ns) ms h = rw (← append_assoc before (n ∷ []) ns) (back_new (before ++ n ∷ []) ns ms (and_second (not (is_in before n)) _ h))
+back_new before ns ms h = and_second (all_new before ns) (all_new (before ++ ns) ms) (sym (appended_are_new before ns ms) ∙ h)
 
 -- what is new once a table has grown
 pub new_after : {X : Type 0} (after before xs : List (Text × X)) (ns ms : List Text) → after ≡ before ++ xs → names xs ≡ ns → all_new (names before) (ns ++ ms) ≡ true → all_new (names after) ms ≡ true
@@ -69,13 +57,6 @@ seen_after f after before n v y grown is =
     entries_seen f after ∙ ap (map (λ e. (e.0, f e.1))) grown ∙ map-append (λ e. (e.0, f e.1)) (entries_of (λ x. x) before) ((n, v) ∷ [])
     ∙ ap (λ l. l ++ (n, f v) ∷ []) (sym (entries_seen f before)) ∙ ap (λ z. entries_of f before ++ (n, z) ∷ []) is
 
-is_in-append : (ms ns : List Text) (n : Text) → is_in (ms ++ ns) n ≡ false → is_in ns n ≡ false
-is_in-append [] ns n h = h
-is_in-append (m ∷ ms) ns n h = is_in-append ms ns n (or_second (bytes_eq n m) _ h)
-
 -- what is new to many names is new to fewer
 pub new_to_fewer : (ms before ns : List Text) → all_new (ms ++ before) ns ≡ true → all_new before ns ≡ true
-new_to_fewer ms before [] h = refl
-new_to_fewer ms before (n ∷ ns) h =
-    let other : is_in before n ≡ false = is_in-append ms before n (first_absent (ms ++ before) n ns h) in
-    and_is (not (is_in before n)) _ (ap not other) (new_to_fewer ms (before ++ n ∷ []) ns (rw (← append_assoc ms before (n ∷ [])) (and_second (not (is_in (ms ++ before) n)) _ h)))
+new_to_fewer ms before ns h = and_second (list_all (λ n. not (is_in ms n)) ns) (all_new before ns) (sym (all_new_apart ms before ns) ∙ h)

@@ -2,4 +2,3 @@ pub mod Appending
 pub mod Placing
 pub mod Groups
 pub mod OfSource
-pub mod EachNode

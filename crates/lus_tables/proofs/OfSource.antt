@@ -1,13 +1,14 @@
 -- The tables that the code makes are those of the source.
-use Rattle.std.proofs.Common.{arith, ◌≡◌, ◌∙◌, refl, sym, ap, subst, ℕ, zero, suc, ◌+◌, ◌<◌, ◌≤◌, ◌&&◌, List, [], ◌∷◌, Option, Some, None, Bool, true, false, cond, IsTrue, inl, inr, map, length, length-append, option_map}
+use Rattle.std.proofs.Common.{arith, ◌≡◌, ◌∙◌, refl, sym, ap, subst, ℕ, suc, ◌+◌, ◌≤◌, ◌&&◌, List, [], ◌∷◌, Option, Some, None, Bool, true, false, cond, IsTrue, map, length, length-append, option_map}
 use Rattle.std.specs.List.{list_all}
 use Rattle.std.specs.Str.{bytes_eq}
-use Rattle.std.proofs.lemmas.Bool.{cases_lt, le-leb}
+use Rattle.std.proofs.lemmas.Bool.{le-leb}
 use Rattle.std.proofs.lemmas.List.{length-map}
 use Rattle.std.proofs.lemmas.List.Sums.{sum_by-cons}
 use Rattle.lus_syntax.specs.Lexemes.{Text}
 use Rattle.lus_syntax.specs.Trees.{TypeName, BoolName, IntName, DeclaredName, Fields, Definition, Alias, Enumeration, StructureOf, TypeDeclaration, Node, Literal, Positive, Negative, TruthValue, ConstructorName, Tree}
 use Rattle.lus_values.specs.Lists.{Below, Each, item}
+use Rattle.lus_values.proofs.Lists.{below_at}
 use Rattle.lus_values.specs.Values.{Value}
 use Rattle.lus_program.specs.declared.types.Kind.{Kind}
 use Rattle.lus_program.specs.declared.types.Kind.TheVariants as kinds
@@ -45,10 +46,6 @@ module _ (p : Tree) where
   -- the types of the table are those that the names mean
   pub kind_in-tables : kind_in (tables p).types ≡ kind_named p
   kind_in-tables = λ i y. kind_in-table y i
-
-below_at : (P : ℕ → Type 0) (n : ℕ) → Below n P → (x : ℕ) → x < n → P x
-below_at P zero h x lt = absurd (omega arith)
-below_at P (suc n) h x lt = elim (cases_lt x n) [ inl less ↦ below_at P n h.1 x less | inr more ↦ (let e : n ≡ x = omega arith in subst P e h.0) ]
 
 abbrev row_with : {X : Type 0} → (ℕ → X) → TypeDeclaration × ℕ → Text × X
 row_with f e = (e.0.name.text, f e.1)
