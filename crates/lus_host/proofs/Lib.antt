@@ -4,3 +4,4 @@ pub mod Checks
 pub mod DistinctNames
 pub mod Lines
 pub mod Values
+pub mod RunScripts

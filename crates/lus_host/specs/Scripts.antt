@@ -1,11 +1,12 @@
 -- The scripts that a JSON value is, for a program: its names are looked up, and the values of its steps are read.
 use Rattle.std.specs.Prelude.{◌==◌, ◌&&◌, ◌+◌, ℕ, suc, Bool, true, false, not, List, [], ◌∷◌, map, length, take, nat_le, position, find, slice_get}
-use Rattle.std.specs.Prelude.{Option, Some, None, is_some, option_map, option_and_then, if◌then◌else◌, Result, Ok, Err}
+use Rattle.std.specs.Prelude.{◌≡◌, Option, Some, None, is_some, IsSome, option_map, option_and_then, if◌then◌else◌, Result, Ok, Err}
 use Rattle.std.specs.List.{list_all, list_any}
 use Rattle.std.specs.Str.{bytes_eq}
 use Rattle.serde_json.specs.Data.{Data, null, boolean, number, string, array, object, Members}
 use Rattle.serde_json.specs.Events.{members_len}
 use Rattle.serde_json.specs.Find.{as_i64, as_null, get_member}
+use Rattle.lus_values.specs.Lists.{Each}
 use Rattle.lus_values.specs.Names.{Names, numbers_of}
 use Rattle.lus_values.specs.Values.{Value, bool, int, enum, struct, fields_of, Row}
 use Rattle.lus_program.specs.declared.types.Kind.{Kind}
@@ -159,7 +160,12 @@ scripts_of_form p names f =
     (demand (all_distinct (caller_names f)) Double
     (with_table p names f)))
 
--- what is run today: one caller that steps one instance
+-- each instance is of a node of the program
+abbrev pub HaveNodes : Program → List InstanceForm → Type 0
+HaveNodes p instances = Each (λ i. IsSome (node_named p i.node)) instances
+
+-- ---- what is run today: one caller that steps one instance
+
 abbrev pub is_step : Ask → Bool
 is_step (step items) = true
 is_step reset = false
@@ -168,6 +174,24 @@ is_step (restore slot) = false
 
 abbrev pub is_run : Form → Bool
 is_run f = length f.instances == 1 && (length f.callers == 1 && list_all (λ c. list_all (λ call. is_step call.ask) c.calls) f.callers)
+
+abbrev pub IsStep : Request → Type 0
+IsStep (Step inputs) = Unit {0}
+IsStep Reset = ⊥
+IsStep (Save slot) = ⊥
+IsStep (Restore slot) = ⊥
+
+-- a step of the first instance
+abbrev pub StepsFirst : Call → Type 0
+StepsFirst call = (call.on ≡ 0) × IsStep call.request
+
+-- one instance, and one caller, whose calls step it
+pub record IsRun (s : Scripts) : Type 0 where
+  pub instance : length s.instances ≡ 1
+  pub caller : length s.callers ≡ 1
+  pub steps : Each (λ c. Each StepsFirst c.calls) s.callers
+
+-- ---- scripts of a JSON value
 
 abbrev pub scripts_of_option : Program → Names → Option Form → Result Scripts ScriptRefusal
 scripts_of_option p names None = Err NotTheForm

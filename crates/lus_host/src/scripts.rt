@@ -7,7 +7,7 @@ ghost use Rattle.serde_json.specs.View.{view};
 ghost use Rattle.std.specs.Str.{IsUtf8};
 ghost use Rattle.lus_program.specs.View.{node_of, program_seen};
 ghost use Rattle.lus_host.specs.Forms.{each};
-ghost use Rattle.lus_host.specs.Scripts.{call_of, caller_of, instance_names, request_of, scripts_of, scripts_of_form, with_table};
+ghost use Rattle.lus_host.specs.Scripts.{HaveNodes, IsRun, call_of, caller_of, instance_names, request_of, scripts_of, scripts_of_form, with_table};
 ghost use Rattle.lus_host.specs.View.{ask_seen, call_seen, caller_kept, caller_seen, form_seen, instance_kept, scope_seen, scripts_seen};
 
 use crate::form::{Ask, CallForm, CallerForm, Form, read_form};
@@ -235,7 +235,8 @@ fn from_json(
     from_form(alloc, program, names, &form)
 }
 
-/// Reads scripts for a program with these names of constructors.
+/// Reads scripts for a program with these names of constructors. So far they are run, and else refused by their form, only
+/// where one caller steps one instance.
 pub fn read_scripts(
     alloc: Global,
     program: &Program,
@@ -244,6 +245,8 @@ pub fn read_scripts(
 ) -> Result<Scripts, ScriptRefusal>
     ensures long { 1048576 < length bytes.now → result ≡ Err ScriptRefusal.Limit }
     ensures ok { IfOk result (λ s. (d : Data) × (read bytes.now ≡ Some d) × (scripts_of (program_seen program.now) names.now d ≡ Ok (scripts_seen s))) }
+    ensures nodes { IfOk result (λ s. HaveNodes (program_seen program.now) (scripts_seen s).instances) }
+    ensures run { IfOk result (λ s. IsRun (scripts_seen s)) }
     ensures json { result ≡ Err ScriptRefusal.Json → IsUtf8 bytes.now → read bytes.now ≡ None }
     ensures refused { length bytes.now ≤ 1048576 → IfErr result (λ e. (e ≡ ScriptRefusal.Memory) ⊎ ((e ≡ ScriptRefusal.Json)
         ⊎ ((d : Data) × (read bytes.now ≡ Some d) × (scripts_of (program_seen program.now) names.now d ≡ Err e)))) }

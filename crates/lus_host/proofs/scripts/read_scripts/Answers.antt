@@ -1,12 +1,23 @@
 use Rattle.std.proofs.Common.{◌≡◌, ◌∙◌, ap, ◌⊎◌, inl, inr, IfErr, Ok, Err, Result}
+use Rattle.std.proofs.lemmas.Result.{IfOk-weaker}
 use Rattle.serde_json.specs.View.{view}
 use Rattle.lus_program.specs.View.{program_seen}
 use Rattle.lus_host.specs.Scripts.{scripts_of}
+use Rattle.lus_host.specs.View.{scripts_seen}
 use Rattle.lus_host.specs.declared.scripts.Scripts.{Scripts}
 use Rattle.lus_host.specs.declared.refusal.ScriptRefusal.{ScriptRefusal}
 use Rattle.lus_host.specs.declared.refusal.ScriptRefusal.TheVariants as refusal
 use Rattle.lus_host.proofs.Checks.{never_json}
+use Rattle.lus_host.proofs.RunScripts.{instances_known, scripts_are_run}
 use Rattle.lus_host.proofs.scripts.read_scripts.Goals as goal
+
+pub returns-in-Ok-clause-nodes : goal.returns-in-Ok-clause-nodes
+returns-in-Ok-clause-nodes c =
+    IfOk-weaker c.from_json.result _ _ (λ s means. instances_known (program_seen c.args.program.now) c.args.names.now (view c.in-Ok.json) (scripts_seen s) means) c.from_json.ensures.ok
+
+pub returns-in-Ok-clause-run : goal.returns-in-Ok-clause-run
+returns-in-Ok-clause-run c =
+    IfOk-weaker c.from_json.result _ _ (λ s means. scripts_are_run (program_seen c.args.program.now) c.args.names.now (view c.in-Ok.json) (scripts_seen s) means) c.from_json.ensures.ok
 
 pub returns-in-Ok-clause-json : goal.returns-in-Ok-clause-json
 returns-in-Ok-clause-json c = λ same utf8. absurd (go c.from_json.result c.from_json.ensures.refused same)
