@@ -2,7 +2,8 @@
 use Rattle.std.proofs.Common.{◌≡◌, ℕ, zero, suc, ◌+◌, ◌<◌, ◌≤◌, nat_eq, Bool, true, false, not, ◌&&◌, ◌||◌, List, [], ◌∷◌, map, length, take, drop, Option, Some, None, IsFalse, refl, sym, ap, ap₂, ◌∙◌, subst, true≢false, not-suc-le-zero, le_of_suc-le-suc, arith, if◌then◌else◌, ⊎_elim}
 use Rattle.std.proofs.lemmas.Bool.{cases_lt}
 use Rattle.std.proofs.lemmas.List.{length-take}
-use Rattle.lus_values.specs.Lists.{item, Each, Below}
+use Rattle.lus_values.specs.Lists.{item, Each}
+use Rattle.lus_values.proofs.Lists.{below_all}
 use Rattle.lus_program.specs.declared.expr.Test.{Test}
 use Rattle.lus_program.specs.declared.node.Equation.{Equation as StoredEquation}
 use Rattle.lus_program.specs.declared.node.Node.{Node as StoredNode}
@@ -251,10 +252,6 @@ at_none (b ∷ bs) h = and_true (not b) (none_raised bs) (is_not b (h 0)) (at_no
 false_by : (b : Bool) → (b ≡ true → ⊥) → b ≡ false
 false_by true h = absurd (h refl)
 false_by false h = refl
-
-below_all : (P : ℕ → Type 0) (n : ℕ) → ((x : ℕ) → x < n → P x) → Below n P
-below_all P zero h = tt
-below_all P (suc n) h = (h n (omega arith), below_all P n (λ x lt. h x (omega arith)))
 
 -- tests of declarations
 module _ (flags : ℕ → Bool) where

@@ -2,7 +2,8 @@
 use Rattle.std.proofs.Common.{◌≡◌, ℕ, zero, suc, ◌+◌, ◌<◌, ◌≤◌, true, List, [], ◌∷◌, length, take, Option, Some, None, is_some, refl, sym, ap, ◌∙◌, subst, true≢false, suc-ne-zero, ⊎_elim, arith}
 use Rattle.std.proofs.lemmas.Bool.{cases_lt}
 use Rattle.std.proofs.lemmas.List.{length-take}
-use Rattle.lus_values.specs.Lists.{item, Each, Below}
+use Rattle.lus_values.specs.Lists.{item, Each}
+use Rattle.lus_values.proofs.Lists.{below_all}
 use Rattle.lus_program.specs.declared.expr.Test.{Test}
 use Rattle.lus_program.specs.Programs.{Expression, variable, Operands, Variable, Node, no_variable}
 use Rattle.lus_streams.specs.Clocks.{Clock, clock_of, operand}
@@ -19,11 +20,6 @@ name_is _ h = absurd h
 is_name : (e : Expression) → is_some (name_of e) ≡ true → IsName e
 is_name (variable x) h = tt
 is_name _ h = true≢false (sym h)
-
--- P holds of each number below n, from a proof for each
-below_all : (P : ℕ → Type 0) (n : ℕ) → ((x : ℕ) → x < n → P x) → Below n P
-below_all P zero h = tt
-below_all P (suc n) h = (h n (omega arith), below_all P n (λ x lt. h x (omega arith)))
 
 module _ (names : ℕ → Option ℕ) where
   named_at : (vs : List Variable) → are_named names vs ≡ true → (m : ℕ) → is_named names (item no_variable vs m).test ≡ true

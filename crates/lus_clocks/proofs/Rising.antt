@@ -1,5 +1,5 @@
 -- Flags that are raised round by round come to the least ones.
-use Rattle.std.proofs.Common.{◌≡◌, ℕ, zero, suc, ◌+◌, ◌<◌, ◌≤◌, nat_eq, Bool, true, false, ◌||◌, List, [], ◌∷◌, length, slice_set, ◌++◌, refl, sym, ap, ap₂, ◌∙◌, subst, true≢false, suc-ne-zero, not-suc-le-zero, le_of_suc-le-suc, arith, if◌then◌else◌, ⊎_elim}
+use Rattle.std.proofs.Common.{◌≡◌, ℕ, zero, suc, ◌<◌, ◌≤◌, nat_eq, Bool, true, false, ◌||◌, List, [], ◌∷◌, length, slice_set, refl, sym, ap, ap₂, ◌∙◌, subst, true≢false, suc-ne-zero, not-suc-le-zero, le_of_suc-le-suc, arith, if◌then◌else◌, ⊎_elim}
 use Rattle.std.proofs.lemmas.Bool.{cases_lt}
 use Rattle.std.proofs.lemmas.Bool.Decides.{nat_tests}
 use Rattle.lus_program.specs.declared.node.Equation.{Equation as StoredEquation}
@@ -165,24 +165,5 @@ module _ (n : ℕ) (qs : List StoredEquation) (bs next : List Bool) (r : IsRisin
         least = λ flags closed. r.least flags (λ x lt. closed x (subst (λ m. x < m) (sym e) lt));
       }
 
-pub rising_first : (n : ℕ) (qs : List StoredEquation) (bs : List Bool) → AreFalse n bs → IsRising n qs bs
-rising_first n qs bs f = record { size = f.size; rising = λ x h. absurd (true≢false (sym h ∙ f.all x)); least = λ flags closed x h. absurd (true≢false (sym h ∙ f.all x)) }
-
 pub next_given : (qs : List StoredEquation) (bs start : List Bool) → AreFalse (length bs) start → IsNext qs bs (all_given (flags_in bs) qs start)
 next_given qs bs start f = record { size = length_all_given (flags_in bs) qs start ∙ f.size; given = λ x lt. all_given_at (flags_in bs) qs start x (subst (λ m. x < m) (sym f.size) lt) (f.all x) }
-
-false_pushed : (bs : List Bool) → ((x : ℕ) → flags_in bs x ≡ false) → (x : ℕ) → flags_in (bs ++ false ∷ []) x ≡ false
-false_pushed [] h zero = refl
-false_pushed [] h (suc x) = refl
-false_pushed (b ∷ bs) h zero = h 0
-false_pushed (b ∷ bs) h (suc x) = false_pushed bs (λ y. h (suc y)) x
-
-length_pushed : (bs : List Bool) → length (bs ++ false ∷ []) ≡ length bs + 1
-length_pushed [] = refl
-length_pushed (b ∷ bs) = let rest = length_pushed bs in omega (arith, rest)
-
-pub are_false_pushed : (n : ℕ) (bs : List Bool) → AreFalse n bs → AreFalse (n + 1) (bs ++ false ∷ [])
-are_false_pushed n bs f = record { size = length_pushed bs ∙ ap (λ m. m + 1) f.size; all = false_pushed bs f.all }
-
-pub are_false_none : AreFalse 0 []
-are_false_none = record { size = refl; all = λ x. refl }

@@ -2,7 +2,8 @@
 use Rattle.std.proofs.Common.{◌≡◌, ℕ, zero, suc, ◌+◌, ◌<◌, ◌≤◌, nat_eq, nat_lt, Bool, true, false, not, ◌&&◌, ◌||◌, List, [], ◌∷◌, map, length, Option, Some, None, refl, sym, ap, ◌∙◌, subst, true≢false, suc-ne-zero, not-suc-le-zero, arith, le_of_suc-le-suc, eq-eqb, ⊎_elim}
 use Rattle.std.proofs.lemmas.Bool.{eqb-true, cases_lt}
 use Rattle.std.proofs.lemmas.Bool.Decides.{nat_tests}
-use Rattle.lus_values.specs.Lists.{item, Each, Below}
+use Rattle.lus_values.specs.Lists.{item, Each}
+use Rattle.lus_values.proofs.Lists.{below_all}
 use Rattle.lus_program.specs.declared.expr.Test.{Test}
 use Rattle.lus_program.specs.declared.node.Equation.{Equation as StoredEquation}
 use Rattle.lus_program.specs.declared.node.Node.{Node as StoredNode}
@@ -38,11 +39,6 @@ module _ (vs : List Variable) where
   chain_stays : (n : ℕ) → Stays n
   chain_stays zero x h = stays_first (item no_variable vs x).test h
   chain_stays (suc n) x h = stays_next n (chain_stays n) (item no_variable vs x).test h
-
--- P holds of each number below n, from a proof for each
-below_all : (P : ℕ → Type 0) (n : ℕ) → ((x : ℕ) → x < n → P x) → Below n P
-below_all P zero h = tt
-below_all P (suc n) h = (h n (omega arith), below_all P n (λ x lt. h x (omega arith)))
 
 pub one_less : (n x : ℕ) → x < n → (m : ℕ) × (n ≡ suc m)
 one_less zero x lt = absurd (not-suc-le-zero lt)

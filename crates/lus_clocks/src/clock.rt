@@ -7,7 +7,7 @@ ghost use Rattle.lus_program.specs.Programs.{no_variable};
 ghost use Rattle.lus_program.specs.View.{variable_of, node_of};
 ghost use Rattle.lus_streams.specs.Clocks.{chain};
 ghost use Rattle.lus_clocks.specs.Fitting.{same_test, without_test, without_tests as without_newest};
-ghost use Rattle.lus_clocks.specs.View.{test_in, clock_in};
+ghost use Rattle.lus_clocks.specs.View.{clock_in};
 
 use lus_program::{Node, Test, Variable};
 

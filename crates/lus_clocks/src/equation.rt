@@ -1,11 +1,11 @@
 //! Whether an equation is on clocks.
 
-ghost use Rattle.std.specs.Prelude.{◌≡◌, [], is_ok};
+ghost use Rattle.std.specs.Prelude.{◌≡◌, is_ok};
 ghost use Rattle.lus_values.specs.Lists.{item};
 ghost use Rattle.lus_program.specs.Programs.{node_at};
 ghost use Rattle.lus_program.specs.View.{expression_of, node_of, operands_of, program_seen};
 ghost use Rattle.lus_streams.specs.OnClock.{actuals, test_of};
-ghost use Rattle.lus_clocks.specs.Fitting.{names_in, output_fits, outputs_fit, lefts_fit, equation_fits, equations_fit};
+ghost use Rattle.lus_clocks.specs.Fitting.{names_in, outputs_fit, lefts_fit, equation_fits, equations_fit};
 ghost use Rattle.lus_clocks.specs.View.{clock_in};
 
 use crate::call::{base_of, follows_base, names_tested};
