@@ -1,7 +1,8 @@
 -- A node's variables, declaration by declaration.
-use Rattle.std.proofs.Common.{arith, ◌≡◌, ◌∙◌, refl, sym, ap, subst, ◌+◌, ◌≤◌, List, [], ◌∷◌, ◌++◌, String, Global, map, length, length-append, flat_map, true}
+use Rattle.std.proofs.Common.{arith, ◌≡◌, ◌∙◌, refl, sym, ap, subst, ◌+◌, ◌≤◌, List, [], ◌∷◌, ◌++◌, String, Global, map, length, flat_map, sum_by, true}
 use Rattle.std.proofs.lemmas.Grind.{flat_map-append}
 use Rattle.std.proofs.lemmas.List.{length-map, map-append}
+use Rattle.std.proofs.lemmas.List.Concat.{length-flat_map}
 use Rattle.std.proofs.lemmas.List.Sums.{sum_by-append, sum_by-cons}
 use Rattle.lus_syntax.specs.Trees.{Named, TypeName, Group}
 use Rattle.lus_program.specs.declared.types.Kind.{Kind}
@@ -19,11 +20,7 @@ variable_count-cons g gs = sum_by-cons (λ h. length h.names) g gs
 
 -- one thing for each variable of groups
 pub length-for_each : {X : Type 0} (thing : Group → Named → X) (gs : List Group) → length (flat_map (λ g. map (thing g) g.names) gs) ≡ variable_count gs
-length-for_each thing [] = refl
-length-for_each thing (g ∷ gs) =
-    length-append (map (thing g) g.names) (flat_map (λ h. map (thing h) h.names) gs)
-    ∙ ap (λ n. n + length (flat_map (λ h. map (thing h) h.names) gs)) (length-map g.names (thing g))
-    ∙ ap (λ n. length g.names + n) (length-for_each thing gs) ∙ sym (variable_count-cons g gs)
+length-for_each thing gs = length-flat_map (λ g. map (thing g) g.names) gs ∙ ap (λ size. sum_by size gs) (λ i g. length-map g.names (thing g) i)
 
 module _ (kind : TypeName → Kind) where
   names-kinds_by : (gs : List Group) → names (kinds_by kind gs) ≡ names_in gs
@@ -32,7 +29,7 @@ module _ (kind : TypeName → Kind) where
       map-append (λ e. e.0) (each_of g.names (kind g.type_name)) (kinds_by kind gs)
       ∙ ap (λ l. l ++ names (kinds_by kind gs)) (names-each_of g.names (kind g.type_name)) ∙ ap (λ l. map text_of g.names ++ l) (names-kinds_by gs)
 
-  length-kinds_by : (gs : List Group) → length (kinds_by kind gs) ≡ variable_count gs
+  pub length-kinds_by : (gs : List Group) → length (kinds_by kind gs) ≡ variable_count gs
   length-kinds_by gs = length-for_each (λ g n. (n.text, kind g.type_name)) gs
 
   pub kinds_by-append : (gs hs : List Group) → kinds_by kind (gs ++ hs) ≡ kinds_by kind gs ++ kinds_by kind hs
