@@ -2,5 +2,4 @@ pub mod ValueTypes
 pub mod Numbering
 pub mod Groups
 pub mod NodesMeant
-pub mod Faults
 pub mod FirstFaults

@@ -1,9 +1,7 @@
 -- A node of the code is the one that is meant, part by part.
-use Rattle.std.proofs.Common.{◌≡◌, ◌∙◌, refl, ap, sym, ℕ, ◌+◌, List, [], ◌∷◌, length, map, flat_map, true, false, length-append}
+use Rattle.std.proofs.Common.{◌≡◌, ◌∙◌, ap, sym, ℕ, List, map, flat_map, true, false}
 use Rattle.std.specs.List.{list_all}
 use Rattle.std.specs.Prelude.{option_map, string_bytes}
-use Rattle.std.proofs.lemmas.List.{length-map}
-use Rattle.std.proofs.lemmas.List.Sums.{sum_by-cons}
 use Rattle.lus_syntax.specs.declared.tree.NodeKind.{NodeKind}
 use Rattle.lus_syntax.specs.Lexemes.{Text}
 use Rattle.lus_syntax.specs.Trees as tree
@@ -13,15 +11,12 @@ use Rattle.lus_program.specs.Programs.{Variable, Equation, Node}
 use Rattle.lus_program.specs.View.{equations_from, node_of, variable_of}
 use Rattle.lus_meaning.specs.Scopes.{Scope}
 use Rattle.lus_meaning.specs.Sized.{variable_count}
-use Rattle.lus_meaning.specs.Tables.{each_of, group_kinds, groups, kind_named, scope}
+use Rattle.lus_meaning.specs.Tables.{groups, kind_named, scope}
 use Rattle.lus_meaning.specs.Meaning.{equations_meant, node_meant, test_meant, variables_of}
 use Rattle.lus_meaning.specs.WellTyped.{NodeTyped, test_typed}
 use Rattle.lus_types.specs.GroupVariables.{variables_in}
+use Rattle.lus_tables.proofs.Groups.{length-kinds_by}
 use Rattle.lus_tables.proofs.OfSource.{kind_in-tables}
-
-length-kinds : (p : tree.Tree) (gs : List tree.Group) → length (group_kinds p gs) ≡ variable_count gs
-length-kinds p [] = refl
-length-kinds p (g ∷ gs) = length-append (each_of g.names (kind_named p g.type_name)) (group_kinds p gs) ∙ ap (λ n. n + length (group_kinds p gs)) (length-map g.names _) ∙ ap (λ n. length g.names + n) (length-kinds p gs) ∙ sym (sum_by-cons (λ h. length h.names) g gs)
 
 variables_are : (p : tree.Tree) (f : tree.Node) (gs : List tree.Group) → flat_map (variables_in (scope p f)) gs ≡ flat_map (variables_of p (scope p f)) gs
 variables_are p f gs = ap (λ (kind : tree.TypeName → Kind). flat_map (λ g. map (λ n. record { name = n.text; kind = kind g.type_name; test = option_map (test_meant (scope p f)) g.test }) g.names) gs) (kind_in-tables p)
@@ -33,7 +28,7 @@ same_node k l a b m n o q us vs es fs kind name inputs outputs variables equatio
 pub node_is : (p : tree.Tree) (f : tree.Node) (s : Scope) (n : StoredNode) → s ≡ scope p f → n.kind ≡ f.kind → string_bytes n.name ≡ f.name.text → n.inputs ≡ variable_count f.inputs → n.outputs ≡ variable_count f.outputs
     → map variable_of n.variables.items ≡ flat_map (variables_in s) (groups f) → equations_from 0 n.equations.items ≡ equations_meant s 0 f.equations → node_of n ≡ node_meant p f
 node_is p f s n scoped kind name inputs outputs variables equations =
-    same_node _ _ _ _ _ _ _ _ _ _ _ _ kind name (inputs ∙ sym (length-kinds p f.inputs)) (outputs ∙ sym (length-kinds p f.outputs))
+    same_node _ _ _ _ _ _ _ _ _ _ _ _ kind name (inputs ∙ sym (length-kinds_by (kind_named p) f.inputs)) (outputs ∙ sym (length-kinds_by (kind_named p) f.outputs))
     (variables ∙ ap (λ t. flat_map (variables_in t) (groups f)) scoped ∙ variables_are p f (groups f))
     (equations ∙ ap (λ t. equations_meant t 0 f.equations) scoped)
 

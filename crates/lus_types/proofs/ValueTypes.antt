@@ -1,14 +1,11 @@
 -- A value has a type where its own type is that one.
-use Rattle.std.proofs.Common.{◌≡◌, ◌∙◌, refl, ap, sym, [], ◌∷◌, Some, Bool, true, false, ◌&&◌}
+use Rattle.std.proofs.Common.{◌≡◌, ◌∙◌, ap, sym, [], ◌∷◌, Some}
+use Rattle.std.proofs.Math.Bool.{and-true}
 use Rattle.std.specs.Prelude.{option_map}
 use Rattle.lus_program.specs.declared.types.Kind.{Kind}
 use Rattle.lus_values.specs.Values.{Value}
 use Rattle.lus_meaning.specs.Types.{same, value_kind}
 use Rattle.lus_meaning.specs.WellTyped.{are_given, value_is}
 
-one_and_true : (b : Bool) → b ≡ (b && true)
-one_and_true true = refl
-one_and_true false = refl
-
 pub value_is-same : (v : Value) (k l m : Kind) → value_kind v ≡ Some k → l ≡ m → same k l ≡ value_is v m
-value_is-same v k l m is e = ap (same k) e ∙ one_and_true (same k m) ∙ sym (ap (λ o. are_given (option_map (λ x. x ∷ []) o) (m ∷ [])) is)
+value_is-same v k l m is e = ap (same k) e ∙ sym (and-true (same k m)) ∙ sym (ap (λ o. are_given (option_map (λ x. x ∷ []) o) (m ∷ [])) is)

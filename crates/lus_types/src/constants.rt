@@ -1,47 +1,25 @@
 //! Constants: one with a declared type has that type.
 
-ghost use Rattle.std.specs.Prelude.{◌≡◌, IfErr, OnOk, false, map, true};
+ghost use Rattle.std.specs.Prelude.{◌≡◌, IfErr, OnOk, false, true};
 ghost use Rattle.std.specs.List.{list_all};
-ghost use Rattle.lus_syntax.specs.View.{constant_seen, literal_seen, tree_seen, type_name_seen};
+ghost use Rattle.lus_syntax.specs.View.{constant_seen, literal_seen, tree_seen};
 ghost use Rattle.lus_meaning.specs.Tables.{literal_value, tables};
-ghost use Rattle.lus_meaning.specs.Types.{value_kind};
+ghost use Rattle.lus_meaning.specs.Types.{value_kind as kind_of_value};
 ghost use Rattle.lus_meaning.specs.WellTyped.{constant_typed};
 ghost use Rattle.lus_meaning.specs.ScopeView.{Faulty, scope_of};
-ghost use Rattle.lus_tables.specs.ByTable.{kind_in};
 
-use lus_elaboration::same;
+use lus_elaboration::{same, value_kind};
 use lus_meaning::{Fault, Scope};
 use lus_program::Kind;
-use lus_syntax::{Constant, Literal, Place, Tree, TypeName};
-
-/// The type that a name means; bool for an unknown one.
-pub(crate) fn kind_named(scope: &Scope, name: &TypeName) -> Kind
-    ensures { result ≡ kind_in (scope_of scope.now).types (type_name_seen name.now) }
-{
-    match name {
-        TypeName::Bool(_) => Kind::Bool,
-        TypeName::Int(_) => Kind::Int,
-        TypeName::Declared(name) => match scope.kind(&name.text) {
-            Some(kind) => kind,
-            None => Kind::Bool,
-        },
-    }
-}
+use lus_syntax::{Constant, Literal, Place, Tree};
+use lus_tables::{kind_of_name, literal};
 
 /// The type of a literal's value; none for an unknown constructor.
-fn literal_kind(tree: &Tree, scope: &Scope, literal: &Literal) -> Option<Kind>
+fn literal_kind(tree: &Tree, scope: &Scope, source: &Literal) -> Option<Kind>
     requires { scope_of scope.now ≡ tables (tree_seen tree.now) }
-    ensures { result ≡ value_kind (literal_value (tree_seen tree.now) (literal_seen literal.now)) }
+    ensures { result ≡ kind_of_value (literal_value (tree_seen tree.now) (literal_seen source.now)) }
 {
-    match literal {
-        Literal::Number(_, _) => Some(Kind::Int),
-        Literal::Negative(_, _, _) => Some(Kind::Int),
-        Literal::Truth(_, _) => Some(Kind::Bool),
-        Literal::Constructor(name) => match scope.constructor(&name.text) {
-            Some(found) => Some(Kind::Enum(found.enumeration)),
-            None => None,
-        },
-    }
+    value_kind(&literal(&scope.constructors, source))
 }
 
 /// The place of a literal's first token.
@@ -63,7 +41,7 @@ fn is_typed(tree: &Tree, scope: &Scope, constant: &Constant) -> bool
         return true;
     };
     match literal_kind(tree, scope, &constant.value) {
-        Some(kind) => same(kind, kind_named(scope, name)),
+        Some(kind) => same(kind, kind_of_name(&scope.types, name)),
         None => false,
     }
 }

@@ -11,24 +11,15 @@ ghost use Rattle.lus_meaning.specs.WellTyped.{NodeTyped, equation_typed, is_pure
 ghost use Rattle.lus_meaning.specs.ScopeView.{scope_of, Faulty};
 ghost use Rattle.lus_types.specs.GroupVariables.{variables_in};
 
-use crate::constants::kind_named;
-use lus_elaboration::{equation, memory, test_placed};
+use lus_elaboration::{clock_variable, equation, memory, test_placed};
 use lus_meaning::{Fault, Scope};
 use lus_program::{Equation, Node, Test, Variable};
 use lus_syntax::{
     Equation as SourceEquation, Group, Node as SourceNode, NodeKind, Place, Test as SourceTest,
     Tree,
 };
+use lus_tables::kind_of_name;
 use std::alloc::Global;
-
-/// The place of a test's variable.
-fn test_place(test: &SourceTest) -> Place {
-    match test {
-        SourceTest::Holds(variable) => variable.span.start,
-        SourceTest::Fails(_, variable) => variable.span.start,
-        SourceTest::Is(_, variable) => variable.span.start,
-    }
-}
 
 /// The test of a group of variables, where it has one.
 fn group_test(scope: &Scope, test: &Option<SourceTest>) -> Result<Option<Test>, Fault>
@@ -40,7 +31,7 @@ fn group_test(scope: &Scope, test: &Option<SourceTest>) -> Result<Option<Test>, 
         None => Ok(None),
         Some(test) => match test_placed(scope, test) {
             Some(found) => Ok(Some(found)),
-            None => Err(Fault::At(test_place(test))),
+            None => Err(Fault::At(clock_variable(test).span.start)),
         },
     }
 }
@@ -52,7 +43,7 @@ fn push_group(scope: &Scope, group: &Group, variables: &mut Vec<Variable>) -> Re
     ensures refused { IfErr result (Faulty (test_typed (scope_of scope.now) (group_seen group.now).test ≡ false)) }
 {
     let test = group_test(scope, &group.test)?;
-    let kind = kind_named(scope, &group.type_name);
+    let kind = kind_of_name(&scope.types, &group.type_name);
     for name in &group.names {
         variables.push(Variable {
             name: name.text.clone()?,

@@ -10,6 +10,6 @@ pub returns-in-Some-literal_kind : goal.returns-in-Some-literal_kind
 returns-in-Some-literal_kind c =
     let p = tree_seen c.args.tree.now in
     let y = type_name_seen c.in-Some.name in
-    let declared : c.kind_named.result ≡ kind_named p y = c.kind_named.ensures ∙ ap (λ s. kind_in s.types y) c.requires ∙ ap (λ kind. kind y) (kind_in-tables p) in
-    let same = c.same.ensures ∙ value_is-same (literal_value p (literal_seen c.args.constant.now.value)) c.in-Some-literal_kind.kind c.kind_named.result (kind_named p y) (sym c.in-Some-literal_kind.ensures) declared in
+    let declared : c.kind_of_name.result ≡ kind_named p y = c.kind_of_name.ensures ∙ ap (λ s. kind_in s.types y) c.requires ∙ ap (λ kind. kind y) (kind_in-tables p) in
+    let same = c.same.ensures ∙ value_is-same (literal_value p (literal_seen c.args.constant.now.value)) c.in-Some-literal_kind.kind c.kind_of_name.result (kind_named p y) (sym c.in-Some-literal_kind.ensures) declared in
     rw c.in-Some.is same

@@ -3,7 +3,7 @@ use Rattle.std.specs.Prelude.{string_bytes}
 use Rattle.lus_syntax.specs.View.{node_seen, tree_seen}
 use Rattle.lus_program.specs.declared.node.Node.{Node}
 use Rattle.lus_meaning.specs.ScopeView.{scope_of}
-use Rattle.lus_types.proofs.Faults.{faulty_by}
+use Rattle.lus_meaning.proofs.Faults.{faulty_by}
 use Rattle.lus_types.proofs.NodesMeant.{node_is, tests_fail}
 use Rattle.lus_types.proofs.nodes.node.Goals as goal
 

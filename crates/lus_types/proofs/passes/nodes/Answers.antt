@@ -11,7 +11,7 @@ use Rattle.lus_meaning.specs.Named.{NodeNamed, known}
 use Rattle.lus_meaning.specs.WellTyped.{NodeTyped}
 use Rattle.lus_meaning.specs.ScopeView.{Faulty}
 use Rattle.lus_values.proofs.Lists.{each_seen}
-use Rattle.lus_types.proofs.Faults.{faulty_by}
+use Rattle.lus_meaning.proofs.Faults.{faulty_by}
 use Rattle.lus_types.proofs.passes.nodes.Goals as goal
 
 pub enter-requires-clause-distinct : goal.enter-requires-clause-distinct
