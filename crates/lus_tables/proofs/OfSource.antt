@@ -1,10 +1,10 @@
 -- The tables that the code makes are those of the source.
-use Rattle.std.proofs.Common.{arith, ◌≡◌, ◌∙◌, refl, sym, ap, subst, ℕ, suc, ◌+◌, ◌≤◌, ◌&&◌, List, [], ◌∷◌, Option, Some, None, Bool, true, false, cond, IsTrue, map, length, length-append, option_map}
+use Rattle.std.proofs.Common.{arith, ◌≡◌, ◌∙◌, refl, sym, ap, subst, ℕ, suc, ◌+◌, ◌≤◌, ◌&&◌, List, [], ◌∷◌, Option, Some, None, Bool, true, false, cond, IsTrue, map, length, sum_by, option_map}
 use Rattle.std.specs.List.{list_all}
 use Rattle.std.specs.Str.{bytes_eq}
 use Rattle.std.proofs.lemmas.Bool.{le-leb}
 use Rattle.std.proofs.lemmas.List.{length-map}
-use Rattle.std.proofs.lemmas.List.Sums.{sum_by-cons}
+use Rattle.std.proofs.lemmas.List.Concat.{length-flat_map}
 use Rattle.lus_syntax.specs.Lexemes.{Text}
 use Rattle.lus_syntax.specs.Trees.{TypeName, BoolName, IntName, DeclaredName, Fields, Definition, Alias, Enumeration, StructureOf, TypeDeclaration, Node, Literal, Positive, Negative, TruthValue, ConstructorName, Tree}
 use Rattle.lus_values.specs.Lists.{Below, Each, item}
@@ -12,7 +12,7 @@ use Rattle.lus_values.proofs.Lists.{below_at}
 use Rattle.lus_values.specs.Values.{Value}
 use Rattle.lus_program.specs.declared.types.Kind.{Kind}
 use Rattle.lus_program.specs.declared.types.Kind.TheVariants as kinds
-use Rattle.lus_program.specs.Programs.{Declared}
+use Rattle.lus_program.specs.Programs.{Declared, Field}
 use Rattle.lus_meaning.specs.declared.entries.Placed.{Placed}
 use Rattle.lus_meaning.specs.Scopes.{Scope, entry}
 use Rattle.lus_meaning.specs.Sized.{DefinitionCounted, field_count}
@@ -94,11 +94,7 @@ made_of_source p ks s are made =
 
 module _ (kind : TypeName → Kind) where
   length-fields_by : (fs : List Fields) → length (fields_by kind fs) ≡ field_count fs
-  length-fields_by [] = refl
-  length-fields_by (g ∷ fs) =
-      length-append (fields_of_kind g.names (kind g.type_name)) (fields_by kind fs)
-      ∙ ap (λ n. n + length (fields_by kind fs)) (length-map g.names (λ n. record { name = n.text; kind = kind g.type_name }))
-      ∙ ap (λ n. length g.names + n) (length-fields_by fs) ∙ sym (sum_by-cons (λ h. length h.names) g fs)
+  length-fields_by fs = length-flat_map (λ g. fields_of_kind g.names (kind g.type_name)) fs ∙ ap (λ size. sum_by size fs) (λ i g. length-map {B = Field} g.names (λ n. record { name = n.text; kind = kind g.type_name }) i)
 
   has_few : (d : Definition) → DefinitionCounted d → IsTrue (has_few_fields (declared_by kind d))
   has_few (Alias y) few = refl
