@@ -1,0 +1,28 @@
+-- Arguments that are names stay: so the clocks of formals stay.
+use Rattle.std.proofs.Common.{◌≡◌, ℕ, zero, suc, [], ◌∷◌, ◌++◌, refl, ap, ◌∙◌}
+use Rattle.lus_program.specs.Programs.{Expression, variable, Operands, none, more, Node}
+use Rattle.lus_values.specs.Lists.{Each}
+use Rattle.lus_streams.specs.Clocks.{Clock, clock_of, operand, renamed_clock, renamed_test, formal_clock}
+use Rattle.lus_streams.specs.OnClock.{IsName}
+
+-- as many operands, the names among them the same
+abbrev pub KeepsNames : Operands → Operands → Type 0
+KeepsNames none es' = es' ≡ none
+KeepsNames (more e es) es' = (e' : Expression) × (rest : Operands) × (es' ≡ more e' rest) × ((x : ℕ) → e ≡ variable x → e' ≡ variable x) × KeepsNames es rest
+
+name_stays : (es es' : Operands) → KeepsNames es es' → (n x : ℕ) → operand es n ≡ variable x → operand es' n ≡ variable x
+name_stays none es' h n x e = cc
+name_stays (more a es) es' h zero x e = ap (λ z. operand z zero) h.2 ∙ h.3 x e
+name_stays (more a es) es' h (suc n) x e = ap (λ z. operand z (suc n)) h.2 ∙ name_stays es h.1 h.4 n x e
+
+one_stays : (e e' : Expression) (c : ℕ) (k k' : Clock) → IsName e → ((x : ℕ) → e ≡ variable x → e' ≡ variable x) → k' ≡ k → renamed_test e' c k' ≡ renamed_test e c k
+one_stays (variable x) e' c k k' is h ek = ap (λ z. renamed_test z c k') (h x refl) ∙ ap (λ z. record { variable = x; constructor = c } ∷ z) ek
+one_stays _ e' c k k' is h ek = absurd is
+
+renamed_stays : (args args' : Operands) → KeepsNames args args' → (k : Clock) → Each (λ t. IsName (operand args t.variable)) k → renamed_clock args' k ≡ renamed_clock args k
+renamed_stays args args' h [] names = refl
+renamed_stays args args' h (t ∷ k) names =
+    one_stays (operand args t.variable) (operand args' t.variable) t.constructor (renamed_clock args k) (renamed_clock args' k) names.0 (name_stays args args' h t.variable) (renamed_stays args args' h k names.1)
+
+pub formal_stays : (g : Node) (args args' : Operands) → KeepsNames args args' → (base : Clock) (m : ℕ) → Each (λ t. IsName (operand args t.variable)) (clock_of g m) → formal_clock g args' base m ≡ formal_clock g args base m
+formal_stays g args args' h base m names = ap (λ z. z ++ base) (renamed_stays args args' h (clock_of g m) names)

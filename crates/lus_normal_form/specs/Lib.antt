@@ -1,0 +1,4 @@
+pub mod NormalForm
+pub mod Named
+pub mod NormalNodes
+pub mod Laws
