@@ -11,3 +11,7 @@ pub mod OneTest
 pub mod MoreParts
 pub mod MoreVariables
 pub mod Formals
+pub mod SitesNumbered
+pub mod FirstsDefined
+pub mod ResolvedNamed
+mod Examples

@@ -8,6 +8,7 @@ use Rattle.lus_streams.specs.Equations.{node_parts, Site, sites}
 use Rattle.lus_streams.specs.OnClock.{IsOnClocks, ProgramOnClocks}
 use Rattle.lus_streams.specs.Streams.{Instant, instant, Called, nobody, also, World, Satisfies, Streams}
 use Rattle.lus_streams.specs.Order.{HasOrder}
+use Rattle.lus_meaning.specs.Resolved.{Resolved}
 use Rattle.lus_normal_form.specs.Named.{AreNamed}
 use Rattle.lus_normal_form.specs.NormalNodes.{IsNormalNode, IsNormalOf, IsSimpleNode}
 
@@ -61,3 +62,7 @@ IsOnChain f (at k e) = IsChain f k
 -- one test suffices to declare a variable on the clock of any part
 abbrev pub OneTestSuffices : Type 0
 OneTestSuffices = (p : Program) → ProgramOnClocks p → Each (λ f. Each (IsOnChain f) (node_parts p f)) p.nodes
+
+-- what a normal form relies on holds of each resolved program on clocks
+abbrev pub ResolvedAreNamed : Type 0
+ResolvedAreNamed = (p : Program) → Resolved p → ProgramOnClocks p → AreNamed p

@@ -2,7 +2,7 @@
 //! it obeys.
 #![tactic(auto)]
 
-ghost use Rattle.lus_normal_form.specs.Laws.{NormalHasOrder, NormalIsSimple, NormalKeepsWorlds, OneTestSuffices};
+ghost use Rattle.lus_normal_form.specs.Laws.{NormalHasOrder, NormalIsSimple, NormalKeepsWorlds, OneTestSuffices, ResolvedAreNamed};
 
 /// A normal form has the worlds of its source and no others, new variables aside, called nodes included; and the same
 /// streams for each list of inputs.
@@ -24,4 +24,9 @@ pub fn normal_form_is_simple()
 /// In a program on clocks a variable with one test can be declared on the clock of any expression.
 pub fn one_test_suffices()
     ensures { OneTestSuffices }
+{}
+
+/// A resolved program on clocks meets what a normal form asks of its source.
+pub fn resolved_are_named()
+    ensures { ResolvedAreNamed }
 {}
