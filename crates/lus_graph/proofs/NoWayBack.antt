@@ -8,7 +8,7 @@ use Rattle.lus_graph.proofs.Steps.{no_item, one_item}
 
 module _ (uses : Uses) where
   -- what uses something is a thing
-  user_within : (x y : ℕ) → Contains (used uses x) y → x < length uses
+  pub user_within : (x y : ℕ) → Contains (used uses x) y → x < length uses
   user_within x y among = ⊎_elim (λ lt. lt) (λ le. let none : used uses x ≡ [] = get_or_past uses x [] le in let f : Contains [] y = rw none at among in elim (no_item f.0 f.1) [ ]) (cases_lt x (length uses))
 
   leader_within : (x y : ℕ) → Leads uses x y → x < length uses

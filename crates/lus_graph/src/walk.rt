@@ -1,8 +1,8 @@
 //! The walk along uses, depth first.
 
-ghost use Rattle.std.specs.Prelude.{◌≡◌, ◌≢◌, ℕ, ◌+◌, ◌<◌, ◌≤◌, List, [], ◌∷◌, ◌++◌, length, drop, map, IfOk, IfErr, OnOk, IsTrue, Contains, vec_len};
+ghost use Rattle.std.specs.Prelude.{◌≡◌, ℕ, ◌<◌, ◌≤◌, length, drop, IfOk, IfErr, OnOk, Contains};
 ghost use Rattle.lus_values.specs.Lists.{item};
-ghost use Rattle.lus_graph.specs.Ways.{IsOrder, IsCycle};
+ghost use Rattle.lus_graph.specs.Ways.{IsOrder};
 ghost use Rattle.lus_graph.specs.Walks.{uses_of, IsSound, IsCycleError, IsReached, IsTurned, new_count, mark_at};
 ghost use Rattle.lus_graph.specs.declared.walk.Mark.TheVariants as marks;
 ghost use Rattle.lus_graph.specs.declared.walk.GraphError.TheVariants as errors;
