@@ -1,5 +1,5 @@
 -- The tree of a source as plain data, in the grammar's order and words.
-use Rattle.std.specs.Prelude.{ℕ, ℤ, Bool, List, [], ◌∷◌, Option}
+use Rattle.std.specs.Prelude.{ℤ, Bool, List, [], ◌∷◌, Option}
 use Rattle.lus_syntax.specs.declared.token.Span.{Span}
 use Rattle.lus_syntax.specs.declared.tree.Prefix.{Prefix}
 use Rattle.lus_syntax.specs.declared.tree.Infix.{Infix}

@@ -1,6 +1,6 @@
 //! A source's tokens, from left to right.
 
-ghost use Rattle.std.specs.Prelude.{◌≡◌, ◌≢◌, ◌<◌, [], List, ℕ, length, MatchResult, IfOk, IfErr};
+ghost use Rattle.std.specs.Prelude.{◌≡◌, ◌≢◌, ◌<◌, [], List, length, MatchResult, IfOk, IfErr};
 ghost use Rattle.std.specs.List.{AllByRecursion};
 ghost use Rattle.lus_syntax.specs.declared.refusal.RefusalNumber.{RefusalNumber};
 ghost use Rattle.lus_syntax.specs.declared.token.Place.{Place};
