@@ -1,21 +1,20 @@
 -- Declarations that are spelled are read, if no right side is too deep.
-use Rattle.std.proofs.Common.{◌≡◌, ℕ, zero, suc, ◌+◌, ◌<◌, ◌≤◌, max, Bool, true, false, cond, leb, length, List, [], ◌∷◌, ◌++◌, Option, Some, None, Result, Ok, Err, refl, sym, ap, subst, ◌∙◌, append_assoc, length-append, arith, inl, inr}
+use Rattle.std.proofs.Common.{◌≡◌, ℕ, zero, suc, ◌<◌, max, Bool, true, false, cond, leb, length, List, [], ◌∷◌, ◌++◌, Option, Some, None, Result, Ok, Err, refl, sym, ap, ◌∙◌, append_assoc, length-append, arith, inl, inr}
 use Rattle.std.proofs.lemmas.Bool.{le-leb, lt-leb, cases_lt}
 use Rattle.std.proofs.lemmas.List.{append-nil}
 use Rattle.std.proofs.Math.Nat.{max-le, le-max_left, le-max_right}
 use Rattle.lus_syntax.specs.declared.token.Span.{Span}
-use Rattle.lus_syntax.specs.declared.token.Symbol.{Symbol}
 use Rattle.lus_syntax.specs.declared.token.Symbol.TheVariants as symbols
 use Rattle.lus_syntax.specs.declared.token.Word.TheVariants as words
 use Rattle.lus_syntax.specs.declared.tree.NodeKind.{NodeKind}
 use Rattle.lus_syntax.specs.declared.tree.NodeKind.TheVariants as kinds
-use Rattle.lus_syntax.specs.Lexemes.{Kind, Identifier, Number, Sign, Keyword, Lexeme, tok}
-use Rattle.lus_syntax.specs.Trees.{Named, named, Test, TypeName, BoolName, IntName, DeclaredName, Fields, Definition, Alias, Enumeration, StructureOf, TypeDeclaration, Literal, Positive, Negative, TruthValue, ConstructorName, Constant, Group, Equation, Expression, Node, Tree}
-use Rattle.lus_spelling.specs.Expressions.{ident, Whole, Spells, SpellsTest, depth}
-use Rattle.lus_spelling.specs.Lists.{Mark, mark, Nothing, nothing, Optional, absent, present, Repeated, none, again, Listed, listed}
-use Rattle.lus_spelling.specs.Declarations.{SpellsName, name, SpellsNames, type_token, SpellsFields, fields, SpellsDefinition, alias, enumeration, structure, SpellsType, type_declaration, SpellsTypes, types, literal, SpellsTypeOf, untyped, typed, SpellsConstant, constant, SpellsConstants, constants, SpellsClock, always, sampled, SpellsGroup, group, SpellsVariables, variables, SpellsInputs, no_inputs, inputs, SpellsOutputs, outputs, SpellsLocal, local, SpellsLocals, no_locals, locals, SpellsLeft, left, left_in, SpellsEquation, equation, SpellsEnd, unmarked, semicolon, dot, SpellsBody, body, kind_word, SpellsNode, node, tree, SpellsProgram, empty, with_types, with_constants, with_node, greatest_by, equation_depth, node_depth, tree_depth}
-use Rattle.lus_spelling.specs.Reading.{Fault, Syntax, Deep, Found, found, ◌>>=◌, front, expect, identifier_at, test_at, read}
-use Rattle.lus_spelling.specs.ReadingDeclarations.{Reads, repeat_on, repeat_at, push_at, others_at, several_at, rest_of, after, not_last, further_on, further, begins_named, at_name, begins_equation, at_equation, at_token, skipped, skip, names_at, type_name_on, type_name_at, fields_at, enumeration_at, structure_at, brace_or, struct_or, enum_or, definition_at, type_at, negative_on, negative_at, literal_on, literal_at, type_of_on, type_of_at, constant_at, clock_on, clock_at, group_at, variables_at, inputs_on, inputs_at, outputs_at, local_at, locals_at, left_on, left_at, ended_on, ended, equation_at, body_at, node_at, add_node, declaration_on, declaration_at, program_at}
+use Rattle.lus_syntax.specs.Lexemes.{Sign, Keyword, Lexeme, tok}
+use Rattle.lus_syntax.specs.Trees.{Named, Test, TypeName, BoolName, IntName, DeclaredName, Fields, Definition, Alias, Enumeration, StructureOf, TypeDeclaration, Literal, Positive, Negative, TruthValue, ConstructorName, Constant, Group, Equation, Node, Tree}
+use Rattle.lus_spelling.specs.Expressions.{ident, depth}
+use Rattle.lus_spelling.specs.Lists.{Mark, mark, Nothing, nothing, Optional, absent, present, Repeated, Listed, listed}
+use Rattle.lus_spelling.specs.Declarations.{SpellsName, name, SpellsNames, type_token, SpellsFields, fields, SpellsDefinition, alias, enumeration, structure, SpellsType, type_declaration, types, literal, SpellsTypeOf, untyped, typed, SpellsConstant, constant, constants, SpellsClock, always, sampled, SpellsGroup, group, SpellsVariables, variables, SpellsInputs, no_inputs, inputs, SpellsOutputs, outputs, SpellsLocal, local, SpellsLocals, no_locals, locals, SpellsLeft, left, left_in, SpellsEquation, equation, SpellsEnd, unmarked, semicolon, dot, SpellsBody, body, kind_word, SpellsNode, node, tree, SpellsProgram, empty, with_types, with_constants, with_node, greatest_by, equation_depth, node_depth, tree_depth}
+use Rattle.lus_spelling.specs.Reading.{Fault, Deep, ◌>>=◌, front, identifier_at}
+use Rattle.lus_spelling.specs.ReadingDeclarations.{Reads, repeat_at, others_at, several_at, after, further, at_name, at_equation, at_token, skipped, skip, names_at, type_name_at, fields_at, enumeration_at, structure_at, definition_at, type_at, negative_at, literal_at, type_of_on, type_of_at, constant_at, clock_on, clock_at, group_at, variables_at, inputs_at, outputs_at, local_at, locals_at, left_at, ended, equation_at, body_at, node_at, add_node, declaration_at, program_at}
 use Rattle.lus_spelling.proofs.Complete.{weight, no_light, test_again, complete}
 use Rattle.lus_spelling.proofs.Repeats.{same_result, every, every_true, repeat_complete, several_complete}
 

@@ -1,8 +1,8 @@
 -- Lists that are read are spelled so, and the other way round.
-use Rattle.std.proofs.Common.{◌≡◌, ℕ, zero, suc, ◌+◌, ◌<◌, ◌≤◌, Bool, true, false, cond, length, List, [], ◌∷◌, ◌++◌, Option, Some, None, Result, Ok, Err, refl, sym, ap, subst, ◌∙◌, append_assoc, length-append, arith}
+use Rattle.std.proofs.Common.{◌≡◌, ℕ, zero, suc, ◌<◌, Bool, true, false, cond, length, List, [], ◌∷◌, ◌++◌, Option, Some, None, Result, Ok, Err, refl, sym, ap, subst, ◌∙◌, append_assoc, length-append, arith}
 use Rattle.std.proofs.lemmas.List.{append-nil}
 use Rattle.lus_syntax.specs.Lexemes.{Lexeme}
-use Rattle.lus_spelling.specs.Reading.{Fault, Syntax, Deep, ◌>>=◌}
+use Rattle.lus_spelling.specs.Reading.{Fault, Deep, ◌>>=◌}
 use Rattle.lus_spelling.specs.ReadingDeclarations.{Reads, repeat_on, repeat_at, push_at, others_at, several_at}
 use Rattle.lus_spelling.specs.Lists.{Repeated, none, again, Listed, listed}
 use Rattle.lus_spelling.proofs.Sound.{bind_ok}

@@ -1,5 +1,5 @@
 -- What is read is spelled so.
-use Rattle.std.proofs.Common.{◌≡◌, ℕ, zero, suc, ◌+◌, ◌<◌, ◌≤◌, max, Bool, true, false, cond, ltb, eqb, length, List, [], ◌∷◌, ◌++◌, Option, Some, None, Result, Ok, Err, refl, sym, ap, subst, ◌∙◌, append_assoc, arith}
+use Rattle.std.proofs.Common.{◌≡◌, ℕ, zero, suc, ◌+◌, ◌≤◌, max, Bool, true, false, cond, ltb, eqb, length, List, [], ◌∷◌, ◌++◌, Option, Some, None, Result, Ok, Err, refl, sym, ap, subst, ◌∙◌, append_assoc, arith}
 use Rattle.std.proofs.lemmas.Bool.{eqb-true, ltb-false}
 use Rattle.std.proofs.Math.Nat.{max-le, le-max_left, le-max_right}
 use Rattle.lus_syntax.specs.declared.token.Span.{Span}
@@ -13,7 +13,7 @@ use Rattle.lus_syntax.specs.declared.tree.Prefix.{Prefix}
 use Rattle.lus_spelling.specs.declared.form.Form.{Form}
 use Rattle.lus_spelling.specs.declared.form.Form.TheVariants as forms
 use Rattle.lus_syntax.specs.Lexemes.{Kind, Identifier, Number, Sign, Keyword, Lexeme, tok}
-use Rattle.lus_syntax.specs.Trees.{Named, named, Label, Constructor, Boolean, Test, Holds, Fails, Is, Lead, Plain, Of, Branch, Expression, Numeral, Truth, Name, Call, Structure, Merge, Field, Parentheses, When, Unary, Binary, If, Parts, End, More, parts_of}
+use Rattle.lus_syntax.specs.Trees.{Named, named, Label, Constructor, Boolean, Test, Holds, Fails, Is, Lead, Plain, Of, Branch, Expression, Numeral, Truth, Name, Call, Structure, Merge, Field, Parentheses, When, Unary, Binary, If, Parts, End, parts_of}
 use Rattle.lus_spelling.specs.Expressions.{ident, label, depth, deepest, Level, Whole, Arrow, Else, Choice, Implication, Disjunction, Conjunction, Negation, Negated, Comparison, Sum, Term, Signed, Primary, Dotted, Atom, infix_of, may_join, prefix_of, Joins, implication, disjunction, conjunction, comparison, sum, term, Heads, negation, negated, signed, Spells, SpellsAll, SpellsPart, SpellsTest, Separates, Closes, holds, fails, fails_in, labelled, comma, semicolon, unparted, closed, braced, late, unclosed, number, truth, falsity, name, call_empty, call, structure, parentheses, undotted, dotted, primary, merge, prefixed, bare, first, next, choice, else_choice, else_value, arrow_choice, arrow_value, arrow, whole, fby, when, final, further, argument, init, branch}
 use Rattle.lus_spelling.specs.Reading.{Fault, Syntax, Deep, Found, found, Read, Reader, ◌>>=◌, place, word_place, is_lexeme, front, expected, expect, named_on, identifier_at, label_on, label_at, closed_name_at, denied, tested, test_on, test_at, after_argument, after_semicolon, after_init, after_branch, turn_at, Item, item, lead_on, lead_at, tail_at, part_at, Several, onward, parts_at, listed_at, after_open, parentheses_on, parentheses_at, truth_on, call_on, brace_on, name_on, name_at, atom_on, atom_at, no_dot, one_dot, dots_at, dotted_at, merge_on, primary_at, with_operand, prefix_at, prefixed_on, prefixed_at, join, two_on, allowed, infix_at, no_turn, one_turn, more_at, chain_at, branches_at, choice_on, choice_at, arrow_on, arrow_at, is_primary, when_on, fby_on, whole_at, refuse, read_atom, read_dotted, read_primary, read_signed, read_term, read_sum, read_comparison, read_negated, read_negation, read_conjunction, read_disjunction, read_implication, read_choice, read_else, read_arrow, read_whole, read}
 

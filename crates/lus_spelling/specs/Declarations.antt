@@ -1,13 +1,13 @@
 -- Which tokens spell which declaration: one constructor a rule, over the rule that it says.
 -- Lustre V6 reference manual, "Syntax".
-use Rattle.std.specs.Prelude.{◌≡◌, ℕ, max, Bool, true, false, List, [], ◌∷◌, ◌++◌, Option, Some, None}
+use Rattle.std.specs.Prelude.{ℕ, max, true, false, List, [], ◌∷◌, ◌++◌, Option, Some, None}
 use Rattle.lus_syntax.specs.declared.token.Span.{Span}
 use Rattle.lus_syntax.specs.declared.token.Symbol.TheVariants as symbols
 use Rattle.lus_syntax.specs.declared.token.Word.{Word}
 use Rattle.lus_syntax.specs.declared.token.Word.TheVariants as words
 use Rattle.lus_syntax.specs.declared.tree.NodeKind.{NodeKind}
 use Rattle.lus_syntax.specs.declared.tree.NodeKind.TheVariants as kinds
-use Rattle.lus_syntax.specs.Lexemes.{Kind, Number, Sign, Keyword, Lexeme, tok}
+use Rattle.lus_syntax.specs.Lexemes.{Number, Sign, Keyword, Lexeme, tok}
 use Rattle.lus_syntax.specs.Trees.{Named, Test, TypeName, BoolName, IntName, DeclaredName, Fields, Definition, Alias, Enumeration, StructureOf, TypeDeclaration, Literal, Positive, Negative, TruthValue, ConstructorName, Constant, Group, Equation, Expression, Node, Tree}
 use Rattle.lus_spelling.specs.Expressions.{ident, SpellsTest, Whole, Spells, depth}
 use Rattle.lus_spelling.specs.Lists.{Mark, Nothing, Optional, Repeated, Listed}

@@ -1,5 +1,5 @@
 -- Reading declarations from left to right, as expressions are read.
-use Rattle.std.specs.Prelude.{◌≡◌, ℕ, zero, suc, Bool, true, false, List, [], ◌∷◌, ◌++◌, Option, Some, None, Result, Ok, Err, length, ◌+◌, if◌then◌else◌}
+use Rattle.std.specs.Prelude.{ℕ, zero, suc, Bool, true, false, List, [], ◌∷◌, ◌++◌, Option, Some, None, Result, Ok, Err, length, if◌then◌else◌}
 use Rattle.lus_syntax.specs.declared.token.Span.{Span}
 use Rattle.lus_syntax.specs.declared.token.Symbol.{Symbol}
 use Rattle.lus_syntax.specs.declared.token.Symbol.TheVariants as symbols
@@ -9,7 +9,7 @@ use Rattle.lus_syntax.specs.declared.tree.NodeKind.TheVariants as kinds
 use Rattle.lus_syntax.specs.Lexemes.{Kind, Identifier, Number, Sign, Keyword, Lexeme}
 use Rattle.lus_syntax.specs.Trees.{Named, named, Test, TypeName, BoolName, IntName, DeclaredName, Fields, Definition, Alias, Enumeration, StructureOf, TypeDeclaration, Literal, Positive, Negative, TruthValue, ConstructorName, Constant, Group, Equation, Node, Tree}
 use Rattle.lus_spelling.specs.Expressions.{Whole}
-use Rattle.lus_spelling.specs.Reading.{Fault, Syntax, Found, ◌>>=◌, front, expect, identifier_at, test_at, read}
+use Rattle.lus_spelling.specs.Reading.{Fault, Syntax, ◌>>=◌, front, expect, identifier_at, test_at, read}
 use Rattle.lus_spelling.specs.Declarations.{tree}
 
 -- what is read, and the tokens after it
