@@ -1,11 +1,10 @@
 -- Reading parts one after the other, as a loop does.
-use Rattle.std.proofs.Common.{◌≡◌, ℕ, zero, suc, ◌+◌, ◌-◌, ◌<◌, ◌≤◌, max, Bool, true, false, List, [], ◌∷◌, ◌++◌, length, Option, Some, None, Result, Ok, Err, refl, sym, ap, ◌∙◌, arith, map, add-one, subst}
+use Rattle.std.proofs.Common.{◌≡◌, ℕ, suc, ◌+◌, ◌-◌, ◌<◌, ◌≤◌, max, true, false, List, [], ◌∷◌, ◌++◌, length, Ok, Err, refl, sym, ap, ◌∙◌, arith, add-one, subst}
 use Rattle.lus_grammar.specs.declared.fault.ParseError.{ParseError}
-use Rattle.lus_grammar.specs.declared.fault.ParseError.TheVariants as errors
 use Rattle.lus_spelling.specs.declared.form.Form.{Form}
 use Rattle.lus_syntax.specs.Lexemes.{Lexeme}
 use Rattle.lus_syntax.specs.Trees.{Expression, Lead, Parts, parts_of}
-use Rattle.lus_spelling.specs.Reading.{Fault, Syntax, Deep, Found, found, Read, Reader, Several, Item, item, ◌>>=◌, turn_at, part_at, parts_at, onward, listed_at}
+use Rattle.lus_spelling.specs.Reading.{Syntax, found, Reader, Several, Item, ◌>>=◌, turn_at, part_at, parts_at, onward, listed_at}
 use Rattle.lus_grammar.specs.Answers.{Fails}
 use Rattle.lus_syntax.specs.View.{tokens_seen}
 use Rattle.lus_syntax.specs.declared.token.Token.{Token}

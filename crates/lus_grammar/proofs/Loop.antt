@@ -1,5 +1,5 @@
 -- What is left to read in a loop over operands.
-use Rattle.std.proofs.Common.{◌≡◌, ℕ, zero, suc, ◌+◌, ◌<◌, ◌≤◌, List, Bool, true, false, cond, ltb, max, subst, add-one, Option, Some, None, Result, Ok, Err, refl, sym, ap, ◌∙◌, arith}
+use Rattle.std.proofs.Common.{◌≡◌, ℕ, zero, suc, ◌+◌, ◌<◌, ◌≤◌, List, max, subst, add-one, Some, None, Ok, Err, refl, sym, ◌∙◌, arith}
 use Rattle.std.proofs.lemmas.Bool.{lt-ltb, le-ltb}
 use Rattle.lus_grammar.specs.declared.operators.Chain.{Chain}
 use Rattle.lus_grammar.specs.declared.operators.Chain.TheVariants as chains

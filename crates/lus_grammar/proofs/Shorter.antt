@@ -1,20 +1,18 @@
 -- Each turn of a loop takes tokens.
-use Rattle.std.proofs.Common.{◌≡◌, ℕ, suc, ◌+◌, ◌<◌, ◌≤◌, List, [], ◌∷◌, ◌++◌, length, Option, Some, None, Result, Ok, Err, refl, sym, ap, subst, length-append, arith}
+use Rattle.std.proofs.Common.{◌≡◌, ℕ, suc, ◌<◌, ◌≤◌, List, [], ◌∷◌, ◌++◌, length, Some, Ok, refl, ap, subst, length-append, arith}
 use Rattle.lus_syntax.specs.declared.token.Span.{Span}
-use Rattle.lus_syntax.specs.declared.token.Symbol.{Symbol}
 use Rattle.lus_syntax.specs.declared.token.Symbol.TheVariants as symbols
 use Rattle.lus_syntax.specs.declared.token.Word.TheVariants as words
 use Rattle.lus_syntax.specs.declared.tree.NodeKind.{NodeKind}
 use Rattle.lus_syntax.specs.declared.tree.NodeKind.TheVariants as kinds
 use Rattle.lus_syntax.specs.Lexemes.{Kind, Sign, Keyword, Lexeme, tok}
 use Rattle.lus_syntax.specs.Trees.{Named, Fields, TypeDeclaration, Constant, Group, Equation, Node, Tree}
-use Rattle.lus_spelling.specs.Lists.{listed}
-use Rattle.lus_spelling.specs.Declarations.{name, SpellsFields, fields, SpellsType, SpellsConstant, SpellsGroup, group, SpellsLocal, kind_word, SpellsNode, tree}
-use Rattle.lus_spelling.specs.Reading.{identifier_at, ◌>>=◌}
-use Rattle.lus_spelling.specs.ReadingDeclarations.{Reads, several_at, after, further, at_name, at_equation, fields_at, type_at, constant_at, group_at, local_at, equation_at, node_at, add_node, declaration_on, declaration_at}
+use Rattle.lus_spelling.specs.Declarations.{SpellsFields, SpellsType, SpellsConstant, SpellsGroup, SpellsLocal, kind_word}
+use Rattle.lus_spelling.specs.Reading.{identifier_at}
+use Rattle.lus_spelling.specs.ReadingDeclarations.{several_at, after, further, at_name, fields_at, type_at, constant_at, group_at, local_at, equation_at, node_at, declaration_on, declaration_at}
 use Rattle.lus_spelling.proofs.Sound.{bind_ok}
-use Rattle.lus_spelling.proofs.Repeats.{same_result, Spelled, shorter, several_sound, AddedSome}
-use Rattle.lus_spelling.proofs.SoundDeclarations.{after_is, further_is, here_is, name_sound, fields_sound, type_sound, constant_sound, group_sound, local_sound, equation_sound, EquationWithin, node_sound, NodeWithin, named_next}
+use Rattle.lus_spelling.proofs.Repeats.{same_result, shorter, several_sound}
+use Rattle.lus_spelling.proofs.SoundDeclarations.{after_is, further_is, name_sound, fields_sound, type_sound, constant_sound, group_sound, local_sound, equation_sound, EquationWithin, node_sound, NodeWithin, named_next}
 use Rattle.lus_spelling.proofs.CompleteDeclarations.{name_long, fields_long, type_long, constant_long, group_long, local_long, equation_long, node_long}
 
 behind : (t : Lexeme) (ts r rest : List Lexeme) → ts ≡ t ∷ r → length rest < length r → length rest < length ts

@@ -1,5 +1,5 @@
 -- Steps of the parser.
-use Rattle.std.proofs.Common.{◌≡◌, ℕ, zero, suc, ◌+◌, ◌≤◌, max, List, [], ◌∷◌, Option, Some, None, Result, Ok, Err, refl, sym, ap, subst, ◌∙◌, add-one}
+use Rattle.std.proofs.Common.{◌≡◌, ℕ, suc, ◌+◌, ◌≤◌, List, [], Some, None, Result, Ok, Err, refl, ap, ◌∙◌, add-one}
 use Rattle.std.proofs.lemmas.Bool.{le-ltb}
 use Rattle.lus_syntax.specs.declared.token.Span.{Span}
 use Rattle.lus_syntax.specs.declared.token.Symbol.TheVariants as symbols
@@ -13,8 +13,8 @@ use Rattle.lus_grammar.specs.declared.operators.Head.TheVariants as heads
 use Rattle.lus_spelling.specs.declared.form.Form.TheVariants as forms
 use Rattle.lus_syntax.specs.Lexemes.{Lexeme, Sign, Keyword}
 use Rattle.lus_syntax.specs.Trees.{Named, Call, Structure, Merge, End, Expression, Unary}
-use Rattle.lus_spelling.specs.Expressions.{Primary, Level, Whole, Arrow, Else, Implication}
-use Rattle.lus_spelling.specs.Reading.{Fault, Syntax, Deep, Found, found, Read, Reader, ◌>>=◌, front, identifier_at, name_at, call_on, listed_at, primary_at, prefix_at, prefixed_on, prefixed_at, join, choice_at, arrow_at, read, read_arrow, read_implication, read_negation, read_negated, read_signed, read_comparison, read_primary}
+use Rattle.lus_spelling.specs.Expressions.{Primary, Level, Whole, Arrow, Implication}
+use Rattle.lus_spelling.specs.Reading.{Fault, Found, found, Read, Reader, ◌>>=◌, front, identifier_at, name_at, call_on, listed_at, primary_at, prefix_at, prefixed_on, prefixed_at, join, choice_at, arrow_at, read, read_arrow, read_negation, read_negated, read_signed, read_primary}
 use Rattle.lus_grammar.specs.Rules.{head_level, head_operand, head_other}
 use Rattle.lus_grammar.specs.Answers.{Fails, Lowers}
 

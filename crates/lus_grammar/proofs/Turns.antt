@@ -1,14 +1,9 @@
 -- Reading items one after the other, as a loop does.
-use Rattle.std.proofs.Common.{◌≡◌, ℕ, zero, suc, ◌+◌, ◌<◌, ◌≤◌, Bool, true, false, cond, map, List, [], ◌∷◌, ◌++◌, length, Option, Some, None, Result, Ok, Err, refl, sym, ap, subst, ◌∙◌, length-append, arith}
+use Rattle.std.proofs.Common.{◌≡◌, ℕ, zero, suc, ◌<◌, Bool, true, false, cond, map, List, [], ◌∷◌, ◌++◌, length, Option, Some, None, Ok, refl, sym, ap, subst, ◌∙◌, arith}
 use Rattle.lus_grammar.specs.declared.fault.ParseError.{ParseError}
-use Rattle.lus_grammar.specs.declared.fault.ParseError.TheVariants as errors
-use Rattle.lus_syntax.specs.declared.token.Span.{Span}
-use Rattle.lus_syntax.specs.declared.token.Symbol.{Symbol}
-use Rattle.lus_syntax.specs.declared.token.Symbol.TheVariants as symbols
-use Rattle.lus_syntax.specs.declared.token.Word.TheVariants as words
-use Rattle.lus_syntax.specs.Lexemes.{Kind, Sign, Keyword, Lexeme}
-use Rattle.lus_syntax.specs.Trees.{Named, Fields, TypeDeclaration, Constant, Group, Equation, Tree}
-use Rattle.lus_spelling.specs.Reading.{Fault, Syntax, Deep, ◌>>=◌}
+use Rattle.lus_syntax.specs.Lexemes.{Lexeme}
+use Rattle.lus_syntax.specs.Trees.{Tree}
+use Rattle.lus_spelling.specs.Reading.{◌>>=◌}
 use Rattle.std.proofs.lemmas.Bool.{eqb-true}
 use Rattle.std.proofs.lemmas.List.{map_push}
 use Rattle.lus_spelling.specs.ReadingDeclarations.{Reads, repeat_on, repeat_at, push_at, others_at, several_at, begins_named, at_name, begins_equation, at_equation, at_token, declaration_at, program_at}

@@ -1,6 +1,6 @@
 //! Declarations of constants.
 
-ghost use Rattle.std.specs.Prelude.{◌≡◌, map, option_map};
+ghost use Rattle.std.specs.Prelude.{map, option_map};
 ghost use Rattle.lus_syntax.specs.View.{tokens_seen, type_name_seen, literal_seen, constant_seen};
 ghost use Rattle.lus_grammar.specs.Answers.{Gives};
 ghost use Rattle.lus_spelling.specs.ReadingDeclarations.{several_at, at_name, negative_at, literal_at, type_of_at, constant_at};

@@ -1,9 +1,9 @@
 //! Expressions. The functions of the grammar's cycle stand together.
 
-ghost use Rattle.std.specs.Prelude.{◌≡◌, ◌<◌, ◌≤◌, ◌+◌, suc, [], map, length, List, option_map, IfOk};
+ghost use Rattle.std.specs.Prelude.{◌<◌, ◌≤◌, ◌+◌, suc, [], map, length, IfOk};
 ghost use Rattle.lus_syntax.specs.View.{tokens_seen, expression_seen, name_seen, lead_seen, part_seen};
 ghost use Rattle.lus_spelling.specs.Expressions.{Whole, Arrow, Else, Primary, Dotted, Atom};
-ghost use Rattle.lus_spelling.specs.Reading.{found, item, part_at, parts_at, name_at, dots_at, truth_on, parentheses_at, branches_at, is_primary, read};
+ghost use Rattle.lus_spelling.specs.Reading.{found, item, part_at, parts_at, name_at, parentheses_at, branches_at, read};
 ghost use Rattle.lus_grammar.specs.Rules.{level_of, operand_of, head_level, head_other};
 ghost use Rattle.lus_grammar.specs.Answers.{Gives, Lowers};
 

@@ -1,6 +1,6 @@
 //! Operators, and how they mix.
 
-ghost use Rattle.std.specs.Prelude.{◌≡◌, ◌<◌, ◌≤◌, ◌+◌, suc, [], map, length, List, option_map, IfOk};
+ghost use Rattle.std.specs.Prelude.{◌≡◌, option_map};
 ghost use Rattle.lus_syntax.specs.Lexemes.{Sign, Keyword};
 ghost use Rattle.lus_syntax.specs.View.{tokens_seen, expression_seen};
 ghost use Rattle.lus_spelling.specs.Expressions.{infix_of, mixing_of, mixes, may_join};

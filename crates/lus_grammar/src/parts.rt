@@ -1,6 +1,5 @@
 //! What stands between the parts of a call, a structure or a merge, and round their values.
 
-ghost use Rattle.std.specs.Prelude.{◌≡◌, ◌<◌, ◌≤◌, ◌+◌, suc, [], map, length, List, option_map, IfOk};
 ghost use Rattle.lus_syntax.specs.View.{tokens_seen, lead_seen};
 ghost use Rattle.lus_spelling.specs.Reading.{turn_at, lead_at, tail_at};
 ghost use Rattle.lus_grammar.specs.Answers.{Gives};

@@ -1,6 +1,6 @@
 //! Whole sources.
 
-ghost use Rattle.std.specs.Prelude.{◌≡◌, ◌≤◌, Ok, IfOk, IfErr, MatchResult};
+ghost use Rattle.std.specs.Prelude.{◌≡◌, ◌≤◌, IfOk, IfErr, MatchResult};
 ghost use Rattle.lus_syntax.specs.declared.refusal.RefusalNumber.TheVariants.{Memory};
 ghost use Rattle.lus_syntax.specs.Trees.{Tree as PlainTree};
 ghost use Rattle.lus_syntax.specs.View.{tokens_seen, tree_seen};

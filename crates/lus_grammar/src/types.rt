@@ -1,6 +1,6 @@
 //! Names, and declarations of types.
 
-ghost use Rattle.std.specs.Prelude.{◌≡◌, [], map, option_map};
+ghost use Rattle.std.specs.Prelude.{[], map};
 ghost use Rattle.lus_syntax.specs.declared.token.Symbol.TheVariants.{CloseBrace};
 ghost use Rattle.lus_syntax.specs.View.{tokens_seen, names_seen, type_name_seen, fields_seen, definition_seen, type_seen};
 ghost use Rattle.lus_grammar.specs.Answers.{Gives};

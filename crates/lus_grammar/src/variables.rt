@@ -1,6 +1,6 @@
 //! Declarations of variables.
 
-ghost use Rattle.std.specs.Prelude.{◌≡◌, [], map, option_map};
+ghost use Rattle.std.specs.Prelude.{[], map, option_map};
 ghost use Rattle.lus_syntax.specs.declared.token.Symbol.TheVariants.{Close};
 ghost use Rattle.lus_syntax.specs.View.{tokens_seen, test_seen, group_seen};
 ghost use Rattle.lus_grammar.specs.Answers.{Gives};

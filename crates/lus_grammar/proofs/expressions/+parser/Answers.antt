@@ -1,4 +1,4 @@
-use Rattle.std.proofs.Common.{◌≡◌, suc, ◌+◌, sym, ap, ◌∙◌, refl, arith}
+use Rattle.std.proofs.Common.{◌+◌, sym, ap, ◌∙◌, arith}
 use Rattle.std.proofs.lemmas.Result.{err_from_is_err_and}
 use Rattle.lus_spelling.specs.Reading.{found, read}
 use Rattle.lus_syntax.specs.View.{tokens_seen, expression_seen}
@@ -10,8 +10,7 @@ use Rattle.std.proofs.lemmas.List.{map_push}
 use Rattle.lus_spelling.specs.declared.form.Form.TheVariants as forms
 use Rattle.lus_syntax.specs.Trees.{Call, Structure, Merge, parts_of}
 use Rattle.lus_spelling.specs.Expressions.{Whole}
-use Rattle.lus_syntax.specs.View.{name_seen, lead_seen, part_seen}
-use Rattle.lus_spelling.specs.Reading.{item}
+use Rattle.lus_syntax.specs.View.{name_seen, part_seen}
 use Rattle.lus_syntax.proofs.TreeViews.{seen_call, seen_structure, seen_merge}
 use Rattle.lus_grammar.proofs.Items.{part_fails, turn_fails, all_read, goes_on as goes_on_parts, runs_out, listed_fails, listed_ok, seen_length}
 use Rattle.lus_grammar.proofs.Steps.{call_none, call_some, brace_some, primary_merge}

@@ -1,4 +1,4 @@
-use Rattle.std.proofs.Common.{◌≡◌, suc, ℕ, ◌+◌, ◌-◌, ◌*◌, ◌<◌, ◌≤◌}
+use Rattle.std.proofs.Common.{◌≡◌, suc, ℕ, ◌+◌, ◌-◌, ◌*◌, ◌≤◌}
 use Rattle.lus_grammar.specs.declared.operators.Chain.{Chain}
 use Rattle.lus_grammar.specs.declared.operators.Chain.TheVariants as chains
 use Rattle.lus_grammar.specs.declared.operators.Head.{Head}

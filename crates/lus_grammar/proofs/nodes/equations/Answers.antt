@@ -1,4 +1,4 @@
-use Rattle.std.proofs.Common.{◌≡◌, [], map, ap}
+use Rattle.std.proofs.Common.{[], map, ap}
 use Rattle.std.proofs.lemmas.Result.{err_from_is_err_and}
 use Rattle.lus_syntax.specs.View.{tokens_seen, equation_seen}
 use Rattle.lus_spelling.specs.ReadingDeclarations.{at_equation, push_at, equation_at}

@@ -2,7 +2,6 @@ use Rattle.std.proofs.Common.{length, map, []}
 use Rattle.lus_syntax.specs.View.{tokens_seen, equation_seen}
 use Rattle.lus_spelling.specs.ReadingDeclarations.{at_equation, others_at, equation_at}
 use Rattle.lus_grammar.proofs.Turns.{Pushing}
-use Rattle.lus_grammar.proofs.Shorter.{equation_shorter}
 use Rattle.lus_grammar.proofs.nodes.equations.Given as goal
 
 abbrev pub invariant-loop-alloc : goal.invariant-loop-alloc

@@ -3,7 +3,6 @@ use Rattle.lus_syntax.specs.View.{tokens_seen, tree_seen}
 use Rattle.lus_spelling.specs.Declarations.{tree}
 use Rattle.lus_spelling.specs.ReadingDeclarations.{at_token, repeat_at, declaration_at}
 use Rattle.lus_grammar.proofs.Turns.{Going}
-use Rattle.lus_grammar.proofs.Shorter.{declaration_shorter}
 use Rattle.lus_grammar.proofs.program.program.Given as goal
 
 abbrev pub invariant-loop-rest : goal.invariant-loop-rest

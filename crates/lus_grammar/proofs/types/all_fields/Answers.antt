@@ -1,10 +1,8 @@
-use Rattle.std.proofs.Common.{◌≡◌, [], sym, ap, ◌∙◌}
+use Rattle.std.proofs.Common.{[], sym}
 use Rattle.std.proofs.lemmas.Result.{err_from_is_err_and}
 use Rattle.lus_syntax.specs.declared.token.Symbol.TheVariants as symbols
-use Rattle.lus_syntax.specs.Lexemes.{Sign}
 use Rattle.lus_syntax.specs.View.{tokens_seen, fields_seen}
-use Rattle.lus_spelling.specs.Reading.{identifier_at}
-use Rattle.lus_spelling.specs.ReadingDeclarations.{after, further, rest_of, push_at, fields_at, group_at}
+use Rattle.lus_spelling.specs.ReadingDeclarations.{further, push_at, fields_at}
 use Rattle.lus_grammar.proofs.Turns.{first_fails, first_read, item_fails, item_read, ended, seen_push, seen_first}
 use Rattle.lus_grammar.proofs.Shorter.{fields_shorter}
 use Rattle.lus_grammar.proofs.types.all_fields.Goals as goal

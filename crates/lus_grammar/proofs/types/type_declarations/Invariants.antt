@@ -2,7 +2,6 @@ use Rattle.std.proofs.Common.{length, map}
 use Rattle.lus_syntax.specs.View.{tokens_seen, type_seen}
 use Rattle.lus_spelling.specs.ReadingDeclarations.{at_name, several_at, type_at}
 use Rattle.lus_grammar.proofs.Turns.{Pushing}
-use Rattle.lus_grammar.proofs.Shorter.{type_shorter}
 use Rattle.lus_grammar.proofs.types.type_declarations.Given as goal
 
 abbrev pub invariant-loop-alloc : goal.invariant-loop-alloc

@@ -1,11 +1,8 @@
 use Rattle.std.proofs.Common.{length, map, []}
 use Rattle.lus_syntax.specs.declared.token.Symbol.TheVariants as symbols
-use Rattle.lus_syntax.specs.Lexemes.{Sign}
 use Rattle.lus_syntax.specs.View.{tokens_seen, group_seen}
-use Rattle.lus_spelling.specs.Reading.{identifier_at}
-use Rattle.lus_spelling.specs.ReadingDeclarations.{after, further, several_at, fields_at, group_at}
+use Rattle.lus_spelling.specs.ReadingDeclarations.{further, several_at, group_at}
 use Rattle.lus_grammar.proofs.Turns.{Pushing}
-use Rattle.lus_grammar.proofs.Shorter.{group_shorter}
 use Rattle.lus_grammar.proofs.variables.groups.Given as goal
 
 abbrev pub invariant-loop-after : goal.invariant-loop-after

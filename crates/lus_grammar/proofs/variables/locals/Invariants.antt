@@ -4,7 +4,6 @@ use Rattle.lus_syntax.specs.Lexemes.{Keyword}
 use Rattle.lus_syntax.specs.View.{tokens_seen, group_seen}
 use Rattle.lus_spelling.specs.ReadingDeclarations.{after, at_name, several_at, local_at, locals_at}
 use Rattle.lus_grammar.proofs.Turns.{Going}
-use Rattle.lus_grammar.proofs.Shorter.{section_shorter}
 use Rattle.lus_grammar.proofs.variables.locals.Given as goal
 
 abbrev pub invariant-loop-after : goal.invariant-loop-after

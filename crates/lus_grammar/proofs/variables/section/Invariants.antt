@@ -2,7 +2,6 @@ use Rattle.std.proofs.Common.{length, map}
 use Rattle.lus_syntax.specs.View.{tokens_seen, group_seen}
 use Rattle.lus_spelling.specs.ReadingDeclarations.{at_name, several_at, local_at}
 use Rattle.lus_grammar.proofs.Turns.{Pushing}
-use Rattle.lus_grammar.proofs.Shorter.{local_shorter}
 use Rattle.lus_grammar.proofs.variables.section.Given as goal
 
 abbrev pub invariant-loop-alloc : goal.invariant-loop-alloc
