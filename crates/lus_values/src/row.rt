@@ -1,8 +1,7 @@
 //! Rows: the entries of several variables at one instant.
 
-ghost use Rattle.std.specs.Prelude.{◌≡◌, IfOk, List, Option, map};
+ghost use Rattle.std.specs.Prelude.{◌≡◌, IfOk, map};
 ghost use Rattle.lus_values.specs.View.{entry_of};
-ghost use Rattle.lus_values.specs.Values.{Value as PlainValue};
 
 use crate::memory::Memory;
 use crate::value::{Value, copy};
