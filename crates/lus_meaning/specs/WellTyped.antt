@@ -1,5 +1,5 @@
 -- What is well typed: constants, the tests and equations of nodes, and functions, which have no memory.
-use Rattle.std.specs.Prelude.{◌≡◌, ◌&&◌, Bool, true, false, not, List, [], ◌∷◌, Option, Some, None, map, is_some, unwrap_or, IsTrue, option_map}
+use Rattle.std.specs.Prelude.{◌&&◌, Bool, true, false, not, List, [], ◌∷◌, Option, Some, None, map, is_some, unwrap_or, IsTrue, option_map}
 use Rattle.std.specs.List.{list_all}
 use Rattle.std.specs.Option.{option_and_then}
 use Rattle.lus_syntax.specs.declared.tree.NodeKind.{NodeKind}
@@ -17,10 +17,6 @@ use Rattle.lus_program.specs.declared.types.Kind.TheVariants as kinds
 use Rattle.lus_meaning.specs.Scopes.{Scope, entry}
 use Rattle.lus_meaning.specs.Tables.{groups, scope, literal_value, kind_named}
 use Rattle.lus_meaning.specs.Types.{all_same, kind_of, kinds_of, value_kind, variable_kind, test_placed, outputs_of}
-
--- the expression has this type
-abbrev pub HasType : Scope → Expression → Kind → Type 0
-HasType s e k = kind_of s e ≡ Some k
 
 -- the types of what a whole right side gives; a call there may have several outputs
 abbrev pub kinds_given : Scope → Expression → Option (List Kind)

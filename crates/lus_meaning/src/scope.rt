@@ -1,8 +1,7 @@
 //! What the names in a node's text stand for.
 
-ghost use Rattle.std.specs.Prelude.{◌≡◌, ◌≤◌, Some, None, IfOk, IsTrue, length, map, option_map};
+ghost use Rattle.std.specs.Prelude.{◌≡◌, ◌≤◌, IsTrue, length, map};
 ghost use Rattle.std.specs.List.{list_all};
-ghost use Rattle.lus_values.specs.View.{value_of};
 ghost use Rattle.lus_program.specs.View.{declared_of, field_of};
 ghost use Rattle.lus_meaning.specs.Types.{field_named, has_few_fields};
 
@@ -26,7 +25,7 @@ pub struct Scope {
 }
 
 impl Scope {
-    ghost use Rattle.std.specs.Prelude.{◌≡◌, ◌≤◌, Some, None, IfOk, length, map, option_map};
+    ghost use Rattle.std.specs.Prelude.{◌≡◌, ◌≤◌, IfOk, length, map, option_map};
     ghost use Rattle.lus_values.specs.View.{value_of};
     ghost use Rattle.lus_program.specs.View.{field_of};
     ghost use Rattle.lus_meaning.specs.Scopes.{entry};
