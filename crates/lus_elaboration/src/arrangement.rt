@@ -1,6 +1,6 @@
 //! Branches and fields in the order in which their type declares them.
 
-ghost use Rattle.std.specs.Prelude.{◌≡◌, Some, None, IfOk, IfSome, length, is_some};
+ghost use Rattle.std.specs.Prelude.{◌≡◌, IfOk, IfSome, length, is_some};
 ghost use Rattle.lus_program.specs.View.{operands_of};
 ghost use Rattle.lus_meaning.specs.Types.{each_once, index_of as index};
 ghost use Rattle.lus_meaning.specs.Meaning.{in_order};
