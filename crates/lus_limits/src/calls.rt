@@ -1,6 +1,6 @@
 //! How deep calls go.
 
-ghost use Rattle.std.specs.Prelude.{◌≡◌, ◌<◌, ◌≤◌, IfErr, OnOk, length, map, string_bytes};
+ghost use Rattle.std.specs.Prelude.{◌≡◌, ◌≤◌, IfErr, OnOk, length, map, string_bytes};
 ghost use Rattle.lus_values.specs.Lists.{Below, item};
 ghost use Rattle.lus_graph.specs.Ways.{IsOrder};
 ghost use Rattle.lus_syntax.specs.View.{tree_seen};

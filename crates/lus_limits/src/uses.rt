@@ -1,8 +1,7 @@
 //! What the types and the nodes of a source use.
 
-ghost use Rattle.std.specs.Prelude.{◌≡◌, ◌≢◌, ◌≤◌, ◌++◌, [], IfOk, IfErr, OnOk, length, map, string_bytes};
+ghost use Rattle.std.specs.Prelude.{◌≡◌, ◌≤◌, ◌++◌, IfOk, OnOk, length, map, string_bytes};
 ghost use Rattle.std.specs.Option.{option_to_list};
-ghost use Rattle.lus_graph.specs.Ways.{IsOrder};
 ghost use Rattle.lus_graph.specs.Walks.{uses_of};
 ghost use Rattle.lus_syntax.specs.Trees.{parts_of};
 ghost use Rattle.lus_syntax.specs.View.{definition_seen, expression_seen, node_seen, tree_seen, type_name_seen, part_seen};
