@@ -1,0 +1,5 @@
+use Rattle.lus_classes.proofs.Following.{faults_end}
+use Rattle.lus_classes.proofs.faults_end_worlds.Goals as goal
+
+pub returns : goal.returns
+returns c = faults_end

@@ -1,0 +1,5 @@
+use Rattle.lus_classes.proofs.Starts.{reset_stands}
+use Rattle.lus_classes.proofs.reset_states_stand.Goals as goal
+
+pub returns : goal.returns
+returns c = reset_stands
