@@ -18,8 +18,8 @@ pub record Fits (f : Node) (i : Row) : Type 0 where
   pub long : length i ≡ f.inputs
   pub presence : (x : ℕ) → x < f.inputs → is_some (item None i x) ≡ is_on_row (clock_of f x) i
 
--- after any streams of node g that state s stands for comes an instant with the inputs i and the row r, and state `after`
--- stands for the world with it
+-- after any streams of node g that state s stands for comes, where the inputs i fit, an instant with these inputs and the
+-- row r, and state `after` stands for the world with it
 pub record Extends (p : Program) (classes : List Class) (s after : State) (g : ℕ) (i r : Row) : Type 0 where
   pub by : (inputs : List Row) (w : World) → Streams p g inputs w → StandsFor classes s g w → Fits (node_at p g) i
       → (now : Instant) × (row_of now ≡ r) × Streams p g (i ∷ inputs) (now ∷ w) × StandsFor classes after g (now ∷ w)

@@ -4,9 +4,9 @@
 
 ghost use Rattle.lus_classes.specs.Laws.{StepsExtendWorlds, FaultsEndWorlds, FreshStatesStand, ResetStatesStand};
 
-/// A step that answers follows the streams: whatever world its state stands for, that world goes on by an instant with the
-/// row that is answered, and the next state stands for the longer world. It holds of every node of a program and of any
-/// classes that belong to the nodes.
+/// A step that answers follows the streams: whatever world its state stands for, with inputs that fit the node that world
+/// goes on by an instant with the row that is answered, and the next state stands for the longer world. It holds of every
+/// node of a program and of any classes that belong to the nodes.
 pub fn steps_extend_worlds()
     ensures { StepsExtendWorlds }
 {}
