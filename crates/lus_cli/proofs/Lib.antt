@@ -1,6 +1,6 @@
 pub mod Acceptances
 pub mod Sources
-pub mod Formals
+pub mod Constructors
 pub mod Runs
 pub mod Scripts
 pub mod AcceptedPrograms

@@ -1,17 +1,17 @@
 -- Which errors a run answers follows from those of its parts.
-use Rattle.std.proofs.Common.{◌≡◌, ◌⊎◌, inl, inr, sym, subst, ℕ, ◌<◌, ◌≤◌, length, Option, Some, None, Err, Ok, IfSome, IsUtf8}
+use Rattle.std.proofs.Common.{◌≡◌, ◌⊎◌, inl, inr, sym, subst, ℕ, ◌<◌, ◌≤◌, length, Option, Some, None, Err, IfSome, IsUtf8}
 use Rattle.std.proofs.lemmas.Bool.Decides.{leb_tells}
 use Rattle.std.proofs.lemmas.Option.{IfSome_then}
 use Rattle.serde_json.specs.Data.{Data}
 use Rattle.serde_json.specs.Read.{read}
 use Rattle.lus_program.specs.Programs.{Program}
 use Rattle.lus_host.specs.Devices.{Bytes}
-use Rattle.lus_host.specs.Scripts.{Scripts, scripts_of}
+use Rattle.lus_host.specs.Scripts.{scripts_of}
 use Rattle.lus_host.specs.declared.refusal.ScriptRefusal.{ScriptRefusal}
 use Rattle.lus_host.specs.declared.refusal.ScriptRefusal.TheVariants as refusals
 use Rattle.lus_cli.specs.Acceptance.{Accepted}
 use Rattle.lus_cli.specs.Errors.{IsAnsweringError, IsReadingError, IsRunError}
-use Rattle.lus_cli.specs.Refusals.{IsScriptsError, ScriptsRefused, are_too_long, are_no_json, are_refused, are_not_run}
+use Rattle.lus_cli.specs.Refusals.{IsScriptsError, ScriptsRefused, are_too_long, are_no_json, are_refused}
 use Rattle.lus_cli.specs.Runs.{names_of}
 use Rattle.lus_cli.specs.Sources.{most_bytes}
 use Rattle.lus_cli.specs.declared.error.RunError.{RunError}
@@ -44,11 +44,6 @@ module _ (p : Program) (bytes : Bytes) where
       sized : (most_bytes < length bytes) ⊎ (length bytes ≤ most_bytes) → IsScriptsError p bytes (errors.Scripts e)
       sized (inl lt) = subst (λ r. IsScriptsError p bytes (errors.Scripts r)) (sym (long lt)) (are_too_long lt)
       sized (inr short) = why short (refused short)
-
-  pub not_run : length bytes ≤ most_bytes → (d : Data) (s : Scripts) → read bytes ≡ Some d → scripts_of p (names_of p) d ≡ Ok s
-      → (e : RunError) → (e ≡ errors.Memory) ⊎ (e ≡ errors.Scripts refusals.Form) → IsScriptsError p bytes e
-  not_run short d s reads means e (inl is) = subst (IsScriptsError p bytes) (sym is) tt
-  not_run short d s reads means e (inr is) = subst (IsScriptsError p bytes) (sym is) (are_not_run short d s reads means)
 
 module _ (program scripts : Option Bytes) where
   pub reading_is : (e : RunError) → IsReadingError program e → IsRunError program scripts e

@@ -10,7 +10,7 @@ use Rattle.lus_host.specs.Forms.{InstanceForm}
 use Rattle.lus_host.specs.declared.refusal.ScriptRefusal.{ScriptRefusal}
 use Rattle.lus_host.specs.declared.refusal.ScriptRefusal.TheVariants as refusals
 use Rattle.lus_cli.specs.Errors.{IsAnsweringError}
-use Rattle.lus_cli.specs.Refusals.{IsScriptsError, ScriptsRefused, are_too_long, are_no_json, are_refused, are_not_run}
+use Rattle.lus_cli.specs.Refusals.{IsScriptsError, ScriptsRefused, are_too_long, are_no_json, are_refused}
 use Rattle.lus_cli.specs.Runs.{Answers}
 use Rattle.lus_cli.specs.Sources.{most_bytes}
 use Rattle.lus_cli.specs.declared.error.RunError.{RunError}
@@ -36,7 +36,6 @@ module _ (m n : ℕ) (is : m ≡ most_bytes) (next : n ≡ m + 1) (p : Program) 
   left_refused left e read (are_too_long long) = are_too_long (omega (arith, read_part n bytes left read))
   left_refused left e read (are_no_json short none) = subst (λ bs. ScriptsRefused p bs e) (whole left read short) (are_no_json short none)
   left_refused left e read (are_refused short d reads refused) = subst (λ bs. ScriptsRefused p bs e) (whole left read short) (are_refused short d reads refused)
-  left_refused left e read (are_not_run short d s reads means) = subst (λ bs. ScriptsRefused p bs e) (whole left read short) (are_not_run short d s reads means)
 
   error_left : (left : Bytes) (e : ScriptRefusal) → bytes ≡ take n left → IsScriptsError p bytes (errors.Scripts e) → IsScriptsError p left (errors.Scripts e)
   error_left left refusals.Json read h = left_refused left refusals.Json read h

@@ -1,19 +1,19 @@
 -- Which texts are accepted, as which program, and which pass refuses the others first.
-use Rattle.std.specs.Prelude.{◌≡◌, ◌≢◌, ◌≤◌, List}
-use Rattle.lus_syntax.specs.declared.refusal.RefusalNumber.{RefusalNumber}
+use Rattle.std.specs.Prelude.{◌≡◌, ◌≢◌, ◌≤◌, ℕ, List, map, Contains}
+use Rattle.lus_syntax.specs.declared.refusal.Refusal.{Refusal}
 use Rattle.lus_syntax.specs.declared.refusal.RefusalNumber.TheVariants as numbers
-use Rattle.lus_syntax.specs.declared.token.Place.{Place}
 use Rattle.lus_syntax.specs.Lexemes.{Lexeme, Text}
-use Rattle.lus_syntax.specs.Tokens.{Tokens, Faulty}
+use Rattle.lus_syntax.specs.Tokens.{Tokens, TellsFault}
 use Rattle.lus_syntax.specs.Trees.{Tree}
 use Rattle.lus_spelling.specs.Declarations.{SpellsProgram, tree_depth}
 use Rattle.lus_grammar.specs.Answers.{RefusedRightly}
-use Rattle.lus_program.specs.Programs.{Program}
+use Rattle.lus_program.specs.Programs.{Node, Program}
 use Rattle.lus_meaning.specs.Meaning.{program_of}
 use Rattle.lus_meaning.specs.Refusals.{WellFormed, FirstFails}
 use Rattle.lus_streams.specs.OnClock.{ProgramOnClocks}
 use Rattle.lus_streams.specs.Flags.{IsFlagged}
 use Rattle.lus_streams.specs.Order.{IsCausal}
+use Rattle.lus_order.specs.Orders.{IsNeedCycle, name_of}
 
 -- the text's tokens spell this tree, of depth at most 100
 pub record IsRead (text : Text) (tree : Tree) : Type 0 where
@@ -36,14 +36,22 @@ pub record Accepted (text : Text) (p : Program) : Type 0 where
 abbrev pub IsAccepted : Program → Type 0
 IsAccepted p = (text : Text) × Accepted text p
 
--- the first pass that refuses the text, by its number: each case says that the passes before it don't
-pub data RefusedAt (text : Text) : RefusalNumber → Type 0 where
-  no_tokens : {n : RefusalNumber} → (place : Place) → Faulty text n place → RefusedAt text n
-  no_tree : {n : RefusalNumber} → (ts : List Lexeme) → Tokens text ts → n ≢ numbers.Memory → RefusedRightly 100 ts n → RefusedAt text n
-  ill_formed : {n : RefusalNumber} → (tree : Tree) → IsRead text tree → FirstFails tree n → RefusedAt text n
-  off_clocks : (tree : Tree) → IsRead text tree → WellFormed tree → (ProgramOnClocks (program_of tree) → ⊥) → RefusedAt text numbers.Clock
-  not_flagged : (tree : Tree) → IsRead text tree → WellFormed tree → ProgramOnClocks (program_of tree) → (IsFlagged (program_of tree) → ⊥) → RefusedAt text numbers.Nil
-  not_causal : (tree : Tree) → IsRead text tree → WellFormed tree → ProgramOnClocks (program_of tree) → IsFlagged (program_of tree) → (IsCausal (program_of tree) → ⊥) → RefusedAt text numbers.Cycle
+-- the refusal names the variables of a cycle of needs in a node of the program
+pub record NamesCycle (p : Program) (e : Refusal) : Type 0 where
+  pub node : Node
+  pub within : Contains p.nodes node
+  pub cycle : List ℕ
+  pub is_cycle : IsNeedCycle node cycle
+  pub named : e.cycle ≡ map (name_of node) cycle
+
+-- the refusal is that of the first pass that refuses the text: each case says that the passes before it don't
+pub data RefusedWith (text : Text) (e : Refusal) : Type 0 where
+  no_tokens : TellsFault text e → RefusedWith text e
+  no_tree : (ts : List Lexeme) → Tokens text ts → e.number ≢ numbers.Memory → RefusedRightly 100 ts e.number → RefusedWith text e
+  ill_formed : (tree : Tree) → IsRead text tree → FirstFails tree e.number → RefusedWith text e
+  off_clocks : (tree : Tree) → IsRead text tree → WellFormed tree → (ProgramOnClocks (program_of tree) → ⊥) → e.number ≡ numbers.Clock → RefusedWith text e
+  not_flagged : (tree : Tree) → IsRead text tree → WellFormed tree → ProgramOnClocks (program_of tree) → (IsFlagged (program_of tree) → ⊥) → e.number ≡ numbers.Nil → RefusedWith text e
+  not_causal : (tree : Tree) → IsRead text tree → WellFormed tree → ProgramOnClocks (program_of tree) → IsFlagged (program_of tree) → (IsCausal (program_of tree) → ⊥) → e.number ≡ numbers.Cycle → NamesCycle (program_of tree) e → RefusedWith text e
 
 -- no program is accepted for the text
 abbrev pub IsRefused : Text → Type 0

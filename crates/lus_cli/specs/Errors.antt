@@ -1,6 +1,8 @@
 -- Which errors a check and a run may answer, by what the devices had left.
 use Rattle.std.specs.Prelude.{◌≡◌, ◌<◌, ℕ, length, ⊤, ◌⊎◌, Option, IfSome}
 use Rattle.lus_syntax.specs.declared.refusal.RefusalNumber.TheVariants as numbers
+use Rattle.lus_syntax.specs.Places.{start}
+use Rattle.lus_syntax.specs.Tokens.{IsAt}
 use Rattle.lus_syntax.specs.Trees.{Tree}
 use Rattle.lus_program.specs.Programs.{Program}
 use Rattle.lus_meaning.specs.Meaning.{program_of}
@@ -39,7 +41,7 @@ IsUnsupported p = (IsPlain p → ⊥) ⊎ DeclaresConstants p
 
 -- a program that can't be run yet is refused as unsupported, and scripts rightly, or the device or memory failed
 abbrev pub IsAnsweringError : Program → Option Bytes → RunError → Type 0
-IsAnsweringError p left (errors.Program e) = IsUnsupported p × (e.number ≡ numbers.Unsupported) × (e.line ≡ 1) × (e.column ≡ 1)
+IsAnsweringError p left (errors.Program e) = IsUnsupported p × IsAt e numbers.Unsupported start
 IsAnsweringError p left (errors.Scripts e) = IsPlain p × IfSome left (λ bytes. IsScriptsError p bytes (errors.Scripts e))
 IsAnsweringError p left errors.Read = ⊤
 IsAnsweringError p left errors.Memory = ⊤
@@ -51,7 +53,7 @@ IsNotRun text = (p : Program) × Accepted text p × IsUnsupported p
 
 -- a program is refused rightly, also as unsupported if it can't be run yet, and scripts are, or a device or memory failed
 abbrev pub IsRunError : Option Bytes → Option Bytes → RunError → Type 0
-IsRunError program scripts (errors.Program e) = IsRightRefusal program e ⊎ (IfSome program IsNotRun × (e.number ≡ numbers.Unsupported))
+IsRunError program scripts (errors.Program e) = IsRightRefusal program e ⊎ (IfSome program IsNotRun × IsAt e numbers.Unsupported start)
 IsRunError program scripts (errors.Scripts e) =
     IfSome program (λ text. IfSome scripts (λ bytes. (p : Program) × Accepted text p × IsPlain p × IsScriptsError p bytes (errors.Scripts e)))
 IsRunError program scripts errors.Read = ⊤

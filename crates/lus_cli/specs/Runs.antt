@@ -1,5 +1,5 @@
 -- What a run of scripts is: the replies to the calls of one caller on one instance, and the text of their journal.
-use Rattle.std.specs.Prelude.{◌≡◌, ℕ, List, [], ◌∷◌, length, Some, Ok, ⊤, ◌<◌, ◌≤◌, ◌+◌}
+use Rattle.std.specs.Prelude.{◌≡◌, ℕ, List, [], ◌∷◌, length, Some, Ok, ⊤, ◌<◌, ◌≤◌}
 use Rattle.lus_values.specs.Lists.{Each}
 use Rattle.serde_json.specs.Data.{Data}
 use Rattle.serde_json.specs.Read.{read}
@@ -37,10 +37,6 @@ names_of p = names_from p.types
 pub record CanBeNamed (types : List Declared) : Type 0 where
   pub count : length types ≤ 1000
   pub each : Each (λ d. length (constructors_of d) ≤ 256) types
-
--- a node's inputs and outputs are variables
-abbrev pub HasFormals : Program → Type 0
-HasFormals p = Each (λ f. f.inputs + f.outputs ≤ length f.variables) p.nodes
 
 -- what node f replies to a request; it only steps
 abbrev pub Replies : Program → ℕ → Request → Reply → Type 0

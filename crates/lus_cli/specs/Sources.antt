@@ -1,14 +1,13 @@
 -- What bytes are the text of a program, why bytes are refused, and what a check writes.
-use Rattle.std.specs.Prelude.{◌≡◌, ◌≤◌, ◌<◌, ◌≢◌, ℕ, ◌++◌, codes, length, take, IsUtf8, Option, IfSome}
+use Rattle.std.specs.Prelude.{◌≤◌, ◌<◌, ◌≢◌, ℕ, ◌++◌, codes, length, take, IsUtf8, Option, IfSome}
 use Rattle.std.specs.Fmt.{decimal}
 use Rattle.std.specs.Str.Lossy.{utf8_valid_len}
 use Rattle.lus_syntax.specs.declared.refusal.Refusal.{Refusal}
-use Rattle.lus_syntax.specs.declared.refusal.RefusalNumber.{RefusalNumber}
 use Rattle.lus_syntax.specs.declared.refusal.RefusalNumber.TheVariants as numbers
-use Rattle.lus_syntax.specs.declared.token.Place.{Place}
 use Rattle.lus_syntax.specs.Places.{start, place_behind}
+use Rattle.lus_syntax.specs.Tokens.{IsAt}
 use Rattle.lus_host.specs.Devices.{Bytes}
-use Rattle.lus_cli.specs.Acceptance.{RefusedAt}
+use Rattle.lus_cli.specs.Acceptance.{RefusedWith}
 
 -- the most bytes of a program, and of scripts
 abbrev pub most_bytes : ℕ
@@ -18,23 +17,19 @@ most_bytes = 1048576
 abbrev pub valid_front : Bytes → Bytes
 valid_front bytes = take (utf8_valid_len bytes) bytes
 
-abbrev pub StandsAt : Refusal → Place → Type 0
-StandsAt e place = (e.line ≡ place.line) × (e.column ≡ place.column)
-
 -- bytes are no text of a program: they are too many, or the refusal stands where they stop being UTF-8
 pub data IsNoText (bytes : Bytes) (e : Refusal) : Type 0 where
-  too_long : most_bytes < length bytes → e.number ≡ numbers.Limit → StandsAt e start → IsNoText bytes e
-  no_utf8 : length bytes ≤ most_bytes → (IsUtf8 bytes → ⊥) → e.number ≡ numbers.Lexical → StandsAt e (place_behind (valid_front bytes)) → IsNoText bytes e
+  too_long : most_bytes < length bytes → IsAt e numbers.Limit start → IsNoText bytes e
+  no_utf8 : length bytes ≤ most_bytes → (IsUtf8 bytes → ⊥) → IsAt e numbers.Lexical (place_behind (valid_front bytes)) → IsNoText bytes e
 
--- why bytes are refused as a program, by the number of the refusal: too many, no UTF-8, or a text that a pass refuses
-pub data ProgramRefused (bytes : Bytes) : RefusalNumber → Type 0 where
-  is_too_long : most_bytes < length bytes → ProgramRefused bytes numbers.Limit
-  is_no_utf8 : length bytes ≤ most_bytes → (IsUtf8 bytes → ⊥) → ProgramRefused bytes numbers.Lexical
-  is_refused : {n : RefusalNumber} → length bytes ≤ most_bytes → RefusedAt bytes n → ProgramRefused bytes n
+-- why bytes are refused as a program: they are no text, or a text that a pass refuses
+pub data ProgramRefused (bytes : Bytes) (e : Refusal) : Type 0 where
+  is_no_text : IsNoText bytes e → ProgramRefused bytes e
+  is_refused : length bytes ≤ most_bytes → RefusedWith bytes e → ProgramRefused bytes e
 
 -- a program's refusal, but for want of memory, is right for the bytes that a device had left, where they are known
 abbrev pub IsRightRefusal : Option Bytes → Refusal → Type 0
-IsRightRefusal left e = e.number ≢ numbers.Memory → IfSome left (λ bytes. ProgramRefused bytes e.number)
+IsRightRefusal left e = e.number ≢ numbers.Memory → IfSome left (λ bytes. ProgramRefused bytes e)
 
 -- what a check writes of a program with n nodes
 abbrev pub accepted_text : ℕ → Bytes

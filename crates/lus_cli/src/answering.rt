@@ -1,14 +1,14 @@
 //! Answering the calls of scripts.
 
-ghost use Rattle.std.specs.Prelude.{◌≡◌, ◌<◌, ◌⊎◌, IfOk, IfErr, length};
+ghost use Rattle.std.specs.Prelude.{◌<◌, IfOk, length};
+ghost use Rattle.lus_values.specs.Lists.{Each};
 ghost use Rattle.lus_program.specs.View.{program_seen};
 ghost use Rattle.lus_runner.specs.Plain.{IsPlain};
 ghost use Rattle.lus_runner.specs.Replies.{IsReply};
-ghost use Rattle.lus_host.specs.declared.refusal.ScriptRefusal.TheVariants as refusals;
-ghost use Rattle.lus_cli.specs.Runs.{AreAnswers, HasFormals, IsAnswer};
+ghost use Rattle.lus_host.specs.Scripts.{StepsFirst};
+ghost use Rattle.lus_cli.specs.Runs.{AreAnswers, IsAnswer};
 
-use crate::error::RunError;
-use lus_host::{Call, ScriptRefusal};
+use lus_host::Call;
 use lus_machine::{Entry, Reply, Request};
 use lus_order::Ordered;
 use lus_runner::step;
@@ -18,7 +18,6 @@ use std::alloc::Global;
 /// The reply of a node to a step.
 fn reply(alloc: Global, ordered: &Ordered, node: usize, inputs: &Row) -> Result<Reply, Memory>
     requires plain { IsPlain (program_seen ordered.now.program) }
-    requires formals { HasFormals (program_seen ordered.now.program) }
     requires within { node < length ordered.now.program.nodes.items }
     ensures { IfOk result (λ reply. IsReply (program_seen ordered.now.program) node inputs.now reply) }
 {
@@ -28,27 +27,20 @@ fn reply(alloc: Global, ordered: &Ordered, node: usize, inputs: &Row) -> Result<
 }
 
 /// The entry of a call, which steps.
-fn answer(alloc: Global, ordered: &Ordered, node: usize, call: &Call) -> Result<Entry, RunError>
+fn answer(alloc: Global, ordered: &Ordered, node: usize, call: &Call) -> Result<Entry, Memory>
     requires plain { IsPlain (program_seen ordered.now.program) }
-    requires formals { HasFormals (program_seen ordered.now.program) }
     requires within { node < length ordered.now.program.nodes.items }
-    ensures ok { IfOk result (λ entry. IsAnswer (program_seen ordered.now.program) node call.now entry) }
-    ensures errors { IfErr result (λ e. (e ≡ RunError.Memory) ⊎ (e ≡ RunError.Scripts refusals.Form)) }
+    requires steps { StepsFirst call.now }
+    ensures { IfOk result (λ entry. IsAnswer (program_seen ordered.now.program) node call.now entry) }
 {
-    match &call.request {
-        Request::Step(inputs) => match (
-            call.request.copy(alloc),
-            reply(alloc, ordered, node, inputs),
-        ) {
-            (Ok(request), Ok(reply)) => Ok(Entry {
-                caller: 0,
-                request,
-                reply,
-            }),
-            _ => Err(RunError::Memory),
-        },
-        _ => Err(RunError::Scripts(ScriptRefusal::Form)),
-    }
+    let Request::Step(inputs) = &call.request else {
+        unreachable!();
+    };
+    Ok(Entry {
+        caller: 0,
+        request: call.request.copy(alloc)?,
+        reply: reply(alloc, ordered, node, inputs)?,
+    })
 }
 
 /// The entries of calls, in order.
@@ -57,12 +49,11 @@ pub(crate) fn answers(
     ordered: &Ordered,
     node: usize,
     calls: &[Call],
-) -> Result<Vec<Entry>, RunError>
+) -> Result<Vec<Entry>, Memory>
     requires plain { IsPlain (program_seen ordered.now.program) }
-    requires formals { HasFormals (program_seen ordered.now.program) }
     requires within { node < length ordered.now.program.nodes.items }
-    ensures ok { IfOk result (λ entries. AreAnswers (program_seen ordered.now.program) node calls.now entries.items) }
-    ensures errors { IfErr result (λ e. (e ≡ RunError.Memory) ⊎ (e ≡ RunError.Scripts refusals.Form)) }
+    requires steps { Each StepsFirst calls.now }
+    ensures { IfOk result (λ entries. AreAnswers (program_seen ordered.now.program) node calls.now entries.items) }
 {
     let mut entries = Vec::new(alloc);
     for call in calls {

@@ -4,7 +4,7 @@ ghost use Rattle.std.specs.Prelude.{◌≡◌, ◌≢◌, IfOk, IfErr};
 ghost use Rattle.lus_syntax.specs.declared.refusal.RefusalNumber.TheVariants as numbers;
 ghost use Rattle.lus_syntax.specs.View.{tree_seen};
 ghost use Rattle.lus_program.specs.View.{program_seen};
-ghost use Rattle.lus_cli.specs.Acceptance.{IsRead, Accepted, RefusedAt, IsRefused};
+ghost use Rattle.lus_cli.specs.Acceptance.{IsRead, Accepted, RefusedWith, IsRefused};
 
 use lus_clocks::{check_clocks, check_nil};
 use lus_grammar::parse;
@@ -16,7 +16,7 @@ use std::alloc::Global;
 /// The tree of a text.
 fn read(alloc: Global, text: &str) -> Result<Tree, Refusal>
     ensures ok { IfOk result (λ tree. IsRead text.now (tree_seen tree)) }
-    ensures first { IfErr result (λ e. e.number ≢ numbers.Memory → RefusedAt text.now e.number) }
+    ensures first { IfErr result (λ e. e.number ≢ numbers.Memory → RefusedWith text.now e) }
 {
     let tokens = lex(alloc, text)?;
     parse(alloc, &tokens)
@@ -25,7 +25,7 @@ fn read(alloc: Global, text: &str) -> Result<Tree, Refusal>
 /// The program of a text, by the passes behind one another.
 fn program_of(alloc: Global, text: &str) -> Result<Ordered, Refusal>
     ensures ok { IfOk result (λ ordered. Accepted text.now (program_seen ordered.program)) }
-    ensures first { IfErr result (λ e. e.number ≢ numbers.Memory → RefusedAt text.now e.number) }
+    ensures first { IfErr result (λ e. e.number ≢ numbers.Memory → RefusedWith text.now e) }
 {
     let tree = read(alloc, text)?;
     let typed = check_types(alloc, tree)?;
@@ -38,7 +38,7 @@ fn program_of(alloc: Global, text: &str) -> Result<Ordered, Refusal>
 /// names, recursion, limits, types, clocks, nil, order.
 pub fn compile(alloc: Global, text: &str) -> Result<Ordered, Refusal>
     ensures ok { IfOk result (λ ordered. Accepted text.now (program_seen ordered.program)) }
-    ensures first { IfErr result (λ e. e.number ≢ numbers.Memory → RefusedAt text.now e.number) }
+    ensures first { IfErr result (λ e. e.number ≢ numbers.Memory → RefusedWith text.now e) }
     ensures refused { IfErr result (λ e. e.number ≢ numbers.Memory → IsRefused text.now) }
 {
     program_of(alloc, text)

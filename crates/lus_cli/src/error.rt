@@ -1,11 +1,7 @@
 //! Why a check or a run ends before its end.
 
-ghost use Rattle.std.specs.Prelude.{◌≡◌};
-ghost use Rattle.lus_cli.specs.declared.error.RunError.TheVariants.{Memory as OfMemory};
-
 use lus_host::ScriptRefusal;
 use lus_syntax::Refusal;
-use std::alloc::{AllocError, AllocFailed};
 use thiserror::Error;
 
 /// Why a check or a run ended before its end.
@@ -21,20 +17,4 @@ pub enum RunError {
     Write,
     #[error("out of memory")]
     Memory,
-}
-
-impl From<AllocError> for RunError {
-    ghost from_gives = { λ _ e. e ≡ OfMemory };
-
-    fn from(_error: AllocError) -> RunError {
-        RunError::Memory
-    }
-}
-
-impl<T: Drop> From<AllocFailed<T>> for RunError {
-    ghost from_gives = { λ _ e. e ≡ OfMemory };
-
-    fn from(_error: AllocFailed<T>) -> RunError {
-        RunError::Memory
-    }
 }

@@ -1,12 +1,12 @@
 //! What the names in scripts stand for.
 
-ghost use Rattle.std.specs.Prelude.{◌≡◌, ◌++◌, ◌∷◌, [], ◌<◌, ◌≤◌, ◌^◌, IfOk, IfSome, length, map, string_bytes};
-ghost use Rattle.lus_values.specs.Lists.{item};
-ghost use Rattle.lus_program.specs.Programs.{empty_node};
-ghost use Rattle.lus_program.specs.View.{declared_of, node_of};
+ghost use Rattle.std.specs.Prelude.{◌≡◌, ◌++◌, ◌∷◌, [], ◌<◌, ◌≤◌, ◌^◌, IfOk, IsSome, length, map};
+ghost use Rattle.lus_program.specs.Programs.{node_at};
+ghost use Rattle.lus_program.specs.View.{declared_of, program_seen};
+ghost use Rattle.lus_host.specs.Scripts.{node_named};
 ghost use Rattle.lus_cli.specs.Runs.{CanBeNamed, constructors_of, names_from};
 
-use lus_program::{Declared, Node};
+use lus_program::{Declared, Program};
 use lus_values::{Memory, Names};
 use std::alloc::Global;
 
@@ -35,17 +35,15 @@ pub(crate) fn names_of(alloc: Global, types: &[Declared]) -> Result<Names, Memor
     Ok(names)
 }
 
-/// The place from 0 of the first node of this name.
-pub(crate) fn node_place(nodes: &[Node], name: &str) -> Option<usize>
-    ensures within { IfSome result (λ place. place < length nodes.now) }
-    ensures named { IfSome result (λ place. (item empty_node (map node_of nodes.now) place).name ≡ name.now) }
+/// The place from 0 of the first node of this name, which there is.
+pub(crate) fn node_place(program: &Program, name: &str) -> usize
+    requires { IsSome (node_named (program_seen program.now) name.now) }
+    ensures within { result < length program.now.nodes.items }
+    ensures named { (node_at (program_seen program.now) result).name ≡ name.now }
 {
     let mut place = 0;
-    while place < nodes.len() {
-        if nodes[place].name.as_str() == name {
-            return Some(place);
-        }
+    while program.nodes[place].name.as_str() != name {
         place += 1;
     }
-    None
+    place
 }

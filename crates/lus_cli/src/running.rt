@@ -1,12 +1,15 @@
 //! Running a program with scripts.
 
 ghost use Rattle.std.specs.Prelude.{IsTrue, ◌≡◌, ◌≢◌, ℕ, OnOk, OnErr, IfOk, IfErr, IfSome, Err, true, ◌⊎◌, string_bytes};
+ghost use Rattle.lus_syntax.specs.declared.refusal.RefusalNumber.TheVariants as numbers;
+ghost use Rattle.lus_syntax.specs.Places.{start};
+ghost use Rattle.lus_syntax.specs.Tokens.{IsAt};
 ghost use Rattle.lus_program.specs.View.{program_seen};
 ghost use Rattle.lus_runner.specs.Plain.{IsPlain};
 ghost use Rattle.lus_host.specs.Devices.{Bytes, WritesBeginning, one_more, with_text};
 ghost use Rattle.lus_host.specs.View.{instance_kept};
 ghost use Rattle.lus_cli.specs.Errors.{DeclaresConstants, IsAnsweringError, IsRunError, OneFailed};
-ghost use Rattle.lus_cli.specs.Runs.{Answers, CanBeNamed, HasFormals, Ran, names_of, run_text};
+ghost use Rattle.lus_cli.specs.Runs.{Answers, CanBeNamed, Ran, names_of, run_text};
 
 use crate::error::RunError;
 use crate::history::{History, history_of};
@@ -26,7 +29,6 @@ fn read_history<S: Source>(
     scripts: &mut S,
 ) -> Result<History, RunError>
     requires plain { IsPlain (program_seen ordered.now.program) }
-    requires formals { HasFormals (program_seen ordered.now.program) }
     requires named { CanBeNamed (program_seen ordered.now.program).types }
     ensures names { IfOk result (λ h. h.names ≡ names_of (program_seen ordered.now.program)) }
     ensures ok { IfOk result (λ h. IfSome (S.left scripts.old) (λ bytes. Answers (program_seen ordered.now.program) bytes
@@ -54,9 +56,7 @@ fn declares_constants(ordered: &Ordered) -> bool
 }
 
 fn unsupported() -> Refusal
-    ensures number { result.number ≡ RefusalNumber.Unsupported }
-    ensures line { result.line ≡ 1 }
-    ensures column { result.column ≡ 1 }
+    ensures { IsAt result numbers.Unsupported start }
 {
     Refusal::new(RefusalNumber::Unsupported, 1, 1)
 }
@@ -67,7 +67,6 @@ fn plain_history<S: Source>(
     ordered: &Ordered,
     scripts: &mut S,
 ) -> Result<History, RunError>
-    requires formals { HasFormals (program_seen ordered.now.program) }
     requires named { CanBeNamed (program_seen ordered.now.program).types }
     ensures names { IfOk result (λ h. h.names ≡ names_of (program_seen ordered.now.program)) }
     ensures plain { OnOk result (IsPlain (program_seen ordered.now.program)) }

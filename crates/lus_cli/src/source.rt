@@ -20,7 +20,7 @@ use std::alloc::Global;
 fn program_of(alloc: Global, bytes: &[u8]) -> Result<Ordered, Refusal>
     ensures ok { IfOk result (λ ordered. Accepted bytes.now (program_seen ordered.program)) }
     ensures short { IfOk result (λ ordered. length bytes.now ≤ most_bytes) }
-    ensures refused { IfErr result (λ e. e.number ≢ numbers.Memory → ProgramRefused bytes.now e.number) }
+    ensures refused { IfErr result (λ e. e.number ≢ numbers.Memory → ProgramRefused bytes.now e) }
 {
     match text_of(bytes) {
         Ok(text) => compile(alloc, text),

@@ -4,8 +4,8 @@ use Rattle.lus_program.specs.View.{program_seen}
 use Rattle.lus_cli.specs.Runs.{AreAnswers}
 use Rattle.lus_cli.proofs.answering.answers.Goals as goal
 
-pub returns-clause-ok : goal.returns-clause-ok
-returns-clause-ok c =
+pub returns : goal.returns
+returns c =
     let p = program_seen c.args.ordered.now.program in
     let calls = c.args.calls.now in
     let behind : drop c.loop-call.call-index calls ≡ [] = drop_all c.loop-call.call-index calls (omega arith) in

@@ -1,8 +1,14 @@
-use Rattle.std.proofs.Common.{length, ◌-◌, ◌≤◌}
+use Rattle.std.proofs.Common.{length, map, drop, ◌-◌, ◌<◌}
+use Rattle.std.specs.Prelude.{IsSome, find}
+use Rattle.std.specs.Str.{bytes_eq}
+use Rattle.lus_program.specs.View.{node_of}
 use Rattle.lus_cli.proofs.naming.node_place.Given as goal
 
-abbrev pub invariant-loop-place : goal.invariant-loop-place
-invariant-loop-place l = l.place ≤ length l.nodes
+abbrev pub invariant-loop-name : goal.invariant-loop-name
+invariant-loop-name l = record {
+  within : l.place < length l.program.nodes.items;
+  found : IsSome (find (λ f. bytes_eq f.name l.name) (map node_of (drop l.place l.program.nodes.items)));
+}
 
-abbrev pub decreases-loop-place : goal.decreases-loop-place
-decreases-loop-place l = length l.nodes - l.place
+abbrev pub decreases-loop-name : goal.decreases-loop-name
+decreases-loop-name l = length l.program.nodes.items - l.place

@@ -16,6 +16,6 @@ returns-in-Ok-program_of-clause-ok g c =
 
 pub returns-in-Ok-clause-refused : goal.returns-in-Ok-clause-refused
 returns-in-Ok-clause-refused g c = λ h.
-    let number = c.in-Err.refusal.number in
-    let refused : ProgramRefused c.in-Ok.bytes.items number = subst (λ bs. ProgramRefused bs number) c.deref.ensures.value (c.in-Err.ensures.refused h) in
-    IfSome_then (g.P.Source.left c.args.program.now) c.in-Ok.ensures.bytes (λ left e. refused_left most_bytes 1048577 refl refl c.in-Ok.bytes.items left number e refused)
+    let e = c.in-Err.refusal in
+    let refused : ProgramRefused c.in-Ok.bytes.items e = subst (λ bs. ProgramRefused bs e) c.deref.ensures.value (c.in-Err.ensures.refused h) in
+    IfSome_then (g.P.Source.left c.args.program.now) c.in-Ok.ensures.bytes (λ left read. refused_left most_bytes 1048577 refl refl c.in-Ok.bytes.items left e read refused)
