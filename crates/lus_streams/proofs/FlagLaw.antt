@@ -1,5 +1,5 @@
 -- Flags hold in every world of a causal program on clocks without nil in its inputs.
-use Rattle.std.proofs.Common.{◌≡◌, ℕ, suc, ◌+◌, ◌<◌, ◌≤◌, nat_lt, Bool, true, false, ◌||◌, List, [], ◌∷◌, length, take, drop, Option, Some, None, refl, sym, ap, ◌∙◌, subst, IsFalse, MatchBool, is_some, true≢false, arith, ⊎_elim}
+use Rattle.std.proofs.Common.{◌≡◌, ℕ, suc, ◌+◌, ◌<◌, ◌≤◌, nat_lt, Bool, true, false, ◌||◌, List, [], ◌∷◌, length, take, drop, Option, Some, None, refl, sym, ◌∙◌, subst, IsFalse, MatchBool, is_some, true≢false, arith, ⊎_elim}
 use Rattle.lus_values.specs.Values.{Value, nil, Row}
 use Rattle.lus_program.specs.Programs.{Expression, literal, variable, operate, pre, arrow, fby, when, merge, call, Operands, none, more, Equation, Node, Program, node_at, empty_node}
 use Rattle.lus_values.specs.Lists.{Each, Below}
@@ -18,7 +18,7 @@ use Rattle.lus_streams.proofs.Worlds.{called_satisfies}
 use Rattle.lus_streams.proofs.Unique.{order_at, clocks_at}
 use Rattle.lus_streams.specs.Laws.{HasNilFreeInputs, FlagsHoldInWorlds}
 use Rattle.std.proofs.lemmas.Bool.{ltb-true, cases_lt}
-use Rattle.lus_streams.proofs.NilFree.{AreNilFree, and_right, apply_nil_free}
+use Rattle.lus_streams.proofs.NilFree.{AreNilFree, and_right, or_more, apply_nil_free}
 
 -- P holds at each instant of a world, with its past
 abbrev pub AllOver : (Instant → World → Type 0) → World → Type 0
@@ -28,11 +28,6 @@ AllOver P (i ∷ past) = P i past × AllOver P past
 on_drop : (k : Clock) (i : Instant) → is_on k i ≡ true → is_on (drop 1 k) i ≡ true
 on_drop [] i h = h
 on_drop (t ∷ k) i h = and_right (holds t.variable t.constructor i) (is_on k i) h
-
-or_more : (a b a' b' : Bool) → (a ≡ true → a' ≡ true) → (b ≡ true → b' ≡ true) → (a || b) ≡ true → (a' || b') ≡ true
-or_more true b a' b' f g h = ap (λ x. x || b') (f refl)
-or_more false b true b' f g h = refl
-or_more false b false b' f g h = g h
 
 seen_drop : (k : Clock) (past : World) → was_on k past ≡ true → was_on (drop 1 k) past ≡ true
 seen_drop k [] h = h

@@ -1,4 +1,5 @@
 pub mod Lists
+pub mod Clocks
 pub mod Orders
 pub mod Definitions
 pub mod Calls

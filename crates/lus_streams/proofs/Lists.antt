@@ -1,8 +1,9 @@
 -- Lemmas on lists.
-use Rattle.std.proofs.Common.{◌≡◌, ℕ, zero, suc, ◌<◌, ◌≤◌, nat_eq, Bool, true, false, ◌||◌, List, [], ◌∷◌, ◌++◌, map, length, take, drop, refl, sym, ap₂, subst, arith, IsTrue, true≢false, le_of_suc-le-suc, not-suc-le-zero, eq-or-lt_of_le, suc-ne-zero, ⊎_elim, ◌⊎◌}
+use Rattle.std.proofs.Common.{◌≡◌, ℕ, zero, suc, ◌<◌, ◌≤◌, nat_eq, Bool, true, false, ◌||◌, List, [], ◌∷◌, ◌++◌, map, length, take, drop, refl, sym, ap₂, subst, arith, IsTrue, true≢false, le_of_suc-le-suc, not-suc-le-zero, suc-ne-zero}
 use Rattle.std.proofs.lemmas.Bool.{eqb-true}
-use Rattle.lus_values.specs.Lists.{item, Each, Below}
+use Rattle.lus_values.specs.Lists.{item, Each}
 use Rattle.lus_streams.specs.Order.{is_in}
+pub use Rattle.lus_values.proofs.Lists.{below_at}
 
 module _ {X : Type 0} (P : X → Type 0) where
   pub each_left : (xs ys : List X) → Each P (xs ++ ys) → Each P xs
@@ -53,16 +54,9 @@ module _ (P : ℕ → Type 0) where
   in_cases true c f g e = f refl
   in_cases false c f g e = g e
 
-  below_cases : (n x : ℕ) → P n → (x < n → P x) → (x ≡ n) ⊎ (x < n) → P x
-  below_cases n x h k = ⊎_elim (λ e. subst P (sym e) h) k
-
   pub each_in : (xs : List ℕ) → Each P xs → (y : ℕ) → IsTrue (is_in xs y) → P y
   each_in [] h y e = elim (true≢false (sym e)) [ ]
   each_in (x ∷ xs) h y e = in_cases (nat_eq y x) (is_in xs y) (λ m. subst P (sym (eqb-true y x m)) h.0) (λ k. each_in xs h.1 y k) e
-
-  pub below_at : (n : ℕ) → Below n P → (x : ℕ) → x < n → P x
-  below_at zero h x lt = elim (not-suc-le-zero lt) [ ]
-  below_at (suc n) h x lt = below_cases n x h.0 (λ k. below_at n h.1 x k) (eq-or-lt_of_le (le_of_suc-le-suc lt))
 
 module _ {X : Type 0} (d : X) where
   pub item_past : (xs : List X) (n : ℕ) → length xs ≤ n → item d xs n ≡ d

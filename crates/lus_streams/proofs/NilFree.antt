@@ -25,6 +25,11 @@ pub and_true : (a b : Bool) → a ≡ true → b ≡ true → (a && b) ≡ true
 and_true true b h k = k
 and_true false b h k = h
 
+pub or_more : (a b a' b' : Bool) → (a ≡ true → a' ≡ true) → (b ≡ true → b' ≡ true) → (a || b) ≡ true → (a' || b') ≡ true
+or_more true b a' b' f g h = ap (λ x. x || b') (f refl)
+or_more false b true b' f g h = refl
+or_more false b false b' f g h = g h
+
 -- what an operand gives on, if every value that it may give is without nil
 then_nil_free : {A : Type 0} (f : A → Option Value) → ((a : A) → IsNilFree (f a)) → (o : Option A) → IsNilFree (option_and_then f o)
 then_nil_free f h None = tt

@@ -1,10 +1,10 @@
 -- Called worlds.
-use Rattle.std.proofs.Common.{◌≡◌, ℕ, suc, ◌+◌, Bool, List, [], ◌∷◌, take, drop, length, refl, sym, ap, ap₂, ◌∙◌, subst, IsTrue, suc-ne-zero, arith}
+use Rattle.std.proofs.Common.{◌≡◌, ℕ, List, [], ◌∷◌, take, drop, length, refl, sym, ap, ap₂, subst, IsTrue, suc-ne-zero}
 use Rattle.lus_program.specs.Programs.{Program, node_at}
 use Rattle.lus_values.specs.Lists.{item, Each}
 use Rattle.lus_streams.specs.Equations.{Site, sites}
 use Rattle.lus_values.specs.Values.{Row}
-use Rattle.lus_streams.specs.Streams.{Instant, instant, Called, nobody, also, World, is_present, row_of, called_at, called_instant, called_world, IsInstant, EachCall, Satisfies, Streams}
+use Rattle.lus_streams.specs.Streams.{Instant, instant, Called, nobody, also, World, is_present, row_of, called_instant, called_world, IsInstant, EachCall, Satisfies, Streams}
 use Rattle.lus_streams.proofs.Lists.{each_all}
 
 module _ (p : Program) where
@@ -46,24 +46,3 @@ module _ (p : Program) where
     record { satisfied = s.satisfied.1; always = s.always.1; rows = ap (drop 1) s.rows },
     record { now_holds = s.satisfied.0; present_now = s.always.0; row = ap (λ l. item [] l 0) s.rows },
   )
-
--- calls numbered by their places
-abbrev pub Numbered : ℕ → List Site → Type 0
-Numbered n [] = Unit {0}
-Numbered n (s ∷ ss) = (s.number ≡ n) × Numbered (suc n) ss
-
--- then the call at each place is the called instant at it
-abbrev Stands : (ℕ → Instant) → Called → List Site → Type 0
-Stands at nobody ss = Unit {0}
-Stands at (also j js) [] = Unit {0}
-Stands at (also j js) (s ∷ ss) = (at s.number ≡ j) × Stands at js ss
-
-stands_from : (at : ℕ → Instant) (n : ℕ) (js : Called) (ss : List Site) → ((c : ℕ) → at (n + c) ≡ called_at js c) → Numbered n ss → Stands at js ss
-stands_from at n nobody ss h k = tt
-stands_from at n (also j js) [] h k = tt
-stands_from at n (also j js) (s ∷ ss) h k =
-    let e : n + 0 ≡ n = omega arith in
-    (ap at k.0 ∙ ap at (sym e) ∙ h 0, stands_from at (suc n) js ss (λ c. let e' : suc n + c ≡ n + suc c = omega arith in ap at e' ∙ h (suc c)) k.1)
-
-pub numbered_stands : (b : Bool) (row : Row) (js : Called) (ss : List Site) → Numbered 0 ss → Stands (λ c. called_instant c (instant b row js)) js ss
-numbered_stands b row js ss k = stands_from (λ c. called_instant c (instant b row js)) 0 js ss (λ c. let e : 0 + c ≡ c = omega arith in ap (called_at js) e) k

@@ -1,0 +1,18 @@
+-- One step of a variable's clock.
+use Rattle.std.proofs.Common.{◌≡◌, ℕ, zero, suc, List, [], ◌∷◌, Option, Some, None, refl, ap, ◌∙◌}
+use Rattle.lus_values.specs.Lists.{item}
+use Rattle.lus_program.specs.declared.expr.Test.{Test}
+use Rattle.lus_program.specs.Programs.{Variable, no_variable}
+use Rattle.lus_streams.specs.Clocks.{Clock, chain}
+
+step_of : ℕ → List Variable → Option Test → Clock
+step_of n vs o = elim o [ None ↦ [] | Some t ↦ t ∷ chain n vs t.variable ]
+
+pub chain_some : (m n : ℕ) (vs : List Variable) (x : ℕ) (t : Test) → n ≡ suc m → (item no_variable vs x).test ≡ Some t → chain n vs x ≡ t ∷ chain m vs t.variable
+unfolding step_of
+chain_some m n vs x t e h = ap (λ k. chain k vs x) e ∙ ap (step_of m vs) h
+
+pub chain_none : (n : ℕ) (vs : List Variable) (x : ℕ) → (item no_variable vs x).test ≡ None → chain n vs x ≡ []
+unfolding step_of
+chain_none zero vs x h = refl
+chain_none (suc n) vs x h = ap (step_of n vs) h
