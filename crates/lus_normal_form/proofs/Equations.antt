@@ -5,6 +5,7 @@ use Rattle.std.proofs.lemmas.List.{length-take-le}
 use Rattle.lus_values.specs.Values.{Value}
 use Rattle.lus_program.specs.Programs.{Expression, call, Equation, Node, Program, node_at}
 use Rattle.lus_values.specs.Lists.{item, Each}
+use Rattle.lus_values.proofs.Lists.{below_all}
 use Rattle.lus_streams.specs.Clocks.{Clock, clock_of, Part, at, base_of, parts}
 use Rattle.lus_streams.specs.Equations.{Definition, given_by, place_in, equation_clock, definition_in, definition_of, equation_parts, node_parts}
 use Rattle.lus_streams.specs.Streams.{Instant, World, is_present, row_of, entry, is_on, where_on, value, definition_value, HasValue, Follows, EquationsHold}
@@ -13,7 +14,6 @@ use Rattle.lus_normal_form.specs.NormalNodes.{IsDefinition, IsWithin, DefinesNew
 use Rattle.lus_normal_form.specs.NormalForm.{StandsFor, IsRight}
 use Rattle.lus_normal_form.specs.Named.{Uses, DefinesFirst, Known, GivesOutput, DefinitionFits, AreNamed}
 use Rattle.lus_streams.proofs.Lists.{each_left, each_right, each_append, below_at}
-use Rattle.lus_resolution.proofs.Lists.{below_each}
 use Rattle.lus_normal_form.proofs.NewParts.{new_fact, new_part, new_at}
 use Rattle.lus_normal_form.proofs.Values.{Keeps, KeepsOver, on_keeps, right_value, first_value, names_call, normal_value}
 use Rattle.lus_normal_form.proofs.Faults.{first_part, right_to, right_from}
@@ -191,7 +191,7 @@ module _ (p p' : Program) (new_parts : ℕ → List Part) (named : AreNamed p) (
       pub equations_to : EquationsHold p node i w → EquationsHold p' node' i' w'
       equations_to h = record {
         width = v.width;
-        variables = below_each _ (length node'.variables) (λ x lt. ⊎_elim (λ old. old_to x old (below_at (Follows p node i w) (length node.variables) h.variables x old)) (λ ge. new_to x ge lt) (cases_lt x (length node.variables)));
+        variables = below_all _ (length node'.variables) (λ x lt. ⊎_elim (λ old. old_to x old (below_at (Follows p node i w) (length node.variables) h.variables x old)) (λ ge. new_to x ge lt) (cases_lt x (length node.variables)));
         no_fault =
             equation_parts_hold p' NormalValued node'
             (λ x lt. ⊎_elim
@@ -214,7 +214,7 @@ module _ (p p' : Program) (new_parts : ℕ → List Part) (named : AreNamed p) (
       pub equations_from : EquationsHold p' node' i' w' → EquationsHold p node i w
       equations_from h = record {
         width = ap length v.front ∙ length-take-le (length node.variables) (row_of i') (omega (arith, v.width, (normal f).width));
-        variables = below_each _ (length node.variables) (λ x lt. old_from x lt (below_at (Follows p' node' i' w') (length node'.variables) h.variables x (omega (arith, lt, (normal f).width))));
+        variables = below_all _ (length node.variables) (λ x lt. old_from x lt (below_at (Follows p' node' i' w') (length node'.variables) h.variables x (omega (arith, lt, (normal f).width))));
         no_fault =
             equation_parts_hold p Valued node
             (λ x lt. definition_from h (definition_of node x) (definition_of node' x) (old_defined x lt) (right_parts p Used node node.equations x (named f).uses) (right_parts p' NormalValued node' node'.equations x h.no_fault))

@@ -2,6 +2,7 @@
 use Rattle.std.proofs.Common.{◌≡◌, ℕ, zero, suc, ◌+◌, ◌<◌, ◌≤◌, nat_eq, true, false, Bool, ◌||◌, List, [], ◌∷◌, ◌++◌, length, drop, Option, Some, None, refl, sym, ap, subst, IsTrue, arith, ⊎_elim, eq-or-lt_of_le}
 use Rattle.std.proofs.lemmas.Bool.{cases_lt, eq-eqb}
 use Rattle.lus_values.specs.Lists.{Each}
+use Rattle.lus_values.proofs.Lists.{below_all}
 use Rattle.lus_program.specs.Programs.{Expression, literal, variable, operate, pre, arrow, fby, when, merge, call, Operands, none, more, Node, Program, node_at}
 use Rattle.lus_streams.specs.Clocks.{renamed_clock, Clock, clock_of, Part, formal_clock, base_of}
 use Rattle.lus_streams.specs.Equations.{Definition, given_by, definition_of}
@@ -9,7 +10,6 @@ use Rattle.lus_streams.specs.OnClock.{actuals, DefinedOnClock, IsOnClocks}
 use Rattle.lus_streams.specs.Order.{needs, needs_all, clock_variables, needs_right, needed, is_in, HasNeedsFirst, HasOrder}
 use Rattle.lus_streams.proofs.Definitions.{defined_on_clock}
 use Rattle.lus_streams.proofs.Lists.{each_left, each_right, each_append, each_both, each_implies, each_map_right, each_map_drop, each_in, below_at}
-use Rattle.lus_resolution.proofs.Lists.{below_each}
 use Rattle.lus_normal_form.specs.NormalForm.{StandsFor, IsOperand, IsNormal, AreNormal, AreBranches, AreArguments, IsRight}
 use Rattle.lus_normal_form.specs.Named.{Uses, Known, GivesOutput, AreNamed}
 use Rattle.lus_normal_form.specs.NormalNodes.{IsDefinition, IsNormalOf}
@@ -216,7 +216,7 @@ module _ (p p' : Program) (new_parts : ℕ → List Part) (named : AreNamed p) (
         let g = olds_grown o.0 o.1.first in
         let olds = λ (x : ℕ) (lt : Known node x). each_in (λ y. Known node y → In g.all y) o.0 g.has x (below_at (λ y. IsTrue (is_in o.0 y)) (length node.variables) o.1.all x lt) lt in
         let r = all_grown (length (new_parts f)) (omega (arith, (normal f).width)) g.all g.first olds in
-        (r.0, record { first = r.1; all = below_each _ (length node'.variables) (λ x lt. r.2 x (omega (arith, lt, (normal f).width))) })
+        (r.0, record { first = r.1; all = below_all _ (length node'.variables) (λ x lt. r.2 x (omega (arith, lt, (normal f).width))) })
 
 pub normal_has_order : NormalHasOrder
 normal_has_order p p' new_parts named normal f clocks o = new_order p p' new_parts named normal f clocks o

@@ -4,6 +4,7 @@ use Rattle.std.proofs.Math.Logic.{inl, inr}
 use Rattle.std.proofs.lemmas.Option.{slice_get_within}
 use Rattle.std.specs.Prelude.{slice_get}
 use Rattle.lus_values.specs.Lists.{item, Each, Below}
+use Rattle.lus_values.proofs.Lists.{below_all}
 use Rattle.lus_program.specs.declared.expr.Test.{Test}
 use Rattle.lus_program.specs.declared.types.Kind.{Kind}
 use Rattle.lus_program.specs.Programs.{Expression, literal, variable, operate, pre, arrow, fby, when, merge, call, Operands, none, more, Equation, Node, Program, empty_node, node_at}
@@ -17,7 +18,6 @@ use Rattle.lus_streams.proofs.Definitions.{defined_on_clock}
 use Rattle.lus_streams.proofs.Lists.{each_left, each_append, each_both, each_implies, each_item, each_map_drop, below_at}
 use Rattle.lus_meaning.specs.Resolved.{values_of, kind_of_variable, kinds_given_in, EquationFits, NodeResolved}
 use Rattle.lus_resolution.proofs.CallsResolved.{resolved_calls_have_outputs}
-use Rattle.lus_resolution.proofs.Lists.{below_each}
 use Rattle.lus_resolution.proofs.NeedsResolved.{resolved_needs_are_variables}
 use Rattle.lus_resolution.proofs.Options.{map_gives}
 use Rattle.lus_resolution.proofs.Typed.{HasKind, HaveKinds, operate_typed, both_typed, when_typed, merge_typed, call_typed, more_typed, whole_call, whole_typed, fits_given}
@@ -159,9 +159,9 @@ module _ (p : Program) (nodes : Each (NodeResolved p) p.nodes) where
               (each_both (λ e. InNode p f e × OfCall IsCallHere e) (HasOutput p) (node_parts p f)
               (each_both (InNode p f) (OfCall IsCallHere) (node_parts p f) (equations_in_node p f clocks f.equations r.equations first) calls_here)
               outputs.parts);
-          clocks = below_each (λ x. Each (Known f) (clock_variables (clock_of f x))) (length f.variables) clocks;
+          clocks = below_all (λ x. Each (Known f) (clock_variables (clock_of f x))) (length f.variables) clocks;
           definitions =
-              below_each (λ x. DefinitionFits p f x (definition_of f x)) (length f.variables)
+              below_all (λ x. DefinitionFits p f x (definition_of f x)) (length f.variables)
               (λ x lt. definition_fits x (definition_of f x) (defined_on_clock p f x o) (below_at (λ y. OutputIs p (definition_of f y)) (length f.variables) outputs.defined x lt) (right_parts p (OfCall IsCallHere) f f.equations x calls_here));
           equations = first;
         }

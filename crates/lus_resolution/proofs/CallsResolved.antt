@@ -1,10 +1,11 @@
 -- Calls of a resolved program have outputs, one for each variable on their left.
-use Rattle.std.proofs.Common.{arith, ◌≡◌, ◌∙◌, sym, ap, refl, ℕ, suc, ◌+◌, ◌<◌, ◌≤◌, nat_eq, Bool, true, false, List, [], ◌∷◌, length, take, drop, Option, Some, None, if◌then◌else◌, length-drop}
+use Rattle.std.proofs.Common.{arith, ◌≡◌, ◌∙◌, sym, ap, refl, subst, ℕ, zero, suc, ◌+◌, ◌<◌, ◌≤◌, nat_eq, Bool, true, false, List, [], ◌∷◌, length, take, drop, Option, Some, None, if◌then◌else◌, length-drop}
 use Rattle.std.proofs.Math.ListN.{length-map}
 use Rattle.std.proofs.lemmas.List.{length-take-le}
 use Rattle.std.proofs.lemmas.Option.{get_or_from_slice_get}
 use Rattle.std.specs.Prelude.{slice_get}
 use Rattle.lus_values.specs.Lists.{Each}
+use Rattle.lus_values.proofs.Lists.{below_all}
 use Rattle.lus_program.specs.declared.types.Kind.{Kind}
 use Rattle.lus_program.specs.Programs.{Expression, literal, variable, operate, pre, arrow, fby, when, merge, call, Operands, none, more, Equation, Node, Program, empty_node, node_at}
 use Rattle.lus_streams.specs.Clocks.{Clock, parts}
@@ -14,7 +15,6 @@ use Rattle.lus_streams.proofs.Lists.{each_append, each_implies}
 use Rattle.lus_meaning.specs.Types.{all_same}
 use Rattle.lus_meaning.specs.Resolved.{input_kinds, output_kinds, call_results, results, kinds_given_in, EquationFits, NodeResolved}
 use Rattle.lus_resolution.specs.Laws.{ResolvedCallsHaveOutputs}
-use Rattle.lus_resolution.proofs.Lists.{below_each, each_at}
 use Rattle.lus_resolution.proofs.Options.{and_then_gives, where_true_gives}
 use Rattle.lus_resolution.proofs.Typed.{HasKind, HaveKinds, IsCall, HasGiven, operate_typed, both_typed, when_typed, merge_typed, call_typed, more_typed, whole_call, whole_typed, fits_given}
 use Rattle.lus_resolution.proofs.Calls.{EachCall, EachCallIn, HasSome, parts_have}
@@ -32,6 +32,11 @@ output_count : (f : Node) → f.inputs + f.outputs ≤ length f.variables → le
 output_count f le =
     length-map (take f.outputs (drop f.inputs f.variables)) (λ v. v.kind)
     ∙ length-take-le f.outputs (drop f.inputs f.variables) (let rest = length-drop f.inputs f.variables in omega (arith, le, rest))
+
+each_at : {X : Type 0} (P : X → Type 0) (xs : List X) → Each P xs → (n : ℕ) (x : X) → slice_get xs n ≡ Some x → P x
+each_at P [] h n x e = cc
+each_at P (y ∷ ys) h zero x e = let same : y ≡ x = cc in subst P same h.0
+each_at P (y ∷ ys) h (suc n) x e = each_at P ys h.1 n x e
 
 module _ (p : Program) (resolved : Each (NodeResolved p) p.nodes) where
   -- a call gives as many types as its node has outputs
@@ -107,7 +112,7 @@ module _ (p : Program) (resolved : Each (NodeResolved p) p.nodes) where
     node_calls : NodeResolved p f → CallsHaveOutputs p f
     node_calls r = record {
       parts = rights_have f.equations r.equations r.lefts;
-      defined = below_each (λ x. OutputIs p (definition_of f x)) (length f.variables) (λ x lt. defined_outputs f.equations r.equations x);
+      defined = below_all (λ x. OutputIs p (definition_of f x)) (length f.variables) (λ x lt. defined_outputs f.equations r.equations x);
     }
 
 pub resolved_calls_have_outputs : ResolvedCallsHaveOutputs

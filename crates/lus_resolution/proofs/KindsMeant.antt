@@ -17,7 +17,7 @@ use Rattle.lus_syntax.specs.declared.tree.Infix.{Infix}
 use Rattle.lus_syntax.specs.declared.tree.Infix.TheVariants as infixes
 use Rattle.lus_syntax.specs.Lexemes.{Text}
 use Rattle.lus_syntax.specs.Trees as tree
-use Rattle.lus_syntax.specs.Trees.{Label, Constructor, Boolean, Holds, Fails, Is, Lead, Plain, Of, Branch, Numeral, Truth, Name, Call, Structure, Merge, Field, Parentheses, When, Unary, Binary, If, Parts, End, More}
+use Rattle.lus_syntax.specs.Trees.{Label, Constructor, Boolean, Holds, Fails, Is, Numeral, Truth, Name, Call, Structure, Merge, Field, Parentheses, When, Unary, Binary, If, Parts, End, More}
 use Rattle.lus_program.specs.declared.expr.Test.{Test}
 use Rattle.lus_program.specs.declared.types.Kind.{Kind}
 use Rattle.lus_program.specs.declared.types.Kind.TheVariants as kinds

@@ -1,4 +1,3 @@
-pub mod Lists
 pub mod Options
 pub mod Entries
 pub mod Calls

@@ -3,6 +3,7 @@ use Rattle.std.proofs.Common.{◌≡◌, refl, sym, ℕ, zero, suc, ◌<◌, nat
 use Rattle.std.proofs.lemmas.Option.{slice_get_within}
 use Rattle.std.specs.Prelude.{slice_get}
 use Rattle.lus_values.specs.Lists.{item, Each, Below}
+use Rattle.lus_values.proofs.Lists.{below_all}
 use Rattle.lus_program.specs.declared.expr.Test.{Test}
 use Rattle.lus_program.specs.declared.types.Kind.{Kind}
 use Rattle.lus_program.specs.Programs.{Expression, literal, variable, operate, pre, arrow, fby, when, merge, call, Operands, none, more, Equation, Node, Program, no_variable}
@@ -12,7 +13,6 @@ use Rattle.lus_streams.specs.Order.{needs, needs_all, clock_variables, needs_rig
 use Rattle.lus_streams.proofs.Lists.{each_append, each_implies, each_item}
 use Rattle.lus_meaning.specs.Resolved.{values_of, kind_of_variable, test_fits, kinds_given_in, EquationFits, VariableFits, NodeResolved}
 use Rattle.lus_resolution.specs.Laws.{ResolvedNeedsAreVariables}
-use Rattle.lus_resolution.proofs.Lists.{below_each}
 use Rattle.lus_resolution.proofs.Options.{map_gives}
 use Rattle.lus_resolution.proofs.Typed.{HasKind, HaveKinds, operate_typed, both_typed, when_typed, merge_typed, call_typed, more_typed, whole_call, whole_typed, fits_given}
 
@@ -80,7 +80,7 @@ module _ (p : Program) (f : Node) where
 
   node_within : NodeResolved p f → Below (length f.variables) (λ x. Each (λ y. y < length f.variables) (needed f x))
   node_within r =
-      below_each (λ x. Within (needed f x)) (length f.variables)
+      below_all (λ x. Within (needed f x)) (length f.variables)
       (λ x lt. each_append (λ y. y < length f.variables) (clock_variables (clock_of f x)) (needs_right (definition_of f x)) (chain_within r.variables (length f.variables) x) (right_within f.equations r.equations x))
 
 pub resolved_needs_are_variables : ResolvedNeedsAreVariables

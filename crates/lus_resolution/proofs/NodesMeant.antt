@@ -5,6 +5,7 @@ use Rattle.std.proofs.lemmas.Bool.{ltb-true}
 use Rattle.std.specs.Prelude.{flat_map, option_map, is_some, unwrap_or}
 use Rattle.std.specs.List.{list_all}
 use Rattle.lus_values.specs.Lists.{Each}
+use Rattle.lus_values.proofs.Lists.{below_all}
 use Rattle.lus_syntax.specs.Trees as tree
 use Rattle.lus_syntax.specs.Trees.{Group, Tree}
 use Rattle.lus_program.specs.declared.expr.Test.{Test}
@@ -20,7 +21,6 @@ use Rattle.lus_meaning.specs.Refusals.{WellFormed}
 use Rattle.lus_meaning.specs.WellTyped.{kinds_given, left_kinds, are_given, equation_typed, test_typed, NodeTyped}
 use Rattle.lus_meaning.specs.Meaning.{variable_place, test_meant, no_test, meant, variables_of, equations_meant, node_meant, program_of}
 use Rattle.lus_meaning.specs.Resolved.{test_fits, VariableFits, EquationFits, AreNumbered, IsDefined, NodeResolved}
-use Rattle.lus_resolution.proofs.Lists.{below_each}
 use Rattle.lus_resolution.proofs.Options.{all_same_is}
 use Rattle.lus_resolution.proofs.Numbering.{calls-numbered, numbered-numbered, given-numbered}
 use Rattle.lus_resolution.proofs.KindsMeant.{placed_fits, given_is}
@@ -94,7 +94,7 @@ module _ (p : Tree) (f : tree.Node) where
       formals = formals_are p f;
       variables = variables_fit (groups f) typed.tests;
       targets = targets_within p f named;
-      defined = below_each (IsDefined g) (length g.variables) (is_defined p f named);
+      defined = below_all (IsDefined g) (length g.variables) (is_defined p f named);
       lefts = lefts_some s 0 f.equations named.left_some;
       equations = equations_fit 0 f.equations typed.equations (all_left p f named);
       numbered = equations_numbered s 0 f.equations;

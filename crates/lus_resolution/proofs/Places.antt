@@ -7,19 +7,12 @@ use Rattle.lus_values.specs.Lists.{Each}
 use Rattle.lus_syntax.specs.Lexemes.{Text}
 use Rattle.lus_streams.proofs.NilFree.{and_left, and_right}
 use Rattle.lus_meaning.specs.Named.{is_in, all_new}
+use Rattle.lus_meaning.proofs.AppendedNames.{is_in-append}
 use Rattle.lus_resolution.proofs.Texts.{same_text, text_self}
 
 pub list_all_each : {X : Type 0} (test : X → Bool) (xs : List X) → list_all test xs ≡ true → Each (λ x. test x ≡ true) xs
 list_all_each test [] h = tt
 list_all_each test (x ∷ xs) h = (and_left (test x) (list_all test xs) h, list_all_each test xs (and_right (test x) (list_all test xs) h))
-
-or_assoc : (a b c : Bool) → (a || (b || c)) ≡ ((a || b) || c)
-or_assoc true b c = refl
-or_assoc false b c = refl
-
-pub is_in-append : (ms ns : List Text) (t : Text) → is_in (ms ++ ns) t ≡ (is_in ms t || is_in ns t)
-is_in-append [] ns t = refl
-is_in-append (m ∷ ms) ns t = ap (λ b. bytes_eq t m || b) (is_in-append ms ns t) ∙ or_assoc (bytes_eq t m) (is_in ms t) (is_in ns t)
 
 or_right : (a b : Bool) → b ≡ true → (a || b) ≡ true
 or_right true b h = refl
