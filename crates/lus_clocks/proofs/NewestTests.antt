@@ -1,30 +1,18 @@
 -- Clocks of a node whose declared clocks aren't circular: each is determined by its newest test.
-use Rattle.std.proofs.Common.{rules, ◌≡◌, ℕ, zero, suc, true, nat_eq, List, [], ◌∷◌, length, drop, Option, Some, None, refl, sym, ap, ◌∙◌, subst, true≢false, suc-ne-zero, ⊎_elim}
+use Rattle.std.proofs.Common.{rules, ◌≡◌, ℕ, zero, suc, true, nat_eq, [], ◌∷◌, length, drop, Option, Some, None, refl, sym, ap, ◌∙◌, subst, true≢false, suc-ne-zero, ⊎_elim}
 use Rattle.std.proofs.lemmas.Bool.{eqb-true, cases_lt}
-use Rattle.lus_values.specs.Lists.{item, Below}
+use Rattle.lus_values.specs.Lists.{Below}
 use Rattle.lus_program.specs.declared.expr.Test.{Test}
 use Rattle.lus_program.specs.Programs.{Variable, Node, no_variable}
-use Rattle.lus_streams.specs.Clocks.{Clock, chain, clock_of}
+use Rattle.lus_streams.specs.Clocks.{Clock, clock_of}
 use Rattle.lus_streams.specs.OnClock.{IsDeclared, test_of}
 use Rattle.lus_streams.proofs.Lists.{below_at, item_past}
+use Rattle.lus_streams.proofs.Clocks.{chain_none}
 use Rattle.lus_streams.proofs.NilFree.{and_left, and_right, and_true}
 use Rattle.lus_clocks.specs.Fitting.{clock_from, same_test, without_tests}
 
 abbrev pub AreDeclared : Node → Type 0
 AreDeclared f = Below (length f.variables) (λ x. IsDeclared f x (test_of f x))
-
-step_of : ℕ → List Variable → Option Test → Clock
-step_of n vs o = elim o [ None ↦ [] | Some t ↦ t ∷ chain n vs t.variable ]
-
--- one step of a variable's clock
-pub chain_some : (m n : ℕ) (vs : List Variable) (x : ℕ) (t : Test) → n ≡ suc m → (item no_variable vs x).test ≡ Some t → chain n vs x ≡ t ∷ chain m vs t.variable
-unfolding step_of
-chain_some m n vs x t e h = ap (λ k. chain k vs x) e ∙ ap (step_of m vs) h
-
-pub chain_none : (n : ℕ) (vs : List Variable) (x : ℕ) → (item no_variable vs x).test ≡ None → chain n vs x ≡ []
-unfolding step_of
-chain_none zero vs x h = refl
-chain_none (suc n) vs x h = ap (step_of n vs) h
 
 -- two optional tests are one
 pub same_test_is : (a b : Option Test) → same_test a b ≡ true → a ≡ b

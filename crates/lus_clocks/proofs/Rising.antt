@@ -8,6 +8,7 @@ use Rattle.lus_program.specs.View.{expression_of}
 use Rattle.lus_streams.specs.Order.{is_in}
 use Rattle.lus_streams.specs.Flags.{flag, greatest}
 use Rattle.lus_streams.proofs.Lists.{item_past}
+use Rattle.lus_streams.proofs.NilFree.{or_more}
 use Rattle.lus_clocks.specs.Raising.{flags_in, given, all_given, raised, raised_count, AreFalse, IsNext, AreLeast}
 
 -- one flag set
@@ -54,11 +55,6 @@ module _ (flags : ℕ → Bool) where
 
 -- more flags give more
 module _ (a b : ℕ → Bool) (below : (x : ℕ) → a x ≡ true → b x ≡ true) where
-  or_more : (p q p' q' : Bool) → (p ≡ true → p' ≡ true) → (q ≡ true → q' ≡ true) → (p || q) ≡ true → (p' || q') ≡ true
-  or_more true q p' q' f g h = ap (λ x. x || q') (f refl)
-  or_more false q true q' f g h = refl
-  or_more false q false q' f g h = g h
-
   mutual
     pub flag_more : (e : Expression) → flag a e ≡ true → flag b e ≡ true
     flag_more (literal v) h = h

@@ -16,7 +16,8 @@ use Rattle.lus_streams.specs.OnClock.{MayTest, IsDeclared, test_of, LeftOnClock,
 use Rattle.lus_streams.proofs.Lists.{below_at, each_item}
 use Rattle.lus_streams.proofs.NilFree.{and_left, and_right, and_true}
 use Rattle.lus_clocks.specs.Fitting.{may_test, is_declared, are_declared, all_declared, equation_fits, equations_fit, all_fit}
-use Rattle.lus_clocks.proofs.NewestTests.{AreDeclared, chain_some}
+use Rattle.lus_streams.proofs.Clocks.{chain_some}
+use Rattle.lus_clocks.proofs.NewestTests.{AreDeclared}
 use Rattle.lus_clocks.proofs.Equations.{equation_is, is_equation}
 use Rattle.lus_clocks.proofs.Numbering.{equation_numbered}
 

@@ -7,7 +7,7 @@ use Rattle.lus_streams.specs.Clocks.{chain}
 use Rattle.lus_streams.specs.OnClock.{actuals}
 use Rattle.lus_clocks.specs.Fitting.{names_in, renamed_by, renamed_first}
 use Rattle.lus_clocks.specs.View.{clock_in}
-use Rattle.lus_clocks.proofs.NewestTests.{chain_some}
+use Rattle.lus_streams.proofs.Clocks.{chain_some}
 use Rattle.lus_clocks.proofs.call.argument_clock.Goals as goal
 
 pub loop-step-preserved : goal.loop-step-preserved

@@ -7,7 +7,7 @@ use Rattle.lus_streams.specs.Clocks.{chain}
 use Rattle.lus_streams.specs.OnClock.{actuals, test_of}
 use Rattle.lus_clocks.specs.Fitting.{names_in, leads_to, same_test, test_on}
 use Rattle.lus_clocks.specs.View.{clock_in}
-use Rattle.lus_clocks.proofs.NewestTests.{chain_some}
+use Rattle.lus_streams.proofs.Clocks.{chain_some}
 use Rattle.lus_clocks.proofs.Steps.{skipped_test, renamed_test_is}
 use Rattle.lus_clocks.proofs.call.follows_base.Goals as goal
 use Rattle.lus_clocks.proofs.call.follows_base.Goals.{in-Some-name_for+else-not-same_clock, in_default}

@@ -3,7 +3,7 @@ use Rattle.std.proofs.Math.ListN.{length-map}
 use Rattle.lus_values.specs.Lists.{item}
 use Rattle.lus_program.specs.Programs.{Variable, no_variable}
 use Rattle.lus_program.specs.View.{variable_of}
-use Rattle.lus_clocks.proofs.NewestTests.{chain_some}
+use Rattle.lus_streams.proofs.Clocks.{chain_some}
 use Rattle.lus_clocks.proofs.clock.depth_of.Goals as goal
 
 pub loop-step-preserved : goal.loop-step-preserved
