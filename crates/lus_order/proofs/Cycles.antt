@@ -2,7 +2,7 @@
 use Rattle.std.proofs.Common.{arith, ◌≡◌, ◌∙◌, refl, ap, subst, ℕ, zero, suc, ◌<◌, ◌≤◌, nat_eq, Bool, true, false, ◌||◌, List, [], ◌∷◌, length, Contains, Option, Some, None, IsTrue, ⊎_elim, not-suc-le-zero}
 use Rattle.std.proofs.lemmas.Bool.{cases_lt}
 use Rattle.std.proofs.lemmas.Bool.Decides.{nat_tests}
-use Rattle.std.proofs.lemmas.List.{get_or_past, get_or_default}
+use Rattle.std.proofs.lemmas.List.{get_or_default}
 use Rattle.std.proofs.lemmas.List.Elements.{Contains-append_cases, Contains-append_left, Contains-append_right, Contains-get_or}
 use Rattle.lus_values.specs.Lists.{item}
 use Rattle.lus_graph.specs.declared.walk.GraphError.{GraphError}
@@ -10,11 +10,13 @@ use Rattle.lus_graph.specs.declared.walk.GraphError.TheVariants as errors
 use Rattle.lus_graph.specs.Ways.{Uses, used, IsCycle}
 use Rattle.lus_graph.specs.Walks.{IsCycleError}
 use Rattle.lus_graph.proofs.Steps.{no_item, one_item}
+use Rattle.lus_graph.proofs.NoWayBack.{user_within}
 use Rattle.lus_program.specs.declared.expr.Test.{Test}
-use Rattle.lus_program.specs.Programs.{Variable, Node, no_variable}
+use Rattle.lus_program.specs.Programs.{Node, no_variable}
 use Rattle.lus_streams.specs.Clocks.{chain, clock_of}
 use Rattle.lus_streams.specs.Equations.{definition_of}
 use Rattle.lus_streams.specs.Order.{clock_variables, needs_right, needed, is_in, HasOrder}
+use Rattle.lus_streams.proofs.Clocks.{chain_some}
 use Rattle.lus_streams.proofs.Orders.{no_cycle}
 use Rattle.lus_order.specs.Orders.{IsNeedCycle}
 use Rattle.lus_order.specs.Uses.{tested, uses_by, AreUses, IsNeedCycleError}
@@ -31,9 +33,6 @@ contains_in [] y (k, lt, e) = absurd (not-suc-le-zero lt)
 contains_in (z ∷ ys) y (zero, lt, e) = let same : nat_eq y z ≡ true = grind (arith, nat_tests) in in_first (nat_eq y z) (is_in ys y) same
 contains_in (z ∷ ys) y (suc k, lt, e) = in_rest (nat_eq y z) (is_in ys y) (contains_in ys y (k, omega arith, e))
 
-chain_opens : (n m : ℕ) (vs : List Variable) (x : ℕ) (t : Test) → n ≡ suc m → (item no_variable vs x).test ≡ Some t → chain n vs x ≡ t ∷ chain m vs t.variable
-chain_opens n m vs x t e h = ap (λ i. chain i vs x) e ∙ ap (λ o. elim o [ None ↦ [] | Some s ↦ s ∷ chain m vs s.variable ]) h
-
 some_less : (n x : ℕ) → x < n → (m : ℕ) × (n ≡ suc m)
 some_less zero x lt = absurd (not-suc-le-zero lt)
 some_less (suc m) x lt = (m, refl)
@@ -43,7 +42,7 @@ module _ (f : Node) where
   test_needed x y lt None e c = absurd (no_item c.0 c.1)
   test_needed x y lt (Some t) e c =
       let m = some_less (length f.variables) x lt in
-      let opened : clock_of f x ≡ t ∷ chain m.0 f.variables t.variable = chain_opens (length f.variables) m.0 f.variables x t m.1 e in
+      let opened : clock_of f x ≡ t ∷ chain m.0 f.variables t.variable = chain_some m.0 (length f.variables) f.variables x t m.1 e in
       rw opened (0, omega arith, one_item t.variable y c)
 
   -- what a variable uses, it needs
@@ -57,12 +56,9 @@ module _ (f : Node) where
       (Contains-append_cases (tested o) rights y c)
 
   module _ (uses : Uses) (are : AreUses f uses) where
-    user_within : (x y : ℕ) → Contains (used uses x) y → x < length uses
-    user_within x y c = ⊎_elim (λ lt. lt) (λ le. let none : used uses x ≡ [] = get_or_past uses x [] le in let d : Contains [] y = rw none at c in absurd (no_item d.0 d.1)) (cases_lt x (length uses))
-
     needed_by : (x y : ℕ) → Contains (used uses x) y → Contains (needed f x) y
     needed_by x y c =
-        let lt = user_within x y c in
+        let lt = user_within uses x y c in
         let d : Contains (uses_by f x) y = rw (are.each x lt) at c in
         used_needed x y (omega (arith, lt, are.size)) d
 
@@ -70,8 +66,8 @@ module _ (f : Node) where
     need_cycle xs c = record {
       some = c.some;
       within = λ k lt. ⊎_elim
-          (λ (more : suc k < length xs). let d = user_within (item 0 xs k) (item 0 xs (suc k)) (c.way k more) in omega (arith, d, are.size))
-          (λ (last : length xs ≤ suc k). let d = user_within (item 0 xs k) (item 0 xs 0) (c.closes k (omega arith)) in omega (arith, d, are.size))
+          (λ (more : suc k < length xs). let d = user_within uses (item 0 xs k) (item 0 xs (suc k)) (c.way k more) in omega (arith, d, are.size))
+          (λ (last : length xs ≤ suc k). let d = user_within uses (item 0 xs k) (item 0 xs 0) (c.closes k (omega arith)) in omega (arith, d, are.size))
           (cases_lt (suc k) (length xs));
       next = λ k lt. needed_by (item 0 xs k) (item 0 xs (suc k)) (c.way k lt);
       closes = λ last e. needed_by (item 0 xs last) (item 0 xs 0) (c.closes last e);
