@@ -3,8 +3,9 @@
 use Rattle.std.proofs.Common.{◌≡◌, ℕ, zero, suc, ◌<◌, ◌≤◌, nat_lt, Bool, true, false, is_some, List, [], ◌∷◌, length, take, None, refl, sym, ap, ◌∙◌, subst, MatchBool, not-suc-le-zero, le_of_suc-le-suc, arith}
 use Rattle.std.specs.List.{list_all}
 use Rattle.std.proofs.lemmas.Bool.{ltb-true, ltb-false, le-ltb}
-use Rattle.lus_values.specs.Lists.{item, Below}
+use Rattle.lus_values.specs.Lists.{item}
 use Rattle.lus_values.specs.Values.{Row}
+use Rattle.lus_values.proofs.Lists.{below_all}
 use Rattle.lus_program.specs.declared.node.Equation.{Equation as StoredEquation}
 use Rattle.lus_program.specs.declared.node.Node.{Node as StoredNode}
 use Rattle.lus_program.specs.Programs.{Node, Program, node_at}
@@ -21,10 +22,6 @@ use Rattle.lus_runner.specs.Replies.{IsStep}
 use Rattle.lus_runner.proofs.Numbering.{rights_plain}
 use Rattle.lus_runner.proofs.Solutions.{filled_back, length_filled, inputs_kept, row_solves, row_only}
 use Rattle.lus_runner.proofs.PlainStreams.{definition_is, equations_have_values, equations_are_computed, equations_have_no_sites, clock_is_base}
-
-below_all : (P : ℕ → Type 0) (n : ℕ) → ((x : ℕ) → x < n → P x) → Below n P
-below_all P zero h = tt
-below_all P (suc n) h = (h n (omega arith), below_all P n (λ x lt. h x (omega arith)))
 
 some_item : (os : Row) (x : ℕ) → list_all is_some os ≡ true → x < length os → is_some (item None os x) ≡ true
 some_item [] x h lt = absurd (not-suc-le-zero lt)

@@ -1,21 +1,22 @@
 -- The streams of a plain expression: its value at an instant depends on the row alone, it has no calls, and each of its
 -- parts has a value where it has one.
-use Rattle.std.proofs.Common.{◌≡◌, ℕ, zero, suc, ◌+◌, Bool, true, false, is_some, List, [], ◌∷◌, ◌++◌, length, Option, Some, None, refl, sym, ap, ap₂, ◌∙◌, true≢false, append_assoc, if◌then◌else◌}
+use Rattle.std.proofs.Common.{◌≡◌, ℕ, ◌+◌, Bool, true, false, is_some, List, [], ◌∷◌, ◌++◌, length, Option, Some, None, refl, sym, ap, ap₂, ◌∙◌, true≢false, append_assoc, if◌then◌else◌}
 use Rattle.std.specs.Prelude.{is_none}
 use Rattle.std.specs.List.{list_all}
 use Rattle.lus_values.specs.declared.operator.Operator.{Operator}
 use Rattle.lus_values.specs.declared.operator.Operator.TheVariants.{Compute, If, Structure, Field}
-use Rattle.lus_values.specs.Lists.{item, Each}
+use Rattle.lus_values.specs.Lists.{Each}
 use Rattle.lus_values.specs.Operators.{apply}
 use Rattle.lus_values.specs.Values.{Value, Row}
 use Rattle.lus_program.specs.declared.expr.Test.{Test}
 use Rattle.lus_program.specs.declared.node.Equation.{Equation as StoredEquation}
 use Rattle.lus_program.specs.Programs.{Expression, literal, variable, operate, Operands, none, more, calls, numbered, all_numbered, Variable, Node, Program, no_variable}
 use Rattle.lus_program.specs.View.{expression_of, equations_from}
-use Rattle.lus_streams.specs.Clocks.{Clock, chain, clock_of, Part, parts, operand_parts}
+use Rattle.lus_streams.specs.Clocks.{Clock, clock_of, Part, parts, operand_parts}
 use Rattle.lus_streams.specs.Equations.{Definition, given_by, place_in, equation_clock, definition_in, equation_parts, sites_in}
 use Rattle.lus_streams.specs.Order.{is_in}
 use Rattle.lus_streams.specs.Streams.{Instant, instant, Called, World, is_on, with_operand, with_operands, value, values, definition_value, HasValue}
+use Rattle.lus_streams.proofs.Clocks.{chain_none}
 use Rattle.lus_streams.proofs.Lists.{each_append, each_left, each_right, each_item}
 use Rattle.lus_streams.proofs.NilFree.{and_left, and_right, and_true}
 use Rattle.lus_runner.specs.Plain.{plain, all_plain, plain_operator, plain_kind, plain_variable}
@@ -168,10 +169,6 @@ tests_none (v ∷ vs) h = (
   no_test v.test (and_left (is_none v.test) (plain_kind v.kind) (and_left (plain_variable v) (list_all plain_variable vs) h)),
   tests_none vs (and_right (plain_variable v) (list_all plain_variable vs) h),
 )
-
-chain_none : (n : ℕ) (vs : List Variable) (x : ℕ) → (item no_variable vs x).test ≡ None → chain n vs x ≡ []
-chain_none zero vs x h = refl
-chain_none (suc n) vs x h = ap (λ (o : Option Test). elim o [ None ↦ [] | Some t ↦ t ∷ chain n vs t.variable ]) h
 
 pub clock_is_base : (f : Node) → list_all plain_variable f.variables ≡ true → (x : ℕ) → clock_of f x ≡ []
 clock_is_base f h x = chain_none (length f.variables) f.variables x (each_item (λ v. v.test ≡ None) no_variable f.variables refl (tests_none f.variables h) x)

@@ -1,6 +1,6 @@
 //! Whether an expression of a plain node faults at an instant.
 
-ghost use Rattle.std.specs.Prelude.{◌≡◌, ◌<◌, ◌≤◌, IfOk, IfSome, IsTrue, length, map};
+ghost use Rattle.std.specs.Prelude.{◌≡◌, ◌<◌, ◌≤◌, IfOk, IsTrue, length, map};
 ghost use Rattle.lus_values.specs.Lists.{item};
 ghost use Rattle.lus_values.specs.View.{entry_of};
 ghost use Rattle.lus_runner.specs.Evaluation.{right_computed, all_computed, AreDefinitions, IsSolved};
