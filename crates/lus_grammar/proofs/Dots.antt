@@ -16,9 +16,6 @@ pub record Dotting (limit : ℕ) (left : Found) (total : Read) : Type 0 where
   pub enough : limit < turns + left.depth
   pub goes_on : dots_at turns limit left ≡ total
 
-pub dots_start : (n : ℕ) (left : Found) → Dotting n left (dots_at (suc n) n left)
-dots_start n left = record { turns = suc n; enough = omega arith; goes_on = refl }
-
 module _ (n : ℕ) (left : Found) (total : Read) (x : Span × List Lexeme) (at : front (Sign symbols.Dot) left.rest ≡ Some x) where
   too_deep_in : (turns : ℕ) → n < left.depth → dots_at turns n left ≡ Err Deep
   unfolding dots_at

@@ -110,9 +110,6 @@ module _ (uses : Uses) (ms : List Mark) (path order : List ℕ) (x : ℕ) (s : I
   done_now : mark_at (set ms x marks.Done) x ≡ marks.Done
   done_now = get_or-set_same ms x marks.Done marks.New within
 
-  pub no_newer : new_count (set ms x marks.Done) ≤ new_count ms
-  no_newer = omega (arith, sum_by-set one_if_new ms x marks.Done marks.New within, ap one_if_new is_open)
-
   pub closes : ((y : ℕ) → y < length uses → Contains (used uses x) y → Contains order y) → IsSound uses (set ms x marks.Done) path (order ++ x ∷ [])
   closes done = record {
     size = length-set ms x marks.Done ∙ s.size;

@@ -13,6 +13,3 @@ one_more vs v (Some ws) = ap Some (sym (append_assoc vs (v ∷ []) ws))
 pub values_more : (r : Row) (vs : List Value) (v : Value) (e : Expression) (es : Operands) → evaluated r e ≡ Some v
     → option_map (λ ws. vs ++ ws) (all_evaluated r (more e es)) ≡ option_map (λ ws. (vs ++ v ∷ []) ++ ws) (all_evaluated r es)
 values_more r vs v e es h = ap (λ o. option_map (λ ws. vs ++ ws) (with_operand o (all_evaluated r es))) h ∙ one_more vs v (all_evaluated r es)
-
-pub values_missing : (r : Row) (e : Expression) (es : Operands) → evaluated r e ≡ None → all_evaluated r (more e es) ≡ None
-values_missing r e es h = ap (λ o. with_operand o (all_evaluated r es)) h

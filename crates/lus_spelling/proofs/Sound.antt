@@ -115,9 +115,6 @@ front_is l (t ∷ ts) x e =
     let h = some_if (is_lexeme l t.kind) (t.span, ts) x e in
     subst (λ (y : Span × List Lexeme). t ∷ ts ≡ tok l y.0 ∷ y.1) h.1 (ap (λ (m : Kind). tok m t.span ∷ ts) (is_lexeme-true l t.kind h.0))
 
-abbrev rest_ok : List Lexeme → Result (List Lexeme) Fault
-rest_ok ts = Ok ts
-
 expected_is : (l : Kind) (ts : List Lexeme) (rest : List Lexeme) (o : Option (Span × List Lexeme)) → front l ts ≡ o → expected o ≡ Ok rest → (s : Span) × (ts ≡ tok l s ∷ rest)
 expected_is l ts rest None at e = absurd cc
 expected_is l ts rest (Some x) at e = (x.0, subst (λ (r : List Lexeme). ts ≡ tok l x.0 ∷ r) (ok_is x.1 rest e) (front_is l ts x at))

@@ -51,10 +51,6 @@ pub here_is : (b : Bool) (ts r : List Lexeme) → cond b (Some ts) None ≡ Some
 here_is true ts r e = some_is ts r e
 here_is false ts r e = absurd cc
 
-token_is : (ts r : List Lexeme) → at_token ts ≡ Some r → ts ≡ r
-token_is [] r e = absurd cc
-token_is (t ∷ ts) r e = some_is (t ∷ ts) r e
-
 skip_is : (kind : Kind) (ts : List Lexeme) → (ss : List Lexeme) × (ts ≡ ss ++ skip kind ts) × Optional kind ss
 skip_is kind ts = go (front kind ts) refl
   where

@@ -56,13 +56,6 @@ pub past_column : (at : Place) (xs : List ℕ) → (past at xs).column ≤ at.co
 past_column at [] = omega arith
 past_column at (x ∷ xs) = omega (arith, past_column (past_one at x) xs, past_one_column at x)
 
-pub room_front : (at : Place) (xs ys : List ℕ) → HasRoom at (xs ++ ys) → HasRoom at xs
-room_front at xs ys room = record {
-  byte = omega (arith, room.byte, length-append xs ys);
-  line = omega (arith, room.line, length-append xs ys);
-  column = omega (arith, room.column, length-append xs ys);
-}
-
 pub room_after : (at : Place) (xs ys : List ℕ) → HasRoom at (xs ++ ys) → HasRoom (past at xs) ys
 room_after at xs ys room = record {
   byte = omega (arith, room.byte, length-append xs ys, past_byte at xs);

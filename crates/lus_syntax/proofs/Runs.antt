@@ -6,12 +6,12 @@ use Rattle.lus_syntax.specs.declared.token.Place.{Place}
 use Rattle.lus_syntax.specs.declared.refusal.RefusalNumber.TheVariants.{Lexical}
 use Rattle.lus_syntax.specs.declared.fault.LexError.{LexError}
 use Rattle.lus_syntax.specs.declared.fault.LexError.TheVariants as errors
-use Rattle.lus_syntax.specs.Places.{past, start}
-use Rattle.lus_syntax.specs.Reading.{HasRoom, Skips, Gives, IsFault, IsBreak, IsWrong, IsOpen}
+use Rattle.lus_syntax.specs.Places.{past}
+use Rattle.lus_syntax.specs.Reading.{HasRoom, Skips, Gives, IsWrong, IsOpen}
 use Rattle.lus_syntax.specs.Texts.{LongestText, NoText, meaning}
 use Rattle.lus_syntax.specs.Gaps.{Piece, Gap, IsGap, IsPlain}
 use Rattle.lus_syntax.specs.Lexemes.{Lexeme}
-use Rattle.lus_syntax.specs.Tokens.{Here, Reads, Run, Ends, Wrong, open_comment, no_token, no_meaning, Breaks, Tokens}
+use Rattle.lus_syntax.specs.Tokens.{Here, Reads, Run, Ends, Wrong, open_comment, no_token, no_meaning, Breaks}
 use Rattle.lus_syntax.proofs.Places.{room_after}
 use Rattle.lus_syntax.proofs.Meanings.{text_nonempty}
 
@@ -83,19 +83,5 @@ text_wrong here plain some none = no_token plain (λ e. absurd (omega (arith, ap
 pub open_breaks : (at : Place) (text : List ℕ) (to : Place) → IsOpen at text to → Breaks at text Lexical to
 open_breaks at text to h = record { here = h.0; gap = h.1; wrong = open_comment h.2 }
 
-pub wrong_breaks : (at : Place) (text : List ℕ) (to : Place) (here : List ℕ) (e : LexError) → IsGap at text to here → IsWrong to here e → IsBreak at text e
-wrong_breaks at text to here errors.Memory gap wrong = tt
-wrong_breaks at text to here (errors.Fault f place) gap wrong = record { here = here; gap = subst (λ (x : Place). IsGap at text x here) (sym wrong.1) gap; wrong = wrong.0 }
-
-pub reads_here : (at : Place) (text : List ℕ) (to : Place) (here : List ℕ) (t : Lexeme) (rest : List ℕ) → IsGap at text to here → IsPlain here → Here here t rest → t.span.start ≡ to → Reads at text t rest
-reads_here at text to here t rest gap plain token is = record { here = here; gap = subst (λ (x : Place). IsGap at text x here) (sym is) gap; plain = plain; token = token }
-
 pub ends_here : (at : Place) (text : List ℕ) (to : Place) (here : List ℕ) → IsGap at text to here → length here ≡ 0 → Ends at text
 ends_here at text to here gap none = record { to = to; gap = subst (λ (x : List ℕ). IsGap at text to x) (nil_from_length here none) gap }
-
-pub run_ends : (text : List ℕ) (ts : List Lexeme) (to : Place) (rest : List ℕ) → Run ts start text to rest → Ends to rest → Tokens text ts
-run_ends text ts to rest run ends = record { to = to; rest = rest; run = run; ends = ends }
-
-pub run_breaks : (text : List ℕ) (ts : List Lexeme) (to : Place) (rest : List ℕ) (e : LexError) → Run ts start text to rest → IsBreak to rest e → IsFault text e
-run_breaks text ts to rest errors.Memory run breaks = tt
-run_breaks text ts to rest (errors.Fault f place) run breaks = record { before = ts; to = to; rest = rest; run = run; breaks = breaks }

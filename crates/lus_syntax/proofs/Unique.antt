@@ -131,10 +131,6 @@ ok_err r k f e g = cc
 err_same : (r : Result Kind RefusalNumber) (f g : RefusalNumber) → r ≡ Err f → r ≡ Err g → f ≡ g
 err_same r f g d e = cc
 
-record Same (t u : Lexeme) (a b : List ℕ) : Type 0 where
-  token : t ≡ u
-  rest : a ≡ b
-
 pub reads_unique : (at : Place) (text : List ℕ) (t u : Lexeme) (a b : List ℕ) → Reads at text t a → Reads at text u b → (t ≡ u) × (a ≡ b)
 reads_unique at text t u a b r s =
     let g = gap_unique r.gap.0 s.gap.0 at text t.span.start r.here u.span.start s.here r.gap.1 (plain_none r.here r.plain) s.gap.1 (plain_none s.here s.plain) in
