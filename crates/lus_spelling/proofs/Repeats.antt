@@ -6,12 +6,7 @@ use Rattle.lus_spelling.specs.Reading.{Fault, Deep, ◌>>=◌}
 use Rattle.lus_spelling.specs.ReadingDeclarations.{Reads, repeat_on, repeat_at, push_at, others_at, several_at}
 use Rattle.lus_spelling.specs.Lists.{Repeated, none, again, Listed, listed}
 use Rattle.lus_spelling.proofs.Sound.{bind_ok}
-
-abbrev done : {A : Type 0} → A → Result A Fault
-done x = Ok x
-
-pub same_result : {A : Type 0} (x y : A) → done x ≡ done y → x ≡ y
-same_result x y e = cc
+pub use Rattle.lus_spelling.proofs.Sound.{same_result}
 
 pub bind_bind : {A B C : Type 0} (r : Result A Fault) (f : A → Result B Fault) (g : B → Result C Fault) → ((r >>= f) >>= g) ≡ (r >>= λ x. f x >>= g)
 bind_bind (Ok x) f g = refl

@@ -26,8 +26,8 @@ bind_ok (Err d) f y e = absurd cc
 abbrev done : {A : Type 0} → A → Result A Fault
 done x = Ok x
 
-ok_is : {A : Type 0} (x y : A) → done x ≡ done y → x ≡ y
-ok_is x y e = cc
+pub same_result : {A : Type 0} (x y : A) → done x ≡ done y → x ≡ y
+same_result x y e = cc
 
 guard_ok : {A : Type 0} (b : Bool) (r : Result A Fault) (y : A) → cond b (Err Deep) r ≡ Ok y → (b ≡ false) × (r ≡ Ok y)
 guard_ok true r y e = absurd cc
@@ -117,7 +117,7 @@ front_is l (t ∷ ts) x e =
 
 expected_is : (l : Kind) (ts : List Lexeme) (rest : List Lexeme) (o : Option (Span × List Lexeme)) → front l ts ≡ o → expected o ≡ Ok rest → (s : Span) × (ts ≡ tok l s ∷ rest)
 expected_is l ts rest None at e = absurd cc
-expected_is l ts rest (Some x) at e = (x.0, subst (λ (r : List Lexeme). ts ≡ tok l x.0 ∷ r) (ok_is x.1 rest e) (front_is l ts x at))
+expected_is l ts rest (Some x) at e = (x.0, subst (λ (r : List Lexeme). ts ≡ tok l x.0 ∷ r) (same_result x.1 rest e) (front_is l ts x at))
 
 pub expect_is : (l : Kind) (ts : List Lexeme) (rest : List Lexeme) → expect l ts ≡ Ok rest → (s : Span) × (ts ≡ tok l s ∷ rest)
 expect_is l ts rest e = expected_is l ts rest (front l ts) refl e
@@ -143,7 +143,7 @@ infix_is level left (t ∷ ts) x e = go (infix_of level t.kind) refl e
 -- ---- names, labels and tests
 
 named_is : (s : Span) (k : Kind) (ts : List Lexeme) (x : Named × List Lexeme) → named_on s k ts ≡ Ok x → tok k s ∷ ts ≡ ident x.0 ∷ x.1
-named_is s (Identifier n) ts x e = ap (λ (y : Named × List Lexeme). ident y.0 ∷ y.1) (ok_is (named n s, ts) x e)
+named_is s (Identifier n) ts x e = ap (λ (y : Named × List Lexeme). ident y.0 ∷ y.1) (same_result (named n s, ts) x e)
 named_is s _ ts x e = absurd cc
 
 pub ident_is : (ts : List Lexeme) (x : Named × List Lexeme) → identifier_at ts ≡ Ok x → ts ≡ ident x.0 ∷ x.1
@@ -152,9 +152,9 @@ ident_is [] x e = absurd cc
 ident_is (t ∷ ts) x e = named_is t.span t.kind ts x e
 
 labelled_is : (s : Span) (k : Kind) (ts : List Lexeme) (x : Label × List Lexeme) → label_on s k ts ≡ Ok x → tok k s ∷ ts ≡ label x.0 ∷ x.1
-labelled_is s (Identifier n) ts x e = ap (λ (y : Label × List Lexeme). label y.0 ∷ y.1) (ok_is (Constructor (named n s), ts) x e)
-labelled_is s (Keyword words.True) ts x e = ap (λ (y : Label × List Lexeme). label y.0 ∷ y.1) (ok_is (Boolean true s, ts) x e)
-labelled_is s (Keyword words.False) ts x e = ap (λ (y : Label × List Lexeme). label y.0 ∷ y.1) (ok_is (Boolean false s, ts) x e)
+labelled_is s (Identifier n) ts x e = ap (λ (y : Label × List Lexeme). label y.0 ∷ y.1) (same_result (Constructor (named n s), ts) x e)
+labelled_is s (Keyword words.True) ts x e = ap (λ (y : Label × List Lexeme). label y.0 ∷ y.1) (same_result (Boolean true s, ts) x e)
+labelled_is s (Keyword words.False) ts x e = ap (λ (y : Label × List Lexeme). label y.0 ∷ y.1) (same_result (Boolean false s, ts) x e)
 labelled_is s _ ts x e = absurd cc
 
 pub label_is : (ts : List Lexeme) (x : Label × List Lexeme) → label_at ts ≡ Ok x → ts ≡ label x.0 ∷ x.1
@@ -168,7 +168,7 @@ closed_name_is ts x e =
     let b = bind_ok (identifier_at ts) (λ y. expect (Sign symbols.Close) y.1 >>= λ r. Ok (y.0, r)) x e in
     let d = bind_ok (expect (Sign symbols.Close) b.0.1) (λ r. Ok (b.0.0, r)) x b.2 in
     let q = expect_is (Sign symbols.Close) b.0.1 d.0 d.1 in
-    (q.0, ident_is ts b.0 b.1 ∙ ap (λ (r : List Lexeme). ident b.0.0 ∷ r) q.1 ∙ ap (λ (y : Named × List Lexeme). ident y.0 ∷ tok (Sign symbols.Close) q.0 ∷ y.1) (ok_is (b.0.0, d.0) x d.2))
+    (q.0, ident_is ts b.0 b.1 ∙ ap (λ (r : List Lexeme). ident b.0.0 ∷ r) q.1 ∙ ap (λ (y : Named × List Lexeme). ident y.0 ∷ tok (Sign symbols.Close) q.0 ∷ y.1) (same_result (b.0.0, d.0) x d.2))
 
 abbrev TestText : List Lexeme → Test × List Lexeme → Type 0
 TestText ts x = (text : List Lexeme) × (ts ≡ text ++ x.1) × SpellsTest x.0 text
@@ -176,23 +176,23 @@ TestText ts x = (text : List Lexeme) × (ts ≡ text ++ x.1) × SpellsTest x.0 t
 denied_is : (ts us : List Lexeme) (s : Span) (x : Test × List Lexeme) (o : Option (Span × List Lexeme)) → ts ≡ tok (Keyword words.Not) s ∷ us → front (Sign symbols.Open) us ≡ o → denied s us o ≡ Ok x → TestText ts x
 denied_is ts us s x None at opened e =
     let b = bind_ok (identifier_at us) (λ y. Ok (Fails s y.0, y.1)) x e in
-    subst (TestText ts) (ok_is (Fails s b.0.0, b.0.1) x b.2) (tok (Keyword words.Not) s ∷ ident b.0.0 ∷ [], at ∙ ap (λ (r : List Lexeme). tok (Keyword words.Not) s ∷ r) (ident_is us b.0 b.1), fails s b.0.0)
+    subst (TestText ts) (same_result (Fails s b.0.0, b.0.1) x b.2) (tok (Keyword words.Not) s ∷ ident b.0.0 ∷ [], at ∙ ap (λ (r : List Lexeme). tok (Keyword words.Not) s ∷ r) (ident_is us b.0 b.1), fails s b.0.0)
 denied_is ts us s x (Some o) at opened e =
     let b = bind_ok (closed_name_at o.1) (λ y. Ok (Fails s y.0, y.1)) x e in
     let c = closed_name_is o.1 b.0 b.1 in
-    subst (TestText ts) (ok_is (Fails s b.0.0, b.0.1) x b.2) (
+    subst (TestText ts) (same_result (Fails s b.0.0, b.0.1) x b.2) (
       tok (Keyword words.Not) s ∷ tok (Sign symbols.Open) o.0 ∷ ident b.0.0 ∷ tok (Sign symbols.Close) c.0 ∷ [],
       at ∙ ap (λ (r : List Lexeme). tok (Keyword words.Not) s ∷ r) (front_is (Sign symbols.Open) us o opened ∙ ap (λ (r : List Lexeme). tok (Sign symbols.Open) o.0 ∷ r) c.1),
       fails_in s o.0 c.0 b.0.0,
     )
 
 tested_is : (ts us : List Lexeme) (l : Label) (x : Test × List Lexeme) (o : Option (Span × List Lexeme)) → ts ≡ label l ∷ us → front (Sign symbols.Open) us ≡ o → tested l us o ≡ Ok x → TestText ts x
-tested_is ts us (Constructor n) x None at opened e = subst (TestText ts) (ok_is (Holds n, us) x e) (ident n ∷ [], at, holds n)
+tested_is ts us (Constructor n) x None at opened e = subst (TestText ts) (same_result (Holds n, us) x e) (ident n ∷ [], at, holds n)
 tested_is ts us (Boolean b s) x None at opened e = absurd cc
 tested_is ts us l x (Some o) at opened e =
     let b = bind_ok (closed_name_at o.1) (λ y. Ok (Is l y.0, y.1)) x e in
     let c = closed_name_is o.1 b.0 b.1 in
-    subst (TestText ts) (ok_is (Is l b.0.0, b.0.1) x b.2) (
+    subst (TestText ts) (same_result (Is l b.0.0, b.0.1) x b.2) (
       label l ∷ tok (Sign symbols.Open) o.0 ∷ ident b.0.0 ∷ tok (Sign symbols.Close) c.0 ∷ [],
       at ∙ ap (λ (r : List Lexeme). label l ∷ r) (front_is (Sign symbols.Open) us o opened ∙ ap (λ (r : List Lexeme). tok (Sign symbols.Open) o.0 ∷ r) c.1),
       labelled l o.0 c.0 b.0.0,
@@ -244,18 +244,18 @@ after_is : (form : Form) (ts : List Lexeme) (x : Lead × List Lexeme) → lead_a
     → (all : List Lexeme) × (ts ≡ all ++ rest) × SpellsPart form x.0 t all
 unfolding lead_at
 after_is forms.Call ts x e t text after rest cut d end =
-    let k = ok_is (Plain, ts) x e in
+    let k = same_result (Plain, ts) x e in
     subst (λ (y : Lead × List Lexeme). (all : List Lexeme) × (ts ≡ all ++ rest) × SpellsPart forms.Call y.0 t all) k
-    (text, ap (λ (y : Lead × List Lexeme). y.1) k ∙ cut ∙ ap (λ (r : List Lexeme). text ++ r) (ok_is after rest end), argument d)
+    (text, ap (λ (y : Lead × List Lexeme). y.1) k ∙ cut ∙ ap (λ (r : List Lexeme). text ++ r) (same_result after rest end), argument d)
 after_is forms.Structure ts x e t text after rest cut d end =
     let b = bind_ok (identifier_at ts) (λ y. expect (Sign symbols.Equal) y.1 >>= λ r. Ok (Of y.0, r)) x e in
     let c = bind_ok (expect (Sign symbols.Equal) b.0.1) (λ r. Ok (Of b.0.0, r)) x b.2 in
     let q = expect_is (Sign symbols.Equal) b.0.1 c.0 c.1 in
-    let k = ok_is (Of b.0.0, c.0) x c.2 in
+    let k = same_result (Of b.0.0, c.0) x c.2 in
     let front_part : ts ≡ ident b.0.0 ∷ tok (Sign symbols.Equal) q.0 ∷ c.0 = ident_is ts b.0 b.1 ∙ ap (λ (r : List Lexeme). ident b.0.0 ∷ r) q.1 in
     subst (λ (y : Lead × List Lexeme). (all : List Lexeme) × (ts ≡ all ++ rest) × SpellsPart forms.Structure y.0 t all) k (
       ident b.0.0 ∷ tok (Sign symbols.Equal) q.0 ∷ text,
-      front_part ∙ ap (λ (r : List Lexeme). ident b.0.0 ∷ tok (Sign symbols.Equal) q.0 ∷ r) (ap (λ (y : Lead × List Lexeme). y.1) k ∙ cut ∙ ap (λ (r : List Lexeme). text ++ r) (ok_is after rest end)),
+      front_part ∙ ap (λ (r : List Lexeme). ident b.0.0 ∷ tok (Sign symbols.Equal) q.0 ∷ r) (ap (λ (y : Lead × List Lexeme). y.1) k ∙ cut ∙ ap (λ (r : List Lexeme). text ++ r) (same_result after rest end)),
       init b.0.0 q.0 d,
     )
 after_is forms.Merge ts x e t text after rest cut d end = go (front (Sign symbols.Open) ts) refl e
@@ -266,7 +266,7 @@ after_is forms.Merge ts x e t text after rest cut d end = go (front (Sign symbol
         let b = bind_ok (label_at o.1) (λ l. expect (Sign symbols.Arrow) l.1 >>= λ r. Ok (Branch o.0 l.0, r)) x h in
         let c = bind_ok (expect (Sign symbols.Arrow) b.0.1) (λ r. Ok (Branch o.0 b.0.0, r)) x b.2 in
         let q = expect_is (Sign symbols.Arrow) b.0.1 c.0 c.1 in
-        let k = ok_is (Branch o.0 b.0.0, c.0) x c.2 in
+        let k = same_result (Branch o.0 b.0.0, c.0) x c.2 in
         let z = expect_is (Sign symbols.Close) after rest end in
         let open_token = tok (Sign symbols.Open) o.0 in
         let arrow_token = tok (Sign symbols.Arrow) q.0 in
@@ -286,28 +286,28 @@ turn_is : (form : Form) (ts : List Lexeme) (x : Bool × List Lexeme) → turn_at
 turn_is forms.Call ts x e = go (front (Sign symbols.Comma) ts) refl e
   where
     go : (o : Option (Span × List Lexeme)) → front (Sign symbols.Comma) ts ≡ o → after_argument ts o ≡ Ok x → Turned forms.Call ts x
-    go (Some o) at h = subst (Turned forms.Call ts) (ok_is (true, o.1) x h) (tok (Sign symbols.Comma) o.0 ∷ [], front_is (Sign symbols.Comma) ts o at, comma o.0)
+    go (Some o) at h = subst (Turned forms.Call ts) (same_result (true, o.1) x h) (tok (Sign symbols.Comma) o.0 ∷ [], front_is (Sign symbols.Comma) ts o at, comma o.0)
     go None at h =
         let b = bind_ok (expect (Sign symbols.Close) ts) (λ r. Ok (false, r)) x h in
         let q = expect_is (Sign symbols.Close) ts b.0 b.1 in
-        subst (Turned forms.Call ts) (ok_is (false, b.0) x b.2) (tok (Sign symbols.Close) q.0 ∷ [], q.1, closed q.0)
+        subst (Turned forms.Call ts) (same_result (false, b.0) x b.2) (tok (Sign symbols.Close) q.0 ∷ [], q.1, closed q.0)
 turn_is forms.Structure ts x e = go (front (Sign symbols.Semicolon) ts) refl e
   where
     semi : (o : Span × List Lexeme) (p : Option (Span × List Lexeme)) → ts ≡ tok (Sign symbols.Semicolon) o.0 ∷ o.1 → front (Sign symbols.CloseBrace) o.1 ≡ p → after_semicolon o.1 p ≡ Ok x → Turned forms.Structure ts x
-    semi o (Some p) at brace h = subst (Turned forms.Structure ts) (ok_is (false, p.1) x h) (tok (Sign symbols.Semicolon) o.0 ∷ tok (Sign symbols.CloseBrace) p.0 ∷ [], at ∙ ap (λ (r : List Lexeme). tok (Sign symbols.Semicolon) o.0 ∷ r) (front_is (Sign symbols.CloseBrace) o.1 p brace), late o.0 p.0)
-    semi o None at brace h = subst (Turned forms.Structure ts) (ok_is (true, o.1) x h) (tok (Sign symbols.Semicolon) o.0 ∷ [], at, semicolon o.0)
+    semi o (Some p) at brace h = subst (Turned forms.Structure ts) (same_result (false, p.1) x h) (tok (Sign symbols.Semicolon) o.0 ∷ tok (Sign symbols.CloseBrace) p.0 ∷ [], at ∙ ap (λ (r : List Lexeme). tok (Sign symbols.Semicolon) o.0 ∷ r) (front_is (Sign symbols.CloseBrace) o.1 p brace), late o.0 p.0)
+    semi o None at brace h = subst (Turned forms.Structure ts) (same_result (true, o.1) x h) (tok (Sign symbols.Semicolon) o.0 ∷ [], at, semicolon o.0)
 
     go : (o : Option (Span × List Lexeme)) → front (Sign symbols.Semicolon) ts ≡ o → after_init ts o ≡ Ok x → Turned forms.Structure ts x
     go (Some o) at h = semi o (front (Sign symbols.CloseBrace) o.1) (front_is (Sign symbols.Semicolon) ts o at) refl h
     go None at h =
         let b = bind_ok (expect (Sign symbols.CloseBrace) ts) (λ r. Ok (false, r)) x h in
         let q = expect_is (Sign symbols.CloseBrace) ts b.0 b.1 in
-        subst (Turned forms.Structure ts) (ok_is (false, b.0) x b.2) (tok (Sign symbols.CloseBrace) q.0 ∷ [], q.1, braced q.0)
+        subst (Turned forms.Structure ts) (same_result (false, b.0) x b.2) (tok (Sign symbols.CloseBrace) q.0 ∷ [], q.1, braced q.0)
 turn_is forms.Merge ts x e = go (front (Sign symbols.Open) ts) e
   where
     go : (o : Option (Span × List Lexeme)) → after_branch ts o ≡ Ok x → Turned forms.Merge ts x
-    go (Some o) h = subst (Turned forms.Merge ts) (ok_is (true, ts) x h) ([], refl, unparted)
-    go None h = subst (Turned forms.Merge ts) (ok_is (false, ts) x h) ([], refl, unclosed)
+    go (Some o) h = subst (Turned forms.Merge ts) (same_result (true, ts) x h) ([], refl, unparted)
+    go None h = subst (Turned forms.Merge ts) (same_result (false, ts) x h) ([], refl, unclosed)
 
 pub record SpeltPart (n : ℕ) (form : Form) (ts : List Lexeme) (p : Item) : Type 0 where
   pub text : List Lexeme
@@ -349,7 +349,7 @@ module _ (n : ℕ) (wholes : Reader) (sound : IsSound n Whole wholes) where
       let b3 = bind_ok (tail_at form b2.0.rest) (λ r. Ok (item b1.0.0 b2.0.tree b2.0.depth r)) p b2.2 in
       let h = sound b1.0.1 b2.0 b2.1 in
       let w = after_is form ts b1.0 b1.1 b2.0.tree h.text b2.0.rest b3.0 h.cut h.spells b3.1 in
-      subst (SpeltPart n form ts) (ok_is (item b1.0.0 b2.0.tree b2.0.depth b3.0) p b3.2)
+      subst (SpeltPart n form ts) (same_result (item b1.0.0 b2.0.tree b2.0.depth b3.0) p b3.2)
       (record { text = w.0; cut = w.1; spells = w.2; deep = h.deep; within = h.within })
 
   turned_parts : (form : Form) (others : List (Lead × Expression) → ℕ → List Lexeme → Several) → ((us : List (Lead × Expression)) (d : ℕ) (ts : List Lexeme) (a : List (Lead × Expression) × ℕ × List Lexeme) → d ≤ n → others us d ts ≡ Ok a → SpeltAll n form us d ts a)
@@ -366,7 +366,7 @@ module _ (n : ℕ) (wholes : Reader) (sound : IsSound n Whole wholes) where
         within = o.within;
       }
   turned_parts form others later us d ts a p (false, r) le h t e =
-      subst (SpeltAll n form us d ts) (ok_is (us ++ (p.lead, p.tree) ∷ [], max d p.depth, r) a e)
+      subst (SpeltAll n form us d ts) (same_result (us ++ (p.lead, p.tree) ∷ [], max d p.depth, r) a e)
       (record {
         parts = (p.lead, p.tree) ∷ [];
         text = h.text ++ t.0;
@@ -393,7 +393,7 @@ module _ (n : ℕ) (wholes : Reader) (sound : IsSound n Whole wholes) where
       let b = bind_ok (parts_at (length us + 1) form wholes [] 0 us) (λ a. Ok (found (make (parts_of a.0)) (suc a.1) a.2)) f e in
       let h = parts_sound form (length us + 1) [] 0 us b.0 (omega arith) b.1 in
       let same : b.0.1 ≡ deepest (parts_of b.0.0) = h.deep ∙ zero_first (deepest (parts_of h.parts)) ∙ ap (λ (ps : List (Lead × Expression)). deepest (parts_of ps)) (sym h.behind) in
-      subst (Spelt (suc n) level ts) (ok_is (found (make (parts_of b.0.0)) (suc b.0.1) b.0.2) f b.2)
+      subst (Spelt (suc n) level ts) (same_result (found (make (parts_of b.0.0)) (suc b.0.1) b.0.2) f b.2)
       (record {
         text = before ++ h.text;
         cut = at ∙ ap (λ (q : List Lexeme). before ++ q) h.cut ∙ sym (append_assoc before h.text b.0.2);
@@ -409,7 +409,7 @@ module _ (n : ℕ) (wholes : Reader) (sound : IsSound n Whole wholes) where
       let open_token = tok (Sign symbols.Open) x.0 in
       let close_token = tok (Sign symbols.Close) closed.0 in
       let cut : ts ≡ (open_token ∷ (h.text ++ close_token ∷ [])) ++ rest = opened ∙ ap (λ (r' : List Lexeme). open_token ∷ r') (h.cut ∙ ap (λ (r' : List Lexeme). h.text ++ r') closed.1 ∙ sym (append_assoc h.text (close_token ∷ []) rest)) in
-      subst (Spelt (suc n) Atom ts) (ok_is (found (Parentheses x.0 inner.tree) (suc inner.depth) rest) f e)
+      subst (Spelt (suc n) Atom ts) (same_result (found (Parentheses x.0 inner.tree) (suc inner.depth) rest) f e)
       (record { text = open_token ∷ (h.text ++ close_token ∷ []); cut = cut; spells = parentheses x.0 closed.0 h.spells; deep = ap suc h.deep; within = omega (arith, h.within) })
 
   opens : (ts : List Lexeme) (f : Found) (o : Option (Span × List Lexeme)) → front (Sign symbols.Open) ts ≡ o → parentheses_on wholes o ≡ Ok f → Spelt (suc n) Atom ts f
@@ -425,20 +425,20 @@ module _ (n : ℕ) (wholes : Reader) (sound : IsSound n Whole wholes) where
       (record { text = tok l t.span ∷ []; cut = ap (λ (m : Kind). tok m t.span ∷ ts) is; spells = spells; deep = d; within = omega arith })
 
   true_in : (w : Word) (t : Lexeme) (ts : List Lexeme) (f : Found) → t.kind ≡ Keyword w → truth_on w t.span ts ≡ Ok f → Spelt (suc n) Atom (t ∷ ts) f
-  true_in words.True t ts f is e = leaf t (Keyword words.True) ts (Truth true t.span) f is (truth t.span) refl (ok_is _ _ e)
-  true_in words.False t ts f is e = leaf t (Keyword words.False) ts (Truth false t.span) f is (falsity t.span) refl (ok_is _ _ e)
+  true_in words.True t ts f is e = leaf t (Keyword words.True) ts (Truth true t.span) f is (truth t.span) refl (same_result _ _ e)
+  true_in words.False t ts f is e = leaf t (Keyword words.False) ts (Truth false t.span) f is (falsity t.span) refl (same_result _ _ e)
   true_in _ t ts f is e = absurd cc
 
   -- a name, and what belongs to it
   called_in : (m : Named) (ts : List Lexeme) (x : Span × List Lexeme) (f : Found) (o : Option (Span × List Lexeme)) → ts ≡ ident m ∷ tok (Sign symbols.Open) x.0 ∷ x.1 → front (Sign symbols.Close) x.1 ≡ o → call_on wholes m x.1 o ≡ Ok f → Spelt (suc n) Atom ts f
   called_in m ts x f (Some y) at end e =
       let opened = ident m ∷ tok (Sign symbols.Open) x.0 ∷ [] in
-      subst (Spelt (suc n) Atom ts) (ok_is (found (Call m End) 1 y.1) f e)
+      subst (Spelt (suc n) Atom ts) (same_result (found (Call m End) 1 y.1) f e)
       (record { text = ident m ∷ tok (Sign symbols.Open) x.0 ∷ tok (Sign symbols.Close) y.0 ∷ []; cut = at ∙ ap (λ (r : List Lexeme). ident m ∷ tok (Sign symbols.Open) x.0 ∷ r) (front_is (Sign symbols.Close) x.1 y end); spells = call_empty m x.0 y.0; deep = refl; within = omega arith })
   called_in m ts x f None at end e = listed_sound (Call m) forms.Call Atom (ident m ∷ tok (Sign symbols.Open) x.0 ∷ []) (λ us. refl) (λ us text s. call m x.0 s) ts x.1 f at e
 
   braced_in : (m : Named) (ts us : List Lexeme) (f : Found) (o : Option (Span × List Lexeme)) → ts ≡ ident m ∷ us → front (Sign symbols.OpenBrace) us ≡ o → brace_on wholes m us o ≡ Ok f → Spelt (suc n) Atom ts f
-  braced_in m ts us f None at end e = subst (Spelt (suc n) Atom ts) (ok_is (found (Name m) 1 us) f e) (record { text = ident m ∷ []; cut = at; spells = name m; deep = refl; within = omega arith })
+  braced_in m ts us f None at end e = subst (Spelt (suc n) Atom ts) (same_result (found (Name m) 1 us) f e) (record { text = ident m ∷ []; cut = at; spells = name m; deep = refl; within = omega arith })
   braced_in m ts us f (Some x) at end e = listed_sound (Structure m) forms.Structure Atom (ident m ∷ tok (Sign symbols.OpenBrace) x.0 ∷ []) (λ vs. refl) (λ vs text s. structure m x.0 s) ts x.1 f (at ∙ ap (λ (r : List Lexeme). ident m ∷ r) (front_is (Sign symbols.OpenBrace) us x end)) e
 
   named_in : (m : Named) (ts us : List Lexeme) (f : Found) (o : Option (Span × List Lexeme)) → ts ≡ ident m ∷ us → front (Sign symbols.Open) us ≡ o → name_on wholes m us o ≡ Ok f → Spelt (suc n) Atom ts f
@@ -447,7 +447,7 @@ module _ (n : ℕ) (wholes : Reader) (sound : IsSound n Whole wholes) where
 
   atom_in : (t : Lexeme) (l : Kind) (ts : List Lexeme) (f : Found) → t.kind ≡ l → atom_on wholes t l ts ≡ Ok f → Spelt (suc n) Atom (t ∷ ts) f
   unfolding parentheses_at name_at
-  atom_in t (Number k) ts f is e = leaf t (Number k) ts (Numeral k t.span) f is (number k t.span) refl (ok_is _ _ e)
+  atom_in t (Number k) ts f is e = leaf t (Number k) ts (Numeral k t.span) f is (number k t.span) refl (same_result _ _ e)
   atom_in t (Identifier k) ts f same e = named_in (named k t.span) (t ∷ ts) ts f (front (Sign symbols.Open) ts) (ap (λ (m : Kind). tok m t.span ∷ ts) same) refl e
   atom_in t (Keyword w) ts f is e = true_in w t ts f is e
   atom_in t (Sign c) ts f is e = opens (t ∷ ts) f (front (Sign symbols.Open) (t ∷ ts)) refl e
@@ -470,12 +470,12 @@ module _ (n : ℕ) (wholes : Reader) (sound : IsSound n Whole wholes) where
 
 module _ (n : ℕ) (ts : List Lexeme) where
   dot_ended : (left f : Found) (o : Option (Span × List Lexeme)) → Spelt (suc n) Dotted ts left → no_dot left o ≡ Ok f → Spelt (suc n) Dotted ts f
-  dot_ended left f None h e = subst (Spelt (suc n) Dotted ts) (ok_is left f e) h
+  dot_ended left f None h e = subst (Spelt (suc n) Dotted ts) (same_result left f e) h
   dot_ended left f (Some x) h e = absurd cc
 
   dot_turned : (others : Found → Read) → ((left f : Found) → Spelt (suc n) Dotted ts left → others left ≡ Ok f → Spelt (suc n) Dotted ts f)
       → (left f : Found) (o : Option (Span × List Lexeme)) → front (Sign symbols.Dot) left.rest ≡ o → Spelt (suc n) Dotted ts left → one_dot n others left o ≡ Ok f → Spelt (suc n) Dotted ts f
-  dot_turned others later left f None at h e = subst (Spelt (suc n) Dotted ts) (ok_is left f e) h
+  dot_turned others later left f None at h e = subst (Spelt (suc n) Dotted ts) (same_result left f e) h
   dot_turned others later left f (Some x) at h e =
       let g = guard_ok (ltb n left.depth) (identifier_at x.1 >>= λ y. others (found (Field left.tree y.0) (suc left.depth) y.1)) f e in
       let b = bind_ok (identifier_at x.1) (λ y. others (found (Field left.tree y.0) (suc left.depth) y.1)) f g.1 in
@@ -508,7 +508,7 @@ module _ (n : ℕ) (level operand other : Level) (heads : Heads level operand ot
       let b = bind_ok (operands x.2) (λ inner. Ok (found (Unary x.0 x.1 inner.tree) (suc inner.depth) inner.rest)) f e in
       let h = sound x.2 b.0 b.1 in
       let p = prefix_is level ts x at in
-      subst (Spelt (suc n) level ts) (ok_is (found (Unary x.0 x.1 b.0.tree) (suc b.0.depth) b.0.rest) f b.2)
+      subst (Spelt (suc n) level ts) (same_result (found (Unary x.0 x.1 b.0.tree) (suc b.0.depth) b.0.rest) f b.2)
       (record {
         text = tok p.0 x.1 ∷ h.text;
         cut = p.2 ∙ ap (λ (r : List Lexeme). tok p.0 x.1 ∷ r) h.cut;
@@ -523,12 +523,12 @@ module _ (n : ℕ) (level operand other : Level) (heads : Heads level operand ot
 
 module _ (level operand : Level) (joins : Joins level operand) (n : ℕ) (operands : Reader) (sound : IsSound n operand operands) (ts : List Lexeme) where
   ended : (left f : Found) (o : Option (Infix × List Lexeme)) → Spelt (suc n) level ts left → no_turn left o ≡ Ok f → Spelt (suc n) level ts f
-  ended left f None h e = subst (Spelt (suc n) level ts) (ok_is left f e) h
+  ended left f None h e = subst (Spelt (suc n) level ts) (same_result left f e) h
   ended left f (Some x) h e = absurd cc
 
   turned : (more : Found → Read) → ((left f : Found) → Spelt (suc n) level ts left → more left ≡ Ok f → Spelt (suc n) level ts f)
       → (left f : Found) (o : Option (Infix × List Lexeme)) → infix_at level left.tree left.rest ≡ o → Spelt (suc n) level ts left → one_turn n operands more left o ≡ Ok f → Spelt (suc n) level ts f
-  turned more goes_on left f None at h e = subst (Spelt (suc n) level ts) (ok_is left f e) h
+  turned more goes_on left f None at h e = subst (Spelt (suc n) level ts) (same_result left f e) h
   turned more goes_on left f (Some x) at h e =
       let g = guard_ok (ltb n left.depth) (operands x.1 >>= λ right. more (join x.0 left right)) f e in
       let b = bind_ok (operands x.1) (λ right. more (join x.0 left right)) f g.1 in
@@ -575,7 +575,7 @@ module _ (n : ℕ) (wholes elses : Reader) (sound : IsSound n Whole wholes) (els
       let third : a.rest ≡ (else_token ∷ hb.text) ++ b.rest = o.1 ∙ ap (λ (r : List Lexeme). else_token ∷ r) hb.cut in
       let second : c.rest ≡ (then_token ∷ (ha.text ++ else_token ∷ hb.text)) ++ b.rest = t.1 ∙ ap (λ (r : List Lexeme). then_token ∷ r) (ha.cut ∙ ap (λ (r : List Lexeme). ha.text ++ r) third ∙ sym (append_assoc ha.text (else_token ∷ hb.text) b.rest)) in
       let cut : ts ≡ whole_text ++ b.rest = at ∙ ap (λ (r : List Lexeme). i ∷ r) (hc.cut ∙ ap (λ (r : List Lexeme). hc.text ++ r) second ∙ sym (append_assoc hc.text (then_token ∷ (ha.text ++ else_token ∷ hb.text)) b.rest)) in
-      subst (Spelt (suc n) Choice ts) (ok_is (found (If s c.tree a.tree b.tree) (suc (max c.depth (max a.depth b.depth))) b.rest) f b5.2)
+      subst (Spelt (suc n) Choice ts) (same_result (found (If s c.tree a.tree b.tree) (suc (max c.depth (max a.depth b.depth))) b.rest) f b5.2)
       (record {
         text = whole_text;
         cut = cut;
@@ -600,11 +600,11 @@ keep f = Ok f
 
 module _ (n : ℕ) (arrows values : Reader) (sound : IsSound n Arrow arrows) (values_sound : IsSound (suc n) Implication values) where
   arrowed : (ts : List Lexeme) (left f : Found) (o : Option (Span × List Lexeme)) → Spelt (suc n) Implication ts left → front (Sign symbols.Arrow) left.rest ≡ o → arrow_on n arrows left o ≡ Ok f → Spelt (suc n) Arrow ts f
-  arrowed ts left f None h at e = subst (Spelt (suc n) Arrow ts) (ok_is left f e) (lifted (suc n) Implication Arrow ts left (λ text s. arrow_value s) h)
+  arrowed ts left f None h at e = subst (Spelt (suc n) Arrow ts) (same_result left f e) (lifted (suc n) Implication Arrow ts left (λ text s. arrow_value s) h)
   arrowed ts left f (Some x) h at e =
       let g = guard_ok (ltb n left.depth) (arrows x.1 >>= λ right. keep (join operators.Arrow left right)) f e in
       let b = bind_ok (arrows x.1) (λ right. keep (join operators.Arrow left right)) f g.1 in
-      subst (Spelt (suc n) Arrow ts) (ok_is (join operators.Arrow left b.0) f b.2)
+      subst (Spelt (suc n) Arrow ts) (same_result (join operators.Arrow left b.0) f b.2)
       (two n Arrow Implication Arrow operators.Arrow (Sign symbols.Arrow) x.0 ts x.1 left b.0 h (front_is (Sign symbols.Arrow) left.rest x at) (λ ys s. arrow x.0 h.spells s) (ltb-false _ _ g.0) (sound x.1 b.0 b.1))
 
   pub arrow_sound : IsSound (suc n) Arrow (arrow_at n arrows values)
@@ -650,7 +650,7 @@ test_ok false r f e = absurd cc
 
 module _ (n : ℕ) (primaries arrows : Reader) (sound : IsSound n Primary primaries) (arrows_sound : IsSound (suc n) Arrow arrows) where
   sampled : (ts : List Lexeme) (left f : Found) (o : Option (Span × List Lexeme)) → Spelt (suc n) Arrow ts left → front (Keyword words.When) left.rest ≡ o → when_on n left o ≡ Ok f → Spelt (suc n) Whole ts f
-  sampled ts left f None h at e = subst (Spelt (suc n) Whole ts) (ok_is left f e) (lifted (suc n) Arrow Whole ts left (λ text s. whole s) h)
+  sampled ts left f None h at e = subst (Spelt (suc n) Whole ts) (same_result left f e) (lifted (suc n) Arrow Whole ts left (λ text s. whole s) h)
   sampled ts left f (Some x) h at e =
       let step : Test × List Lexeme → Read = λ c. Ok (found (When left.tree c.0) (suc left.depth) c.1) in
       let p = test_ok (is_primary left.tree) (cond (ltb n left.depth) (Err Deep) (test_at x.1 >>= step)) f e in
@@ -659,7 +659,7 @@ module _ (n : ℕ) (primaries arrows : Reader) (sound : IsSound n Primary primar
       let c = test_is x.1 b.0 b.1 in
       let le = ltb-false _ _ g.0 in
       let when_token = tok (Keyword words.When) x.0 in
-      subst (Spelt (suc n) Whole ts) (ok_is (found (When left.tree b.0.0) (suc left.depth) b.0.1) f b.2)
+      subst (Spelt (suc n) Whole ts) (same_result (found (When left.tree b.0.0) (suc left.depth) b.0.1) f b.2)
       (record {
         text = h.text ++ when_token ∷ c.0;
         cut = h.cut ∙ ap (λ (r : List Lexeme). h.text ++ r) (front_is (Keyword words.When) left.rest x at ∙ ap (λ (r : List Lexeme). when_token ∷ r) c.1) ∙ sym (append_assoc h.text (when_token ∷ c.0) b.0.1);
@@ -674,7 +674,7 @@ module _ (n : ℕ) (primaries arrows : Reader) (sound : IsSound n Primary primar
       let p = test_ok (is_primary left.tree) (two_on n operators.Fby primaries keep left x.1) f e in
       let g = guard_ok (ltb n left.depth) (primaries x.1 >>= λ right. keep (join operators.Fby left right)) f p.1 in
       let b = bind_ok (primaries x.1) (λ right. keep (join operators.Fby left right)) f g.1 in
-      subst (Spelt (suc n) Whole ts) (ok_is (join operators.Fby left b.0) f b.2)
+      subst (Spelt (suc n) Whole ts) (same_result (join operators.Fby left b.0) f b.2)
       (two n Whole Arrow Primary operators.Fby (Keyword words.Fby) x.0 ts x.1 left b.0 h (front_is (Keyword words.Fby) left.rest x at) (λ ys s. fby x.0 (tight h.spells p.0) s) (ltb-false _ _ g.0) (sound x.1 b.0 b.1))
 
   pub whole_sound : IsSound (suc n) Whole (whole_at n primaries arrows)
