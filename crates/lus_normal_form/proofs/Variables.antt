@@ -1,31 +1,12 @@
 -- Which variables an expression needs and the clocks of its parts test, where each part uses such variables alone.
-use Rattle.std.proofs.Common.{ℕ, zero, suc, [], ◌∷◌, drop}
+use Rattle.std.proofs.Common.{ℕ, suc, ◌∷◌, drop}
 use Rattle.lus_values.specs.Lists.{Each}
-use Rattle.lus_program.specs.declared.expr.Test.{Test}
 use Rattle.lus_program.specs.Programs.{Expression, literal, variable, operate, pre, arrow, fby, when, merge, call, Operands, none, more, Node, Program, node_at}
-use Rattle.lus_streams.specs.Clocks.{Clock, clock_of, Part, operand, renamed_clock, renamed_test, formal_clock, base_of, parts, operand_parts, branch_parts, argument_parts}
-use Rattle.lus_streams.specs.Order.{needs, needs_all, clock_variables}
-use Rattle.lus_streams.proofs.Lists.{each_left, each_right, each_append, each_map_append}
+use Rattle.lus_streams.specs.Clocks.{Clock, Part, formal_clock, base_of, parts, operand_parts, branch_parts, argument_parts}
+use Rattle.lus_streams.specs.Order.{needs, needs_all}
+use Rattle.lus_streams.proofs.Lists.{each_left, each_right, each_append}
+pub use Rattle.lus_streams.proofs.Unique.{formal_variables}
 use Rattle.lus_normal_form.specs.Named.{Uses}
-
--- clocks of formals test variables that arguments need
-operand_needs : (P : ℕ → Type 0) (es : Operands) → Each P (needs_all es) → (n : ℕ) → Each P (needs (operand es n))
-operand_needs P none h n = tt
-operand_needs P (more e es) h zero = each_left P (needs e) (needs_all es) h
-operand_needs P (more e es) h (suc n) = operand_needs P es (each_right P (needs e) (needs_all es) h) n
-
-renamed_test_variables : (P : ℕ → Type 0) (e : Expression) (c : ℕ) (k : Clock) → Each P (needs e) → Each P (clock_variables k) → Each P (clock_variables (renamed_test e c k))
-renamed_test_variables P (variable x) c k h hk = (h.0, hk)
-renamed_test_variables P _ c k h hk = hk
-
-renamed_variables : (P : ℕ → Type 0) (args : Operands) (k : Clock) → Each P (needs_all args) → Each P (clock_variables (renamed_clock args k))
-renamed_variables P args [] h = tt
-renamed_variables P args (t ∷ k) h =
-    renamed_test_variables P (operand args t.variable) t.constructor (renamed_clock args k) (operand_needs P args h t.variable) (renamed_variables P args k h)
-
-pub formal_variables : (P : ℕ → Type 0) (g : Node) (args : Operands) (base : Clock) (m : ℕ) → Each P (needs_all args) → Each P (clock_variables base) → Each P (clock_variables (formal_clock g args base m))
-formal_variables P g args base m h hb =
-    each_map_append P (λ (t : Test). t.variable) (renamed_clock args (clock_of g m)) base (renamed_variables P args (clock_of g m) h) hb
 
 -- what an expression needs is used by its parts
 module _ (p : Program) (V : ℕ → Type 0) (C : (g c n : ℕ) → Type 0) where

@@ -1,5 +1,5 @@
 -- Operators give no nil on operands without nil.
-use Rattle.std.proofs.Common.{◌≡◌, ℕ, zero, suc, Bool, true, false, not, cond, ◌&&◌, ◌||◌, ℤ, List, [], ◌∷◌, Option, Some, None, refl, sym, ap, ◌∙◌, subst, IsTrue, true≢false, if◌then◌else◌}
+use Rattle.std.proofs.Common.{◌≡◌, ℕ, zero, suc, Bool, true, false, not, cond, ◌&&◌, ◌||◌, ℤ, List, [], ◌∷◌, Option, Some, None, refl, sym, ap, ◌∙◌, subst, IsTrue, if◌then◌else◌}
 use Rattle.lus_values.specs.declared.operator.Op.{Op}
 use Rattle.lus_values.specs.declared.operator.Op.TheVariants.{Negate, Add, Subtract, Multiply, Divide, Remainder, Not, And, Or, Xor, Implies, Equal, Different, Less, LessEqual, Greater, GreaterEqual}
 use Rattle.lus_values.specs.declared.operator.Operator.{Operator}
@@ -8,18 +8,11 @@ use Rattle.lus_values.specs.Values.{Value, bool, int, struct, nil, Fields, end, 
 use Rattle.lus_values.specs.Lists.{Each}
 use Rattle.std.specs.Option.{option_and_then, option_map}
 use Rattle.lus_values.specs.Operators.{one_int, two_ints, one_bool, two_bools, two_values, on_int, on_ints, compare_ints, on_bools, compare, compute, choose, field_at, project, is_nil, any_nil, give, apply}
+pub use Rattle.lus_values.proofs.Equalities.{and_left, and_right}
 use Rattle.lus_streams.specs.Flags.{nil_free, nil_free_fields, IsNilFree}
 
 abbrev pub AreNilFree : List Value → Type 0
 AreNilFree vs = Each (λ v. IsTrue (nil_free v)) vs
-
-pub and_left : (a b : Bool) → (a && b) ≡ true → a ≡ true
-and_left true b h = refl
-and_left false b h = h
-
-pub and_right : (a b : Bool) → (a && b) ≡ true → b ≡ true
-and_right true b h = h
-and_right false b h = absurd (true≢false (sym h))
 
 pub and_true : (a b : Bool) → a ≡ true → b ≡ true → (a && b) ≡ true
 and_true true b h k = k

@@ -34,7 +34,7 @@ renamed_variables P args [] h = tt
 renamed_variables P args (t ∷ k) h =
     renamed_test_variables P (operand args t.variable) t.constructor (renamed_clock args k) (operand_needs P args h t.variable) (renamed_variables P args k h)
 
-formal_variables : (P : ℕ → Type 0) (g : Node) (args : Operands) (base : Clock) (m : ℕ) → Each P (needs_all args) → Each P (clock_variables base) → Each P (clock_variables (formal_clock g args base m))
+pub formal_variables : (P : ℕ → Type 0) (g : Node) (args : Operands) (base : Clock) (m : ℕ) → Each P (needs_all args) → Each P (clock_variables base) → Each P (clock_variables (formal_clock g args base m))
 formal_variables P g args base m h hb =
     each_map_append P variable_of (renamed_clock args (clock_of g m)) base (renamed_variables P args (clock_of g m) h) hb
 

@@ -10,11 +10,11 @@ use Rattle.lus_values.specs.Equality.{bool_equal, same, same_fields}
 use Rattle.lus_values.specs.View.{value_of}
 use Rattle.lus_values.proofs.Views.{struct_fields, is_structure, no_structure}
 
-and_left : (a b : Bool) → (a && b) ≡ true → a ≡ true
+pub and_left : (a b : Bool) → (a && b) ≡ true → a ≡ true
 and_left true b e = refl
 and_left false b e = e
 
-and_right : (a b : Bool) → (a && b) ≡ true → b ≡ true
+pub and_right : (a b : Bool) → (a && b) ≡ true → b ≡ true
 and_right true b e = e
 and_right false b e = absurd (true≢false (sym e))
 
