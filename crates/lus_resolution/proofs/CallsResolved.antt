@@ -90,7 +90,7 @@ module _ (p : Program) (resolved : Each (NodeResolved p) p.nodes) where
         (rights_have qs fits.1 some.1)
 
     -- outputs of the calls that define variables
-    output_within : (e : Expression) (i : ℕ) (ls : List Kind) (xs : List ℕ) (k : Clock) → kinds_given_in p f e ≡ Some ls → i < length ls → OutputIs p (Some (given_by e i xs k))
+    pub output_within : (e : Expression) (i : ℕ) (ls : List Kind) (xs : List ℕ) (k : Clock) → kinds_given_in p f e ≡ Some ls → i < length ls → OutputIs p (Some (given_by e i xs k))
     output_within (call g c es) i ls xs k h lt =
         let made = whole_call p f g c es ls h in
         let size = results_count g made.arguments ls made.gives in omega (arith, size, lt)
