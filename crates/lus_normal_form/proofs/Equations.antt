@@ -19,7 +19,7 @@ use Rattle.lus_normal_form.proofs.Values.{Keeps, KeepsOver, on_keeps, right_valu
 use Rattle.lus_normal_form.proofs.Faults.{first_part, right_to, right_from}
 
 -- what holds of each of some parts holds of each sub-expression of a part among them
-each_within : (p : Program) (P : Part → Type 0) (all : List Part) (k : Clock) (a : Expression) → IsWithin p all (at k a) → Each P all → Each P (parts p a k)
+pub each_within : (p : Program) (P : Part → Type 0) (all : List Part) (k : Clock) (a : Expression) → IsWithin p all (at k a) → Each P all → Each P (parts p a k)
 each_within p P all k a h e = each_left P (parts p a k) h.1 (each_right P h.0 (parts p a k ++ h.1) (subst (Each P) h.2 e))
 
 -- P holds of each part of the right side that defines a variable
@@ -100,7 +100,7 @@ module _ (p p' : Program) (new_parts : ℕ → List Part) (named : AreNamed p) (
   pub new_uses : (y : ℕ) (k : Clock) (a : Expression) → New y k a → Each Used (parts p a k)
   new_uses y k a s = each_within p Used (node_parts p node) k a (new_part (IsWithin p (node_parts p node)) (length node.variables) (new_parts f) (normal f).within y k a s) (named f).uses
 
-  pub new_defined : (y : ℕ) (k : Clock) (a : Expression) → New y k a → IsDefinition p New (Some (given_by a 0 [] k)) (definition_of node' y)
+  pub new_defined : (y : ℕ) (k : Clock) (a : Expression) → New y k a → IsDefinition p New (Some (given_by a 0 (y ∷ []) k)) (definition_of node' y)
   new_defined y k a s = (new_fact (DefinesNew p node' New) (length node.variables) (new_parts f) (normal f).new_definitions y k a s).1
 
   pub new_clock : (y : ℕ) (k : Clock) (a : Expression) → New y k a → clock_of node' y ≡ k
@@ -129,13 +129,13 @@ module _ (p p' : Program) (new_parts : ℕ → List Part) (named : AreNamed p) (
     definition_same : (x : ℕ) (d d' : Option Definition) → IsDefinition p New d d' → RightParts p Used d → DefinitionFits p node x d → IsTrue (is_on (clock_of node x) i) → definition_value p d i w ≡ definition_value p' d' i' w'
     definition_same x None d' is u fits t = ap (λ z. definition_value p' z i' w') (sym is)
     definition_same x (Some (given_by (call g c args) n xs k)) d' is u fits t =
-        l.outputs g c n fits ∙ ap (λ z. definition_value p' (Some (given_by z n is.1 k)) i' w') (sym is.3.1) ∙ ap (λ z. definition_value p' z i' w') (sym is.2)
+        l.outputs g c n fits ∙ ap (λ z. definition_value p' (Some (given_by z n xs k)) i' w') (sym is.2.1) ∙ ap (λ z. definition_value p' z i' w') (sym is.1)
     definition_same x (Some (given_by e n xs k)) d' is u fits t =
-        right_value p p' (Known node) (GivesOutput p node) New e is.0 n is.1 xs k i i' w w' is.3
+        right_value p p' (Known node) (GivesOutput p node) New e is.0 n xs xs k i i' w w' is.2
         (λ g c args eq. subst (λ z. DefinitionFits p node x (Some (given_by z n xs k))) eq fits)
         l
         (λ is_normal. normal_value p p' (Known node) (GivesOutput p node) New e is.0 k is_normal u i i' w w' l over (subst (λ z. IsTrue (is_on z i)) fits t))
-        ∙ ap (λ z. definition_value p' z i' w') (sym is.2)
+        ∙ ap (λ z. definition_value p' z i' w') (sym is.1)
 
     old_value : (x : ℕ) → x < length node.variables → IsTrue (is_on (clock_of node x) i) → definition_value p (definition_of node x) i w ≡ definition_value p' (definition_of node' x) i' w'
     old_value x lt t =
@@ -177,7 +177,7 @@ module _ (p p' : Program) (new_parts : ℕ → List Part) (named : AreNamed p) (
           let there : is_on k i ≡ is_on (clock_of node' y) i' = clock_same k (first_part p Used a k (new_uses y k a s)).0 ∙ ap (λ z. is_on z i') (sym (new_clock y k a s)) in
           let holds : entry i' y ≡ where_on (is_on k i) (definition_value p' (definition_of node' y) i' w') =
           by_clock (is_on k i) _ _
-          (λ t. sym (v.new y k a s t (new_value y k a s t)) ∙ new_value y k a s t d.0 d.1 d.3 ∙ ap (λ z. definition_value p' z i' w') (sym d.2))
+          (λ t. sym (v.new y k a s t (new_value y k a s t)) ∙ new_value y k a s t d.0 (y ∷ []) d.2 ∙ ap (λ z. definition_value p' z i' w') (sym d.1))
           (v.absent y k a s)
           in
           let no_input : nat_lt y node'.inputs ≡ false = le-ltb y node'.inputs (subst (λ n. n ≤ y) (sym (normal f).inputs) (omega (arith, ge, (named f).inputs))) in
@@ -186,7 +186,7 @@ module _ (p p' : Program) (new_parts : ℕ → List Part) (named : AreNamed p) (
 
       definition_to : (d d' : Option Definition) → IsDefinition p New d d' → RightParts p Used d → RightParts p Valued d → RightParts p' NormalValued d'
       definition_to None d' is u h = subst (RightParts p' NormalValued) (sym is) tt
-      definition_to (Some (given_by e n xs k)) d' is u h = subst (RightParts p' NormalValued) (sym is.2) (right_to p p' (Known node) (GivesOutput p node) New bases formals i i' w w' l over e is.0 k is.3 u h)
+      definition_to (Some (given_by e n xs k)) d' is u h = subst (RightParts p' NormalValued) (sym is.1) (right_to p p' (Known node) (GivesOutput p node) New bases formals i i' w w' l over e is.0 k is.2 u h)
 
       pub equations_to : EquationsHold p node i w → EquationsHold p' node' i' w'
       equations_to h = record {
@@ -199,17 +199,17 @@ module _ (p p' : Program) (new_parts : ℕ → List Part) (named : AreNamed p) (
             (λ ge.
             let found = new_at (length node.variables) (new_parts f) x ge (subst (λ n. x < n) (normal f).width lt) in
             let within = new_part (IsWithin p (node_parts p node)) (length node.variables) (new_parts f) (normal f).within x found.0 found.1 found.2 in
-            definition_to (Some (given_by found.1 0 [] found.0)) (definition_of node' x) (new_defined x found.0 found.1 found.2) (new_uses x found.0 found.1 found.2) (each_within p Valued (node_parts p node) found.0 found.1 within h.no_fault))
+            definition_to (Some (given_by found.1 0 (x ∷ []) found.0)) (definition_of node' x) (new_defined x found.0 found.1 found.2) (new_uses x found.0 found.1 found.2) (each_within p Valued (node_parts p node) found.0 found.1 within h.no_fault))
             (cases_lt x (length node.variables)))
             node'.equations (normal f).equations;
       }
 
       new_valued : EquationsHold p' node' i' w' → (y : ℕ) (k : Clock) (a : Expression) → New y k a → (e' : Expression) × IsRight p New a e' k × Each NormalValued (parts p' e' k)
-      new_valued h y k a s = let d = new_defined y k a s in (d.0, d.3, subst (RightParts p' NormalValued) d.2 (right_parts p' NormalValued node' node'.equations y h.no_fault))
+      new_valued h y k a s = let d = new_defined y k a s in (d.0, d.2, subst (RightParts p' NormalValued) d.1 (right_parts p' NormalValued node' node'.equations y h.no_fault))
 
       definition_from : EquationsHold p' node' i' w' → (d d' : Option Definition) → IsDefinition p New d d' → RightParts p Used d → RightParts p' NormalValued d' → RightParts p Valued d
       definition_from h None d' is u r = tt
-      definition_from h (Some (given_by e n xs k)) d' is u r = right_from p p' (Known node) (GivesOutput p node) New bases formals i i' w w' l over (new_valued h) e is.0 k is.3 u (subst (RightParts p' NormalValued) is.2 r)
+      definition_from h (Some (given_by e n xs k)) d' is u r = right_from p p' (Known node) (GivesOutput p node) New bases formals i i' w w' l over (new_valued h) e is.0 k is.2 u (subst (RightParts p' NormalValued) is.1 r)
 
       pub equations_from : EquationsHold p' node' i' w' → EquationsHold p node i w
       equations_from h = record {

@@ -108,8 +108,8 @@ summed_normal = record {
   outputs = refl;
   width = refl;
   clocks = (refl, (refl, tt));
-  definitions = ((_, _, refl, (_, _, refl, refl, (_, refl, (2, refl, inl (refl, refl))))), (refl, tt));
-  new_definitions = ((refl, (_, _, refl, (_, refl, (_, _, refl, refl, (_, _, refl, refl, refl))))), tt);
+  definitions = ((_, refl, (_, _, refl, refl, (_, refl, (2, refl, inl (refl, refl))))), (refl, tt));
+  new_definitions = ((refl, (_, refl, (_, refl, (_, _, refl, refl, (_, _, refl, refl, refl))))), tt);
   within = ((at [] (arrow (number 0) (pre sum)) ∷ at [] (number 0) ∷ at [] (pre sum) ∷ [], [], refl), tt);
   calls = refl;
   equations = search rules;
@@ -124,12 +124,12 @@ divided_normal = record {
   width = refl;
   clocks = (refl, (refl, (refl, (refl, tt))));
   definitions = (
-    (_, _, refl, (_, refl, (_, _, refl, (_, refl, refl), (_, _, refl, (_, refl, (6, refl, inr (inr (inl (refl, refl))))), refl)))),
-    ((_, _, refl, (_, refl, (_, _, refl, refl, (_, _, refl, (4, refl, inl (refl, refl)), refl)))), (refl, (refl, tt))),
+    (_, refl, (_, refl, (_, _, refl, (_, refl, refl), (_, _, refl, (_, refl, (6, refl, inr (inr (inl (refl, refl))))), refl)))),
+    ((_, refl, (_, refl, (_, _, refl, refl, (_, _, refl, (4, refl, inl (refl, refl)), refl)))), (refl, (refl, tt))),
   );
   new_definitions = (
-    (refl, (_, _, refl, (_, refl, (_, _, refl, (omega arith, refl), (5, refl, inr (inl (refl, refl))), refl)))),
-    ((refl, (_, _, refl, (_, refl, (_, _, refl, refl, (_, _, refl, refl, refl))))), ((refl, (_, _, refl, (_, refl, (_, _, refl, refl, (_, _, refl, refl, refl))))), tt)),
+    (refl, (_, refl, (_, refl, (_, _, refl, (omega arith, refl), (5, refl, inr (inl (refl, refl))), refl)))),
+    ((refl, (_, refl, (_, refl, (_, _, refl, refl, (_, _, refl, refl, refl))))), ((refl, (_, refl, (_, refl, (_, _, refl, refl, (_, _, refl, refl, refl))))), tt)),
   );
   within = (
     (at [] (operate (Compute Add) (two (number 1) (call 0 0 (one quotient)))) ∷ at [] (number 1) ∷ [], _, refl),
@@ -182,7 +182,7 @@ summed_not_simple : IsSimpleNode summed → ⊥
 summed_not_simple h = h.0.1
 
 untaken_operand : IsNormalNode source source summed summed [] → ⊥
-untaken_operand h = h.definitions.0.3.4.2.2
+untaken_operand h = h.definitions.0.2.4.2.2
 
 untaken_call : IsNormalNode source source divided divided [] → ⊥
-untaken_call h = h.definitions.1.0.3.2.4.3.2
+untaken_call h = h.definitions.1.0.2.2.4.3.2

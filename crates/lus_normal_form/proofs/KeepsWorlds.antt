@@ -280,7 +280,7 @@ module _ (p p' : Program) (new_parts : ℕ → List Part) (named : AreNamed p) (
         width = h.width;
         new = λ y k a s t q.
             let d = new_defined p p' new_parts named normal f y k a s in
-            q d.0 d.1 d.3 ∙ ap (λ z. definition_value p' z i' w') (sym d.2) ∙ sym (follows y k a s ∙ ap (λ o. where_on o (definition_value p' (definition_of (node_at p' f) y) i' w')) t);
+            q d.0 (y ∷ []) d.2 ∙ ap (λ z. definition_value p' z i' w') (sym d.1) ∙ sym (follows y k a s ∙ ap (λ o. where_on o (definition_value p' (definition_of (node_at p' f) y) i' w')) t);
         absent = λ y k a s t. follows y k a s ∙ ap (λ o. where_on o (definition_value p' (definition_of (node_at p' f) y) i' w')) t;
       }
 

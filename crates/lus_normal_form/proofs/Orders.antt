@@ -67,11 +67,11 @@ module _ (p p' : Program) (new_parts : ℕ → List Part) (named : AreNamed p) (
   add_new : (y : ℕ) (k : Clock) (a : Expression) → New y k a → (done : List ℕ) → Each (In done) (clock_variables k) → ((e' : Expression) → IsRight p New a e' k → Grown done (needs e')) → Grown done (y ∷ [])
   add_new y k a s done hk grow =
       let d = new_defined p p' new_parts named normal f y k a s in
-      let g = grow d.0 d.3 in
+      let g = grow d.0 d.2 in
       one_more done (needs d.0) y g
       (each_append (In g.all) (clock_variables (clock_of node' y)) (needs_right (definition_of node' y))
       (subst (λ z. Each (In g.all) (clock_variables z)) (sym (new_clock p p' new_parts named normal f y k a s)) (still done (needs d.0) (clock_variables k) g hk))
-      (subst (λ z. Each (In g.all) (needs_right z)) (sym d.2) g.has))
+      (subst (λ z. Each (In g.all) (needs_right z)) (sym d.1) g.has))
 
   abbrev Grows : Expression → Clock → List ℕ → Type 0
   Grows a k done = (e' : Expression) → IsRight p New a e' k → Grown done (needs e')
@@ -141,10 +141,10 @@ module _ (p p' : Program) (new_parts : ℕ → List Part) (named : AreNamed p) (
       let base = base_of (node_at p g) k in
       let front = renamed_clock (actuals args xs) (clock_of (node_at p g) ((node_at p g).inputs + n)) in
       let hb = each_map_right (In done) (λ t. t.variable) front base (subst (λ j. Each (In done) (clock_variables j)) on.0 hk) in
-      subst (λ z. Grown done (needs_right z)) (sym is.2)
-      (subst (λ z. Grown done (needs z)) (sym is.3.1) (arguments_grown args is.3.0 g args is.3.0 base 0 is.3.2 done h hn hn hb))
+      subst (λ z. Grown done (needs_right z)) (sym is.1)
+      (subst (λ z. Grown done (needs z)) (sym is.2.1) (arguments_grown args is.2.0 g args is.2.0 base 0 is.2.2 done h hn hn hb))
   definition_grown x (Some (given_by e n xs k)) d' is on done h hk hn =
-      subst (λ z. Grown done (needs_right z)) (sym is.2) (right_grown e is.0 k is.3 done h hn (subst (λ j. Each (In done) (clock_variables j)) on hk))
+      subst (λ z. Grown done (needs_right z)) (sym is.1) (right_grown e is.0 k is.2 done h hn (subst (λ j. Each (In done) (clock_variables j)) on hk))
 
   module _ (clocks : IsOnClocks p node) where
     -- an old variable that f has

@@ -59,7 +59,7 @@ module _ (p : Program) (New : ℕ → Clock → Expression → Type 0) where
 
   definition_simple : (d d' : Option Definition) → IsDefinition p New d d' → SimplyDefined d'
   definition_simple None d' h = subst SimplyDefined (sym h) tt
-  definition_simple (Some (given_by e n xs k)) d' h = subst SimplyDefined (sym h.2) (right_simple e h.0 k h.3)
+  definition_simple (Some (given_by e n xs k)) d' h = subst SimplyDefined (sym h.1) (right_simple e h.0 k h.2)
 
 module _ (p p' : Program) (f f' : Node) (new_parts : List Part) (normal : IsNormalNode p p' f f' new_parts) where
   abbrev New : ℕ → Clock → Expression → Type 0
@@ -72,7 +72,7 @@ module _ (p p' : Program) (f f' : Node) (new_parts : List Part) (normal : IsNorm
       (λ ge.
       let found = new_at (length f.variables) new_parts x ge (subst (λ n. x < n) normal.width lt) in
       let defined = (new_fact (DefinesNew p f' New) (length f.variables) new_parts normal.new_definitions x found.0 found.1 found.2).1 in
-      definition_simple p New (Some (given_by found.1 0 [] found.0)) (definition_of f' x) defined)
+      definition_simple p New (Some (given_by found.1 0 (x ∷ []) found.0)) (definition_of f' x) defined)
       (cases_lt x (length f.variables))
 
   equation_simple : (q : Equation) → DefinesFirst f' q → IsSimpleRight q.right

@@ -15,10 +15,10 @@ EachFrom P n (x ∷ xs) = P n x × EachFrom P (suc n) xs
 
 -- New y k a says that y is the new variable for a on k
 module _ (p : Program) (New : ℕ → Clock → Expression → Type 0) where
-  -- the same output of a right side in normal form, on the same clock
+  -- the same output of a right side in normal form, with the same variables on the left, on the same clock
   abbrev pub IsDefinition : Option Definition → Option Definition → Type 0
   IsDefinition None d' = d' ≡ None
-  IsDefinition (Some (given_by e n xs k)) d' = (e' : Expression) × (xs' : List ℕ) × (d' ≡ Some (given_by e' n xs' k)) × IsRight p New e e' k
+  IsDefinition (Some (given_by e n xs k)) d' = (e' : Expression) × (d' ≡ Some (given_by e' n xs k)) × IsRight p New e e' k
 
   -- the same calls in the same order, with arguments in normal form
   abbrev pub AreSites : List Site → List Site → Type 0
@@ -29,9 +29,9 @@ module _ (p : Program) (New : ℕ → Clock → Expression → Type 0) where
 abbrev pub IsWithin : Program → List Part → Part → Type 0
 IsWithin p all (at k a) = (before after : List Part) × (all ≡ before ++ (parts p a k ++ after))
 
--- in f', y is on the clock of the part that it stands for, and is defined by the part's normal form
+-- in f', y is on the clock of the part that it stands for, and the part's normal form defines it alone
 abbrev pub DefinesNew : Program → Node → (ℕ → Clock → Expression → Type 0) → ℕ → Part → Type 0
-DefinesNew p f' New y (at k a) = (clock_of f' y ≡ k) × IsDefinition p New (Some (given_by a 0 [] k)) (definition_of f' y)
+DefinesNew p f' New y (at k a) = (clock_of f' y ≡ k) × IsDefinition p New (Some (given_by a 0 (y ∷ []) k)) (definition_of f' y)
 
 -- how many memories an expression wants: one for each `pre` and `fby`
 abbrev mutual
