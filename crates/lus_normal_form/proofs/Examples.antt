@@ -15,6 +15,7 @@ use Rattle.lus_normal_form.specs.Named.{AreNamed}
 use Rattle.lus_normal_form.specs.NormalNodes.{node_memories, node_firsts, IsNormalNode, IsNormalOf, IsSimpleNode}
 use Rattle.lus_normal_form.specs.Laws.{KeepsWorlds}
 use Rattle.lus_normal_form.proofs.KeepsWorlds.{normal_keeps_worlds}
+use Rattle.lus_normal_form.proofs.NormalOnClocks.{normal_is_on_clocks}
 use Rattle.lus_normal_form.proofs.Orders.{normal_has_order}
 use Rattle.lus_normal_form.proofs.ResolvedNamed.{resolved_are_named}
 use Rattle.lus_normal_form.proofs.Simple.{normal_is_simple}
@@ -173,6 +174,9 @@ normal_divided_order = normal_has_order source normal new_parts source_named all
 summed_wants : (node_memories normal_summed ≡ 1) × (node_firsts normal_summed ≡ 1)
 summed_wants = (refl, refl)
 
+normal_clocks : ProgramOnClocks normal
+normal_clocks = normal_is_on_clocks source normal new_parts source_resolved source_clocks all_normal
+
 normal_divided_simple : IsSimpleNode normal_divided
 normal_divided_simple = normal_is_simple source normal divided normal_divided (new_parts 1) divided_normal
 
@@ -186,3 +190,10 @@ untaken_operand h = h.definitions.0.2.4.2.2
 
 untaken_call : IsNormalNode source source divided divided [] → ⊥
 untaken_call h = h.definitions.1.0.2.2.4.3.2
+
+-- y = 0 -> pre s; s, y = y + x: a new variable doesn't stand alone on the left
+abbrev doubly_summed : Node
+doubly_summed = node 1 1 (plain ∷ plain ∷ plain ∷ []) (equation 1 (arrow (number 0) (pre (variable 2))) ∷ record { targets = 2 ∷ 1 ∷ []; right = sum } ∷ [])
+
+left_with_another : IsNormalNode source normal summed doubly_summed (new_parts 0) → ⊥
+left_with_another h = let left = h.new_definitions.0.1.1 in cc

@@ -19,10 +19,14 @@ one_stays : (e e' : Expression) (c : ℕ) (k k' : Clock) → IsName e → ((x : 
 one_stays (variable x) e' c k k' is h ek = ap (λ z. renamed_test z c k') (h x refl) ∙ ap (λ z. record { variable = x; constructor = c } ∷ z) ek
 one_stays _ e' c k k' is h ek = absurd is
 
-renamed_stays : (args args' : Operands) → KeepsNames args args' → (k : Clock) → Each (λ t. IsName (operand args t.variable)) k → renamed_clock args' k ≡ renamed_clock args k
+-- operands that are names are the same names among others
+abbrev pub NamesStay : Operands → Operands → Type 0
+NamesStay es es' = (n x : ℕ) → operand es n ≡ variable x → operand es' n ≡ variable x
+
+pub renamed_stays : (args args' : Operands) → NamesStay args args' → (k : Clock) → Each (λ t. IsName (operand args t.variable)) k → renamed_clock args' k ≡ renamed_clock args k
 renamed_stays args args' h [] names = refl
 renamed_stays args args' h (t ∷ k) names =
-    one_stays (operand args t.variable) (operand args' t.variable) t.constructor (renamed_clock args k) (renamed_clock args' k) names.0 (name_stays args args' h t.variable) (renamed_stays args args' h k names.1)
+    one_stays (operand args t.variable) (operand args' t.variable) t.constructor (renamed_clock args k) (renamed_clock args' k) names.0 (h t.variable) (renamed_stays args args' h k names.1)
 
 pub formal_stays : (g : Node) (args args' : Operands) → KeepsNames args args' → (base : Clock) (m : ℕ) → Each (λ t. IsName (operand args t.variable)) (clock_of g m) → formal_clock g args' base m ≡ formal_clock g args base m
-formal_stays g args args' h base m names = ap (λ z. z ++ base) (renamed_stays args args' h (clock_of g m) names)
+formal_stays g args args' h base m names = ap (λ z. z ++ base) (renamed_stays args args' (name_stays args args' h) (clock_of g m) names)

@@ -14,4 +14,8 @@ pub mod Formals
 pub mod SitesNumbered
 pub mod FirstsDefined
 pub mod ResolvedNamed
+pub mod OneCall
+pub mod CallsOnClock
+pub mod PartsOnClock
+pub mod NormalOnClocks
 mod Examples

@@ -17,7 +17,7 @@ chain_drop f (suc n) [] h = tt
 chain_drop f (suc n) (t ∷ k) h = chain_drop f n k h.1
 
 module _ (f : Node) (declared : Below (length f.variables) (λ x. IsDeclared f x (test_of f x))) where
-  untested : (x : ℕ) → (item no_variable f.variables x).test ≡ None → clock_of f x ≡ []
+  pub untested : (x : ℕ) → (item no_variable f.variables x).test ≡ None → clock_of f x ≡ []
   untested x e = no_chain (length f.variables)
     where
       no_chain : (n : ℕ) → chain n f.variables x ≡ []

@@ -29,7 +29,7 @@ use Rattle.lus_normal_form.proofs.SitesNumbered.{equations_numbered}
 use Rattle.lus_normal_form.proofs.Variables.{formal_variables, all_known}
 
 -- each call is one of the calls
-each_called : (ss : List Site) → Each (λ s. IsCalled ss s.node s.number) ss
+pub each_called : (ss : List Site) → Each (λ s. IsCalled ss s.node s.number) ss
 each_called [] = tt
 each_called (s ∷ ss) = (inl (refl, refl), each_implies (λ t. IsCalled ss t.node t.number) (λ t. IsCalled (s ∷ ss) t.node t.number) (λ t here. inr here) ss (each_called ss))
 

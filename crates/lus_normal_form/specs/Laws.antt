@@ -46,6 +46,10 @@ NormalHasOrder =
     (p p' : Program) (new_parts : ℕ → List Part) → AreNamed p → IsNormalOf p p' new_parts
     → (f : ℕ) → IsOnClocks p (node_at p f) → HasOrder (node_at p f) → HasOrder (node_at p' f)
 
+-- the normal form of a resolved program on clocks is on clocks
+abbrev pub NormalIsOnClocks : Type 0
+NormalIsOnClocks = (p p' : Program) (new_parts : ℕ → List Part) → Resolved p → ProgramOnClocks p → IsNormalOf p p' new_parts → ProgramOnClocks p'
+
 -- operands in a normal form are literals or variables, and calls are whole right sides
 abbrev pub NormalIsSimple : Type 0
 NormalIsSimple = (p p' : Program) (f f' : Node) (new_parts : List Part) → IsNormalNode p p' f f' new_parts → IsSimpleNode f'

@@ -2,7 +2,7 @@
 //! it obeys.
 #![tactic(auto)]
 
-ghost use Rattle.lus_normal_form.specs.Laws.{NormalHasOrder, NormalIsSimple, NormalKeepsWorlds, OneTestSuffices, ResolvedAreNamed};
+ghost use Rattle.lus_normal_form.specs.Laws.{NormalHasOrder, NormalIsOnClocks, NormalIsSimple, NormalKeepsWorlds, OneTestSuffices, ResolvedAreNamed};
 
 /// A normal form has the worlds of its source and no others, new variables aside, called nodes included; and the same
 /// streams for each list of inputs.
@@ -13,6 +13,11 @@ pub fn normal_form_keeps_worlds()
 /// From a causal order of a node on clocks there is one of its normal form.
 pub fn normal_form_has_order()
     ensures { NormalHasOrder }
+{}
+
+/// The normal form of a resolved program on clocks is on clocks.
+pub fn normal_form_is_on_clocks()
+    ensures { NormalIsOnClocks }
 {}
 
 /// In a normal form the operands of `pre`, `when` and calls and the right operands of `fby` are literals or variables, and
