@@ -1,1 +1,2 @@
 pub mod StoredCounts
+pub mod Listed

@@ -3,7 +3,9 @@
 
 mod calls;
 mod counts;
+mod expression;
 mod taking;
 
 pub use counts::{firsts, memories, node_firsts, node_memories};
-pub use taking::{Taken, Taking, take_out};
+pub use expression::normal_expression;
+pub use taking::{Taken, Taking};
