@@ -1,2 +1,3 @@
 pub mod StoredCounts
 pub mod Listed
+pub mod NumberedNames

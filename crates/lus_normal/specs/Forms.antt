@@ -2,8 +2,10 @@
 -- the text.
 use Rattle.std.specs.Prelude.{ℕ, suc, ◌+◌, List, [], ◌∷◌, ◌++◌, Option, Some}
 use Rattle.lus_program.specs.declared.expr.Test.{Test}
-use Rattle.lus_program.specs.Programs.{Expression, literal, variable, operate, pre, arrow, fby, when, merge, call, Operands, none, more, Node}
-use Rattle.lus_streams.specs.OnClock.{test_of}
+use Rattle.lus_program.specs.Programs.{Expression, literal, variable, operate, pre, arrow, fby, when, merge, call, Operands, none, more, Node, Program, node_at}
+use Rattle.lus_streams.specs.Clocks.{clock_of}
+use Rattle.lus_streams.specs.OnClock.{test_of, actuals}
+use Rattle.lus_clocks.specs.Fitting.{names_in, renamed_first, base_test}
 
 -- an operand that is taken out, with the newest test of its clock, none on the base clock
 pub record Taken : Type 0 where
@@ -87,3 +89,33 @@ module _ (f : Node) where
     pub branches_taken : Operands → (variable constructor : ℕ) → List Taken
     branches_taken none x c = []
     branches_taken (more e es) x c = taken e (Some (record { variable = x; constructor = c })) ++ branches_taken es x (suc c)
+
+-- how many new variables stand in the arguments of a call
+abbrev pub argument_count : Operands → ℕ
+argument_count none = 0
+argument_count (more e es) = operand_count e + argument_count es
+
+-- the arguments of a call, the next new variable being n
+abbrev pub argument_forms : ℕ → Operands → List Expression
+argument_forms n none = []
+argument_forms n (more e es) = operand_form n e ∷ argument_forms (n + operand_count e) es
+
+-- what is taken out of the arguments of a call of g with this base, from formal m on
+abbrev pub arguments_taken : Operands → Node → (names : ℕ → Option ℕ) → (base : Option Test) → ℕ → List Taken
+arguments_taken none g names base m = []
+arguments_taken (more e es) g names base m = operand_taken e (renamed_first names (clock_of g m) base) ++ arguments_taken es g names base (suc m)
+
+-- how many new variables stand in the normal form of a whole right side
+abbrev pub right_count : Expression → ℕ
+right_count (call g c args) = argument_count args
+right_count e = new_count e
+
+-- the normal form of a whole right side, in which a call stays; its number is its place
+abbrev pub right_form : ℕ → Expression → Expression
+right_form n (call g c args) = call g 0 (listed (argument_forms n args))
+right_form n e = form n e
+
+-- what is taken out of a whole right side of node f on the clock with this newest test
+abbrev pub right_taken : Program → Node → Expression → Option Test → List Taken
+right_taken p f (call g c args) o = arguments_taken args (node_at p g) (names_in (actuals args [])) (base_test f (node_at p g) o) 0
+right_taken p f e o = taken f e o

@@ -4,8 +4,9 @@
 mod calls;
 mod counts;
 mod expression;
+mod right;
 mod taking;
 
 pub use counts::{firsts, memories, node_firsts, node_memories};
-pub use expression::normal_expression;
+pub use right::normal_right;
 pub use taking::{Taken, Taking};
