@@ -1,3 +1,5 @@
 pub mod StoredCounts
 pub mod Listed
 pub mod NumberedNames
+pub mod RightsGrow
+pub mod TakenCounted

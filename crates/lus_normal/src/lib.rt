@@ -5,6 +5,7 @@ mod calls;
 mod counts;
 mod expression;
 mod right;
+mod rights;
 mod taking;
 
 pub use counts::{firsts, memories, node_firsts, node_memories};

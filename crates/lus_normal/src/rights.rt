@@ -1,0 +1,60 @@
+//! The right sides of a node in normal form, and what is taken out of them in turn.
+
+ghost use Rattle.std.specs.Prelude.{◌≡◌, ◌+◌, length, map, slice_get, OnOk, IfOk};
+ghost use Rattle.lus_program.specs.View.{expression_of, node_of, program_seen};
+ghost use Rattle.lus_normal.specs.View.{all_taken_seen, taken_seen};
+ghost use Rattle.lus_normal.specs.Rights.{AreRightsBy, Grows, IsRightBy, rights_of};
+
+use crate::expression::test_of;
+use crate::right::normal_right;
+use crate::taking::{Taken, Taking};
+use lus_program::{Equation, Expr, Node, Program, Test};
+use lus_values::Memory;
+use std::alloc::Global;
+
+/// The normal form of an operand that was taken out, as a whole right side.
+fn right_of<'a>(
+    alloc: Global,
+    program: &Program,
+    node: &Node,
+    taken: Taken<'a>,
+    taking: &mut Taking<'a>,
+) -> Result<Expr, Memory>
+    requires counted { taking.old.next ≡ length (node_of node.now).variables + length (all_taken_seen taking.old.taken.items) }
+    ensures right { IfOk result (λ e. IsRightBy (program_seen program.now) (node_of node.now) (length (node_of node.now).variables) (all_taken_seen taking.new.taken.items) (taken_seen taken.entry) (expression_of e)) }
+    ensures grown { OnOk result (Grows (all_taken_seen taking.old.taken.items) (all_taken_seen taking.new.taken.items)) }
+    ensures counted { OnOk result (taking.new.next ≡ length (node_of node.now).variables + length (all_taken_seen taking.new.taken.items)) }
+{
+    taking.calls = taken.number;
+    let right = normal_right(alloc, program, node, taken.operand, taken.test, taking)?;
+    Ok(right)
+}
+
+/// What was taken out at a place in the list, none past the last.
+fn taken_at<'a>(taken: &[Taken<'a>], place: usize) -> Option<Taken<'a>>
+    ensures { result ≡ slice_get taken.now place }
+{
+    taken.get(place).copied()
+}
+
+/// The normal forms of all that was taken out, and of what is taken out of that in turn.
+fn rights_of_taken<'a>(
+    alloc: Global,
+    program: &Program,
+    node: &Node,
+    taking: &mut Taking<'a>,
+) -> Result<Vec<Expr>, Memory>
+    requires counted { taking.old.next ≡ length (node_of node.now).variables + length (all_taken_seen taking.old.taken.items) }
+    ensures rights { IfOk result (λ es. AreRightsBy (program_seen program.now) (node_of node.now) (length (node_of node.now).variables) (all_taken_seen taking.new.taken.items) (all_taken_seen taking.new.taken.items) (map expression_of es.items)) }
+    ensures grown { OnOk result (Grows (all_taken_seen taking.old.taken.items) (all_taken_seen taking.new.taken.items)) }
+{
+    let mut rights = Vec::new(alloc);
+    for place in 0..usize::MAX {
+        let Some(taken) = taken_at(&taking.taken, place) else {
+            return Ok(rights);
+        };
+        let right = right_of(alloc, program, node, taken, taking)?;
+        rights.push(right)?;
+    }
+    Err(Memory)
+}
