@@ -9,5 +9,5 @@ mod rights;
 mod taking;
 
 pub use counts::{firsts, memories, node_firsts, node_memories};
-pub use right::normal_right;
-pub use taking::{Taken, Taking};
+pub use rights::{Rights, normal_rights};
+pub use taking::Taken;

@@ -1,7 +1,10 @@
 //! The right sides of a node in normal form, and what is taken out of them in turn.
 
 ghost use Rattle.std.specs.Prelude.{◌≡◌, ◌+◌, length, map, slice_get, OnOk, IfOk};
+ghost use Rattle.lus_values.specs.Lists.{item};
+ghost use Rattle.lus_program.specs.Programs.{calls};
 ghost use Rattle.lus_program.specs.View.{expression_of, node_of, program_seen};
+ghost use Rattle.lus_streams.specs.OnClock.{test_of as test_in};
 ghost use Rattle.lus_normal.specs.View.{all_taken_seen, taken_seen};
 ghost use Rattle.lus_normal.specs.Rights.{AreRightsBy, Grows, IsRightBy, rights_of};
 
@@ -24,6 +27,7 @@ fn right_of<'a>(
     ensures right { IfOk result (λ e. IsRightBy (program_seen program.now) (node_of node.now) (length (node_of node.now).variables) (all_taken_seen taking.new.taken.items) (taken_seen taken.entry) (expression_of e)) }
     ensures grown { OnOk result (Grows (all_taken_seen taking.old.taken.items) (all_taken_seen taking.new.taken.items)) }
     ensures counted { OnOk result (taking.new.next ≡ length (node_of node.now).variables + length (all_taken_seen taking.new.taken.items)) }
+    ensures calls { OnOk result (taking.new.calls ≡ taken.entry.number + calls (expression_of taken.entry.operand.now)) }
 {
     taking.calls = taken.number;
     let right = normal_right(alloc, program, node, taken.operand, taken.test, taking)?;
@@ -57,4 +61,73 @@ fn rights_of_taken<'a>(
         rights.push(right)?;
     }
     Err(Memory)
+}
+
+/// The newest test of an equation's clock, that of its first variable.
+fn test_of_first(node: &Node, equation: &Equation) -> Option<Test>
+    ensures { result ≡ test_in (node_of node.now) (item 0 equation.now.targets.items 0) }
+{
+    match equation.targets.get(0) {
+        Some(variable) => test_of(node, *variable),
+        None => test_of(node, 0),
+    }
+}
+
+/// The normal forms of the right sides of a node's equations.
+fn rights_of_equations<'a>(
+    alloc: Global,
+    program: &Program,
+    node: &'a Node,
+    taking: &mut Taking<'a>,
+) -> Result<Vec<Expr>, Memory>
+    requires counted { taking.old.next ≡ length (node_of node.now).variables + length (all_taken_seen taking.old.taken.items) }
+    requires started { taking.old.calls ≡ 0 }
+    ensures rights { IfOk result (λ es. AreRightsBy (program_seen program.now) (node_of node.now) (length (node_of node.now).variables) (all_taken_seen taking.new.taken.items) (rights_of (node_of node.now) 0 node.now.equations.items) (map expression_of es.items)) }
+    ensures counted { OnOk result (taking.new.next ≡ length (node_of node.now).variables + length (all_taken_seen taking.new.taken.items)) }
+{
+    let mut rights = Vec::new(alloc);
+    for equation in &node.equations {
+        let taken = Taken {
+            test: test_of_first(node, equation),
+            operand: &equation.right,
+            number: taking.calls,
+        };
+        let right = right_of(alloc, program, node, taken, taking)?;
+        rights.push(right)?;
+    }
+    Ok(rights)
+}
+
+/// The right sides of a node in normal form, and those of all that is taken out of it, in its order.
+#[derive(Drop)]
+pub struct Rights<'a> {
+    pub sources: Vec<Expr>,
+    pub taken: Vec<Taken<'a>>,
+    pub added: Vec<Expr>,
+}
+
+/// The right sides of a node in normal form, and those of all that is taken out of it.
+pub fn normal_rights<'a>(
+    alloc: Global,
+    program: &Program,
+    node: &'a Node,
+) -> Result<Rights<'a>, Memory>
+    ensures sources { IfOk result (λ r. AreRightsBy (program_seen program.now) (node_of node.now) (length (node_of node.now).variables) (all_taken_seen r.taken.items) (rights_of (node_of node.now) 0 node.now.equations.items) (map expression_of r.sources.items)) }
+    ensures added { IfOk result (λ r. AreRightsBy (program_seen program.now) (node_of node.now) (length (node_of node.now).variables) (all_taken_seen r.taken.items) (all_taken_seen r.taken.items) (map expression_of r.added.items)) }
+{
+    let Ok(next) = u32::try_from(node.variables.len()) else {
+        return Err(Memory);
+    };
+    let mut taking = Taking {
+        taken: Vec::new(alloc),
+        next,
+        calls: 0,
+    };
+    let sources = rights_of_equations(alloc, program, node, &mut taking)?;
+    let added = rights_of_taken(alloc, program, node, &mut taking)?;
+    Ok(Rights {
+        sources,
+        taken: taking.taken,
+        added,
+    })
 }
