@@ -3,3 +3,4 @@ pub mod Listed
 pub mod NumberedNames
 pub mod RightsGrow
 pub mod TakenCounted
+pub mod FormsNormal

@@ -7,7 +7,7 @@ use Rattle.lus_streams.specs.OnClock.{test_of, actuals}
 use Rattle.lus_clocks.specs.Fitting.{names_in, renamed_first, base_test}
 use Rattle.lus_normal.specs.Forms.{Taken, operand_taken, operand_count, taken, all_taken, branches_taken, new_count, all_new_count, arguments_taken, argument_count, right_taken, right_count}
 
-operand_counted : (e : Expression) (o : Option Test) → length (operand_taken e o) ≡ operand_count e
+pub operand_counted : (e : Expression) (o : Option Test) → length (operand_taken e o) ≡ operand_count e
 operand_counted (literal v) o = refl
 operand_counted (variable x) o = refl
 operand_counted (operate op es) o = refl

@@ -1,3 +1,4 @@
 pub mod Forms
 pub mod View
 pub mod Rights
+pub mod Laws

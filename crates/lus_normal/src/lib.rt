@@ -4,10 +4,12 @@
 mod calls;
 mod counts;
 mod expression;
+mod laws;
 mod right;
 mod rights;
 mod taking;
 
 pub use counts::{firsts, memories, node_firsts, node_memories};
+pub use laws::rights_are_normal;
 pub use rights::{Rights, normal_rights};
 pub use taking::Taken;

@@ -58,7 +58,7 @@ module _ (p : Program) (f : Node) where
       let next : suc m + n ≡ m + suc n = omega arith in
       argument_clock es g args base (suc m) n x (each_right (PartOnClock p f) (parts p e k) (argument_parts p es g args base (suc m)) h) eq ∙ ap (formal_clock g args base) next
 
-  call_clock : (g : Node) (args : Operands) (base : Clock) → Each (PartOnClock p f) (argument_parts p args g args base 0) → (m x : ℕ) → operand args m ≡ variable x → clock_of f x ≡ formal_clock g args base m
+  pub call_clock : (g : Node) (args : Operands) (base : Clock) → Each (PartOnClock p f) (argument_parts p args g args base 0) → (m x : ℕ) → operand args m ≡ variable x → clock_of f x ≡ formal_clock g args base m
   call_clock g args base h m x e = let place : 0 + m ≡ m = omega arith in argument_clock args g args base 0 m x h e ∙ ap (formal_clock g args base) place
 
   one_renamed_is_chain : (e : Expression) (c : ℕ) (k base : Clock) → IsChain f (k ++ base) → ((x : ℕ) → e ≡ variable x → clock_of f x ≡ k ++ base) → IsChain f (renamed_test e c k ++ base)

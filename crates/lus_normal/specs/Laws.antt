@@ -1,0 +1,41 @@
+-- The right sides that the code computes are normal forms.
+use Rattle.std.specs.Prelude.{ℕ, suc, ◌<◌, List, length, map}
+use Rattle.lus_values.specs.Lists.{Each, Below}
+use Rattle.lus_program.specs.Programs.{Expression, call, Operands, none, more, Node, Program, node_at}
+use Rattle.lus_streams.specs.Clocks.{clock_of, Part, at, operand, parts}
+use Rattle.lus_streams.specs.OnClock.{IsDeclared, IsName, RightOnClock, test_of}
+use Rattle.lus_clocks.specs.Fitting.{clock_from}
+use Rattle.lus_normal_form.specs.NormalForm.{IsRight, StandsFor}
+use Rattle.lus_normal.specs.Forms.{Taken}
+use Rattle.lus_normal.specs.Rights.{IsRightBy}
+
+-- what is taken out of node f, on its clock
+abbrev pub part_taken : Node → Taken → Part
+part_taken f t = at (clock_from f t.test) t.operand
+
+-- each variable is declared on a clock
+abbrev pub Declared : Node → Type 0
+Declared f = Below (length f.variables) (λ x. IsDeclared f x (test_of f x))
+
+-- the arguments from formal m on stand for inputs of g, and names for what the clocks of these test
+abbrev pub HaveFormals : Node → Operands → Operands → ℕ → Type 0
+HaveFormals g args none m = Unit {0}
+HaveFormals g args (more e es) m = (m < g.inputs) × Each (λ t. IsName (operand args t.variable)) (clock_of g m) × HaveFormals g args es (suc m)
+
+-- the arguments of a whole right side that is a call stand for the inputs of the called node
+abbrev pub RightHasFormals : Program → Expression → Type 0
+RightHasFormals p (call g c args) = HaveFormals (node_at p g) args args 0
+RightHasFormals p e = Unit {0}
+
+-- the normal form of a whole right side, with the call's number
+abbrev pub renumbered : Expression → Expression → Expression
+renumbered (call g c args) (call h d es) = call h c es
+renumbered e e' = e'
+
+-- a right side of node f that is computed is a normal form, the variables behind those of f being for what is taken out
+abbrev pub RightsAreNormal : Type 0
+RightsAreNormal =
+    (p : Program) → ((g : ℕ) → Declared (node_at p g)) → (f : Node) → Declared f → (all : List Taken) (t : Taken) (e : Expression)
+    → IsRightBy p f (length f.variables) all t e
+    → RightOnClock p f (parts p t.operand (clock_from f t.test)) → RightHasFormals p t.operand
+    → IsRight p (StandsFor (length f.variables) (map (part_taken f) all)) t.operand (renumbered t.operand e) (clock_from f t.test)
