@@ -27,7 +27,7 @@ module _ (P : ℕ → Taken → Type 0) where
   back n m [] ys e h = let same : n ≡ m = omega (arith, e) in subst (λ z. EachFrom P z ys) same h
   back n m (x ∷ xs) ys e h = back (suc n) m xs ys (omega (arith, e)) h.1
 
-actuals_none : (args : Operands) → actuals args [] ≡ args
+pub actuals_none : (args : Operands) → actuals args [] ≡ args
 actuals_none none = refl
 actuals_none (more e es) = ap (more e) (actuals_none es)
 
@@ -35,7 +35,7 @@ keeps_names : (es : Operands) (n : ℕ) → KeepsNames es (listed (argument_form
 keeps_names none n = refl
 keeps_names (more e es) n = (operand_form n e, listed (argument_forms (n + operand_count e) es), refl, (λ x eq. ap (operand_form n) eq), keeps_names es (n + operand_count e))
 
-named_variable : (e : Expression) (y : ℕ) → name_of e ≡ Some y → e ≡ variable y
+pub named_variable : (e : Expression) (y : ℕ) → name_of e ≡ Some y → e ≡ variable y
 named_variable (variable x) y h = cc
 named_variable _ y h = absurd (none_some h)
   where

@@ -4,3 +4,4 @@ pub mod NumberedNames
 pub mod RightsGrow
 pub mod TakenCounted
 pub mod FormsNormal
+pub mod TakenParts

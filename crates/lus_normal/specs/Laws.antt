@@ -3,10 +3,11 @@ use Rattle.std.specs.Prelude.{ℕ, suc, ◌<◌, List, length, map}
 use Rattle.lus_values.specs.Lists.{Each, Below}
 use Rattle.lus_program.specs.Programs.{Expression, call, Operands, none, more, Node, Program, node_at}
 use Rattle.lus_streams.specs.Clocks.{clock_of, Part, at, operand, parts}
-use Rattle.lus_streams.specs.OnClock.{IsDeclared, IsName, RightOnClock, test_of}
+use Rattle.lus_streams.specs.OnClock.{IsDeclared, IsName, PartOnClock, RightOnClock, test_of}
 use Rattle.lus_clocks.specs.Fitting.{clock_from}
 use Rattle.lus_normal_form.specs.NormalForm.{IsRight, StandsFor}
-use Rattle.lus_normal.specs.Forms.{Taken}
+use Rattle.lus_normal_form.specs.NormalNodes.{IsWithin}
+use Rattle.lus_normal.specs.Forms.{Taken, right_taken}
 use Rattle.lus_normal.specs.Rights.{IsRightBy}
 
 -- what is taken out of node f, on its clock
@@ -39,3 +40,17 @@ RightsAreNormal =
     → IsRightBy p f (length f.variables) all t e
     → RightOnClock p f (parts p t.operand (clock_from f t.test)) → RightHasFormals p t.operand
     → IsRight p (StandsFor (length f.variables) (map (part_taken f) all)) t.operand (renumbered t.operand e) (clock_from f t.test)
+
+-- what is taken out of a right side of node f, itself of these parts, is of these parts
+abbrev pub TakenAreWithin : Type 0
+TakenAreWithin =
+    (p : Program) → ((g : ℕ) → Declared (node_at p g)) → (f : Node) → Declared f → (all : List Part) (t : Taken)
+    → RightOnClock p f (parts p t.operand (clock_from f t.test)) → IsWithin p all (part_taken f t)
+    → Each (λ u. IsWithin p all (part_taken f u)) (right_taken p f t.operand t.test)
+
+-- what is taken out of a right side on a clock is on its clock
+abbrev pub TakenAreOnClocks : Type 0
+TakenAreOnClocks =
+    (p : Program) → ((g : ℕ) → Declared (node_at p g)) → (f : Node) → Declared f → (t : Taken)
+    → RightOnClock p f (parts p t.operand (clock_from f t.test))
+    → Each (λ u. Each (PartOnClock p f) (parts p u.operand (clock_from f u.test))) (right_taken p f t.operand t.test)

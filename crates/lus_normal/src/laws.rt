@@ -1,9 +1,19 @@
 //! The right sides that are computed are normal forms.
 
-ghost use Rattle.lus_normal.specs.Laws.{RightsAreNormal};
+ghost use Rattle.lus_normal.specs.Laws.{RightsAreNormal, TakenAreOnClocks, TakenAreWithin};
 
 /// A right side that is computed for a node on clocks is a normal form, the variables behind those of the node being for what
 /// is taken out.
 pub fn rights_are_normal()
     ensures { RightsAreNormal }
+{}
+
+/// What is taken out of a right side is one of its parts.
+pub fn taken_are_within()
+    ensures { TakenAreWithin }
+{}
+
+/// What is taken out of a right side on a clock is on its clock.
+pub fn taken_are_on_clocks()
+    ensures { TakenAreOnClocks }
 {}
