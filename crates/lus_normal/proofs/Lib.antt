@@ -5,3 +5,4 @@ pub mod RightsGrow
 pub mod TakenCounted
 pub mod FormsNormal
 pub mod TakenParts
+pub mod Fitting

@@ -3,6 +3,7 @@ use Rattle.std.specs.Prelude.{ℕ, suc, ◌<◌, List, length, map}
 use Rattle.lus_values.specs.Lists.{Each, Below}
 use Rattle.lus_program.specs.Programs.{Expression, call, Operands, none, more, Node, Program, node_at}
 use Rattle.lus_streams.specs.Clocks.{clock_of, Part, at, operand, parts}
+use Rattle.lus_streams.specs.Equations.{node_parts}
 use Rattle.lus_streams.specs.OnClock.{IsDeclared, IsName, PartOnClock, RightOnClock, test_of}
 use Rattle.lus_clocks.specs.Fitting.{clock_from}
 use Rattle.lus_normal_form.specs.NormalForm.{IsRight, StandsFor}
@@ -54,3 +55,11 @@ TakenAreOnClocks =
     (p : Program) → ((g : ℕ) → Declared (node_at p g)) → (f : Node) → Declared f → (t : Taken)
     → RightOnClock p f (parts p t.operand (clock_from f t.test))
     → Each (λ u. Each (PartOnClock p f) (parts p u.operand (clock_from f u.test))) (right_taken p f t.operand t.test)
+
+-- what is taken out is in the node's text, on its clock
+abbrev pub IsFit : Program → Node → Taken → Type 0
+IsFit p f t = Each (PartOnClock p f) (parts p t.operand (clock_from f t.test)) × IsWithin p (node_parts p f) (part_taken f t)
+
+-- a whole right side is in the node's text, on its clock
+abbrev pub IsFitRight : Program → Node → Taken → Type 0
+IsFitRight p f t = RightOnClock p f (parts p t.operand (clock_from f t.test)) × IsWithin p (node_parts p f) (part_taken f t)

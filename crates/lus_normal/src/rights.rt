@@ -1,10 +1,11 @@
 //! The right sides of a node in normal form, and what is taken out of them in turn.
 
 ghost use Rattle.std.specs.Prelude.{◌≡◌, ◌+◌, length, map, slice_get, OnOk, IfOk};
-ghost use Rattle.lus_values.specs.Lists.{item};
+ghost use Rattle.lus_values.specs.Lists.{Each, item};
 ghost use Rattle.lus_program.specs.Programs.{calls};
 ghost use Rattle.lus_program.specs.View.{expression_of, node_of, program_seen};
-ghost use Rattle.lus_streams.specs.OnClock.{test_of as test_in};
+ghost use Rattle.lus_streams.specs.OnClock.{IsOnClocks, ProgramOnClocks, test_of as test_in};
+ghost use Rattle.lus_normal.specs.Laws.{Declared, IsFit, IsFitRight};
 ghost use Rattle.lus_normal.specs.View.{all_taken_seen, taken_seen};
 ghost use Rattle.lus_normal.specs.Rights.{AreRightsBy, Grows, IsRightBy, rights_of};
 
@@ -23,9 +24,13 @@ fn right_of<'a>(
     taken: Taken<'a>,
     taking: &mut Taking<'a>,
 ) -> Result<Expr, Memory>
+    requires on_clocks { ProgramOnClocks (program_seen program.now) }
+    requires declared { Declared (node_of node.now) }
+    requires fit { IsFitRight (program_seen program.now) (node_of node.now) (taken_seen taken) }
     requires counted { taking.old.next ≡ length (node_of node.now).variables + length (all_taken_seen taking.old.taken.items) }
     ensures right { IfOk result (λ e. IsRightBy (program_seen program.now) (node_of node.now) (length (node_of node.now).variables) (all_taken_seen taking.new.taken.items) (taken_seen taken.entry) (expression_of e)) }
     ensures grown { OnOk result (Grows (all_taken_seen taking.old.taken.items) (all_taken_seen taking.new.taken.items)) }
+    ensures fit { OnOk result (Each (IsFit (program_seen program.now) (node_of node.now)) (all_taken_seen taking.old.taken.items) → Each (IsFit (program_seen program.now) (node_of node.now)) (all_taken_seen taking.new.taken.items)) }
     ensures counted { OnOk result (taking.new.next ≡ length (node_of node.now).variables + length (all_taken_seen taking.new.taken.items)) }
     ensures calls { OnOk result (taking.new.calls ≡ taken.entry.number + calls (expression_of taken.entry.operand.now)) }
 {
@@ -48,8 +53,12 @@ fn rights_of_taken<'a>(
     node: &Node,
     taking: &mut Taking<'a>,
 ) -> Result<Vec<Expr>, Memory>
+    requires on_clocks { ProgramOnClocks (program_seen program.now) }
+    requires declared { Declared (node_of node.now) }
+    requires fit { Each (IsFit (program_seen program.now) (node_of node.now)) (all_taken_seen taking.old.taken.items) }
     requires counted { taking.old.next ≡ length (node_of node.now).variables + length (all_taken_seen taking.old.taken.items) }
     ensures rights { IfOk result (λ es. AreRightsBy (program_seen program.now) (node_of node.now) (length (node_of node.now).variables) (all_taken_seen taking.new.taken.items) (all_taken_seen taking.new.taken.items) (map expression_of es.items)) }
+    ensures fit { OnOk result (Each (IsFit (program_seen program.now) (node_of node.now)) (all_taken_seen taking.new.taken.items)) }
     ensures grown { OnOk result (Grows (all_taken_seen taking.old.taken.items) (all_taken_seen taking.new.taken.items)) }
 {
     let mut rights = Vec::new(alloc);
@@ -80,9 +89,13 @@ fn rights_of_equations<'a>(
     node: &'a Node,
     taking: &mut Taking<'a>,
 ) -> Result<Vec<Expr>, Memory>
+    requires on_clocks { ProgramOnClocks (program_seen program.now) }
+    requires node_on_clocks { IsOnClocks (program_seen program.now) (node_of node.now) }
+    requires fit { Each (IsFit (program_seen program.now) (node_of node.now)) (all_taken_seen taking.old.taken.items) }
     requires counted { taking.old.next ≡ length (node_of node.now).variables + length (all_taken_seen taking.old.taken.items) }
     requires started { taking.old.calls ≡ 0 }
     ensures rights { IfOk result (λ es. AreRightsBy (program_seen program.now) (node_of node.now) (length (node_of node.now).variables) (all_taken_seen taking.new.taken.items) (rights_of (node_of node.now) 0 node.now.equations.items) (map expression_of es.items)) }
+    ensures fit { OnOk result (Each (IsFit (program_seen program.now) (node_of node.now)) (all_taken_seen taking.new.taken.items)) }
     ensures counted { OnOk result (taking.new.next ≡ length (node_of node.now).variables + length (all_taken_seen taking.new.taken.items)) }
 {
     let mut rights = Vec::new(alloc);
@@ -112,8 +125,11 @@ pub fn normal_rights<'a>(
     program: &Program,
     node: &'a Node,
 ) -> Result<Rights<'a>, Memory>
+    requires on_clocks { ProgramOnClocks (program_seen program.now) }
+    requires node_on_clocks { IsOnClocks (program_seen program.now) (node_of node.now) }
     ensures sources { IfOk result (λ r. AreRightsBy (program_seen program.now) (node_of node.now) (length (node_of node.now).variables) (all_taken_seen r.taken.items) (rights_of (node_of node.now) 0 node.now.equations.items) (map expression_of r.sources.items)) }
     ensures added { IfOk result (λ r. AreRightsBy (program_seen program.now) (node_of node.now) (length (node_of node.now).variables) (all_taken_seen r.taken.items) (all_taken_seen r.taken.items) (map expression_of r.added.items)) }
+    ensures fit { IfOk result (λ r. Each (IsFit (program_seen program.now) (node_of node.now)) (all_taken_seen r.taken.items)) }
 {
     let Ok(next) = u32::try_from(node.variables.len()) else {
         return Err(Memory);
