@@ -6,3 +6,4 @@ pub mod TakenCounted
 pub mod FormsNormal
 pub mod TakenParts
 pub mod Fitting
+pub mod AllNormal

@@ -1,15 +1,15 @@
 -- The right sides that the code computes are normal forms.
-use Rattle.std.specs.Prelude.{ℕ, suc, ◌<◌, List, length, map}
+use Rattle.std.specs.Prelude.{◌≡◌, ℕ, suc, ◌<◌, List, [], ◌∷◌, length, map}
 use Rattle.lus_values.specs.Lists.{Each, Below}
 use Rattle.lus_program.specs.Programs.{Expression, call, Operands, none, more, Node, Program, node_at}
 use Rattle.lus_streams.specs.Clocks.{clock_of, Part, at, operand, parts}
 use Rattle.lus_streams.specs.Equations.{node_parts}
-use Rattle.lus_streams.specs.OnClock.{IsDeclared, IsName, PartOnClock, RightOnClock, test_of}
+use Rattle.lus_streams.specs.OnClock.{IsDeclared, IsName, PartOnClock, ProgramOnClocks, RightOnClock, test_of}
 use Rattle.lus_clocks.specs.Fitting.{clock_from}
 use Rattle.lus_normal_form.specs.NormalForm.{IsRight, StandsFor}
 use Rattle.lus_normal_form.specs.NormalNodes.{IsWithin}
 use Rattle.lus_normal.specs.Forms.{Taken, right_taken}
-use Rattle.lus_normal.specs.Rights.{IsRightBy}
+use Rattle.lus_normal.specs.Rights.{AreRightsBy, IsRightBy}
 
 -- what is taken out of node f, on its clock
 abbrev pub part_taken : Node → Taken → Part
@@ -63,3 +63,18 @@ IsFit p f t = Each (PartOnClock p f) (parts p t.operand (clock_from f t.test)) �
 -- a whole right side is in the node's text, on its clock
 abbrev pub IsFitRight : Program → Node → Taken → Type 0
 IsFitRight p f t = RightOnClock p f (parts p t.operand (clock_from f t.test)) × IsWithin p (node_parts p f) (part_taken f t)
+
+-- one by one, the normal forms of right sides of node f
+abbrev pub AreNormalRights : Program → Node → List Taken → List Taken → List Expression → Type 0
+AreNormalRights p f all [] es = es ≡ []
+AreNormalRights p f all (t ∷ ts) es =
+    (e : Expression) × (rest : List Expression) × (es ≡ e ∷ rest)
+    × IsRight p (StandsFor (length f.variables) (map (part_taken f) all)) t.operand (renumbered t.operand e) (clock_from f t.test)
+    × AreNormalRights p f all ts rest
+
+-- right sides that are computed for a node of a program on clocks, and whose calls have arguments for all inputs, are so
+abbrev pub AllRightsAreNormal : Type 0
+AllRightsAreNormal =
+    (p : Program) → ProgramOnClocks p → (f : Node) → Declared f → (all ts : List Taken) (es : List Expression)
+    → AreRightsBy p f (length f.variables) all ts es → Each (IsFitRight p f) ts → Each (λ t. RightHasFormals p t.operand) ts
+    → AreNormalRights p f all ts es

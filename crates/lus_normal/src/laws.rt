@@ -1,6 +1,6 @@
 //! The right sides that are computed are normal forms.
 
-ghost use Rattle.lus_normal.specs.Laws.{RightsAreNormal, TakenAreOnClocks, TakenAreWithin};
+ghost use Rattle.lus_normal.specs.Laws.{AllRightsAreNormal, RightsAreNormal, TakenAreOnClocks, TakenAreWithin};
 
 /// A right side that is computed for a node on clocks is a normal form, the variables behind those of the node being for what
 /// is taken out.
@@ -16,4 +16,9 @@ pub fn taken_are_within()
 /// What is taken out of a right side on a clock is on its clock.
 pub fn taken_are_on_clocks()
     ensures { TakenAreOnClocks }
+{}
+
+/// The right sides that are computed for a node of a program on clocks are normal forms, one by one.
+pub fn all_rights_are_normal()
+    ensures { AllRightsAreNormal }
 {}

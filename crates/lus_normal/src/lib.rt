@@ -10,6 +10,6 @@ mod rights;
 mod taking;
 
 pub use counts::{firsts, memories, node_firsts, node_memories};
-pub use laws::{rights_are_normal, taken_are_on_clocks, taken_are_within};
+pub use laws::{all_rights_are_normal, rights_are_normal, taken_are_on_clocks, taken_are_within};
 pub use rights::{Rights, normal_rights};
 pub use taking::Taken;
