@@ -7,3 +7,4 @@ pub mod FormsNormal
 pub mod TakenParts
 pub mod Fitting
 pub mod AllNormal
+pub mod Arguments

@@ -5,6 +5,7 @@ use Rattle.lus_program.specs.Programs.{Expression, call, Operands, none, more, N
 use Rattle.lus_streams.specs.Clocks.{clock_of, Part, at, operand, parts}
 use Rattle.lus_streams.specs.Equations.{node_parts}
 use Rattle.lus_streams.specs.OnClock.{IsDeclared, IsName, PartOnClock, ProgramOnClocks, RightOnClock, test_of}
+use Rattle.lus_meaning.specs.Resolved.{Resolved}
 use Rattle.lus_clocks.specs.Fitting.{clock_from}
 use Rattle.lus_normal_form.specs.NormalForm.{IsRight, StandsFor}
 use Rattle.lus_normal_form.specs.NormalNodes.{IsWithin}
@@ -78,3 +79,20 @@ AllRightsAreNormal =
     (p : Program) → ProgramOnClocks p → (f : Node) → Declared f → (all ts : List Taken) (es : List Expression)
     → AreRightsBy p f (length f.variables) all ts es → Each (IsFitRight p f) ts → Each (λ t. RightHasFormals p t.operand) ts
     → AreNormalRights p f all ts es
+
+abbrev pub operand_size : Operands → ℕ
+operand_size none = 0
+operand_size (more e es) = suc (operand_size es)
+
+-- a call has as many arguments as the called node has inputs
+abbrev pub HasArguments : Program → Part → Type 0
+HasArguments p (at k (call g c args)) = operand_size args ≡ (node_at p g).inputs
+HasArguments p e = Unit {0}
+
+-- so has each call of a resolved program
+abbrev pub ResolvedCallsHaveArguments : Type 0
+ResolvedCallsHaveArguments = (p : Program) → Resolved p → Each (λ f. Each (HasArguments p) (node_parts p f)) p.nodes
+
+-- and what is taken out of a node on clocks has arguments for all inputs
+abbrev pub TakenHaveFormals : Type 0
+TakenHaveFormals = (p : Program) (f : Node) → Each (HasArguments p) (node_parts p f) → (t : Taken) → IsFit p f t → RightHasFormals p t.operand

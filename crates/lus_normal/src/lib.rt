@@ -10,6 +10,9 @@ mod rights;
 mod taking;
 
 pub use counts::{firsts, memories, node_firsts, node_memories};
-pub use laws::{all_rights_are_normal, rights_are_normal, taken_are_on_clocks, taken_are_within};
+pub use laws::{
+    all_rights_are_normal, resolved_calls_have_arguments, rights_are_normal, taken_are_on_clocks,
+    taken_are_within, taken_have_formals,
+};
 pub use rights::{Rights, normal_rights};
 pub use taking::Taken;
