@@ -8,3 +8,4 @@ pub mod TakenParts
 pub mod Fitting
 pub mod AllNormal
 pub mod Arguments
+pub mod SourceArguments

@@ -2,15 +2,17 @@
 use Rattle.std.specs.Prelude.{◌≡◌, ℕ, suc, ◌<◌, List, [], ◌∷◌, length, map}
 use Rattle.lus_values.specs.Lists.{Each, Below}
 use Rattle.lus_program.specs.Programs.{Expression, call, Operands, none, more, Node, Program, node_at}
+use Rattle.lus_program.specs.declared.node.Equation.{Equation as StoredEquation}
+use Rattle.lus_program.specs.View.{equations_from}
 use Rattle.lus_streams.specs.Clocks.{clock_of, Part, at, operand, parts}
 use Rattle.lus_streams.specs.Equations.{node_parts}
-use Rattle.lus_streams.specs.OnClock.{IsDeclared, IsName, PartOnClock, ProgramOnClocks, RightOnClock, test_of}
+use Rattle.lus_streams.specs.OnClock.{IsDeclared, IsOnClocks, IsName, PartOnClock, ProgramOnClocks, RightOnClock, test_of}
 use Rattle.lus_meaning.specs.Resolved.{Resolved}
 use Rattle.lus_clocks.specs.Fitting.{clock_from}
 use Rattle.lus_normal_form.specs.NormalForm.{IsRight, StandsFor}
 use Rattle.lus_normal_form.specs.NormalNodes.{IsWithin}
 use Rattle.lus_normal.specs.Forms.{Taken, right_taken}
-use Rattle.lus_normal.specs.Rights.{AreRightsBy, IsRightBy}
+use Rattle.lus_normal.specs.Rights.{AreRightsBy, IsRightBy, rights_of}
 
 -- what is taken out of node f, on its clock
 abbrev pub part_taken : Node → Taken → Part
@@ -96,3 +98,9 @@ ResolvedCallsHaveArguments = (p : Program) → Resolved p → Each (λ f. Each (
 -- and what is taken out of a node on clocks has arguments for all inputs
 abbrev pub TakenHaveFormals : Type 0
 TakenHaveFormals = (p : Program) (f : Node) → Each (HasArguments p) (node_parts p f) → (t : Taken) → IsFit p f t → RightHasFormals p t.operand
+
+-- and the right sides of a node on clocks
+abbrev pub SourcesHaveFormals : Type 0
+SourcesHaveFormals =
+    (p : Program) → ProgramOnClocks p → (f : Node) → IsOnClocks p f → Each (λ q. 0 < length q.targets) f.equations → Each (HasArguments p) (node_parts p f)
+    → (qs : List StoredEquation) → f.equations ≡ equations_from 0 qs → Each (λ t. RightHasFormals p t.operand) (rights_of f 0 qs)

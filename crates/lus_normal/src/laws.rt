@@ -1,6 +1,6 @@
 //! The right sides that are computed are normal forms.
 
-ghost use Rattle.lus_normal.specs.Laws.{AllRightsAreNormal, ResolvedCallsHaveArguments, RightsAreNormal, TakenAreOnClocks, TakenAreWithin, TakenHaveFormals};
+ghost use Rattle.lus_normal.specs.Laws.{AllRightsAreNormal, ResolvedCallsHaveArguments, RightsAreNormal, SourcesHaveFormals, TakenAreOnClocks, TakenAreWithin, TakenHaveFormals};
 
 /// A right side that is computed for a node on clocks is a normal form, the variables behind those of the node being for what
 /// is taken out.
@@ -32,4 +32,9 @@ pub fn resolved_calls_have_arguments()
 /// test.
 pub fn taken_have_formals()
     ensures { TakenHaveFormals }
+{}
+
+/// So has each right side of a node on clocks that is a call.
+pub fn sources_have_formals()
+    ensures { SourcesHaveFormals }
 {}

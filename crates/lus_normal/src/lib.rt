@@ -11,8 +11,8 @@ mod taking;
 
 pub use counts::{firsts, memories, node_firsts, node_memories};
 pub use laws::{
-    all_rights_are_normal, resolved_calls_have_arguments, rights_are_normal, taken_are_on_clocks,
-    taken_are_within, taken_have_formals,
+    all_rights_are_normal, resolved_calls_have_arguments, rights_are_normal, sources_have_formals,
+    taken_are_on_clocks, taken_are_within, taken_have_formals,
 };
 pub use rights::{Rights, normal_rights};
 pub use taking::Taken;
