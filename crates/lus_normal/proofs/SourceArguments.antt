@@ -1,13 +1,13 @@
 -- Calls that are whole right sides of a node on clocks have arguments for all inputs.
-use Rattle.std.proofs.Common.{arith, ◌≡◌, ◌∙◌, sym, ap, ℕ, zero, suc, ◌+◌, ◌<◌, List, [], ◌∷◌, ◌++◌, length, Option, Some, None, refl, subst, suc-ne-zero, not-suc-le-zero, ⊎_elim}
+use Rattle.std.proofs.Common.{arith, ◌≡◌, ◌∙◌, sym, ap, ℕ, zero, suc, ◌+◌, ◌<◌, List, [], ◌∷◌, length, Option, Some, None, refl, subst, suc-ne-zero, not-suc-le-zero, ⊎_elim}
 use Rattle.std.proofs.lemmas.Bool.{cases_lt}
 use Rattle.lus_values.specs.Lists.{item, Each, Below}
 use Rattle.lus_program.specs.declared.expr.Test.{Test}
 use Rattle.lus_program.specs.declared.node.Equation.{Equation as StoredEquation}
-use Rattle.lus_program.specs.Programs.{Expression, literal, variable, operate, pre, arrow, fby, when, merge, call, Operands, none, more, Equation, Node, Program, no_variable, node_at, calls, numbered, Variable}
+use Rattle.lus_program.specs.Programs.{Expression, literal, variable, operate, pre, arrow, fby, when, merge, call, Operands, none, more, Node, Program, no_variable, node_at, calls, numbered, Variable}
 use Rattle.lus_program.specs.View.{expression_of, equations_from}
-use Rattle.lus_streams.specs.Clocks.{Clock, clock_of, Part, operand, parts}
-use Rattle.lus_streams.specs.Equations.{equation_clock, equation_parts, node_parts}
+use Rattle.lus_streams.specs.Clocks.{Clock, clock_of, operand, parts}
+use Rattle.lus_streams.specs.Equations.{equation_parts}
 use Rattle.lus_streams.specs.OnClock.{IsDeclared, IsName, LeftOnClock, actuals, test_of}
 use Rattle.lus_streams.proofs.Lists.{each_left, each_right, below_at, item_past}
 use Rattle.lus_clocks.proofs.NewestTests.{chain_none, clock_tail}

@@ -1,11 +1,12 @@
 //! The right sides of a node in normal form, and what is taken out of them in turn.
 
-ghost use Rattle.std.specs.Prelude.{◌≡◌, ◌+◌, length, map, slice_get, OnOk, IfOk};
+ghost use Rattle.std.specs.Prelude.{◌≡◌, ◌+◌, ◌<◌, length, map, slice_get, OnOk, IfOk};
 ghost use Rattle.lus_values.specs.Lists.{Each, item};
 ghost use Rattle.lus_program.specs.Programs.{calls};
 ghost use Rattle.lus_program.specs.View.{expression_of, node_of, program_seen};
+ghost use Rattle.lus_streams.specs.Equations.{node_parts};
 ghost use Rattle.lus_streams.specs.OnClock.{IsOnClocks, ProgramOnClocks, test_of as test_in};
-ghost use Rattle.lus_normal.specs.Laws.{Declared, IsFit, IsFitRight};
+ghost use Rattle.lus_normal.specs.Laws.{AreNormalRights, Declared, HasArguments, IsFit, IsFitRight};
 ghost use Rattle.lus_normal.specs.View.{all_taken_seen, taken_seen};
 ghost use Rattle.lus_normal.specs.Rights.{AreRightsBy, Grows, IsRightBy, rights_of};
 
@@ -127,9 +128,13 @@ pub fn normal_rights<'a>(
 ) -> Result<Rights<'a>, Memory>
     requires on_clocks { ProgramOnClocks (program_seen program.now) }
     requires node_on_clocks { IsOnClocks (program_seen program.now) (node_of node.now) }
+    requires lefts { Each (λ q. 0 < length q.targets) (node_of node.now).equations }
+    requires arguments { Each (HasArguments (program_seen program.now)) (node_parts (program_seen program.now) (node_of node.now)) }
     ensures sources { IfOk result (λ r. AreRightsBy (program_seen program.now) (node_of node.now) (length (node_of node.now).variables) (all_taken_seen r.taken.items) (rights_of (node_of node.now) 0 node.now.equations.items) (map expression_of r.sources.items)) }
     ensures added { IfOk result (λ r. AreRightsBy (program_seen program.now) (node_of node.now) (length (node_of node.now).variables) (all_taken_seen r.taken.items) (all_taken_seen r.taken.items) (map expression_of r.added.items)) }
     ensures fit { IfOk result (λ r. Each (IsFit (program_seen program.now) (node_of node.now)) (all_taken_seen r.taken.items)) }
+    ensures normal_sources { IfOk result (λ r. AreNormalRights (program_seen program.now) (node_of node.now) (all_taken_seen r.taken.items) (rights_of (node_of node.now) 0 node.now.equations.items) (map expression_of r.sources.items)) }
+    ensures normal_added { IfOk result (λ r. AreNormalRights (program_seen program.now) (node_of node.now) (all_taken_seen r.taken.items) (all_taken_seen r.taken.items) (map expression_of r.added.items)) }
 {
     let Ok(next) = u32::try_from(node.variables.len()) else {
         return Err(Memory);
