@@ -1,5 +1,5 @@
 -- Each call of a resolved program has as many arguments as the called node has inputs.
-use Rattle.std.proofs.Common.{arith, ◌≡◌, ◌∙◌, sym, ap, ℕ, suc, ◌+◌, ◌<◌, ◌≤◌, List, [], ◌∷◌, ◌++◌, drop, length, take, Some, subst}
+use Rattle.std.proofs.Common.{arith, ◌≡◌, ◌∙◌, sym, ap, ℕ, zero, suc, ◌+◌, ◌<◌, ◌≤◌, List, [], ◌∷◌, ◌++◌, drop, length, take, Some, subst}
 use Rattle.std.proofs.Math.ListN.{length-map}
 use Rattle.std.proofs.lemmas.List.{length-take-le}
 use Rattle.std.proofs.lemmas.Option.{get_or_from_slice_get}
@@ -10,15 +10,21 @@ use Rattle.lus_program.specs.Programs.{Expression, literal, variable, operate, p
 use Rattle.lus_streams.specs.Clocks.{Clock, clock_of, Part, operand, formal_clock, base_of, parts, operand_parts, branch_parts, argument_parts}
 use Rattle.lus_streams.specs.Equations.{equation_clock, equation_parts, node_parts}
 use Rattle.lus_streams.specs.OnClock.{IsName, PartOnClock}
-use Rattle.lus_streams.proofs.Lists.{each_append, each_implies, each_left, each_right, below_at}
+use Rattle.lus_streams.proofs.Lists.{each_append, each_implies, each_left, each_right}
+use Rattle.lus_values.proofs.Lists.{below_at}
 use Rattle.lus_clocks.specs.Fitting.{clock_from}
 use Rattle.lus_meaning.specs.Types.{all_same}
 use Rattle.lus_meaning.specs.Resolved.{input_kinds, output_kinds, call_results, results, kind_in, kinds_in, kinds_given_in, EquationFits, NodeResolved}
-use Rattle.lus_resolution.proofs.Lists.{each_at}
 use Rattle.lus_resolution.proofs.Options.{and_then_gives, map_gives, where_true_gives, all_same_is}
 use Rattle.lus_resolution.proofs.Typed.{HasKind, HaveKinds, IsCall, operate_typed, both_typed, when_typed, merge_typed, call_typed, more_typed, whole_call, whole_typed, fits_given}
 use Rattle.lus_normal.specs.Laws.{HasArguments, HaveFormals, ResolvedCallsHaveArguments, RightHasFormals, TakenHaveFormals, operand_size}
 use Rattle.lus_normal.proofs.FormsNormal.{actuals_none}
+
+-- what holds of each item holds of the one at a place
+each_found : {X : Type 0} (P : X → Type 0) (xs : List X) → Each P xs → (n : ℕ) (x : X) → slice_get xs n ≡ Some x → P x
+each_found P [] h n x e = cc
+each_found P (y ∷ ys) h zero x e = let same : y ≡ x = cc in subst P same h.0
+each_found P (y ∷ ys) h (suc n) x e = each_found P ys h.1 n x e
 
 input_count : (f : Node) → f.inputs + f.outputs ≤ length f.variables → length (input_kinds f) ≡ f.inputs
 input_count f le = length-map (take f.inputs f.variables) (λ v. v.kind) ∙ length-take-le f.inputs f.variables (omega (arith, le))
@@ -31,7 +37,7 @@ module _ (p : Program) (resolved : Each (NodeResolved p) p.nodes) where
       let fits = where_true_gives (all_same (input_kinds f) ks) (Some (output_kinds f)) ls found.2 in
       let same : input_kinds f ≡ ks = all_same_is (input_kinds f) ks fits.0 in
       let is : node_at p g ≡ f = get_or_from_slice_get p.nodes g f empty_node found.1 in
-      let r = each_at (NodeResolved p) p.nodes resolved g f found.1 in
+      let r = each_found (NodeResolved p) p.nodes resolved g f found.1 in
       ap length (sym same) ∙ input_count f r.formals ∙ ap (λ d. d.inputs) (sym is)
 
   module _ (f : Node) where

@@ -9,8 +9,10 @@ use Rattle.lus_program.specs.View.{expression_of, equations_from}
 use Rattle.lus_streams.specs.Clocks.{Clock, clock_of, operand, parts}
 use Rattle.lus_streams.specs.Equations.{equation_parts}
 use Rattle.lus_streams.specs.OnClock.{IsDeclared, IsName, LeftOnClock, actuals, test_of}
-use Rattle.lus_streams.proofs.Lists.{each_left, each_right, below_at, item_past}
-use Rattle.lus_clocks.proofs.NewestTests.{chain_none, clock_tail}
+use Rattle.lus_streams.proofs.Lists.{each_left, each_right, item_past}
+use Rattle.lus_values.proofs.Lists.{below_at}
+use Rattle.lus_clocks.proofs.NewestTests.{clock_tail}
+use Rattle.lus_streams.proofs.Clocks.{chain_none}
 use Rattle.lus_normal.specs.Rights.{rights_of}
 use Rattle.lus_normal.specs.Laws.{Declared, HasArguments, HaveFormals, RightHasFormals, SourcesHaveFormals, operand_size}
 use Rattle.lus_normal.proofs.Fitting.{all_declared}
