@@ -1,106 +1,85 @@
--- The right sides that the code computes are normal forms.
-use Rattle.std.specs.Prelude.{◌≡◌, ℕ, suc, ◌<◌, List, [], ◌∷◌, length, map}
-use Rattle.lus_values.specs.Lists.{Each, Below}
-use Rattle.lus_program.specs.Programs.{Expression, call, Operands, none, more, Node, Program, node_at}
+-- What the code takes out of a node is what its normal form takes out, on the same clocks.
+use Rattle.std.specs.Prelude.{◌≡◌, List, [], ◌∷◌, ◌++◌, Some, length, map, string_bytes}
+use Rattle.lus_values.specs.Lists.{item, Below, Each}
 use Rattle.lus_program.specs.declared.node.Equation.{Equation as StoredEquation}
-use Rattle.lus_program.specs.View.{equations_from}
-use Rattle.lus_streams.specs.Clocks.{clock_of, Part, at, operand, parts}
-use Rattle.lus_streams.specs.Equations.{node_parts}
-use Rattle.lus_streams.specs.OnClock.{IsDeclared, IsOnClocks, IsName, PartOnClock, ProgramOnClocks, RightOnClock, test_of}
-use Rattle.lus_meaning.specs.Resolved.{Resolved}
-use Rattle.lus_clocks.specs.Fitting.{clock_from}
-use Rattle.lus_normal_form.specs.NormalForm.{IsRight, StandsFor}
-use Rattle.lus_normal_form.specs.NormalNodes.{IsWithin}
-use Rattle.lus_normal.specs.Forms.{Taken, right_taken}
-use Rattle.lus_normal.specs.Rights.{AreRightsBy, IsRightBy, rights_of}
+use Rattle.lus_program.specs.declared.node.Node.{Node as StoredNode}
+use Rattle.lus_program.specs.declared.node.Variable.{Variable as StoredVariable}
+use Rattle.lus_normal.specs.declared.taking.Taken.{Taken as StoredTaken}
+use Rattle.lus_program.specs.declared.node.Program.{Program as StoredProgram}
+use Rattle.lus_program.specs.Programs.{Node, Program, Variable, node_at}
+use Rattle.lus_program.specs.View.{expression_of, equations_from, node_of, program_seen, variable_of}
+use Rattle.lus_streams.specs.OnClock.{IsDeclared, IsOnClocks, ProgramOnClocks, test_of}
+use Rattle.lus_meaning.specs.Resolved.{kind_in, Resolved}
+use Rattle.lus_streams.specs.Order.{IsCausal}
+use Rattle.lus_normal_form.specs.Laws.{KeepsWorlds}
+use Rattle.lus_normal_form.specs.NormalNodes.{IsNormalOf}
+use Rattle.lus_normal_nodes.specs.Needs.{NeedsVariables}
+use Rattle.lus_normal_nodes.specs.Forms.{normal_equations}
+use Rattle.lus_normal_nodes.specs.Nodes.{IsMadeFrom, part_test}
+use Rattle.lus_normal_nodes.specs.Parts.{node_taken}
+use Rattle.lus_normal.specs.Forms.{Taken, right_takes}
+use Rattle.lus_normal.specs.View.{all_taken_seen, equations_seen}
 
--- what is taken out of node f, on its clock
-abbrev pub part_taken : Node → Taken → Part
-part_taken f t = at (clock_from f t.test) t.operand
+-- what the code takes out of the equations that it holds, one after the other
+abbrev pub equations_take : Program → Node → List StoredEquation → List Taken
+equations_take p f [] = []
+equations_take p f (q ∷ qs) = right_takes p f (expression_of q.right) (test_of f (item 0 q.targets.items 0)) ++ equations_take p f qs
 
--- each variable is declared on a clock
-abbrev pub Declared : Node → Type 0
-Declared f = Below (length f.variables) (λ x. IsDeclared f x (test_of f x))
+-- the tests of what the code takes out are the newest of the parts' clocks
+abbrev pub TestsAreNewest : Type 0
+TestsAreNewest =
+    (p : Program) → ProgramOnClocks p → (f : Node) → IsOnClocks p f → (qs : List StoredEquation) → f.equations ≡ equations_from 0 qs
+    → map (λ t. t.test) (equations_take p f qs) ≡ map part_test (node_taken p f)
 
--- the arguments from formal m on stand for inputs of g, and names for what the clocks of these test
-abbrev pub HaveFormals : Node → Operands → Operands → ℕ → Type 0
-HaveFormals g args none m = Unit {0}
-HaveFormals g args (more e es) m = (m < g.inputs) × Each (λ t. IsName (operand args t.variable)) (clock_of g m) × HaveFormals g args es (suc m)
+-- the variables of f, and one more for each part that is taken out, with the part's test and its type
+pub record AddsVariables (p : Program) (f : Node) (vs : List Variable) (ts : List Taken) : Type 0 where
+  pub added : List Variable
+  pub variables : vs ≡ f.variables ++ added
+  pub tests : map (λ v. v.test) added ≡ map (λ t. t.test) ts
+  pub kinds : map (λ v. Some v.kind) added ≡ map (λ t. kind_in p f t.operand) ts
 
--- the arguments of a whole right side that is a call stand for the inputs of the called node
-abbrev pub RightHasFormals : Program → Expression → Type 0
-RightHasFormals p (call g c args) = HaveFormals (node_at p g) args args 0
-RightHasFormals p e = Unit {0}
+-- the variables that the code declares for node f are its own, and one more for each of these parts
+abbrev pub DeclaresTaken : Program → StoredNode → List StoredVariable → List StoredTaken → Type 0
+DeclaresTaken p f vs ts = AddsVariables p (node_of f) (map variable_of vs) (all_taken_seen ts)
 
--- the normal form of a whole right side, with the call's number
-abbrev pub renumbered : Expression → Expression → Expression
-renumbered (call g c args) (call h d es) = call h c es
-renumbered e e' = e'
+-- what the code makes of node f: its kind, name, inputs and outputs, its variables and one more for each part that is taken out, with the
+-- part's test and type, and its equations in normal form
+pub record IsMadeOf (p : Program) (f f' : StoredNode) : Type 0 where
+  pub kind : f'.kind ≡ f.kind
+  pub name : string_bytes f'.name ≡ string_bytes f.name
+  pub inputs : f'.inputs ≡ f.inputs
+  pub outputs : f'.outputs ≡ f.outputs
+  pub variables : AddsVariables p (node_of f) (node_of f').variables (equations_take p (node_of f) f.equations.items)
+  pub equations : equations_seen f'.equations.items ≡ normal_equations (length (node_of f).variables) (equations_seen f.equations.items)
 
--- a right side of node f that is computed is a normal form, the variables behind those of f being for what is taken out
-abbrev pub RightsAreNormal : Type 0
-RightsAreNormal =
-    (p : Program) → ((g : ℕ) → Declared (node_at p g)) → (f : Node) → Declared f → (all : List Taken) (t : Taken) (e : Expression)
-    → IsRightBy p f (length f.variables) all t e
-    → RightOnClock p f (parts p t.operand (clock_from f t.test)) → RightHasFormals p t.operand
-    → IsRight p (StandsFor (length f.variables) (map (part_taken f) all)) t.operand (renumbered t.operand e) (clock_from f t.test)
+-- one by one
+abbrev pub AreMadeOf : Program → List StoredNode → List StoredNode → Type 0
+AreMadeOf p [] fs' = fs' ≡ []
+AreMadeOf p (f ∷ fs) fs' = (f' : StoredNode) × (rest : List StoredNode) × (fs' ≡ f' ∷ rest) × IsMadeOf p f f' × AreMadeOf p fs rest
 
--- what is taken out of a right side of node f, itself of these parts, is of these parts
-abbrev pub TakenAreWithin : Type 0
-TakenAreWithin =
-    (p : Program) → ((g : ℕ) → Declared (node_at p g)) → (f : Node) → Declared f → (all : List Part) (t : Taken)
-    → RightOnClock p f (parts p t.operand (clock_from f t.test)) → IsWithin p all (part_taken f t)
-    → Each (λ u. IsWithin p all (part_taken f u)) (right_taken p f t.operand t.test)
+-- a node that the code makes of a node on clocks is made from it
+abbrev pub NodesAreMade : Type 0
+NodesAreMade = (p : Program) → ProgramOnClocks p → (f f' : StoredNode) → IsOnClocks p (node_of f) → IsMadeOf p f f' → IsMadeFrom p (node_of f) (node_of f')
 
--- what is taken out of a right side on a clock is on its clock
-abbrev pub TakenAreOnClocks : Type 0
-TakenAreOnClocks =
-    (p : Program) → ((g : ℕ) → Declared (node_at p g)) → (f : Node) → Declared f → (t : Taken)
-    → RightOnClock p f (parts p t.operand (clock_from f t.test))
-    → Each (λ u. Each (PartOnClock p f) (parts p u.operand (clock_from f u.test))) (right_taken p f t.operand t.test)
+-- p' is the normal form of p, with new variables for all that is taken out of each node
+abbrev pub IsNormalProgram : Program → Program → Type 0
+IsNormalProgram p p' = IsNormalOf p p' (λ g. node_taken p (node_at p g))
 
--- what is taken out is in the node's text, on its clock
-abbrev pub IsFit : Program → Node → Taken → Type 0
-IsFit p f t = Each (PartOnClock p f) (parts p t.operand (clock_from f t.test)) × IsWithin p (node_parts p f) (part_taken f t)
+-- a program whose nodes the code makes of those of a resolved program on clocks is its normal form
+abbrev pub ProgramsAreNormal : Type 0
+ProgramsAreNormal =
+    (p p' : StoredProgram) → Resolved (program_seen p) → ProgramOnClocks (program_seen p) → AreMadeOf (program_seen p) p.nodes.items p'.nodes.items
+    → IsNormalProgram (program_seen p) (program_seen p')
 
--- a whole right side is in the node's text, on its clock
-abbrev pub IsFitRight : Program → Node → Taken → Type 0
-IsFitRight p f t = RightOnClock p f (parts p t.operand (clock_from f t.test)) × IsWithin p (node_parts p f) (part_taken f t)
+-- such a program has the worlds of its source and no others, it is on clocks, its variables need its variables, and it is
+-- causal where its source is
+pub record IsMadeRight (p p' : Program) : Type 0 where
+  pub worlds : KeepsWorlds p p'
+  pub on_clocks : ProgramOnClocks p'
+  pub needs : Each NeedsVariables p'.nodes
+  pub causal : IsCausal p → IsCausal p'
 
--- one by one, the normal forms of right sides of node f
-abbrev pub AreNormalRights : Program → Node → List Taken → List Taken → List Expression → Type 0
-AreNormalRights p f all [] es = es ≡ []
-AreNormalRights p f all (t ∷ ts) es =
-    (e : Expression) × (rest : List Expression) × (es ≡ e ∷ rest)
-    × IsRight p (StandsFor (length f.variables) (map (part_taken f) all)) t.operand (renumbered t.operand e) (clock_from f t.test)
-    × AreNormalRights p f all ts rest
-
--- right sides that are computed for a node of a program on clocks, and whose calls have arguments for all inputs, are so
-abbrev pub AllRightsAreNormal : Type 0
-AllRightsAreNormal =
-    (p : Program) → ProgramOnClocks p → (f : Node) → Declared f → (all ts : List Taken) (es : List Expression)
-    → AreRightsBy p f (length f.variables) all ts es → Each (IsFitRight p f) ts → Each (λ t. RightHasFormals p t.operand) ts
-    → AreNormalRights p f all ts es
-
-abbrev pub operand_size : Operands → ℕ
-operand_size none = 0
-operand_size (more e es) = suc (operand_size es)
-
--- a call has as many arguments as the called node has inputs
-abbrev pub HasArguments : Program → Part → Type 0
-HasArguments p (at k (call g c args)) = operand_size args ≡ (node_at p g).inputs
-HasArguments p e = Unit {0}
-
--- so has each call of a resolved program
-abbrev pub ResolvedCallsHaveArguments : Type 0
-ResolvedCallsHaveArguments = (p : Program) → Resolved p → Each (λ f. Each (HasArguments p) (node_parts p f)) p.nodes
-
--- and what is taken out of a node on clocks has arguments for all inputs
-abbrev pub TakenHaveFormals : Type 0
-TakenHaveFormals = (p : Program) (f : Node) → Each (HasArguments p) (node_parts p f) → (t : Taken) → IsFit p f t → RightHasFormals p t.operand
-
--- and the right sides of a node on clocks
-abbrev pub SourcesHaveFormals : Type 0
-SourcesHaveFormals =
-    (p : Program) → ProgramOnClocks p → (f : Node) → IsOnClocks p f → Each (λ q. 0 < length q.targets) f.equations → Each (HasArguments p) (node_parts p f)
-    → (qs : List StoredEquation) → f.equations ≡ equations_from 0 qs → Each (λ t. RightHasFormals p t.operand) (rights_of f 0 qs)
+abbrev pub ProgramsAreRight : Type 0
+ProgramsAreRight =
+    (p p' : StoredProgram) → Resolved (program_seen p) → ProgramOnClocks (program_seen p) → AreMadeOf (program_seen p) p.nodes.items p'.nodes.items
+    → IsMadeRight (program_seen p) (program_seen p')
