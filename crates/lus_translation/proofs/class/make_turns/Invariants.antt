@@ -1,0 +1,23 @@
+use Rattle.std.proofs.Common.{◌≡◌, ◌++◌, map, drop, length}
+use Rattle.lus_program.specs.View.{node_of, program_seen}
+use Rattle.lus_flat_classes.specs.View.{clock_seen, memory_of, steps_of}
+use Rattle.lus_translation.specs.Forms.{all_cells, all_firsts, all_steps}
+use Rattle.lus_translation.specs.View.{turn_of}
+use Rattle.lus_translation.proofs.class.make_turns.Given as goal
+
+abbrev pub invariant-loop-turn : goal.invariant-loop-turn
+invariant-loop-turn l =
+    let p = program_seen l.program in
+    let f = node_of l.node in
+    let qs = l.node.equations.items in
+    let rest = map turn_of (drop l.turn-index l.turns) in
+    let whole = map turn_of l.turns in
+    let cells = map memory_of l.built.kept.cells.items in
+    let firsts = map clock_seen l.built.kept.firsts.items in
+    let cells_first = map memory_of l.initial.built.kept.cells.items in
+    let firsts_first = map clock_seen l.initial.built.kept.firsts.items in
+    record {
+      steps : steps_of l.built.steps.items ++ all_steps p f qs l.numbers (length cells) (length firsts) rest ≡ steps_of l.initial.built.steps.items ++ all_steps p f qs l.numbers (length cells_first) (length firsts_first) whole;
+      cells : cells ++ all_cells p f qs l.numbers rest ≡ cells_first ++ all_cells p f qs l.numbers whole;
+      firsts : firsts ++ all_firsts p f qs l.numbers rest ≡ firsts_first ++ all_firsts p f qs l.numbers whole;
+    }

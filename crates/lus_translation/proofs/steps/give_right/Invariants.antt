@@ -1,0 +1,19 @@
+use Rattle.std.proofs.Common.{◌≡◌, ◌++◌, map, drop, length}
+use Rattle.lus_program.specs.View.{expression_of}
+use Rattle.lus_flat_classes.specs.View.{clock_seen, memory_of, steps_of}
+use Rattle.lus_translation.specs.Forms.{given_steps, given_cells, given_firsts}
+use Rattle.lus_translation.proofs.steps.give_right.Given as goal
+
+abbrev pub invariant-loop-variable : goal.invariant-loop-variable
+invariant-loop-variable l =
+    let e = expression_of l.right in
+    let rest = drop l.variable-index l.variables in
+    let cells = map memory_of l.built.kept.cells.items in
+    let firsts = map clock_seen l.built.kept.firsts.items in
+    let cells_first = map memory_of l.initial.built.kept.cells.items in
+    let firsts_first = map clock_seen l.initial.built.kept.firsts.items in
+    record {
+      steps : steps_of l.built.steps.items ++ given_steps (length cells) (length firsts) e l.clock rest ≡ steps_of l.initial.built.steps.items ++ given_steps (length cells_first) (length firsts_first) e l.clock l.variables;
+      cells : cells ++ given_cells e l.clock rest ≡ cells_first ++ given_cells e l.clock l.variables;
+      firsts : firsts ++ given_firsts e l.clock rest ≡ firsts_first ++ given_firsts e l.clock l.variables;
+    }

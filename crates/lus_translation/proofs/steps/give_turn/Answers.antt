@@ -1,0 +1,17 @@
+use Rattle.std.proofs.Common.{◌≡◌, ◌∙◌, ◌++◌, ap}
+use Rattle.lus_program.specs.Programs.{node_at}
+use Rattle.lus_program.specs.View.{expression_of, operands_of, program_seen}
+use Rattle.lus_program.proofs.OperandViews.{seen_call}
+use Rattle.lus_flat_classes.specs.View.{steps_of}
+use Rattle.lus_flat_classes.specs.declared.class.Step.TheVariants as variants
+use Rattle.lus_translation.specs.Forms.{answers_form}
+use Rattle.lus_translation.proofs.Giving.{steps_pushed}
+use Rattle.lus_translation.proofs.steps.give_turn.Goals as goal
+
+pub returns-in_ok-push-in-Call-clause-steps : goal.returns-in_ok-push-in-Call-clause-steps
+returns-in_ok-push-in-Call-clause-steps c =
+    let e : expression_of c.args.equation.now.right ≡ _ = ap expression_of c.in-Call.is ∙ seen_call c.in-Call.field-0 c.in-Call.called c.in-Call.field-2 in
+    let ss = c.args.built.now.steps.items in
+    let given = rw c.deref.ensures.value at (c.in_ok-targets-in-Call.ensures c.args.number) in
+    let pushed = ap steps_of c.in_ok-push-in-Call.ensures.items ∙ steps_pushed ss (variants.Call c.args.number c.in_ok-targets-in-Call.targets) in
+    rw e (pushed ∙ ap (λ l. steps_of ss ++ l) (given ∙ ap (λ n. answers_form c.args.number n c.args.equation.now.targets.items c.args.variables.now) c.inputs_at-inputs.ensures))

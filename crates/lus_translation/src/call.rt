@@ -1,0 +1,151 @@
+//! Calls of nodes.
+
+ghost use Rattle.std.specs.Prelude.{◌≡◌, ◌++◌, IfOk, OnOk, length, map};
+ghost use Rattle.lus_program.specs.Programs.{node_at};
+ghost use Rattle.lus_program.specs.View.{expression_of, operands_of, program_seen, variable_of};
+ghost use Rattle.lus_streams.specs.Clocks.{base_of as base_in, chain, formal_clock as formal_clock_in, operand, renamed_clock};
+ghost use Rattle.lus_flat_classes.specs.View.{argument_of, call_of as call_in};
+ghost use Rattle.lus_translation.specs.Forms.{arguments_form, call_form, renamed_one};
+
+use crate::atom::atom_of;
+use crate::clock::{clock_at, without_tests};
+use crate::formals::inputs_at;
+use crate::kept::number_of;
+use lus_clocks::variables_at;
+use lus_flat_classes::{Argument, Call, Extent};
+use lus_program::{Expr, Program, Test, Variable};
+use lus_values::Memory;
+use std::alloc::Global;
+
+/// A test on the variable that an expression is, with this constructor; none where it is no variable.
+fn test_on(expr: &Expr, constructor: u32) -> Option<Test>
+    ensures { result ≡ renamed_one (expression_of expr.now) constructor }
+{
+    match expr {
+        Expr::Variable(_, variable) => Some(Test {
+            variable: *variable,
+            constructor,
+        }),
+        _ => None,
+    }
+}
+
+/// A test on a formal, as one on the variable that is its argument; none where that is no variable.
+fn renamed(arguments: &[Expr], test: Test) -> Option<Test>
+    ensures { result ≡ renamed_one (operand (operands_of arguments.now) test.variable) test.constructor }
+{
+    match arguments.get(test.variable as usize) {
+        Some(argument) => test_on(argument, test.constructor),
+        None => None,
+    }
+}
+
+/// Appends the tests of a clock.
+fn add_all(tests: &[Test], clock: &mut Vec<Test>) -> Result<(), Memory>
+    ensures { OnOk result (clock.new.items ≡ clock.old.items ++ tests.now) }
+{
+    for test in tests {
+        clock.push(*test)?;
+    }
+    Ok(())
+}
+
+/// Appends tests on formals, as tests on the arguments.
+fn add_renamed(arguments: &[Expr], tests: &[Test], clock: &mut Vec<Test>) -> Result<(), Memory>
+    ensures { OnOk result (clock.new.items ≡ clock.old.items ++ renamed_clock (operands_of arguments.now) tests.now) }
+{
+    for test in tests {
+        if let Some(test) = renamed(arguments, *test) {
+            clock.push(test)?;
+        }
+    }
+    Ok(())
+}
+
+/// The clock of an argument: the base with the tests of its formal, as tests on the arguments.
+fn formal_clock(
+    alloc: Global,
+    formals: &[Variable],
+    formal: u32,
+    arguments: &[Expr],
+    base: &[Test],
+) -> Result<Vec<Test>, Memory>
+    ensures { IfOk result (λ k. k.items ≡ renamed_clock (operands_of arguments.now) (chain (length (map variable_of formals.now)) (map variable_of formals.now) formal) ++ base.now) }
+{
+    let tests = clock_at(alloc, formals, formal)?;
+    let mut clock = Vec::new(alloc);
+    add_renamed(arguments, &tests, &mut clock)?;
+    add_all(base, &mut clock)?;
+    Ok(clock)
+}
+
+/// The arguments of a call with a base, each on the clock of its formal.
+fn arguments_of(
+    alloc: Global,
+    program: &Program,
+    called: u32,
+    arguments: &[Expr],
+    base: &[Test],
+) -> Result<Vec<Argument>, Memory>
+    ensures { IfOk result (λ found. map argument_of found.items ≡ arguments_form (operands_of arguments.now) (node_at (program_seen program.now) called) (operands_of arguments.now) base.now 0) }
+{
+    let mut found = Vec::new(alloc);
+    for (formal, argument) in arguments.iter().enumerate() {
+        let formal = number_of(formal)?;
+        let clock = formal_clock(
+            alloc,
+            variables_at(program, called),
+            formal,
+            arguments,
+            base,
+        )?;
+        let atom = atom_of(alloc, argument)?;
+        found.push(Argument { clock, atom })?;
+    }
+    Ok(found)
+}
+
+/// The base of a call on a clock: the clock without the tests of the called node's first output.
+fn base_of(
+    alloc: Global,
+    program: &Program,
+    called: u32,
+    clock: &[Test],
+) -> Result<Vec<Test>, Memory>
+    ensures { IfOk result (λ k. k.items ≡ base_in (node_at (program_seen program.now) called) clock.now) }
+{
+    let output = clock_at(
+        alloc,
+        variables_at(program, called),
+        inputs_at(program, called),
+    )?;
+    without_tests(alloc, output.len(), clock)
+}
+
+/// The call of a node on the right side of an equation on a clock, without room for it yet.
+pub fn call_of(
+    alloc: Global,
+    program: &Program,
+    called: u32,
+    arguments: &[Expr],
+    clock: &[Test],
+) -> Result<Call, Memory>
+    ensures { IfOk result (λ q. call_in q ≡ call_form (program_seen program.now) called (operands_of arguments.now) clock.now) }
+{
+    let base = base_of(alloc, program, called, clock)?;
+    let arguments = arguments_of(alloc, program, called, arguments, &base)?;
+    Ok(Call {
+        node: called,
+        base,
+        arguments,
+        offset: NO_ROOM,
+        extent: NO_ROOM,
+    })
+}
+
+/// No room at all.
+const NO_ROOM: Extent = Extent {
+    cells: 0,
+    firsts: 0,
+    variables: 0,
+};

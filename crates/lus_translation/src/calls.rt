@@ -1,0 +1,93 @@
+//! The calls of a node, in the order of its text.
+
+ghost use Rattle.std.specs.Prelude.{◌≡◌, ◌++◌, [], IfOk, OnOk, length, map};
+ghost use Rattle.lus_values.specs.Lists.{item};
+ghost use Rattle.lus_program.specs.View.{expression_of, node_of, program_seen};
+ghost use Rattle.lus_streams.specs.Clocks.{clock_of as clock_in};
+ghost use Rattle.lus_flat_classes.specs.View.{call_of as call_in, clock_seen};
+ghost use Rattle.lus_translation.specs.Forms.{all_clocks, call_first, calls_form, numbers_form};
+
+use crate::call::call_of;
+use crate::clock::clock_at;
+use crate::kept::number_of;
+use lus_flat_classes::Call;
+use lus_program::{Equation, Expr, Node, Program, Test};
+use lus_values::Memory;
+use std::alloc::Global;
+
+/// The clock of an equation: that of its first variable, and of variable 0 where there is none.
+pub fn clock_of_equation(
+    alloc: Global,
+    node: &Node,
+    equation: &Equation,
+) -> Result<Vec<Test>, Memory>
+    ensures { IfOk result (λ k. k.items ≡ clock_in (node_of node.now) (item 0 equation.now.targets.items 0)) }
+{
+    match equation.targets.first() {
+        Some(target) => clock_at(alloc, &node.variables, *target),
+        None => clock_at(alloc, &node.variables, 0),
+    }
+}
+
+/// Appends the call of an equation whose right side is one.
+fn add_call(
+    alloc: Global,
+    program: &Program,
+    node: &Node,
+    equation: &Equation,
+    calls: &mut Vec<Call>,
+) -> Result<(), Memory>
+    ensures { OnOk result (map call_in calls.new.items ≡ map call_in calls.old.items ++ call_first (program_seen program.now) (expression_of equation.now.right) (clock_in (node_of node.now) (item 0 equation.now.targets.items 0)) []) }
+{
+    match &equation.right {
+        Expr::Call(_, called, arguments) => {
+            let clock = clock_of_equation(alloc, node, equation)?;
+            let call = call_of(alloc, program, *called, arguments, &clock)?;
+            calls.push(call)?;
+            Ok(())
+        }
+        _ => Ok(()),
+    }
+}
+
+/// The calls that are right sides of a node, in the order of its equations.
+pub fn calls_of(alloc: Global, program: &Program, node: &Node) -> Result<Vec<Call>, Memory>
+    ensures { IfOk result (λ qs. map call_in qs.items ≡ calls_form (program_seen program.now) (node_of node.now) (node_of node.now).equations) }
+{
+    let mut calls = Vec::new(alloc);
+    for equation in &node.equations {
+        add_call(alloc, program, node, equation, &mut calls)?;
+    }
+    Ok(calls)
+}
+
+/// For each equation the number of its call: how many calls are right sides before it.
+pub fn numbers_of(alloc: Global, node: &Node) -> Result<Vec<u32>, Memory>
+    ensures numbers { IfOk result (λ ns. ns.items ≡ numbers_form 0 node.now.equations.items) }
+    ensures size { IfOk result (λ ns. length ns.items ≡ length node.now.equations.items) }
+{
+    let mut numbers = Vec::new(alloc);
+    let mut calls: usize = 0;
+    for equation in &node.equations {
+        numbers.push(number_of(calls)?)?;
+        if let Expr::Call(_, _, _) = &equation.right {
+            calls = match calls.checked_add(1) {
+                Some(more) => more,
+                None => return Err(Memory),
+            };
+        }
+    }
+    Ok(numbers)
+}
+
+/// The clock of each variable of a node.
+pub fn clocks_of(alloc: Global, node: &Node) -> Result<Vec<Vec<Test>>, Memory>
+    ensures { IfOk result (λ ks. map clock_seen ks.items ≡ all_clocks (node_of node.now) 0 (length (node_of node.now).variables)) }
+{
+    let mut clocks = Vec::new(alloc);
+    for place in 0..node.variables.len() {
+        let variable = number_of(place)?;
+        clocks.push(clock_at(alloc, &node.variables, variable)?)?;
+    }
+    Ok(clocks)
+}

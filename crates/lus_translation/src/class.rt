@@ -1,0 +1,122 @@
+//! The class of a node whose equations have their turns.
+
+ghost use Rattle.std.specs.Prelude.{◌≡◌, ◌++◌, Some, IfOk, OnOk, length, map};
+ghost use Rattle.lus_program.specs.View.{node_of, program_seen};
+ghost use Rattle.lus_flat_classes.specs.View.{class_of as class_in, clock_seen, memory_of, steps_of as steps_in};
+ghost use Rattle.lus_translation.specs.Forms.{all_cells, all_firsts, all_steps, cells_at, class_form, equation_cells, equation_firsts, equation_steps, firsts_at, numbers_form, steps_at};
+ghost use Rattle.lus_translation.specs.View.{turn_of as turn_in};
+
+use crate::calls::{calls_of, clock_of_equation, clocks_of, numbers_of};
+use crate::kept::Kept;
+use crate::steps::{Built, give_turn};
+use crate::turn::Turn;
+use lus_flat_classes::{Class, Extent};
+use lus_program::{Equation, Node, Program};
+use lus_values::Memory;
+use std::alloc::Global;
+
+/// Makes the steps of an equation's variables.
+fn make_equation(
+    alloc: Global,
+    program: &Program,
+    node: &Node,
+    equation: &Equation,
+    number: u32,
+    variables: &[u32],
+    built: &mut Built,
+) -> Result<(), Memory>
+    ensures steps { OnOk result (steps_in built.new.steps.items ≡ steps_in built.old.steps.items ++ equation_steps (program_seen program.now) (node_of node.now) (length (map memory_of built.old.kept.cells.items)) (length (map clock_seen built.old.kept.firsts.items)) number (Some equation.now) variables.now) }
+    ensures cells { OnOk result (map memory_of built.new.kept.cells.items ≡ map memory_of built.old.kept.cells.items ++ equation_cells (node_of node.now) (Some equation.now) variables.now) }
+    ensures firsts { OnOk result (map clock_seen built.new.kept.firsts.items ≡ map clock_seen built.old.kept.firsts.items ++ equation_firsts (node_of node.now) (Some equation.now) variables.now) }
+{
+    let clock = clock_of_equation(alloc, node, equation)?;
+    give_turn(alloc, program, equation, &clock, number, variables, built)?;
+    Ok(())
+}
+
+/// Makes the steps of a turn; past the last equation there are none.
+fn make_turn(
+    alloc: Global,
+    program: &Program,
+    node: &Node,
+    numbers: &[u32],
+    turn: &Turn,
+    built: &mut Built,
+) -> Result<(), Memory>
+    requires { length numbers.now ≡ length node.now.equations.items }
+    ensures steps { OnOk result (steps_in built.new.steps.items ≡ steps_in built.old.steps.items ++ steps_at (program_seen program.now) (node_of node.now) node.now.equations.items numbers.now (length (map memory_of built.old.kept.cells.items)) (length (map clock_seen built.old.kept.firsts.items)) (turn_in turn.now)) }
+    ensures cells { OnOk result (map memory_of built.new.kept.cells.items ≡ map memory_of built.old.kept.cells.items ++ cells_at (program_seen program.now) (node_of node.now) node.now.equations.items numbers.now (turn_in turn.now)) }
+    ensures firsts { OnOk result (map clock_seen built.new.kept.firsts.items ≡ map clock_seen built.old.kept.firsts.items ++ firsts_at (program_seen program.now) (node_of node.now) node.now.equations.items numbers.now (turn_in turn.now)) }
+{
+    match node.equations.get(turn.equation) {
+        Some(equation) => {
+            let number = numbers[turn.equation];
+            make_equation(
+                alloc,
+                program,
+                node,
+                equation,
+                number,
+                &turn.variables,
+                built,
+            )
+        }
+        None => Ok(()),
+    }
+}
+
+/// Makes the steps of all turns.
+fn make_turns(
+    alloc: Global,
+    program: &Program,
+    node: &Node,
+    numbers: &[u32],
+    turns: &[Turn],
+    built: &mut Built,
+) -> Result<(), Memory>
+    requires { length numbers.now ≡ length node.now.equations.items }
+    ensures steps { OnOk result (steps_in built.new.steps.items ≡ steps_in built.old.steps.items ++ all_steps (program_seen program.now) (node_of node.now) node.now.equations.items numbers.now (length (map memory_of built.old.kept.cells.items)) (length (map clock_seen built.old.kept.firsts.items)) (map turn_in turns.now)) }
+    ensures cells { OnOk result (map memory_of built.new.kept.cells.items ≡ map memory_of built.old.kept.cells.items ++ all_cells (program_seen program.now) (node_of node.now) node.now.equations.items numbers.now (map turn_in turns.now)) }
+    ensures firsts { OnOk result (map clock_seen built.new.kept.firsts.items ≡ map clock_seen built.old.kept.firsts.items ++ all_firsts (program_seen program.now) (node_of node.now) node.now.equations.items numbers.now (map turn_in turns.now)) }
+{
+    for turn in turns {
+        make_turn(alloc, program, node, numbers, turn, built)?;
+    }
+    Ok(())
+}
+
+/// The class of a node whose equations have these turns, without its own room and that of its calls.
+pub fn class_with(
+    alloc: Global,
+    program: &Program,
+    node: &Node,
+    turns: &[Turn],
+) -> Result<Class, Memory>
+    ensures { IfOk result (λ c. class_in c ≡ class_form (program_seen program.now) (node_of node.now) node.now.equations.items (numbers_form 0 node.now.equations.items) (map turn_in turns.now)) }
+{
+    let mut built = Built {
+        steps: Vec::new(alloc),
+        kept: Kept {
+            cells: Vec::new(alloc),
+            firsts: Vec::new(alloc),
+        },
+    };
+    let numbers = numbers_of(alloc, node)?;
+    make_turns(alloc, program, node, &numbers, turns, &mut built)?;
+    let clocks = clocks_of(alloc, node)?;
+    let calls = calls_of(alloc, program, node)?;
+    Ok(Class {
+        inputs: node.inputs,
+        outputs: node.outputs,
+        clocks,
+        steps: built.steps,
+        cells: built.kept.cells,
+        firsts: built.kept.firsts,
+        calls,
+        extent: Extent {
+            cells: 0,
+            firsts: 0,
+            variables: 0,
+        },
+    })
+}

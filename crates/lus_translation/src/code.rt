@@ -1,0 +1,121 @@
+//! Codes of expressions.
+
+ghost use Rattle.std.specs.Prelude.{◌≡◌, ◌++◌, ◌∷◌, [], length, map, IfOk, OnOk};
+ghost use Rattle.lus_program.specs.View.{expression_of, operands_of};
+ghost use Rattle.lus_flat_classes.specs.View.{clock_seen, code_of as code_in, codes_of as codes_in, memory_of};
+ghost use Rattle.lus_translation.specs.Forms.{cell_for, code_form, codes_form, branch_codes, kept_cells, all_kept_cells, branch_cells, kept_firsts, all_kept_firsts, branch_firsts};
+
+use crate::atom::{atom_of, code_of_atom};
+use crate::clock::{copied, with_test};
+use crate::kept::{Kept, keep_cell, keep_first, number_of};
+use lus_flat_classes::Code;
+use lus_program::{Expr, Test};
+use lus_values::{Memory, Value, copy};
+use std::alloc::Global;
+
+/// A cell for an operand on a clock: its number.
+fn cell_of(alloc: Global, operand: &Expr, clock: &[Test], kept: &mut Kept) -> Result<u32, Memory>
+    ensures number { IfOk result (λ n. n ≡ length (map memory_of kept.old.cells.items)) }
+    ensures cells { OnOk result (map memory_of kept.new.cells.items ≡ map memory_of kept.old.cells.items ++ cell_for (expression_of operand.now) clock.now) }
+    ensures firsts { OnOk result (kept.new.firsts ≡ kept.old.firsts) }
+{
+    let atom = atom_of(alloc, operand)?;
+    keep_cell(copied(alloc, clock)?, atom, kept)
+}
+
+/// A first-flag on a clock: its number.
+fn first_of(alloc: Global, clock: &[Test], kept: &mut Kept) -> Result<u32, Memory>
+    ensures number { IfOk result (λ n. n ≡ length (map clock_seen kept.old.firsts.items)) }
+    ensures firsts { OnOk result (map clock_seen kept.new.firsts.items ≡ map clock_seen kept.old.firsts.items ++ clock.now ∷ []) }
+    ensures cells { OnOk result (kept.new.cells ≡ kept.old.cells) }
+{
+    keep_first(copied(alloc, clock)?, kept)
+}
+
+/// The code of an expression in normal form, which is no call, on a clock. Its cells and first-flags are numbered in the order
+/// of the text, a flag before those of its operands, a cell after them.
+#[cycle(codes)]
+pub fn code_of(alloc: Global, expr: &Expr, clock: &[Test], kept: &mut Kept) -> Result<Code, Memory>
+    ensures code { IfOk result (λ d. code_in d ≡ code_form (length (map memory_of kept.old.cells.items)) (length (map clock_seen kept.old.firsts.items)) (expression_of expr.now) clock.now) }
+    ensures cells { OnOk result (map memory_of kept.new.cells.items ≡ map memory_of kept.old.cells.items ++ kept_cells (expression_of expr.now) clock.now) }
+    ensures firsts { OnOk result (map clock_seen kept.new.firsts.items ≡ map clock_seen kept.old.firsts.items ++ kept_firsts (expression_of expr.now) clock.now) }
+{
+    match expr {
+        Expr::Literal(_, value) => Ok(Code::Fixed(copy(alloc, value)?)),
+        Expr::Variable(_, variable) => Ok(Code::Fetch(*variable)),
+        Expr::Operate(_, operator, operands) => {
+            let codes = codes_of(alloc, operands, clock, kept)?;
+            Ok(Code::Compute(*operator, codes))
+        }
+        Expr::Pre(_, operand) => Ok(Code::Recall(cell_of(alloc, operand, clock, kept)?)),
+        Expr::Arrow(_, first, later) => {
+            let flag = first_of(alloc, clock, kept)?;
+            let first = Box::new(alloc, code_of(alloc, first, clock, kept)?)?;
+            let later = Box::new(alloc, code_of(alloc, later, clock, kept)?)?;
+            Ok(Code::Choose(flag, first, later))
+        }
+        Expr::Fby(_, first, later) => {
+            let flag = first_of(alloc, clock, kept)?;
+            let first = Box::new(alloc, code_of(alloc, first, clock, kept)?)?;
+            let cell = cell_of(alloc, later, clock, kept)?;
+            let later = Box::new(alloc, Code::Recall(cell))?;
+            Ok(Code::Choose(flag, first, later))
+        }
+        Expr::When(_, _, operand) => Ok(code_of_atom(atom_of(alloc, operand)?)),
+        Expr::Merge(_, variable, branches) => {
+            let codes = branch_codes_of(alloc, *variable, branches, clock, kept)?;
+            Ok(Code::Select(*variable, codes))
+        }
+        Expr::Call(_, _, _) => Ok(Code::Fixed(Value::Nil)),
+    }
+}
+
+/// The codes of the operands of an operator.
+#[cycle(codes)]
+fn codes_of(
+    alloc: Global,
+    operands: &[Expr],
+    clock: &[Test],
+    kept: &mut Kept,
+) -> Result<Vec<Code>, Memory>
+    ensures code { IfOk result (λ ds. map code_in ds.items ≡ codes_form (length (map memory_of kept.old.cells.items)) (length (map clock_seen kept.old.firsts.items)) (operands_of operands.now) clock.now) }
+    ensures cells { OnOk result (map memory_of kept.new.cells.items ≡ map memory_of kept.old.cells.items ++ all_kept_cells (operands_of operands.now) clock.now) }
+    ensures firsts { OnOk result (map clock_seen kept.new.firsts.items ≡ map clock_seen kept.old.firsts.items ++ all_kept_firsts (operands_of operands.now) clock.now) }
+{
+    let mut codes = Vec::new(alloc);
+    for operand in operands {
+        let code = code_of(alloc, operand, clock, kept)?;
+        codes.push(code)?;
+    }
+    Ok(codes)
+}
+
+/// The codes of the branches of a merge by a variable.
+#[cycle(codes)]
+fn branch_codes_of(
+    alloc: Global,
+    variable: u32,
+    branches: &[Expr],
+    clock: &[Test],
+    kept: &mut Kept,
+) -> Result<Vec<Code>, Memory>
+    ensures code { IfOk result (λ ds. map code_in ds.items ≡ branch_codes (length (map memory_of kept.old.cells.items)) (length (map clock_seen kept.old.firsts.items)) (operands_of branches.now) variable 0 clock.now) }
+    ensures cells { OnOk result (map memory_of kept.new.cells.items ≡ map memory_of kept.old.cells.items ++ branch_cells (operands_of branches.now) variable 0 clock.now) }
+    ensures firsts { OnOk result (map clock_seen kept.new.firsts.items ≡ map clock_seen kept.old.firsts.items ++ branch_firsts (operands_of branches.now) variable 0 clock.now) }
+{
+    let mut codes = Vec::new(alloc);
+    for (constructor, branch) in branches.iter().enumerate() {
+        let constructor = number_of(constructor)?;
+        let clock = with_test(
+            alloc,
+            Test {
+                variable,
+                constructor,
+            },
+            clock,
+        )?;
+        let code = code_of(alloc, branch, &clock, kept)?;
+        codes.push(code)?;
+    }
+    Ok(codes)
+}

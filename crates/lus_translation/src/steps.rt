@@ -1,0 +1,103 @@
+//! Steps that give variables what their equations say.
+
+ghost use Rattle.std.specs.Prelude.{◌≡◌, ◌+◌, ◌++◌, IfOk, OnOk, length, map};
+ghost use Rattle.lus_program.specs.Programs.{node_at};
+ghost use Rattle.lus_program.specs.View.{expression_of, program_seen};
+ghost use Rattle.lus_streams.specs.Equations.{place_in};
+ghost use Rattle.lus_flat_classes.specs.View.{clock_seen, memory_of, steps_of as steps_in, taken};
+ghost use Rattle.lus_translation.specs.Forms.{answers_form, given_cells, given_firsts, given_steps, turn_cells, turn_firsts, turn_steps};
+
+use crate::code::code_of;
+use crate::formals::inputs_at;
+use crate::kept::{Kept, number_of};
+use lus_flat_classes::{Step, Target};
+use lus_program::{Equation, Expr, Program, Test};
+use lus_values::Memory;
+use std::alloc::Global;
+
+/// The steps so far, with what they keep.
+#[derive(Drop)]
+pub struct Built {
+    pub steps: Vec<Step>,
+    pub kept: Kept,
+}
+
+/// Where a variable stands first on a left side, if it does.
+fn place_of(targets: &[u32], variable: u32) -> Option<usize>
+    ensures { result ≡ place_in variable targets.now 0 }
+{
+    for (place, target) in targets.iter().enumerate() {
+        if variable == *target {
+            return Some(place);
+        }
+    }
+    None
+}
+
+/// The variables that a call gives, each with the output that it is behind the inputs of the called node; of others none.
+fn targets_of(
+    alloc: Global,
+    targets: &[u32],
+    inputs: u32,
+    variables: &[u32],
+) -> Result<Vec<Target>, Memory>
+    ensures { IfOk result (λ ts. (number : _) → map (taken number) ts.items ≡ answers_form number inputs targets.now variables.now) }
+{
+    let mut found = Vec::new(alloc);
+    for variable in variables {
+        if let Some(output) = place_of(targets, *variable) {
+            let Some(place) = (inputs as usize).checked_add(output) else {
+                return Err(Memory);
+            };
+            found.push(Target {
+                variable: *variable,
+                place: number_of(place)?,
+            })?;
+        }
+    }
+    Ok(found)
+}
+
+/// Gives variables a right side on a clock, which is no call.
+fn give_right(
+    alloc: Global,
+    right: &Expr,
+    clock: &[Test],
+    variables: &[u32],
+    built: &mut Built,
+) -> Result<(), Memory>
+    ensures steps { OnOk result (steps_in built.new.steps.items ≡ steps_in built.old.steps.items ++ given_steps (length (map memory_of built.old.kept.cells.items)) (length (map clock_seen built.old.kept.firsts.items)) (expression_of right.now) clock.now variables.now) }
+    ensures cells { OnOk result (map memory_of built.new.kept.cells.items ≡ map memory_of built.old.kept.cells.items ++ given_cells (expression_of right.now) clock.now variables.now) }
+    ensures firsts { OnOk result (map clock_seen built.new.kept.firsts.items ≡ map clock_seen built.old.kept.firsts.items ++ given_firsts (expression_of right.now) clock.now variables.now) }
+{
+    for variable in variables {
+        let code = code_of(alloc, right, clock, &mut built.kept)?;
+        built.steps.push(Step::Give(*variable, code))?;
+    }
+    Ok(())
+}
+
+/// Gives variables of an equation, on its clock, what its right side is; a call of it has this number.
+pub fn give_turn(
+    alloc: Global,
+    program: &Program,
+    equation: &Equation,
+    clock: &[Test],
+    number: u32,
+    variables: &[u32],
+    built: &mut Built,
+) -> Result<(), Memory>
+    ensures steps { OnOk result (steps_in built.new.steps.items ≡ steps_in built.old.steps.items ++ turn_steps (program_seen program.now) (length (map memory_of built.old.kept.cells.items)) (length (map clock_seen built.old.kept.firsts.items)) number (expression_of equation.now.right) equation.now.targets.items clock.now variables.now) }
+    ensures cells { OnOk result (map memory_of built.new.kept.cells.items ≡ map memory_of built.old.kept.cells.items ++ turn_cells (expression_of equation.now.right) clock.now variables.now) }
+    ensures firsts { OnOk result (map clock_seen built.new.kept.firsts.items ≡ map clock_seen built.old.kept.firsts.items ++ turn_firsts (expression_of equation.now.right) clock.now variables.now) }
+{
+    match &equation.right {
+        Expr::Call(_, called, _) => {
+            let inputs = inputs_at(program, *called);
+            let targets = targets_of(alloc, &equation.targets, inputs, variables)?;
+            built.steps.push(Step::Call(number, targets))?;
+            Ok(())
+        }
+        right => give_right(alloc, right, clock, variables, built),
+    }
+}

@@ -1,0 +1,23 @@
+-- Parts of calls one behind another are in order, and end within the whole.
+use Rattle.std.proofs.Common.{◌≡◌, ℕ, ◌+◌, ◌≤◌, List, [], ◌∷◌, arith}
+use Rattle.lus_values.specs.Lists.{item, Each}
+use Rattle.lus_flat_classes.specs.declared.class.Extent.{Extent}
+use Rattle.lus_flat_classes.specs.declared.class.Call.{Call}
+use Rattle.lus_turns.specs.Placing.{no_room, together, placed_calls, parts_end, IsWithin, PlacedAreWell}
+
+-- the parts end behind the place from which they stand
+ends_behind : (rooms : List Extent) (from : Extent) (qs : List Call) → IsWithin from (parts_end rooms from qs)
+ends_behind rooms from [] = record { cells = omega arith; firsts = omega arith; variables = omega arith }
+ends_behind rooms from (q ∷ qs) =
+    let rest = ends_behind rooms (together from (item no_room rooms q.node)) qs in
+    let a = rest.cells in
+    let b = rest.firsts in
+    let d = rest.variables in
+    record { cells = omega (arith, a); firsts = omega (arith, b); variables = omega (arith, d) }
+
+pub placed_are_well : PlacedAreWell
+placed_are_well rooms from [] = record { order = tt; ends = tt }
+placed_are_well rooms from (q ∷ qs) =
+    let next = together from (item no_room rooms q.node) in
+    let rest = placed_are_well rooms next qs in
+    record { order = (omega arith, omega arith, rest.order); ends = (ends_behind rooms next qs, rest.ends) }

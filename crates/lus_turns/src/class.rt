@@ -1,0 +1,33 @@
+//! The class of a node with a causal order.
+
+ghost use Rattle.std.specs.Prelude.{IfOk};
+ghost use Rattle.lus_program.specs.View.{node_of, program_seen};
+ghost use Rattle.lus_order.specs.Orders.{OrdersVariables};
+ghost use Rattle.lus_classes.specs.ClassesOf.{IsClassOf};
+ghost use Rattle.lus_flat_classes.specs.View.{class_of as class_in};
+ghost use Rattle.lus_normal_nodes.specs.Ready.{IsReady};
+ghost use Rattle.lus_normal_nodes.specs.Ready.{IsDefined};
+
+use crate::turns::turns_of;
+use lus_flat_classes::Class;
+use lus_program::{Node, Program};
+use lus_translation::class_with;
+use lus_values::Memory;
+use std::alloc::Global;
+
+/// The class of a node in normal form whose variables have this causal order, without room for it and its calls yet.
+pub fn class_of(
+    alloc: Global,
+    program: &Program,
+    node: &Node,
+    order: &[u32],
+) -> Result<Class, Memory>
+    requires ready { IsReady (program_seen program.now) (node_of node.now) }
+    requires defined { IsDefined (program_seen program.now) (node_of node.now) }
+    requires order { OrdersVariables (node_of node.now) order.now }
+    ensures { IfOk result (λ c. IsClassOf (program_seen program.now) (node_of node.now) (class_in c)) }
+{
+    let turns = turns_of(alloc, program, node, order)?;
+    let class = class_with(alloc, program, node, &turns)?;
+    Ok(class)
+}
