@@ -1,0 +1,6 @@
+//! State cells: how much an instance of each node keeps from one instant to the next.
+#![tactic(auto)]
+
+mod counting;
+
+pub use counting::cells_of_nodes;

@@ -1,0 +1,35 @@
+-- How contracts see the code of a program: the ordered program that it is made of, a class for each node, and the state cells
+-- of each.
+use Rattle.std.specs.Prelude.{◌≡◌, ℕ, List, length}
+use Rattle.lus_program.specs.Programs.{Program}
+use Rattle.lus_program.specs.View.{program_seen}
+use Rattle.lus_classes.specs.Classes.{Class}
+use Rattle.lus_order.specs.OrderedPrograms.{OrderedProgram}
+use Rattle.lus_simulation.specs.Codes.{AreCodeOf}
+use Rattle.lus_flat_classes.specs.declared.class.Class.{Class as StoredClass}
+use Rattle.lus_flat_classes.specs.Turns.{AreReady}
+use Rattle.lus_flat_classes.specs.View.{classes_of}
+use Rattle.lus_cells.specs.Cells.{AreStateCells}
+
+pub record ProgramCode : Type 0 where
+  pub source : OrderedProgram
+  pub classes : List StoredClass
+  pub cells : List ℕ
+
+-- the plain program and the plain classes of a code
+abbrev pub program_of : ProgramCode → Program
+program_of c = program_seen c.source.program
+
+abbrev pub plain_classes : ProgramCode → List Class
+plain_classes c = classes_of c.classes
+
+-- the classes belong to the nodes of a normal form of the program
+abbrev pub IsCodeOf : Program → List Class → Type 0
+IsCodeOf p classes = (q : Program) × AreCodeOf p q classes
+
+-- a class for each node of p, that can be run, and the state cells of the nodes
+pub record IsTranslated (p : Program) (classes : List StoredClass) (cells : List ℕ) : Type 0 where
+  pub code : IsCodeOf p (classes_of classes)
+  pub size : length classes ≡ length p.nodes
+  pub ready : AreReady classes
+  pub cells : AreStateCells p cells

