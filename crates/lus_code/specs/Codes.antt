@@ -32,4 +32,4 @@ pub record IsTranslated (p : Program) (classes : List StoredClass) (cells : List
   pub code : IsCodeOf p (classes_of classes)
   pub size : length classes ≡ length p.nodes
   pub ready : AreReady classes
-  pub cells : AreStateCells p cells
+  pub counted : AreStateCells p cells
