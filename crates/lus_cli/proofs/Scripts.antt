@@ -3,7 +3,7 @@ use Rattle.std.proofs.Common.{◌≡◌, subst, ℕ, ◌+◌, ◌<◌, ◌≤◌
 use Rattle.std.proofs.lemmas.Option.{IfSome_then}
 use Rattle.lus_syntax.specs.Lexemes.{Text}
 use Rattle.lus_program.specs.Programs.{Program}
-use Rattle.lus_machine.specs.declared.request.Entry.{Entry}
+use Rattle.lus_requests.specs.declared.request.Entry.{Entry}
 use Rattle.lus_runner.specs.Plain.{IsPlain}
 use Rattle.lus_host.specs.Devices.{Bytes}
 use Rattle.lus_host.specs.Forms.{InstanceForm}

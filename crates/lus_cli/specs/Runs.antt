@@ -6,10 +6,10 @@ use Rattle.serde_json.specs.Read.{read}
 use Rattle.lus_values.specs.Names.{Names}
 use Rattle.lus_program.specs.Programs.{Declared, alias, enumeration, structure, Program, node_at}
 use Rattle.lus_syntax.specs.Lexemes.{Text}
-use Rattle.lus_machine.specs.declared.request.Request.{Request}
-use Rattle.lus_machine.specs.declared.request.Request.TheVariants.{Step, Reset, Save, Restore}
-use Rattle.lus_machine.specs.declared.request.Reply.{Reply}
-use Rattle.lus_machine.specs.declared.request.Entry.{Entry}
+use Rattle.lus_requests.specs.declared.request.Request.{Request}
+use Rattle.lus_requests.specs.declared.request.Request.TheVariants.{Step, Reset, Save, Restore}
+use Rattle.lus_requests.specs.declared.request.Reply.{Reply}
+use Rattle.lus_requests.specs.declared.request.Entry.{Entry}
 use Rattle.lus_runner.specs.Plain.{IsPlain}
 use Rattle.lus_runner.specs.Replies.{IsReply}
 use Rattle.lus_host.specs.Devices.{Bytes}

@@ -9,7 +9,7 @@ ghost use Rattle.lus_host.specs.Scripts.{StepsFirst};
 ghost use Rattle.lus_cli.specs.Runs.{AreAnswers, IsAnswer};
 
 use lus_host::Call;
-use lus_machine::{Entry, Reply, Request};
+use lus_requests::{Entry, Reply, Request};
 use lus_order::Ordered;
 use lus_runner::step;
 use lus_values::{Memory, Row};

@@ -14,7 +14,7 @@ use crate::answering::answers;
 use crate::error::RunError;
 use crate::naming::node_place;
 use lus_host::{Caller, Instance, Scripts, read_scripts};
-use lus_machine::Entry;
+use lus_requests::Entry;
 use lus_order::Ordered;
 use lus_values::{Memory, Names};
 use std::alloc::Global;

@@ -1,6 +1,6 @@
 -- The lines of a journal, and journals, one after another.
 use Rattle.std.proofs.Common.{◌≡◌, ◌∙◌, ◌+◌, ◌<◌, ◌≤◌, ℕ, ap, sym, List, [], ◌∷◌, ◌++◌, drop, length, get_or, append_assoc, append-nil, Result, Ok, Err, OnErr, drop_of_length-le}
-use Rattle.lus_machine.specs.declared.request.Entry.{Entry}
+use Rattle.lus_requests.specs.declared.request.Entry.{Entry}
 use Rattle.lus_values.specs.Names.{Names}
 use Rattle.lus_host.specs.Forms.{Text}
 use Rattle.lus_host.specs.Journals.{line_text, lines_text}

@@ -10,8 +10,8 @@ use Rattle.serde_json.specs.Data.{Data}
 use Rattle.lus_values.specs.Lists.{Each}
 use Rattle.lus_values.specs.Names.{Names}
 use Rattle.lus_values.specs.Values.{Row}
-use Rattle.lus_machine.specs.declared.request.Request.{Request}
-use Rattle.lus_machine.specs.declared.request.Request.TheVariants.{Step}
+use Rattle.lus_requests.specs.declared.request.Request.{Request}
+use Rattle.lus_requests.specs.declared.request.Request.TheVariants.{Step}
 use Rattle.lus_program.specs.Programs.{Node, Program}
 use Rattle.lus_host.specs.Forms.{Ask, step, reset, save, restore, CallForm, CallerForm, Form, InstanceForm, Text, both, each, form_of}
 use Rattle.lus_host.specs.Scripts.{Caller, HaveNodes, IsRun, IsStep, Scope, Scripts, StepsFirst, all_distinct, call_of, caller_names, caller_of, calls_known, demand, instance_names, is_run, is_step, node_named, place_of, request_of, row_from, scripts_of, scripts_of_form, scripts_of_option, with_callers, with_nodes, within_limits}

@@ -4,13 +4,13 @@ use Rattle.std.specs.Fmt.{decimal}
 use Rattle.lus_values.specs.Names.{Names}
 use Rattle.lus_values.specs.Text.{text_of}
 use Rattle.lus_values.specs.Values.{Value, Row}
-use Rattle.lus_machine.specs.declared.request.Request.{Request}
-use Rattle.lus_machine.specs.declared.request.Request.TheVariants.{Step, Reset, Save, Restore}
-use Rattle.lus_machine.specs.declared.request.Why.{Why}
-use Rattle.lus_machine.specs.declared.request.Why.TheVariants.{Shape, Presence, Fault, NoSave}
-use Rattle.lus_machine.specs.declared.request.Reply.{Reply}
-use Rattle.lus_machine.specs.declared.request.Reply.TheVariants.{Outputs, Done, Refused}
-use Rattle.lus_machine.specs.declared.request.Entry.{Entry}
+use Rattle.lus_requests.specs.declared.request.Request.{Request}
+use Rattle.lus_requests.specs.declared.request.Request.TheVariants.{Step, Reset, Save, Restore}
+use Rattle.lus_requests.specs.declared.request.Why.{Why}
+use Rattle.lus_requests.specs.declared.request.Why.TheVariants.{Shape, Presence, Fault, NoSave}
+use Rattle.lus_requests.specs.declared.request.Reply.{Reply}
+use Rattle.lus_requests.specs.declared.request.Reply.TheVariants.{Outputs, Done, Refused}
+use Rattle.lus_requests.specs.declared.request.Entry.{Entry}
 use Rattle.lus_host.specs.Forms.{Text}
 
 -- an absent item is `-`

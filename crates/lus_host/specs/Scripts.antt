@@ -12,8 +12,8 @@ use Rattle.lus_values.specs.Values.{Value, bool, int, enum, struct, fields_of, R
 use Rattle.lus_program.specs.declared.types.Kind.{Kind}
 use Rattle.lus_program.specs.declared.types.Kind.TheVariants.{Struct}
 use Rattle.lus_program.specs.Programs.{Declared, alias, enumeration, structure, Field, Node, Program}
-use Rattle.lus_machine.specs.declared.request.Request.{Request}
-use Rattle.lus_machine.specs.declared.request.Request.TheVariants.{Step, Reset, Save, Restore}
+use Rattle.lus_requests.specs.declared.request.Request.{Request}
+use Rattle.lus_requests.specs.declared.request.Request.TheVariants.{Step, Reset, Save, Restore}
 use Rattle.lus_host.specs.Forms.{Text, both, each, Ask, step, reset, save, restore, CallForm, InstanceForm, CallerForm, Form, form_of}
 use Rattle.lus_host.specs.declared.refusal.ScriptRefusal.{ScriptRefusal}
 use Rattle.lus_host.specs.declared.refusal.ScriptRefusal.TheVariants.{Form as NotTheForm, Unknown, Double, Limit}

@@ -9,7 +9,7 @@ ghost use Rattle.lus_host.specs.declared.journal.WriteError.TheVariants.{Memory 
 use crate::device::Failure;
 use crate::line::push_line;
 use crate::sink::{Sink, write_all};
-use lus_machine::Entry;
+use lus_requests::Entry;
 use lus_values::{Memory, Names};
 use std::alloc::{AllocError, Global};
 use thiserror::Error;

@@ -4,7 +4,7 @@ ghost use Rattle.std.specs.Prelude.{◌≡◌, ◌++◌, OnOk, IfOk, map, string
 ghost use Rattle.lus_values.specs.View.{entry_of};
 ghost use Rattle.lus_host.specs.Journals.{caller_name, item_text, items_text, line_text, reply_text, request_text, row_text, why_text};
 
-use lus_machine::{Entry, Reply, Request, Why};
+use lus_requests::{Entry, Reply, Request, Why};
 use lus_values::{Memory, Names, Row, Value, push_value};
 
 fn push_item(line: &mut String, names: &Names, item: &Option<Value>) -> Result<(), Memory>

@@ -16,7 +16,7 @@ use crate::names::{caller_names, instance_names, name_table, place_of};
 use crate::refusal::ScriptRefusal;
 use crate::value::read_row;
 use indexmap::IndexSet;
-use lus_machine::Request;
+use lus_requests::Request;
 use lus_program::{Node, Program};
 use lus_values::Names;
 use serde_json::Value;

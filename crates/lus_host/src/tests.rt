@@ -6,7 +6,7 @@ use crate::{
     Failure, Journal, ReadError, ScriptRefusal, Sink, Source, WriteError, read_at_most,
     read_scripts, write_journals,
 };
-use lus_machine::{Entry, Reply, Request};
+use lus_requests::{Entry, Reply, Request};
 use lus_program::{Kind, Node, Program, Variable};
 use lus_syntax::{NodeKind, Place};
 use lus_values::{Names, Row, Value};

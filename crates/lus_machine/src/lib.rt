@@ -1,6 +1,8 @@
-//! Requests to an instance of a node, its replies, and the entries of its history.
+//! Accepted programs, and machines: instances of their nodes, with the histories of their calls.
 #![tactic(auto)]
 
-mod request;
+mod compiling;
+mod machine;
 
-pub use request::{Entry, Reply, Request, Why};
+pub use compiling::{Program, compile};
+pub use machine::{CallError, Machine};

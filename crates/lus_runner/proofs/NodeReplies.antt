@@ -12,9 +12,9 @@ use Rattle.lus_program.specs.View.{variable_of, node_of, program_seen}
 use Rattle.lus_streams.specs.Order.{IsOrder}
 use Rattle.lus_streams.specs.Streams.{Instant, instant, nobody, World}
 use Rattle.lus_streams.proofs.NilFree.{and_left, and_right}
-use Rattle.lus_machine.specs.declared.request.Reply.{Reply}
-use Rattle.lus_machine.specs.declared.request.Reply.TheVariants.{Outputs, Done, Refused}
-use Rattle.lus_machine.specs.declared.request.Why.TheVariants.{Shape, Presence, Fault, NoSave}
+use Rattle.lus_requests.specs.declared.request.Reply.{Reply}
+use Rattle.lus_requests.specs.declared.request.Reply.TheVariants.{Outputs, Done, Refused}
+use Rattle.lus_requests.specs.declared.request.Why.TheVariants.{Shape, Presence, Fault, NoSave}
 use Rattle.lus_runner.specs.Plain.{plain_node, IsPlain}
 use Rattle.lus_runner.specs.Evaluation.{filled, IsFilled, all_computed, IsSolved, fits, IsComputedReply}
 use Rattle.lus_runner.specs.Replies.{entries_fit, IsStep, IsReply}

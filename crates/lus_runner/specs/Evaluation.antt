@@ -12,9 +12,9 @@ use Rattle.lus_program.specs.Programs.{Expression, literal, variable, operate, O
 use Rattle.lus_program.specs.View.{expression_of, variable_of}
 use Rattle.lus_streams.specs.Order.{is_in}
 use Rattle.lus_streams.specs.Streams.{with_operand, with_operands}
-use Rattle.lus_machine.specs.declared.request.Reply.{Reply}
-use Rattle.lus_machine.specs.declared.request.Reply.TheVariants.{Outputs, Refused}
-use Rattle.lus_machine.specs.declared.request.Why.TheVariants.{Shape, Presence, Fault}
+use Rattle.lus_requests.specs.declared.request.Reply.{Reply}
+use Rattle.lus_requests.specs.declared.request.Reply.TheVariants.{Outputs, Refused}
+use Rattle.lus_requests.specs.declared.request.Why.TheVariants.{Shape, Presence, Fault}
 use Rattle.lus_runner.specs.Replies.{entries_fit}
 
 abbrev pub computed : Operator → List Value → Option Value

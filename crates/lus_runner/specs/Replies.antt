@@ -6,9 +6,9 @@ use Rattle.lus_program.specs.declared.types.Kind.{Kind}
 use Rattle.lus_program.specs.declared.types.Kind.TheVariants as kinds
 use Rattle.lus_program.specs.Programs.{Variable, Node, Program, node_at}
 use Rattle.lus_streams.specs.Streams.{Instant, World, is_present, row_of, IsInstant}
-use Rattle.lus_machine.specs.declared.request.Reply.{Reply}
-use Rattle.lus_machine.specs.declared.request.Reply.TheVariants.{Outputs, Refused}
-use Rattle.lus_machine.specs.declared.request.Why.TheVariants.{Shape, Presence, Fault}
+use Rattle.lus_requests.specs.declared.request.Reply.{Reply}
+use Rattle.lus_requests.specs.declared.request.Reply.TheVariants.{Outputs, Refused}
+use Rattle.lus_requests.specs.declared.request.Why.TheVariants.{Shape, Presence, Fault}
 
 -- a value is of this plain type; nil is of none
 abbrev pub of_kind : Kind → Value → Bool

@@ -14,7 +14,7 @@ use crate::evaluation::copy_entries;
 use crate::faults::all_computed;
 use crate::filling::filled_row;
 use crate::inputs::{all_present, entries_fit};
-use lus_machine::{Reply, Why};
+use lus_requests::{Reply, Why};
 use lus_program::{Node, Program};
 use lus_values::{Memory, Row, Value};
 use std::alloc::Global;

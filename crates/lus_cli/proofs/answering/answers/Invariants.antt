@@ -1,6 +1,6 @@
 use Rattle.std.proofs.Common.{◌++◌, List, drop}
 use Rattle.lus_program.specs.View.{program_seen}
-use Rattle.lus_machine.specs.declared.request.Entry.{Entry}
+use Rattle.lus_requests.specs.declared.request.Entry.{Entry}
 use Rattle.lus_cli.specs.Runs.{AreAnswers}
 use Rattle.lus_cli.proofs.answering.answers.Given as goal
 

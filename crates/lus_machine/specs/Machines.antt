@@ -1,0 +1,27 @@
+-- What a machine tells: its program, its node and its history.
+use Rattle.std.specs.Prelude.{ℕ, ◌<◌, ◌≤◌, List, length}
+use Rattle.lus_program.specs.Programs.{Program}
+use Rattle.lus_requests.specs.declared.request.Request.{Request}
+use Rattle.lus_requests.specs.declared.request.Reply.{Reply}
+use Rattle.lus_requests.specs.declared.request.Entry.{Entry}
+use Rattle.lus_history.specs.Histories.{History}
+use Rattle.lus_machine.specs.Acceptance.{IsAccepted}
+
+pub record Told : Type 0 where
+  pub program : Program
+  pub node : ℕ
+  pub history : List Entry
+
+-- the most entries that a history has
+abbrev pub full : ℕ
+full = 4294967295
+
+abbrev pub entry : ℕ → Request → Reply → Entry
+entry c r a = record { caller = c; request = r; reply = a }
+
+-- the history is one reactive node's: one of an accepted program
+pub record IsLegal (m : Told) : Type 0 where
+  pub accepted : IsAccepted m.program
+  pub within : m.node < length m.program.nodes
+  pub legal : History m.program m.node m.history
+  pub few : length m.history ≤ full

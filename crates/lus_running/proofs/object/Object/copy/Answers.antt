@@ -1,0 +1,21 @@
+use Rattle.std.proofs.Common.{rules, ◌≡◌, ◌∙◌, sym, ap, length, true}
+use Rattle.std.proofs.lemmas.List.{length-map, length-replicate}
+use Rattle.lus_values.specs.Values.{nil}
+use Rattle.lus_values.specs.View.{value_of}
+use Rattle.lus_running.proofs.object.Object.copy.Goals as goal
+
+pub returns-clause-shaped : goal.returns-clause-shaped
+returns-clause-shaped c classes s =
+    let o = c.args.self.now in
+    let cells_long : c.len.result ≡ length o.next_cells.items = search rules in
+    let firsts_long : c.len-2.result ≡ length o.next_firsts.items = search rules in
+    let variables_long : c.len-3.result ≡ length o.variables.items = search rules in
+    record {
+      class = s.class;
+      found = s.found;
+      cells = sym (length-map c.in_ok-cells.cells.items value_of) ∙ ap length c.in_ok-cells.ensures ∙ length-map c.deref.result.now value_of ∙ ap length c.deref.ensures.value ∙ s.cells;
+      firsts = ap length c.in_ok-firsts.ensures ∙ ap length c.deref-2.ensures.value ∙ s.firsts;
+      next_cells = sym (length-map c.in_ok-next_cells.next_cells.items value_of) ∙ ap length c.in_ok-next_cells.ensures ∙ length-replicate c.len.result nil ∙ cells_long ∙ s.next_cells;
+      next_firsts = ap length c.in_ok-next_firsts.ensures ∙ length-replicate c.len-2.result true ∙ firsts_long ∙ s.next_firsts;
+      variables = c.in_ok-variables.ensures ∙ variables_long ∙ s.variables;
+    }

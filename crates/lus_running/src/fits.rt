@@ -1,0 +1,46 @@
+//! Whether inputs fit a class.
+
+ghost use Rattle.std.specs.Prelude.{◌≡◌, ◌↔◌, IsTrue, None, is_some, map};
+ghost use Rattle.lus_values.specs.Lists.{item};
+ghost use Rattle.lus_values.specs.View.{entry_of};
+ghost use Rattle.lus_running.specs.Fits.{FitsClock, FitsPresence, FitsShape};
+
+use crate::instant::is_present;
+use lus_flat_classes::Class;
+use lus_values::Value;
+
+/// Whether there is an entry for each input.
+pub fn fits_shape(class: &Class, inputs: &[Option<Value>]) -> bool
+    ensures { IsTrue result ↔ FitsShape class.now (map entry_of inputs.now) }
+{
+    inputs.len() == class.inputs as usize
+}
+
+/// Whether an entry is there; past the entries none is.
+fn is_there(inputs: &[Option<Value>], variable: usize) -> bool
+    ensures { result ≡ is_some (item None (map entry_of inputs.now) variable) }
+{
+    match inputs.get(variable) {
+        Some(entry) => entry.is_some(),
+        None => false,
+    }
+}
+
+/// Whether an input is present exactly where its clock is.
+fn fits_clock(class: &Class, inputs: &[Option<Value>], variable: usize) -> bool
+    ensures { IsTrue result ↔ FitsClock class.now (map entry_of inputs.now) variable }
+{
+    is_there(inputs, variable) == is_present(class, inputs, variable)
+}
+
+/// Whether each input is present exactly where its clock is.
+pub fn fits_presence(class: &Class, inputs: &[Option<Value>]) -> bool
+    ensures { IsTrue result ↔ FitsPresence class.now (map entry_of inputs.now) }
+{
+    for variable in 0..class.inputs as usize {
+        if !fits_clock(class, inputs, variable) {
+            return false;
+        }
+    }
+    true
+}

@@ -1,0 +1,100 @@
+//! How variables are given their entries.
+
+ghost use Rattle.std.specs.Prelude.{◌≡◌, map, slice_set};
+ghost use Rattle.lus_values.specs.View.{value_of, entry_of};
+ghost use Rattle.lus_classes.specs.Classes.{clock_in};
+ghost use Rattle.lus_classes.specs.Steps.{is_on_row};
+ghost use Rattle.lus_flat_classes.specs.View.{class_of, code_of};
+ghost use Rattle.lus_running.specs.Comes.{Comes, made, received, received_one};
+
+use crate::entries::entry_at;
+use crate::error::StepError;
+use crate::presence::is_on;
+use crate::value::value_of;
+use lus_flat_classes::{Class, Code, Target};
+use lus_values::Value;
+use std::alloc::Global;
+
+/// Whether a variable's clock is present.
+pub fn is_present(class: &Class, row: &[Option<Value>], variable: usize) -> bool
+    ensures { result ≡ is_on_row (clock_in (class_of class.now) variable) (map entry_of row.now) }
+{
+    match class.clocks.get(variable) {
+        Some(clock) => is_on(clock, row),
+        None => true,
+    }
+}
+
+/// A row with one entry put in place; past the row nothing is.
+pub fn put(row: &mut [Option<Value>], variable: usize, entry: Option<Value>)
+    ensures { map entry_of row.new ≡ slice_set (map entry_of row.old) variable (entry_of entry) }
+{
+    if variable < row.len() {
+        row[variable] = entry;
+    }
+}
+
+/// Gives a variable the value of its code, or no entry where its clock is absent.
+pub fn give(
+    alloc: Global,
+    class: &Class,
+    cells: &[Value],
+    firsts: &[bool],
+    row: &mut [Option<Value>],
+    variable: usize,
+    code: &Code,
+) -> Result<(), StepError>
+    ensures { Comes result (made (class_of class.now) (map value_of cells.now) firsts.now (record { target = variable; code = code_of code.now }) (map entry_of row.old)) (map entry_of row.new) }
+{
+    if !is_present(class, row, variable) {
+        put(row, variable, None);
+        return Ok(());
+    }
+    match value_of(alloc, code, cells, firsts, row)? {
+        Some(value) => {
+            put(row, variable, Some(value));
+            Ok(())
+        }
+        None => Err(StepError::Fault),
+    }
+}
+
+/// Gives a variable what a called node's variable holds, or no entry where its clock is absent.
+pub fn receive(
+    alloc: Global,
+    class: &Class,
+    answer: &[Option<Value>],
+    row: &mut [Option<Value>],
+    target: Target,
+) -> Result<(), StepError>
+    ensures { Comes result (received_one (class_of class.now) (map entry_of answer.now) target (map entry_of row.old)) (map entry_of row.new) }
+{
+    let variable = target.variable as usize;
+    if !is_present(class, row, variable) {
+        put(row, variable, None);
+        return Ok(());
+    }
+    match entry_at(alloc, answer, target.place as usize)? {
+        Some(value) => {
+            put(row, variable, Some(value));
+            Ok(())
+        }
+        None => Err(StepError::Fault),
+    }
+}
+
+/// Gives variables what those of a called node hold, one after another.
+pub fn receive_all(
+    alloc: Global,
+    class: &Class,
+    answer: &[Option<Value>],
+    row: &mut [Option<Value>],
+    targets: &[Target],
+) -> Result<(), StepError>
+    ensures { Comes result (received (class_of class.now) (map entry_of answer.now) targets.now (map entry_of row.old)) (map entry_of row.new) }
+{
+    for target in targets {
+        receive(alloc, class, answer, row, *target)?;
+    }
+    Ok(())
+}
