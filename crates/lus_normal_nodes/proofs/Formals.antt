@@ -23,9 +23,10 @@ use Rattle.lus_resolution.proofs.Options.{and_then_gives, map_gives, where_true_
 use Rattle.lus_resolution.proofs.Typed.{HasKind, HaveKinds, IsCall, operate_typed, both_typed, when_typed, merge_typed, call_typed, more_typed, whole_call, whole_typed, fits_given}
 use Rattle.lus_normal_nodes.specs.Laws.{HaveFormals, HasFormals}
 use Rattle.lus_normal_nodes.specs.Ready.{Declared, HasArguments, operand_size}
+use Rattle.lus_normal_nodes.specs.Ready.{Declared, HasArguments, operand_size}
 
 -- what holds of each item holds of the one at a place
-each_found : {X : Type 0} (P : X → Type 0) (xs : List X) → Each P xs → (n : ℕ) (x : X) → slice_get xs n ≡ Some x → P x
+pub each_found : {X : Type 0} (P : X → Type 0) (xs : List X) → Each P xs → (n : ℕ) (x : X) → slice_get xs n ≡ Some x → P x
 each_found P [] h n x e = cc
 each_found P (y ∷ ys) h zero x e = let same : y ≡ x = cc in subst P same h.0
 each_found P (y ∷ ys) h (suc n) x e = each_found P ys h.1 n x e
@@ -102,7 +103,7 @@ module _ (p : Program) (resolved : Each (NodeResolved p) p.nodes) where
         let given = fits_given p f q h.0 in
         each_append Has (parts p q.right (equation_clock f q)) (equation_parts p f qs) (right_parts_typed q.right (equation_clock f q) given.kinds given.given) (equations_typed qs h.1)
 
-call_arguments : (p : Program) → Resolved p → Each (λ f. Each (HasArguments p) (node_parts p f)) p.nodes
+pub call_arguments : (p : Program) → Resolved p → Each (λ f. Each (HasArguments p) (node_parts p f)) p.nodes
 call_arguments p r = each_implies (NodeResolved p) (λ f. Each (HasArguments p) (node_parts p f)) (λ f n. equations_typed p r.nodes f f.equations n.equations) p.nodes r.nodes
 
 actuals_none : (args : Operands) → actuals args [] ≡ args
@@ -163,7 +164,7 @@ module _ (g : Node) (declared : Declared g) where
       )
 
 -- every node of a program on clocks declares its variables on clocks
-all_declared : (p : Program) → ProgramOnClocks p → (g : ℕ) → Declared (node_at p g)
+pub all_declared : (p : Program) → ProgramOnClocks p → (g : ℕ) → Declared (node_at p g)
 all_declared p h g = (each_item (IsOnClocks p) empty_node p.nodes (record { declared = tt; lefts = tt; rights = tt }) h g).declared
 
 module _ (p : Program) (callees : (g : ℕ) → Declared (node_at p g)) (f : Node) where
@@ -181,7 +182,7 @@ module _ (p : Program) (callees : (g : ℕ) → Declared (node_at p g)) (f : Nod
   right_formals (when t a) x xs k left right has = parts_formals p f (parts p (when t a) k) has right
   right_formals (merge y bs) x xs k left right has = parts_formals p f (parts p (merge y bs) k) has right
 
-  left_formals : (e : Expression) (xs : List ℕ) (k : Clock) → 0 < length xs → LeftOnClock p f (record { targets = xs; right = e }) 0 xs → RightOnClock p f (parts p e k) → Each (HasArguments p) (parts p e k) → Each (HasFormals p) (parts p e k)
+  pub left_formals : (e : Expression) (xs : List ℕ) (k : Clock) → 0 < length xs → LeftOnClock p f (record { targets = xs; right = e }) 0 xs → RightOnClock p f (parts p e k) → Each (HasArguments p) (parts p e k) → Each (HasFormals p) (parts p e k)
   left_formals e [] k some left right has = elim (not-suc-le-zero some) [ ]
   left_formals e (x ∷ xs) k some left right has = right_formals e x xs k left right has
 
