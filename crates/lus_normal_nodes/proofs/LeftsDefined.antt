@@ -85,7 +85,7 @@ module _ (f : Node) where
       choose (Some n) e later none = cc
 
   -- among these equations, q defines what stands on its left
-  abbrev DefinesAll : List Equation → Equation → Type 0
+  abbrev pub DefinesAll : List Equation → Equation → Type 0
   DefinesAll qs q =
       (o x : ℕ) → slice_get q.targets o ≡ Some x
       → (x < length f.variables) × (0 < count x (targets_in qs)) × (definition_in f qs x ≡ Some (given_by q.right o q.targets (equation_clock f q)))

@@ -6,9 +6,11 @@ use Rattle.lus_program.specs.Programs.{Expression, call, Operands, none, more, E
 use Rattle.lus_streams.specs.Clocks.{Part, at}
 use Rattle.lus_streams.specs.Equations.{given_by, definition_of, equation_clock, node_parts}
 use Rattle.lus_streams.specs.OnClock.{IsDeclared, IsOnClocks, ProgramOnClocks, test_of}
+use Rattle.lus_meaning.specs.Resolved.{Resolved}
 use Rattle.lus_normal_form.specs.Named.{IsNamed}
 use Rattle.lus_normal_form.specs.NormalNodes.{IsSimpleNode}
 use Rattle.lus_normal_nodes.specs.Laws.{HaveFormals}
+use Rattle.lus_normal_nodes.specs.Nodes.{IsMadeFrom}
 
 -- each variable is declared on a clock
 abbrev pub Declared : Node → Type 0
@@ -53,3 +55,12 @@ pub record IsDefined (p : Program) (f : Node) : Type 0 where
   pub outputs : Each (λ q. HasOutputs p q.right (length q.targets)) f.equations
   pub inputs : (x : ℕ) → x < f.inputs → definition_of f x ≡ None
   pub every : (x : ℕ) → f.inputs ≤ x → x < length f.variables → definition_of f x ≢ None
+
+-- every node of a program is ready and defines its variables: each in the list, and the node of each number
+pub record AreReady (p : Program) : Type 0 where
+  pub each : Each (λ f. IsReady p f × IsDefined p f) p.nodes
+  pub numbered : (g : ℕ) → IsReady p (node_at p g) × IsDefined p (node_at p g)
+
+-- a program each of whose nodes is made from that of a resolved program on clocks is ready
+abbrev pub MadeNodesAreReady : Type 0
+MadeNodesAreReady = (p p' : Program) → Resolved p → ProgramOnClocks p → ((g : ℕ) → IsMadeFrom p (node_at p g) (node_at p' g)) → AreReady p'
