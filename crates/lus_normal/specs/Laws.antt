@@ -17,6 +17,7 @@ use Rattle.lus_normal_nodes.specs.Needs.{NeedsVariables}
 use Rattle.lus_normal_nodes.specs.Forms.{normal_equations}
 use Rattle.lus_normal_nodes.specs.Nodes.{IsMadeFrom, part_test}
 use Rattle.lus_normal_nodes.specs.Parts.{node_taken}
+use Rattle.lus_normal_nodes.specs.Ready.{AreReady}
 use Rattle.lus_normal.specs.Forms.{Taken, right_takes}
 use Rattle.lus_normal.specs.View.{all_taken_seen, equations_seen}
 
@@ -71,11 +72,12 @@ ProgramsAreNormal =
     (p p' : StoredProgram) → Resolved (program_seen p) → ProgramOnClocks (program_seen p) → AreMadeOf (program_seen p) p.nodes.items p'.nodes.items
     → IsNormalProgram (program_seen p) (program_seen p')
 
--- such a program has the worlds of its source and no others, it is on clocks, its variables need its variables, and it is
--- causal where its source is
+-- such a program has the worlds of its source and no others, it is on clocks, its names are known, its calls have arguments and
+-- outputs and its variables one definition each, its variables need its variables, and it is causal where its source is
 pub record IsMadeRight (p p' : Program) : Type 0 where
   pub worlds : KeepsWorlds p p'
   pub on_clocks : ProgramOnClocks p'
+  pub ready : AreReady p'
   pub needs : Each NeedsVariables p'.nodes
   pub causal : IsCausal p → IsCausal p'
 
