@@ -1,12 +1,12 @@
 -- The calls of a normal form have as many arguments as those of the source, and their nodes have the outputs that they had.
-use Rattle.std.proofs.Common.{◌≡◌, ◌∙◌, ap, sym, subst, ℕ, suc, ◌+◌, ◌<◌, ◌≤◌, List, [], ◌∷◌, length, arith}
+use Rattle.std.proofs.Common.{◌≡◌, ◌∙◌, ap, sym, subst, ℕ, suc, List, [], ◌∷◌}
 use Rattle.lus_values.specs.Lists.{Each}
 use Rattle.lus_program.specs.Programs.{Expression, literal, variable, operate, pre, arrow, fby, when, merge, call, Operands, none, more, Program, node_at}
 use Rattle.lus_streams.specs.Clocks.{Clock, Part, at}
 use Rattle.lus_streams.specs.Equations.{Site, sites_in}
 use Rattle.lus_streams.proofs.Calls.{AtBase, OfCall, OfSite, parts_of_sites, sites_of_parts}
 use Rattle.lus_streams.proofs.Lists.{each_both, each_implies}
-use Rattle.lus_normal_form.specs.Named.{GivesOutput, IsCalled, Known, OutputKnown, Uses}
+use Rattle.lus_normal_form.specs.Named.{IsCalled, OutputKnown, Uses}
 use Rattle.lus_normal_form.specs.NormalForm.{AreArguments}
 use Rattle.lus_normal_form.specs.NormalNodes.{AreSites}
 use Rattle.lus_normal_form.proofs.ResolvedNamed.{each_called}

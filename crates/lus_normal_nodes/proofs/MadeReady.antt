@@ -1,16 +1,15 @@
 -- The nodes that are made from those of a resolved program on clocks are ready, and define their variables.
-use Rattle.std.proofs.Common.{◌≡◌, ◌≢◌, ◌∙◌, ap, sym, subst, ℕ, zero, suc, ◌+◌, ◌<◌, ◌≤◌, nat_lt, Bool, true, false, List, [], ◌∷◌, length, Some, None, arith}
+use Rattle.std.proofs.Common.{◌≡◌, ◌∙◌, ap, sym, subst, ℕ, zero, suc, ◌+◌, ◌<◌, ◌≤◌, nat_lt, Bool, true, false, List, [], ◌∷◌, length, arith}
 use Rattle.std.proofs.lemmas.Bool.{le-ltb, lt-ltb}
-use Rattle.std.specs.Prelude.{slice_get}
 use Rattle.lus_values.specs.Lists.{item, Each}
 use Rattle.lus_program.specs.Programs.{Expression, literal, variable, operate, pre, arrow, fby, when, merge, call, Equation, Node, Program, empty_node, node_at}
 use Rattle.lus_streams.specs.Clocks.{Clock, Part, at, parts}
-use Rattle.lus_streams.specs.Equations.{given_by, equation_clock, definition_of, equation_parts, node_parts}
+use Rattle.lus_streams.specs.Equations.{equation_clock, equation_parts, node_parts}
 use Rattle.lus_streams.specs.Flags.{CallsHaveOutputs, HasOutput}
 use Rattle.lus_streams.specs.OnClock.{IsOnClocks, LeftOnClock, ProgramOnClocks, RightOnClock}
 use Rattle.lus_streams.proofs.Lists.{each_implies, each_item, each_left, each_right}
 use Rattle.lus_meaning.specs.Types.{count}
-use Rattle.lus_meaning.specs.Resolved.{definitions, targets_of, NodeResolved, Resolved}
+use Rattle.lus_meaning.specs.Resolved.{targets_of, NodeResolved, Resolved}
 use Rattle.lus_meaning.specs.Resolved.{IsDefined as IsCounted}
 use Rattle.lus_resolution.proofs.CallsResolved.{resolved_calls_have_outputs}
 use Rattle.lus_normal_form.specs.NormalNodes.{IsNormalNode, IsWithin}
@@ -28,7 +27,7 @@ use Rattle.lus_normal_nodes.proofs.MadeNodes.{all_named, made_are_normal, node_o
 use Rattle.lus_normal_nodes.proofs.NormalNamed.{normal_arguments, normal_named}
 use Rattle.lus_normal_nodes.proofs.OutputsKept.{LeftHasOutputs, normal_outputs, source_outputs}
 use Rattle.lus_normal_nodes.proofs.TakenWithin.{taken_within}
-use Rattle.lus_normal_nodes.proofs.Targets.{all_lefts, is_defined, targets_in, targets_known, total}
+use Rattle.lus_normal_nodes.proofs.Targets.{all_lefts, is_defined, targets_known, total}
 
 -- a node whose variables are defined once each, but for inputs, defines them
 module _ (p : Program) (f : Node) (known : Each (λ x. x < length f.variables) (targets_of f)) (counted : (x : ℕ) → x < length f.variables → IsCounted f x) where

@@ -1,25 +1,25 @@
 -- In the normal form of a resolved program on clocks, all names are known, and calls have arguments for all inputs.
-use Rattle.std.proofs.Common.{◌≡◌, ap, sym, subst, ℕ, suc, ◌+◌, ◌<◌, ◌≤◌, List, [], ◌∷◌, ◌++◌, length, Option, Some, None, arith, ⊎_elim}
+use Rattle.std.proofs.Common.{◌≡◌, subst, ℕ, ◌+◌, ◌<◌, ◌≤◌, List, [], ◌∷◌, length, Option, Some, None, arith, ⊎_elim}
 use Rattle.std.proofs.lemmas.Bool.{cases_lt}
 use Rattle.lus_values.specs.Lists.{item, Each}
 use Rattle.lus_values.proofs.Lists.{below_all}
 use Rattle.lus_program.specs.Programs.{Expression, literal, variable, operate, pre, arrow, fby, when, merge, call, Equation, Node, Program, node_at}
-use Rattle.lus_streams.specs.Clocks.{Clock, clock_of, Part, at, base_of, parts}
+use Rattle.lus_streams.specs.Clocks.{Clock, clock_of, Part, at, parts}
 use Rattle.lus_streams.specs.Equations.{Definition, given_by, equation_clock, definition_of, equation_parts, node_parts, sites}
 use Rattle.lus_streams.specs.Flags.{OutputIs}
 use Rattle.lus_streams.specs.OnClock.{DefinedOnClock, IsOnClocks}
-use Rattle.lus_streams.specs.Order.{clock_variables, needed, needs_right}
-use Rattle.lus_streams.proofs.Calls.{AtBase, OfCall, OfSite}
+use Rattle.lus_streams.specs.Order.{clock_variables, needs_right}
+use Rattle.lus_streams.proofs.Calls.{AtBase, OfCall}
 use Rattle.lus_streams.proofs.Definitions.{defined_on_clock}
 use Rattle.lus_streams.proofs.Lists.{below_at, each_append, each_both, each_implies, each_left}
 use Rattle.lus_normal_form.specs.NormalForm.{StandsFor}
 use Rattle.lus_normal_form.specs.NormalNodes.{DefinesNew, IsDefinition, IsNormalNode, IsWithin}
-use Rattle.lus_normal_form.specs.Named.{DefinesFirst, DefinitionFits, GivesOutput, IsCalled, IsNamed, Known, Names, OutputKnown, Uses}
+use Rattle.lus_normal_form.specs.Named.{DefinesFirst, DefinitionFits, GivesOutput, IsCalled, IsNamed, Known, OutputKnown, Uses}
 use Rattle.lus_normal_form.proofs.Equations.{RightParts, each_within, right_parts}
 use Rattle.lus_normal_form.proofs.NewParts.{new_at, new_fact, new_part, stands_before}
 use Rattle.lus_normal_form.proofs.OneCall.{numbered_same}
 use Rattle.lus_normal_nodes.specs.Ready.{HasArguments}
-use Rattle.lus_normal_nodes.proofs.CallsKept.{IsFit, IsFitCall, fit_has_arguments, parts_fit, sites_fit, source_fits}
+use Rattle.lus_normal_nodes.proofs.CallsKept.{IsFitCall, fit_has_arguments, parts_fit, sites_fit, source_fits}
 use Rattle.lus_normal_nodes.proofs.NamesKept.{AnyCall, definition_named}
 use Rattle.lus_normal_nodes.proofs.NeedsKnown.{all_need}
 use Rattle.lus_normal_nodes.proofs.OutputsKept.{LeftHasOutputs, output_is}

@@ -1,9 +1,9 @@
 -- A call in normal form has no more variables on its left than its node has outputs, as in the source.
-use Rattle.std.proofs.Common.{◌≡◌, sym, subst, ℕ, zero, suc, ◌+◌, ◌<◌, ◌≤◌, nat_eq, Bool, true, false, List, [], ◌∷◌, ◌++◌, length, Option, Some, None, refl, if◌then◌else◌, arith}
+use Rattle.std.proofs.Common.{◌≡◌, subst, ℕ, zero, suc, ◌+◌, ◌<◌, nat_eq, Bool, true, false, List, [], ◌∷◌, length, Option, Some, None, refl, if◌then◌else◌, arith}
 use Rattle.lus_values.specs.Lists.{Each}
-use Rattle.lus_program.specs.Programs.{Expression, literal, variable, operate, pre, arrow, fby, when, merge, call, Operands, Equation, Node, Program, node_at}
+use Rattle.lus_program.specs.Programs.{Expression, literal, variable, operate, pre, arrow, fby, when, merge, call, Equation, Node, Program, node_at}
 use Rattle.lus_streams.specs.Clocks.{Clock, Part, at}
-use Rattle.lus_streams.specs.Equations.{Definition, given_by, place_in, equation_clock, definition_in}
+use Rattle.lus_streams.specs.Equations.{given_by, place_in, equation_clock, definition_in}
 use Rattle.lus_streams.specs.Flags.{HasOutput, OutputIs}
 use Rattle.lus_streams.proofs.Lists.{each_append, each_left, each_right}
 use Rattle.lus_meaning.specs.Resolved.{EquationFits, NodeResolved}
