@@ -1,0 +1,105 @@
+//! What normal forms of small programs keep, and what is taken out of them.
+
+use lus_clocks::{check_clocks, check_nil};
+use lus_grammar::parse;
+use lus_normal::{Normal, normalise};
+use lus_order::order;
+use lus_program::{Expr, Node, NodeId};
+use lus_syntax::{Refusal, lex};
+use lus_types::check_types;
+use lus_values::{Op, Operator, Value};
+use std::alloc::Global;
+use std::test::Fail;
+
+/// The normal form of a text.
+fn normal_of(alloc: Global, text: &str) -> Result<Normal, Refusal> {
+    let tokens = lex(alloc, text)?;
+    let tree = parse(alloc, &tokens)?;
+    let typed = check_types(alloc, tree)?;
+    let clocked = check_clocks(typed)?;
+    let initialised = check_nil(alloc, clocked)?;
+    normalise(alloc, order(alloc, initialised)?)
+}
+
+const COUNTER: &str = "node t() returns (n: int); let n = 0 -> pre n + 1; tel";
+
+#[test]
+fn memories_and_marks_are_counted(rt: HostRuntime) -> Result<(), Fail> {
+    let called = format!(in rt.alloc();
+        "{COUNTER} node o(c: bool) returns (y: int when c); let y = t(); tel"
+    )?;
+    let rows = [
+        (COUNTER, 0, 1, 1),
+        (called.as_str(), 0, 1, 1),
+        (called.as_str(), 1, 0, 0),
+        (
+            "node s(x: int) returns (y: int); let y = x + (0 -> pre y); tel",
+            0,
+            1,
+            1,
+        ),
+        (
+            "node f(x: int) returns (y: int); let y = (-1) fby x; tel",
+            0,
+            1,
+            1,
+        ),
+        (
+            "node m(x: int) returns (y: int); let y = 0 -> pre (1 -> pre (2 fby x)); tel",
+            0,
+            3,
+            3,
+        ),
+    ];
+    for (text, place, memories, firsts) in rows {
+        let normal = normal_of(rt.alloc(), text).ok().ok_or("refused")?;
+        assert!(rt; (place as usize) < normal.nodes(), "{text}");
+        assert_eq!(rt; normal.memories(NodeId(place)), memories, "{text}");
+        assert_eq!(rt; normal.firsts(NodeId(place)), firsts, "{text}");
+    }
+    Ok(())
+}
+
+/// The variable that a sampled expression was taken out to, and what defines that.
+fn sampled(node: &Node) -> Option<(u32, &Expr)> {
+    let Expr::When(_, _, operand) = &node.equations.get(0)?.right else {
+        return None;
+    };
+    let Expr::Variable(_, variable) = &**operand else {
+        return None;
+    };
+    let added = node.equations.get(1)?;
+    if added.targets.as_slice() == [*variable].as_slice() {
+        Some((*variable, &added.right))
+    } else {
+        None
+    }
+}
+
+#[test]
+fn an_operand_of_when_is_taken_out_on_the_base_clock(rt: HostRuntime) -> Result<(), Fail> {
+    let text = "node w(x: int; c: bool) returns (y: int when c); let y = (10 div x) when c; tel";
+    let normal = normal_of(rt.alloc(), text).ok().ok_or("refused")?;
+    let node = normal.program().nodes.get(0).ok_or("no node")?;
+    let (variable, right) = sampled(node).ok_or("not taken out")?;
+    assert_eq!(rt; variable, 3);
+    assert_eq!(rt; node.variables.len(), 4);
+    let declared = node.variables.get(3).ok_or("not declared")?;
+    assert!(rt; declared.test.is_none());
+    assert!(rt; is_ten_by(right, 0));
+    Ok(())
+}
+
+/// The expression is 10 divided by a variable.
+fn is_ten_by(expr: &Expr, divisor: u32) -> bool {
+    let Expr::Operate(_, Operator::Compute(Op::Divide), operands) = expr else {
+        return false;
+    };
+    match operands.as_slice() {
+        [
+            Expr::Literal(_, Value::Int(dividend)),
+            Expr::Variable(_, variable),
+        ] => { *dividend == 10 && *variable == divisor }
+        _ => false,
+    }
+}
