@@ -1,6 +1,6 @@
 -- What the code takes out of a node is what its normal form takes out, on the same clocks.
 use Rattle.std.specs.Prelude.{◌≡◌, List, [], ◌∷◌, ◌++◌, Some, length, map, string_bytes}
-use Rattle.lus_values.specs.Lists.{item, Below, Each}
+use Rattle.lus_values.specs.Lists.{item, Each}
 use Rattle.lus_program.specs.declared.node.Equation.{Equation as StoredEquation}
 use Rattle.lus_program.specs.declared.node.Node.{Node as StoredNode}
 use Rattle.lus_program.specs.declared.node.Variable.{Variable as StoredVariable}
@@ -8,7 +8,7 @@ use Rattle.lus_normal.specs.declared.taking.Taken.{Taken as StoredTaken}
 use Rattle.lus_program.specs.declared.node.Program.{Program as StoredProgram}
 use Rattle.lus_program.specs.Programs.{Node, Program, Variable, node_at}
 use Rattle.lus_program.specs.View.{expression_of, equations_from, node_of, program_seen, variable_of}
-use Rattle.lus_streams.specs.OnClock.{IsDeclared, IsOnClocks, ProgramOnClocks, test_of}
+use Rattle.lus_streams.specs.OnClock.{IsOnClocks, ProgramOnClocks, test_of}
 use Rattle.lus_meaning.specs.Resolved.{kind_in, Resolved}
 use Rattle.lus_streams.specs.Order.{IsCausal}
 use Rattle.lus_normal_form.specs.Laws.{KeepsWorlds}
@@ -60,7 +60,9 @@ AreMadeOf p (f ∷ fs) fs' = (f' : StoredNode) × (rest : List StoredNode) × (f
 
 -- a node that the code makes of a node on clocks is made from it
 abbrev pub NodesAreMade : Type 0
-NodesAreMade = (p : Program) → ProgramOnClocks p → (f f' : StoredNode) → IsOnClocks p (node_of f) → IsMadeOf p f f' → IsMadeFrom p (node_of f) (node_of f')
+NodesAreMade =
+    (p : Program) → ProgramOnClocks p → (f f' : StoredNode) → IsOnClocks p (node_of f) → IsMadeOf p f f'
+    → IsMadeFrom p (node_of f) (node_of f')
 
 -- p' is the normal form of p, with new variables for all that is taken out of each node
 abbrev pub IsNormalProgram : Program → Program → Type 0
@@ -69,7 +71,8 @@ IsNormalProgram p p' = IsNormalOf p p' (λ g. node_taken p (node_at p g))
 -- a program whose nodes the code makes of those of a resolved program on clocks is its normal form
 abbrev pub ProgramsAreNormal : Type 0
 ProgramsAreNormal =
-    (p p' : StoredProgram) → Resolved (program_seen p) → ProgramOnClocks (program_seen p) → AreMadeOf (program_seen p) p.nodes.items p'.nodes.items
+    (p p' : StoredProgram) → Resolved (program_seen p) → ProgramOnClocks (program_seen p)
+    → AreMadeOf (program_seen p) p.nodes.items p'.nodes.items
     → IsNormalProgram (program_seen p) (program_seen p')
 
 -- such a program has the worlds of its source and no others, it is on clocks, its names are known, its calls have arguments and
@@ -83,5 +86,6 @@ pub record IsMadeRight (p p' : Program) : Type 0 where
 
 abbrev pub ProgramsAreRight : Type 0
 ProgramsAreRight =
-    (p p' : StoredProgram) → Resolved (program_seen p) → ProgramOnClocks (program_seen p) → AreMadeOf (program_seen p) p.nodes.items p'.nodes.items
+    (p p' : StoredProgram) → Resolved (program_seen p) → ProgramOnClocks (program_seen p)
+    → AreMadeOf (program_seen p) p.nodes.items p'.nodes.items
     → IsMadeRight (program_seen p) (program_seen p')

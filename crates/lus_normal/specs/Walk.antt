@@ -10,7 +10,8 @@ use Rattle.lus_program.specs.Programs.{Equation, node_at}
 use Rattle.lus_program.specs.View.{expression_of, node_of, operands_of, program_seen}
 use Rattle.lus_streams.specs.OnClock.{actuals, test_of}
 use Rattle.lus_clocks.specs.Fitting.{names_in}
-use Rattle.lus_normal_nodes.specs.Forms.{added_equations, normal_equations, right_form, operand_out, inner_out, right_out, inner_outs, argument_outs}
+use Rattle.lus_normal_nodes.specs.Forms.{added_equations, inner_form, normal_equations, right_form}
+use Rattle.lus_normal_nodes.specs.Forms.{operand_out, inner_out, right_out, inner_outs, argument_outs}
 use Rattle.lus_normal.specs.declared.taking.Taking.{Taking}
 use Rattle.lus_normal.specs.Forms.{Taken, operand_takes, inner_takes, right_takes, inners_takes, branches_takes, arguments_takes}
 use Rattle.lus_normal.specs.Laws.{equations_take}
@@ -32,7 +33,8 @@ module _ (old new : Taking) where
 
     -- an operand, and what is taken out of it in turn
     abbrev pub TakesPart : Expr → Option Test → Type 0
-    TakesPart e test = Takes (record { test = test; operand = expression_of e } ∷ right_takes (program_seen p) (node_of f) (expression_of e) test)
+    TakesPart e test =
+        Takes (record { test = test; operand = expression_of e } ∷ right_takes (program_seen p) (node_of f) (expression_of e) test)
 
     -- what is taken out for an operand, which may be a literal or a variable
     abbrev pub TakesOperand : Expr → Option Test → Type 0
@@ -53,7 +55,8 @@ module _ (old new : Taking) where
     -- what is taken out of the arguments of a call of g with this base
     abbrev pub TakesArguments : List Expr → (g : ℕ) → Option Test → Type 0
     TakesArguments es g base =
-        Takes (arguments_takes (program_seen p) (node_of f) (operands_of es) (node_at (program_seen p) g) (names_in (actuals (operands_of es) [])) base 0)
+        Takes
+        (arguments_takes (program_seen p) (node_of f) (operands_of es) (node_at (program_seen p) g) (names_in (actuals (operands_of es) [])) base 0)
 
     -- what is taken out of an equation, on the clock of its first variable
     abbrev pub TakesEquation : StoredEquation → Type 0
@@ -82,7 +85,13 @@ module _ (old new : Taking) where
   -- an equation in normal form, and those of what is taken out of it
   abbrev pub AddsEquation : StoredEquation → Type 0
   AddsEquation q =
-      Adds (record { targets = q.targets.items; right = right_form old.next (expression_of q.right) } ∷ added_equations old.next (right_out (expression_of q.right)))
+      Adds
+      (record { targets = q.targets.items; right = right_form old.next (expression_of q.right) }
+      ∷ added_equations old.next (right_out (expression_of q.right)))
+
+-- what stands for an expression inside of another, n being the next new variable
+abbrev pub IsInnerForm : (n : ℕ) → (e result : Expr) → Type 0
+IsInnerForm n e result = expression_of result ≡ inner_form n (expression_of e) (right_form n (expression_of e))
 
 -- all equations of a node in normal form
 abbrev pub HasEquations : StoredNode → Taking → Type 0

@@ -42,7 +42,8 @@ pub record IsReady (p : Program) (f : Node) : Type 0 where
 -- an equation defines each variable on its left, as the output of its place
 abbrev pub DefinesLeft : Node → Equation → Type 0
 DefinesLeft f q =
-    (o x : ℕ) → slice_get q.targets o ≡ Some x → (x < length f.variables) × (definition_of f x ≡ Some (given_by q.right o q.targets (equation_clock f q)))
+    (o x : ℕ) → slice_get q.targets o ≡ Some x
+    → (x < length f.variables) × (definition_of f x ≡ Some (given_by q.right o q.targets (equation_clock f q)))
 
 -- a call has no more variables on its left than the called node has outputs
 abbrev pub HasOutputs : Program → Expression → ℕ → Type 0
@@ -63,4 +64,6 @@ pub record AreReady (p : Program) : Type 0 where
 
 -- a program each of whose nodes is made from that of a resolved program on clocks is ready
 abbrev pub MadeNodesAreReady : Type 0
-MadeNodesAreReady = (p p' : Program) → Resolved p → ProgramOnClocks p → ((g : ℕ) → IsMadeFrom p (node_at p g) (node_at p' g)) → AreReady p'
+MadeNodesAreReady =
+    (p p' : Program) → Resolved p → ProgramOnClocks p → ((g : ℕ) → IsMadeFrom p (node_at p g) (node_at p' g))
+    → AreReady p'
