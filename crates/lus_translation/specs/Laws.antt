@@ -14,7 +14,7 @@ use Rattle.lus_normal_form.specs.NormalForm.{AreAtoms, IsSimple}
 use Rattle.lus_normal_form.specs.Named.{Known, GivesOutput, Uses, IsNamed}
 use Rattle.lus_normal_form.specs.NormalNodes.{IsSimpleNode}
 use Rattle.lus_normal_nodes.specs.Laws.{HaveFormals}
-use Rattle.lus_normal_nodes.specs.Ready.{Declared, HasArguments, RightHasFormals, operand_size}
+use Rattle.lus_normal_nodes.specs.Ready.{Declared, IsReady, operand_size}
 use Rattle.lus_translation.specs.Forms.{Turn, class_form, code_form, call_form, calls_form, kept_cells, kept_firsts, numbers_form}
 
 -- a list has these items from place n on
