@@ -3,6 +3,8 @@
 ghost use Rattle.std.specs.Prelude.{◌≡◌, ◌++◌, Some, IfOk, OnOk, length, map};
 ghost use Rattle.lus_program.specs.View.{node_of, program_seen};
 ghost use Rattle.lus_flat_classes.specs.View.{class_of as class_in, clock_seen, memory_of, steps_of as steps_in};
+ghost use Rattle.lus_values.specs.Lists.{Each};
+ghost use Rattle.lus_translation.specs.Making.{GivesAny};
 ghost use Rattle.lus_translation.specs.Forms.{all_cells, all_firsts, all_steps, cells_at, class_form, equation_cells, equation_firsts, equation_steps, firsts_at, numbers_form, steps_at};
 ghost use Rattle.lus_translation.specs.View.{turn_of as turn_in};
 
@@ -28,6 +30,7 @@ fn make_equation(
     ensures steps { OnOk result (steps_in built.new.steps.items ≡ steps_in built.old.steps.items ++ equation_steps (program_seen program.now) (node_of node.now) (length (map memory_of built.old.kept.cells.items)) (length (map clock_seen built.old.kept.firsts.items)) number (Some equation.now) variables.now) }
     ensures cells { OnOk result (map memory_of built.new.kept.cells.items ≡ map memory_of built.old.kept.cells.items ++ equation_cells (node_of node.now) (Some equation.now) variables.now) }
     ensures firsts { OnOk result (map clock_seen built.new.kept.firsts.items ≡ map clock_seen built.old.kept.firsts.items ++ equation_firsts (node_of node.now) (Some equation.now) variables.now) }
+    ensures given { OnOk result (Each GivesAny built.old.steps.items → Each GivesAny built.new.steps.items) }
 {
     let clock = clock_of_equation(alloc, node, equation)?;
     give_turn(alloc, program, equation, &clock, number, variables, built)?;
@@ -47,6 +50,7 @@ fn make_turn(
     ensures steps { OnOk result (steps_in built.new.steps.items ≡ steps_in built.old.steps.items ++ steps_at (program_seen program.now) (node_of node.now) node.now.equations.items numbers.now (length (map memory_of built.old.kept.cells.items)) (length (map clock_seen built.old.kept.firsts.items)) (turn_in turn.now)) }
     ensures cells { OnOk result (map memory_of built.new.kept.cells.items ≡ map memory_of built.old.kept.cells.items ++ cells_at (program_seen program.now) (node_of node.now) node.now.equations.items numbers.now (turn_in turn.now)) }
     ensures firsts { OnOk result (map clock_seen built.new.kept.firsts.items ≡ map clock_seen built.old.kept.firsts.items ++ firsts_at (program_seen program.now) (node_of node.now) node.now.equations.items numbers.now (turn_in turn.now)) }
+    ensures given { OnOk result (Each GivesAny built.old.steps.items → Each GivesAny built.new.steps.items) }
 {
     match node.equations.get(turn.equation) {
         Some(equation) => {
@@ -78,6 +82,7 @@ fn make_turns(
     ensures steps { OnOk result (steps_in built.new.steps.items ≡ steps_in built.old.steps.items ++ all_steps (program_seen program.now) (node_of node.now) node.now.equations.items numbers.now (length (map memory_of built.old.kept.cells.items)) (length (map clock_seen built.old.kept.firsts.items)) (map turn_in turns.now)) }
     ensures cells { OnOk result (map memory_of built.new.kept.cells.items ≡ map memory_of built.old.kept.cells.items ++ all_cells (program_seen program.now) (node_of node.now) node.now.equations.items numbers.now (map turn_in turns.now)) }
     ensures firsts { OnOk result (map clock_seen built.new.kept.firsts.items ≡ map clock_seen built.old.kept.firsts.items ++ all_firsts (program_seen program.now) (node_of node.now) node.now.equations.items numbers.now (map turn_in turns.now)) }
+    ensures given { OnOk result (Each GivesAny built.old.steps.items → Each GivesAny built.new.steps.items) }
 {
     for turn in turns {
         make_turn(alloc, program, node, numbers, turn, built)?;
@@ -92,7 +97,9 @@ pub fn class_with(
     node: &Node,
     turns: &[Turn],
 ) -> Result<Class, Memory>
-    ensures { IfOk result (λ c. class_in c ≡ class_form (program_seen program.now) (node_of node.now) node.now.equations.items (numbers_form 0 node.now.equations.items) (map turn_in turns.now)) }
+    ensures form { IfOk result (λ c. class_in c ≡ class_form (program_seen program.now) (node_of node.now) node.now.equations.items (numbers_form 0 node.now.equations.items) (map turn_in turns.now)) }
+    ensures outputs { IfOk result (λ c. c.outputs ≡ node.now.outputs) }
+    ensures given { IfOk result (λ c. Each GivesAny c.steps.items) }
 {
     let mut built = Built {
         steps: Vec::new(alloc),

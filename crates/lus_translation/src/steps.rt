@@ -5,6 +5,8 @@ ghost use Rattle.lus_program.specs.Programs.{node_at};
 ghost use Rattle.lus_program.specs.View.{expression_of, program_seen};
 ghost use Rattle.lus_streams.specs.Equations.{place_in};
 ghost use Rattle.lus_flat_classes.specs.View.{clock_seen, memory_of, steps_of as steps_in, taken};
+ghost use Rattle.lus_values.specs.Lists.{Each};
+ghost use Rattle.lus_translation.specs.Making.{GivesAny};
 ghost use Rattle.lus_translation.specs.Forms.{answers_form, given_cells, given_firsts, given_steps, turn_cells, turn_firsts, turn_steps};
 
 use crate::code::code_of;
@@ -69,6 +71,7 @@ fn give_right(
     ensures steps { OnOk result (steps_in built.new.steps.items ≡ steps_in built.old.steps.items ++ given_steps (length (map memory_of built.old.kept.cells.items)) (length (map clock_seen built.old.kept.firsts.items)) (expression_of right.now) clock.now variables.now) }
     ensures cells { OnOk result (map memory_of built.new.kept.cells.items ≡ map memory_of built.old.kept.cells.items ++ given_cells (expression_of right.now) clock.now variables.now) }
     ensures firsts { OnOk result (map clock_seen built.new.kept.firsts.items ≡ map clock_seen built.old.kept.firsts.items ++ given_firsts (expression_of right.now) clock.now variables.now) }
+    ensures given { OnOk result (Each GivesAny built.old.steps.items → Each GivesAny built.new.steps.items) }
 {
     for variable in variables {
         let code = code_of(alloc, right, clock, &mut built.kept)?;
@@ -77,7 +80,8 @@ fn give_right(
     Ok(())
 }
 
-/// Gives variables of an equation, on its clock, what its right side is; a call of it has this number.
+/// Gives variables of an equation, on its clock, what its right side is; a call of it has this number, and is made where it
+/// gives any.
 pub fn give_turn(
     alloc: Global,
     program: &Program,
@@ -90,11 +94,15 @@ pub fn give_turn(
     ensures steps { OnOk result (steps_in built.new.steps.items ≡ steps_in built.old.steps.items ++ turn_steps (program_seen program.now) (length (map memory_of built.old.kept.cells.items)) (length (map clock_seen built.old.kept.firsts.items)) number (expression_of equation.now.right) equation.now.targets.items clock.now variables.now) }
     ensures cells { OnOk result (map memory_of built.new.kept.cells.items ≡ map memory_of built.old.kept.cells.items ++ turn_cells (expression_of equation.now.right) clock.now variables.now) }
     ensures firsts { OnOk result (map clock_seen built.new.kept.firsts.items ≡ map clock_seen built.old.kept.firsts.items ++ turn_firsts (expression_of equation.now.right) clock.now variables.now) }
+    ensures given { OnOk result (Each GivesAny built.old.steps.items → Each GivesAny built.new.steps.items) }
 {
     match &equation.right {
         Expr::Call(_, called, _) => {
             let inputs = inputs_at(program, *called);
             let targets = targets_of(alloc, &equation.targets, inputs, variables)?;
+            if targets.is_empty() {
+                return Ok(());
+            }
             built.steps.push(Step::Call(number, targets))?;
             Ok(())
         }

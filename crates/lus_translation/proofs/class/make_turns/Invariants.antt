@@ -1,6 +1,8 @@
 use Rattle.std.proofs.Common.{◌≡◌, ◌++◌, map, drop, length}
 use Rattle.lus_program.specs.View.{node_of, program_seen}
 use Rattle.lus_flat_classes.specs.View.{clock_seen, memory_of, steps_of}
+use Rattle.lus_values.specs.Lists.{Each}
+use Rattle.lus_translation.specs.Making.{GivesAny}
 use Rattle.lus_translation.specs.Forms.{all_cells, all_firsts, all_steps}
 use Rattle.lus_translation.specs.View.{turn_of}
 use Rattle.lus_translation.proofs.class.make_turns.Given as goal
@@ -19,5 +21,6 @@ invariant-loop-turn l =
     record {
       steps : steps_of l.built.steps.items ++ all_steps p f qs l.numbers (length cells) (length firsts) rest ≡ steps_of l.initial.built.steps.items ++ all_steps p f qs l.numbers (length cells_first) (length firsts_first) whole;
       cells : cells ++ all_cells p f qs l.numbers rest ≡ cells_first ++ all_cells p f qs l.numbers whole;
+      given : Each GivesAny l.initial.built.steps.items → Each GivesAny l.built.steps.items;
       firsts : firsts ++ all_firsts p f qs l.numbers rest ≡ firsts_first ++ all_firsts p f qs l.numbers whole;
     }

@@ -1,7 +1,10 @@
-use Rattle.std.proofs.Common.{◌≡◌, ◌∙◌, ◌+◌, ◌<◌, ◌++◌, ◌∷◌, [], suc, map, drop, length, get_or, sym, ap, arith, drop-cons, append_assoc, length-append}
+use Rattle.std.proofs.Common.{◌≡◌, ◌∙◌, ◌+◌, ◌<◌, ◌++◌, ◌∷◌, [], suc, map, drop, length, get_or, sym, ap, subst, arith, drop-cons, append_assoc, length-append}
 use Rattle.lus_program.specs.View.{expression_of}
 use Rattle.lus_flat_classes.specs.View.{clock_seen, memory_of, steps_of}
 use Rattle.lus_flat_classes.specs.declared.class.Step.TheVariants as variants
+use Rattle.lus_values.specs.Lists.{Each}
+use Rattle.lus_streams.proofs.Lists.{each_append}
+use Rattle.lus_translation.specs.Making.{GivesAny}
 use Rattle.lus_translation.specs.Forms.{given_cells, given_firsts, given_steps, kept_cells, kept_firsts}
 use Rattle.lus_translation.proofs.Giving.{given_next, steps_pushed}
 use Rattle.lus_translation.proofs.steps.give_right.Goals as goal
@@ -32,6 +35,7 @@ loop-variable-preserved c =
       cells =
           ap (λ l. l ++ given_cells e k (drop (i + 1) xs)) more_cells ∙ append_assoc cells (kept_cells e k) (given_cells e k (drop (i + 1) xs))
           ∙ ap (λ l. cells ++ given_cells e k l) (sym rest) ∙ c.loop-variable.invariant.cells;
+      given = λ first. subst (Each GivesAny) (sym c.in_ok-push.ensures.items) (each_append GivesAny ss (variants.Give x c.in_ok-code.code ∷ []) (c.loop-variable.invariant.given first) (tt, tt));
       firsts =
           ap (λ l. l ++ given_firsts e k (drop (i + 1) xs)) more_firsts ∙ append_assoc firsts (kept_firsts e k) (given_firsts e k (drop (i + 1) xs))
           ∙ ap (λ l. firsts ++ given_firsts e k l) (sym rest) ∙ c.loop-variable.invariant.firsts;

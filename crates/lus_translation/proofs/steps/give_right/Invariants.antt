@@ -1,6 +1,8 @@
 use Rattle.std.proofs.Common.{◌≡◌, ◌++◌, map, drop, length}
 use Rattle.lus_program.specs.View.{expression_of}
 use Rattle.lus_flat_classes.specs.View.{clock_seen, memory_of, steps_of}
+use Rattle.lus_values.specs.Lists.{Each}
+use Rattle.lus_translation.specs.Making.{GivesAny}
 use Rattle.lus_translation.specs.Forms.{given_steps, given_cells, given_firsts}
 use Rattle.lus_translation.proofs.steps.give_right.Given as goal
 
@@ -15,5 +17,6 @@ invariant-loop-variable l =
     record {
       steps : steps_of l.built.steps.items ++ given_steps (length cells) (length firsts) e l.clock rest ≡ steps_of l.initial.built.steps.items ++ given_steps (length cells_first) (length firsts_first) e l.clock l.variables;
       cells : cells ++ given_cells e l.clock rest ≡ cells_first ++ given_cells e l.clock l.variables;
+      given : Each GivesAny l.initial.built.steps.items → Each GivesAny l.built.steps.items;
       firsts : firsts ++ given_firsts e l.clock rest ≡ firsts_first ++ given_firsts e l.clock l.variables;
     }
