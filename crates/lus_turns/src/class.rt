@@ -3,8 +3,7 @@
 ghost use Rattle.std.specs.Prelude.{IfOk};
 ghost use Rattle.lus_program.specs.View.{node_of, program_seen};
 ghost use Rattle.lus_order.specs.Orders.{OrdersVariables};
-ghost use Rattle.lus_classes.specs.ClassesOf.{IsClassOf};
-ghost use Rattle.lus_flat_classes.specs.View.{class_of as class_in};
+ghost use Rattle.lus_turns.specs.Turned.{IsTurned};
 ghost use Rattle.lus_normal_nodes.specs.Ready.{IsReady};
 ghost use Rattle.lus_normal_nodes.specs.Ready.{IsDefined};
 
@@ -25,7 +24,7 @@ pub fn class_of(
     requires ready { IsReady (program_seen program.now) (node_of node.now) }
     requires defined { IsDefined (program_seen program.now) (node_of node.now) }
     requires order { OrdersVariables (node_of node.now) order.now }
-    ensures { IfOk result (λ c. IsClassOf (program_seen program.now) (node_of node.now) (class_in c)) }
+    ensures { IfOk result (λ c. IsTurned (program_seen program.now) (node_of node.now) c) }
 {
     let turns = turns_of(alloc, program, node, order)?;
     let class = class_with(alloc, program, node, &turns)?;
