@@ -1,9 +1,15 @@
 -- Parts of calls one behind another are in order, and end within the whole.
-use Rattle.std.proofs.Common.{◌≡◌, ℕ, ◌+◌, ◌≤◌, List, [], ◌∷◌, arith}
+use Rattle.std.proofs.Common.{◌≡◌, ℕ, ◌+◌, ◌≤◌, max, List, [], ◌∷◌, arith}
 use Rattle.lus_values.specs.Lists.{item, Each}
 use Rattle.lus_flat_classes.specs.declared.class.Extent.{Extent}
 use Rattle.lus_flat_classes.specs.declared.class.Call.{Call}
-use Rattle.lus_turns.specs.Placing.{no_room, together, placed_calls, parts_end, IsWithin, PlacedAreWell}
+use Rattle.lus_places.specs.Placing.{no_room, together, placed_calls, parts_end, PlacedAreWell}
+
+-- one extent is within another
+record IsWithin (a b : Extent) : Type 0 where
+  cells : a.cells ≤ b.cells
+  firsts : a.firsts ≤ b.firsts
+  variables : a.variables ≤ b.variables
 
 -- the parts end behind the place from which they stand
 ends_behind : (rooms : List Extent) (from : Extent) (qs : List Call) → IsWithin from (parts_end rooms from qs)
@@ -20,4 +26,11 @@ placed_are_well rooms from [] = record { order = tt; ends = tt }
 placed_are_well rooms from (q ∷ qs) =
     let next = together from (item no_room rooms q.node) in
     let rest = placed_are_well rooms next qs in
-    record { order = (omega arith, omega arith, rest.order); ends = (ends_behind rooms next qs, rest.ends) }
+    let behind = ends_behind rooms next qs in
+    let a = behind.cells in
+    let b = behind.firsts in
+    let d = behind.variables in
+    record {
+      order = (omega arith, omega arith, rest.order);
+      ends = (record { cells = omega (arith, a); firsts = omega (arith, b); variables = omega (arith, d) }, rest.ends);
+    }

@@ -1,0 +1,4 @@
+pub mod Placed
+pub mod CallOrders
+pub mod Underway
+pub mod Ready

@@ -1,0 +1,61 @@
+use Rattle.std.proofs.Common.{◌≡◌, ◌∙◌, ◌+◌, ◌*◌, ◌<◌, ◌≤◌, ℕ, List, length, take, take_all, Contains, Some, slice_get, get_or, ap, sym, subst, arith, refl, rules}
+use Rattle.std.proofs.lemmas.List.{get_or_default, length-map}
+use Rattle.std.proofs.lemmas.Option.{slice_get-get_or}
+use Rattle.lus_values.specs.Lists.{item}
+use Rattle.lus_graph.specs.Ways.{IsOrder}
+use Rattle.lus_flat_classes.specs.declared.class.Class.{Class}
+use Rattle.lus_places.specs.Shaped.{class_uses, nodes_of}
+use Rattle.lus_places.proofs.Underway.{IsUnderway, underway_step}
+use Rattle.lus_places.proofs.Ready.{all_ready}
+use Rattle.lus_places.proofs.placing.place_in_order.Goals as goal
+
+-- what stands in an order is a class
+in_order : (classes : List Class) (order : List ℕ) (i : ℕ) → IsOrder (class_uses classes) order → i < length order → get_or order i 0 < length classes
+in_order classes order i is lt =
+    let x = get_or order i 0 in
+    let low = is.within x (i, lt, get_or_default order i x 0 lt) in
+    let long = length-map classes nodes_of in
+    omega (arith, low, long)
+
+pub bounds-classes-place : goal.bounds-classes-place
+bounds-classes-place c =
+    let low = in_order c.args.classes.now c.args.order.now c.loop-place.place-index c.requires.order c.loop-place-test.true in
+    let long = c.loop-place.auto.classes in
+    omega (arith, low, long)
+
+pub offset_bounds-classes-place : goal.offset_bounds-classes-place
+offset_bounds-classes-place c =
+    let low = in_order c.args.classes.now c.args.order.now c.loop-place.place-index c.requires.order c.loop-place-test.true in
+    let long = c.loop-place.auto.classes in
+    let within : get_or c.args.order.now c.loop-place.place-index 0 < length c.loop-place.classes = omega (arith, low, long) in
+    search rules
+
+pub index_mut-requires : goal.index_mut-requires
+index_mut-requires c =
+    let low = in_order c.args.classes.now c.args.order.now c.loop-place.place-index c.requires.order c.loop-place-test.true in
+    let width = c.loop-place.invariant.width in
+    let long = c.loop-place.rooms.ok in
+    omega (arith, low, width, long)
+
+pub loop-place-preserved : goal.loop-place-preserved
+loop-place-preserved c =
+    let old = c.args.classes.now in
+    let order = c.args.order.now in
+    let i = c.loop-place.place-index in
+    let low = in_order old order i c.requires.order c.loop-place-test.true in
+    let long = c.loop-place.auto.classes in
+    let within : get_or order i 0 < length c.loop-place.classes = omega (arith, low, long) in
+    let one = c.index-classes-place.result in
+    let here = slice_get-get_or c.loop-place.classes (get_or order i 0) one within in
+    let value = c.deref.ensures.value in
+    underway_step old c.loop-place.classes c.loop-place.rooms.items order i (get_or c.loop-place.classes (get_or order i 0) one) c.place_class.new.class c.in-Some.room c.requires.order c.requires.shaped c.loop-place-test.true c.loop-place.invariant here
+    (rw value at c.in-Some.ensures)
+
+pub returns-clause-ready : goal.returns-clause-ready
+returns-clause-ready c =
+    let old = c.args.classes.now in
+    let order = c.args.order.now in
+    let end : length order ≤ c.loop-place.place-index = omega arith in
+    let whole : take c.loop-place.place-index order ≡ order = take_all c.loop-place.place-index order end in
+    all_ready old c.loop-place.classes c.loop-place.rooms.items order (subst (IsUnderway old c.loop-place.classes c.loop-place.rooms.items) whole c.loop-place.invariant) c.requires.shaped
+    (λ g lt. c.requires.order.whole g (let long = length-map old nodes_of in omega (arith, lt, long)))

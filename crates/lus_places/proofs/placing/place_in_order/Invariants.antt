@@ -1,0 +1,6 @@
+use Rattle.std.proofs.Common.{take}
+use Rattle.lus_places.proofs.Underway.{IsUnderway}
+use Rattle.lus_places.proofs.placing.place_in_order.Given as goal
+
+abbrev pub invariant-loop-place : goal.invariant-loop-place
+invariant-loop-place l = IsUnderway l.initial.classes l.classes l.rooms.items (take l.place-index l.order)

@@ -1,0 +1,77 @@
+-- Where the parts of calls stand: one behind another, each as long as the part of the called node. Variables are kept during a
+-- step alone and calls are made one after the other, so all calls of a node share the places of theirs.
+use Rattle.std.specs.Prelude.{◌≡◌, Option, Some, None, ℕ, ◌+◌, ◌≤◌, max, List, [], ◌∷◌, Vec, length}
+use Rattle.std.specs.Global.{Global}
+use Rattle.lus_values.specs.Lists.{item, Each}
+use Rattle.lus_flat_classes.specs.declared.class.Extent.{Extent}
+use Rattle.lus_flat_classes.specs.declared.class.Call.{Call}
+use Rattle.lus_flat_classes.specs.declared.class.Class.{Class}
+use Rattle.lus_flat_classes.specs.Places.{InOrder}
+
+-- room for nothing
+abbrev pub no_room : Extent
+no_room = record { cells = 0; firsts = 0; variables = 0 }
+
+-- room for two parts, one behind the other, which share the places of variables
+abbrev pub together : Extent → Extent → Extent
+together a b = record { cells = a.cells + b.cells; firsts = a.firsts + b.firsts; variables = max a.variables b.variables }
+
+-- the part of a call that stands behind these parts begins there
+abbrev pub offset_behind : Extent → Extent
+offset_behind from = record { cells = from.cells; firsts = from.firsts; variables = 0 }
+
+-- the calls with their parts from a place on, where nodes have these extents
+abbrev pub placed_calls : List Extent → (from : Extent) → List Call → List Call
+placed_calls rooms from [] = []
+placed_calls rooms from (q ∷ qs) =
+    record q { offset = offset_behind from; extent = item no_room rooms q.node } ∷ placed_calls rooms (together from (item no_room rooms q.node)) qs
+
+-- room for the parts from a place on
+abbrev pub parts_end : List Extent → (from : Extent) → List Call → Extent
+parts_end rooms from [] = from
+parts_end rooms from (q ∷ qs) = parts_end rooms (together from (item no_room rooms q.node)) qs
+
+-- room for a class's own places and the parts behind them
+abbrev pub room_with : Class → Extent → Extent
+room_with c parts =
+    record { cells = length c.cells.items + parts.cells; firsts = length c.firsts.items + parts.firsts; variables = length c.clocks.items + parts.variables }
+
+-- the part of a call ends within room for parts
+pub record EndsWithin (parts : Extent) (q : Call) : Type 0 where
+  pub cells : q.offset.cells + q.extent.cells ≤ parts.cells
+  pub firsts : q.offset.firsts + q.extent.firsts ≤ parts.firsts
+  pub variables : q.offset.variables + q.extent.variables ≤ parts.variables
+
+-- parts that are placed so are in order and end within the whole
+pub record AreWellPlaced (parts from : Extent) (qs : List Call) : Type 0 where
+  pub order : InOrder from.cells from.firsts qs
+  pub ends : Each (EndsWithin parts) qs
+
+abbrev pub PlacedAreWell : Type 0
+PlacedAreWell = (rooms : List Extent) (from : Extent) (qs : List Call) → AreWellPlaced (parts_end rooms from qs) from (placed_calls rooms from qs)
+
+-- an extent, if it is one, is room for both
+abbrev pub IsTogether : Extent → Extent → Option Extent → Type 0
+IsTogether a b None = Unit {0}
+IsTogether a b (Some e) = e ≡ together a b
+
+-- an extent, if it is one, is room for a class and these parts
+abbrev pub IsRoomWith : Class → Extent → Option Extent → Type 0
+IsRoomWith c parts None = Unit {0}
+IsRoomWith c parts (Some e) = e ≡ room_with c parts
+
+-- calls have their parts, and this is room for them
+abbrev pub ArePlaced : List Extent → (old new : List Call) → Option Extent → Type 0
+ArePlaced rooms old new None = Unit {0}
+ArePlaced rooms old new (Some parts) = (new ≡ placed_calls rooms no_room old) × (parts ≡ parts_end rooms no_room old)
+
+-- a class with places for its calls, where nodes have these extents, and with its own extent
+pub record IsPlaced (rooms : List Extent) (old new : Class) (room : Extent) : Type 0 where
+  pub calls : Vec Call Global
+  pub items : calls.items ≡ placed_calls rooms no_room old.calls.items
+  pub extent : room ≡ room_with old (parts_end rooms no_room old.calls.items)
+  pub same : new ≡ record old { calls = calls; extent = room }
+
+abbrev pub IsPlacedIn : List Extent → (old new : Class) → Option Extent → Type 0
+IsPlacedIn rooms old new None = Unit {0}
+IsPlacedIn rooms old new (Some room) = IsPlaced rooms old new room

@@ -1,0 +1,83 @@
+//! Places for all classes of a program, those of called nodes first.
+
+ghost use Rattle.std.specs.Prelude.{◌≡◌, map, IfOk, OnOk};
+ghost use Rattle.lus_graph.specs.Ways.{IsOrder};
+ghost use Rattle.lus_graph.specs.Walks.{uses_of};
+ghost use Rattle.lus_flat_classes.specs.Turns.{AreReady};
+ghost use Rattle.lus_flat_classes.specs.View.{classes_of};
+ghost use Rattle.lus_places.specs.Shaped.{AreNested, AreShaped, class_uses};
+
+use crate::room::place_class;
+use lus_flat_classes::{Call, Class, Extent};
+use lus_graph::{GraphError, order_of};
+use lus_values::Memory;
+use std::alloc::Global;
+
+/// The nodes of calls.
+fn nodes_of(alloc: Global, calls: &[Call]) -> Result<Vec<u32>, Memory>
+    ensures { IfOk result (λ nodes. nodes.items ≡ map (λ q. q.node) calls.now) }
+{
+    let mut nodes = Vec::new(alloc);
+    for call in calls {
+        nodes.push(call.node)?;
+    }
+    Ok(nodes)
+}
+
+/// The nodes that each class calls.
+fn uses_in(alloc: Global, classes: &[Class]) -> Result<Vec<Vec<u32>>, Memory>
+    ensures { IfOk result (λ uses. uses_of uses.items ≡ class_uses classes.now) }
+{
+    let mut uses = Vec::new(alloc);
+    for class in classes {
+        uses.push(nodes_of(alloc, &class.calls)?)?;
+    }
+    Ok(uses)
+}
+
+/// All classes in an order in which each comes after those that it calls.
+fn order_of_classes(alloc: Global, classes: &[Class]) -> Result<Vec<usize>, Memory>
+    requires { AreNested (classes_of classes.now) }
+    ensures { IfOk result (λ order. IsOrder (class_uses classes.now) order.items) }
+{
+    let uses = uses_in(alloc, classes)?;
+    match order_of(alloc, &uses) {
+        Ok(order) => Ok(order),
+        Err(GraphError::Memory) => Err(Memory),
+        Err(GraphError::Cycle(_)) => unreachable!(),
+    }
+}
+
+/// Gives the classes their places in an order in which each comes after those that it calls.
+fn place_in_order(alloc: Global, order: &[usize], classes: &mut [Class]) -> Result<(), Memory>
+    requires shaped { AreShaped classes.old }
+    requires order { IsOrder (class_uses classes.old) order.now }
+    ensures same { OnOk result (classes_of classes.new ≡ classes_of classes.old) }
+    ensures ready { OnOk result (AreReady classes.new) }
+{
+    let none = Extent {
+        cells: 0,
+        firsts: 0,
+        variables: 0,
+    };
+    let mut rooms = vec![in alloc; none; classes.len()]?;
+    for place in order {
+        // No part of an accepted program is so long: the limit on state cells excludes it, which isn't proved.
+        let Some(room) = place_class(&mut classes[*place], &rooms) else {
+            return Err(Memory);
+        };
+        rooms[*place] = room;
+    }
+    Ok(())
+}
+
+/// Gives the parts of calls their places and the classes their extents, after which the classes can be run.
+pub fn place_classes(alloc: Global, classes: &mut [Class]) -> Result<(), Memory>
+    requires shaped { AreShaped classes.old }
+    requires nested { AreNested (classes_of classes.old) }
+    ensures same { OnOk result (classes_of classes.new ≡ classes_of classes.old) }
+    ensures ready { OnOk result (AreReady classes.new) }
+{
+    let order = order_of_classes(alloc, classes)?;
+    place_in_order(alloc, &order, classes)
+}
