@@ -10,12 +10,13 @@ ghost use Rattle.lus_simulation.specs.Checked.{IsChecked};
 ghost use Rattle.lus_cells.specs.Cells.{AreStateCells, FitsCells};
 ghost use Rattle.lus_code.specs.Codes.{IsCodeOf, program_of};
 
+use crate::classes::classes_of_nodes;
+use lus_cells::cells_of_nodes;
 use lus_flat_classes::Class;
 use lus_normal::Normal;
 use lus_order::Ordered;
 use lus_program::{NodeId, Program};
 use lus_syntax::Refusal;
-use lus_values::Memory;
 use std::alloc::Global;
 use std::marker::Model;
 
@@ -91,11 +92,17 @@ impl Code {
 
 /// Translates a program in normal form. A program with a node that has more than 100,000 state cells is refused at that node's
 /// name.
-pub fn translate(_alloc: Global, normal: Normal) -> Result<Code, Refusal>
+pub fn translate(alloc: Global, normal: Normal) -> Result<Code, Refusal>
     ensures same { IfOk result (λ c. c.source ≡ normal.source) }
     ensures ok { OnOk result (FitsCells (program_seen normal.source.program)) }
     ensures refused { IfErr result (λ e. e.number ≢ numbers.Memory → (e.number ≡ numbers.Limit) × (FitsCells (program_seen normal.source.program) → ⊥)) }
 {
-    let _source = normal;
-    Err(Refusal::from(Memory))
+    let cells = cells_of_nodes(alloc, normal.source().program())?;
+    let classes = classes_of_nodes(alloc, normal.program(), normal.orders())?;
+    let source = normal.into_source();
+    Ok(Code {
+        source,
+        classes,
+        cells,
+    })
 }

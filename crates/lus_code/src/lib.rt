@@ -1,6 +1,7 @@
 //! The code of a program: a class for each node, with places for all that an instance keeps.
 #![tactic(auto)]
 
+mod classes;
 mod code;
 
 pub use code::{Code, translate};

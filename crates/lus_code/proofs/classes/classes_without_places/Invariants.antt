@@ -1,0 +1,6 @@
+use Rattle.lus_program.specs.View.{program_seen}
+use Rattle.lus_code.specs.Made.{AreFirstTurned}
+use Rattle.lus_code.proofs.classes.classes_without_places.Given as goal
+
+abbrev pub invariant-loop-place : goal.invariant-loop-place
+invariant-loop-place l = AreFirstTurned (program_seen l.program) l.place l.classes.items

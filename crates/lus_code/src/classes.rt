@@ -1,0 +1,53 @@
+//! The classes of a program in normal form.
+
+ghost use Rattle.std.specs.Prelude.{◌≡◌, length, map, IfOk};
+ghost use Rattle.lus_program.specs.View.{program_seen};
+ghost use Rattle.lus_classes.specs.ClassesOf.{AreClassesOf};
+ghost use Rattle.lus_normal_nodes.specs.Ready.{AreReady as NodesAreReady};
+ghost use Rattle.lus_order.specs.Orders.{AreOrders};
+ghost use Rattle.lus_flat_classes.specs.Turns.{AreReady};
+ghost use Rattle.lus_flat_classes.specs.View.{classes_of};
+ghost use Rattle.lus_code.specs.Made.{AreTurned, HasSource};
+
+use lus_flat_classes::Class;
+use lus_places::place_classes;
+use lus_program::Program;
+use lus_turns::class_of;
+use lus_values::Memory;
+use std::alloc::Global;
+
+/// The class of each node of a program in normal form, whose variables have these orders, without places yet.
+fn classes_without_places(
+    alloc: Global,
+    program: &Program,
+    orders: &[Vec<u32>],
+) -> Result<Vec<Class>, Memory>
+    requires ready { NodesAreReady (program_seen program.now) }
+    requires orders { AreOrders (program_seen program.now) (map (λ order. order.items) orders.now) }
+    ensures { IfOk result (λ classes. AreTurned (program_seen program.now) classes.items) }
+{
+    let mut classes = Vec::new(alloc);
+    for (place, node) in program.nodes.iter().enumerate() {
+        let class = class_of(alloc, program, node, &orders[place])?;
+        classes.push(class)?;
+    }
+    Ok(classes)
+}
+
+/// The class of each node of a normal form of a checked program, whose variables have these orders, with its places.
+pub fn classes_of_nodes(
+    alloc: Global,
+    program: &Program,
+    orders: &[Vec<u32>],
+) -> Result<Vec<Class>, Memory>
+    requires source { HasSource (program_seen program.now) }
+    requires ready { NodesAreReady (program_seen program.now) }
+    requires orders { AreOrders (program_seen program.now) (map (λ order. order.items) orders.now) }
+    ensures belong { IfOk result (λ classes. AreClassesOf (program_seen program.now) (classes_of classes.items)) }
+    ensures size { IfOk result (λ classes. length classes.items ≡ length (program_seen program.now).nodes) }
+    ensures ready { IfOk result (λ classes. AreReady classes.items) }
+{
+    let mut classes = classes_without_places(alloc, program, orders)?;
+    place_classes(alloc, &mut classes)?;
+    Ok(classes)
+}
