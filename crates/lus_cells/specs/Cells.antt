@@ -1,74 +1,71 @@
 -- State cells: how much an instance of a node keeps from one instant to the next. That they are limited, and how they are
 -- counted, is this project's choice.
-use Rattle.std.specs.Prelude.{◌≡◌, ◌≤◌, ◌+◌, ℕ, max, sum_by, List, [], ◌∷◌, length, Option, Some, None}
+use Rattle.std.specs.Prelude.{◌≡◌, ◌<◌, ◌≤◌, ◌+◌, ℕ, max, sum_by, List, length, Option, Some, None, slice_get}
 use Rattle.lus_values.specs.Lists.{item, Each, Below}
+use Rattle.lus_program.specs.declared.node.Node.{Node as StoredNode}
+use Rattle.lus_program.specs.declared.node.Program.{Program as StoredProgram}
 use Rattle.lus_program.specs.declared.types.Kind.{Kind}
 use Rattle.lus_program.specs.declared.types.Kind.TheVariants as kinds
 use Rattle.lus_program.specs.Programs.{Expression, literal, variable, operate, pre, arrow, fby, when, merge, call, Operands, none, more, Declared, alias, enumeration, structure, Node, Program, node_at}
+use Rattle.lus_program.specs.View.{program_seen}
 use Rattle.lus_meaning.specs.Resolved.{declared_in, kind_in}
 
 -- the most state cells of a node
 abbrev pub most_cells : ℕ
 most_cells = 100000
 
--- the leaves of a type, where declared types have these: bool, int and an enumeration have one
-abbrev pub kind_leaves : List ℕ → Kind → ℕ
-kind_leaves leaves kinds.Bool = 1
-kind_leaves leaves kinds.Int = 1
-kind_leaves leaves (kinds.Enum t) = 1
-kind_leaves leaves (kinds.Struct t) = item 0 leaves t
+-- the leaves of a type, where declared type t has `at t`: bool, int and an enumeration have one
+abbrev pub kind_leaves : (ℕ → ℕ) → Kind → ℕ
+kind_leaves at kinds.Bool = 1
+kind_leaves at kinds.Int = 1
+kind_leaves at (kinds.Enum t) = 1
+kind_leaves at (kinds.Struct t) = at t
 
 -- a structure has those of its fields
-abbrev pub declared_leaves : List ℕ → Declared → ℕ
-declared_leaves leaves (alias k) = kind_leaves leaves k
-declared_leaves leaves (enumeration cs) = 1
-declared_leaves leaves (structure fs) = sum_by (λ g. kind_leaves leaves g.kind) fs
+abbrev pub declared_leaves : (ℕ → ℕ) → Declared → ℕ
+declared_leaves at (alias k) = kind_leaves at k
+declared_leaves at (enumeration cs) = 1
+declared_leaves at (structure fs) = sum_by (λ g. kind_leaves at g.kind) fs
 
--- the leaves of the declared types
-pub record AreLeaves (p : Program) (leaves : List ℕ) : Type 0 where
-  pub size : length leaves ≡ length p.types
-  pub each : Below (length p.types) (λ t. item 0 leaves t ≡ declared_leaves leaves (declared_in p t))
+-- the leaves of each declared type
+abbrev pub AreLeaves : Program → (ℕ → ℕ) → Type 0
+AreLeaves p at = (t : ℕ) → at t ≡ declared_leaves at (declared_in p t)
 
 -- the leaves of what an expression gives
-abbrev pub leaves_of : List ℕ → Option Kind → ℕ
-leaves_of leaves None = 0
-leaves_of leaves (Some k) = kind_leaves leaves k
+abbrev pub leaves_given : (ℕ → ℕ) → Option Kind → ℕ
+leaves_given at None = 0
+leaves_given at (Some k) = kind_leaves at k
 
--- where declared types have these leaves, and nodes these cells
-module _ (p : Program) (leaves cells : List ℕ) where
-  -- the cells of a call: those of the called node, but at least one
-  abbrev pub called_cells : ℕ → ℕ
-  called_cells g = max 1 (item 0 cells g)
+-- The cells of an expression, where what an expression gives has `size` leaves and node g has `at g` cells: for each `pre`
+-- and each `fby` the leaves of its type, one for each `->` and each `fby`, and for each call the cells of the called node,
+-- but at least one.
+module _ (size : Expression → ℕ) (at : ℕ → ℕ) where
+  abbrev mutual
+    pub expression_cells : Expression → ℕ
+    expression_cells (literal v) = 0
+    expression_cells (variable x) = 0
+    expression_cells (operate o es) = operand_cells es
+    expression_cells (pre a) = size a + expression_cells a
+    expression_cells (arrow a b) = 1 + (expression_cells a + expression_cells b)
+    expression_cells (fby a b) = (1 + size a) + (expression_cells a + expression_cells b)
+    expression_cells (when t a) = expression_cells a
+    expression_cells (merge x bs) = operand_cells bs
+    expression_cells (call g n es) = max 1 (at g) + operand_cells es
 
-  -- the cells of an expression of node f: for each `pre` and each `fby` the leaves of its type, one for each `->` and each
-  -- `fby`, and those of each call
-  module _ (f : Node) where
-    abbrev mutual
-      pub expression_cells : Expression → ℕ
-      expression_cells (literal v) = 0
-      expression_cells (variable x) = 0
-      expression_cells (operate o es) = operand_cells es
-      expression_cells (pre a) = leaves_of leaves (kind_in p f a) + expression_cells a
-      expression_cells (arrow a b) = 1 + (expression_cells a + expression_cells b)
-      expression_cells (fby a b) = (1 + leaves_of leaves (kind_in p f a)) + (expression_cells a + expression_cells b)
-      expression_cells (when t a) = expression_cells a
-      expression_cells (merge x bs) = operand_cells bs
-      expression_cells (call g n es) = called_cells g + operand_cells es
+    pub operand_cells : Operands → ℕ
+    operand_cells none = 0
+    operand_cells (more e es) = expression_cells e + operand_cells es
 
-      pub operand_cells : Operands → ℕ
-      operand_cells none = 0
-      operand_cells (more e es) = expression_cells e + operand_cells es
-
-  -- the cells of a node
-  abbrev pub node_cells : Node → ℕ
-  node_cells f = sum_by (λ q. expression_cells f q.right) f.equations
+-- the cells of a node, where declared types have these leaves and nodes these cells
+abbrev pub node_cells : Program → (ℕ → ℕ) → (ℕ → ℕ) → Node → ℕ
+node_cells p leaves at f = sum_by (λ q. expression_cells (λ e. leaves_given leaves (kind_in p f e)) at q.right) f.equations
 
 -- the cells of the nodes. Since no node calls itself, directly or round, there is one such list
 pub record AreCells (p : Program) (cells : List ℕ) : Type 0 where
-  pub leaves : List ℕ
+  pub leaves : ℕ → ℕ
   pub leaves_are : AreLeaves p leaves
   pub size : length cells ≡ length p.nodes
-  pub each : Below (length p.nodes) (λ f. item 0 cells f ≡ node_cells p leaves cells (node_at p f))
+  pub each : Below (length p.nodes) (λ f. item 0 cells f ≡ node_cells p leaves (item 0 cells) (node_at p f))
 
 -- the cells of the nodes, none of which has too many
 pub record AreStateCells (p : Program) (cells : List ℕ) : Type 0 where
@@ -78,3 +75,16 @@ pub record AreStateCells (p : Program) (cells : List ℕ) : Type 0 where
 -- no node has too many state cells
 abbrev pub FitsCells : Program → Type 0
 FitsCells p = (cells : List ℕ) × AreStateCells p cells
+
+-- node f has too many
+abbrev pub HasTooMany : Program → ℕ → Type 0
+HasTooMany p f = (cells : List ℕ) × AreCells p cells × (most_cells < item 0 cells f)
+
+-- at this line and column stands the name of a node that has too many
+pub record NamesTooMany (p : StoredProgram) (line column : ℕ) : Type 0 where
+  pub number : ℕ
+  pub node : StoredNode
+  pub found : slice_get p.nodes.items number ≡ Some node
+  pub line_is : line ≡ node.place.line
+  pub column_is : column ≡ node.place.column
+  pub many : HasTooMany (program_seen p) number

@@ -1,1 +1,4 @@
+pub mod Calls
 pub mod Cells
+pub mod Given
+pub mod Uses

@@ -1,22 +1,54 @@
 //! The count of every node's cells.
 
 ghost use Rattle.std.specs.Prelude.{◌≡◌, ◌≢◌, IfOk, IfErr};
+ghost use Rattle.lus_graph.specs.Ways.{IsOrder};
 ghost use Rattle.lus_syntax.specs.declared.refusal.RefusalNumber.TheVariants as numbers;
 ghost use Rattle.lus_program.specs.View.{program_seen};
-ghost use Rattle.lus_meaning.specs.Resolved.{Resolved};
-ghost use Rattle.lus_cells.specs.Cells.{AreStateCells, FitsCells};
+ghost use Rattle.lus_meaning.specs.Resolved.{Resolved, program_uses};
+ghost use Rattle.lus_cells.specs.Cells.{AreStateCells, FitsCells, NamesTooMany};
+ghost use Rattle.lus_cells.specs.Uses.{AreCappedLeaves};
 
+use crate::leaves::leaves_along;
+use crate::orders::{order_of_nodes, order_of_types};
+use crate::weights::node_cells;
 use lus_program::Program;
-use lus_syntax::Refusal;
-use lus_values::Memory;
+use lus_syntax::{Refusal, RefusalNumber};
 use std::alloc::Global;
 
+/// The most state cells of a node.
+const MOST_CELLS: u32 = 100_000;
+
 /// The state cells of each node, in the program's order. A program with a node that has more than 100,000 is refused at that
-/// node's name.
-pub fn cells_of_nodes(_alloc: Global, _program: &Program) -> Result<Vec<u32>, Refusal>
-    requires { Resolved (program_seen _program.now) }
-    ensures ok { IfOk result (λ cells. AreStateCells (program_seen _program.now) cells.items) }
-    ensures refused { IfErr result (λ e. e.number ≢ numbers.Memory → (e.number ≡ numbers.Limit) × (FitsCells (program_seen _program.now) → ⊥)) }
+/// node's name. Linear in the source.
+pub fn cells_of_nodes(alloc: Global, program: &Program) -> Result<Vec<u32>, Refusal>
+    requires { Resolved (program_seen program.now) }
+    ensures ok { IfOk result (λ cells. AreStateCells (program_seen program.now) cells.items) }
+    ensures refused { IfErr result (λ e. e.number ≢ numbers.Memory → (e.number ≡ numbers.Limit) × (FitsCells (program_seen program.now) → ⊥)) }
+    ensures placed { IfErr result (λ e. e.number ≢ numbers.Memory → NamesTooMany program.now e.line e.column) }
 {
-    Err(Refusal::from(Memory))
+    let types = order_of_types(alloc, program)?;
+    let leaves = leaves_along(alloc, program, &types)?;
+    let nodes = order_of_nodes(alloc, program)?;
+    cells_along(alloc, program, &leaves, &nodes)
+}
+
+/// The state cells of each node, by an order in which the nodes that one calls stand before it.
+fn cells_along(alloc: Global, program: &Program, leaves: &[u32], order: &[usize]) -> Result<Vec<u32>, Refusal>
+    requires resolved { Resolved (program_seen program.now) }
+    requires leaves { AreCappedLeaves (program_seen program.now) leaves.now }
+    requires order { IsOrder (program_uses (program_seen program.now)) order.now }
+    ensures ok { IfOk result (λ cells. AreStateCells (program_seen program.now) cells.items) }
+    ensures refused { IfErr result (λ e. e.number ≢ numbers.Memory → (e.number ≡ numbers.Limit) × (FitsCells (program_seen program.now) → ⊥)) }
+    ensures placed { IfErr result (λ e. e.number ≢ numbers.Memory → NamesTooMany program.now e.line e.column) }
+{
+    let mut cells = vec![in alloc; 0u32; program.nodes.len()]?;
+    for place in order {
+        let node = &program.nodes[*place];
+        let count = node_cells(program, node, leaves, &cells);
+        if count > MOST_CELLS {
+            return Err(Refusal::new(RefusalNumber::Limit, node.place.line, node.place.column));
+        }
+        cells[*place] = count;
+    }
+    Ok(cells)
 }

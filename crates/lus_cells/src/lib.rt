@@ -2,5 +2,9 @@
 #![tactic(auto)]
 
 mod counting;
+mod kinds;
+mod leaves;
+mod orders;
+mod weights;
 
 pub use counting::cells_of_nodes;

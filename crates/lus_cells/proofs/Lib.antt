@@ -1,0 +1,7 @@
+pub mod Fields
+pub mod AlongOrders
+pub mod Numbering
+pub mod KindsGiven
+pub mod Related
+pub mod LeavesAlong
+pub mod CellsAlong

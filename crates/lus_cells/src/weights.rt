@@ -1,0 +1,100 @@
+//! One walk over an expression for its type and its cells.
+
+ghost use Rattle.std.specs.Prelude.{◌≡◌, ◌+◌, max, min, sum_by};
+ghost use Rattle.lus_values.specs.Lists.{item};
+ghost use Rattle.lus_program.specs.declared.types.Kind.TheVariants.{Bool as OfBool};
+ghost use Rattle.lus_program.specs.View.{expression_of, node_of, operands_of, program_seen};
+ghost use Rattle.lus_cells.specs.Given.{all_counted, counted, given, last_given};
+ghost use Rattle.lus_cells.specs.Uses.{most};
+
+use crate::kinds::{operator_kind, output_kind, value_kind, variable_kind};
+use crate::leaves::kind_leaves;
+use lus_program::{Expr, Kind, Node, Program};
+
+/// What an expression gives, and its cells, or the greatest `u32` where it has more.
+#[derive(Clone, Copy)]
+struct Weight {
+    kind: Kind,
+    cells: u32,
+}
+
+impl Weight {
+    /// The same type, and so many more cells.
+    fn with(self, more: u32) -> Weight
+        ensures kind { result.kind ≡ self.kind }
+        ensures cells { result.cells ≡ min (self.cells + more) most }
+    {
+        Weight { kind: self.kind, cells: self.cells.saturating_add(more) }
+    }
+}
+
+/// The cells of a call: those of the called node, but at least one.
+fn call_cells(cells: &[u32], called: u32) -> u32
+    ensures { result ≡ max 1 (item 0 cells.now called) }
+{
+    cells.get(called as usize).copied().unwrap_or(0).max(1)
+}
+
+/// The type and the cells of an expression, by the leaves of the types and the cells of the nodes that it calls.
+#[cycle(weighing)]
+fn weigh(program: &Program, node: &Node, leaves: &[u32], cells: &[u32], expr: &Expr) -> Weight
+    ensures kind { result.kind ≡ given (program_seen program.now) (node_of node.now) (expression_of expr.now) }
+    ensures cells { result.cells ≡ min (counted (program_seen program.now) (node_of node.now) leaves.now cells.now (expression_of expr.now)) most }
+{
+    match expr {
+        Expr::Literal(_, value) => Weight { kind: value_kind(value), cells: 0 },
+        Expr::Variable(_, variable) => Weight { kind: variable_kind(node, *variable), cells: 0 },
+        Expr::Operate(_, operator, operands) => {
+            let all = weigh_all(program, node, leaves, cells, operands);
+            Weight { kind: operator_kind(program, *operator, all.kind), cells: all.cells }
+        }
+        Expr::Pre(_, operand) => {
+            let kept = weigh(program, node, leaves, cells, operand);
+            kept.with(kind_leaves(leaves, kept.kind))
+        }
+        Expr::Arrow(_, first, later) => {
+            let first = weigh(program, node, leaves, cells, first);
+            let later = weigh(program, node, leaves, cells, later);
+            first.with(later.cells).with(1)
+        }
+        Expr::Fby(_, first, later) => {
+            let first = weigh(program, node, leaves, cells, first);
+            let later = weigh(program, node, leaves, cells, later);
+            first.with(later.cells).with(1).with(kind_leaves(leaves, first.kind))
+        }
+        Expr::When(_, _, operand) => weigh(program, node, leaves, cells, operand),
+        Expr::Merge(_, _, branches) => weigh_all(program, node, leaves, cells, branches),
+        Expr::Call(_, called, arguments) => {
+            let all = weigh_all(program, node, leaves, cells, arguments);
+            let called = Weight { kind: output_kind(program, *called), cells: call_cells(cells, *called) };
+            called.with(all.cells)
+        }
+    }
+}
+
+/// The type of the last operand, bool where there is none, and the cells of all.
+#[cycle(weighing)]
+fn weigh_all(program: &Program, node: &Node, leaves: &[u32], cells: &[u32], operands: &[Expr]) -> Weight
+    ensures kind { result.kind ≡ last_given (program_seen program.now) (node_of node.now) OfBool (operands_of operands.now) }
+    ensures cells { result.cells ≡ min (all_counted (program_seen program.now) (node_of node.now) leaves.now cells.now (operands_of operands.now)) most }
+{
+    let mut kind = Kind::Bool;
+    let mut total: u32 = 0;
+    for operand in operands {
+        let weight = weigh(program, node, leaves, cells, operand);
+        kind = weight.kind;
+        total = total.saturating_add(weight.cells);
+    }
+    Weight { kind, cells: total }
+}
+
+/// The cells of a node.
+pub fn node_cells(program: &Program, node: &Node, leaves: &[u32], cells: &[u32]) -> u32
+    ensures { result ≡ min (sum_by (λ q. counted (program_seen program.now) (node_of node.now) leaves.now cells.now (expression_of q.right)) node.now.equations.items) most }
+{
+    let mut total: u32 = 0;
+    for equation in &node.equations {
+        total = total.saturating_add(weigh(program, node, leaves, cells, &equation.right).cells);
+    }
+    total
+}
