@@ -62,9 +62,9 @@ module _ (uses : Uses) (d : ℕ) (step : (ℕ → ℕ) → ℕ → ℕ) (local :
       (λ old. settled before ordered (suc m) (suc n) x (omega arith) (omega arith) old)
       (λ last. let same : z ≡ x = one_item z x last in
       let here : step (within m d step) z ≡ step (within n d step) z = local (within m d step) (within n d step) z (λ y in_uses. ⊎_elim
-          (λ lt. settled before ordered m n y (omega arith) (omega arith) (all y lt in_uses))
-          (λ le. past m y le ∙ sym (past n y le))
-          (cases_lt y (length uses))) in
+      (λ lt. settled before ordered m n y (omega arith) (omega arith) (all y lt in_uses))
+      (λ le. past m y le ∙ sym (past n y le))
+      (cases_lt y (length uses))) in
       rw (← same) here)
       (Contains-append_cases before (z ∷ []) x among)
 
@@ -85,9 +85,9 @@ filled_more e value order i x table v lt here room filled right y among = ⊎_el
     (λ same. rw same (get_or-set_same table x v e room ∙ right))
     (λ other.
     let earlier : Contains (take i order) y = ⊎_elim
-        (λ old. old)
-        (λ last. absurd (other (sym (one_item x y last))))
-        (Contains-append_cases (take i order) (x ∷ []) y (rw (more_front order i x lt here) at among)) in
+    (λ old. old)
+    (λ last. absurd (other (sym (one_item x y last))))
+    (Contains-append_cases (take i order) (x ∷ []) y (rw (more_front order i x lt here) at among)) in
     get_or-set_other table x y v e other ∙ filled y earlier)
     (cases_eq y x)
 

@@ -7,18 +7,17 @@ use Rattle.std.proofs.lemmas.List.{get_or_past, get_or_default, length-map, get_
 use Rattle.std.proofs.lemmas.List.Elements.{All-get_or}
 use Rattle.std.proofs.lemmas.List.FromFn.{get_or-map-range_with_len, length-map-range_with_len}
 use Rattle.std.proofs.Math.ListN.{get_or-map as get_or_any-map}
-use Rattle.lus_values.specs.Lists.{item, Each, Below}
+use Rattle.lus_values.specs.Lists.{item, Each}
 use Rattle.lus_values.proofs.Lists.{below_all, below_at, each_at}
 use Rattle.lus_graph.specs.Ways.{used, IsOrder}
 use Rattle.lus_program.specs.declared.node.Node.{Node as StoredNode}
-use Rattle.lus_program.specs.declared.node.Program.{Program as StoredProgram}
 use Rattle.lus_program.specs.Programs.{Expression, Node, Program, empty_node, node_at}
-use Rattle.lus_program.specs.View.{expression_of, node_of, program_seen}
+use Rattle.lus_program.specs.View.{expression_of, node_of}
 use Rattle.lus_meaning.specs.Resolved.{EquationFits, NodeResolved, Resolved, program_uses, kind_in}
 use Rattle.lus_resolution.proofs.Typed.{HasKind}
 use Rattle.lus_cells.specs.Calls.{nodes_used}
-use Rattle.lus_cells.specs.Cells.{leaves_given, kind_leaves, node_cells, most_cells, AreLeaves, AreCells, AreStateCells, FitsCells, HasTooMany}
-use Rattle.lus_cells.specs.Given.{given, given_leaves, counted}
+use Rattle.lus_cells.specs.Cells.{leaves_given, kind_leaves, node_cells, most_cells, AreLeaves, AreCells, AreStateCells, FitsCells}
+use Rattle.lus_cells.specs.Given.{given_leaves, counted}
 use Rattle.lus_cells.specs.Uses.{AreCappedLeaves}
 use Rattle.lus_cells.proofs.AlongOrders.{IsLocal, GivesNothing, IsFilled, uses_before, solution, solves, filled_more, filled_all}
 use Rattle.lus_cells.proofs.KindsGiven.{given_is}
@@ -79,18 +78,20 @@ module _ (p : Program) (resolved : Resolved p) where
         let long : length cells ≡ n = length-map-range_with_len at 0 n in
         let solved = solves (program_uses p) 0 (cells_by leaves) (cells_local leaves) (cells_past leaves) order o in
         let each_same : (f : ℕ) → item 0 cells f ≡ at f = λ f. ⊎_elim
-            (λ lt. get_or-map-range_with_len at 0 n f f 0 lt (omega arith))
-            (λ le.
-            let none : item 0 cells f ≡ 0 = get_or_past cells f 0 (omega (arith, le, long)) in
-            none ∙ sym (solved f ∙ cells_past leaves at f (omega (arith, le, nodes_count))))
-            (cases_lt f n) in
-        let same : item 0 cells ≡ at = λ i. λ f. each_same f i in
-        (cells, record {
-          leaves = leaves;
-          leaves_are = are;
-          size = long;
-          each = below_all (λ f. item 0 cells f ≡ node_cells p leaves (item 0 cells) (node_at p f)) n (λ f lt. each_same f ∙ solved f ∙ ap (λ a. node_cells p leaves a (node_at p f)) (sym same));
-        })
+        (λ lt. get_or-map-range_with_len at 0 n f f 0 lt (omega arith))
+        (λ le.
+        let none : item 0 cells f ≡ 0 = get_or_past cells f 0 (omega (arith, le, long)) in
+        none ∙ sym (solved f ∙ cells_past leaves at f (omega (arith, le, nodes_count))))
+        (cases_lt f n) in
+        let same : item 0 cells ≡ at = λ i. λ f. each_same f i in (
+          cells,
+          record {
+            leaves = leaves;
+            leaves_are = are;
+            size = long;
+            each = below_all (λ f. item 0 cells f ≡ node_cells p leaves (item 0 cells) (node_at p f)) n (λ f lt. each_same f ∙ solved f ∙ ap (λ a. node_cells p leaves a (node_at p f)) (sym same));
+          },
+        )
 
     -- a place of the order is that of a node
     pub node_fits : (i : ℕ) → i < length order → get_or order i 0 < length p.nodes
@@ -154,12 +155,12 @@ module _ (p : Program) (resolved : Resolved p) where
         let are = some.1 in
         let n = length p.nodes in
         let each_same : (f : ℕ) → item 0 table f ≡ item 0 exact f = λ f. ⊎_elim
-            (λ lt. filled_all (program_uses p) order o 0 (item 0 exact) table i f le (filled exact are) (omega (arith, lt, nodes_count)))
-            (λ past.
-            let none : item 0 table f ≡ 0 = get_or_past table f 0 (omega (arith, past, size)) in
-            let zero : item 0 exact f ≡ 0 = get_or_past exact f 0 (omega (arith, past, are.size)) in
-            none ∙ sym zero)
-            (cases_lt f n) in
+        (λ lt. filled_all (program_uses p) order o 0 (item 0 exact) table i f le (filled exact are) (omega (arith, lt, nodes_count)))
+        (λ past.
+        let none : item 0 table f ≡ 0 = get_or_past table f 0 (omega (arith, past, size)) in
+        let zero : item 0 exact f ≡ 0 = get_or_past exact f 0 (omega (arith, past, are.size)) in
+        none ∙ sym zero)
+        (cases_lt f n) in
         let same : item 0 table ≡ item 0 exact = λ i. λ f. each_same f i in
         record {
           exact = record {

@@ -3,7 +3,6 @@ use Rattle.std.proofs.Common.{◌≡◌, ◌∙◌, ap, sym, refl, ℕ, ◌<◌,
 use Rattle.std.proofs.lemmas.List.{get_or-map}
 use Rattle.lus_values.specs.Lists.{item}
 use Rattle.lus_program.specs.declared.types.Field.{Field as StoredField}
-use Rattle.lus_program.specs.declared.types.Kind.{Kind}
 use Rattle.lus_program.specs.declared.types.Kind.TheVariants as kinds
 use Rattle.lus_program.specs.Programs.{Field}
 use Rattle.lus_program.specs.View.{field_of}

@@ -7,7 +7,7 @@ use Rattle.std.proofs.Math.ListN.{get_or-map as get_or_any-map}
 use Rattle.lus_values.specs.Lists.{item}
 use Rattle.lus_graph.specs.Ways.{used, IsOrder}
 use Rattle.lus_program.specs.declared.types.Declared.{Declared as StoredDeclared}
-use Rattle.lus_program.specs.Programs.{Declared, Program}
+use Rattle.lus_program.specs.Programs.{Program}
 use Rattle.lus_program.specs.View.{declared_of}
 use Rattle.lus_meaning.specs.Types.{nothing_declared}
 use Rattle.lus_meaning.specs.Resolved.{declared_in}

@@ -5,3 +5,4 @@ pub mod KindsGiven
 pub mod Related
 pub mod LeavesAlong
 pub mod CellsAlong
+mod Examples

@@ -1,5 +1,5 @@
 -- Counts from counts that are alike in some way, which sums keep, are alike in it.
-use Rattle.std.proofs.Common.{◌≡◌, refl, sym, subst, arith, ℕ, ◌+◌, ◌<◌, List, [], ◌∷◌, ◌++◌, Some, length, max, flat_map, sum_by, option_map, Contains}
+use Rattle.std.proofs.Common.{◌≡◌, refl, sym, subst, arith, ℕ, ◌+◌, List, [], ◌∷◌, ◌++◌, Some, max, flat_map, sum_by, Contains}
 use Rattle.std.proofs.lemmas.List.Elements.{Contains-append_left, Contains-append_right}
 use Rattle.std.proofs.lemmas.List.Sums.{sum_by-cons}
 use Rattle.lus_values.specs.Lists.{Each}
@@ -66,13 +66,13 @@ module _ (R : ℕ → ℕ → Type 0) (same : (n : ℕ) → R n n) (sum : (a a' 
       cells_related (arrow a b) k h =
           let both = both_typed p f a b k in
           sum 1 1 (here a + here b) (there a + there b) (same 1) (sum (here a) (there a) (here b) (there b)
-              (cells_related a both.0 (left_called (nodes_called a) (nodes_called b) h))
-              (cells_related b both.1 (right_called (nodes_called a) (nodes_called b) h)))
+          (cells_related a both.0 (left_called (nodes_called a) (nodes_called b) h))
+          (cells_related b both.1 (right_called (nodes_called a) (nodes_called b) h)))
       cells_related (fby a b) k h =
           let both = both_typed p f a b k in
           sum (1 + size a) (1 + size' a) (here a + here b) (there a + there b) (sum 1 1 (size a) (size' a) (same 1) (sized a both.0)) (sum (here a) (there a) (here b) (there b)
-              (cells_related a both.0 (left_called (nodes_called a) (nodes_called b) h))
-              (cells_related b both.1 (right_called (nodes_called a) (nodes_called b) h)))
+          (cells_related a both.0 (left_called (nodes_called a) (nodes_called b) h))
+          (cells_related b both.1 (right_called (nodes_called a) (nodes_called b) h)))
       cells_related (when t a) k h = cells_related a (when_typed p f t a k).1 h
       cells_related (merge x bs) k h = operands_related bs (merge_typed p f x bs k).1 h
       cells_related (call g c es) k h =

@@ -1,5 +1,5 @@
 -- The type of an expression that has one, found without its tests: bool where nothing says which.
-use Rattle.std.specs.Prelude.{ℕ, ◌+◌, List, unwrap_or}
+use Rattle.std.specs.Prelude.{ℕ, List, unwrap_or}
 use Rattle.lus_values.specs.declared.operator.Op.{Op}
 use Rattle.lus_values.specs.declared.operator.Op.TheVariants as ops
 use Rattle.lus_values.specs.declared.operator.Operator.{Operator}

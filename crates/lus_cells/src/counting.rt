@@ -33,7 +33,12 @@ pub fn cells_of_nodes(alloc: Global, program: &Program) -> Result<Vec<u32>, Refu
 }
 
 /// The state cells of each node, by an order in which the nodes that one calls stand before it.
-fn cells_along(alloc: Global, program: &Program, leaves: &[u32], order: &[usize]) -> Result<Vec<u32>, Refusal>
+fn cells_along(
+    alloc: Global,
+    program: &Program,
+    leaves: &[u32],
+    order: &[usize],
+) -> Result<Vec<u32>, Refusal>
     requires resolved { Resolved (program_seen program.now) }
     requires leaves { AreCappedLeaves (program_seen program.now) leaves.now }
     requires order { IsOrder (program_uses (program_seen program.now)) order.now }

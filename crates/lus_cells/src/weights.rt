@@ -19,12 +19,23 @@ struct Weight {
 }
 
 impl Weight {
+    /// What gives this type and keeps nothing.
+    fn new(kind: Kind) -> Weight
+        ensures kind { result.kind ≡ kind }
+        ensures cells { result.cells ≡ 0 }
+    {
+        Weight { kind, cells: 0 }
+    }
+
     /// The same type, and so many more cells.
     fn with(self, more: u32) -> Weight
         ensures kind { result.kind ≡ self.kind }
         ensures cells { result.cells ≡ min (self.cells + more) most }
     {
-        Weight { kind: self.kind, cells: self.cells.saturating_add(more) }
+        Weight {
+            kind: self.kind,
+            cells: self.cells.saturating_add(more),
+        }
     }
 }
 
@@ -42,11 +53,11 @@ fn weigh(program: &Program, node: &Node, leaves: &[u32], cells: &[u32], expr: &E
     ensures cells { result.cells ≡ min (counted (program_seen program.now) (node_of node.now) leaves.now cells.now (expression_of expr.now)) most }
 {
     match expr {
-        Expr::Literal(_, value) => Weight { kind: value_kind(value), cells: 0 },
-        Expr::Variable(_, variable) => Weight { kind: variable_kind(node, *variable), cells: 0 },
+        Expr::Literal(_, value) => Weight::new(value_kind(value)),
+        Expr::Variable(_, variable) => Weight::new(variable_kind(node, *variable)),
         Expr::Operate(_, operator, operands) => {
             let all = weigh_all(program, node, leaves, cells, operands);
-            Weight { kind: operator_kind(program, *operator, all.kind), cells: all.cells }
+            Weight::new(operator_kind(program, *operator, all.kind)).with(all.cells)
         }
         Expr::Pre(_, operand) => {
             let kept = weigh(program, node, leaves, cells, operand);
@@ -60,21 +71,30 @@ fn weigh(program: &Program, node: &Node, leaves: &[u32], cells: &[u32], expr: &E
         Expr::Fby(_, first, later) => {
             let first = weigh(program, node, leaves, cells, first);
             let later = weigh(program, node, leaves, cells, later);
-            first.with(later.cells).with(1).with(kind_leaves(leaves, first.kind))
+            let kept = kind_leaves(leaves, first.kind);
+            first.with(later.cells).with(1).with(kept)
         }
         Expr::When(_, _, operand) => weigh(program, node, leaves, cells, operand),
         Expr::Merge(_, _, branches) => weigh_all(program, node, leaves, cells, branches),
         Expr::Call(_, called, arguments) => {
             let all = weigh_all(program, node, leaves, cells, arguments);
-            let called = Weight { kind: output_kind(program, *called), cells: call_cells(cells, *called) };
-            called.with(all.cells)
+            let called_cells = call_cells(cells, *called);
+            Weight::new(output_kind(program, *called))
+                .with(called_cells)
+                .with(all.cells)
         }
     }
 }
 
 /// The type of the last operand, bool where there is none, and the cells of all.
 #[cycle(weighing)]
-fn weigh_all(program: &Program, node: &Node, leaves: &[u32], cells: &[u32], operands: &[Expr]) -> Weight
+fn weigh_all(
+    program: &Program,
+    node: &Node,
+    leaves: &[u32],
+    cells: &[u32],
+    operands: &[Expr],
+) -> Weight
     ensures kind { result.kind ≡ last_given (program_seen program.now) (node_of node.now) OfBool (operands_of operands.now) }
     ensures cells { result.cells ≡ min (all_counted (program_seen program.now) (node_of node.now) leaves.now cells.now (operands_of operands.now)) most }
 {

@@ -1,4 +1,4 @@
-use Rattle.std.proofs.Common.{rules, arith, ◌≡◌, ◌∙◌, ap, sym, refl, ℕ, List, length, get_or, sum_by, ◌<◌, ◌≤◌, length-set}
+use Rattle.std.proofs.Common.{rules, arith, ◌≡◌, ◌∙◌, sym, refl, ℕ, List, length, get_or, sum_by, ◌<◌, ◌≤◌, length-set}
 use Rattle.std.specs.Prelude.{min}
 use Rattle.std.proofs.lemmas.List.{length-map}
 use Rattle.std.proofs.lemmas.List.Elements.{All-set}
@@ -71,8 +71,8 @@ returns-then-count-gt-MOST_CELLS-clause-refused c memory =
     let seen : node_at p x ≡ node_of node = node_is fs x node room c.index-node.ensures in
     let is : count ≡ min (sum_by (λ q. counted p (node_of node) c.args.leaves.now table (expression_of q.right)) node.equations.items) 4294967295 = rw c.deref.ensures.value at c.node_cells-count.ensures in
     let over : (exact : List ℕ) → AreCells p exact → 100000 < item 0 exact x = λ exact are.
-        over_most 100000 4294967295 (item 0 exact x) count c.if-count-gt-MOST_CELLS.true
-        (count_right p c.requires.resolved order c.requires.order c.args.leaves.now c.requires.leaves exact are i table lt (size ∙ sym node_count) (c.loop-place.invariant.filled exact are) node count seen is) in
+    over_most 100000 4294967295 (item 0 exact x) count c.if-count-gt-MOST_CELLS.true
+    (count_right p c.requires.resolved order c.requires.order c.args.leaves.now c.requires.leaves exact are i table lt (size ∙ sym node_count) (c.loop-place.invariant.filled exact are) node count seen is) in
     (c.new.ensures.number, too_many p c.requires.resolved order c.requires.order x fits over)
 
 pub returns-then-count-gt-MOST_CELLS-clause-placed : goal.returns-then-count-gt-MOST_CELLS-clause-placed
@@ -94,8 +94,8 @@ returns-then-count-gt-MOST_CELLS-clause-placed c memory =
     let is : count ≡ min (sum_by (λ q. counted p (node_of node) c.args.leaves.now table (expression_of q.right)) node.equations.items) 4294967295 = rw c.deref.ensures.value at c.node_cells-count.ensures in
     let some = some_cells p c.requires.resolved order c.requires.order c.requires.leaves.leaves c.requires.leaves.leaves_are in
     let over : 100000 < item 0 some.0 x =
-        over_most 100000 4294967295 (item 0 some.0 x) count c.if-count-gt-MOST_CELLS.true
-        (count_right p c.requires.resolved order c.requires.order c.args.leaves.now c.requires.leaves some.0 some.1 i table lt (size ∙ sym node_count) (c.loop-place.invariant.filled some.0 some.1) node count seen is) in
+    over_most 100000 4294967295 (item 0 some.0 x) count c.if-count-gt-MOST_CELLS.true
+    (count_right p c.requires.resolved order c.requires.order c.args.leaves.now c.requires.leaves some.0 some.1 i table lt (size ∙ sym node_count) (c.loop-place.invariant.filled some.0 some.1) node count seen is) in
     record {
       number = x;
       node = node;

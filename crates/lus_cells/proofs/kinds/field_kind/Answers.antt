@@ -1,9 +1,4 @@
-use Rattle.std.proofs.Common.{arith, ◌≡◌, ◌∙◌, ap, sym, length, map, get_or}
-use Rattle.std.proofs.lemmas.List.{length-map, get_or-map}
-use Rattle.lus_values.specs.Lists.{item}
-use Rattle.lus_program.specs.declared.types.Kind.TheVariants as kinds
-use Rattle.lus_program.specs.View.{program_seen}
-use Rattle.lus_meaning.specs.Resolved.{field_kinds}
+use Rattle.std.proofs.Common.{arith}
 use Rattle.lus_cells.proofs.Fields.{field_found}
 use Rattle.lus_cells.proofs.kinds.field_kind.Goals as goal
 

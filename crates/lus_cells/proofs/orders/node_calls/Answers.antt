@@ -1,4 +1,4 @@
-use Rattle.std.proofs.Common.{◌≡◌, ◌∙◌, ap, sym, flat_map}
+use Rattle.std.proofs.Common.{◌∙◌, ap, sym, flat_map}
 use Rattle.std.proofs.lemmas.List.{take_all}
 use Rattle.lus_program.specs.View.{expression_of}
 use Rattle.lus_meaning.specs.Resolved.{nodes_called}

@@ -1,7 +1,6 @@
-use Rattle.std.proofs.Common.{◌≡◌, ◌∙◌, ap, sym, map}
+use Rattle.std.proofs.Common.{◌∙◌, ap, sym, map}
 use Rattle.std.proofs.lemmas.List.{take_all}
 use Rattle.std.proofs.lemmas.Simd.{map-map}
-use Rattle.lus_graph.specs.Walks.{uses_of}
 use Rattle.lus_program.specs.View.{node_of}
 use Rattle.lus_cells.specs.Calls.{nodes_used}
 use Rattle.lus_cells.proofs.orders.node_uses.Goals as goal

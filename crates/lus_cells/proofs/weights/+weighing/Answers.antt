@@ -1,5 +1,4 @@
-use Rattle.std.proofs.Common.{rules, arith, ◌≡◌, ◌∙◌, ap}
-use Rattle.std.proofs.lemmas.Grind.{common_steps}
+use Rattle.std.proofs.Common.{rules, ◌≡◌, ◌∙◌, ap}
 use Rattle.lus_program.specs.View.{expression_of}
 use Rattle.lus_program.proofs.OperandViews.{seen_operate, seen_merge, seen_call}
 use Rattle.lus_cells.proofs.weights.+weighing.Goals as goal
