@@ -5,4 +5,5 @@ pub mod KindsGiven
 pub mod Related
 pub mod LeavesAlong
 pub mod CellsAlong
+pub mod CountsAlong
 mod Examples

@@ -1,17 +1,17 @@
 //! The count of every node's cells.
 
-ghost use Rattle.std.specs.Prelude.{◌≡◌, ◌≢◌, IfOk, IfErr};
+ghost use Rattle.std.specs.Prelude.{◌≡◌, ◌≢◌, ◌<◌, ◌≤◌, IfOk, IfErr};
 ghost use Rattle.lus_graph.specs.Ways.{IsOrder};
 ghost use Rattle.lus_syntax.specs.declared.refusal.RefusalNumber.TheVariants as numbers;
 ghost use Rattle.lus_program.specs.View.{program_seen};
 ghost use Rattle.lus_meaning.specs.Resolved.{Resolved, program_uses};
-ghost use Rattle.lus_cells.specs.Cells.{AreStateCells, FitsCells, NamesTooMany};
+ghost use Rattle.lus_cells.specs.Cells.{AreStateCells, FitsCells, NamesTooMany, most_cells};
 ghost use Rattle.lus_cells.specs.Uses.{AreCappedLeaves};
 
 use crate::leaves::leaves_along;
 use crate::orders::{order_of_nodes, order_of_types};
 use crate::weights::node_cells;
-use lus_program::Program;
+use lus_program::{Node, Program};
 use lus_syntax::{Refusal, RefusalNumber};
 use std::alloc::Global;
 
@@ -49,11 +49,20 @@ fn cells_along(
     let mut cells = vec![in alloc; 0u32; program.nodes.len()]?;
     for place in order {
         let node = &program.nodes[*place];
-        let count = node_cells(program, node, leaves, &cells);
-        if count > MOST_CELLS {
-            return Err(Refusal::new(RefusalNumber::Limit, node.place.line, node.place.column));
-        }
+        let count = limited(node, node_cells(program, node, leaves, &cells))?;
         cells[*place] = count;
     }
     Ok(cells)
+}
+
+/// A node's count of cells, if it is within the limit; else a refusal at the node's name.
+fn limited(node: &Node, count: u32) -> Result<u32, Refusal>
+    ensures ok { IfOk result (λ n. (n ≡ count) × (n ≤ most_cells)) }
+    ensures refused { IfErr result (λ e. (most_cells < count) × (e.number ≡ numbers.Limit)) }
+    ensures placed { IfErr result (λ e. (e.line ≡ node.now.place.line) × (e.column ≡ node.now.place.column)) }
+{
+    if count > MOST_CELLS {
+        return Err(Refusal::new(RefusalNumber::Limit, node.place.line, node.place.column));
+    }
+    Ok(count)
 }
