@@ -50,7 +50,8 @@ fn call_cells(cells: &[u32], called: u32) -> u32
 #[cycle(weighing)]
 fn weigh(program: &Program, node: &Node, leaves: &[u32], cells: &[u32], expr: &Expr) -> Weight
     ensures kind { result.kind ≡ given (program_seen program.now) (node_of node.now) (expression_of expr.now) }
-    ensures cells { result.cells ≡ min (counted (program_seen program.now) (node_of node.now) leaves.now cells.now (expression_of expr.now)) most }
+    ensures cells { let count = counted (program_seen program.now) (node_of node.now) leaves.now cells.now in
+        result.cells ≡ min (count (expression_of expr.now)) most }
 {
     match expr {
         Expr::Literal(_, value) => Weight::new(value_kind(value)),
@@ -96,7 +97,8 @@ fn weigh_all(
     operands: &[Expr],
 ) -> Weight
     ensures kind { result.kind ≡ last_given (program_seen program.now) (node_of node.now) OfBool (operands_of operands.now) }
-    ensures cells { result.cells ≡ min (all_counted (program_seen program.now) (node_of node.now) leaves.now cells.now (operands_of operands.now)) most }
+    ensures cells { let count = all_counted (program_seen program.now) (node_of node.now) leaves.now cells.now in
+        result.cells ≡ min (count (operands_of operands.now)) most }
 {
     let mut kind = Kind::Bool;
     let mut total: u32 = 0;
@@ -110,7 +112,8 @@ fn weigh_all(
 
 /// The cells of a node.
 pub fn node_cells(program: &Program, node: &Node, leaves: &[u32], cells: &[u32]) -> u32
-    ensures { result ≡ min (sum_by (λ q. counted (program_seen program.now) (node_of node.now) leaves.now cells.now (expression_of q.right)) node.now.equations.items) most }
+    ensures { let count = counted (program_seen program.now) (node_of node.now) leaves.now cells.now in
+        result ≡ min (sum_by (λ q. count (expression_of q.right)) node.now.equations.items) most }
 {
     let mut total: u32 = 0;
     for equation in &node.equations {
