@@ -6,4 +6,5 @@ pub mod Related
 pub mod LeavesAlong
 pub mod CellsAlong
 pub mod CountsAlong
+pub mod TypesMeant
 mod Examples

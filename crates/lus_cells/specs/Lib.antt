@@ -2,3 +2,4 @@ pub mod Calls
 pub mod Cells
 pub mod Given
 pub mod Uses
+pub mod Laws

@@ -92,7 +92,7 @@ pub fn order_of_types(alloc: Global, program: &Program) -> Result<Vec<usize>, Me
     ensures { IfOk result (λ order. IsOrder (uses_of_types (program_seen program.now)) order.items) }
 {
     let uses = type_uses(alloc, program)?;
-    // No type of a program that a well-formed source means leads back to itself, but a resolved program does not say so:
-    // a cycle, which can't come, is answered as want of memory.
+    // A resolved program does not say that no type leads back to itself. Where a well-formed tree means it, none does (a law
+    // of this crate), so a cycle can't come: it is answered as want of memory.
     order_of(alloc, &uses).map_err(|_| Memory)
 }
