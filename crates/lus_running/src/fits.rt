@@ -3,18 +3,11 @@
 ghost use Rattle.std.specs.Prelude.{◌≡◌, ◌↔◌, IsTrue, None, is_some, map};
 ghost use Rattle.lus_values.specs.Lists.{item};
 ghost use Rattle.lus_values.specs.View.{entry_of};
-ghost use Rattle.lus_running.specs.Fits.{FitsClock, FitsPresence, FitsShape};
+ghost use Rattle.lus_running.specs.Fits.{FitsClock, FitsPresence};
 
 use crate::instant::is_present;
 use lus_flat_classes::Class;
 use lus_values::Value;
-
-/// Whether there is an entry for each input.
-pub fn fits_shape(class: &Class, inputs: &[Option<Value>]) -> bool
-    ensures { IsTrue result ↔ FitsShape class.now (map entry_of inputs.now) }
-{
-    inputs.len() == class.inputs as usize
-}
 
 /// Whether an entry is there; past the entries none is.
 fn is_there(inputs: &[Option<Value>], variable: usize) -> bool

@@ -1,8 +1,8 @@
 use Rattle.std.proofs.Common.{rules, ◌≡◌, ◌∙◌, ◌<◌, ◌≤◌, sym, ap, refl, length, slice_get, slice_index_or, Some, None}
 use Rattle.std.proofs.lemmas.Option.{slice_get_read, slice_get_past, same_Some, none-some}
 use Rattle.lus_flat_classes.specs.declared.class.Class.{Class}
-use Rattle.lus_running.specs.Objects.{IsLong}
-use Rattle.lus_running.proofs.object.Object.is_shaped.Goals as goal
+use Rattle.lus_running.specs.Instances.{IsLong}
+use Rattle.lus_running.proofs.instance.Instance.is_shaped.Goals as goal
 
 pub returns-in-Some : goal.returns-in-Some
 returns-in-Some c =

@@ -7,7 +7,7 @@ use Rattle.lus_values.specs.View.{value_of}
 use Rattle.lus_flat_classes.specs.declared.class.Class.{Class}
 use Rattle.lus_flat_classes.specs.Places.{state_in}
 use Rattle.lus_running.proofs.Placed.{fresh_state}
-use Rattle.lus_running.proofs.object.Object.fresh.Goals as goal
+use Rattle.lus_running.proofs.instance.Instance.fresh.Goals as goal
 
 pub returns-clause-start : goal.returns-clause-start
 returns-clause-start c depth within =

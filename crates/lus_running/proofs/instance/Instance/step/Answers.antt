@@ -14,10 +14,10 @@ use Rattle.std.specs.Global.{Global}
 use Rattle.lus_values.specs.declared.value.Value.{Value}
 use Rattle.std.specs.Vec.{with_items}
 use Rattle.lus_running.specs.Instants.{placed, Parts}
-use Rattle.lus_running.specs.Objects.{Answers}
-use Rattle.lus_running.proofs.ObjectSteps.{answers_ok, answers_err}
+use Rattle.lus_running.specs.Instances.{Answers}
+use Rattle.lus_running.proofs.InstanceSteps.{answers_ok, answers_err}
 use Rattle.lus_running.proofs.Placed.{class_found}
-use Rattle.lus_running.proofs.object.Object.step.Goals as goal
+use Rattle.lus_running.proofs.instance.Instance.step.Goals as goal
 
 pub returns-in_err-place-clause-shaped : goal.returns-in_err-place-clause-shaped
 returns-in_err-place-clause-shaped c =
@@ -117,7 +117,7 @@ part_of-requires c =
     let all = with_items_is (with_items o.variables c.place.new.variables) c.run.new.variables run_long in
     let all_wide = ap length all ∙ c.run.auto.variables ∙ ap length c.deref_mut-4.ensures.value ∙ wide in
     let room = (c.requires.all g k found).room in
-    let outputs : k.inputs + k.outputs ≤ length k.clocks.items = room.outputs in
+    let outputs : k.inputs + c.args.outputs ≤ length k.clocks.items = (c.requires.formals k found).1 in
     let within : length k.clocks.items ≤ k.extent.variables = room.variables in
     let long : length c.deref-3.result.now ≡ k.extent.variables = ap length c.deref-3.ensures.value ∙ all_wide ∙ ap (λ (j : Class). j.extent.variables) same in
     omega arith
@@ -144,8 +144,8 @@ returns-in_err-run-clause-shaped c =
     let firsts_wide = ap length firsts ∙ c.run.auto.next_firsts ∙ ap length c.deref_mut-3.ensures.value ∙ s.next_firsts in
     record { class = s.class; found = s.found; cells = s.cells; firsts = s.firsts; next_cells = cells_wide; next_firsts = firsts_wide; variables = all_wide }
 
-pub returns-in_err-outputs-clause-shaped : goal.returns-in_err-outputs-clause-shaped
-returns-in_err-outputs-clause-shaped c =
+pub returns-in_err-answer-clause-shaped : goal.returns-in_err-answer-clause-shaped
+returns-in_err-answer-clause-shaped c =
     let s = c.requires.shaped in
     let classes = c.args.classes.now in
     let o = c.args.self.now in
@@ -210,9 +210,9 @@ returns-in_err-run-clause-step c =
     let wide = ap length vars ∙ c.place.auto.variables ∙ ap length c.deref_mut.ensures.value ∙ s.variables in
     let i = c.args.inputs.now in
     let d = c.args.depth in
-    let narrow : length i ≡ k.inputs = c.requires.inputs k found in
+    let narrow : length i ≡ k.inputs = (c.requires.formals k found).0 in
     let room = (c.requires.all g k found).room in
-    let outputs : k.inputs + k.outputs ≤ length k.clocks.items = room.outputs in
+    let outputs : k.inputs + c.args.outputs ≤ length k.clocks.items = (c.requires.formals k found).1 in
     let within : length k.clocks.items ≤ k.extent.variables = room.variables in
     let long : length o.variables.items ≡ k.extent.variables = s.variables ∙ ap (λ (j : Class). j.extent.variables) same in
     let before = map entry_of o.variables.items in
@@ -221,9 +221,9 @@ returns-in_err-run-clause-step c =
     let e = c.in_err-run.field-0.0 in
     let failed : c.from_residual-in_err-run.result ≡ Err e = search rules in
     let state = state_in classes (suc d) g (map value_of o.cells.items) o.firsts.items in
-    let answers = answers_err classes d g k (map value_of c.deref.result.now) c.deref-2.result.now i before (map entry_of c.deref_mut-4.result.now) found narrow enough put c.from_residual-in_err-run.result e _ _ state failed c.in_err-run.ensures in
-    let here = subst (λ (p : Parts). Answers k c.from_residual-in_err-run.result (step (classes_of classes) (state_in classes (suc d) g p.0 p.1) g i) state) (λ j. (map value_of (c.deref.ensures.value j), c.deref-2.ensures.value j)) answers in
-    λ z fz. subst (λ (j : Class). Answers j c.from_residual-in_err-run.result (step (classes_of classes) state g i) state) (same_Some k z (sym found ∙ fz)) here
+    let answers = answers_err classes d g k c.args.outputs (map value_of c.deref.result.now) c.deref-2.result.now i before (map entry_of c.deref_mut-4.result.now) found narrow enough put c.from_residual-in_err-run.result e _ _ state failed c.in_err-run.ensures in
+    let here = subst (λ (p : Parts). Answers k c.args.outputs c.from_residual-in_err-run.result (step (classes_of classes) (state_in classes (suc d) g p.0 p.1) g i) state) (λ j. (map value_of (c.deref.ensures.value j), c.deref-2.ensures.value j)) answers in
+    λ z fz. subst (λ (j : Class). Answers j c.args.outputs c.from_residual-in_err-run.result (step (classes_of classes) state g i) state) (same_Some k z (sym found ∙ fz)) here
 
 pub returns-clause-step : goal.returns-clause-step
 returns-clause-step c =
@@ -242,9 +242,9 @@ returns-clause-step c =
     let all_wide = ap length all ∙ c.run.auto.variables ∙ ap length c.deref_mut-4.ensures.value ∙ wide in
     let i = c.args.inputs.now in
     let d = c.args.depth in
-    let narrow : length i ≡ k.inputs = c.requires.inputs k found in
+    let narrow : length i ≡ k.inputs = (c.requires.formals k found).0 in
     let room = (c.requires.all g k found).room in
-    let outputs : k.inputs + k.outputs ≤ length k.clocks.items = room.outputs in
+    let outputs : k.inputs + c.args.outputs ≤ length k.clocks.items = (c.requires.formals k found).1 in
     let within : length k.clocks.items ≤ k.extent.variables = room.variables in
     let long : length o.variables.items ≡ k.extent.variables = s.variables ∙ ap (λ (j : Class). j.extent.variables) same in
     let before = map entry_of o.variables.items in
@@ -254,10 +254,10 @@ returns-clause-step c =
     let firsts_long : length c.run.new.next_firsts ≡ o.next_firsts.len = omega arith in
     let cells = ap (λ (v : Vec Value Global). map value_of v.items) c.swap.ensures.x_after ∙ ap (map value_of) (with_items_is o.next_cells c.run.new.next_cells cells_long) in
     let firsts = ap (λ (v : Vec Bool Global). v.items) c.swap-2.ensures.x_after ∙ with_items_is o.next_firsts c.run.new.next_firsts firsts_long in
-    let out = c.new.ensures ∙ c.in_ok-outputs.ensures ∙ ap (λ l. take k.outputs (drop k.inputs (map entry_of l))) (c.deref-3.ensures.value ∙ all) in
+    let out = c.new.ensures ∙ c.in_ok-answer.ensures ∙ ap (λ l. take c.args.outputs (drop k.inputs (map entry_of l))) (c.deref-3.ensures.value ∙ all) in
     let state = state_in classes (suc d) g (map value_of o.cells.items) o.firsts.items in
     let next = state_in classes (suc d) g (map value_of c.swap.new.x.items) c.swap-2.new.x.items in
-    let answers = answers_ok classes d g k (map value_of c.deref.result.now) c.deref-2.result.now i before (map entry_of c.deref_mut-4.result.now) found narrow enough put
+    let answers = answers_ok classes d g k c.args.outputs (map value_of c.deref.result.now) c.deref-2.result.now i before (map entry_of c.deref_mut-4.result.now) found narrow enough put
     (map value_of c.run.new.next_cells) (map value_of c.swap.new.x.items) c.run.new.next_firsts c.swap-2.new.x.items (map entry_of c.run.new.variables) c.new.result outputs c.in_ok-run.ensures cells firsts out in
-    let here = subst (λ (p : Parts). Answers k (Ok c.new.result) (step (classes_of classes) (state_in classes (suc d) g p.0 p.1) g i) next) (λ j. (map value_of (c.deref.ensures.value j), c.deref-2.ensures.value j)) answers in
-    λ z fz. subst (λ (j : Class). Answers j (Ok c.new.result) (step (classes_of classes) state g i) next) (same_Some k z (sym found ∙ fz)) here
+    let here = subst (λ (p : Parts). Answers k c.args.outputs (Ok c.new.result) (step (classes_of classes) (state_in classes (suc d) g p.0 p.1) g i) next) (λ j. (map value_of (c.deref.ensures.value j), c.deref-2.ensures.value j)) answers in
+    λ z fz. subst (λ (j : Class). Answers j c.args.outputs (Ok c.new.result) (step (classes_of classes) state g i) next) (same_Some k z (sym found ∙ fz)) here
