@@ -7,96 +7,107 @@ ghost use Rattle.lus_code.specs.Codes.{program_of, plain_classes};
 ghost use Rattle.lus_eval.specs.Objects.{IsShaped, ObjectLived, IsStep, IsReset, state_of};
 
 use crate::error::StepError;
+use crate::shape::row_fits;
 use lus_code::Code;
 use lus_program::NodeId;
-use lus_values::{Memory, Row, Value};
+use lus_running::{Instance, fits_presence};
+use lus_values::{Memory, Row};
 use std::alloc::Global;
 use std::marker::Model;
-
-/// Nothing is of this type.
-#[derive(Drop)]
-enum Never {}
 
 /// What an instance of a node keeps from one instant to the next.
 #[derive(Drop)]
 pub struct Object {
-    never: Never,
-    alloc: Global,
-    node: u32,
-    cells: Vec<Value>,
-    firsts: Vec<bool>,
-    variables: Vec<Option<Value>>,
+    instance: Instance,
 }
 
 impl Model for Object {
     ghost use Rattle.std.specs.Prelude.{map, length};
     ghost use Rattle.std.specs.Coded.{codes};
     ghost use Rattle.lus_values.specs.Coded.{coded_value};
-    ghost use Rattle.lus_values.specs.View.{value_of};
-    ghost use Rattle.lus_eval.specs.Objects.{Kept};
+    ghost use Rattle.lus_eval.specs.Objects.{Kept, kept_by, IsEven};
 
     ghost Value = { Kept };
 
     ghost coded = { Prim.hlevel (codes, coded_value) };
 
-    ghost view = { λ o. record { node = o.node; cells = map value_of o.cells.items; firsts = o.firsts.items; room = length o.variables.items } };}
+    ghost view = { λ o. kept_by o.instance };
+
+    ghost invariant = { λ o. IsEven o.instance };
+}
 
 impl Object {
     /// An object of a node at its start, which has lived through nothing.
-    pub fn fresh(_alloc: Global, _code: &Code, _node: NodeId) -> Result<Object, Memory>
-        requires { _node.0 < length (program_of _code.now).nodes }
-        ensures { IfOk result (λ o. ObjectLived _code.now _node.0 o []) }
+    pub fn fresh(alloc: Global, code: &Code, node: NodeId) -> Result<Object, Memory>
+        requires { node.0 < length (program_of code.now).nodes }
+        ensures { IfOk result (λ o. ObjectLived code.now node.0 o []) }
     {
-        Err(Memory)
+        // The program is checked, so that its calls are nested.
+        let _program = code.program();
+        let instance = Instance::fresh(alloc, code.classes(), node.0)?;
+        Ok(Object { instance })
     }
 
     /// Whether the object's rows are as long as those of its node in this code.
-    pub fn shaped(&self, _code: &Code) -> bool
-        ensures { IsTrue result ↔ IsShaped _code.now self.now }
+    pub fn shaped(&self, code: &Code) -> bool
+        ensures { IsTrue result ↔ IsShaped code.now self.now }
     {
-        match self.never {}
+        self.instance.is_shaped(code.classes())
     }
 
     /// Whether there are as many inputs as the node has, each a value of its type or absent.
-    pub fn fits_shape(&self, _code: &Code, _inputs: &Row) -> bool
-        requires { IsShaped _code.now self.now }
-        ensures { result ≡ has_shape (program_of _code.now) self.now.node _inputs.now }
+    pub fn fits_shape(&self, code: &Code, inputs: &Row) -> bool
+        requires { IsShaped code.now self.now }
+        ensures { result ≡ has_shape (program_of code.now) self.now.node inputs.now }
     {
-        match self.never {}
+        let _classes = code.classes();
+        let program = code.program();
+        let node = &program.nodes[self.instance.node as usize];
+        let variables = &node.variables[..node.inputs as usize];
+        row_fits(inputs.items(), variables, program)
     }
 
     /// Whether each input is present exactly where its clock is.
-    pub fn fits_presence(&self, _code: &Code, _inputs: &Row) -> bool
-        requires { IsShaped _code.now self.now }
-        ensures { result ≡ has_presence (program_of _code.now) self.now.node _inputs.now }
+    pub fn fits_presence(&self, code: &Code, inputs: &Row) -> bool
+        requires { IsShaped code.now self.now }
+        ensures { result ≡ has_presence (program_of code.now) self.now.node inputs.now }
     {
-        match self.never {}
+        let _program = code.program();
+        let class = &code.classes()[self.instance.node as usize];
+        fits_presence(class, inputs.items())
     }
 
     /// One more instant: its outputs, or a fault where the source has no streams for these inputs. After an error the object is
     /// as it was.
-    pub fn step(&mut self, _code: &Code, _inputs: &Row) -> Result<Row, StepError>
-        requires shaped { IsShaped _code.now self.old }
-        requires shape { IsTrue (has_shape (program_of _code.now) self.old.node _inputs.now) }
-        requires presence { IsTrue (has_presence (program_of _code.now) self.old.node _inputs.now) }
-        ensures ok { IfOk result (λ outputs. IsStep _code.now self.old self.new _inputs.now outputs) }
-        ensures fault { IfErr result (λ e. e ≡ StepError.Fault → Faults (program_of _code.now) (plain_classes _code.now) (state_of _code.now self.old) self.old.node _inputs.now) }
+    pub fn step(&mut self, code: &Code, inputs: &Row) -> Result<Row, StepError>
+        requires shaped { IsShaped code.now self.old }
+        requires shape { IsTrue (has_shape (program_of code.now) self.old.node inputs.now) }
+        requires presence { IsTrue (has_presence (program_of code.now) self.old.node inputs.now) }
+        ensures ok { IfOk result (λ outputs. IsStep code.now self.old self.new inputs.now outputs) }
+        ensures fault { IfErr result (λ e. e ≡ StepError.Fault → Faults (program_of code.now) (plain_classes code.now) (state_of code.now self.old) self.old.node inputs.now) }
         ensures err { OnErr result (self.new ≡ self.old) }
     {
-        Err(StepError::Memory)
+        let classes = code.classes();
+        let node = &code.program().nodes[self.instance.node as usize];
+        let depth = classes.len() + 1;
+        let outputs = self
+            .instance
+            .step(classes, depth, inputs, node.outputs as usize)?;
+        Ok(outputs)
     }
 
     /// As it was when it was fresh; takes no memory.
     pub fn reset(&mut self)
         ensures { IsReset self.old self.new }
     {
-        match self.never {}
+        self.instance.reset();
     }
 
     /// An equal object.
     pub fn copy(&self) -> Result<Object, Memory>
         ensures { IfOk result (λ o. o ≡ self.now) }
     {
-        Err(Memory)
+        let instance = self.instance.copy()?;
+        Ok(Object { instance })
     }
 }

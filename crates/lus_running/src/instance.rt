@@ -133,12 +133,7 @@ impl Instance {
             &mut self.next_firsts,
             &mut self.variables,
         )?;
-        let answer = part_of(
-            self.alloc,
-            &self.variables,
-            class.inputs as usize,
-            outputs,
-        )?;
+        let answer = part_of(self.alloc, &self.variables, class.inputs as usize, outputs)?;
         swap(&mut self.cells, &mut self.next_cells);
         swap(&mut self.firsts, &mut self.next_firsts);
         Ok(Row::new(answer))

@@ -1,0 +1,72 @@
+-- What an instance keeps, as contracts see it.
+use Rattle.std.proofs.Common.{◌≡◌, ◌∙◌, ◌<◌, List, sym, ap, subst, true, length, map, arith}
+use Rattle.std.specs.Prelude.{slice_get}
+use Rattle.std.proofs.lemmas.List.{length-map}
+use Rattle.std.proofs.lemmas.Option.{slice_get_within}
+use Rattle.lus_values.specs.Lists.{item}
+use Rattle.lus_values.specs.Values.{nil}
+use Rattle.lus_values.specs.View.{value_of}
+use Rattle.lus_program.specs.declared.node.Node.{Node as StoredNode}
+use Rattle.lus_program.specs.declared.node.Program.{Program as StoredProgram}
+use Rattle.lus_program.specs.Programs.{node_at}
+use Rattle.lus_program.specs.View.{node_of, program_seen}
+use Rattle.lus_order.proofs.Nodes.{node_here}
+use Rattle.lus_flat_classes.specs.declared.class.Class.{Class}
+use Rattle.lus_flat_classes.specs.Places.{state_in}
+use Rattle.lus_simulation.specs.Checked.{IsChecked}
+use Rattle.lus_simulation.specs.Nesting.{depth_of}
+use Rattle.lus_code.specs.Codes.{ProgramCode, program_of}
+use Rattle.lus_running.specs.declared.instance.Instance.{Instance}
+use Rattle.lus_running.specs.Instances as instances
+use Rattle.lus_running.proofs.Placed.{resets_state}
+use Rattle.lus_eval.specs.Objects.{Kept, kept_by, IsEven, IsShaped, IsReset}
+
+module _ (c : ProgramCode) (classes : List Class) (same : classes ≡ c.classes) (o : Instance) where
+  pub shaped_in_code : instances.IsShaped classes o → IsShaped c (kept_by o)
+  shaped_in_code s = record {
+    class = s.class;
+    found = ap (λ l. slice_get l o.node) (sym same) ∙ s.found;
+    cells = length-map o.cells.items value_of ∙ s.cells;
+    firsts = s.firsts;
+    variables = s.variables;
+  }
+
+  pub instance_shaped : IsEven o → IsShaped c (kept_by o) → instances.IsShaped classes o
+  instance_shaped even s =
+      let cells = sym (length-map o.cells.items value_of) ∙ s.cells in
+      record {
+        class = s.class;
+        found = ap (λ l. slice_get l o.node) same ∙ s.found;
+        cells = cells;
+        firsts = s.firsts;
+        next_cells = even.cells ∙ cells;
+        next_firsts = even.firsts ∙ s.firsts;
+        variables = s.variables;
+      }
+
+pub node_within : (c : ProgramCode) (o : Kept) → IsShaped c o → o.node < length c.classes
+node_within c o s = slice_get_within c.classes o.node s.class s.found
+
+-- a program that is a code's source is checked as the source is
+pub source_checked : (c : ProgramCode) (s : StoredProgram) → s ≡ c.source.program → IsChecked (program_seen s) → IsChecked (program_of c)
+source_checked c s same h = subst (λ (r : StoredProgram). IsChecked (program_seen r)) same h
+
+-- the node of an object, as its code's source has it
+pub source_node : (c : ProgramCode) (o : Kept) → IsShaped c o → (classes : List Class) → classes ≡ c.classes → length classes ≡ length (program_of c).nodes
+    → (s : StoredProgram) → s ≡ c.source.program → (n : StoredNode) → n ≡ item n s.nodes.items o.node → node_at (program_of c) o.node ≡ node_of n
+source_node c o shaped classes kept size s same n is =
+    let fewer : o.node < length classes = subst (λ (l : List Class). o.node < length l) (sym kept) (node_within c o shaped) in
+    let nodes : length (program_of c).nodes ≡ length s.nodes.items = ap (λ (r : StoredProgram). length (program_seen r).nodes) (sym same) ∙ length-map s.nodes.items node_of in
+    let within : o.node < length s.nodes.items = omega arith in
+    ap (λ (r : StoredProgram). node_at (program_seen r) o.node) (sym same) ∙ node_here s o.node n within is
+
+pub reset_kept : (o o' : Instance) → instances.IsReset o o' → IsReset (kept_by o) (kept_by o')
+reset_kept o o' h = record {
+  node = h.node;
+  room = ap (λ v. length v.items) h.variables;
+  cells = ap length h.cells ∙ length-map (map value_of o.cells.items) (λ v. nil);
+  firsts = ap length h.firsts ∙ length-map o.firsts.items (λ b. true);
+  state = λ c.
+      let d = depth_of (program_of c) in
+      (λ j. state_in c.classes d (h.node j) (h.cells j) (h.firsts j)) ∙ resets_state c.classes d o.node (map value_of o.cells.items) o.firsts.items;
+}
