@@ -34,10 +34,18 @@ impl Model for Program {
 
     ghost view = { λ p. p.code };
 
-    ghost invariant = { λ p. ∥ IsAccepted (program_of p.code) ∥₁ };
+    ghost invariant = { λ p. IsAccepted (program_of p.code) };
 }
 
 impl Program {
+    /// The code that runs.
+    pub(crate) fn code(&self) -> &Code
+        ensures same { result.now ≡ self.now }
+        ensures accepted { IsAccepted (program_of result.now) }
+    {
+        &self.code
+    }
+
     /// The program that the text means.
     pub fn source(&self) -> &Source
         ensures same { program_seen result.now ≡ program_of self.now }
