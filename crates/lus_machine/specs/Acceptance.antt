@@ -21,6 +21,10 @@ use Rattle.lus_cells.specs.Cells.{FitsCells}
 abbrev pub most_bytes : ℕ
 most_bytes = 1048576
 
+-- the text isn't too long
+abbrev pub IsShort : Text → Type 0
+IsShort text = length text ≤ most_bytes
+
 -- the text's tokens spell this tree, of depth at most 100
 pub record IsRead (text : Text) (tree : Tree) : Type 0 where
   pub tokens : List Lexeme
@@ -28,10 +32,18 @@ pub record IsRead (text : Text) (tree : Tree) : Type 0 where
   pub spelled : SpellsProgram tree tokens
   pub depth : tree_depth tree ≤ 100
 
+-- the text isn't too long, and its tree is well formed and means this program
+pub record IsTextOf (text : Text) (p : Program) : Type 0 where
+  pub short : IsShort text
+  pub tree : Tree
+  pub read : IsRead text tree
+  pub well_formed : WellFormed tree
+  pub means : p ≡ program_of tree
+
 -- the text isn't too long, and its tree is well formed and means this program, which is on clocks, has its flags, is causal
 -- and has no node with too many state cells
 pub record Accepted (text : Text) (p : Program) : Type 0 where
-  pub size : length text ≤ most_bytes
+  pub size : IsShort text
   pub tree : Tree
   pub read : IsRead text tree
   pub well_formed : WellFormed tree
@@ -56,13 +68,13 @@ pub record NamesCycle (p : Program) (e : Refusal) : Type 0 where
 -- the refusal is that of the first pass that refuses the text: each case says that the passes before it don't
 pub data RefusedWith (text : Text) (e : Refusal) : Type 0 where
   too_long : most_bytes < length text → IsAt e numbers.Limit start → RefusedWith text e
-  no_tokens : TellsFault text e → RefusedWith text e
-  no_tree : (ts : List Lexeme) → Tokens text ts → e.number ≢ numbers.Memory → RefusedRightly 100 ts e.number → RefusedWith text e
-  ill_formed : (tree : Tree) → IsRead text tree → FirstFails tree e.number → RefusedWith text e
-  off_clocks : (tree : Tree) → IsRead text tree → WellFormed tree → (ProgramOnClocks (program_of tree) → ⊥) → e.number ≡ numbers.Clock → RefusedWith text e
-  not_flagged : (tree : Tree) → IsRead text tree → WellFormed tree → ProgramOnClocks (program_of tree) → (IsFlagged (program_of tree) → ⊥) → e.number ≡ numbers.Nil → RefusedWith text e
-  not_causal : (tree : Tree) → IsRead text tree → WellFormed tree → ProgramOnClocks (program_of tree) → IsFlagged (program_of tree) → (IsCausal (program_of tree) → ⊥) → e.number ≡ numbers.Cycle → NamesCycle (program_of tree) e → RefusedWith text e
-  too_many_cells : (tree : Tree) → IsRead text tree → WellFormed tree → ProgramOnClocks (program_of tree) → IsFlagged (program_of tree) → IsCausal (program_of tree) → (FitsCells (program_of tree) → ⊥) → e.number ≡ numbers.Limit → RefusedWith text e
+  no_tokens : IsShort text → TellsFault text e → RefusedWith text e
+  no_tree : IsShort text → (ts : List Lexeme) → Tokens text ts → e.number ≢ numbers.Memory → RefusedRightly 100 ts e.number → RefusedWith text e
+  ill_formed : IsShort text → (tree : Tree) → IsRead text tree → FirstFails tree e.number → RefusedWith text e
+  off_clocks : (p : Program) → IsTextOf text p → (ProgramOnClocks p → ⊥) → e.number ≡ numbers.Clock → RefusedWith text e
+  not_flagged : (p : Program) → IsTextOf text p → ProgramOnClocks p → (IsFlagged p → ⊥) → e.number ≡ numbers.Nil → RefusedWith text e
+  not_causal : (p : Program) → IsTextOf text p → ProgramOnClocks p → IsFlagged p → (IsCausal p → ⊥) → e.number ≡ numbers.Cycle → NamesCycle p e → RefusedWith text e
+  too_many_cells : (p : Program) → IsTextOf text p → ProgramOnClocks p → IsFlagged p → IsCausal p → (FitsCells p → ⊥) → e.number ≡ numbers.Limit → RefusedWith text e
 
 -- no program is accepted for the text
 abbrev pub IsRefused : Text → Type 0

@@ -1,5 +1,6 @@
--- What a machine tells: its program, its node and its history.
-use Rattle.std.specs.Prelude.{ℕ, ◌<◌, ◌≤◌, List, length, Option}
+-- What a program ready to be run keeps, and what a machine tells: its program, its node and its history.
+use Rattle.std.specs.Prelude.{◌≡◌, ℕ, ◌<◌, ◌≤◌, List, length, Option}
+use Rattle.lus_values.specs.Names.{Names}
 use Rattle.lus_program.specs.Programs.{Program}
 use Rattle.lus_requests.specs.declared.request.Request.{Request}
 use Rattle.lus_requests.specs.declared.request.Reply.{Reply}
@@ -9,6 +10,7 @@ use Rattle.lus_history.specs.Keeping.{IsInstance}
 use Rattle.lus_code.specs.Codes.{ProgramCode, program_of}
 use Rattle.lus_eval.specs.Objects.{Kept, ObjectLived}
 use Rattle.lus_machine.specs.Acceptance.{IsAccepted}
+use Rattle.lus_machine.specs.Constructors.{names_from}
 
 pub record Told : Type 0 where
   pub program : Program
@@ -21,6 +23,11 @@ full = 4294967295
 
 abbrev pub entry : ℕ → Request → Reply → Entry
 entry c r a = record { caller = c; request = r; reply = a }
+
+-- a program is accepted, and these are the names of its constructors
+pub record IsReady (p : Program) (names : Names) : Type 0 where
+  pub accepted : IsAccepted p
+  pub named : names ≡ names_from p.types
 
 -- the history is one reactive node's: one of an accepted program
 pub record IsLegal (m : Told) : Type 0 where

@@ -1,72 +1,69 @@
 //! From a text to a program, pass by pass.
 
-ghost use Rattle.std.specs.Prelude.{◌≡◌, ◌≢◌, ◌<◌, ◌↔◌, IsTrue, length, IfOk, IfErr};
+ghost use Rattle.std.specs.Prelude.{◌≡◌, ◌≢◌, length, IfOk, IfErr, OnOk};
 ghost use Rattle.lus_syntax.specs.declared.refusal.RefusalNumber.TheVariants as numbers;
-ghost use Rattle.lus_program.specs.View.{program_seen};
+ghost use Rattle.lus_syntax.specs.View.{tree_seen};
 ghost use Rattle.lus_code.specs.Codes.{program_of};
-ghost use Rattle.lus_machine.specs.Acceptance.{Accepted, IsAccepted, RefusedWith, IsRefused};
+ghost use Rattle.lus_machine.specs.Acceptance.{Accepted, IsShort, IsRead, RefusedWith, IsRefused};
 
-use lus_code::Code;
-use lus_program::{NodeId, Program as Source};
-use lus_syntax::Refusal;
-use lus_values::Memory;
+use crate::naming::names_of;
+use crate::program::Program;
+use lus_clocks::{check_clocks, check_nil};
+use lus_code::{Code, translate};
+use lus_grammar::parse;
+use lus_normal::normalise;
+use lus_order::order;
+use lus_syntax::{Refusal, RefusalNumber, Tree, lex};
+use lus_types::check_types;
 use std::alloc::Global;
-use std::marker::Model;
 
-/// An accepted program, ready to be run.
-#[derive(Drop)]
-pub struct Program {
-    code: Code,
+/// The most bytes of a text.
+const MOST_BYTES: usize = 1048576;
+
+/// Checks that a text isn't too long: a limit, refused at its start.
+fn check_size(text: &str) -> Result<(), Refusal>
+    ensures ok { OnOk result (IsShort text.now) }
+    ensures first { IfErr result (λ e. RefusedWith text.now e) }
+{
+    if text.len() > MOST_BYTES {
+        return Err(Refusal::new(RefusalNumber::Limit, 1, 1));
+    }
+    Ok(())
 }
 
-impl Model for Program {
-    ghost use Rattle.std.specs.Coded.{codes};
-    ghost use Rattle.lus_program.specs.contracts.expr.Expr as program_expr;
-    ghost use Rattle.lus_syntax.specs.contracts.tree.Expr as tree_expr;
-    ghost use Rattle.lus_flat_classes.specs.contracts.code.Code as class_code;
-    ghost use Rattle.lus_values.specs.contracts.value.Value as value;
-    ghost use Rattle.lus_code.specs.Codes.{ProgramCode, program_of};
-    ghost use Rattle.lus_machine.specs.Acceptance.{IsAccepted};
-
-    ghost Value = { ProgramCode };
-
-    ghost coded = { Prim.hlevel (codes, program_expr.the_row.coded, tree_expr.the_row.coded, class_code.the_row.coded, value.the_row.coded) };
-
-    ghost view = { λ p. p.code };
-
-    ghost invariant = { λ p. IsAccepted (program_of p.code) };
+/// The tree of a text that isn't too long.
+fn read(alloc: Global, text: &str) -> Result<Tree, Refusal>
+    ensures short { OnOk result (IsShort text.now) }
+    ensures ok { IfOk result (λ tree. IsRead text.now (tree_seen tree)) }
+    ensures first { IfErr result (λ e. e.number ≢ numbers.Memory → RefusedWith text.now e) }
+{
+    check_size(text)?;
+    let tokens = lex(alloc, text)?;
+    parse(alloc, &tokens)
 }
 
-impl Program {
-    /// The code that runs.
-    pub(crate) fn code(&self) -> &Code
-        ensures same { result.now ≡ self.now }
-        ensures accepted { IsAccepted (program_of result.now) }
-    {
-        &self.code
-    }
-
-    /// The program that the text means.
-    pub fn source(&self) -> &Source
-        ensures same { program_seen result.now ≡ program_of self.now }
-    {
-        self.code.program()
-    }
-
-    /// Whether the program has this node.
-    pub fn has(&self, node: NodeId) -> bool
-        ensures { IsTrue result ↔ (node.0 < length (program_of self.now).nodes) }
-    {
-        (node.0 as usize) < self.code.nodes()
-    }
+/// The code of a text, by the passes behind one another.
+fn code_of(alloc: Global, text: &str) -> Result<Code, Refusal>
+    ensures ok { IfOk result (λ code. Accepted text.now (program_of code)) }
+    ensures first { IfErr result (λ e. e.number ≢ numbers.Memory → RefusedWith text.now e) }
+{
+    let tree = read(alloc, text)?;
+    let typed = check_types(alloc, tree)?;
+    let clocked = check_clocks(typed)?;
+    let initialised = check_nil(alloc, clocked)?;
+    let ordered = order(alloc, initialised)?;
+    let normal = normalise(alloc, ordered)?;
+    translate(alloc, normal)
 }
 
 /// The program that a text is accepted as. A refusal is that of the first pass that fails over the whole text: size, tokens,
 /// grammar, counts, names, recursion, limits, types, clocks, nil, order, state cells.
-pub fn compile(_alloc: Global, _text: &str) -> Result<Program, Refusal>
-    ensures ok { IfOk result (λ p. Accepted _text.now (program_of p)) }
-    ensures first { IfErr result (λ e. e.number ≢ numbers.Memory → RefusedWith _text.now e) }
-    ensures refused { IfErr result (λ e. e.number ≢ numbers.Memory → IsRefused _text.now) }
+pub fn compile(alloc: Global, text: &str) -> Result<Program, Refusal>
+    ensures ok { IfOk result (λ p. Accepted text.now (program_of p)) }
+    ensures first { IfErr result (λ e. e.number ≢ numbers.Memory → RefusedWith text.now e) }
+    ensures refused { IfErr result (λ e. e.number ≢ numbers.Memory → IsRefused text.now) }
 {
-    Err(Refusal::from(Memory))
+    let code = code_of(alloc, text)?;
+    let names = names_of(alloc, &code.program().types)?;
+    Ok(Program::new(code, names))
 }

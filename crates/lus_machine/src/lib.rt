@@ -4,8 +4,14 @@
 mod answers;
 mod compiling;
 mod error;
+mod laws;
 mod machine;
+mod naming;
+mod program;
 
-pub use compiling::{Program, compile};
+pub use compiling::compile;
 pub use error::CallError;
+pub use laws::{accepted_programs, one_program};
+pub use lus_program::{Field, NodeId, Variable as Formal};
 pub use machine::Machine;
+pub use program::Program;

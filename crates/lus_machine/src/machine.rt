@@ -8,8 +8,8 @@ ghost use Rattle.lus_machine.specs.Changes.{Becomes, IsSlot};
 ghost use Rattle.lus_machine.specs.Machines.{IsLegal, entry, full};
 
 use crate::answers::{Answer, Change, SLOTS, answer_to};
-use crate::compiling::Program;
 use crate::error::CallError;
+use crate::program::Program;
 use lus_eval::Object;
 use lus_program::NodeId;
 use lus_requests::{Entry, Reply, Request};
