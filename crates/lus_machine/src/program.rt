@@ -1,18 +1,19 @@
 //! Accepted programs.
 
-ghost use Rattle.std.specs.Prelude.{◌≡◌, ◌↔◌, ◌<◌, IsTrue, length, map};
+ghost use Rattle.std.specs.Prelude.{◌≡◌, ◌↔◌, ◌+◌, ◌<◌, ◌≤◌, IsTrue, length, map};
 ghost use Rattle.std.specs.Option.{option_map};
 ghost use Rattle.lus_values.specs.Lists.{item};
 ghost use Rattle.lus_program.specs.Programs.{node_at};
-ghost use Rattle.lus_program.specs.View.{program_seen, variable_of, field_of};
+ghost use Rattle.lus_program.specs.View.{program_seen, node_of, variable_of, field_of};
 ghost use Rattle.lus_meaning.specs.Resolved.{declared_in};
+ghost use Rattle.lus_meaning.specs.Types.{fields_in};
 ghost use Rattle.lus_code.specs.Codes.{program_of};
 ghost use Rattle.lus_machine.specs.Acceptance.{IsAccepted};
 ghost use Rattle.lus_machine.specs.Constructors.{names_from};
-ghost use Rattle.lus_machine.specs.Formals.{node_named, inputs_of, outputs_of, fields_of};
+ghost use Rattle.lus_machine.specs.Formals.{node_named, inputs_of, outputs_of};
 
 use lus_code::Code;
-use lus_program::{Declared, Field, NodeId, Program as Source, Variable};
+use lus_program::{Declared, Field, Node, NodeId, Program as Source, Variable};
 use lus_values::Names;
 use std::marker::Model;
 
@@ -93,12 +94,21 @@ impl Program {
         None
     }
 
+    /// A node of the program.
+    fn stored(&self, node: NodeId) -> &Node
+        requires { node.0 < length (program_of self.now).nodes }
+        ensures same { node_of result.now ≡ node_at (program_of self.now) node.0 }
+        ensures formals { result.now.inputs + result.now.outputs ≤ length result.now.variables.items }
+    {
+        &self.code.program().nodes[node.0 as usize]
+    }
+
     /// The inputs of a node, in declared order.
     pub fn inputs(&self, node: NodeId) -> &[Variable]
         requires { node.0 < length (program_of self.now).nodes }
         ensures { map variable_of result.now ≡ inputs_of (node_at (program_of self.now) node.0) }
     {
-        let node = &self.code.program().nodes[node.0 as usize];
+        let node = self.stored(node);
         &node.variables[..node.inputs as usize]
     }
 
@@ -107,14 +117,14 @@ impl Program {
         requires { node.0 < length (program_of self.now).nodes }
         ensures { map variable_of result.now ≡ outputs_of (node_at (program_of self.now) node.0) }
     {
-        let node = &self.code.program().nodes[node.0 as usize];
-        let inputs = node.inputs as usize;
-        &node.variables[inputs..inputs + node.outputs as usize]
+        let node = self.stored(node);
+        let behind_inputs = &node.variables[node.inputs as usize..];
+        &behind_inputs[..node.outputs as usize]
     }
 
     /// The fields of a structure, by its place among the declared types, in declared order: what is no structure has none.
     pub fn fields(&self, structure: u32) -> &[Field]
-        ensures { map field_of result.now ≡ fields_of (declared_in (program_of self.now) structure) }
+        ensures { map field_of result.now ≡ fields_in (declared_in (program_of self.now) structure) }
     {
         match self.code.program().types.get(structure as usize) {
             Some(Declared::Structure(fields)) => fields,
