@@ -1,4 +1,4 @@
-use Rattle.std.proofs.Common.{◌≡◌, ◌∙◌, ap, subst, sym, refl}
+use Rattle.std.proofs.Common.{◌≡◌, ◌∙◌, ap, subst, sym}
 use Rattle.std.proofs.lemmas.Result.{err_from_is_err_and, IfErr-weaker}
 use Rattle.lus_syntax.specs.View.{tree_seen}
 use Rattle.lus_program.specs.declared.node.Program.{Program as StoredProgram}
@@ -10,7 +10,7 @@ use Rattle.lus_meaning.specs.TypedPrograms.{TypedProgram}
 use Rattle.lus_order.specs.OrderedPrograms.{OrderedProgram}
 use Rattle.lus_cells.specs.Cells.{FitsCells}
 use Rattle.lus_machine.specs.Acceptance.{IsTextOf, ill_formed, off_clocks, not_flagged, not_causal, too_many_cells}
-use Rattle.lus_machine.proofs.Acceptances.{accepted_with, names_cycle, both_err, both_ok}
+use Rattle.lus_machine.proofs.Acceptances.{accepted_with, names_cycle, both_ok}
 use Rattle.lus_machine.proofs.compiling.code_of.Goals as goal
 
 pub returns-in_err-typed-clause-first : goal.returns-in_err-typed-clause-first

@@ -1,6 +1,5 @@
-use Rattle.std.proofs.Common.{◌≡◌, ap, sym, ◌∙◌, subst, map}
+use Rattle.std.proofs.Common.{ap, sym, ◌∙◌, subst, map}
 use Rattle.std.proofs.lemmas.Result.{err_from_is_err_and}
-use Rattle.lus_program.specs.declared.types.Declared.{Declared as StoredDeclared}
 use Rattle.lus_program.specs.View.{declared_of}
 use Rattle.lus_code.specs.Codes.{program_of}
 use Rattle.lus_machine.specs.Constructors.{CanBeNamed}

@@ -1,8 +1,8 @@
-use Rattle.std.proofs.Common.{◌≡◌, ◌<◌, ◌≤◌, ◌∙◌, length, subst, refl, arith}
+use Rattle.std.proofs.Common.{◌≡◌, ◌∙◌, subst, refl, arith}
 use Rattle.std.specs.Arc.{arc_value}
 use Rattle.lus_code.specs.Codes.{ProgramCode}
 use Rattle.lus_machine.specs.Changes.{Answered}
-use Rattle.lus_machine.specs.Machines.{Lives, entry, full}
+use Rattle.lus_machine.specs.Machines.{Lives, entry}
 use Rattle.lus_machine.proofs.Replied.{lives_on}
 use Rattle.lus_machine.proofs.machine.Machine.call.Goals as goal
 
