@@ -1,10 +1,10 @@
 //! From a text to a program, pass by pass.
 
-ghost use Rattle.std.specs.Prelude.{◌≡◌, ◌≢◌, length, IfOk, IfErr, OnOk};
+ghost use Rattle.std.specs.Prelude.{◌≡◌, ◌≢◌, [], IfOk, IfErr, OnOk};
 ghost use Rattle.lus_syntax.specs.declared.refusal.RefusalNumber.TheVariants as numbers;
 ghost use Rattle.lus_syntax.specs.View.{tree_seen};
 ghost use Rattle.lus_code.specs.Codes.{program_of};
-ghost use Rattle.lus_machine.specs.Acceptance.{Accepted, IsShort, IsRead, RefusedWith, IsRefused};
+ghost use Rattle.lus_machine.specs.Acceptance.{Accepted, IsShort, IsRead, RefusedWith, IsRefused, IsToldAs};
 
 use crate::naming::names_of;
 use crate::program::Program;
@@ -56,14 +56,37 @@ fn code_of(alloc: Global, text: &str) -> Result<Code, Refusal>
     translate(alloc, normal)
 }
 
-/// The program that a text is accepted as. A refusal is that of the first pass that fails over the whole text: size, tokens,
-/// grammar, counts, names, recursion, limits, types, clocks, nil, order, state cells.
-pub fn compile(alloc: Global, text: &str) -> Result<Program, Refusal>
+/// The program of a text, with the names of its constructors.
+fn program_of(alloc: Global, text: &str) -> Result<Program, Refusal>
     ensures ok { IfOk result (λ p. Accepted text.now (program_of p)) }
     ensures first { IfErr result (λ e. e.number ≢ numbers.Memory → RefusedWith text.now e) }
-    ensures refused { IfErr result (λ e. e.number ≢ numbers.Memory → IsRefused text.now) }
 {
     let code = code_of(alloc, text)?;
     let names = names_of(alloc, &code.program().types)?;
     Ok(Program::new(code, names))
+}
+
+/// The refusal, which has a cycle only if it is for one: no pass gives another a cycle, but their contracts don't say so.
+fn shaped(refusal: Refusal) -> Refusal
+    ensures told { IsToldAs refusal result }
+    ensures cycle { result.number ≢ numbers.Cycle → result.cycle ≡ [] }
+{
+    if refusal.number == RefusalNumber::Cycle {
+        return refusal;
+    }
+    Refusal::new(refusal.number, refusal.line, refusal.column)
+}
+
+/// The program that a text is accepted as. A refusal is that of the first pass that fails over the whole text: size, tokens,
+/// grammar, counts, names, recursion, limits, types, clocks, nil, order, state cells. Only one for a cycle has variables.
+pub fn compile(alloc: Global, text: &str) -> Result<Program, Refusal>
+    ensures ok { IfOk result (λ p. Accepted text.now (program_of p)) }
+    ensures first { IfErr result (λ e. e.number ≢ numbers.Memory → RefusedWith text.now e) }
+    ensures refused { IfErr result (λ e. e.number ≢ numbers.Memory → IsRefused text.now) }
+    ensures shape { IfErr result (λ e. e.number ≢ numbers.Cycle → e.cycle ≡ []) }
+{
+    match program_of(alloc, text) {
+        Ok(program) => Ok(program),
+        Err(refusal) => Err(shaped(refusal)),
+    }
 }

@@ -11,7 +11,7 @@ mod program;
 
 pub use compiling::compile;
 pub use error::CallError;
-pub use laws::{accepted_programs, one_program};
+pub use laws::{accepted_programs, machines_are_legal, one_program};
 pub use lus_program::{Field, NodeId, Variable as Formal};
 pub use machine::Machine;
 pub use program::Program;
