@@ -75,9 +75,10 @@ ProgramsAreNormal =
     → AreMadeOf (program_seen p) p.nodes.items p'.nodes.items
     → IsNormalProgram (program_seen p) (program_seen p')
 
--- such a program has the worlds of its source and no others, it is on clocks, its names are known, its calls have arguments and
--- outputs and its variables one definition each, its variables need its variables, and it is causal where its source is
+-- such a program has as many nodes as its source, its worlds and no others, it is on clocks, its names are known, its calls have
+-- arguments and outputs and its variables one definition each, its variables need its variables, and it is causal where its source is
 pub record IsMadeRight (p p' : Program) : Type 0 where
+  pub size : length p'.nodes ≡ length p.nodes
   pub worlds : KeepsWorlds p p'
   pub on_clocks : ProgramOnClocks p'
   pub ready : AreReady p'
