@@ -1,9 +1,9 @@
 -- Parts of calls one behind another are in order, and end within the whole.
-use Rattle.std.proofs.Common.{◌≡◌, ℕ, ◌+◌, ◌≤◌, max, List, [], ◌∷◌, arith}
-use Rattle.lus_values.specs.Lists.{item, Each}
+use Rattle.std.proofs.Common.{◌≤◌, List, [], ◌∷◌, arith}
+use Rattle.lus_values.specs.Lists.{item}
 use Rattle.lus_flat_classes.specs.declared.class.Extent.{Extent}
 use Rattle.lus_flat_classes.specs.declared.class.Call.{Call}
-use Rattle.lus_places.specs.Placing.{no_room, together, placed_calls, parts_end, PlacedAreWell}
+use Rattle.lus_places.specs.Placing.{no_room, together, parts_end, PlacedAreWell}
 
 -- one extent is within another
 record IsWithin (a b : Extent) : Type 0 where

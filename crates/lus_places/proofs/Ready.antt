@@ -1,6 +1,5 @@
 -- Classes that all have their places can be run.
-use Rattle.std.proofs.Common.{◌≡◌, ◌∙◌, ℕ, zero, suc, ◌+◌, ◌<◌, ◌≤◌, List, [], ◌∷◌, ◌++◌, map, length, Contains, Some, slice_get, get_or, refl, sym, ap, subst, arith, nat_lt}
-use Rattle.std.proofs.lemmas.List.{length-map}
+use Rattle.std.proofs.Common.{◌≡◌, ◌∙◌, ℕ, suc, ◌<◌, List, [], ◌∷◌, length, Contains, Some, slice_get, get_or, refl, sym, ap, subst, arith, nat_lt}
 use Rattle.std.proofs.lemmas.Option.{slice_get_within, slice_get-get_or}
 use Rattle.lus_values.specs.Lists.{item, Each}
 use Rattle.lus_classes.specs.ClassesOf.{InTurn}
@@ -13,7 +12,7 @@ use Rattle.lus_flat_classes.specs.View.{class_of, steps_of}
 use Rattle.lus_places.specs.Placing.{no_room, together, placed_calls, parts_end, room_with, EndsWithin, IsPlaced}
 use Rattle.lus_places.specs.Shaped.{AreShaped, CallsClass, IsShaped}
 use Rattle.lus_places.proofs.Placed.{placed_are_well}
-use Rattle.lus_places.proofs.Underway.{IsDone, IsUnderway, class_seen}
+use Rattle.lus_places.proofs.Underway.{IsUnderway, class_seen}
 
 calls_long : (rooms : List Extent) (from : Extent) (qs : List Call) → length (placed_calls rooms from qs) ≡ length qs
 calls_long rooms from [] = refl
@@ -30,7 +29,7 @@ turns_kept rooms c c' room is turns =
     record {
       turns = subst (λ d. InTurn d (steps_of c'.steps.items) (λ x. nat_lt x c'.inputs)) (sym seen)
           (subst (λ ss. InTurn (class_of c) (steps_of ss) (λ x. nat_lt x c'.inputs)) (sym steps)
-              (subst (λ n. InTurn (class_of c) (steps_of c.steps.items) (λ x. nat_lt x n)) (sym inputs) turns.turns));
+          (subst (λ n. InTurn (class_of c) (steps_of c.steps.items) (λ x. nat_lt x n)) (sym inputs) turns.turns));
       given = subst (λ ss. Each (GivesSome (length c'.calls.items)) ss) (sym steps) (subst (λ n. Each (GivesSome n) c.steps.items) (sym long) turns.given);
       every = λ n lt. subst (λ ss. AreMaking n ss) (sym steps) (turns.every n (subst (λ l. n < l) long lt));
     }
@@ -68,9 +67,10 @@ module _ (old new : List Class) (rooms : List Extent) (done : List ℕ) (is : Is
     parts_of : (from : Extent) (qs : List Call) → Each (CallsClass old) qs → Each (λ q. Contains done q.node) qs → Each (EndsWithin (parts_end rooms no_room c.calls.items)) (placed_calls rooms from qs)
         → Each (IsPart new c') (placed_calls rooms from qs)
     parts_of from [] calls among ends = tt
-    parts_of from (q ∷ qs) calls among ends =
-        (part_of q (record q { offset = record { cells = from.cells; firsts = from.firsts; variables = 0 }; extent = item no_room rooms q.node }) calls.0 among.0 refl refl refl ends.0,
-         parts_of (together from (item no_room rooms q.node)) qs calls.1 among.1 ends.1)
+    parts_of from (q ∷ qs) calls among ends = (
+      part_of q (record q { offset = record { cells = from.cells; firsts = from.firsts; variables = 0 }; extent = item no_room rooms q.node }) calls.0 among.0 refl refl refl ends.0,
+      parts_of (together from (item no_room rooms q.node)) qs calls.1 among.1 ends.1,
+    )
 
     room_of : IsShaped old c → Each (λ q. Contains done q.node) c.calls.items → HasRoom new c'
     room_of shape among =

@@ -1,9 +1,9 @@
 -- Classes get their places one after the other, those of called nodes first.
-use Rattle.std.proofs.Common.{◌≡◌, ◌≢◌, ◌∙◌, ℕ, zero, suc, ◌+◌, ◌<◌, ◌≤◌, List, [], ◌∷◌, ◌++◌, map, length, take, Contains, Some, slice_get, get_or, set, length-set, get_or-set_same, get_or-set_other, refl, sym, ap, subst, arith, add-one, ⊎_elim}
+use Rattle.std.proofs.Common.{◌≡◌, ◌≢◌, ◌∙◌, ℕ, zero, suc, ◌+◌, ◌<◌, List, [], ◌∷◌, ◌++◌, map, length, take, Contains, Some, slice_get, get_or, set, length-set, get_or-set_same, get_or-set_other, refl, sym, ap, subst, arith, add-one, ⊎_elim}
 use Rattle.std.proofs.Math.Seq.{map-set_same, take-suc}
-use Rattle.std.proofs.lemmas.List.{length-map, get_or-map}
+use Rattle.std.proofs.lemmas.List.{length-map}
 use Rattle.std.proofs.lemmas.List.Elements.{Contains-append_cases, Contains-append_left, Contains-push}
-use Rattle.std.proofs.lemmas.Option.{slice_get_within, slice_get-get_or, get_or_from_slice_get}
+use Rattle.std.proofs.lemmas.Option.{slice_get_within, get_or_from_slice_get}
 use Rattle.lus_values.specs.Lists.{item, Each}
 use Rattle.lus_graph.specs.Ways.{IsOrder}
 use Rattle.lus_graph.proofs.Steps.{no_item, one_item}
@@ -136,10 +136,10 @@ called_within classes shaped x c at y among =
     let low = each_contains c.calls.items (shaped x c at).calls y among in
     omega (arith, long, low)
   where
-  each_contains : (qs : List Call) → Each (CallsClass classes) qs → (y : ℕ) → Contains (map (λ (q : Call). q.node) qs) y → y < length classes
-  each_contains [] h y among = elim (no_item among.0 among.1) [ ]
-  each_contains (q ∷ qs) h y (zero, lt, e) = subst (λ n. n < length classes) e (slice_get_within classes q.node h.0.called h.0.found)
-  each_contains (q ∷ qs) h y (suc k, lt, e) = each_contains qs h.1 y (k, omega arith, e)
+    each_contains : (qs : List Call) → Each (CallsClass classes) qs → (y : ℕ) → Contains (map (λ (q : Call). q.node) qs) y → y < length classes
+    each_contains [] h y among = elim (no_item among.0 among.1) [ ]
+    each_contains (q ∷ qs) h y (zero, lt, e) = subst (λ n. n < length classes) e (slice_get_within classes q.node h.0.called h.0.found)
+    each_contains (q ∷ qs) h y (suc k, lt, e) = each_contains qs h.1 y (k, omega arith, e)
 
 no_item_before : (order : List ℕ) (g : ℕ) → Contains (take 0 order) g → ⊥
 no_item_before order g among = no_item among.0 among.1
@@ -164,6 +164,6 @@ underway_step old new rooms order i c c' room ordered shaped lt is here placed =
     let following = next_at (class_uses old) order ordered.ordered i lt in
     let at : slice_get old x ≡ Some c = sym (is.kept x following.fresh) ∙ here in
     let called = each_called (Contains (take i order)) c.calls.items (λ y among.
-        following.uses_before y (called_within old shaped x c at y among) (subst (λ ys. Contains ys y) (sym (used_nodes old x c at)) among)) in
+    following.uses_before y (called_within old shaped x c at y among) (subst (λ ys. Contains ys y) (sym (used_nodes old x c at)) among)) in
     let more : take i order ++ x ∷ [] ≡ take (i + 1) order = sym (take-suc order i 0 lt) ∙ ap (λ n. take n order) (sym (add-one i)) in
     subst (IsUnderway old (set new x c') (set rooms x room)) more (underway_next old new rooms (take i order) is x c c' room following.fresh here called placed)

@@ -1,6 +1,6 @@
 -- Where the parts of calls stand: one behind another, each as long as the part of the called node. Variables are kept during a
 -- step alone and calls are made one after the other, so all calls of a node share the places of theirs.
-use Rattle.std.specs.Prelude.{◌≡◌, Option, Some, None, ℕ, ◌+◌, ◌≤◌, max, List, [], ◌∷◌, Vec, length}
+use Rattle.std.specs.Prelude.{◌≡◌, Option, Some, None, ◌+◌, ◌≤◌, max, List, [], ◌∷◌, Vec, length}
 use Rattle.std.specs.Global.{Global}
 use Rattle.lus_values.specs.Lists.{item, Each}
 use Rattle.lus_flat_classes.specs.declared.class.Extent.{Extent}

@@ -1,13 +1,13 @@
 -- The calls that are made belong to those of the text.
-use Rattle.std.proofs.Common.{◌≡◌, ◌∙◌, ℕ, zero, suc, ◌+◌, ◌<◌, ◌≤◌, List, [], ◌∷◌, ◌++◌, length, Option, Some, None, refl, sym, ap, subst, arith, suc-ne-zero, not-suc-le-zero, ⊎_elim, drop, append_assoc}
+use Rattle.std.proofs.Common.{◌≡◌, ◌∙◌, ℕ, suc, ◌+◌, ◌<◌, ◌≤◌, List, [], ◌∷◌, ◌++◌, length, Option, Some, None, refl, sym, ap, subst, arith, suc-ne-zero, ⊎_elim, drop, append_assoc}
 use Rattle.std.proofs.lemmas.Bool.{cases_lt}
-use Rattle.lus_values.specs.Lists.{item, Each}
+use Rattle.lus_values.specs.Lists.{Each}
 use Rattle.lus_values.proofs.Lists.{below_at}
 use Rattle.lus_program.specs.declared.expr.Test.{Test}
 use Rattle.lus_program.specs.Programs.{Expression, literal, variable, operate, pre, arrow, fby, when, merge, call, Operands, none, more, Equation, Variable, Node, Program, no_variable, empty_node, node_at}
-use Rattle.lus_streams.specs.Clocks.{Clock, clock_of, operand, formal_clock, base_of, Part, at, parts, operand_parts, branch_parts, argument_parts}
-use Rattle.lus_streams.specs.Equations.{equation_clock, equation_parts, node_parts, Site, sites_in, sites}
-use Rattle.lus_streams.specs.OnClock.{IsDeclared, IsName, IsOnClocks, PartOnClock, RightOnClock, ProgramOnClocks, test_of}
+use Rattle.lus_streams.specs.Clocks.{Clock, clock_of, operand, formal_clock, base_of, Part, parts, operand_parts, branch_parts, argument_parts}
+use Rattle.lus_streams.specs.Equations.{equation_clock, equation_parts, Site, sites_in}
+use Rattle.lus_streams.specs.OnClock.{IsDeclared, IsName, IsOnClocks, RightOnClock, ProgramOnClocks, test_of}
 use Rattle.lus_streams.proofs.Clocks.{chain_none}
 use Rattle.lus_streams.proofs.Lists.{each_left, each_right, each_item, item_past}
 use Rattle.lus_clocks.proofs.NewestTests.{clock_tail}
@@ -18,8 +18,7 @@ use Rattle.lus_normal_form.specs.Named.{Known, GivesOutput, Uses, Numbered}
 use Rattle.lus_normal_nodes.specs.Laws.{HaveFormals}
 use Rattle.lus_normal_nodes.specs.Ready.{Declared, HasArguments, RightHasFormals, operand_size}
 use Rattle.lus_translation.specs.Forms.{arguments_form, call_form, call_first, calls_form}
-use Rattle.lus_normal_nodes.specs.Ready.{IsReady}
-use Rattle.lus_translation.specs.Laws.{IsFitting, IsFittingCall, IsFittingRight, CallsBelong, ReadyRightsFit, AllCallsBelong}
+use Rattle.lus_translation.specs.Laws.{IsFittingCall, IsFittingRight, CallsBelong, ReadyRightsFit, AllCallsBelong}
 use Rattle.lus_translation.proofs.Codes.{On, Used, atom_same, atom_on}
 
 -- an input is tested by inputs, and what follows its test is that input's clock

@@ -1,12 +1,11 @@
 -- The class that is made has the clocks, the calls and the memories of the node's text.
-use Rattle.std.proofs.Common.{◌≡◌, ◌∙◌, ℕ, zero, suc, ◌+◌, ◌-◌, ◌<◌, ◌≤◌, List, [], ◌∷◌, ◌++◌, length, drop, Option, Some, None, slice_get, refl, sym, ap, ap₂, subst, arith, ⊎_elim, not-suc-le-zero, le_of_suc-le-suc}
+use Rattle.std.proofs.Common.{◌≡◌, ◌∙◌, ℕ, zero, suc, ◌+◌, ◌<◌, ◌≤◌, List, [], ◌∷◌, length, slice_get, refl, sym, ap, ap₂, subst, arith, ⊎_elim, not-suc-le-zero, le_of_suc-le-suc}
 use Rattle.std.proofs.lemmas.Bool.{cases_lt}
 use Rattle.lus_values.specs.Lists.{item, Each}
-use Rattle.lus_program.specs.declared.expr.Test.{Test}
 use Rattle.lus_program.specs.declared.node.Equation.{Equation as StoredEquation}
-use Rattle.lus_program.specs.Programs.{Expression, literal, variable, operate, pre, arrow, fby, when, merge, call, Operands, none, more, Variable, Equation, Node, Program, no_variable, calls, numbered, all_numbered}
+use Rattle.lus_program.specs.Programs.{Expression, literal, variable, operate, pre, arrow, fby, when, merge, call, Operands, none, more, Variable, Node, Program, no_variable, calls, numbered, all_numbered}
 use Rattle.lus_program.specs.View.{expression_of, equations_from}
-use Rattle.lus_streams.specs.Clocks.{Clock, clock_of, Part, parts, operand_parts, branch_parts}
+use Rattle.lus_streams.specs.Clocks.{Clock, clock_of, parts, operand_parts, branch_parts}
 use Rattle.lus_streams.specs.Equations.{equation_clock}
 use Rattle.lus_streams.specs.Order.{clock_variables}
 use Rattle.lus_streams.proofs.Clocks.{chain_none}
@@ -17,7 +16,6 @@ use Rattle.lus_classes.specs.ClassesOf.{AtomOn}
 use Rattle.lus_normal_form.specs.NormalForm.{IsAtom, IsSimple, AreSimple}
 use Rattle.lus_normal_nodes.specs.Ready.{Declared}
 use Rattle.lus_translation.specs.Forms.{Turn, all_cells, all_clocks, cells_at, class_form, equation_cells, given_cells, turn_cells, kept_cells, all_kept_cells, branch_cells, cell_for, numbers_form}
-use Rattle.lus_normal_nodes.specs.Ready.{IsReady}
 use Rattle.lus_translation.specs.Laws.{IsFittingRight, ClassesHaveShape}
 use Rattle.lus_translation.proofs.Codes.{On, Used, atom_on}
 use Rattle.lus_translation.proofs.FittingCalls.{all_calls_belong, input_tested, ready_rights_fit}

@@ -1,18 +1,17 @@
 -- What the codes and calls that are made belong to.
-use Rattle.std.specs.Prelude.{◌≡◌, ℕ, ◌+◌, ◌<◌, ◌≤◌, List, [], ◌∷◌, ◌++◌, length}
+use Rattle.std.specs.Prelude.{◌≡◌, ℕ, ◌<◌, ◌≤◌, List, ◌++◌, length}
 use Rattle.lus_values.specs.Lists.{Each}
 use Rattle.lus_program.specs.declared.node.Equation.{Equation as StoredEquation}
 use Rattle.lus_program.specs.View.{equations_from}
 use Rattle.lus_program.specs.Programs.{Expression, call, Operands, Node, Program, node_at}
 use Rattle.lus_streams.specs.Clocks.{Clock, clock_of, base_of, parts, argument_parts}
-use Rattle.lus_streams.specs.Equations.{equation_clock, node_parts, Site, sites}
-use Rattle.lus_streams.specs.OnClock.{IsOnClocks, PartOnClock, ProgramOnClocks}
+use Rattle.lus_streams.specs.Equations.{equation_clock, Site, sites}
+use Rattle.lus_streams.specs.OnClock.{PartOnClock}
 use Rattle.lus_streams.specs.Order.{clock_variables}
 use Rattle.lus_classes.specs.Classes.{Class, clock_in}
 use Rattle.lus_classes.specs.ClassesOf.{AtomOn, IsCode, IsCall, AreCalls}
 use Rattle.lus_normal_form.specs.NormalForm.{AreAtoms, IsSimple}
-use Rattle.lus_normal_form.specs.Named.{Known, GivesOutput, Uses, IsNamed}
-use Rattle.lus_normal_form.specs.NormalNodes.{IsSimpleNode}
+use Rattle.lus_normal_form.specs.Named.{Known, GivesOutput, Uses}
 use Rattle.lus_normal_nodes.specs.Laws.{HaveFormals}
 use Rattle.lus_normal_nodes.specs.Ready.{Declared, IsReady, operand_size}
 use Rattle.lus_translation.specs.Forms.{Turn, class_form, code_form, call_form, calls_form, kept_cells, kept_firsts, numbers_form}

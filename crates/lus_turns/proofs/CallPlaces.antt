@@ -1,5 +1,5 @@
 -- Each call of a class in normal form is the right side of an equation.
-use Rattle.std.proofs.Common.{◌≡◌, ◌∙◌, ℕ, zero, suc, ◌+◌, ◌<◌, List, [], ◌∷◌, length, Some, slice_get, refl, sym, subst, arith, not-suc-le-zero, le_of_suc-le-suc}
+use Rattle.std.proofs.Common.{◌≡◌, ℕ, zero, suc, ◌+◌, ◌<◌, List, [], ◌∷◌, length, Some, slice_get, refl, sym, subst, arith, not-suc-le-zero, le_of_suc-le-suc}
 use Rattle.lus_values.specs.Lists.{item, Each}
 use Rattle.lus_program.specs.declared.node.Equation.{Equation as StoredEquation}
 use Rattle.lus_program.specs.Programs.{Expression, literal, variable, operate, pre, arrow, fby, when, merge, call, Operands, Node, Program, calls}

@@ -1,17 +1,16 @@
 -- Each call of a class is made by a step, and is of a node of the program.
-use Rattle.std.proofs.Common.{◌≡◌, ◌∙◌, ◌⊎◌, inl, inr, ℕ, zero, suc, ◌+◌, ◌<◌, ◌≤◌, List, [], ◌∷◌, ◌++◌, map, length, Option, Some, None, slice_get, nat_lt, refl, sym, ap, subst, arith, ⊎_elim}
-use Rattle.std.proofs.lemmas.Bool.{cases_lt}
+use Rattle.std.proofs.Common.{◌≡◌, ◌∙◌, ◌⊎◌, inl, inr, ℕ, zero, suc, ◌+◌, ◌<◌, List, [], ◌∷◌, ◌++◌, map, length, Option, Some, None, slice_get, nat_lt, refl, sym, ap, subst, arith, ⊎_elim}
 use Rattle.std.proofs.lemmas.List.{length-map}
 use Rattle.std.proofs.lemmas.Option.{slice_get_within}
 use Rattle.lus_values.specs.Lists.{item, Each}
 use Rattle.lus_program.specs.declared.node.Equation.{Equation as StoredEquation}
 use Rattle.lus_program.specs.Programs.{Expression, literal, variable, operate, pre, arrow, fby, when, merge, call, Operands, Node, Program, node_at, empty_node, numbered, all_numbered}
-use Rattle.lus_program.specs.View.{expression_of, equations_from}
-use Rattle.lus_streams.specs.Clocks.{Clock, clock_of}
+use Rattle.lus_program.specs.View.{equations_from}
+use Rattle.lus_streams.specs.Clocks.{Clock}
 use Rattle.lus_streams.specs.Equations.{Definition, given_by, definition_of, equation_clock, Site, sites}
 use Rattle.lus_streams.proofs.Lists.{each_left, each_right}
-use Rattle.lus_classes.specs.Classes.{Atom, constant, named, Class, Code, answer, Step, Call}
-use Rattle.lus_classes.specs.ClassesOf.{IsAnswer, IsAtomCode, IsClassOf, IsCode, IsCovered, IsSource, IsStep, AreCalls, InTurn, atom_code}
+use Rattle.lus_classes.specs.Classes.{Atom, constant, named, Class, answer, Step, Call}
+use Rattle.lus_classes.specs.ClassesOf.{IsClassOf, IsCode, IsCovered, IsSource, IsStep, AreCalls, InTurn, atom_code}
 use Rattle.lus_normal_form.specs.NormalForm.{IsSimpleRight}
 use Rattle.lus_normal_nodes.specs.Ready.{IsReady}
 use Rattle.lus_flat_classes.specs.declared.code.Code.{Code as StoredCode, Fixed, Fetch, Compute', Recall, Choose', Select'}
@@ -20,13 +19,13 @@ use Rattle.lus_flat_classes.specs.declared.class.Class.{Class as StoredClass}
 use Rattle.lus_flat_classes.specs.declared.class.Target.{Target}
 use Rattle.lus_flat_classes.specs.declared.class.Step.{Step as StoredStep}
 use Rattle.lus_flat_classes.specs.declared.class.Step.TheVariants as steps
-use Rattle.lus_flat_classes.specs.Turns.{AreMaking, GivesSome, HasTurns}
-use Rattle.lus_flat_classes.specs.View.{argument_of, call_of, class_of, code_of, steps_in, steps_of, taken}
+use Rattle.lus_flat_classes.specs.Turns.{AreMaking, GivesSome}
+use Rattle.lus_flat_classes.specs.View.{argument_of, call_of, class_of, code_of, steps_of, taken}
 use Rattle.lus_translation.specs.Forms.{calls_form, numbers_form}
 use Rattle.lus_translation.specs.Making.{GivesAny}
 use Rattle.lus_translation.proofs.Numbered.{stored_calls, calls_stored}
 use Rattle.lus_turns.specs.Turned.{CallsNode, IsTurned}
-use Rattle.lus_turns.proofs.CallNumbers.{calls_before, number_at}
+use Rattle.lus_turns.proofs.CallNumbers.{number_at}
 use Rattle.lus_turns.proofs.CallPlaces.{IsRightSide, call_place, equation_at}
 use Rattle.lus_turns.proofs.StoredEquations.{each_slice, numbered_equation}
 
@@ -68,9 +67,10 @@ one_within p f c n (u ∷ us) some is = source_within p f c u.variable n u.place
 gives_some : (p : Program) (f : Node) (c : Class) (ss : List StoredStep) → Each GivesAny ss → Each (IsStep p f c) (steps_of ss) → Each (GivesSome (length c.calls)) ss
 gives_some p f c [] any are = tt
 gives_some p f c (steps.Give x d ∷ ss) any are = (tt, gives_some p f c ss any.1 are.1)
-gives_some p f c (steps.Call n ts ∷ ss) any are =
-    ((one_within p f c n ts.items any.0 (each_left (IsStep p f c) (map (taken n) ts.items) (steps_of ss) are), any.0),
-     gives_some p f c ss any.1 (each_right (IsStep p f c) (map (taken n) ts.items) (steps_of ss) are))
+gives_some p f c (steps.Call n ts ∷ ss) any are = (
+  (one_within p f c n ts.items any.0 (each_left (IsStep p f c) (map (taken n) ts.items) (steps_of ss) are), any.0),
+  gives_some p f c ss any.1 (each_right (IsStep p f c) (map (taken n) ts.items) (steps_of ss) are),
+)
 
 -- some step answers call n
 abbrev IsAnswering : ℕ → List Step → Type 0
@@ -120,19 +120,19 @@ source_made : (p : Program) (f : Node) (c : Class) (g n m : ℕ) (args : Operand
 source_made p f c g n m args xs k place s here h =
     ⊎_elim
     (λ is.
-      let right = is.right in
-      let same : is.number ≡ n = cc in
-      let output = is.output in
-      record {
-        place = place;
-        step = s;
-        here = here;
-        output = (node_at p is.node).inputs + m;
-        code = subst (λ i. s.code ≡ answer i ((node_at p is.node).inputs + m)) same is.code;
-        asked = is.asked;
-        found = subst (λ i. slice_get c.calls i ≡ Some is.asked) same is.here;
-        known = subst (λ h. h < length p.nodes) (sym is.same_node) (item_known p.nodes is.node ((node_at p is.node).inputs + m) output);
-      })
+    let right = is.right in
+    let same : is.number ≡ n = cc in
+    let output = is.output in
+    record {
+      place = place;
+      step = s;
+      here = here;
+      output = (node_at p is.node).inputs + m;
+      code = subst (λ i. s.code ≡ answer i ((node_at p is.node).inputs + m)) same is.code;
+      asked = is.asked;
+      found = subst (λ i. slice_get c.calls i ≡ Some is.asked) same is.here;
+      known = subst (λ h. h < length p.nodes) (sym is.same_node) (item_known p.nodes is.node ((node_at p is.node).inputs + m) output);
+    })
     (λ is. absurd is.1)
     h
 
@@ -149,10 +149,10 @@ module _ (p : Program) (f : Node) (ready : IsReady p f) (qs : List StoredEquatio
       let before = r.before in
       let number : item 0 (numbers_form 0 qs) i ≡ n = omega (arith, at, before) in
       let right : q.right ≡ call r.right.node n (all_numbered (suc n) r.right.args) =
-          ap (numbered (item 0 (numbers_form 0 qs) i)) r.right.same ∙ ap (λ m. call r.right.node m (all_numbered (suc m) r.right.args)) number in
+      ap (numbered (item 0 (numbers_form 0 qs) i)) r.right.same ∙ ap (λ m. call r.right.node m (all_numbered (suc m) r.right.args)) number in
       let k = equation_clock f q in
       let defined : definition_of f covered.step.target ≡ Some (given_by (call r.right.node n (all_numbered (suc n) r.right.args)) 0 q.targets k) =
-          covered.defined ∙ ap (λ e. Some (given_by e 0 q.targets k)) right in
+      covered.defined ∙ ap (λ e. Some (given_by e 0 q.targets k)) right in
       source_made p f c r.right.node n 0 (all_numbered (suc n) r.right.args) q.targets k covered.place covered.step covered.here
       (subst (λ d. IsSource p f c covered.step.target d covered.step.code) defined step.source)
 
@@ -169,19 +169,21 @@ calls_known : (p : Program) (c : Class) → ((n : ℕ) → n < length c.calls �
 calls_known p c all =
     each_by (λ q. q.node < length p.nodes) c.calls
     (λ i q here.
-      let m = all i (slice_get_within c.calls i q here) in
-      let found = m.found in
-      let same : m.asked ≡ q = cc in
-      subst (λ z. z.node < length p.nodes) same m.known)
+    let m = all i (slice_get_within c.calls i q here) in
+    let found = m.found in
+    let same : m.asked ≡ q = cc in
+    subst (λ z. z.node < length p.nodes) same m.known)
 
 calls_node : (p : Program) (f : Node) (c : Class) (ss : List Site) (qs : List StoredCall) (n : ℕ) → AreCalls p f c ss (map call_of qs) n → Each (λ q. q.node < length p.nodes) (map call_of qs) → Each (CallsNode p) qs
 calls_node p f c ss [] n are known = tt
 calls_node p f c [] (q ∷ qs) n are known = absurd are
-calls_node p f c (s ∷ ss) (q ∷ qs) n are known =
-    (record {
-      known = known.0;
-      arguments = sym (length-map q.arguments.items argument_of) ∙ are.0.arity ∙ ap (λ g. (node_at p g).inputs) (sym are.0.node);
-    }, calls_node p f c ss qs (suc n) are.1 known.1)
+calls_node p f c (s ∷ ss) (q ∷ qs) n are known = (
+  record {
+    known = known.0;
+    arguments = sym (length-map q.arguments.items argument_of) ∙ are.0.arity ∙ ap (λ g. (node_at p g).inputs) (sym are.0.node);
+  },
+  calls_node p f c ss qs (suc n) are.1 known.1,
+)
 
 -- a class that belongs to its node and whose calls are those of its equations has its turns
 pub classes_are_turned : (p : Program) (f : Node) → IsReady p f → (qs : List StoredEquation) → f.equations ≡ equations_from 0 qs → (c : StoredClass) → IsClassOf p f (class_of c)
@@ -197,8 +199,8 @@ classes_are_turned p f ready qs is c belongs same_calls outputs any =
         turns = subst (λ n. InTurn d d.steps (λ x. nat_lt x n)) (sym belongs.inputs) belongs.turns;
         given = subst (λ n. Each (GivesSome n) c.steps.items) size (gives_some p f d c.steps.items any belongs.steps);
         every = λ n lt. (
-          let m = all n (subst (λ l. n < l) (sym size) lt) in
-          making n c.steps.items (answering_at n m.output d.steps m.place m.step m.here m.code));
+            let m = all n (subst (λ l. n < l) (sym size) lt) in
+            making n c.steps.items (answering_at n m.output d.steps m.place m.step m.here m.code));
       };
       calls = calls_node p f d (sites p f) c.calls.items 0 belongs.calls (calls_known p d all);
     }

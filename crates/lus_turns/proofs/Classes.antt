@@ -120,7 +120,7 @@ module _ (p : Program) (f : Node) (ready : IsReady p f) (defined : IsDefined p f
       let firsts = length (firsts_at p f qs (numbers_form 0 qs) t) in
       follow_append (steps_at p f qs (numbers_form 0 qs) m n t) (all_steps p f qs (numbers_form 0 qs) (m + cells) (n + firsts) ts) t.variables (in_turn ts)
       (subst (λ z. Follow p f c (equation_steps p f m n number z t.variables) t.variables) (sym held.here)
-          (turn_follows p f c m n number (expression_of q.right) q.targets.items t.variables held.found held.held))
+      (turn_follows p f c m n number (expression_of q.right) q.targets.items t.variables held.found held.held))
       (all_follow (m + cells) (n + firsts) ts h.1)
 
   outputs_known : OutputsKnown p f c
@@ -142,7 +142,7 @@ module _ (p : Program) (f : Node) (ready : IsReady p f) (defined : IsDefined p f
       let firsts = subst (λ z. HasFrom c.firsts n (equation_firsts f z t.variables)) held.here (from_left c.firsts n own_firsts later_firsts hn) in
       each_append (IsStep p f c) (steps_at p f qs (numbers_form 0 qs) m n t) (all_steps p f qs (numbers_form 0 qs) (m + length own_cells) (n + length own_firsts) ts)
       (subst (λ z. Each (IsStep p f c) (equation_steps p f m n number z t.variables)) (sym held.here)
-          (turn_is_steps p f c (defined_past p f defined) outputs_known m n number (expression_of q.right) q.targets.items t.variables held.found held.held cells firsts))
+      (turn_is_steps p f c (defined_past p f defined) outputs_known m n number (expression_of q.right) q.targets.items t.variables held.found held.held cells firsts))
       (all_are_steps (m + length own_cells) (n + length own_firsts) ts h.1 (from_right c.memories m own_cells later_cells hm) (from_right c.firsts n own_firsts later_firsts hn))
 
 has_whole : {X : Type 0} (xs : List X) → HasFrom xs 0 xs

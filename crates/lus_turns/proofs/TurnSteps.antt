@@ -82,15 +82,15 @@ module _ (p : Program) (f : Node) (c : Class) where
   simple_given q xs s h =
       each_implies (IsGivenBy f q) (IsGivenOf p f c q.right (equation_clock f q))
       (λ x g.
-        let here = placed x q.targets g.output g.place in
-        record {
-          output = g.output;
-          targets = q.targets;
-          defined = g.defined;
-          on_clock = sym (simple_clock x g.output q.targets q.right (equation_clock f q) s (left_on p f q g.output x h.clocks here));
-          within = (h.lefts g.output x here).0;
-          no_input = g.no_input;
-        })
+      let here = placed x q.targets g.output g.place in
+      record {
+        output = g.output;
+        targets = q.targets;
+        defined = g.defined;
+        on_clock = sym (simple_clock x g.output q.targets q.right (equation_clock f q) s (left_on p f q g.output x h.clocks here));
+        within = (h.lefts g.output x here).0;
+        no_input = g.no_input;
+      })
       xs h.given
 
   -- the equation of a right side with this number
@@ -110,7 +110,7 @@ module _ (p : Program) (f : Node) (c : Class) where
       let same = simple_numbered number e s in
       subst (λ z. Each (IsStep p f c) (given_steps m n z k xs)) same
       (given_are_steps p f c m n (numbered number e) k xs s fit (simple_given (equation number e ts) xs s h)
-          (subst (λ z. HasFrom c.memories m (given_cells z k xs)) (sym same) cells) (subst (λ z. HasFrom c.firsts n (given_firsts z k xs)) (sym same) firsts))
+      (subst (λ z. HasFrom c.memories m (given_cells z k xs)) (sym same) cells) (subst (λ z. HasFrom c.firsts n (given_firsts z k xs)) (sym same) firsts))
 
   -- steps that answer outputs of a call follow their variables
   answers_follow : (number inputs g : ℕ) (args : Operands) (ts : List ℕ) (xs : List ℕ) → slice_get c.calls number ≡ Some (call_form p g args (clock_of f (item 0 ts 0)))
@@ -145,15 +145,17 @@ module _ (p : Program) (f : Node) (c : Class) where
         let is =
         answer_is p f c g number args ts k held.fit.declared held.fit.size o x found held.fit (known x o left.1 left.0)
         (λ i y at.
-          let l = held.lefts i y at in
-          record { defined = l.1; within = l.0; no_input = no_input y _ l.1; on_clock = (left_on p f asking i y held.clocks at).0 })
+        let l = held.lefts i y at in
+        record { defined = l.1; within = l.0; no_input = no_input y _ l.1; on_clock = (left_on p f asking i y held.clocks at).0 })
         here (below_at _ _ on.1 ((node_at p g).inputs + o) output) in
-        subst (λ z. Each (IsStep p f c) (answer_first number (node_at p g).inputs x z (answers_form number (node_at p g).inputs ts xs))) (sym h.0.place)
-        (record {
-          source = subst (λ z. IsSource p f c x z (answer number ((node_at p g).inputs + o))) (sym left.1) (answer_source x (call g number args) o ts k (answer number ((node_at p g).inputs + o)) is);
-          within = left.0;
-          no_input = h.0.no_input;
-        }, answers_are_steps all xs held found h.1)
+        subst (λ z. Each (IsStep p f c) (answer_first number (node_at p g).inputs x z (answers_form number (node_at p g).inputs ts xs))) (sym h.0.place) (
+          record {
+            source = subst (λ z. IsSource p f c x z (answer number ((node_at p g).inputs + o))) (sym left.1) (answer_source x (call g number args) o ts k (answer number ((node_at p g).inputs + o)) is);
+            within = left.0;
+            no_input = h.0.no_input;
+          },
+          answers_are_steps all xs held found h.1,
+        )
 
   -- where the call of a right side stands among the calls of the class
   abbrev pub IsFound : ℕ → Expression → Clock → Type 0

@@ -266,17 +266,17 @@ module _ (p : Program) (f : Node) where
           let lefts = each_slice (λ r. LeftOnClock p f r 0 r.targets) f.equations e q ready.on_clocks.lefts d.here in
           ⊎_elim
           (λ found. later_reads There p f q x found.head lefts d.given found.given found.reads
-            (each_implies (λ y. IsTrue (is_in earlier y)) (λ y. StandsIn q.targets y → There y)
-              (λ y k stands.
-                let left = each_slice (DefinesLeft f) f.equations e q defined.lefts d.here stands.0 y stands.1 in
-                known_earlier e y (same_definer x y d stands (defined_past p f defined y _ left.1)) k)
-              (clock_variables (clock_of f x)) (each_left (λ y. IsTrue (is_in earlier y)) (clock_variables (clock_of f x)) (needs_right (definition_of f x)) needs_known)))
+          (each_implies (λ y. IsTrue (is_in earlier y)) (λ y. StandsIn q.targets y → There y)
+          (λ y k stands.
+          let left = each_slice (DefinesLeft f) f.equations e q defined.lefts d.here stands.0 y stands.1 in
+          known_earlier e y (same_definer x y d stands (defined_past p f defined y _ left.1)) k)
+          (clock_variables (clock_of f x)) (each_left (λ y. IsTrue (is_in earlier y)) (clock_variables (clock_of f x)) (needs_right (definition_of f x)) needs_known)))
           (λ all.
-            let known = each_implies (λ y. IsTrue (is_in earlier y)) There
-              (λ y k. ⊎_elim (λ input. known_there ts e (λ z. nat_lt z f.inputs) y (lt-ltb y f.inputs input)) (λ own. all y (in_all ts (definer qs y) y (h.kept y k own))) (cases_lt y f.inputs))
-              (needed f x) needs_known in
-            first_reads There p f q x lefts d.given (each_left There (clock_variables (clock_of f x)) (needs_right (definition_of f x)) known)
-            (subst (λ o. Each There (needs_right o)) d.given.defined (each_right There (clock_variables (clock_of f x)) (needs_right (definition_of f x)) known)))
+          let known = each_implies (λ y. IsTrue (is_in earlier y)) There
+          (λ y k. ⊎_elim (λ input. known_there ts e (λ z. nat_lt z f.inputs) y (lt-ltb y f.inputs input)) (λ own. all y (in_all ts (definer qs y) y (h.kept y k own))) (cases_lt y f.inputs))
+          (needed f x) needs_known in
+          first_reads There p f q x lefts d.given (each_left There (clock_variables (clock_of f x)) (needs_right (definition_of f x)) known)
+          (subst (λ o. Each There (needs_right o)) d.given.defined (each_right There (clock_variables (clock_of f x)) (needs_right (definition_of f x)) known)))
           cases
 
       -- one more variable that is no input

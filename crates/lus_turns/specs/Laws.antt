@@ -1,10 +1,8 @@
 -- The class that is made of a node belongs to it.
-use Rattle.std.specs.Prelude.{◌≡◌, ◌≢◌, ℕ, ◌<◌, ◌≤◌, List, length, Some, None, slice_get}
-use Rattle.lus_values.specs.Lists.{Each}
+use Rattle.std.specs.Prelude.{◌≡◌, List}
 use Rattle.lus_program.specs.declared.node.Equation.{Equation as StoredEquation}
-use Rattle.lus_program.specs.Programs.{Expression, call, Equation, Node, Program, node_at}
+use Rattle.lus_program.specs.Programs.{Node, Program}
 use Rattle.lus_program.specs.View.{equations_from}
-use Rattle.lus_streams.specs.Equations.{given_by, definition_of, equation_clock}
 use Rattle.lus_classes.specs.ClassesOf.{IsClassOf}
 use Rattle.lus_translation.specs.Forms.{Turn, class_form, numbers_form}
 use Rattle.lus_normal_nodes.specs.Ready.{IsReady, IsDefined}

@@ -1,8 +1,8 @@
 use Rattle.std.proofs.Common.{◌≡◌, ◌∙◌, length, sym, ap, subst}
-use Rattle.std.proofs.lemmas.List.{length-map, with_items_is}
+use Rattle.std.proofs.lemmas.List.{with_items_is}
 use Rattle.lus_program.specs.View.{program_seen}
 use Rattle.lus_classes.specs.ClassesOf.{AreClassesOf}
-use Rattle.lus_flat_classes.specs.View.{class_of, classes_of}
+use Rattle.lus_flat_classes.specs.View.{classes_of}
 use Rattle.lus_places.specs.Shaped.{AreNested, AreShaped}
 use Rattle.lus_code.proofs.MadeClasses.{classes_belong, classes_nested, classes_shaped}
 use Rattle.lus_code.proofs.classes.classes_of_nodes.Goals as goal

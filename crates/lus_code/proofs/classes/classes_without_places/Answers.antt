@@ -1,4 +1,4 @@
-use Rattle.std.proofs.Common.{◌≡◌, ◌∙◌, ◌+◌, ◌<◌, ◌≤◌, ◌++◌, ◌∷◌, [], ℕ, length, map, sym, ap, subst, arith, rules, get_or}
+use Rattle.std.proofs.Common.{◌≡◌, ◌∙◌, ◌<◌, ◌++◌, ◌∷◌, [], length, map, sym, ap, subst, arith, rules}
 use Rattle.std.proofs.lemmas.List.{get_or-map, length-map}
 use Rattle.lus_values.specs.Lists.{item}
 use Rattle.lus_program.specs.Programs.{node_at}
@@ -7,7 +7,6 @@ use Rattle.lus_normal_nodes.specs.Ready.{IsDefined, IsReady}
 use Rattle.lus_order.specs.Orders.{OrdersVariables}
 use Rattle.lus_order.proofs.Nodes.{node_here}
 use Rattle.lus_turns.specs.Turned.{IsTurned}
-use Rattle.lus_code.specs.Made.{AreFirstTurned}
 use Rattle.lus_code.proofs.MadeClasses.{more_turned}
 use Rattle.lus_code.proofs.classes.classes_without_places.Goals as goal
 

@@ -1,4 +1,4 @@
-use Rattle.std.proofs.Common.{◌≡◌, ◌∙◌, length, sym, ap, subst}
+use Rattle.std.proofs.Common.{◌≡◌, ◌∙◌, sym, ap, subst}
 use Rattle.std.proofs.lemmas.List.{length-map}
 use Rattle.lus_program.specs.Programs.{node_at}
 use Rattle.lus_program.specs.View.{node_of, program_seen}
@@ -33,11 +33,14 @@ invariant_of-result c =
     let same : c.into_source-source.result.program ≡ p = ap (λ s. s.program) c.into_source-source.ensures in
     let long = length-map q.nodes.items node_of ∙ as_many (program_seen p) p.nodes.items q.nodes.items c.program-2.ensures.made ∙ sym (length-map p.nodes.items node_of) in
     subst (λ z. IsTranslated (program_seen z) c.in_ok-classes.classes.items c.in_ok-cells.cells.items) (sym same) (record {
-      code = (program_seen q, record {
-        new_parts = λ g. node_taken (program_seen p) (node_at (program_seen p) g);
-        normal = c.program-2.ensures.normal;
-        belong = c.in_ok-classes.ensures.belong;
-      });
+      code = (
+        program_seen q,
+        record {
+          new_parts = λ g. node_taken (program_seen p) (node_at (program_seen p) g);
+          normal = c.program-2.ensures.normal;
+          belong = c.in_ok-classes.ensures.belong;
+        },
+      );
       size = c.in_ok-classes.ensures.size ∙ long;
       ready = c.in_ok-classes.ensures.ready;
       counted = subst (λ z. AreStateCells (program_seen z) c.in_ok-cells.cells.items) given c.in_ok-cells.ensures.ok;

@@ -1,7 +1,6 @@
-use Rattle.std.proofs.Common.{◌≡◌, ◌∙◌, ◌+◌, ◌*◌, ◌<◌, ◌≤◌, ℕ, List, length, take, take_all, Contains, Some, slice_get, get_or, ap, sym, subst, arith, refl, rules}
+use Rattle.std.proofs.Common.{◌≡◌, ◌<◌, ◌≤◌, ℕ, List, length, take, take_all, get_or, subst, arith, rules}
 use Rattle.std.proofs.lemmas.List.{get_or_default, length-map}
 use Rattle.std.proofs.lemmas.Option.{slice_get-get_or}
-use Rattle.lus_values.specs.Lists.{item}
 use Rattle.lus_graph.specs.Ways.{IsOrder}
 use Rattle.lus_flat_classes.specs.declared.class.Class.{Class}
 use Rattle.lus_places.specs.Shaped.{class_uses, nodes_of}

@@ -1,5 +1,4 @@
 use Rattle.std.proofs.Common.{◌≡◌, ◌∙◌, ◌++◌, ◌∷◌, [], map, ap}
-use Rattle.lus_values.specs.Lists.{item}
 use Rattle.lus_program.specs.View.{expression_of, operands_of, node_of, program_seen}
 use Rattle.lus_program.proofs.OperandViews.{seen_call}
 use Rattle.lus_flat_classes.specs.View.{call_of as call_in}

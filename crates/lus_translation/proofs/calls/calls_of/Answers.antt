@@ -1,9 +1,9 @@
-use Rattle.std.proofs.Common.{◌≡◌, ◌∙◌, ◌+◌, ◌<◌, ◌≤◌, ◌++◌, ◌∷◌, [], suc, map, drop, length, refl, sym, ap, arith, drop-cons, drop_of_length-le, append_assoc, append-nil}
+use Rattle.std.proofs.Common.{◌≡◌, ◌∙◌, ◌+◌, ◌<◌, ◌≤◌, ◌++◌, ◌∷◌, [], suc, map, drop, length, sym, ap, arith, drop-cons, drop_of_length-le, append_assoc, append-nil}
 use Rattle.lus_values.specs.Lists.{item}
 use Rattle.lus_program.specs.View.{expression_of, node_of, program_seen}
 use Rattle.lus_streams.specs.Clocks.{clock_of}
 use Rattle.lus_flat_classes.specs.View.{call_of as call_in}
-use Rattle.lus_translation.specs.Forms.{call_first, calls_form}
+use Rattle.lus_translation.specs.Forms.{call_first}
 use Rattle.lus_translation.proofs.Giving.{first_before}
 use Rattle.lus_translation.proofs.Numbered.{stored_calls, calls_stored}
 use Rattle.lus_translation.proofs.calls.calls_of.Goals as goal

@@ -1,7 +1,6 @@
 use Rattle.std.proofs.Common.{◌≡◌, ◌++◌, map, drop}
 use Rattle.lus_program.specs.View.{node_of, program_seen}
 use Rattle.lus_flat_classes.specs.View.{call_of as call_in}
-use Rattle.lus_translation.specs.Forms.{calls_form}
 use Rattle.lus_translation.proofs.Numbered.{stored_calls}
 use Rattle.lus_translation.proofs.calls.calls_of.Given as goal
 

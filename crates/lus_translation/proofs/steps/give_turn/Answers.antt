@@ -1,6 +1,5 @@
 use Rattle.std.proofs.Common.{◌≡◌, ◌∙◌, ◌++◌, ap}
-use Rattle.lus_program.specs.Programs.{node_at}
-use Rattle.lus_program.specs.View.{expression_of, operands_of, program_seen}
+use Rattle.lus_program.specs.View.{expression_of}
 use Rattle.lus_program.proofs.OperandViews.{seen_call}
 use Rattle.lus_flat_classes.specs.View.{steps_of}
 use Rattle.lus_flat_classes.specs.declared.class.Step.TheVariants as variants
