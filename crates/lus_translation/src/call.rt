@@ -1,11 +1,12 @@
 //! Calls of nodes.
 
-ghost use Rattle.std.specs.Prelude.{◌≡◌, ◌++◌, IfOk, OnOk, length, map};
+ghost use Rattle.std.specs.Prelude.{◌≡◌, ◌++◌, IfOk, OnOk, map};
 ghost use Rattle.lus_program.specs.Programs.{node_at};
-ghost use Rattle.lus_program.specs.View.{expression_of, operands_of, program_seen, variable_of};
-ghost use Rattle.lus_streams.specs.Clocks.{base_of as base_in, chain, formal_clock as formal_clock_in, operand, renamed_clock};
+ghost use Rattle.lus_program.specs.View.{expression_of, operands_of, program_seen};
+ghost use Rattle.lus_streams.specs.Clocks.{base_of as base_in, operand, renamed_clock};
 ghost use Rattle.lus_flat_classes.specs.View.{argument_of, call_of as call_in};
-ghost use Rattle.lus_translation.specs.Forms.{arguments_form, call_form, renamed_one};
+ghost use Rattle.lus_translation.specs.Forms.{call_form, renamed_one};
+ghost use Rattle.lus_translation.specs.Building.{clock_among, arguments_from};
 
 use crate::atom::atom_of;
 use crate::clock::{clock_at, without_tests};
@@ -70,7 +71,7 @@ fn formal_clock(
     arguments: &[Expr],
     base: &[Test],
 ) -> Result<Vec<Test>, Memory>
-    ensures { IfOk result (λ k. k.items ≡ renamed_clock (operands_of arguments.now) (chain (length (map variable_of formals.now)) (map variable_of formals.now) formal) ++ base.now) }
+    ensures { IfOk result (λ k. k.items ≡ renamed_clock (operands_of arguments.now) (clock_among formals.now formal) ++ base.now) }
 {
     let tests = clock_at(alloc, formals, formal)?;
     let mut clock = Vec::new(alloc);
@@ -87,7 +88,7 @@ fn arguments_of(
     arguments: &[Expr],
     base: &[Test],
 ) -> Result<Vec<Argument>, Memory>
-    ensures { IfOk result (λ found. map argument_of found.items ≡ arguments_form (operands_of arguments.now) (node_at (program_seen program.now) called) (operands_of arguments.now) base.now 0) }
+    ensures { IfOk result (λ found. map argument_of found.items ≡ arguments_from program.now called arguments.now base.now) }
 {
     let mut found = Vec::new(alloc);
     for (formal, argument) in arguments.iter().enumerate() {

@@ -1,11 +1,12 @@
 //! The calls of a node, in the order of its text.
 
-ghost use Rattle.std.specs.Prelude.{◌≡◌, ◌++◌, [], IfOk, OnOk, length, map};
+ghost use Rattle.std.specs.Prelude.{◌≡◌, IfOk, OnOk, length, map};
 ghost use Rattle.lus_values.specs.Lists.{item};
-ghost use Rattle.lus_program.specs.View.{expression_of, node_of, program_seen};
+ghost use Rattle.lus_program.specs.View.{node_of};
 ghost use Rattle.lus_streams.specs.Clocks.{clock_of as clock_in};
 ghost use Rattle.lus_flat_classes.specs.View.{call_of as call_in, clock_seen};
-ghost use Rattle.lus_translation.specs.Forms.{all_clocks, call_first, calls_form, numbers_form};
+ghost use Rattle.lus_translation.specs.Forms.{all_clocks, numbers_form};
+ghost use Rattle.lus_translation.specs.Building.{calls_from, AddsCall};
 
 use crate::call::call_of;
 use crate::clock::clock_at;
@@ -37,7 +38,7 @@ fn add_call(
     equation: &Equation,
     calls: &mut Vec<Call>,
 ) -> Result<(), Memory>
-    ensures { OnOk result (map call_in calls.new.items ≡ map call_in calls.old.items ++ call_first (program_seen program.now) (expression_of equation.now.right) (clock_in (node_of node.now) (item 0 equation.now.targets.items 0)) []) }
+    ensures { OnOk result (AddsCall program.now node.now equation.now calls.old.items calls.new.items) }
 {
     match &equation.right {
         Expr::Call(_, called, arguments) => {
@@ -52,7 +53,7 @@ fn add_call(
 
 /// The calls that are right sides of a node, in the order of its equations.
 pub fn calls_of(alloc: Global, program: &Program, node: &Node) -> Result<Vec<Call>, Memory>
-    ensures { IfOk result (λ qs. map call_in qs.items ≡ calls_form (program_seen program.now) (node_of node.now) (node_of node.now).equations) }
+    ensures { IfOk result (λ qs. map call_in qs.items ≡ calls_from program.now node.now) }
 {
     let mut calls = Vec::new(alloc);
     for equation in &node.equations {

@@ -1,12 +1,12 @@
 //! The class of a node whose equations have their turns.
 
-ghost use Rattle.std.specs.Prelude.{◌≡◌, ◌++◌, Some, IfOk, OnOk, length, map};
-ghost use Rattle.lus_program.specs.View.{node_of, program_seen};
-ghost use Rattle.lus_flat_classes.specs.View.{class_of as class_in, clock_seen, memory_of, steps_of as steps_in};
+ghost use Rattle.std.specs.Prelude.{◌≡◌, Some, IfOk, OnOk, length};
+ghost use Rattle.lus_program.specs.View.{node_of};
+ghost use Rattle.lus_flat_classes.specs.View.{class_of as class_in};
 ghost use Rattle.lus_values.specs.Lists.{Each};
 ghost use Rattle.lus_translation.specs.Making.{GivesAny};
-ghost use Rattle.lus_translation.specs.Forms.{all_cells, all_firsts, all_steps, cells_at, class_form, equation_cells, equation_firsts, equation_steps, firsts_at, numbers_form, steps_at};
-ghost use Rattle.lus_translation.specs.View.{turn_of as turn_in};
+ghost use Rattle.lus_translation.specs.Forms.{equation_cells, equation_firsts};
+ghost use Rattle.lus_translation.specs.Building.{AddsCells, AddsFirsts, AddsSteps, equation_from, steps_in_turn, cells_in_turn, firsts_in_turn, steps_in_turns, cells_in_turns, firsts_in_turns, class_from};
 
 use crate::calls::{calls_of, clock_of_equation, clocks_of, numbers_of};
 use crate::kept::Kept;
@@ -27,9 +27,9 @@ fn make_equation(
     variables: &[u32],
     built: &mut Built,
 ) -> Result<(), Memory>
-    ensures steps { OnOk result (steps_in built.new.steps.items ≡ steps_in built.old.steps.items ++ equation_steps (program_seen program.now) (node_of node.now) (length (map memory_of built.old.kept.cells.items)) (length (map clock_seen built.old.kept.firsts.items)) number (Some equation.now) variables.now) }
-    ensures cells { OnOk result (map memory_of built.new.kept.cells.items ≡ map memory_of built.old.kept.cells.items ++ equation_cells (node_of node.now) (Some equation.now) variables.now) }
-    ensures firsts { OnOk result (map clock_seen built.new.kept.firsts.items ≡ map clock_seen built.old.kept.firsts.items ++ equation_firsts (node_of node.now) (Some equation.now) variables.now) }
+    ensures steps { OnOk result (AddsSteps built.old built.new (equation_from program.now node.now built.old number equation.now variables.now)) }
+    ensures cells { OnOk result (AddsCells built.old built.new (equation_cells (node_of node.now) (Some equation.now) variables.now)) }
+    ensures firsts { OnOk result (AddsFirsts built.old built.new (equation_firsts (node_of node.now) (Some equation.now) variables.now)) }
     ensures given { OnOk result (Each GivesAny built.old.steps.items → Each GivesAny built.new.steps.items) }
 {
     let clock = clock_of_equation(alloc, node, equation)?;
@@ -47,9 +47,9 @@ fn make_turn(
     built: &mut Built,
 ) -> Result<(), Memory>
     requires { length numbers.now ≡ length node.now.equations.items }
-    ensures steps { OnOk result (steps_in built.new.steps.items ≡ steps_in built.old.steps.items ++ steps_at (program_seen program.now) (node_of node.now) node.now.equations.items numbers.now (length (map memory_of built.old.kept.cells.items)) (length (map clock_seen built.old.kept.firsts.items)) (turn_in turn.now)) }
-    ensures cells { OnOk result (map memory_of built.new.kept.cells.items ≡ map memory_of built.old.kept.cells.items ++ cells_at (program_seen program.now) (node_of node.now) node.now.equations.items numbers.now (turn_in turn.now)) }
-    ensures firsts { OnOk result (map clock_seen built.new.kept.firsts.items ≡ map clock_seen built.old.kept.firsts.items ++ firsts_at (program_seen program.now) (node_of node.now) node.now.equations.items numbers.now (turn_in turn.now)) }
+    ensures steps { OnOk result (AddsSteps built.old built.new (steps_in_turn program.now node.now numbers.now built.old turn.now)) }
+    ensures cells { OnOk result (AddsCells built.old built.new (cells_in_turn program.now node.now numbers.now turn.now)) }
+    ensures firsts { OnOk result (AddsFirsts built.old built.new (firsts_in_turn program.now node.now numbers.now turn.now)) }
     ensures given { OnOk result (Each GivesAny built.old.steps.items → Each GivesAny built.new.steps.items) }
 {
     match node.equations.get(turn.equation) {
@@ -79,9 +79,9 @@ fn make_turns(
     built: &mut Built,
 ) -> Result<(), Memory>
     requires { length numbers.now ≡ length node.now.equations.items }
-    ensures steps { OnOk result (steps_in built.new.steps.items ≡ steps_in built.old.steps.items ++ all_steps (program_seen program.now) (node_of node.now) node.now.equations.items numbers.now (length (map memory_of built.old.kept.cells.items)) (length (map clock_seen built.old.kept.firsts.items)) (map turn_in turns.now)) }
-    ensures cells { OnOk result (map memory_of built.new.kept.cells.items ≡ map memory_of built.old.kept.cells.items ++ all_cells (program_seen program.now) (node_of node.now) node.now.equations.items numbers.now (map turn_in turns.now)) }
-    ensures firsts { OnOk result (map clock_seen built.new.kept.firsts.items ≡ map clock_seen built.old.kept.firsts.items ++ all_firsts (program_seen program.now) (node_of node.now) node.now.equations.items numbers.now (map turn_in turns.now)) }
+    ensures steps { OnOk result (AddsSteps built.old built.new (steps_in_turns program.now node.now numbers.now built.old turns.now)) }
+    ensures cells { OnOk result (AddsCells built.old built.new (cells_in_turns program.now node.now numbers.now turns.now)) }
+    ensures firsts { OnOk result (AddsFirsts built.old built.new (firsts_in_turns program.now node.now numbers.now turns.now)) }
     ensures given { OnOk result (Each GivesAny built.old.steps.items → Each GivesAny built.new.steps.items) }
 {
     for turn in turns {
@@ -97,7 +97,7 @@ pub fn class_with(
     node: &Node,
     turns: &[Turn],
 ) -> Result<Class, Memory>
-    ensures form { IfOk result (λ c. class_in c ≡ class_form (program_seen program.now) (node_of node.now) node.now.equations.items (numbers_form 0 node.now.equations.items) (map turn_in turns.now)) }
+    ensures form { IfOk result (λ c. class_in c ≡ class_from program.now node.now turns.now) }
     ensures outputs { IfOk result (λ c. c.outputs ≡ node.now.outputs) }
     ensures given { IfOk result (λ c. Each GivesAny c.steps.items) }
 {

@@ -1,9 +1,9 @@
 //! Codes of expressions.
 
-ghost use Rattle.std.specs.Prelude.{◌≡◌, ◌++◌, ◌∷◌, [], length, map, IfOk, OnOk};
+ghost use Rattle.std.specs.Prelude.{◌≡◌, ◌∷◌, [], IfOk, OnOk};
 ghost use Rattle.lus_program.specs.View.{expression_of, operands_of};
-ghost use Rattle.lus_flat_classes.specs.View.{clock_seen, code_of as code_in, codes_of as codes_in, memory_of};
-ghost use Rattle.lus_translation.specs.Forms.{cell_for, code_form, codes_form, branch_codes, kept_cells, all_kept_cells, branch_cells, kept_firsts, all_kept_firsts, branch_firsts};
+ghost use Rattle.lus_translation.specs.Forms.{cell_for, kept_cells, all_kept_cells, branch_cells, kept_firsts, all_kept_firsts, branch_firsts};
+ghost use Rattle.lus_translation.specs.Building.{next_cell, next_first, KeepsCells, KeepsFirsts, IsCodeFrom, AreCodesFrom, AreBranchesFrom};
 
 use crate::atom::{atom_of, code_of_atom};
 use crate::clock::{copied, with_test};
@@ -15,8 +15,8 @@ use std::alloc::Global;
 
 /// A cell for an operand on a clock: its number.
 fn cell_of(alloc: Global, operand: &Expr, clock: &[Test], kept: &mut Kept) -> Result<u32, Memory>
-    ensures number { IfOk result (λ n. n ≡ length (map memory_of kept.old.cells.items)) }
-    ensures cells { OnOk result (map memory_of kept.new.cells.items ≡ map memory_of kept.old.cells.items ++ cell_for (expression_of operand.now) clock.now) }
+    ensures number { IfOk result (λ n. n ≡ next_cell kept.old) }
+    ensures cells { OnOk result (KeepsCells kept.old kept.new (cell_for (expression_of operand.now) clock.now)) }
     ensures firsts { OnOk result (kept.new.firsts ≡ kept.old.firsts) }
 {
     let atom = atom_of(alloc, operand)?;
@@ -25,8 +25,8 @@ fn cell_of(alloc: Global, operand: &Expr, clock: &[Test], kept: &mut Kept) -> Re
 
 /// A first-flag on a clock: its number.
 fn first_of(alloc: Global, clock: &[Test], kept: &mut Kept) -> Result<u32, Memory>
-    ensures number { IfOk result (λ n. n ≡ length (map clock_seen kept.old.firsts.items)) }
-    ensures firsts { OnOk result (map clock_seen kept.new.firsts.items ≡ map clock_seen kept.old.firsts.items ++ clock.now ∷ []) }
+    ensures number { IfOk result (λ n. n ≡ next_first kept.old) }
+    ensures firsts { OnOk result (KeepsFirsts kept.old kept.new (clock.now ∷ [])) }
     ensures cells { OnOk result (kept.new.cells ≡ kept.old.cells) }
 {
     keep_first(copied(alloc, clock)?, kept)
@@ -36,9 +36,9 @@ fn first_of(alloc: Global, clock: &[Test], kept: &mut Kept) -> Result<u32, Memor
 /// of the text, a flag before those of its operands, a cell after them.
 #[cycle(codes)]
 pub fn code_of(alloc: Global, expr: &Expr, clock: &[Test], kept: &mut Kept) -> Result<Code, Memory>
-    ensures code { IfOk result (λ d. code_in d ≡ code_form (length (map memory_of kept.old.cells.items)) (length (map clock_seen kept.old.firsts.items)) (expression_of expr.now) clock.now) }
-    ensures cells { OnOk result (map memory_of kept.new.cells.items ≡ map memory_of kept.old.cells.items ++ kept_cells (expression_of expr.now) clock.now) }
-    ensures firsts { OnOk result (map clock_seen kept.new.firsts.items ≡ map clock_seen kept.old.firsts.items ++ kept_firsts (expression_of expr.now) clock.now) }
+    ensures code { IfOk result (λ d. IsCodeFrom kept.old (expression_of expr.now) clock.now d) }
+    ensures cells { OnOk result (KeepsCells kept.old kept.new (kept_cells (expression_of expr.now) clock.now)) }
+    ensures firsts { OnOk result (KeepsFirsts kept.old kept.new (kept_firsts (expression_of expr.now) clock.now)) }
 {
     match expr {
         Expr::Literal(_, value) => Ok(Code::Fixed(copy(alloc, value)?)),
@@ -78,9 +78,9 @@ fn codes_of(
     clock: &[Test],
     kept: &mut Kept,
 ) -> Result<Vec<Code>, Memory>
-    ensures code { IfOk result (λ ds. map code_in ds.items ≡ codes_form (length (map memory_of kept.old.cells.items)) (length (map clock_seen kept.old.firsts.items)) (operands_of operands.now) clock.now) }
-    ensures cells { OnOk result (map memory_of kept.new.cells.items ≡ map memory_of kept.old.cells.items ++ all_kept_cells (operands_of operands.now) clock.now) }
-    ensures firsts { OnOk result (map clock_seen kept.new.firsts.items ≡ map clock_seen kept.old.firsts.items ++ all_kept_firsts (operands_of operands.now) clock.now) }
+    ensures code { IfOk result (λ ds. AreCodesFrom kept.old (operands_of operands.now) clock.now ds.items) }
+    ensures cells { OnOk result (KeepsCells kept.old kept.new (all_kept_cells (operands_of operands.now) clock.now)) }
+    ensures firsts { OnOk result (KeepsFirsts kept.old kept.new (all_kept_firsts (operands_of operands.now) clock.now)) }
 {
     let mut codes = Vec::new(alloc);
     for operand in operands {
@@ -99,9 +99,9 @@ fn branch_codes_of(
     clock: &[Test],
     kept: &mut Kept,
 ) -> Result<Vec<Code>, Memory>
-    ensures code { IfOk result (λ ds. map code_in ds.items ≡ branch_codes (length (map memory_of kept.old.cells.items)) (length (map clock_seen kept.old.firsts.items)) (operands_of branches.now) variable 0 clock.now) }
-    ensures cells { OnOk result (map memory_of kept.new.cells.items ≡ map memory_of kept.old.cells.items ++ branch_cells (operands_of branches.now) variable 0 clock.now) }
-    ensures firsts { OnOk result (map clock_seen kept.new.firsts.items ≡ map clock_seen kept.old.firsts.items ++ branch_firsts (operands_of branches.now) variable 0 clock.now) }
+    ensures code { IfOk result (λ ds. AreBranchesFrom kept.old (operands_of branches.now) variable clock.now ds.items) }
+    ensures cells { OnOk result (KeepsCells kept.old kept.new (branch_cells (operands_of branches.now) variable 0 clock.now)) }
+    ensures firsts { OnOk result (KeepsFirsts kept.old kept.new (branch_firsts (operands_of branches.now) variable 0 clock.now)) }
 {
     let mut codes = Vec::new(alloc);
     for (constructor, branch) in branches.iter().enumerate() {

@@ -1,7 +1,8 @@
 //! What a class keeps from one instant to the next, numbered as it is met.
 
-ghost use Rattle.std.specs.Prelude.{◌≡◌, ◌++◌, ◌∷◌, [], length, map, IfOk, OnOk};
-ghost use Rattle.lus_flat_classes.specs.View.{atom_of as atom_in, clock_seen, memory_of};
+ghost use Rattle.std.specs.Prelude.{◌≡◌, ◌∷◌, [], IfOk, OnOk};
+ghost use Rattle.lus_flat_classes.specs.View.{atom_of as atom_in};
+ghost use Rattle.lus_translation.specs.Building.{next_cell, next_first, KeepsCells, KeepsFirsts};
 
 use lus_flat_classes::{Atom, Cell};
 use lus_program::Test;
@@ -26,8 +27,8 @@ pub fn number_of(count: usize) -> Result<u32, Memory>
 
 /// A cell for an operand on a clock: its number.
 pub fn keep_cell(clock: Vec<Test>, operand: Atom, kept: &mut Kept) -> Result<u32, Memory>
-    ensures number { IfOk result (λ n. n ≡ length (map memory_of kept.old.cells.items)) }
-    ensures cells { OnOk result (map memory_of kept.new.cells.items ≡ map memory_of kept.old.cells.items ++ record { clock = clock.items; operand = atom_in operand } ∷ []) }
+    ensures number { IfOk result (λ n. n ≡ next_cell kept.old) }
+    ensures cells { OnOk result (KeepsCells kept.old kept.new (record { clock = clock.items; operand = atom_in operand } ∷ [])) }
     ensures firsts { OnOk result (kept.new.firsts ≡ kept.old.firsts) }
 {
     let number = number_of(kept.cells.len())?;
@@ -37,8 +38,8 @@ pub fn keep_cell(clock: Vec<Test>, operand: Atom, kept: &mut Kept) -> Result<u32
 
 /// A first-flag on a clock: its number.
 pub fn keep_first(clock: Vec<Test>, kept: &mut Kept) -> Result<u32, Memory>
-    ensures number { IfOk result (λ n. n ≡ length (map clock_seen kept.old.firsts.items)) }
-    ensures firsts { OnOk result (map clock_seen kept.new.firsts.items ≡ map clock_seen kept.old.firsts.items ++ clock.items ∷ []) }
+    ensures number { IfOk result (λ n. n ≡ next_first kept.old) }
+    ensures firsts { OnOk result (KeepsFirsts kept.old kept.new (clock.items ∷ [])) }
     ensures cells { OnOk result (kept.new.cells ≡ kept.old.cells) }
 {
     let number = number_of(kept.firsts.len())?;

@@ -1,13 +1,13 @@
 //! Steps that give variables what their equations say.
 
-ghost use Rattle.std.specs.Prelude.{◌≡◌, ◌+◌, ◌++◌, IfOk, OnOk, length, map};
-ghost use Rattle.lus_program.specs.Programs.{node_at};
-ghost use Rattle.lus_program.specs.View.{expression_of, program_seen};
+ghost use Rattle.std.specs.Prelude.{◌≡◌, IfOk, OnOk, map};
+ghost use Rattle.lus_program.specs.View.{expression_of};
 ghost use Rattle.lus_streams.specs.Equations.{place_in};
-ghost use Rattle.lus_flat_classes.specs.View.{clock_seen, memory_of, steps_of as steps_in, taken};
+ghost use Rattle.lus_flat_classes.specs.View.{taken};
 ghost use Rattle.lus_values.specs.Lists.{Each};
 ghost use Rattle.lus_translation.specs.Making.{GivesAny};
-ghost use Rattle.lus_translation.specs.Forms.{answers_form, given_cells, given_firsts, given_steps, turn_cells, turn_firsts, turn_steps};
+ghost use Rattle.lus_translation.specs.Forms.{answers_form, given_cells, given_firsts, turn_cells, turn_firsts};
+ghost use Rattle.lus_translation.specs.Building.{AddsCells, AddsFirsts, AddsSteps, given_from, turn_from};
 
 use crate::code::code_of;
 use crate::formals::inputs_at;
@@ -68,9 +68,9 @@ fn give_right(
     variables: &[u32],
     built: &mut Built,
 ) -> Result<(), Memory>
-    ensures steps { OnOk result (steps_in built.new.steps.items ≡ steps_in built.old.steps.items ++ given_steps (length (map memory_of built.old.kept.cells.items)) (length (map clock_seen built.old.kept.firsts.items)) (expression_of right.now) clock.now variables.now) }
-    ensures cells { OnOk result (map memory_of built.new.kept.cells.items ≡ map memory_of built.old.kept.cells.items ++ given_cells (expression_of right.now) clock.now variables.now) }
-    ensures firsts { OnOk result (map clock_seen built.new.kept.firsts.items ≡ map clock_seen built.old.kept.firsts.items ++ given_firsts (expression_of right.now) clock.now variables.now) }
+    ensures steps { OnOk result (AddsSteps built.old built.new (given_from built.old (expression_of right.now) clock.now variables.now)) }
+    ensures cells { OnOk result (AddsCells built.old built.new (given_cells (expression_of right.now) clock.now variables.now)) }
+    ensures firsts { OnOk result (AddsFirsts built.old built.new (given_firsts (expression_of right.now) clock.now variables.now)) }
     ensures given { OnOk result (Each GivesAny built.old.steps.items → Each GivesAny built.new.steps.items) }
 {
     for variable in variables {
@@ -91,9 +91,9 @@ pub fn give_turn(
     variables: &[u32],
     built: &mut Built,
 ) -> Result<(), Memory>
-    ensures steps { OnOk result (steps_in built.new.steps.items ≡ steps_in built.old.steps.items ++ turn_steps (program_seen program.now) (length (map memory_of built.old.kept.cells.items)) (length (map clock_seen built.old.kept.firsts.items)) number (expression_of equation.now.right) equation.now.targets.items clock.now variables.now) }
-    ensures cells { OnOk result (map memory_of built.new.kept.cells.items ≡ map memory_of built.old.kept.cells.items ++ turn_cells (expression_of equation.now.right) clock.now variables.now) }
-    ensures firsts { OnOk result (map clock_seen built.new.kept.firsts.items ≡ map clock_seen built.old.kept.firsts.items ++ turn_firsts (expression_of equation.now.right) clock.now variables.now) }
+    ensures steps { OnOk result (AddsSteps built.old built.new (turn_from program.now built.old number equation.now clock.now variables.now)) }
+    ensures cells { OnOk result (AddsCells built.old built.new (turn_cells (expression_of equation.now.right) clock.now variables.now)) }
+    ensures firsts { OnOk result (AddsFirsts built.old built.new (turn_firsts (expression_of equation.now.right) clock.now variables.now)) }
     ensures given { OnOk result (Each GivesAny built.old.steps.items → Each GivesAny built.new.steps.items) }
 {
     match &equation.right {

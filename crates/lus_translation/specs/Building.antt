@@ -1,0 +1,103 @@
+-- What the code adds to what it has built so far.
+use Rattle.std.specs.Prelude.{◌≡◌, ℕ, List, [], ◌++◌, Some, length, map}
+use Rattle.lus_values.specs.Lists.{item}
+use Rattle.lus_program.specs.declared.expr.Expr.{Expr}
+use Rattle.lus_program.specs.declared.node.Equation.{Equation as StoredEquation}
+use Rattle.lus_program.specs.declared.node.Node.{Node as StoredNode}
+use Rattle.lus_program.specs.declared.node.Program.{Program as StoredProgram}
+use Rattle.lus_program.specs.declared.node.Variable.{Variable as StoredVariable}
+use Rattle.lus_program.specs.Programs.{Expression, Operands, node_at}
+use Rattle.lus_program.specs.View.{expression_of, operands_of, node_of, program_seen, variable_of}
+use Rattle.lus_streams.specs.Clocks.{Clock, chain, clock_of}
+use Rattle.lus_classes.specs.Classes.{Argument, Call, Class, Memory, Step}
+use Rattle.lus_flat_classes.specs.declared.class.Call.{Call as StoredCall}
+use Rattle.lus_flat_classes.specs.declared.code.Code.{Code as StoredCode}
+use Rattle.lus_flat_classes.specs.View.{call_of, clock_seen, code_of, memory_of, steps_of}
+use Rattle.lus_translation.specs.declared.kept.Kept.{Kept}
+use Rattle.lus_translation.specs.declared.steps.Built.{Built}
+use Rattle.lus_translation.specs.declared.turn.Turn.{Turn as StoredTurn}
+use Rattle.lus_translation.specs.Forms.{all_cells, all_firsts, all_steps, arguments_form, branch_codes, call_first, calls_form, cells_at, class_form, code_form, codes_form, equation_steps, firsts_at, given_steps, numbers_form, steps_at, turn_steps}
+use Rattle.lus_translation.specs.View.{turn_of}
+
+-- the numbers of the next cell and the next first-flag
+abbrev pub next_cell : Kept → ℕ
+next_cell kept = length (map memory_of kept.cells.items)
+
+abbrev pub next_first : Kept → ℕ
+next_first kept = length (map clock_seen kept.firsts.items)
+
+-- these cells were added, and these first-flags
+abbrev pub KeepsCells : (old new : Kept) → List Memory → Type 0
+KeepsCells old new ms = map memory_of new.cells.items ≡ map memory_of old.cells.items ++ ms
+
+abbrev pub KeepsFirsts : (old new : Kept) → List Clock → Type 0
+KeepsFirsts old new ks = map clock_seen new.firsts.items ≡ map clock_seen old.firsts.items ++ ks
+
+-- a code whose cells and first-flags come next is that of an expression on a clock
+abbrev pub IsCodeFrom : Kept → Expression → Clock → StoredCode → Type 0
+IsCodeFrom kept e k d = code_of d ≡ code_form (next_cell kept) (next_first kept) e k
+
+abbrev pub AreCodesFrom : Kept → Operands → Clock → List StoredCode → Type 0
+AreCodesFrom kept es k ds = map code_of ds ≡ codes_form (next_cell kept) (next_first kept) es k
+
+abbrev pub AreBranchesFrom : Kept → Operands → (variable : ℕ) → Clock → List StoredCode → Type 0
+AreBranchesFrom kept es x k ds = map code_of ds ≡ branch_codes (next_cell kept) (next_first kept) es x 0 k
+
+-- the clock of a variable among these
+abbrev pub clock_among : List StoredVariable → ℕ → Clock
+clock_among vs x = chain (length (map variable_of vs)) (map variable_of vs) x
+
+-- the arguments of a call with a base
+abbrev pub arguments_from : StoredProgram → (called : ℕ) → List Expr → Clock → List Argument
+arguments_from p g args base = arguments_form (operands_of args) (node_at (program_seen p) g) (operands_of args) base 0
+
+-- the calls of a node, and that of one equation, if its right side is one
+abbrev pub calls_from : StoredProgram → StoredNode → List Call
+calls_from p f = calls_form (program_seen p) (node_of f) (node_of f).equations
+
+abbrev pub AddsCall : StoredProgram → StoredNode → StoredEquation → (old new : List StoredCall) → Type 0
+AddsCall p f q old new =
+    map call_of new ≡ map call_of old ++ call_first (program_seen p) (expression_of q.right) (clock_of (node_of f) (item 0 q.targets.items 0)) []
+
+-- these cells, first-flags and steps were added
+abbrev pub AddsCells : (old new : Built) → List Memory → Type 0
+AddsCells old new ms = KeepsCells old.kept new.kept ms
+
+abbrev pub AddsFirsts : (old new : Built) → List Clock → Type 0
+AddsFirsts old new ks = KeepsFirsts old.kept new.kept ks
+
+abbrev pub AddsSteps : (old new : Built) → List Step → Type 0
+AddsSteps old new ss = steps_of new.steps.items ≡ steps_of old.steps.items ++ ss
+
+-- the steps that come next for a right side, for an equation on a clock, for an equation, and in turns
+abbrev pub given_from : Built → Expression → Clock → List ℕ → List Step
+given_from b e k xs = given_steps (next_cell b.kept) (next_first b.kept) e k xs
+
+abbrev pub turn_from : StoredProgram → Built → (number : ℕ) → StoredEquation → Clock → List ℕ → List Step
+turn_from p b number q k xs = turn_steps (program_seen p) (next_cell b.kept) (next_first b.kept) number (expression_of q.right) q.targets.items k xs
+
+abbrev pub equation_from : StoredProgram → StoredNode → Built → (number : ℕ) → StoredEquation → List ℕ → List Step
+equation_from p f b number q xs = equation_steps (program_seen p) (node_of f) (next_cell b.kept) (next_first b.kept) number (Some q) xs
+
+module _ (p : StoredProgram) (f : StoredNode) (numbers : List ℕ) where
+  abbrev pub steps_in_turn : Built → StoredTurn → List Step
+  steps_in_turn b t = steps_at (program_seen p) (node_of f) f.equations.items numbers (next_cell b.kept) (next_first b.kept) (turn_of t)
+
+  abbrev pub cells_in_turn : StoredTurn → List Memory
+  cells_in_turn t = cells_at (program_seen p) (node_of f) f.equations.items numbers (turn_of t)
+
+  abbrev pub firsts_in_turn : StoredTurn → List Clock
+  firsts_in_turn t = firsts_at (program_seen p) (node_of f) f.equations.items numbers (turn_of t)
+
+  abbrev pub steps_in_turns : Built → List StoredTurn → List Step
+  steps_in_turns b ts = all_steps (program_seen p) (node_of f) f.equations.items numbers (next_cell b.kept) (next_first b.kept) (map turn_of ts)
+
+  abbrev pub cells_in_turns : List StoredTurn → List Memory
+  cells_in_turns ts = all_cells (program_seen p) (node_of f) f.equations.items numbers (map turn_of ts)
+
+  abbrev pub firsts_in_turns : List StoredTurn → List Clock
+  firsts_in_turns ts = all_firsts (program_seen p) (node_of f) f.equations.items numbers (map turn_of ts)
+
+-- the class of a node whose equations have these turns
+abbrev pub class_from : StoredProgram → StoredNode → List StoredTurn → Class
+class_from p f ts = class_form (program_seen p) (node_of f) f.equations.items (numbers_form 0 f.equations.items) (map turn_of ts)
