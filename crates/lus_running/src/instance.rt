@@ -1,11 +1,11 @@
 //! Instances of nodes.
 
-ghost use Rattle.std.specs.Prelude.{◌≡◌, ◌↔◌, ◌<◌, IsTrue, ℕ, suc, IfOk, OnErr, length};
-ghost use Rattle.lus_classes.specs.States.{fresh, WithinDepth};
+ghost use Rattle.std.specs.Prelude.{◌≡◌, ◌↔◌, ◌<◌, IsTrue, suc, IfOk, OnErr, length};
+ghost use Rattle.lus_classes.specs.States.{WithinDepth};
 ghost use Rattle.lus_flat_classes.specs.Turns.{AreReady};
 ghost use Rattle.lus_flat_classes.specs.View.{classes_of};
 ghost use Rattle.lus_running.specs.Fits.{OfClass};
-ghost use Rattle.lus_running.specs.Instances.{HasFormals, IsCopy, IsLong, IsReset, IsShaped, KeepsSame, TakesStep, state_of};
+ghost use Rattle.lus_running.specs.Instances.{HasFormals, IsCopy, IsFresh, IsLong, IsReset, IsShaped, KeepsSame, TakesStep};
 
 use crate::error::StepError;
 use crate::resetting::{absent, copy_cells, copy_flags, empty_all, nils, set_all, set_flags};
@@ -33,7 +33,7 @@ impl Instance {
     pub fn fresh(alloc: Global, classes: &[Class], node: u32) -> Result<Instance, Memory>
         requires within { node < length classes.now }
         requires all { AreReady classes.now }
-        ensures start { IfOk result (λ o. (depth : ℕ) → WithinDepth (classes_of classes.now) depth node → state_of classes.now depth o ≡ fresh (classes_of classes.now) depth node) }
+        ensures start { IfOk result (IsFresh classes.now node) }
         ensures node { IfOk result (λ o. o.node ≡ node) }
         ensures shaped { IfOk result (λ o. IsShaped classes.now o) }
     {

@@ -1,11 +1,11 @@
 //! How variables are given their entries.
 
 ghost use Rattle.std.specs.Prelude.{◌≡◌, map, slice_set};
-ghost use Rattle.lus_values.specs.View.{value_of, entry_of};
+ghost use Rattle.lus_values.specs.View.{entry_of};
 ghost use Rattle.lus_classes.specs.Classes.{clock_in};
 ghost use Rattle.lus_classes.specs.Steps.{is_on_row};
-ghost use Rattle.lus_flat_classes.specs.View.{class_of, code_of};
-ghost use Rattle.lus_running.specs.Comes.{Comes, made, received, received_one};
+ghost use Rattle.lus_flat_classes.specs.View.{class_of};
+ghost use Rattle.lus_running.specs.Gifts.{GivesTo, ReceivesAll, ReceivesOne};
 
 use crate::entries::entry_at;
 use crate::error::StepError;
@@ -44,7 +44,7 @@ pub fn give(
     variable: usize,
     code: &Code,
 ) -> Result<(), StepError>
-    ensures { Comes result (made (class_of class.now) (map value_of cells.now) firsts.now (record { target = variable; code = code_of code.now }) (map entry_of row.old)) (map entry_of row.new) }
+    ensures { GivesTo class.now cells.now firsts.now variable code.now row.old result row.new }
 {
     if !is_present(class, row, variable) {
         put(row, variable, None);
@@ -67,7 +67,7 @@ pub fn receive(
     row: &mut [Option<Value>],
     target: Target,
 ) -> Result<(), StepError>
-    ensures { Comes result (received_one (class_of class.now) (map entry_of answer.now) target (map entry_of row.old)) (map entry_of row.new) }
+    ensures { ReceivesOne class.now answer.now target row.old result row.new }
 {
     let variable = target.variable as usize;
     if !is_present(class, row, variable) {
@@ -91,7 +91,7 @@ pub fn receive_all(
     row: &mut [Option<Value>],
     targets: &[Target],
 ) -> Result<(), StepError>
-    ensures { Comes result (received (class_of class.now) (map entry_of answer.now) targets.now (map entry_of row.old)) (map entry_of row.new) }
+    ensures { ReceivesAll class.now answer.now targets.now row.old result row.new }
 {
     for target in targets {
         receive(alloc, class, answer, row, *target)?;
