@@ -2,9 +2,8 @@
 
 ghost use Rattle.std.specs.Prelude.{◌≡◌, ◌↔◌, ◌<◌, [], IsTrue, length, IfOk, IfErr, OnErr};
 ghost use Rattle.lus_simulation.specs.Fitting.{has_shape, has_presence};
-ghost use Rattle.lus_simulation.specs.LineageLaws.{Faults};
-ghost use Rattle.lus_code.specs.Codes.{program_of, plain_classes};
-ghost use Rattle.lus_eval.specs.Objects.{IsShaped, ObjectLived, IsStep, IsReset, state_of};
+ghost use Rattle.lus_code.specs.Codes.{program_of};
+ghost use Rattle.lus_eval.specs.Objects.{IsFault, IsReset, IsShaped, IsStep, ObjectLived};
 
 use crate::error::StepError;
 use crate::shape::row_fits;
@@ -60,6 +59,7 @@ impl Object {
         requires { IsShaped code.now self.now }
         ensures { result ≡ has_shape (program_of code.now) self.now.node inputs.now }
     {
+        // There are as many nodes as classes, and the node of a shaped object has a class.
         let _classes = code.classes();
         let program = code.program();
         let node = &program.nodes[self.instance.node as usize];
@@ -72,6 +72,7 @@ impl Object {
         requires { IsShaped code.now self.now }
         ensures { result ≡ has_presence (program_of code.now) self.now.node inputs.now }
     {
+        // The program is checked, so that the class's clocks are those of the node.
         let _program = code.program();
         let class = &code.classes()[self.instance.node as usize];
         fits_presence(class, inputs.items())
@@ -84,7 +85,7 @@ impl Object {
         requires shape { IsTrue (has_shape (program_of code.now) self.old.node inputs.now) }
         requires presence { IsTrue (has_presence (program_of code.now) self.old.node inputs.now) }
         ensures ok { IfOk result (λ outputs. IsStep code.now self.old self.new inputs.now outputs) }
-        ensures fault { IfErr result (λ e. e ≡ StepError.Fault → Faults (program_of code.now) (plain_classes code.now) (state_of code.now self.old) self.old.node inputs.now) }
+        ensures fault { IfErr result (λ e. e ≡ StepError.Fault → IsFault code.now self.old inputs.now) }
         ensures err { OnErr result (self.new ≡ self.old) }
     {
         let classes = code.classes();

@@ -1,12 +1,12 @@
 //! Whether rows are of the types of inputs.
 
 ghost use Rattle.std.specs.Prelude.{◌≡◌, map};
-ghost use Rattle.lus_values.specs.Values.{fields_of};
 ghost use Rattle.lus_values.specs.View.{entry_of, value_of};
-ghost use Rattle.lus_program.specs.View.{field_of, program_seen, variable_of};
+ghost use Rattle.lus_program.specs.View.{field_of, program_seen};
 ghost use Rattle.lus_meaning.specs.Types.{constructors_in, fields_in};
 ghost use Rattle.lus_meaning.specs.Resolved.{declared_in};
-ghost use Rattle.lus_simulation.specs.Fitting.{are_of, entry_fits, is_of, row_fits};
+ghost use Rattle.lus_simulation.specs.Fitting.{entry_fits, is_of};
+ghost use Rattle.lus_eval.specs.TypedRows.{entries_fit, values_fit};
 
 use lus_program::{Declared, Field, Kind, Program, Variable};
 use lus_values::Value;
@@ -58,7 +58,7 @@ fn is_of(value: &Value, kind: Kind, program: &Program) -> bool
 /// Whether values are as many as fields, each of its field's type.
 #[cycle(shape)]
 fn are_of(values: &[Value], fields: &[Field], program: &Program) -> bool
-    ensures { result ≡ are_of (program_seen program.now) (map (λ f. f.kind) (map field_of fields.now)) (fields_of (map value_of values.now)) }
+    ensures { result ≡ values_fit (program_seen program.now) fields.now values.now }
 {
     if values.len() != fields.len() {
         return false;
@@ -83,7 +83,7 @@ fn entry_fits(entry: &Option<Value>, kind: Kind, program: &Program) -> bool
 
 /// Whether entries are as many as variables, each absent or of its variable's type.
 pub fn row_fits(entries: &[Option<Value>], variables: &[Variable], program: &Program) -> bool
-    ensures { result ≡ row_fits (program_seen program.now) (map (λ v. v.kind) (map variable_of variables.now)) (map entry_of entries.now) }
+    ensures { result ≡ entries_fit (program_seen program.now) variables.now entries.now }
 {
     if entries.len() != variables.len() {
         return false;

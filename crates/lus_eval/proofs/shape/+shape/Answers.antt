@@ -1,6 +1,7 @@
 use Rattle.std.proofs.Common.{◌≡◌, ◌∙◌, sym, ap}
 use Rattle.lus_program.specs.View.{program_seen}
-use Rattle.lus_eval.proofs.TypedRows.{values_fit, values_fit-lengths, structure_fits}
+use Rattle.lus_eval.specs.TypedRows.{values_fit}
+use Rattle.lus_eval.proofs.TypedRows.{values_fit-lengths, structure_fits}
 use Rattle.lus_eval.proofs.shape.+shape.Goals as goal
 
 pub are_of-returns-then-values-fields : goal.are_of-returns-then-values-fields

@@ -1,6 +1,6 @@
 use Rattle.std.proofs.Common.{◌≡◌, drop, length}
 use Rattle.lus_program.specs.View.{program_seen}
-use Rattle.lus_eval.proofs.TypedRows.{values_fit}
+use Rattle.lus_eval.specs.TypedRows.{values_fit}
 use Rattle.lus_eval.proofs.shape.+shape.Given as goal
 
 abbrev pub invariant-are_of-loop-value : goal.invariant-are_of-loop-value
