@@ -6,13 +6,11 @@ use mathlib.Core.Logic.{dite}
 use mathlib.Core.Option.{some, some-injective}
 use native.Mathlib.Decide.{ℕ_discrete}
 use lib.ListN.{get_elem?}
-use Rattle.atomic_table.specs.Table.{State, Enters, Final, Seen}
-use Rattle.atomic_table.proofs.Lists.{at_snoc}
+use Rattle.atomic_table.specs.Table.{State, Final, Seen}
 use Rattle.lus_requests.specs.declared.request.Entry.{Entry}
 use Rattle.lus_machine.specs.Machines.{Told}
 use Rattle.lus_shared.specs.Knowledge.{Origin, machine_at, Facts, Sight, Instance, Standing, kept}
 use Rattle.lus_shared.specs.Rule.{Each, takers, times, FitsOne, Fits, Sound}
-use Rattle.lus_shared.specs.Plays.{nobody}
 use Rattle.lus_shared.specs.Closing.{IsPartOf, Closed, facts_from, all_facts}
 use Rattle.lus_shared.proofs.Lists.{sum_at, sum_two, is_number, same_number}
 use Rattle.lus_shared.proofs.Keeps.{bit, number_below, at_most_once}
@@ -25,25 +23,8 @@ cases : (b : Bool) → (b ≡ true) ⊎ (b ≡ false)
 cases true = inl refl
 cases false = inr refl
 
-pub enters : (o : Origin) (slots i : ℕ) → Enters (Sound o) slots i (λ n w. w ≡ nobody)
-enters o slots i s r wide small = (
-  nobody,
-  record {
-    history = r.history;
-    one_word = r.one_word;
-    one_slot = r.one_slot;
-    word = let a = sum_by_push bit s.views nobody in let z : bit nobody ≡ 0 = refl in let now = r.word in omega arith;
-    at_most_one = let a = sum_by_push bit s.views nobody in let z : bit nobody ≡ 0 = refl in let most = r.at_most_one in omega arith;
-    home = λ none_yet. let a = sum_by_push bit s.views nobody in let z : bit nobody ≡ 0 = refl in r.home (omega arith);
-    legal = r.legal;
-    short = r.short;
-    callers = r.callers;
-    seats = λ j u e. ⊎_elim (λ (t : get_elem? s.views j ≡ some u). r.seats j u t) (λ (t : nobody ≡ u). subst (Fits o r.history) t record { each = tt; taker = λ too. absurd (cc too) }) (at_snoc s.views nobody u j e);
-    once = λ k l. let a = sum_by_push (times k) s.views nobody in let z : times k nobody ≡ 0 = refl in let b = r.once k l in omega arith;
-    below = λ k l. let a = sum_by_push (times k) s.views nobody in let z : times k nobody ≡ 0 = refl in let b = r.below k l in omega arith;
-  },
-  refl,
-)
+has : (u : Sight) (f : Facts) → u.seats ≡ f ∷ [] → 1 ≤ times f.number u
+has u f is = let one = same_number f f.number refl in let a = sum_by-cons (is_number f.number) f [] in let b = ap (λ (fs : List Facts). sum_by (is_number f.number) fs) is in omega arith
 
 -- a view with all numbers leaves none to a taker
 pub no_takers : (o : Origin) (s : State Told Sight) (r : Sound o s) (id : ℕ) (v : Sight) → get_elem? s.views id ≡ some v → v.taker ≡ false → ((k : ℕ) → k < o.callers → times k v ≡ 1) → takers s.views ≡ 0
@@ -51,9 +32,6 @@ no_takers o s r id v at free all = sum_zero bit s.views (λ j u e. ⊎_elim
     (λ (is : u.taker ≡ true). absurd (taken j u e is))
     (λ (not_it : u.taker ≡ false). rw not_it) (cases u.taker))
   where
-    has : (u : Sight) (f : Facts) → u.seats ≡ f ∷ [] → 1 ≤ times f.number u
-    has u f is = let one = same_number f f.number refl in let a = sum_by-cons (is_number f.number) f [] in let b = ap (λ (fs : List Facts). sum_by (is_number f.number) fs) is in omega arith
-
     taken : (j : ℕ) (u : Sight) → get_elem? s.views j ≡ some u → u.taker ≡ true → ⊥
     taken j u e is = dite (ℕ_discrete j id)
         (λ here. let same : some u ≡ some v = sym e ∙ (ap (get_elem? s.views) here ∙ at) in let t : u.taker ≡ v.taker = ap (λ (w : Sight). w.taker) (some-injective u v same) in cc (t, is, free))
@@ -126,3 +104,32 @@ finished o i words slots x id v seats is final view once there =
     let all = closed_all i s r id seats at once in
     let m = machine_at i.origin r.history in
     subst (λ (t : Told). Closed i seats t.history) (some-injective m x (sym (final.4 0 m all.0) ∙ there)) all.1
+
+-- a node without seats
+pub closed_none : (i : Instance) (s : State Told Sight) (r : Sound i.origin s) → ((k : ℕ) → k < i.origin.callers → count_by (λ (x : Standing). x.number == k) [] ≡ 1)
+    → (get_elem? s.homes 0 ≡ some (some (machine_at i.origin r.history))) × Closed i [] r.history
+closed_none i s r once = (
+  r.home (sum_zero bit s.views (λ j u e. ⊎_elim (λ (is : u.taker ≡ true). absurd (taken j u e is)) (λ (free : u.taker ≡ false). rw free) (cases u.taker))),
+  record {
+    legal = r.legal;
+    all = record { once = once; no_other = λ k l. refl };
+    parts = tt;
+    shares = kept_count i.origin.callers r.history [] once r.callers;
+  },
+)
+  where
+    taken : (j : ℕ) (u : Sight) → get_elem? s.views j ≡ some u → u.taker ≡ true → ⊥
+    taken j u e is =
+        let t = (r.seats j u e).taker is in
+        let below = number_below i.origin s r j u t.0.number e (has u t.0 t.1) in
+        let none = once t.0.number below in
+        omega (arith, none)
+
+pub finished_none : (o : Origin) (i : Instance) (words : List ℕ) (slots : List Told) (x : Told) (seats : List Standing) → o ≡ i.origin → seats ≡ [] → Final (Sound o) words slots
+    → ((k : ℕ) → k < i.origin.callers → count_by (λ (s : Standing). s.number == k) seats ≡ 1) → get_elem? slots 0 ≡ some x → Closed i seats x.history
+finished_none o i words slots x seats is none final once there =
+    let s = final.0 in
+    let r : Sound i.origin s = subst (λ (p : Origin). Sound p s) is final.1 in
+    let all = closed_none i s r (subst (λ (l : List Standing). (k : ℕ) → k < i.origin.callers → count_by (λ (t : Standing). t.number == k) l ≡ 1) none once) in
+    let m = machine_at i.origin r.history in
+    subst (λ (l : List Standing). Closed i l x.history) (sym none) (subst (λ (t : Told). Closed i [] t.history) (some-injective m x (sym (final.4 0 m all.0) ∙ there)) all.1)

@@ -6,6 +6,10 @@ use Rattle.lus_requests.specs.declared.request.Entry.{Entry}
 use Rattle.lus_shared.specs.Knowledge.{IsLegal, Facts, Instance, Standing, kept}
 use Rattle.lus_shared.specs.Rule.{Each}
 
+-- each number below n is one seat's
+pub record HaveEach (n : ℕ) (seats : List Standing) : Type 0 where
+  pub once : (k : ℕ) → k < n → count_by (λ s. s.number == k) seats ≡ 1
+
 -- the seats' numbers are those below n, each once
 pub record AreAll (n : ℕ) (seats : List Standing) : Type 0 where
   pub once : (k : ℕ) → k < n → count_by (λ s. s.number == k) seats ≡ 1
@@ -16,6 +20,7 @@ pub record IsPartOf (h : List Entry) (s : Standing) : Type 0 where
   pub seen : IsPrefix s.seen h
   pub mine : kept h s.number ≡ s.mine
 
+-- the history of the instance, with the calls of its seats, which are these, and no others
 pub record Closed (i : Instance) (seats : List Standing) (h : List Entry) : Type 0 where
   pub legal : IsLegal i.origin h
   pub all : AreAll i.origin.callers seats

@@ -67,7 +67,3 @@ cut_first v = record { taker = false; seats = first_of v.seats }
 
 abbrev pub cut_others : Sight → Sight
 cut_others v = record { taker = v.taker; seats = others_of v.seats }
-
--- a new seat with no view
-abbrev pub entered : Step Told → Sat → ℕ → Sat → Type 0
-entered st m n m' = m'.0 ≡ nobody

@@ -1,12 +1,12 @@
 //! The end of a node.
-ghost use Rattle.std.specs.Prelude.{◌≡◌, ◌==◌, ◌<◌, ℕ, false, [], IfOk, IfErr, IsTrue};
+ghost use Rattle.std.specs.Prelude.{◌≡◌, ◌==◌, ◌<◌, ℕ, false, [], IfOk, IfErr, IsTrue, MatchOption};
 ghost use Rattle.std.specs.List.{count_by};
 ghost use mathlib.Core.Logic.{◌↔◌};
 ghost use Rattle.lus_shared.specs.Rule.{Each};
 ghost use Rattle.std.specs.List.{All};
-ghost use Rattle.lus_shared.specs.Closing.{AreAll, Closed, all_facts};
+ghost use Rattle.lus_shared.specs.Closing.{HaveEach, Closed, all_facts};
 
-use crate::rule::{Board, Both, Enter, Place};
+use crate::rule::{Board, Both, Place};
 use crate::seat::{Seat, SeatNode};
 use crate::shared::{Journal, Strangers};
 
@@ -27,25 +27,25 @@ fn has_all(seats: &[Seat], callers: u32) -> bool
     true
 }
 
-// One place with what all seats know.
-pub(crate) fn gather(board: &Board, mut seats: Vec<Seat>) -> Place
+// One place with what all seats know, where there is a seat.
+pub(crate) fn gather(board: &Board, mut seats: Vec<Seat>) -> Option<Place>
     requires words { board.now.shared.table_id.words ≡ 1 }
     requires seats { All (λ s. s.instance.table ≡ board.now.shared.table_id) seats.items }
-    ensures { (result.table_id ≡ board.now.shared.table_id) × (result.me ≡ (record { taker = false; seats = all_facts seats.items }, [])) }
+    ensures { MatchOption result (seats.items ≡ []) (λ p. (p.table_id ≡ board.now.shared.table_id) × (p.me ≡ (record { taker = false; seats = all_facts seats.items }, []))) }
 {
-    let (_, mut all) = board.shared.load_new_seat::<Enter>(0);
+    let mut all = seats.pop()?.into_place();
     while let Some(seat) = seats.pop() {
         board.shared.join_seat::<Both>(&mut all, seat.into_place());
     }
-    all
+    Some(all)
 }
 
 impl SeatNode {
-    /// The entries, where these are all of its seats. It waits for nobody.
+    /// The entries, where these are all of its seats, else all as it was given. It waits for nobody.
     pub fn close(self, seats: Vec<Seat>) -> Result<Journal, Strangers<SeatNode>>
         requires { All (λ s. s.instance ≡ self) seats.items }
         ensures ok { IfOk result (λ j. Closed self seats.items j.entries.items) }
-        ensures err { IfErr result (λ s. (s.node ≡ self) × (s.seats.items ≡ seats.items) × ¬ (AreAll self.origin.callers seats.items)) }
+        ensures err { IfErr result (λ s. (s.node ≡ self) × (s.seats.items ≡ seats.items) × ¬ (HaveEach self.origin.callers seats.items)) }
     {
         if !has_all(seats.as_slice(), self.callers()) {
             return Err(Strangers { node: self, seats });

@@ -2,12 +2,12 @@
 ghost use Rattle.std.specs.Prelude.{◌≡◌, ◌+◌, ◌==◌, ◌<◌, ◌≤◌, ◌^◌, ℕ, true, false, length, map, IfOk, IfErr, IsTrue};
 ghost use Rattle.std.specs.List.{All, sum_by, count_by};
 ghost use mathlib.Core.Logic.{◌↔◌};
-ghost use Rattle.lus_shared.specs.Closing.{AreAll, Closed};
+ghost use Rattle.lus_shared.specs.Closing.{HaveEach, Closed};
 ghost use Rattle.lus_shared.specs.Trait.{EachOnce, Gathered, untold};
 
 use crate::shared::{Journal, Shared, Strangers};
-use lus_requests::{Reply, Request};
 use lus_machine::{CallError, Machine};
+use lus_requests::{Reply, Request};
 use lus_values::Memory;
 use std::alloc::Global;
 use std::marker::Model;
@@ -139,7 +139,7 @@ impl Shared for LockedNode {
         ensures ok { IfOk result (λ j. Gathered (λ s. s.number) (λ s. s.share) self seats.items j.entries.items) }
         ensures told { false ≡ true → IfOk result (λ j. Closed untold.instance (map (λ s. untold) seats.items) j.entries.items) }
         ensures err { IfErr result (λ s. (s.node ≡ self) × (s.seats.items ≡ seats.items)) }
-        ensures refused { false ≡ true → IfErr result (λ s. ¬ (AreAll untold.instance.origin.callers (map (λ s. untold) seats.items))) }
+        ensures refused { false ≡ true → IfErr result (λ s. ¬ (HaveEach untold.instance.origin.callers (map (λ s. untold) seats.items))) }
     {
         let LockedNode { machine, callers } = self;
         let machine = machine.into_inner();

@@ -5,8 +5,8 @@ ghost use Rattle.lus_shared.specs.Calls.{Called, Missed};
 
 use crate::refusal::{Busy, TryError};
 use crate::rule::{Board, Give, Look, Place, Take};
-use lus_requests::{Reply, Request};
 use lus_machine::{CallError, Machine};
+use lus_requests::{Reply, Request};
 
 /// Takes the machine where it is at home, and answers the word as it was found.
 pub(crate) fn take(board: &Board, place: &mut Place) -> Result<u64, u64>

@@ -1,6 +1,6 @@
 //! The rule of the table, and what its steps tell.
 ghost use Rattle.lus_shared.specs.Rule.{Sound, opening_sight};
-ghost use Rattle.lus_shared.specs.Plays.{entered, looked, took, gave, joined, nobody, cut_first, cut_others};
+ghost use Rattle.lus_shared.specs.Plays.{looked, took, gave, joined, nobody, cut_first, cut_others};
 ghost use Rattle.lus_shared.specs.Key.{origin_of};
 
 use atomic_table::{Join, Play, Split, Table, TableRule};
@@ -45,12 +45,6 @@ impl TableRule<Machine, View, Key> for Law {
 pub type Board = Table<Machine, View, Key, Law, Global>;
 
 pub type Place = atomic_table::Seat<Machine, View>;
-
-pub struct Enter;
-
-impl Play<Machine, View> for Enter {
-    ghost then = { entered };
-}
 
 pub struct Look;
 

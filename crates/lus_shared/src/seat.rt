@@ -1,3 +1,4 @@
+//! Seats at a table with one machine.
 ghost use Rattle.std.specs.Prelude.{◌≡◌, ◌==◌, ◌<◌, ℕ, [], length, map, IfOk, IfErr};
 ghost use Rattle.lus_shared.specs.Views.{Sees, Adds, fresh_seats};
 ghost use Rattle.lus_shared.specs.Told.{seat_at};
@@ -12,8 +13,8 @@ use crate::place::{call_at, take};
 use crate::refusal::{Busy, TryError};
 use crate::rule::{Board, Both, Cut, Give, Key, Look, Place};
 use atomic_table::Table;
-use lus_requests::{Reply, Request};
 use lus_machine::{CallError, Machine};
+use lus_requests::{Reply, Request};
 use lus_values::Memory;
 use std::alloc::Global;
 use std::marker::Model;
@@ -299,10 +300,19 @@ impl SeatNode {
         ensures { Closed self seats.items result.history }
     {
         let SeatNode { table, callers: _ } = self;
-        let place = gather(&table, seats);
-        let mut closed = table.close_with(place);
-        let machine = closed.take(0);
-        closed.free();
-        machine
+        match gather(&table, seats) {
+            Some(place) => {
+                let mut closed = table.close_with(place);
+                let machine = closed.take(0);
+                closed.free();
+                machine
+            }
+            None => {
+                let mut closed = table.close();
+                let machine = closed.take(0);
+                closed.free();
+                machine
+            }
+        }
     }
 }

@@ -1,13 +1,13 @@
 //! Seats at a table share a machine.
 ghost use Rattle.std.specs.Prelude.{◌≡◌, true, length, map, IfOk, IfErr};
 ghost use Rattle.std.specs.List.{All};
-ghost use Rattle.lus_shared.specs.Closing.{AreAll, Closed};
+ghost use Rattle.lus_shared.specs.Closing.{HaveEach, Closed};
 ghost use Rattle.lus_shared.specs.Trait.{Gathered};
 
 use crate::seat::{Seat, SeatNode};
 use crate::shared::{Journal, Shared, Strangers};
-use lus_requests::{Reply, Request};
 use lus_machine::{CallError, Machine};
+use lus_requests::{Reply, Request};
 use lus_values::Memory;
 use std::alloc::Global;
 use std::sync::Wait;
@@ -53,7 +53,7 @@ impl Shared for SeatNode {
         ensures ok { IfOk result (λ j. Gathered (λ s. s.number) (λ s. length s.mine) self.origin.callers seats.items j.entries.items) }
         ensures told { true ≡ true → IfOk result (λ j. Closed self (map (λ s. s) seats.items) j.entries.items) }
         ensures err { IfErr result (λ s. (s.node ≡ self) × (s.seats.items ≡ seats.items)) }
-        ensures refused { true ≡ true → IfErr result (λ s. ¬ (AreAll self.origin.callers (map (λ s. s) seats.items))) }
+        ensures refused { true ≡ true → IfErr result (λ s. ¬ (HaveEach self.origin.callers (map (λ s. s) seats.items))) }
     {
         SeatNode::close(self, seats)
     }

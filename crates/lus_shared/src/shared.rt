@@ -1,12 +1,13 @@
 //! What every shared machine offers, by a lock or by seats.
-ghost use Rattle.std.specs.Prelude.{◌≡◌, ◌+◌, true, [], map, IfOk, IfErr, OnErr};
+ghost use Rattle.std.specs.Prelude.{◌≡◌, ◌+◌, true, [], length, map, IfOk, IfErr, OnErr};
+ghost use Rattle.lus_machine.specs.Machines.{full};
 ghost use Rattle.std.specs.List.{All, range_with_len};
 ghost use Rattle.lus_shared.specs.Views.{IsLater, Adds, fresh_seats};
-ghost use Rattle.lus_shared.specs.Closing.{AreAll, Closed};
+ghost use Rattle.lus_shared.specs.Closing.{HaveEach, Closed};
 ghost use Rattle.lus_shared.specs.Trait.{EndsIn, Gathered};
 
-use lus_requests::{Entry, Reply, Request};
 use lus_machine::{CallError, Machine};
+use lus_requests::{Entry, Reply, Request};
 use lus_values::Memory;
 use std::alloc::Global;
 use std::sync::Wait;
@@ -17,7 +18,7 @@ pub struct Journal {
     pub entries: Vec<Entry>,
 }
 
-/// A node, and seats that are not all of its own.
+/// A node that wasn't closed, and the seats that were given, as both were.
 pub struct Strangers<N: Shared> {
     pub node: N,
     pub seats: Vec<N::Seat>,
@@ -28,6 +29,7 @@ pub trait Shared {
     ghost use Rattle.std.specs.Prelude.{ℕ, Bool};
     ghost use Rattle.lus_shared.specs.Knowledge.{Instance, Standing};
 
+    /// A caller's place at a node. Its number is the caller's.
     type Seat;
 
     // How many seats were made, and each seat's number and how many calls it made.
@@ -47,6 +49,7 @@ pub trait Shared {
 
     ghost standing: { Self.Seat → Standing };
 
+    /// The node of a machine that was never called, and a seat for each caller, numbered from 0.
     fn open(
         alloc: Global,
         machine: Machine,
@@ -62,6 +65,7 @@ pub trait Shared {
         ensures origin { tells ≡ true → IfOk result (λ r. (instance r.0).origin ≡ record { program = machine.program; node = machine.node; callers = callers }) }
         ensures seats { tells ≡ true → IfOk result (λ r. map standing r.1.items ≡ fresh_seats (instance r.0) 0 callers) };
 
+    /// The reply to a request, which the machine has entered with it. With an error nothing was entered. It may wait for others.
     fn call<R: Wait>(
         &self,
         rt: &R,
@@ -75,8 +79,11 @@ pub trait Shared {
         ensures ends { IfOk result (λ a. EndsIn (number seat.old) request.now a) }
         ensures none_made { OnErr result (made seat.new ≡ made seat.old) }
         ensures adds { tells ≡ true → IfOk result (λ a. Adds (standing seat.old) (standing seat.new) request.now a) }
-        ensures sees { tells ≡ true → OnErr result (IsLater (standing seat.old) (standing seat.new)) };
+        ensures sees { tells ≡ true → OnErr result (IsLater (standing seat.old) (standing seat.new)) }
+        ensures full { tells ≡ true → IfErr result (λ e. e ≡ CallError.Full → length (standing seat.new).seen ≡ full) };
 
+    /// The entries, where the seats' numbers are those of the callers, each once, and their shares as many as the entries; else
+    /// all as it was given.
     fn close(self, seats: Vec<Self::Seat>) -> Result<Journal, Strangers<Self>>
     where
         Self: Sized,
@@ -84,7 +91,7 @@ pub trait Shared {
         ensures ok { IfOk result (λ j. Gathered number made (places self) seats.items j.entries.items) }
         ensures told { tells ≡ true → IfOk result (λ j. Closed (instance self) (map standing seats.items) j.entries.items) }
         ensures err { IfErr result (λ s. (s.node ≡ self) × (s.seats.items ≡ seats.items)) }
-        ensures refused { tells ≡ true → IfErr result (λ s. ¬ (AreAll (instance self).origin.callers (map standing seats.items))) };
+        ensures refused { tells ≡ true → IfErr result (λ s. ¬ (HaveEach (instance self).origin.callers (map standing seats.items))) };
 
     /// How many calls the seat made.
     fn share(seat: &Self::Seat) -> u32
