@@ -15,6 +15,3 @@ mod variables;
 
 pub use lus_spelling::one_tree;
 pub use program::parse;
-
-#[cfg(test)]
-mod tests;

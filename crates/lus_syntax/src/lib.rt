@@ -21,6 +21,3 @@ pub use tree::{
     Constant, Definition, Equation, Expr, Fields, Group, Infix, Label, Lead, Literal, Name, Node,
     NodeKind, Part, Prefix, Test, Tree, TypeDeclaration, TypeName,
 };
-
-#[cfg(test)]
-mod tests;

@@ -20,6 +20,3 @@ pub use operator::{Op, Operator};
 pub use row::Row;
 pub use text::{print, push_value};
 pub use value::{Value, copy};
-
-#[cfg(test)]
-mod tests;

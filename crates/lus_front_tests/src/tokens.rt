@@ -1,0 +1,168 @@
+//! Texts and their tokens.
+
+use lus_syntax::{Place, Span, Symbol, Token, TokenKind, Word, lex};
+use std::alloc::Global;
+use std::test::Fail;
+
+fn is_word(token: &Token, wanted: Word) -> bool {
+    match token.kind {
+        TokenKind::Keyword(word) => word == wanted,
+        _ => false,
+    }
+}
+
+fn is_symbol(token: &Token, wanted: Symbol) -> bool {
+    match token.kind {
+        TokenKind::Punctuation(symbol) => symbol == wanted,
+        _ => false,
+    }
+}
+
+/// Whether a token is this name, or the number that is written so.
+fn is_plain(token: &Token, wanted: &str) -> bool {
+    match &token.kind {
+        TokenKind::Identifier(name) => name.as_str() == wanted,
+        TokenKind::Number(number) => wanted.parse::<i64>() == Ok(*number),
+        _ => false,
+    }
+}
+
+fn are_words(tokens: &[Token], wanted: &[Word]) -> bool {
+    tokens.len() == wanted.len()
+        && tokens
+            .iter()
+            .zip(wanted.iter())
+            .all(|(token, word)| is_word(token, *word))
+}
+
+fn are_symbols(tokens: &[Token], wanted: &[Symbol]) -> bool {
+    tokens.len() == wanted.len()
+        && tokens
+            .iter()
+            .zip(wanted.iter())
+            .all(|(token, symbol)| is_symbol(token, *symbol))
+}
+
+fn are_plain(tokens: &[Token], wanted: &[&str]) -> bool {
+    tokens.len() == wanted.len()
+        && tokens
+            .iter()
+            .zip(wanted.iter())
+            .all(|(token, text)| is_plain(token, text))
+}
+
+#[test]
+fn each_word_is_a_keyword(rt: HostRuntime) -> Result<(), Fail> {
+    let text =
+        "node function returns var let tel type const enum struct bool int true false not and or xor if then else div mod pre fby when merge";
+    let words = [
+        Word::Node,
+        Word::Function,
+        Word::Returns,
+        Word::Var,
+        Word::Let,
+        Word::Tel,
+        Word::Type,
+        Word::Const,
+        Word::Enum,
+        Word::Struct,
+        Word::Bool,
+        Word::Int,
+        Word::True,
+        Word::False,
+        Word::Not,
+        Word::And,
+        Word::Or,
+        Word::Xor,
+        Word::If,
+        Word::Then,
+        Word::Else,
+        Word::Div,
+        Word::Mod,
+        Word::Pre,
+        Word::Fby,
+        Word::When,
+        Word::Merge,
+    ];
+    assert!(rt; are_words(&lex(rt.alloc(), text)?, words.as_slice()));
+    Ok(())
+}
+
+#[test]
+fn each_symbol_is_a_token(rt: HostRuntime) -> Result<(), Fail> {
+    let symbols = [
+        Symbol::Open,
+        Symbol::Close,
+        Symbol::OpenBrace,
+        Symbol::CloseBrace,
+        Symbol::Comma,
+        Symbol::Semicolon,
+        Symbol::Colon,
+        Symbol::Dot,
+        Symbol::Equal,
+        Symbol::NotEqual,
+        Symbol::Less,
+        Symbol::AtMost,
+        Symbol::Greater,
+        Symbol::AtLeast,
+        Symbol::Arrow,
+        Symbol::Implies,
+        Symbol::Plus,
+        Symbol::Minus,
+        Symbol::Star,
+        Symbol::Slash,
+    ];
+    let text = "(){},;:.=<><<=>>=->=>+-*/";
+    assert!(rt; are_symbols(&lex(rt.alloc(), text)?, symbols.as_slice()));
+    Ok(())
+}
+
+#[test]
+fn the_longest_text_is_the_token(rt: HostRuntime) -> Result<(), Fail> {
+    for (text, wanted) in [
+        ("nodes Node _1", ["nodes", "Node", "_1"].as_slice()),
+        ("pre_", ["pre_"].as_slice()),
+        ("1a", ["1", "a"].as_slice()),
+        (
+            "007 9223372036854775807",
+            ["7", "9223372036854775807"].as_slice(),
+        ),
+        ("a-->b\nc", ["a", "c"].as_slice()),
+        ("a(* ( * /* **)b/*(* é */c", ["a", "b", "c"].as_slice()),
+        ("\t\r\n\u{c} ", [].as_slice()),
+        ("", [].as_slice()),
+    ] {
+        assert!(rt; are_plain(&lex(rt.alloc(), text)?, wanted), "at {text}");
+    }
+    Ok(())
+}
+
+#[test]
+fn symbols_stand_between_names_and_numbers(rt: HostRuntime) -> Result<(), Fail> {
+    for (text, symbol, last) in [("1.5", Symbol::Dot, "5"), ("1-x --", Symbol::Minus, "x")] {
+        let tokens = lex(rt.alloc(), text)?;
+        assert_eq!(rt; tokens.len(), 3, "at {text}");
+        assert!(rt; is_plain(&tokens[0], "1"), "at {text}");
+        assert!(rt; is_symbol(&tokens[1], symbol), "at {text}");
+        assert!(rt; is_plain(&tokens[2], last), "at {text}");
+    }
+    Ok(())
+}
+
+#[test]
+fn a_span_is_the_slice_of_its_token(rt: HostRuntime) -> Result<(), Fail> {
+    let tokens = lex(rt.alloc(), "(* é\n *) ab <> c")?;
+    assert_eq!(rt; tokens.len(), 3);
+    let start = Place {
+        byte: 10,
+        line: 2,
+        column: 5,
+    };
+    let end = Place {
+        byte: 12,
+        line: 2,
+        column: 7,
+    };
+    assert!(rt; tokens[0].span == Span { start, end });
+    Ok(())
+}
