@@ -9,7 +9,7 @@ use crate::token::Place;
 use std::alloc::{AllocError, AllocFailed};
 
 /// Why a text has no tokens.
-#[derive(Debug, Drop)]
+#[derive(Drop)]
 pub(crate) enum LexError {
     /// Want of memory.
     Memory,

@@ -7,7 +7,7 @@ ghost use Rattle.lus_syntax.specs.Reading.{block_len, block_skip, IsSkip};
 ghost use Rattle.lus_syntax.specs.Places.{is_feed};
 
 /// What stands at a place between tokens.
-#[derive(Clone, Copy, Debug)]
+#[derive(Clone, Copy)]
 pub(crate) enum Skip {
     /// Neither a blank nor a comment.
     Nothing,

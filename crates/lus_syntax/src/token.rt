@@ -10,14 +10,14 @@ pub struct Place {
 }
 
 /// Where a token stands in its text.
-#[derive(Clone, Copy, Debug, PartialEq, Eq)]
+#[derive(Clone, Copy, PartialEq, Eq)]
 pub struct Span {
     pub start: Place,
     pub end: Place,
 }
 
 /// What is no word, name or number.
-#[derive(Clone, Copy, Debug, PartialEq, Eq)]
+#[derive(Clone, Copy, PartialEq, Eq)]
 pub enum Symbol {
     Open,
     Close,
@@ -42,7 +42,7 @@ pub enum Symbol {
 }
 
 /// The words of the language.
-#[derive(Clone, Copy, Debug, PartialEq, Eq)]
+#[derive(Clone, Copy, PartialEq, Eq)]
 pub enum Word {
     Node,
     Function,
@@ -74,7 +74,7 @@ pub enum Word {
 }
 
 /// What a token is.
-#[derive(Debug, Drop)]
+#[derive(Drop)]
 pub enum TokenKind {
     Identifier(String),
     Number(i64),
@@ -83,7 +83,7 @@ pub enum TokenKind {
 }
 
 /// A token of a source.
-#[derive(Debug, Drop)]
+#[derive(Drop)]
 pub struct Token {
     pub kind: TokenKind,
     pub span: Span,

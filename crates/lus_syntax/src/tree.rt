@@ -3,14 +3,14 @@
 use crate::token::Span;
 
 /// A name where it stands.
-#[derive(Debug, Drop)]
+#[derive(Drop)]
 pub struct Name {
     pub text: String,
     pub span: Span,
 }
 
 /// `bool`, `int`, or a declared type's name.
-#[derive(Debug, Drop)]
+#[derive(Drop)]
 pub enum TypeName {
     Bool(Span),
     Int(Span),
@@ -18,28 +18,28 @@ pub enum TypeName {
 }
 
 /// Fields of one type.
-#[derive(Debug, Drop)]
+#[derive(Drop)]
 pub struct Fields {
     pub names: Vec<Name>,
     pub type_name: TypeName,
 }
 
 /// What a type's name stands for.
-#[derive(Debug, Drop)]
+#[derive(Drop)]
 pub enum Definition {
     Alias(TypeName),
     Enumeration(Vec<Name>),
     Structure(Vec<Fields>),
 }
 
-#[derive(Debug, Drop)]
+#[derive(Drop)]
 pub struct TypeDeclaration {
     pub name: Name,
     pub definition: Definition,
 }
 
 /// The right side of a constant.
-#[derive(Debug, Drop)]
+#[derive(Drop)]
 pub enum Literal {
     Number(i64, Span),
     /// The minus, and the number after it.
@@ -48,7 +48,7 @@ pub enum Literal {
     Constructor(Name),
 }
 
-#[derive(Debug, Drop)]
+#[derive(Drop)]
 pub struct Constant {
     pub name: Name,
     pub type_name: Option<TypeName>,
@@ -56,14 +56,14 @@ pub struct Constant {
 }
 
 /// A constructor, or a truth value.
-#[derive(Debug, Drop)]
+#[derive(Drop)]
 pub enum Label {
     Constructor(Name),
     Truth(bool, Span),
 }
 
 /// When a clock ticks.
-#[derive(Debug, Drop)]
+#[derive(Drop)]
 pub enum Test {
     /// `c`
     Holds(Name),
@@ -74,7 +74,7 @@ pub enum Test {
 }
 
 /// Variables of one type on one clock.
-#[derive(Debug, Drop)]
+#[derive(Drop)]
 pub struct Group {
     pub names: Vec<Name>,
     pub type_name: TypeName,
@@ -82,7 +82,7 @@ pub struct Group {
 }
 
 /// An operator before its operand.
-#[derive(Clone, Copy, Debug, PartialEq, Eq)]
+#[derive(Clone, Copy, PartialEq, Eq)]
 pub enum Prefix {
     Not,
     Pre,
@@ -90,7 +90,7 @@ pub enum Prefix {
 }
 
 /// An operator between its operands.
-#[derive(Clone, Copy, Debug, PartialEq, Eq)]
+#[derive(Clone, Copy, PartialEq, Eq)]
 pub enum Infix {
     Fby,
     Arrow,
@@ -112,7 +112,7 @@ pub enum Infix {
 }
 
 /// What stands before the value of a part.
-#[derive(Debug, Drop)]
+#[derive(Drop)]
 pub enum Lead {
     /// An argument.
     Plain,
@@ -124,7 +124,7 @@ pub enum Lead {
 
 /// An argument of a call, a field's value of a structure, or a branch of a merge.
 #[cycle(tree)]
-#[derive(Debug, Drop)]
+#[derive(Drop)]
 pub struct Part {
     pub lead: Lead,
     pub value: Expr,
@@ -132,7 +132,7 @@ pub struct Part {
 
 /// An expression. A form that begins with a token of its own has that token's span.
 #[cycle(tree)]
-#[derive(Debug, Drop)]
+#[derive(Drop)]
 pub enum Expr {
     Number(i64, Span),
     Truth(bool, Span),
@@ -149,20 +149,20 @@ pub enum Expr {
 }
 
 /// The variables on the left are what the right side gives.
-#[derive(Debug, Drop)]
+#[derive(Drop)]
 pub struct Equation {
     pub left: Vec<Name>,
     pub right: Expr,
 }
 
 /// A function is a node without memory.
-#[derive(Clone, Copy, Debug, PartialEq, Eq)]
+#[derive(Clone, Copy, PartialEq, Eq)]
 pub enum NodeKind {
     Node,
     Function,
 }
 
-#[derive(Debug, Drop)]
+#[derive(Drop)]
 pub struct Node {
     pub kind: NodeKind,
     pub name: Name,
@@ -173,7 +173,7 @@ pub struct Node {
 }
 
 /// The declarations of a source, each kind in the order in which they stand.
-#[derive(Debug, Drop)]
+#[derive(Drop)]
 pub struct Tree {
     pub types: Vec<TypeDeclaration>,
     pub constants: Vec<Constant>,
