@@ -1,5 +1,5 @@
 -- Steps of the parser.
-use Rattle.std.proofs.Common.{◌≡◌, ℕ, suc, ◌+◌, ◌≤◌, List, [], Some, None, Result, Ok, Err, refl, ap, ◌∙◌, add-one}
+use Rattle.std.proofs.Common.{◌≡◌, ℕ, suc, ◌+◌, ◌≤◌, List, Some, None, Result, Ok, Err, refl, ap, ◌∙◌, add-one}
 use Rattle.std.proofs.lemmas.Bool.{le-ltb}
 use Rattle.lus_syntax.specs.declared.token.Span.{Span}
 use Rattle.lus_syntax.specs.declared.token.Symbol.TheVariants as symbols

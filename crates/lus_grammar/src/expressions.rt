@@ -11,10 +11,13 @@ use crate::fault::{ParseError, Read};
 use crate::front::{expect_symbol, expect_word, identifier, symbol, test, word};
 use crate::operators::{Chain, Head, after_prefix, infix, prefix};
 use crate::parts::{lead, tail, turn};
-use crate::primaries::{dots, primary_shape, truth};
-use lus_spelling::Form;
+use crate::primaries::{dots, truth};
+use lus_spelling::{Form, primary_shape};
 use lus_syntax::{Expr, Infix, Name, Part, Span, Symbol, Token, TokenKind, Word};
 use std::alloc::Global;
+
+/// A boxed expression, its depth, and the tokens after it.
+type Boxed<'a> = Result<(Box<Expr>, u32, &'a [Token]), ParseError>;
 
 /// What a part of a part may have.
 fn lower(limit: u32, left: usize) -> Result<u32, ParseError>
@@ -41,8 +44,9 @@ fn whole(alloc: Global, limit: u32, tokens: &[Token]) -> Read<'_>
         if depth > limit {
             return Err(ParseError::Deep(rest.len()));
         }
-        let (right, right_depth, after) = primary_inside(alloc, limit, after)?;
-        let tree = Expr::Binary(Infix::Fby, Box::new(alloc, left)?, Box::new(alloc, right)?);
+        let left = Box::new(alloc, left)?;
+        let (right, right_depth, after) = primary_boxed(alloc, limit, after)?;
+        let tree = Expr::Binary(Infix::Fby, left, right);
         return Ok((tree, depth.max(right_depth) + 1, after));
     }
     if let Some((_, after)) = word(Word::When, rest) {
@@ -52,8 +56,9 @@ fn whole(alloc: Global, limit: u32, tokens: &[Token]) -> Read<'_>
         if depth > limit {
             return Err(ParseError::Deep(rest.len()));
         }
+        let left = Box::new(alloc, left)?;
         let (test, after) = test(alloc, after)?;
-        let tree = Expr::When(Box::new(alloc, left)?, test);
+        let tree = Expr::When(left, test);
         return Ok((tree, depth + 1, after));
     }
     Ok((left, depth, rest))
@@ -104,13 +109,10 @@ fn arrow(alloc: Global, limit: u32, tokens: &[Token]) -> Read<'_>
             if depth > limit {
                 return Err(ParseError::Deep(rest.len()));
             }
+            let left = Box::new(alloc, left)?;
             let below = lower(limit, rest.len())?;
-            let (right, right_depth, rest) = arrow(alloc, below, after)?;
-            let tree = Expr::Binary(
-                Infix::Arrow,
-                Box::new(alloc, left)?,
-                Box::new(alloc, right)?,
-            );
+            let (right, right_depth, rest) = arrow_boxed(alloc, below, after)?;
+            let tree = Expr::Binary(Infix::Arrow, left, right);
             Ok((tree, depth.max(right_depth) + 1, rest))
         }
     }
@@ -133,6 +135,46 @@ fn otherwise(alloc: Global, limit: u32, tokens: &[Token]) -> Read<'_>
     }
 }
 
+#[cycle(parser)]
+fn inside_boxed(alloc: Global, limit: u32, tokens: &[Token]) -> Boxed<'_>
+    requires { limit < 1000 }
+    ensures within { IfOk result (λ x. x.1 ≤ limit) }
+    ensures exact { Gives (λ x. found (expression_seen x.0.value) x.1 (tokens_seen x.2.now)) result (read limit Whole (tokens_seen tokens.now)) }
+{
+    let (tree, depth, rest) = inside(alloc, limit, tokens)?;
+    Ok((Box::new(alloc, tree)?, depth, rest))
+}
+
+#[cycle(parser)]
+fn otherwise_boxed(alloc: Global, limit: u32, tokens: &[Token]) -> Boxed<'_>
+    requires { limit < 1000 }
+    ensures within { IfOk result (λ x. x.1 ≤ limit) }
+    ensures exact { Gives (λ x. found (expression_seen x.0.value) x.1 (tokens_seen x.2.now)) result (read limit Else (tokens_seen tokens.now)) }
+{
+    let (tree, depth, rest) = otherwise(alloc, limit, tokens)?;
+    Ok((Box::new(alloc, tree)?, depth, rest))
+}
+
+#[cycle(parser)]
+fn primary_boxed(alloc: Global, limit: u32, tokens: &[Token]) -> Boxed<'_>
+    requires { limit < 1000 }
+    ensures within { IfOk result (λ x. x.1 ≤ limit) }
+    ensures exact { Gives (λ x. found (expression_seen x.0.value) x.1 (tokens_seen x.2.now)) result (read limit Primary (tokens_seen tokens.now)) }
+{
+    let (tree, depth, rest) = primary_inside(alloc, limit, tokens)?;
+    Ok((Box::new(alloc, tree)?, depth, rest))
+}
+
+#[cycle(parser)]
+fn arrow_boxed(alloc: Global, limit: u32, tokens: &[Token]) -> Boxed<'_>
+    requires { limit < 1000 }
+    ensures within { IfOk result (λ x. x.1 ≤ limit + 1) }
+    ensures exact { Gives (λ x. found (expression_seen x.0.value) x.1 (tokens_seen x.2.now)) result (read (suc limit) Arrow (tokens_seen tokens.now)) }
+{
+    let (tree, depth, rest) = arrow(alloc, limit, tokens)?;
+    Ok((Box::new(alloc, tree)?, depth, rest))
+}
+
 /// What stands after an `if`.
 #[cycle(parser)]
 #[tactic(auto, unfolding(lus_spelling::specs::Reading::branches_at))]
@@ -141,19 +183,13 @@ fn branches(alloc: Global, limit: u32, span: Span, tokens: &[Token]) -> Read<'_>
     ensures within { IfOk result (λ x. x.1 ≤ limit + 1) }
     ensures exact { Gives (λ x. found (expression_seen x.0) x.1 (tokens_seen x.2.now)) result (branches_at (read limit Whole) (read limit Else) span (tokens_seen tokens.now)) }
 {
-    let (condition, first_depth, rest) = inside(alloc, limit, tokens)?;
+    let (condition, first_depth, rest) = inside_boxed(alloc, limit, tokens)?;
     let rest = expect_word(Word::Then, rest)?;
-    let (yes, second_depth, rest) = inside(alloc, limit, rest)?;
+    let (yes, second_depth, rest) = inside_boxed(alloc, limit, rest)?;
     let rest = expect_word(Word::Else, rest)?;
-    let (no, third_depth, rest) = otherwise(alloc, limit, rest)?;
+    let (no, third_depth, rest) = otherwise_boxed(alloc, limit, rest)?;
     let depth = first_depth.max(second_depth.max(third_depth)) + 1;
-    let tree = Expr::If(
-        span,
-        Box::new(alloc, condition)?,
-        Box::new(alloc, yes)?,
-        Box::new(alloc, no)?,
-    );
-    Ok((tree, depth, rest))
+    Ok((Expr::If(span, condition, yes, no), depth, rest))
 }
 
 #[cycle(parser)]
@@ -167,9 +203,10 @@ fn joined(alloc: Global, chain: Chain, limit: u32, tokens: &[Token]) -> Read<'_>
         if depth > limit {
             return Err(ParseError::Deep(rest.len()));
         }
+        let first = Box::new(alloc, left)?;
         let below = lower(limit, rest.len())?;
         let (right, right_depth, after) = operand(alloc, chain, below, after)?;
-        left = Expr::Binary(operator, Box::new(alloc, left)?, Box::new(alloc, right)?);
+        left = Expr::Binary(operator, first, Box::new(alloc, right)?);
         depth = depth.max(right_depth) + 1;
         rest = after;
     }
@@ -378,13 +415,9 @@ fn parentheses(alloc: Global, limit: u32, tokens: &[Token]) -> Read<'_>
     match symbol(Symbol::Open, tokens) {
         None => Err(ParseError::Syntax(tokens.len())),
         Some((span, rest)) => {
-            let (inner, depth, rest) = inside(alloc, limit, rest)?;
+            let (inner, depth, rest) = inside_boxed(alloc, limit, rest)?;
             let rest = expect_symbol(Symbol::Close, rest)?;
-            Ok((
-                Expr::Parentheses(span, Box::new(alloc, inner)?),
-                depth + 1,
-                rest,
-            ))
+            Ok((Expr::Parentheses(span, inner), depth + 1, rest))
         }
     }
 }

@@ -1,24 +1,14 @@
-//! Truth values, fields, and what `fby` and `when` may follow.
+//! Truth values and fields.
 
 ghost use Rattle.std.specs.Prelude.{◌≡◌, ◌<◌, ◌≤◌, ◌+◌, suc, IfOk};
 ghost use Rattle.lus_syntax.specs.View.{tokens_seen, expression_seen};
-ghost use Rattle.lus_spelling.specs.Reading.{found, dots_at, truth_on, is_primary};
+ghost use Rattle.lus_spelling.specs.Reading.{found, dots_at, truth_on};
 ghost use Rattle.lus_grammar.specs.Answers.{Gives};
 
 use crate::fault::{ParseError, Read};
 use crate::front::{identifier, symbol};
 use lus_syntax::{Expr, Span, Symbol, Token, Word};
 use std::alloc::Global;
-
-/// Whether `fby` or `when` may stand after an expression.
-pub fn primary_shape(tree: &Expr) -> bool
-    ensures { result ≡ is_primary (expression_seen tree.now) }
-{
-    !matches!(
-        tree,
-        Expr::When(_, _) | Expr::Unary(_, _, _) | Expr::Binary(_, _, _) | Expr::If(_, _, _, _)
-    )
-}
 
 pub fn truth(word: Word, span: Span, left: usize, rest: &[Token]) -> Read<'_>
     ensures within { IfOk result (λ x. x.1 ≡ 1) }
