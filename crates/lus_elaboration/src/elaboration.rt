@@ -20,23 +20,23 @@ use std::alloc::Global;
 #[cycle(elaborate)]
 pub fn elaborate(alloc: Global, scope: &Scope, source: &Source) -> Result<Elaborated, Fault>
     ensures typed { IfOk result (λ x. kind_of (scope_of scope.now) (expression_seen source.now) ≡ Some x.kind) }
-    ensures meant { IfOk result (λ x. expression_of x.expr ≡ meant (scope_of scope.now) (expression_seen source.now)) }
+    ensures meant { IfOk result (λ x. expression_of x.expr.value ≡ meant (scope_of scope.now) (expression_seen source.now)) }
     ensures refused { IfErr result (Faulty (kind_of (scope_of scope.now) (expression_seen source.now) ≡ None)) }
 {
     let place = place_of(source);
     match source {
         Source::Number(number, _) => Ok(Elaborated {
-            expr: Expr::Literal(place, Value::Int(*number)),
+            expr: Box::new(alloc, Expr::Literal(place, Value::Int(*number)))?,
             kind: Kind::Int,
         }),
         Source::Truth(truth, _) => Ok(Elaborated {
-            expr: Expr::Literal(place, Value::Bool(*truth)),
+            expr: Box::new(alloc, Expr::Literal(place, Value::Bool(*truth)))?,
             kind: Kind::Bool,
         }),
         Source::Name(name) => named(alloc, scope, name),
         Source::Call(name, arguments) => {
             let (operands, kinds) = elaborate_all(alloc, scope, arguments)?;
-            call(scope, name, arguments, operands, &kinds)
+            call(alloc, scope, name, arguments, operands, &kinds)
         }
         Source::Structure(name, fields) => {
             let (operands, kinds) = elaborate_all(alloc, scope, fields)?;
@@ -89,7 +89,7 @@ pub fn elaborate_all(
     let mut kinds = Vec::new(alloc);
     for part in parts {
         let Elaborated { expr, kind } = elaborate(alloc, scope, &part.value)?;
-        operands.push(expr)?;
+        operands.push(Box::into_inner(expr))?;
         kinds.push(kind)?;
     }
     Ok((operands, kinds))

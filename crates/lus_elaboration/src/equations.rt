@@ -21,14 +21,14 @@ use std::alloc::{AllocError, Global};
 /// A whole right side, with the types of what it gives.
 #[derive(Drop)]
 pub struct Given {
-    pub expr: Expr,
+    pub expr: Box<Expr>,
     pub kinds: Vec<Kind>,
 }
 
 /// A whole right side; a call there may have several outputs.
 pub fn right_side(alloc: Global, scope: &Scope, source: &Source) -> Result<Given, Fault>
     ensures typed { IfOk result (λ x. kinds_given (scope_of scope.now) (expression_seen source.now) ≡ Some x.kinds.items) }
-    ensures meant { IfOk result (λ x. expression_of x.expr ≡ meant (scope_of scope.now) (expression_seen source.now)) }
+    ensures meant { IfOk result (λ x. expression_of x.expr.value ≡ meant (scope_of scope.now) (expression_seen source.now)) }
     ensures refused { IfErr result (Faulty (kinds_given (scope_of scope.now) (expression_seen source.now) ≡ None)) }
 {
     match source {
@@ -37,7 +37,7 @@ pub fn right_side(alloc: Global, scope: &Scope, source: &Source) -> Result<Given
             let (operands, kinds) = elaborate_all(alloc, scope, arguments)?;
             let node = callee(scope, name, arguments, &kinds)?;
             Ok(Given {
-                expr: Expr::Call(name.span.start, node.place, operands),
+                expr: Box::new(alloc, Expr::Call(name.span.start, node.place, operands))?,
                 kinds: copied(alloc, &node.outputs)?,
             })
         }
@@ -131,6 +131,6 @@ pub fn equation(alloc: Global, scope: &Scope, source: &SourceEquation) -> Result
     Ok(Equation {
         targets: targets(alloc, scope, &source.left)?,
         places: places(alloc, &source.left)?,
-        right: given.expr,
+        right: Box::into_inner(given.expr),
     })
 }

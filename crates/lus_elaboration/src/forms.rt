@@ -16,10 +16,10 @@ use lus_syntax::{Expr as Source, Infix, Label, Name, Place, Prefix, Test as Sour
 use lus_values::{Op, Operator};
 use std::alloc::{AllocError, Global};
 
-/// An expression of the program and its type.
+/// An expression of the program and its type. It is boxed at once, since expressions are large.
 #[derive(Drop)]
 pub struct Elaborated {
-    pub expr: Expr,
+    pub expr: Box<Expr>,
     pub kind: Kind,
 }
 
@@ -44,13 +44,13 @@ pub fn place_of(source: &Source) -> Place {
 /// A name: a variable hides a constant or a constructor.
 pub fn named(alloc: Global, scope: &Scope, name: &Name) -> Result<Elaborated, Fault>
     ensures typed { IfOk result (λ x. name_kind (scope_of scope.now) (name_seen name.now).text ≡ Some x.kind) }
-    ensures meant { IfOk result (λ x. expression_of x.expr ≡ name_meant (scope_of scope.now) (name_seen name.now).text) }
+    ensures meant { IfOk result (λ x. expression_of x.expr.value ≡ name_meant (scope_of scope.now) (name_seen name.now).text) }
     ensures refused { IfErr result (Faulty (name_kind (scope_of scope.now) (name_seen name.now).text ≡ None)) }
 {
     let place = name.span.start;
     if let Some(variable) = scope.variable(&name.text) {
         return Ok(Elaborated {
-            expr: Expr::Variable(place, variable.place),
+            expr: Box::new(alloc, Expr::Variable(place, variable.place))?,
             kind: variable.kind,
         });
     }
@@ -61,7 +61,7 @@ pub fn named(alloc: Global, scope: &Scope, name: &Name) -> Result<Elaborated, Fa
         return Err(Fault::At(place));
     };
     Ok(Elaborated {
-        expr: Expr::Literal(place, value),
+        expr: Box::new(alloc, Expr::Literal(place, value))?,
         kind,
     })
 }
@@ -74,7 +74,7 @@ pub fn unary(
     operand: Elaborated,
 ) -> Result<Elaborated, Fault>
     ensures typed { IfOk result (λ x. kind_of_prefix op operand.kind ≡ Some x.kind) }
-    ensures meant { IfOk result (λ x. expression_of x.expr ≡ prefix_meant op (expression_of operand.expr)) }
+    ensures meant { IfOk result (λ x. expression_of x.expr.value ≡ prefix_meant op (expression_of operand.expr.value)) }
     ensures refused { IfErr result (Faulty (kind_of_prefix op operand.kind ≡ None)) }
 {
     let Some(kind) = prefix_kind(op, operand.kind) else {
@@ -84,13 +84,18 @@ pub fn unary(
     Ok(Elaborated { expr, kind })
 }
 
-fn prefixed(alloc: Global, place: Place, op: Prefix, operand: Expr) -> Result<Expr, AllocError>
-    ensures { IfOk result (λ x. expression_of x ≡ prefix_meant op (expression_of operand)) }
+fn prefixed(
+    alloc: Global,
+    place: Place,
+    op: Prefix,
+    operand: Box<Expr>,
+) -> Result<Box<Expr>, AllocError>
+    ensures { IfOk result (λ x. expression_of x.value ≡ prefix_meant op (expression_of operand.value)) }
 {
     match op {
         Prefix::Not => operate_one(alloc, place, Operator::Compute(Op::Not), operand),
         Prefix::Negate => operate_one(alloc, place, Operator::Compute(Op::Negate), operand),
-        Prefix::Pre => Ok(Expr::Pre(place, Box::new(alloc, operand)?)),
+        Prefix::Pre => Ok(Box::new(alloc, Expr::Pre(place, operand))?),
     }
 }
 
@@ -103,7 +108,7 @@ pub fn binary(
     right: Elaborated,
 ) -> Result<Elaborated, Fault>
     ensures typed { IfOk result (λ x. kind_of_infix op left.kind right.kind ≡ Some x.kind) }
-    ensures meant { IfOk result (λ x. expression_of x.expr ≡ infix_meant op (expression_of left.expr) (expression_of right.expr)) }
+    ensures meant { IfOk result (λ x. expression_of x.expr.value ≡ infix_meant op (expression_of left.expr.value) (expression_of right.expr.value)) }
     ensures refused { IfErr result (Faulty (kind_of_infix op left.kind right.kind ≡ None)) }
 {
     let Some(kind) = infix_kind(op, left.kind, right.kind) else {
@@ -117,14 +122,14 @@ fn joined(
     alloc: Global,
     place: Place,
     op: Infix,
-    left: Expr,
-    right: Expr,
-) -> Result<Expr, AllocError>
-    ensures { IfOk result (λ x. expression_of x ≡ infix_meant op (expression_of left) (expression_of right)) }
+    left: Box<Expr>,
+    right: Box<Expr>,
+) -> Result<Box<Expr>, AllocError>
+    ensures { IfOk result (λ x. expression_of x.value ≡ infix_meant op (expression_of left.value) (expression_of right.value)) }
 {
     match op {
-        Infix::Fby => Ok(Expr::Fby(place, Box::new(alloc, left)?, Box::new(alloc, right)?)),
-        Infix::Arrow => Ok(Expr::Arrow(place, Box::new(alloc, left)?, Box::new(alloc, right)?)),
+        Infix::Fby => Ok(Box::new(alloc, Expr::Fby(place, left, right))?),
+        Infix::Arrow => Ok(Box::new(alloc, Expr::Arrow(place, left, right))?),
         Infix::Implies => compute(alloc, place, Op::Implies, left, right),
         Infix::Or => compute(alloc, place, Op::Or, left, right),
         Infix::Xor => compute(alloc, place, Op::Xor, left, right),
@@ -147,19 +152,25 @@ fn operate_one(
     alloc: Global,
     place: Place,
     operator: Operator,
-    operand: Expr,
-) -> Result<Expr, AllocError>
-    ensures { IfOk result (λ x. expression_of x ≡ operate operator (one (expression_of operand))) }
+    operand: Box<Expr>,
+) -> Result<Box<Expr>, AllocError>
+    ensures { IfOk result (λ x. expression_of x.value ≡ operate operator (one (expression_of operand.value))) }
 {
-    let operands = vec![in alloc; operand]?;
-    Ok(Expr::Operate(place, operator, operands))
+    let operands = vec![in alloc; Box::into_inner(operand)]?;
+    Ok(Box::new(alloc, Expr::Operate(place, operator, operands))?)
 }
 
-fn compute(alloc: Global, place: Place, op: Op, left: Expr, right: Expr) -> Result<Expr, AllocError>
-    ensures { IfOk result (λ x. expression_of x ≡ computed op (expression_of left) (expression_of right)) }
+fn compute(
+    alloc: Global,
+    place: Place,
+    op: Op,
+    left: Box<Expr>,
+    right: Box<Expr>,
+) -> Result<Box<Expr>, AllocError>
+    ensures { IfOk result (λ x. expression_of x.value ≡ computed op (expression_of left.value) (expression_of right.value)) }
 {
-    let operands = vec![in alloc; left, right]?;
-    Ok(Expr::Operate(place, Operator::Compute(op), operands))
+    let operands = vec![in alloc; Box::into_inner(left), Box::into_inner(right)]?;
+    Ok(Box::new(alloc, Expr::Operate(place, Operator::Compute(op), operands))?)
 }
 
 /// `if`
@@ -171,15 +182,19 @@ pub fn choice(
     right: Elaborated,
 ) -> Result<Elaborated, Fault>
     ensures typed { IfOk result (λ x. kind_of_choice condition.kind left.kind right.kind ≡ Some x.kind) }
-    ensures meant { IfOk result (λ x. expression_of x.expr ≡ operate IfOperator (more (expression_of condition.expr) (two (expression_of left.expr) (expression_of right.expr)))) }
+    ensures meant { IfOk result (λ x. expression_of x.expr.value ≡ operate IfOperator (more (expression_of condition.expr.value) (two (expression_of left.expr.value) (expression_of right.expr.value)))) }
     ensures refused { IfErr result (Faulty (kind_of_choice condition.kind left.kind right.kind ≡ None)) }
 {
     let Some(kind) = choice_kind(condition.kind, left.kind, right.kind) else {
         return Err(Fault::At(place));
     };
-    let operands = vec![in alloc; condition.expr, left.expr, right.expr]?;
+    let operands = vec![in alloc;
+        Box::into_inner(condition.expr),
+        Box::into_inner(left.expr),
+        Box::into_inner(right.expr),
+    ]?;
     Ok(Elaborated {
-        expr: Expr::Operate(place, Operator::If, operands),
+        expr: Box::new(alloc, Expr::Operate(place, Operator::If, operands))?,
         kind,
     })
 }
@@ -193,7 +208,7 @@ pub fn field(
     name: &Name,
 ) -> Result<Elaborated, Fault>
     ensures typed { IfOk result (λ x. field_kind (scope_of scope.now) operand.kind (name_seen name.now).text ≡ Some x.kind) }
-    ensures meant { IfOk result (λ x. expression_of x.expr ≡ field_meant (scope_of scope.now) (Some operand.kind) (name_seen name.now).text (expression_of operand.expr)) }
+    ensures meant { IfOk result (λ x. expression_of x.expr.value ≡ field_meant (scope_of scope.now) (Some operand.kind) (name_seen name.now).text (expression_of operand.expr.value)) }
     ensures refused { IfErr result (Faulty (field_kind (scope_of scope.now) operand.kind (name_seen name.now).text ≡ None)) }
 {
     let fields = scope.fields_of(operand.kind);
@@ -281,14 +296,14 @@ pub fn sampled(
     test: &SourceTest,
 ) -> Result<Elaborated, Fault>
     ensures typed { IfOk result (λ x. option_map (λ t. operand.kind) (placed_test (scope_of scope.now) (test_seen test.now)) ≡ Some x.kind) }
-    ensures meant { IfOk result (λ x. expression_of x.expr ≡ when_meant (test_meant (scope_of scope.now) (test_seen test.now)) (expression_of operand.expr)) }
+    ensures meant { IfOk result (λ x. expression_of x.expr.value ≡ when_meant (test_meant (scope_of scope.now) (test_seen test.now)) (expression_of operand.expr.value)) }
     ensures refused { IfErr result (Faulty (option_map (λ t. operand.kind) (placed_test (scope_of scope.now) (test_seen test.now)) ≡ None)) }
 {
     let Some(found) = test_placed(scope, test) else {
         return Err(Fault::At(clock_variable(test).span.start));
     };
     Ok(Elaborated {
-        expr: Expr::When(place, found, Box::new(alloc, operand.expr)?),
+        expr: Box::new(alloc, Expr::When(place, found, operand.expr))?,
         kind: operand.kind,
     })
 }

@@ -57,6 +57,7 @@ pub fn callee<'a>(
 
 /// A call with one output.
 pub fn call(
+    alloc: Global,
     scope: &Scope,
     name: &Name,
     arguments: &[Part],
@@ -64,7 +65,7 @@ pub fn call(
     kinds: &[Kind],
 ) -> Result<Elaborated, Fault>
     ensures typed { IfOk result (λ x. option_and_then one_kind (outputs_of (scope_of scope.now) (name_seen name.now).text (parts_of (map part_seen arguments.now)) kinds.now) ≡ Some x.kind) }
-    ensures meant { IfOk result (λ x. expression_of x.expr ≡ call_meant (node_place (scope_of scope.now) (name_seen name.now).text) 0 (operands_of operands.items)) }
+    ensures meant { IfOk result (λ x. expression_of x.expr.value ≡ call_meant (node_place (scope_of scope.now) (name_seen name.now).text) 0 (operands_of operands.items)) }
     ensures refused { IfErr result (Faulty (option_and_then one_kind (outputs_of (scope_of scope.now) (name_seen name.now).text (parts_of (map part_seen arguments.now)) kinds.now) ≡ None)) }
 {
     let place = name.span.start;
@@ -73,7 +74,7 @@ pub fn call(
         return Err(Fault::At(place));
     };
     Ok(Elaborated {
-        expr: Expr::Call(place, node.place, operands),
+        expr: Box::new(alloc, Expr::Call(place, node.place, operands))?,
         kind,
     })
 }
@@ -121,7 +122,7 @@ pub fn merge(
 ) -> Result<Elaborated, Fault>
     requires { length operands.items ≡ length branches.now }
     ensures typed { IfOk result (λ x. option_and_then (λ k. merge_kind (scope_of scope.now) k (parts_of (map part_seen branches.now)) kinds.now) (variable_kind (scope_of scope.now) (name_seen variable.now).text) ≡ Some x.kind) }
-    ensures meant { IfOk result (λ x. expression_of x.expr ≡ merge_meant (variable_place (scope_of scope.now) (name_seen variable.now).text) (branches_meant (scope_of scope.now) (unwrap_or (variable_kind (scope_of scope.now) (name_seen variable.now).text) BoolKind) (parts_of (map part_seen branches.now)) (operands_of operands.items))) }
+    ensures meant { IfOk result (λ x. expression_of x.expr.value ≡ merge_meant (variable_place (scope_of scope.now) (name_seen variable.now).text) (branches_meant (scope_of scope.now) (unwrap_or (variable_kind (scope_of scope.now) (name_seen variable.now).text) BoolKind) (parts_of (map part_seen branches.now)) (operands_of operands.items))) }
     ensures refused { IfErr result (Faulty (option_and_then (λ k. merge_kind (scope_of scope.now) k (parts_of (map part_seen branches.now)) kinds.now) (variable_kind (scope_of scope.now) (name_seen variable.now).text) ≡ None)) }
 {
     let Some(clock) = scope.variable(&variable.text) else {
@@ -136,7 +137,7 @@ pub fn merge(
         return Err(Fault::At(place));
     };
     Ok(Elaborated {
-        expr: Expr::Merge(place, clock.place, operands),
+        expr: Box::new(alloc, Expr::Merge(place, clock.place, operands))?,
         kind,
     })
 }
@@ -209,7 +210,7 @@ pub fn structure(
 ) -> Result<Elaborated, Fault>
     requires { length operands.items ≡ length fields.now }
     ensures typed { IfOk result (λ x. option_and_then (λ k. structure_kind (scope_of scope.now) k (parts_of (map part_seen fields.now)) kinds.now) (entry (scope_of scope.now).types (name_seen name.now).text) ≡ Some x.kind) }
-    ensures meant { IfOk result (λ x. expression_of x.expr ≡ structure_meant (scope_of scope.now) (unwrap_or (entry (scope_of scope.now).types (name_seen name.now).text) BoolKind) (parts_of (map part_seen fields.now)) (operands_of operands.items)) }
+    ensures meant { IfOk result (λ x. expression_of x.expr.value ≡ structure_meant (scope_of scope.now) (unwrap_or (entry (scope_of scope.now).types (name_seen name.now).text) BoolKind) (parts_of (map part_seen fields.now)) (operands_of operands.items)) }
     ensures refused { IfErr result (Faulty (option_and_then (λ k. structure_kind (scope_of scope.now) k (parts_of (map part_seen fields.now)) kinds.now) (entry (scope_of scope.now).types (name_seen name.now).text) ≡ None)) }
 {
     let place = name.span.start;
@@ -229,7 +230,10 @@ pub fn structure(
         return Err(Fault::At(place));
     };
     Ok(Elaborated {
-        expr: Expr::Operate(place, Operator::Structure(declaration), operands),
+        expr: Box::new(
+            alloc,
+            Expr::Operate(place, Operator::Structure(declaration), operands),
+        )?,
         kind,
     })
 }

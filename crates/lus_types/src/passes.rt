@@ -9,7 +9,7 @@ ghost use Rattle.lus_program.specs.View.{node_of, program_seen};
 ghost use Rattle.lus_meaning.specs.Named.{Named, known};
 ghost use Rattle.lus_meaning.specs.Loopless.{Loopless, node_uses as calls_of_nodes, type_uses as uses_of_types};
 ghost use Rattle.lus_meaning.specs.Sized.{Bounded, Counted};
-ghost use Rattle.lus_meaning.specs.Tables.{declared_as, tables as tables_of};
+ghost use Rattle.lus_meaning.specs.Tables.{AreKinds, declared_as, tables as tables_of};
 ghost use Rattle.lus_meaning.specs.Meaning.{node_meant, program_of};
 ghost use Rattle.lus_meaning.specs.WellTyped.{IsTyped, NodeTyped};
 ghost use Rattle.lus_meaning.specs.ScopeView.{Faulty, scope_of};
@@ -21,7 +21,7 @@ use crate::nodes::node;
 use lus_limits::{Orders, check_counts, check_recursion, check_sizes, kinds_of_types};
 use lus_meaning::{Fault, Scope};
 use lus_names::{Names, check_names};
-use lus_program::{Node, Program};
+use lus_program::{Kind, Node, Program};
 use lus_syntax::{Refusal, RefusalNumber, Tree};
 use lus_tables::{enter, tables};
 use std::alloc::Global;
@@ -96,30 +96,55 @@ pub fn types(alloc: Global, tree: &Tree, names: &Names, orders: &Orders) -> Resu
     ensures means { IfOk result (λ q. program_seen q ≡ program_of (tree_seen tree.now)) }
     ensures refused { IfErr result (λ e. e.number ≢ numbers.Memory → (IsTyped (tree_seen tree.now) → ⊥) × (e.number ≡ numbers.Type)) }
 {
-    match program(alloc, tree, names, orders) {
+    match program(alloc, tree, names, &orders.types) {
         Ok(program) => Ok(program),
         Err(fault) => Err(refusal(RefusalNumber::Type, fault)),
     }
 }
 
-/// The program that a source means, where it is well typed.
-fn program(alloc: Global, tree: &Tree, names: &Names, orders: &Orders) -> Result<Program, Fault>
+/// The program that a source means, where it is well typed; its types stand in this order, what is used first.
+fn program(alloc: Global, tree: &Tree, names: &Names, order: &[usize]) -> Result<Program, Fault>
     requires counted { Counted (tree_seen tree.now) }
     requires named { Named (tree_seen tree.now) }
     requires known { known_seen names.now ≡ known (tree_seen tree.now) [] }
-    requires types { IsOrder (uses_of_types (tree_seen tree.now)) orders.now.types.items }
+    requires types { IsOrder (uses_of_types (tree_seen tree.now)) order.now }
     ensures ok { OnOk result (IsTyped (tree_seen tree.now)) }
     ensures means { IfOk result (λ q. program_seen q ≡ program_of (tree_seen tree.now)) }
     ensures refused { IfErr result (Faulty (IsTyped (tree_seen tree.now) → ⊥)) }
 {
-    let kinds = kinds_of_types(alloc, tree, &names.types, &orders.types)?;
-    let mut scope = tables(alloc, tree, &kinds)?;
-    check_constants(tree, &scope)?;
-    let nodes = nodes(alloc, tree, &mut scope)?;
+    let kinds = kinds_of_types(alloc, tree, &names.types, order)?;
+    program_by(alloc, tree, &kinds)
+}
+
+/// The program that a source of these declared types means, where it is well typed.
+fn program_by(alloc: Global, tree: &Tree, kinds: &[Kind]) -> Result<Program, Fault>
+    requires counted { Counted (tree_seen tree.now) }
+    requires named { Named (tree_seen tree.now) }
+    requires kinds { AreKinds (tree_seen tree.now) kinds.now }
+    ensures ok { OnOk result (IsTyped (tree_seen tree.now)) }
+    ensures means { IfOk result (λ q. program_seen q ≡ program_of (tree_seen tree.now)) }
+    ensures refused { IfErr result (Faulty (IsTyped (tree_seen tree.now) → ⊥)) }
+{
+    let mut scope = tables(alloc, tree, kinds)?;
+    let nodes = typed(alloc, tree, &mut scope)?;
     Ok(Program {
         types: scope.declared,
         nodes,
     })
+}
+
+/// The nodes of a source whose constants have the types that they declare.
+fn typed(alloc: Global, tree: &Tree, scope: &mut Scope) -> Result<Vec<Node>, Fault>
+    requires counted { Counted (tree_seen tree.now) }
+    requires named { Named (tree_seen tree.now) }
+    requires scoped { scope_of scope.old ≡ tables_of (tree_seen tree.now) }
+    ensures ok { OnOk result (IsTyped (tree_seen tree.now)) }
+    ensures meant { IfOk result (λ ns. map node_of ns.items ≡ map (node_meant (tree_seen tree.now)) (tree_seen tree.now).nodes) }
+    ensures declared { OnOk result ((scope_of scope.new).declared ≡ map (λ d. declared_as (tree_seen tree.now) d.definition) (tree_seen tree.now).types) }
+    ensures refused { IfErr result (Faulty (IsTyped (tree_seen tree.now) → ⊥)) }
+{
+    check_constants(tree, scope)?;
+    nodes(alloc, tree, scope)
 }
 
 /// The nodes of a source, each by its own variables.

@@ -1,14 +1,21 @@
 //! The checks of a source's declarations, one behind another.
 
-ghost use Rattle.std.specs.Prelude.{◌≡◌, ◌≢◌, IfErr, IfOk, OnOk};
+ghost use Rattle.std.specs.Prelude.{◌≡◌, ◌≢◌, IfErr, IfOk, OnOk, []};
 ghost use Rattle.lus_syntax.specs.declared.refusal.RefusalNumber.TheVariants as numbers;
 ghost use Rattle.lus_syntax.specs.View.{tree_seen};
+ghost use Rattle.lus_graph.specs.Ways.{IsOrder};
 ghost use Rattle.lus_program.specs.View.{program_seen};
+ghost use Rattle.lus_meaning.specs.Named.{Named, known};
+ghost use Rattle.lus_meaning.specs.Loopless.{Loopless, node_uses as calls_of_nodes, type_uses as uses_of_types};
+ghost use Rattle.lus_meaning.specs.Sized.{Counted};
 ghost use Rattle.lus_meaning.specs.Meaning.{program_of};
 ghost use Rattle.lus_meaning.specs.Refusals.{FirstFails, WellFormed};
+ghost use Rattle.lus_names.specs.NameView.{known_seen};
 
 use crate::passes::{counts, names, recursion, sizes, types};
+use lus_limits::Orders;
 use lus_meaning::Typed;
+use lus_names::Names;
 use lus_program::Program;
 use lus_syntax::{Refusal, Tree};
 use std::alloc::Global;
@@ -34,7 +41,34 @@ fn checked(alloc: Global, tree: &Tree) -> Result<Program, Refusal>
 {
     counts(tree)?;
     let names = names(alloc, tree)?;
-    let orders = recursion(alloc, tree, &names)?;
-    sizes(alloc, tree, &names, &orders)?;
-    types(alloc, tree, &names, &orders)
+    loopless(alloc, tree, &names)
+}
+
+/// The program that a source of known names means, where no later pass refuses it.
+fn loopless(alloc: Global, tree: &Tree, names: &Names) -> Result<Program, Refusal>
+    requires counted { Counted (tree_seen tree.now) }
+    requires named { Named (tree_seen tree.now) }
+    requires known { known_seen names.now ≡ known (tree_seen tree.now) [] }
+    ensures ok { OnOk result (WellFormed (tree_seen tree.now)) }
+    ensures means { IfOk result (λ q. program_seen q ≡ program_of (tree_seen tree.now)) }
+    ensures refused { IfErr result (λ e. e.number ≢ numbers.Memory → FirstFails (tree_seen tree.now) e.number) }
+{
+    let orders = recursion(alloc, tree, names)?;
+    bounded(alloc, tree, names, &orders)
+}
+
+/// The program that a source without recursion means, where it is within the limits of sizes and well typed.
+fn bounded(alloc: Global, tree: &Tree, names: &Names, orders: &Orders) -> Result<Program, Refusal>
+    requires counted { Counted (tree_seen tree.now) }
+    requires named { Named (tree_seen tree.now) }
+    requires known { known_seen names.now ≡ known (tree_seen tree.now) [] }
+    requires loopless { Loopless (tree_seen tree.now) }
+    requires types { IsOrder (uses_of_types (tree_seen tree.now)) orders.now.types.items }
+    requires nodes { IsOrder (calls_of_nodes (tree_seen tree.now)) orders.now.nodes.items }
+    ensures ok { OnOk result (WellFormed (tree_seen tree.now)) }
+    ensures means { IfOk result (λ q. program_seen q ≡ program_of (tree_seen tree.now)) }
+    ensures refused { IfErr result (λ e. e.number ≢ numbers.Memory → FirstFails (tree_seen tree.now) e.number) }
+{
+    sizes(alloc, tree, names, orders)?;
+    types(alloc, tree, names, orders)
 }
