@@ -1,23 +1,25 @@
 //! The tables in which the names of a source are looked up.
 
-ghost use Rattle.std.specs.Prelude.{◌≡◌, ◌≤◌, IfOk, OnErr, OnOk, []};
+ghost use Rattle.std.specs.Prelude.{◌≡◌, ◌≤◌, IfOk, OnErr, OnOk, [], flat_map, map};
+ghost use Rattle.lus_values.specs.View.{value_of};
+ghost use Rattle.lus_program.specs.View.{declared_of};
 ghost use Rattle.lus_syntax.specs.View.{node_seen, tree_seen};
 ghost use Rattle.lus_syntax.specs.Trees.{Tree as PlainTree};
 ghost use Rattle.lus_meaning.specs.Named.{Distinct, Named, names_in};
-ghost use Rattle.lus_meaning.specs.ScopeView.{entries_of, scope_of};
+ghost use Rattle.lus_meaning.specs.ScopeView.{entries_of, scope_of, signature_of};
 ghost use Rattle.lus_meaning.specs.Sized.{Counted, variable_count};
-ghost use Rattle.lus_meaning.specs.Tables.{AreKinds, groups, placed, scope as scope_in, tables as tables_of};
-ghost use Rattle.lus_tables.specs.ByTable.{kind_in, kinds_by};
+ghost use Rattle.lus_meaning.specs.Tables.{AreKinds, constructors_of, groups, numbered_from, placed, scope as scope_in, tables as tables_of};
+ghost use Rattle.lus_tables.specs.ByTable.{declared_by, kind_in, kinds_by, signature_by, value_in};
 
 use crate::nodes::nodes;
 use crate::types::{declared, types};
 use crate::values::{constants, constructors};
 use crate::variables::place_groups;
 use indexmap::IndexMap;
-use lus_meaning::{Placed, Scope};
-use lus_program::Kind;
+use lus_meaning::{Constructor, Placed, Scope, Signature};
+use lus_program::{Declared, Kind};
 use lus_syntax::{Node, Tree};
-use lus_values::Memory;
+use lus_values::{Memory, Value};
 use std::alloc::Global;
 
 /// The tables of a source whose declared types are these, one by one; no variables.
@@ -28,10 +30,8 @@ pub fn tables(alloc: Global, tree: &Tree, kinds: &[Kind]) -> Result<Scope, Memor
     ensures { IfOk result (λ s. scope_of s ≡ tables_of (tree_seen tree.now)) }
 {
     let types = types(alloc, &tree.types, kinds)?;
-    let declared = declared(alloc, &types, &tree.types)?;
-    let constructors = constructors(alloc, &tree.types)?;
-    let constants = constants(alloc, &constructors, &tree.constants)?;
-    let nodes = nodes(alloc, &types, &tree.nodes)?;
+    let (declared, nodes) = declarations(alloc, &types, tree)?;
+    let (constructors, constants) = values(alloc, tree)?;
     Ok(Scope {
         variables: IndexMap::new(alloc),
         constants,
@@ -40,6 +40,37 @@ pub fn tables(alloc: Global, tree: &Tree, kinds: &[Kind]) -> Result<Scope, Memor
         declared,
         nodes,
     })
+}
+
+/// What the types of a source declare, and the table of its nodes.
+fn declarations(
+    alloc: Global,
+    types: &IndexMap<String, Kind>,
+    tree: &Tree,
+) -> Result<(Vec<Declared>, IndexMap<String, Signature>), Memory>
+    requires counted { Counted (tree_seen tree.now) }
+    requires named { Named (tree_seen tree.now) }
+    ensures declared { IfOk result (λ x. map declared_of x.0.items ≡ map (λ d. declared_by (kind_in (entries_of (λ y. y) types.now.entries)) d.definition) (tree_seen tree.now).types) }
+    ensures nodes { IfOk result (λ x. entries_of signature_of x.1.entries ≡ map (λ e. (e.0.name.text, signature_by (kind_in (entries_of (λ y. y) types.now.entries)) e.0 e.1)) (numbered_from 0 (tree_seen tree.now).nodes)) }
+{
+    let declared = declared(alloc, types, &tree.types)?;
+    let nodes = nodes(alloc, types, &tree.nodes)?;
+    Ok((declared, nodes))
+}
+
+/// The tables of constructors and of constants.
+fn values(
+    alloc: Global,
+    tree: &Tree,
+) -> Result<(IndexMap<String, Constructor>, IndexMap<String, Value>), Memory>
+    requires counted { Counted (tree_seen tree.now) }
+    requires named { Named (tree_seen tree.now) }
+    ensures constructors { IfOk result (λ x. entries_of (λ y. y) x.0.entries ≡ flat_map (λ e. constructors_of e.0.definition e.1) (numbered_from 0 (tree_seen tree.now).types)) }
+    ensures constants { IfOk result (λ x. entries_of value_of x.1.entries ≡ map (λ c. (c.name.text, value_in (entries_of (λ y. y) x.0.entries) c.value)) (tree_seen tree.now).constants) }
+{
+    let constructors = constructors(alloc, &tree.types)?;
+    let constants = constants(alloc, &constructors, &tree.constants)?;
+    Ok((constructors, constants))
 }
 
 /// Puts a node's variables in the place of those that the tables have.
