@@ -67,10 +67,10 @@ fn structures_with_holes_fit_no_equality(rt: HostRuntime) -> Result<(), Fail> {
 
 /// An alias, and then an enumeration of two colours.
 fn colours(alloc: Global) -> Result<Names, Memory> {
-    let names = Names::new(alloc).with_type(alloc, &[])?;
     let mut colours = Vec::new(alloc);
     colours.push(String::from_str(alloc, "Red")?)?;
     colours.push(String::from_str(alloc, "Green")?)?;
+    let names = Names::new(alloc).with_type(alloc, &[])?;
     names.with_type(alloc, &colours)
 }
 
@@ -85,24 +85,34 @@ fn flagged(alloc: Global) -> Result<Value, Memory> {
     Ok(Value::Struct(fields))
 }
 
+/// The text of a structure, and after it those of a hole and of a constructor without a name.
+fn written(alloc: Global, names: &Names) -> Result<String, Memory> {
+    let value = Box::new(alloc, flagged(alloc)?)?;
+    let mut text = print(alloc, &value, names)?;
+    push_value(&mut text, &Value::Nil, names)?;
+    push_value(&mut text, &Value::Enum(0, 0), names)?;
+    Ok(text)
+}
+
 #[test]
 fn values_print_with_the_names_of_constructors(rt: HostRuntime) -> Result<(), Fail> {
     let names = colours(rt.alloc())?;
-    let mut text = print(rt.alloc(), &flagged(rt.alloc())?, &names)?;
-    assert_eq!(rt; text.as_str(), "{{true; -9223372036854775808}; Green}");
-    push_value(&mut text, &Value::Nil, &names)?;
-    push_value(&mut text, &Value::Enum(0, 0), &names)?;
+    let text = written(rt.alloc(), &names)?;
     assert_eq!(rt; text.as_str(), "{{true; -9223372036854775808}; Green}nil?");
     Ok(())
+}
+
+fn are_found(names: &Names) -> bool {
+    names.name(1, 0) == Some("Red")
+        && names.name(1, 2) == None
+        && names.find("Green") == Some((1, 1))
+        && names.find("Blue") == None
 }
 
 #[test]
 fn names_are_found_both_ways(rt: HostRuntime) -> Result<(), Fail> {
     let names = colours(rt.alloc())?;
-    assert_eq!(rt; names.name(1, 0), Some("Red"));
-    assert_eq!(rt; names.name(1, 2), None);
-    assert_eq!(rt; names.find("Green"), Some((1, 1)));
-    assert_eq!(rt; names.find("Blue"), None);
+    assert!(rt; are_found(&names));
     Ok(())
 }
 
