@@ -173,20 +173,23 @@ fn fields_asked(
     Ok(asked)
 }
 
-/// Whether values of these types fit the fields, one by one.
+/// Whether values of these types fit the fields, one by one. A loop, since there may be as many fields as a text can hold.
 fn all_fit(fields: &[Placed], kinds: &[Kind]) -> bool
     ensures { result ≡ all_same_kinds (map (λ x. x.kind) fields.now) kinds.now }
 {
-    match fields {
-        [] => match kinds {
-            [] => true,
-            [_, _rest @ ..] => false,
-        },
-        [field, fields @ ..] => match kinds {
-            [] => false,
-            [kind, kinds @ ..] => same(field.kind, *kind) && all_fit(fields, kinds),
-        },
+    let mut left = kinds;
+    for field in fields {
+        match left {
+            [] => return false,
+            [kind, later @ ..] => {
+                if !same(field.kind, *kind) {
+                    return false;
+                }
+                left = later;
+            }
+        }
     }
+    left.is_empty()
 }
 
 fn places_of(alloc: Global, fields: &[Placed]) -> Result<Vec<u32>, AllocError>

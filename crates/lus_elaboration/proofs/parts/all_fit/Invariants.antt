@@ -1,5 +1,6 @@
-use Rattle.std.proofs.Common.{length}
-use Rattle.lus_elaboration.proofs.parts.+all_fit.Given as goal
+use Rattle.std.proofs.Common.{◌≡◌, drop, map}
+use Rattle.lus_meaning.specs.Types.{all_same}
+use Rattle.lus_elaboration.proofs.parts.all_fit.Given as goal
 
-abbrev pub decreases-all_fit : goal.decreases-all_fit
-decreases-all_fit l = length l.fields.now
+abbrev pub invariant-loop-field : goal.invariant-loop-field
+invariant-loop-field l = all_same (map (λ x. x.kind) l.fields) l.kinds ≡ all_same (map (λ x. x.kind) (drop l.field-index l.fields)) l.left
