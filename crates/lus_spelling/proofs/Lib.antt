@@ -3,3 +3,4 @@ pub mod Complete
 pub mod Repeats
 pub mod SoundDeclarations
 pub mod CompleteDeclarations
+pub mod Examples

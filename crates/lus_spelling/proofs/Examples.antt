@@ -1,0 +1,136 @@
+-- Which tokens spell which tree, at small right sides, by computation.
+use Rattle.std.proofs.Common.{arith, ◌≡◌, ◌∙◌, refl, sym, ap, subst, ℕ, true, false, cond, List, [], ◌∷◌, leb, Ok, Err, codes}
+use Rattle.std.proofs.lemmas.List.{append-nil}
+use Rattle.std.specs.Prelude.{pos}
+use Rattle.lus_syntax.specs.declared.token.Span.{Span}
+use Rattle.lus_syntax.specs.declared.token.Symbol.{Symbol}
+use Rattle.lus_syntax.specs.declared.token.Symbol.TheVariants as symbols
+use Rattle.lus_syntax.specs.declared.token.Word.{Word}
+use Rattle.lus_syntax.specs.declared.token.Word.TheVariants as words
+use Rattle.lus_syntax.specs.declared.tree.Infix.{Infix}
+use Rattle.lus_syntax.specs.declared.tree.Infix.TheVariants as infixes
+use Rattle.lus_syntax.specs.declared.tree.Prefix.TheVariants as prefixes
+use Rattle.lus_syntax.specs.Lexemes.{Number, Sign, Keyword, Lexeme, tok}
+use Rattle.lus_syntax.specs.Places.{start}
+use Rattle.lus_syntax.specs.Trees.{Named, named, Expression, Name, Unary, Binary, If}
+use Rattle.lus_spelling.specs.Expressions.{Whole, Spells, depth, ident}
+use Rattle.lus_spelling.specs.Reading.{Syntax, Deep, found, Read, read, atom_at, dots_at, dotted_at, primary_at, prefixed_at, more_at, chain_at, branches_at, choice_at, arrow_at, whole_at, name_at, parentheses_at, read_atom, read_dotted, read_primary, read_signed, read_term, read_sum, read_comparison, read_negated, read_negation, read_conjunction, read_disjunction, read_implication, read_choice, read_else, read_arrow, read_whole}
+use Rattle.lus_spelling.proofs.Sound.{read_sound}
+use Rattle.lus_spelling.proofs.Complete.{complete, outcome}
+
+-- ---- what reading tells of spelling
+
+-- what is read to the end is spelt
+spelt : (t : Expression) (ts : List Lexeme) (n d : ℕ) → read n Whole ts ≡ Ok (found t d []) → Spells Whole t ts
+spelt t ts n d is = let s = read_sound n Whole ts (found t d []) is in subst (Spells Whole t) (sym (s.cut ∙ append-nil s.text)) s.spells
+
+abbrev AreLeft : List Lexeme → Type 0
+AreLeft [] = ⊥
+AreLeft (x ∷ xs) = Unit {0}
+
+-- a fault of syntax is met, or tokens are left
+abbrev IsRefused : Read → Type 0
+IsRefused (Err Syntax) = Unit {0}
+IsRefused (Err Deep) = ⊥
+IsRefused (Ok f) = AreLeft f.rest
+
+-- a whole tree is read to the end, or too deep
+spelt_is_read : (n : ℕ) (t : Expression) → IsRefused (outcome n t []) → ⊥
+spelt_is_read n t refused = elim (leb (depth t) n) as (λ b. IsRefused (cond b (Ok (found t (depth t) [])) (Err Deep)) → ⊥) [ true ↦ λ h. h | false ↦ λ h. h ] refused
+
+-- what is refused spells no tree
+no_tree : (ts : List Lexeme) (n : ℕ) → IsRefused (read n Whole ts) → (t : Expression) → Spells Whole t ts → ⊥
+no_tree ts n refused t spells =
+    spelt_is_read n t (subst IsRefused (ap (read n Whole) (sym (append-nil ts)) ∙ complete spells n [] (omega arith)) refused)
+
+-- ---- tokens, all in one place
+
+here : Span
+here = record { start = start; end = start }
+
+abbrev a : Named
+a = named (codes "a") here
+
+abbrev b : Named
+b = named (codes "b") here
+
+abbrev c : Named
+c = named (codes "c") here
+
+abbrev sign : Symbol → Lexeme
+sign s = tok (Sign s) here
+
+abbrev word : Word → Lexeme
+word w = tok (Keyword w) here
+
+-- ---- right sides that spell a tree
+
+abbrev join : Infix → Expression → Expression → Expression
+join = Binary
+
+differences : List Lexeme
+differences = ident a ∷ sign symbols.Minus ∷ ident b ∷ sign symbols.Minus ∷ ident c ∷ []
+
+differences_group_left : Spells Whole (join infixes.Subtract (join infixes.Subtract (Name a) (Name b)) (Name c)) differences
+unfolding read atom_at dots_at dotted_at primary_at prefixed_at more_at chain_at branches_at choice_at arrow_at whole_at name_at parentheses_at read_atom read_dotted read_primary read_signed read_term read_sum read_comparison read_negated read_negation read_conjunction read_disjunction read_implication read_choice read_else read_arrow read_whole differences
+differences_group_left = spelt _ _ 9 3 refl
+
+quotients : List Lexeme
+quotients = ident a ∷ word words.Div ∷ ident b ∷ sign symbols.Star ∷ ident c ∷ []
+
+quotients_group_left : Spells Whole (join infixes.Multiply (join infixes.Divide (Name a) (Name b)) (Name c)) quotients
+unfolding read atom_at dots_at dotted_at primary_at prefixed_at more_at chain_at branches_at choice_at arrow_at whole_at name_at parentheses_at read_atom read_dotted read_primary read_signed read_term read_sum read_comparison read_negated read_negation read_conjunction read_disjunction read_implication read_choice read_else read_arrow read_whole quotients
+quotients_group_left = spelt _ _ 9 3 refl
+
+arrows : List Lexeme
+arrows = ident a ∷ sign symbols.Arrow ∷ ident b ∷ sign symbols.Arrow ∷ ident c ∷ []
+
+arrows_group_right : Spells Whole (join infixes.Arrow (Name a) (join infixes.Arrow (Name b) (Name c))) arrows
+unfolding read atom_at dots_at dotted_at primary_at prefixed_at more_at chain_at branches_at choice_at arrow_at whole_at name_at parentheses_at read_atom read_dotted read_primary read_signed read_term read_sum read_comparison read_negated read_negation read_conjunction read_disjunction read_implication read_choice read_else read_arrow read_whole arrows
+arrows_group_right = spelt _ _ 9 3 refl
+
+negation : List Lexeme
+negation = word words.Not ∷ ident a ∷ word words.And ∷ ident b ∷ []
+
+negation_binds_tighter : Spells Whole (join infixes.And (Unary prefixes.Not here (Name a)) (Name b)) negation
+unfolding read atom_at dots_at dotted_at primary_at prefixed_at more_at chain_at branches_at choice_at arrow_at whole_at name_at parentheses_at read_atom read_dotted read_primary read_signed read_term read_sum read_comparison read_negated read_negation read_conjunction read_disjunction read_implication read_choice read_else read_arrow read_whole negation
+negation_binds_tighter = spelt _ _ 9 3 refl
+
+minus : List Lexeme
+minus = sign symbols.Minus ∷ ident a ∷ sign symbols.Star ∷ ident b ∷ []
+
+minus_binds_tighter : Spells Whole (join infixes.Multiply (Unary prefixes.Negate here (Name a)) (Name b)) minus
+unfolding read atom_at dots_at dotted_at primary_at prefixed_at more_at chain_at branches_at choice_at arrow_at whole_at name_at parentheses_at read_atom read_dotted read_primary read_signed read_term read_sum read_comparison read_negated read_negation read_conjunction read_disjunction read_implication read_choice read_else read_arrow read_whole minus
+minus_binds_tighter = spelt _ _ 9 3 refl
+
+past : List Lexeme
+past = ident a ∷ sign symbols.Arrow ∷ word words.Pre ∷ ident b ∷ sign symbols.Plus ∷ ident c ∷ []
+
+past_binds_tightest : Spells Whole (join infixes.Arrow (Name a) (join infixes.Add (Unary prefixes.Pre here (Name b)) (Name c))) past
+unfolding read atom_at dots_at dotted_at primary_at prefixed_at more_at chain_at branches_at choice_at arrow_at whole_at name_at parentheses_at read_atom read_dotted read_primary read_signed read_term read_sum read_comparison read_negated read_negation read_conjunction read_disjunction read_implication read_choice read_else read_arrow read_whole past
+past_binds_tightest = spelt _ _ 9 4 refl
+
+choice : List Lexeme
+choice = word words.If ∷ ident c ∷ word words.Then ∷ ident a ∷ word words.Else ∷ ident a ∷ sign symbols.Plus ∷ ident b ∷ []
+
+choice_reaches_far : Spells Whole (If here (Name c) (Name a) (join infixes.Add (Name a) (Name b))) choice
+unfolding read atom_at dots_at dotted_at primary_at prefixed_at more_at chain_at branches_at choice_at arrow_at whole_at name_at parentheses_at read_atom read_dotted read_primary read_signed read_term read_sum read_comparison read_negated read_negation read_conjunction read_disjunction read_implication read_choice read_else read_arrow read_whole choice
+choice_reaches_far = spelt _ _ 9 3 refl
+
+-- ---- right sides that spell none
+
+minus_before_fby : (t : Expression) → Spells Whole t (sign symbols.Minus ∷ tok (Number (pos 1)) here ∷ word words.Fby ∷ ident a ∷ []) → ⊥
+unfolding read atom_at dots_at dotted_at primary_at prefixed_at more_at chain_at branches_at choice_at arrow_at whole_at name_at parentheses_at read_atom read_dotted read_primary read_signed read_term read_sum read_comparison read_negated read_negation read_conjunction read_disjunction read_implication read_choice read_else read_arrow read_whole
+minus_before_fby = no_tree _ 9 tt
+
+or_beside_xor : (t : Expression) → Spells Whole t (ident a ∷ word words.Or ∷ ident b ∷ word words.Xor ∷ ident c ∷ []) → ⊥
+unfolding read atom_at dots_at dotted_at primary_at prefixed_at more_at chain_at branches_at choice_at arrow_at whole_at name_at parentheses_at read_atom read_dotted read_primary read_signed read_term read_sum read_comparison read_negated read_negation read_conjunction read_disjunction read_implication read_choice read_else read_arrow read_whole
+or_beside_xor = no_tree _ 9 tt
+
+chained_comparison : (t : Expression) → Spells Whole t (ident a ∷ sign symbols.Less ∷ ident b ∷ sign symbols.Less ∷ ident c ∷ []) → ⊥
+unfolding read atom_at dots_at dotted_at primary_at prefixed_at more_at chain_at branches_at choice_at arrow_at whole_at name_at parentheses_at read_atom read_dotted read_primary read_signed read_term read_sum read_comparison read_negated read_negation read_conjunction read_disjunction read_implication read_choice read_else read_arrow read_whole
+chained_comparison = no_tree _ 9 tt
+
+two_fbys : (t : Expression) → Spells Whole t (ident a ∷ word words.Fby ∷ ident b ∷ word words.Fby ∷ ident c ∷ []) → ⊥
+unfolding read atom_at dots_at dotted_at primary_at prefixed_at more_at chain_at branches_at choice_at arrow_at whole_at name_at parentheses_at read_atom read_dotted read_primary read_signed read_term read_sum read_comparison read_negated read_negation read_conjunction read_disjunction read_implication read_choice read_else read_arrow read_whole
+two_fbys = no_tree _ 9 tt
