@@ -89,10 +89,13 @@ pub fn order_of_nodes(alloc: Global, program: &Program) -> Result<Vec<usize>, Me
 
 /// The declared types of a program, each after the structures that it names.
 pub fn order_of_types(alloc: Global, program: &Program) -> Result<Vec<usize>, Memory>
+    requires { HasNoWayBack (uses_of_types (program_seen program.now)) }
     ensures { IfOk result (λ order. IsOrder (uses_of_types (program_seen program.now)) order.items) }
 {
     let uses = type_uses(alloc, program)?;
-    // A resolved program does not say that no type leads back to itself. Where a well-formed tree means it, none does (a law
-    // of this crate), so a cycle can't come: it is answered as want of memory.
-    order_of(alloc, &uses).map_err(|_| Memory)
+    match order_of(alloc, &uses) {
+        Ok(order) => Ok(order),
+        Err(GraphError::Memory) => Err(Memory),
+        Err(GraphError::Cycle(_)) => unreachable!(),
+    }
 }

@@ -1,0 +1,14 @@
+use Rattle.std.proofs.Common.{◌≡◌, ◌∙◌, ap, sym, subst}
+use Rattle.lus_graph.specs.Ways.{HasNoWayBack}
+use Rattle.lus_syntax.specs.View.{tree_seen}
+use Rattle.lus_program.specs.View.{program_seen}
+use Rattle.lus_meaning.specs.Meaning.{program_of}
+use Rattle.lus_cells.specs.Uses.{type_uses}
+use Rattle.lus_cells.proofs.TypesMeant.{types_loopless}
+use Rattle.lus_cells.proofs.counting.cells_of_nodes.Goals as goal
+
+pub order_of_types-requires : goal.order_of_types-requires
+order_of_types-requires c =
+    let tree = tree_seen c.tree-tree.result.now in
+    let same : program_of tree ≡ program_seen c.program-program.result.now = sym c.tree-tree.ensures.means ∙ ap program_seen (sym c.program-program.ensures.same) in
+    subst (λ p. HasNoWayBack (type_uses p)) same (types_loopless tree c.tree-tree.ensures.well_formed.loopless.types)
