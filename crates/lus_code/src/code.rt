@@ -97,7 +97,8 @@ pub fn translate(alloc: Global, normal: Normal) -> Result<Code, Refusal>
     ensures ok { OnOk result (FitsCells (program_seen normal.source.program)) }
     ensures refused { IfErr result (λ e. e.number ≢ numbers.Memory → (e.number ≡ numbers.Limit) × (FitsCells (program_seen normal.source.program) → ⊥)) }
 {
-    let cells = cells_of_nodes(alloc, normal.source().program())?;
+    let typed = normal.source().initialised().clocked().typed();
+    let cells = cells_of_nodes(alloc, typed)?;
     let classes = classes_of_nodes(alloc, normal.program(), normal.orders())?;
     let source = normal.into_source();
     Ok(Code {
