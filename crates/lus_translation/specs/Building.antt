@@ -66,8 +66,8 @@ AddsCells old new ms = KeepsCells old.kept new.kept ms
 abbrev pub AddsFirsts : (old new : Built) → List Clock → Type 0
 AddsFirsts old new ks = KeepsFirsts old.kept new.kept ks
 
-abbrev pub AddsSteps : (old new : Built) → List Step → Type 0
-AddsSteps old new ss = steps_of new.steps.items ≡ steps_of old.steps.items ++ ss
+abbrev pub Adds : (old new : Built) → List Step → Type 0
+Adds old new ss = steps_of new.steps.items ≡ steps_of old.steps.items ++ ss
 
 -- the steps that come next for a right side, for an equation on a clock, for an equation, and in turns
 abbrev pub given_from : Built → Expression → Clock → List ℕ → List Step
@@ -76,8 +76,8 @@ given_from b e k xs = given_steps (next_cell b.kept) (next_first b.kept) e k xs
 abbrev pub turn_from : StoredProgram → Built → (number : ℕ) → StoredEquation → Clock → List ℕ → List Step
 turn_from p b number q k xs = turn_steps (program_seen p) (next_cell b.kept) (next_first b.kept) number (expression_of q.right) q.targets.items k xs
 
-abbrev pub equation_from : StoredProgram → StoredNode → Built → (number : ℕ) → StoredEquation → List ℕ → List Step
-equation_from p f b number q xs = equation_steps (program_seen p) (node_of f) (next_cell b.kept) (next_first b.kept) number (Some q) xs
+abbrev pub steps_for : StoredProgram → StoredNode → Built → (number : ℕ) → StoredEquation → List ℕ → List Step
+steps_for p f b number q xs = equation_steps (program_seen p) (node_of f) (next_cell b.kept) (next_first b.kept) number (Some q) xs
 
 module _ (p : StoredProgram) (f : StoredNode) (numbers : List ℕ) where
   abbrev pub steps_in_turn : Built → StoredTurn → List Step

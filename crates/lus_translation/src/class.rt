@@ -6,7 +6,7 @@ ghost use Rattle.lus_flat_classes.specs.View.{class_of as class_in};
 ghost use Rattle.lus_values.specs.Lists.{Each};
 ghost use Rattle.lus_translation.specs.Making.{GivesAny};
 ghost use Rattle.lus_translation.specs.Forms.{equation_cells, equation_firsts};
-ghost use Rattle.lus_translation.specs.Building.{AddsCells, AddsFirsts, AddsSteps, equation_from, steps_in_turn, cells_in_turn, firsts_in_turn, steps_in_turns, cells_in_turns, firsts_in_turns, class_from};
+ghost use Rattle.lus_translation.specs.Building.{AddsCells, AddsFirsts, Adds, steps_for, steps_in_turn, cells_in_turn, firsts_in_turn, steps_in_turns, cells_in_turns, firsts_in_turns, class_from};
 
 use crate::calls::{calls_of, clock_of_equation, clocks_of, numbers_of};
 use crate::kept::Kept;
@@ -27,7 +27,7 @@ fn make_equation(
     variables: &[u32],
     built: &mut Built,
 ) -> Result<(), Memory>
-    ensures steps { OnOk result (AddsSteps built.old built.new (equation_from program.now node.now built.old number equation.now variables.now)) }
+    ensures steps { OnOk result (Adds built.old built.new (steps_for program.now node.now built.old number equation.now variables.now)) }
     ensures cells { OnOk result (AddsCells built.old built.new (equation_cells (node_of node.now) (Some equation.now) variables.now)) }
     ensures firsts { OnOk result (AddsFirsts built.old built.new (equation_firsts (node_of node.now) (Some equation.now) variables.now)) }
     ensures given { OnOk result (Each GivesAny built.old.steps.items → Each GivesAny built.new.steps.items) }
@@ -47,7 +47,7 @@ fn make_turn(
     built: &mut Built,
 ) -> Result<(), Memory>
     requires { length numbers.now ≡ length node.now.equations.items }
-    ensures steps { OnOk result (AddsSteps built.old built.new (steps_in_turn program.now node.now numbers.now built.old turn.now)) }
+    ensures steps { OnOk result (Adds built.old built.new (steps_in_turn program.now node.now numbers.now built.old turn.now)) }
     ensures cells { OnOk result (AddsCells built.old built.new (cells_in_turn program.now node.now numbers.now turn.now)) }
     ensures firsts { OnOk result (AddsFirsts built.old built.new (firsts_in_turn program.now node.now numbers.now turn.now)) }
     ensures given { OnOk result (Each GivesAny built.old.steps.items → Each GivesAny built.new.steps.items) }
@@ -79,7 +79,7 @@ fn make_turns(
     built: &mut Built,
 ) -> Result<(), Memory>
     requires { length numbers.now ≡ length node.now.equations.items }
-    ensures steps { OnOk result (AddsSteps built.old built.new (steps_in_turns program.now node.now numbers.now built.old turns.now)) }
+    ensures steps { OnOk result (Adds built.old built.new (steps_in_turns program.now node.now numbers.now built.old turns.now)) }
     ensures cells { OnOk result (AddsCells built.old built.new (cells_in_turns program.now node.now numbers.now turns.now)) }
     ensures firsts { OnOk result (AddsFirsts built.old built.new (firsts_in_turns program.now node.now numbers.now turns.now)) }
     ensures given { OnOk result (Each GivesAny built.old.steps.items → Each GivesAny built.new.steps.items) }

@@ -7,7 +7,7 @@ ghost use Rattle.lus_flat_classes.specs.View.{taken};
 ghost use Rattle.lus_values.specs.Lists.{Each};
 ghost use Rattle.lus_translation.specs.Making.{GivesAny};
 ghost use Rattle.lus_translation.specs.Forms.{answers_form, given_cells, given_firsts, turn_cells, turn_firsts};
-ghost use Rattle.lus_translation.specs.Building.{AddsCells, AddsFirsts, AddsSteps, given_from, turn_from};
+ghost use Rattle.lus_translation.specs.Building.{AddsCells, AddsFirsts, Adds, given_from, turn_from};
 
 use crate::code::code_of;
 use crate::formals::inputs_at;
@@ -68,7 +68,7 @@ fn give_right(
     variables: &[u32],
     built: &mut Built,
 ) -> Result<(), Memory>
-    ensures steps { OnOk result (AddsSteps built.old built.new (given_from built.old (expression_of right.now) clock.now variables.now)) }
+    ensures steps { OnOk result (Adds built.old built.new (given_from built.old (expression_of right.now) clock.now variables.now)) }
     ensures cells { OnOk result (AddsCells built.old built.new (given_cells (expression_of right.now) clock.now variables.now)) }
     ensures firsts { OnOk result (AddsFirsts built.old built.new (given_firsts (expression_of right.now) clock.now variables.now)) }
     ensures given { OnOk result (Each GivesAny built.old.steps.items → Each GivesAny built.new.steps.items) }
@@ -91,7 +91,7 @@ pub fn give_turn(
     variables: &[u32],
     built: &mut Built,
 ) -> Result<(), Memory>
-    ensures steps { OnOk result (AddsSteps built.old built.new (turn_from program.now built.old number equation.now clock.now variables.now)) }
+    ensures steps { OnOk result (Adds built.old built.new (turn_from program.now built.old number equation.now clock.now variables.now)) }
     ensures cells { OnOk result (AddsCells built.old built.new (turn_cells (expression_of equation.now.right) clock.now variables.now)) }
     ensures firsts { OnOk result (AddsFirsts built.old built.new (turn_firsts (expression_of equation.now.right) clock.now variables.now)) }
     ensures given { OnOk result (Each GivesAny built.old.steps.items → Each GivesAny built.new.steps.items) }
