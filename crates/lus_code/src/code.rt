@@ -7,7 +7,7 @@ ghost use Rattle.lus_program.specs.View.{program_seen};
 ghost use Rattle.lus_flat_classes.specs.Turns.{AreReady};
 ghost use Rattle.lus_flat_classes.specs.View.{classes_of};
 ghost use Rattle.lus_simulation.specs.Checked.{IsChecked};
-ghost use Rattle.lus_cells.specs.Cells.{AreStateCells, FitsCells};
+ghost use Rattle.lus_cells.specs.Cells.{AreStateCells, FitsCells, NamesTooMany};
 ghost use Rattle.lus_code.specs.Codes.{IsCodeOf, program_of};
 
 use crate::classes::classes_of_nodes;
@@ -96,6 +96,7 @@ pub fn translate(alloc: Global, normal: Normal) -> Result<Code, Refusal>
     ensures same { IfOk result (λ c. c.source ≡ normal.source) }
     ensures ok { OnOk result (FitsCells (program_seen normal.source.program)) }
     ensures refused { IfErr result (λ e. e.number ≢ numbers.Memory → (e.number ≡ numbers.Limit) × (FitsCells (program_seen normal.source.program) → ⊥)) }
+    ensures placed { IfErr result (λ e. e.number ≢ numbers.Memory → NamesTooMany normal.source.program e.line e.column) }
 {
     let typed = normal.source().initialised().clocked().typed();
     let cells = cells_of_nodes(alloc, typed)?;
