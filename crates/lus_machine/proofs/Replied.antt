@@ -1,5 +1,6 @@
 -- Each reply is right, and its change leads to what keeps the past after it.
-use Rattle.std.proofs.Common.{◌≡◌, ◌<◌, ◌≤◌, ◌++◌, ℕ, List, [], ◌∷◌, length, Option, Some, None, slice_set, slice_get, refl, sym, subst, ◌∙◌, true, false, arith, length-append}
+use Rattle.std.proofs.Common.{◌≡◌, ◌<◌, ◌≤◌, ◌++◌, ℕ, List, [], ◌∷◌, length, Option, Some, None, slice_set, slice_get, refl, sym, subst, ◌∙◌, true, false, get_or, replicate, arith, length-append}
+use Rattle.std.proofs.lemmas.List.{get_or_default}
 use Rattle.lus_values.specs.Lists.{item}
 use Rattle.lus_values.specs.Values.{Row}
 use Rattle.lus_simulation.specs.Lineages.{Lineage, HasLived}
@@ -16,11 +17,12 @@ use Rattle.lus_history.specs.Replies.{slots}
 use Rattle.lus_history.specs.Keeping.{Answers, IsInstance}
 use Rattle.lus_history.specs.Laws.{RequestsAnswer}
 use Rattle.lus_history.proofs.GoingOn.{instances_go_on}
-use Rattle.lus_history.proofs.Answering.{requests_are_answered}
+use Rattle.lus_history.proofs.Answering.{requests_are_answered, instances_begin}
 use Rattle.lus_code.specs.Codes.{ProgramCode, program_of, plain_classes}
 use Rattle.lus_eval.specs.Objects.{Kept, IsShaped, ObjectLived, IsStep, IsReset, state_of}
 use Rattle.lus_machine.specs.declared.answers.Answer.{Answer}
 use Rattle.lus_machine.specs.declared.answers.Change.TheVariants.{Nothing, Empty, Next, Slot}
+use Rattle.lus_machine.specs.Acceptance.{IsAccepted}
 use Rattle.lus_machine.specs.Changes.{Becomes, Answered}
 use Rattle.lus_machine.specs.Machines.{full, Lives}
 
@@ -140,3 +142,16 @@ lives_on c f h items e o o' kept kept' a is room lives answered reply becomes = 
   instance = goes_on c f h items e o o' kept kept' a is lives.instance answered reply becomes;
   few = subst (λ l. length l ≤ full) (sym is) (omega (arith, length-append h (e ∷ []), room));
 }
+
+-- a machine that was never called
+pub lives_first : (c : ProgramCode) (f : ℕ) (o : Kept) → IsAccepted (program_of c) → f < length (program_of c).nodes → ObjectLived c f o [] → Lives c f [] o (replicate slots None)
+lives_first c f o accepted within lived = record {
+  accepted = accepted;
+  within = within;
+  instance = instances_begin Kept (program_of c) f (ObjectLived c f) o lived;
+  few = omega arith;
+}
+
+-- the element at a place is what the slot saves
+pub saved_there : (kept : List (Option Kept)) (n : ℕ) (element : Option Kept) (saved : Kept) → n < length kept → element ≡ get_or kept n element → element ≡ Some saved → item None kept n ≡ Some saved
+saved_there kept n element saved h is e = get_or_default kept n None element h ∙ sym is ∙ e
