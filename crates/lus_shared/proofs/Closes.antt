@@ -1,5 +1,5 @@
 -- When all seats are joined, the machine is at home, and the history is theirs.
-use Rattle.std.proofs.Common.{◌≡◌, ◌==◌, ℕ, suc, ◌+◌, ◌<◌, ◌≤◌, Bool, true, false, cond, List, [], ◌∷◌, ◌++◌, length, refl, ap, sym, subst, ◌∙◌, ◌⊎◌, ⊎_elim, inl, inr, arith, Option, Some, eq-eqb, ne_eqb}
+use Rattle.std.proofs.Common.{◌≡◌, ◌==◌, ℕ, suc, ◌+◌, ◌<◌, ◌≤◌, Bool, true, false, cond, List, [], ◌∷◌, ◌++◌, length, refl, ap, sym, subst, ◌∙◌, ◌⊎◌, ⊎_elim, inl, inr, arith, eq-eqb, ne_eqb}
 use Rattle.std.specs.List.{sum_by, count_by}
 use Rattle.std.proofs.lemmas.List.Sums.{sum_by-cons, sum_by_push}
 use mathlib.Core.Logic.{dite}
@@ -10,7 +10,7 @@ use Rattle.atomic_table.specs.Table.{State, Final, Seen}
 use Rattle.lus_requests.specs.declared.request.Entry.{Entry}
 use Rattle.lus_machine.specs.Machines.{Told}
 use Rattle.lus_shared.specs.Knowledge.{Origin, machine_at, Facts, Sight, Instance, Standing, kept}
-use Rattle.lus_shared.specs.Rule.{Each, takers, times, FitsOne, Fits, Sound}
+use Rattle.lus_shared.specs.Rule.{Each, takers, times, FitsOne, Sound}
 use Rattle.lus_shared.specs.Closing.{IsPartOf, Closed, facts_from, all_facts}
 use Rattle.lus_shared.proofs.Lists.{sum_at, sum_two, is_number, same_number}
 use Rattle.lus_shared.proofs.Keeps.{bit, number_below, at_most_once}

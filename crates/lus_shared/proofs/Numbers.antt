@@ -1,6 +1,6 @@
 -- The numbers of seats.
-use Rattle.std.proofs.Common.{Result, Ok, Err, IfOk, ◌++◌, ◌≡◌, ◌==◌, false, ℕ, zero, suc, ◌+◌, ◌<◌, ◌≤◌, List, [], ◌∷◌, map, length, cond, refl, ap, sym, ◌∙◌, arith, ne_eqb}
-use Rattle.std.specs.List.{sum_by, count_by, All, range_with_len}
+use Rattle.std.proofs.Common.{◌++◌, ◌≡◌, ◌==◌, false, ℕ, zero, suc, ◌+◌, ◌<◌, ◌≤◌, List, [], ◌∷◌, map, length, cond, refl, ap, sym, ◌∙◌, arith, ne_eqb}
+use Rattle.std.specs.List.{count_by, All, range_with_len}
 use Rattle.std.proofs.lemmas.List.Sums.{sum_by-cons}
 use Rattle.std.proofs.lemmas.List.FromFn.{map-range_with_len_more}
 use Rattle.std.proofs.lemmas.List.Elements.{All-nil, All-cons, All-head, All-tail}

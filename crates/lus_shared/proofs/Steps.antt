@@ -9,7 +9,7 @@ use Rattle.lus_shared.specs.Plays.{Shown, looking, looked, gave}
 use Rattle.lus_shared.specs.Rule.{Sound}
 use Rattle.lus_shared.proofs.Keeps.{gives_it}
 use Rattle.std.proofs.lemmas.List.{append-nil}
-use Rattle.lus_shared.specs.Told.{seat_at, taker_at, with_seen, Knows, Looked, Took, CanGive, its_facts}
+use Rattle.lus_shared.specs.Told.{seat_at, taker_at, with_seen, Knows, Looked, CanGive}
 
 abbrev pub Sat : Type 0
 Sat = Me Told Sight

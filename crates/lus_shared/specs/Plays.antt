@@ -1,5 +1,5 @@
 -- What each step tells the seat that makes it.
-use Rattle.std.specs.Prelude.{◌≡◌, ◌≢◌, ◌+◌, ◌*◌, ◌≤◌, ℕ, true, false, List, [], ◌∷◌, ◌++◌, map, length, Option, Some}
+use Rattle.std.specs.Prelude.{◌≡◌, ◌≢◌, ◌+◌, ◌*◌, ◌≤◌, ℕ, true, false, List, [], ◌∷◌, ◌++◌, map, length}
 use Rattle.atomic_table.specs.Table.{Me, Step}
 use Rattle.lus_requests.specs.declared.request.Entry.{Entry}
 use Rattle.lus_machine.specs.Machines.{Told, full}

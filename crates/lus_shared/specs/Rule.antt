@@ -1,5 +1,5 @@
 -- The rule of a seated machine, between any two steps.
-use Rattle.std.specs.Prelude.{◌≡◌, ◌==◌, ◌+◌, ◌*◌, ◌<◌, ◌≤◌, ℕ, zero, suc, true, false, cond, List, [], ◌∷◌, length, slice_index, Option, Some}
+use Rattle.std.specs.Prelude.{◌≡◌, ◌==◌, ◌+◌, ◌*◌, ◌<◌, ◌≤◌, ℕ, zero, suc, true, false, cond, List, [], ◌∷◌, length, slice_index}
 use Rattle.std.specs.List.{sum_by, count_by}
 use mathlib.Core.Option.{some}
 use mathlib.Core.List.{IsPrefix}

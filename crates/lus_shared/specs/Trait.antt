@@ -1,12 +1,12 @@
 -- What every shared machine promises, also where its calls do not tell what they did.
-use Rattle.std.specs.Prelude.{◌≡◌, ◌==◌, ◌<◌, ◌≤◌, ℕ, zero, suc, List, [], ◌∷◌, ◌++◌, length, map}
+use Rattle.std.specs.Prelude.{◌≡◌, ◌==◌, ◌<◌, ◌≤◌, ℕ, List, [], ◌∷◌, ◌++◌, length}
 use Rattle.std.specs.List.{sum_by, count_by}
 use Rattle.lus_program.specs.Programs.{Program}
 use Rattle.lus_requests.specs.declared.request.Entry.{Entry}
 use Rattle.lus_requests.specs.declared.request.Request.{Request}
 use Rattle.lus_requests.specs.declared.request.Reply.{Reply}
-use Rattle.lus_machine.specs.Machines.{Told, IsLegal, entry}
-use Rattle.lus_shared.specs.Knowledge.{Instance, Standing}
+use Rattle.lus_machine.specs.Machines.{IsLegal, entry}
+use Rattle.lus_shared.specs.Knowledge.{Standing}
 use Rattle.lus_shared.specs.Views.{unknown}
 
 -- the history of some node of an accepted program ends in this entry

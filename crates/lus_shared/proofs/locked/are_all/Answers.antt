@@ -1,6 +1,3 @@
-use Rattle.std.proofs.Common.{rules, ◌≡◌, ◌==◌, ◌<◌, ℕ, true, ◌∙◌}
-use Rattle.std.specs.List.{All, count_by}
-use Rattle.lus_shared.specs.Trait.{EachOnce}
 use Rattle.lus_shared.proofs.Numbers.{none_of_others}
 use Rattle.lus_shared.proofs.locked.are_all.Goals as goal
 

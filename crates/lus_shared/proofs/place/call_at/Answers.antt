@@ -1,4 +1,4 @@
-use Rattle.std.proofs.Common.{◌≡◌, ◌++◌, ◌∷◌, [], ap, sym, refl, ◌∙◌, arith}
+use Rattle.std.proofs.Common.{◌++◌, ◌∷◌, [], ap, sym, refl, ◌∙◌, arith}
 use Rattle.lus_machine.specs.Machines.{Told, entry}
 use Rattle.lus_shared.specs.Knowledge.{machine_at}
 use Rattle.lus_shared.specs.Told.{its_facts, with_seen}

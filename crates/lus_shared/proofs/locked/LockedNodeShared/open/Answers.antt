@@ -1,5 +1,4 @@
-use Rattle.std.proofs.Common.{refl, rules, ◌≡◌, ap, sym, ◌∙◌, map, List, ℕ, ◌++◌, ◌∷◌, [], arith}
-use Rattle.std.specs.List.{All, range_with_len}
+use Rattle.std.proofs.Common.{refl, ◌≡◌, ap, sym, ◌∙◌, map, List, ℕ, ◌++◌, ◌∷◌, [], arith}
 use Rattle.std.proofs.lemmas.List.{map-append}
 use Rattle.std.proofs.lemmas.List.Elements.{All-push, All-same}
 use Rattle.lus_shared.specs.declared.locked.LockedSeat.{LockedSeat}

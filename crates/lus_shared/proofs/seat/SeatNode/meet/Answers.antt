@@ -1,4 +1,4 @@
-use Rattle.std.proofs.Common.{Option, ap, sym, ◌∙◌, arith}
+use Rattle.std.proofs.Common.{ap, sym, ◌∙◌, arith}
 use Rattle.atomic_table.specs.Table.{Me}
 use Rattle.lus_machine.specs.Machines.{Told}
 use Rattle.lus_shared.specs.Knowledge.{Sight, Standing, Instance}

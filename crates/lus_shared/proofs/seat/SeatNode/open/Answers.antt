@@ -1,6 +1,5 @@
-use Rattle.std.proofs.Common.{map, ◌≡◌, ℕ, ◌+◌, ◌∷◌, ◌++◌, [], List, length, false, Option, Some, ap, sym, ◌∙◌, subst, arith}
+use Rattle.std.proofs.Common.{map, ◌≡◌, ℕ, ◌+◌, ◌∷◌, ◌++◌, [], List, length, false, ap, sym, ◌∙◌, subst, arith}
 use Rattle.atomic_table.specs.Table.{Me}
-use Rattle.lus_requests.specs.declared.request.Entry.{Entry}
 use Rattle.lus_machine.specs.Machines.{Told, IsLegal}
 use Rattle.lus_shared.specs.Knowledge.{machine_at, Facts, Sight, Instance, Standing}
 use Rattle.std.specs.List.{All, range_with_len}
