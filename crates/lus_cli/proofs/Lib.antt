@@ -1,6 +1,0 @@
-pub mod Acceptances
-pub mod Sources
-pub mod Constructors
-pub mod Runs
-pub mod Scripts
-pub mod AcceptedPrograms

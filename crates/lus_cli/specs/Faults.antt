@@ -1,6 +1,10 @@
 -- How a command ends short: the status of the process, and the line on standard error.
 use Rattle.std.specs.Prelude.{◌≡◌, ◌≢◌, ◌⊎◌, ℕ, ◌++◌, codes, Option}
 use Rattle.lus_host.specs.Devices.{Bytes, WritesBeginning, one_more, with_text}
+use Rattle.lus_callers.specs.declared.threads.HostError.{HostError}
+use Rattle.lus_callers.specs.declared.threads.HostError.TheVariants as hosts
+use Rattle.lus_host.specs.declared.error.RunError.{RunError}
+use Rattle.lus_host.specs.declared.error.RunError.TheVariants as runs
 use Rattle.lus_host.specs.declared.refusal.ScriptRefusal.{ScriptRefusal}
 use Rattle.lus_host.specs.declared.refusal.ScriptRefusal.TheVariants as scripts
 use Rattle.lus_syntax.specs.Refusals.{refusal_text}
@@ -10,8 +14,6 @@ use Rattle.lus_syntax.specs.declared.refusal.RefusalNumber.TheVariants as number
 use Rattle.lus_cli.specs.CommandLine.{Text}
 use Rattle.lus_cli.specs.declared.words.WordsError.{WordsError}
 use Rattle.lus_cli.specs.declared.words.WordsError.TheVariants as words
-use Rattle.lus_cli.specs.declared.error.RunError.{RunError}
-use Rattle.lus_cli.specs.declared.error.RunError.TheVariants as runs
 use Rattle.lus_cli.specs.declared.fault.Fault.{Fault}
 use Rattle.lus_cli.specs.declared.fault.Fault.TheVariants as faults
 
@@ -27,12 +29,19 @@ abbrev pub scripts_fault : ScriptRefusal → Fault
 scripts_fault scripts.Memory = faults.Memory
 scripts_fault r = faults.Scripts r
 
+-- callers that were not run
+abbrev pub host_fault : HostError → Fault
+host_fault hosts.Memory = faults.Memory
+host_fault hosts.Start = faults.Start
+host_fault hosts.Seats = faults.Start
+
 -- want of memory is one fault, whatever wanted it
 abbrev pub run_fault : RunError → Fault
 run_fault (runs.Program r) = program_fault r.number r
 run_fault (runs.Scripts r) = scripts_fault r
 run_fault runs.Read = faults.File
 run_fault runs.Write = faults.Output
+run_fault (runs.Host e) = host_fault e
 run_fault runs.Memory = faults.Memory
 
 abbrev pub fault_status : Fault → ℕ
@@ -42,6 +51,7 @@ fault_status faults.Words = 2
 fault_status faults.File = 3
 fault_status faults.Output = 3
 fault_status faults.Memory = 4
+fault_status faults.Start = 4
 
 abbrev pub script_text : ScriptRefusal → Text
 script_text scripts.Json = codes "S1"
@@ -58,6 +68,7 @@ fault_text faults.Words = codes "words"
 fault_text faults.File = codes "file"
 fault_text faults.Output = codes "output"
 fault_text faults.Memory = codes "memory"
+fault_text faults.Start = codes "start"
 
 abbrev pub fault_line : Fault → Text
 fault_line f = codes "error " ++ fault_text f ++ codes "\n"

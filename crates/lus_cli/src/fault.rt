@@ -1,10 +1,10 @@
 //! Why a command ends short: the status of the process, and the fault's line.
 
 ghost use Rattle.std.specs.Prelude.{◌≡◌, Some};
-ghost use Rattle.lus_cli.specs.Faults.{fault_status, fault_text, program_fault, run_fault, script_text, words_fault};
+ghost use Rattle.lus_cli.specs.Faults.{fault_status, fault_text, host_fault, program_fault, run_fault, script_text, words_fault};
 
-use crate::{RunError, WordsError};
-use lus_host::ScriptRefusal;
+use crate::words::WordsError;
+use lus_host::{HostError, RunError, ScriptRefusal};
 use lus_syntax::{Refusal, RefusalNumber};
 use std::error::Error;
 use std::fmt;
@@ -20,6 +20,8 @@ pub enum Fault {
     Output,
     /// Want of memory.
     Memory,
+    /// A caller had no thread, or an instance didn't get its seats back.
+    Start,
     /// The program was refused.
     Program(Refusal),
     /// The scripts were refused.
@@ -28,7 +30,7 @@ pub enum Fault {
 
 impl Fault {
     /// The status of the process: 1 for a refused program, 2 for refused scripts or words, 3 for a device that failed, and
-    /// 4 for want of memory.
+    /// 4 for want of memory or of a thread.
     pub fn status(&self) -> u8
         ensures { result ≡ fault_status self.now }
     {
@@ -36,7 +38,7 @@ impl Fault {
             Fault::Program(_) => 1,
             Fault::Scripts(_) | Fault::Words => 2,
             Fault::File | Fault::Output => 3,
-            Fault::Memory => 4,
+            Fault::Memory | Fault::Start => 4,
         }
     }
 }
@@ -65,6 +67,7 @@ impl fmt::Display for Fault {
             Fault::File => f.write_str("file"),
             Fault::Output => f.write_str("output"),
             Fault::Memory => f.write_str("memory"),
+            Fault::Start => f.write_str("start"),
             Fault::Program(refusal) => write!(f, "{refusal}"),
             Fault::Scripts(refusal) => f.write_str(script_text(*refusal)),
         }
@@ -95,7 +98,17 @@ impl From<RunError> for Fault {
             RunError::Scripts(refusal) => Fault::Scripts(refusal),
             RunError::Read => Fault::File,
             RunError::Write => Fault::Output,
+            RunError::Host(error) => host_fault(error),
         }
+    }
+}
+
+fn host_fault(error: HostError) -> Fault
+    ensures { result ≡ host_fault error }
+{
+    match error {
+        HostError::Memory => Fault::Memory,
+        HostError::Start | HostError::Seats => Fault::Start,
     }
 }
 

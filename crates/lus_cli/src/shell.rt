@@ -6,12 +6,14 @@ ghost use Rattle.lus_cli.specs.Faults.{IsLeftBy, IsToldBy};
 ghost use Rattle.lus_cli.specs.declared.fault.Fault.{Fault as AFault};
 
 use crate::fault::Fault;
-use crate::{Task, check, read_words, run};
-use lus_host::{Input, Sink, write_all};
+use crate::words::{Task, read_words};
+use lus_host::{Input, OpenGate, Sink, check, run, write_all};
 use std::alloc::Global;
 use std::fs;
 use std::io::Read;
 use std::rt::Files;
+use std::sync::Wait;
+use std::thread::Threads;
 
 /// Writes the fault's line and gives its status. A line that can't be written changes no status; one for which there is no
 /// memory is want of memory.
@@ -52,8 +54,8 @@ fn check_file<R: Files + AllocGlobal, O: Sink>(
     Ok(())
 }
 
-/// Both files are opened before either is read.
-fn run_files<R: Files + AllocGlobal, O: Sink>(
+/// Both files are opened before either is read. Where a caller ran out of something, the journals are written all the same.
+fn run_files<R: Files + AllocGlobal + Threads + Wait + Sync, O: Sink>(
     rt: &R,
     program: &str,
     scripts: &str,
@@ -64,14 +66,21 @@ fn run_files<R: Files + AllocGlobal, O: Sink>(
 {
     let mut program = open(rt, program)?;
     let mut scripts = open(rt, scripts)?;
-    if run(rt.alloc(), &mut program, &mut scripts, output)? {
+    if run(
+        rt,
+        rt.alloc(),
+        &mut program,
+        &mut scripts,
+        output,
+        &OpenGate,
+    )? {
         Ok(())
     } else {
         Err(Fault::Memory)
     }
 }
 
-fn perform<R: Files + AllocGlobal, O: Sink>(
+fn perform<R: Files + AllocGlobal + Threads + Wait + Sync, O: Sink>(
     rt: &R,
     words: &[String],
     output: &mut O,
@@ -89,7 +98,7 @@ fn perform<R: Files + AllocGlobal, O: Sink>(
 
 /// Does what the words ask for, with standard output and a device for the line of a fault, and gives the status of the
 /// process: 0 where all is done, else that of the fault which ended it.
-pub fn command<R: Files + AllocGlobal, O: Sink, F: Sink>(
+pub fn command<R: Files + AllocGlobal + Threads + Wait + Sync, O: Sink, F: Sink>(
     rt: &R,
     words: &[String],
     output: &mut O,

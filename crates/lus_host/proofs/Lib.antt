@@ -4,4 +4,8 @@ pub mod Checks
 pub mod DistinctNames
 pub mod Lines
 pub mod Values
-pub mod RunScripts
+pub mod ReadScripts
+pub mod Sources
+pub mod Constructors
+pub mod ScriptErrors
+pub mod Histories

@@ -3,3 +3,8 @@ pub mod Forms
 pub mod Journals
 pub mod Scripts
 pub mod View
+pub mod Constructors
+pub mod Sources
+pub mod ScriptRefusals
+pub mod Errors
+pub mod Runs

@@ -1,6 +1,6 @@
 -- The scripts that a JSON value is, for a program: its names are looked up, and the values of its steps are read.
-use Rattle.std.specs.Prelude.{◌==◌, ◌&&◌, ◌+◌, ℕ, suc, Bool, true, false, not, List, [], ◌∷◌, map, length, take, nat_le, position, find, slice_get}
-use Rattle.std.specs.Prelude.{◌≡◌, Option, Some, None, is_some, IsSome, option_map, option_and_then, if◌then◌else◌, Result, Ok, Err}
+use Rattle.std.specs.Prelude.{◌==◌, ◌&&◌, ◌+◌, ◌<◌, ℕ, suc, Bool, true, false, not, List, [], ◌∷◌, map, length, take, nat_le, nat_lt, position, slice_get}
+use Rattle.std.specs.Prelude.{◌≡◌, Option, Some, None, is_some, option_map, option_and_then, if◌then◌else◌, Result, Ok, Err}
 use Rattle.std.specs.List.{list_all, list_any}
 use Rattle.std.specs.Str.{bytes_eq}
 use Rattle.serde_json.specs.Data.{Data, null, boolean, number, string, array, object, Members}
@@ -17,7 +17,8 @@ use Rattle.lus_requests.specs.declared.request.Request.TheVariants.{Step, Reset,
 use Rattle.lus_host.specs.Forms.{Text, both, each, Ask, step, reset, save, restore, CallForm, InstanceForm, CallerForm, Form, form_of}
 use Rattle.lus_host.specs.declared.refusal.ScriptRefusal.{ScriptRefusal}
 use Rattle.lus_host.specs.declared.refusal.ScriptRefusal.TheVariants.{Form as NotTheForm, Unknown, Double, Limit}
-use Rattle.lus_host.specs.declared.scripts.Call.{Call}
+use Rattle.lus_callers.specs.declared.script.Call.{Call}
+use Rattle.lus_callers.specs.declared.script.Caller.{Caller}
 
 -- ---- names
 
@@ -32,8 +33,9 @@ all_distinct (t ∷ ts) = not (stands_in ts t) && all_distinct ts
 abbrev pub place_of : List Text → Text → Option ℕ
 place_of names t = position (bytes_eq t) names
 
-abbrev pub node_named : Program → Text → Option Node
-node_named p t = find (λ f. bytes_eq f.name t) p.nodes
+-- the place of the first node of this name
+abbrev pub node_named : Program → Text → Option ℕ
+node_named p t = position (λ f. bytes_eq f.name t) p.nodes
 
 abbrev pub instance_names : Form → List Text
 instance_names f = map (λ i. i.name) f.instances
@@ -95,12 +97,16 @@ abbrev pub row_from : Program → Names → Option Node → ℕ → List Data �
 row_from p names f n [] = Some []
 row_from p names f n (d ∷ ds) = option_map (λ q. q.0 ∷ q.1) (both (item_of_json p names (input_kind f n) d) (row_from p names f (n + 1) ds))
 
--- what calls are read by: a program, the names of its constructors, and the names and the nodes of the instances
+-- what calls are read by: a program, the names of its constructors, and the names and the nodes' places of the instances
 pub record Scope : Type 0 where
   pub program : Program
   pub names : Names
   pub instances : List Text
-  pub nodes : List Node
+  pub nodes : List ℕ
+
+-- the node of the instance at this place
+abbrev pub node_on : Scope → ℕ → Option Node
+node_on s on = option_and_then (slice_get s.program.nodes) (slice_get s.nodes on)
 
 abbrev pub request_of : Scope → Option Node → Ask → Option Request
 request_of s f (step items) = option_map Step (row_from s.program s.names f 0 items)
@@ -110,21 +116,28 @@ request_of s f (restore slot) = Some (Restore slot)
 
 abbrev pub call_of : Scope → CallForm → Option Call
 call_of s c =
-    option_and_then (λ on. option_map (λ r. record { on = on; request = r }) (request_of s (slice_get s.nodes on) c.ask))
+    option_and_then (λ on. option_map (λ r. record { on = on; request = r }) (request_of s (node_on s on) c.ask))
     (place_of s.instances c.on)
 
-pub record Caller : Type 0 where
-  pub name : Text
-  pub calls : List Call
-
-abbrev pub caller_of : Scope → CallerForm → Option Caller
-caller_of s c = option_map (λ cs. record { name = c.name; calls = cs }) (each (call_of s) c.calls)
+abbrev pub calls_of : Scope → CallerForm → Option (List Call)
+calls_of s c = each (call_of s) c.calls
 
 -- ---- scripts
 
+-- an instance of a node, with the node's name as written and its place in the program
+pub record Instance : Type 0 where
+  pub name : Text
+  pub node : Text
+  pub place : ℕ
+
+unfoldable pub instance_of : Program → InstanceForm → Option Instance
+instance_of p i = option_map (λ k. record { name = i.name; node = i.node; place = k }) (node_named p i.node)
+
+-- instances, the names of callers, and the calls of each caller, in order
 pub record Scripts : Type 0 where
-  pub instances : List InstanceForm
-  pub callers : List Caller
+  pub instances : List Instance
+  pub callers : List Text
+  pub calls : List (List Call)
 
 abbrev pub demand : {A : Type 0} → Bool → ScriptRefusal → Result A ScriptRefusal → Result A ScriptRefusal
 demand true refusal r = r
@@ -139,18 +152,22 @@ within_limits f = nat_le (length f.instances) 256
 abbrev pub calls_known : List Text → List CallerForm → Bool
 calls_known names = list_all (λ c. list_all (λ call. is_some (place_of names call.on)) c.calls)
 
-abbrev pub with_callers : Form → Option (List Caller) → Result Scripts ScriptRefusal
-with_callers f None = Err NotTheForm
-with_callers f (Some callers) = Ok (record { instances = f.instances; callers = callers })
+abbrev pub scope_of : Program → Names → Form → List Instance → Scope
+scope_of p names f instances =
+    record { program = p; names = names; instances = instance_names f; nodes = map (λ i. i.place) instances }
 
-abbrev pub with_nodes : Program → Names → Form → Option (List Node) → Result Scripts ScriptRefusal
-with_nodes p names f None = Err Unknown
-with_nodes p names f (Some nodes) =
+abbrev pub with_calls : Form → List Instance → Option (List (List Call)) → Result Scripts ScriptRefusal
+with_calls f instances None = Err NotTheForm
+with_calls f instances (Some calls) = Ok (record { instances = instances; callers = caller_names f; calls = calls })
+
+abbrev pub with_instances : Program → Names → Form → Option (List Instance) → Result Scripts ScriptRefusal
+with_instances p names f None = Err Unknown
+with_instances p names f (Some instances) =
     demand (calls_known (instance_names f) f.callers) Unknown
-    (with_callers f (each (caller_of (record { program = p; names = names; instances = instance_names f; nodes = nodes })) f.callers))
+    (with_calls f instances (each (calls_of (scope_of p names f instances)) f.callers))
 
 abbrev pub with_table : Program → Names → Form → Result Scripts ScriptRefusal
-with_table p names f = with_nodes p names f (each (λ i. node_named p i.node) f.instances)
+with_table p names f = with_instances p names f (each (instance_of p) f.instances)
 
 -- the checks after the form, in their order
 abbrev pub scripts_of_form : Program → Names → Form → Result Scripts ScriptRefusal
@@ -160,42 +177,23 @@ scripts_of_form p names f =
     (demand (all_distinct (caller_names f)) Double
     (with_table p names f)))
 
--- each instance is of a node of the program
-abbrev pub HaveNodes : Program → List InstanceForm → Type 0
-HaveNodes p instances = Each (λ i. IsSome (node_named p i.node)) instances
+-- each instance's node is the program's
+abbrev pub HaveNodes : Program → List Instance → Type 0
+HaveNodes p instances = Each (λ i. i.place < length p.nodes) instances
 
--- ---- what is run today: one caller that steps one instance
+-- each call is on one of n instances
+abbrev pub are_on : ℕ → List Caller → Bool
+are_on n = list_all (λ c. list_all (λ call. nat_lt call.on n) c.calls.items)
 
-abbrev pub is_step : Ask → Bool
-is_step (step items) = true
-is_step reset = false
-is_step (save slot) = false
-is_step (restore slot) = false
-
-abbrev pub is_run : Form → Bool
-is_run f = length f.instances == 1 && (length f.callers == 1 && list_all (λ c. list_all (λ call. is_step call.ask) c.calls) f.callers)
-
-abbrev pub IsStep : Request → Type 0
-IsStep (Step inputs) = Unit {0}
-IsStep Reset = ⊥
-IsStep (Save slot) = ⊥
-IsStep (Restore slot) = ⊥
-
--- a step of the first instance
-abbrev pub StepsFirst : Call → Type 0
-StepsFirst call = (call.on ≡ 0) × IsStep call.request
-
--- one instance, and one caller, whose calls step it
-pub record IsRun (s : Scripts) : Type 0 where
-  pub instance : length s.instances ≡ 1
-  pub caller : length s.callers ≡ 1
-  pub steps : Each (λ c. Each StepsFirst c.calls) s.callers
+-- no caller has more than 10,000 calls
+abbrev pub have_few_calls : List Caller → Bool
+have_few_calls = list_all (λ c. nat_le (length c.calls.items) 10000)
 
 -- ---- scripts of a JSON value
 
 abbrev pub scripts_of_option : Program → Names → Option Form → Result Scripts ScriptRefusal
 scripts_of_option p names None = Err NotTheForm
-scripts_of_option p names (Some f) = demand (is_run f) NotTheForm (scripts_of_form p names f)
+scripts_of_option p names (Some f) = scripts_of_form p names f
 
 -- the scripts that a JSON value is
 abbrev pub scripts_of : Program → Names → Data → Result Scripts ScriptRefusal

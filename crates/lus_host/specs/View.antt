@@ -1,14 +1,17 @@
 -- What the values of the code stand for.
-use Rattle.std.specs.Prelude.{map, string_bytes}
+use Rattle.std.specs.Prelude.{ℕ, List, map, string_bytes}
 use Rattle.serde_json.specs.View.{view}
 use Rattle.lus_host.specs.Forms as forms
 use Rattle.lus_host.specs.Journals as journals
+use Rattle.lus_host.specs.Runs.{journals_of}
 use Rattle.lus_host.specs.Scripts as scripts
 use Rattle.lus_host.specs.declared.scripts.Instance.{Instance}
-use Rattle.lus_host.specs.declared.scripts.Caller.{Caller}
-use Rattle.lus_host.specs.declared.scripts.Scope.{Scope}
+use Rattle.lus_callers.specs.declared.script.Call.{Call}
+use Rattle.lus_callers.specs.declared.script.Caller.{Caller}
+use Rattle.lus_host.specs.declared.reading.Scope.{Scope}
+use Rattle.lus_host.specs.declared.running.Ended.{Ended}
 use Rattle.lus_host.specs.declared.scripts.Scripts.{Scripts}
-use Rattle.lus_program.specs.View.{node_of, program_seen}
+use Rattle.lus_program.specs.View.{program_seen}
 use Rattle.lus_host.specs.declared.journal.Journal.{Journal}
 use Rattle.lus_host.specs.declared.form.Ask.{Ask}
 use Rattle.lus_host.specs.declared.form.Ask.TheVariants as asks
@@ -38,19 +41,29 @@ form_seen f = record { instances = map instance_seen f.instances.items; callers 
 abbrev pub journal_seen : Journal → journals.Journal
 journal_seen j = record { instance = j.instance.now; node = j.node.now; entries = j.entries.now }
 
-abbrev pub instance_kept : Instance → forms.InstanceForm
-instance_kept i = record { name = string_bytes i.name; node = string_bytes i.node }
+abbrev pub instance_kept : Instance → scripts.Instance
+instance_kept i = record { name = string_bytes i.name; node = string_bytes i.node; place = i.id.0 }
 
-abbrev pub caller_kept : Caller → scripts.Caller
-caller_kept c = record { name = string_bytes c.name; calls = c.calls.items }
+abbrev pub calls_kept : Caller → List Call
+calls_kept c = c.calls.items
 
 abbrev pub scripts_seen : Scripts → scripts.Scripts
-scripts_seen s = record { instances = map instance_kept s.instances.items; callers = map caller_kept s.callers.items }
+scripts_seen s = record {
+  instances = map instance_kept s.instances.items;
+  callers = map string_bytes s.names.items;
+  calls = map calls_kept s.callers.items;
+}
 
 abbrev pub scope_seen : Scope → scripts.Scope
 scope_seen s = record {
   program = program_seen s.program.now;
   names = s.names.now;
-  instances = map string_bytes s.instances.now.keys;
-  nodes = map (λ f. node_of f.now) s.nodes.now;
+  instances = map string_bytes s.table.now.keys;
+  nodes = map (λ i. i.id.0) s.instances.now;
 }
+
+-- the text of the journals that a run leaves
+abbrev pub ended_text : Ended → List ℕ
+ended_text e =
+    journals.journals_text e.names (scripts_seen e.scripts).callers
+    (journals_of (scripts_seen e.scripts).instances (map (λ h. h.entries.items) e.journals.journals.items))

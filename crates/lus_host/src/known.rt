@@ -1,17 +1,19 @@
 //! Scripts that keep to the limits and name nodes and instances that there are.
 
-ghost use Rattle.std.specs.Prelude.{◌≡◌, ◌⊎◌, IfErr, IfOk, Err, Some, None, map, string_bytes, option_map, is_some, nat_le, length};
+ghost use Rattle.std.specs.Prelude.{◌≡◌, ◌⊎◌, IfErr, IfOk, Err, Some, None, map, string_bytes, is_some, nat_le, length, position, ◌<◌, ◌^◌};
 ghost use Rattle.std.specs.List.{list_all};
-ghost use Rattle.lus_program.specs.View.{node_of, program_seen};
+ghost use Rattle.std.specs.Str.{bytes_eq};
+ghost use Rattle.lus_program.specs.View.{program_seen};
 ghost use Rattle.lus_host.specs.Forms.{each};
-ghost use Rattle.lus_host.specs.Scripts.{is_run, is_step, node_named, place_of, within_limits};
-ghost use Rattle.lus_host.specs.View.{ask_seen, form_seen};
+ghost use Rattle.lus_host.specs.Scripts.{instance_of, node_named, place_of, within_limits};
+ghost use Rattle.lus_host.specs.View.{form_seen, instance_kept, instance_seen};
 
-use crate::form::{Ask, CallForm, CallerForm, Form};
+use crate::form::{CallForm, CallerForm, Form, InstanceForm};
 use crate::names::place_of;
 use crate::refusal::ScriptRefusal;
+use crate::scripts::Instance;
 use indexmap::IndexSet;
-use lus_program::{Node, Program};
+use lus_program::{Node, NodeId, Program};
 use std::alloc::Global;
 
 /// The most instances.
@@ -38,35 +40,59 @@ fn have_few_calls(callers: &[CallerForm<'_>]) -> bool
         .all(|caller| caller.calls.len() <= MOST_CALLS)
 }
 
-fn node_named<'p>(program: &'p Program, name: &str) -> Option<&'p Node>
-    ensures { option_map (λ f. node_of f.now) result ≡ node_named (program_seen program.now) name.now }
+/// The place of the first of these nodes that has this name.
+fn place_among(nodes: &[Node], name: &str) -> Option<usize>
+    ensures { result ≡ position (λ f. bytes_eq (string_bytes f.name) name.now) nodes.now }
 {
-    for node in &program.nodes {
-        if node.name.as_str() == name {
-            return Some(node);
-        }
-    }
-    None
+    nodes.iter().position(|node| node.name.as_str() == name)
 }
 
-/// The node of each instance.
-pub(crate) fn instance_nodes<'p>(
+/// The place of the first node of this name.
+fn node_named(program: &Program, name: &str) -> Option<usize>
+    ensures { result ≡ node_named (program_seen program.now) name.now }
+{
+    place_among(&program.nodes, name)
+}
+
+/// An instance of the node of this name.
+#[tactic(auto, unfolding(crate::specs::Scripts::instance_of))]
+fn instance_of(
     alloc: Global,
-    program: &'p Program,
-    form: &Form<'_>,
-) -> Result<Vec<&'p Node>, ScriptRefusal>
-    ensures ok { IfOk result (λ v. each (λ i. node_named (program_seen program.now) i.node) (form_seen form.now).instances
-        ≡ Some (map (λ f. node_of f.now) v.items)) }
-    ensures unknown { result ≡ Err ScriptRefusal.Unknown
-        → each (λ i. node_named (program_seen program.now) i.node) (form_seen form.now).instances ≡ None }
+    program: &Program,
+    form: &InstanceForm<'_>,
+) -> Result<Instance, ScriptRefusal>
+    requires { length program.now.nodes.items < 2 ^ 32 }
+    ensures ok { IfOk result (λ i. instance_of (program_seen program.now) (instance_seen form.now) ≡ Some (instance_kept i)) }
+    ensures unknown { result ≡ Err ScriptRefusal.Unknown → instance_of (program_seen program.now) (instance_seen form.now) ≡ None }
     ensures errors { IfErr result (λ e. (e ≡ ScriptRefusal.Unknown) ⊎ (e ≡ ScriptRefusal.Memory)) }
 {
-    let mut nodes = Vec::new(alloc);
-    for instance in &form.instances {
-        let node = node_named(program, instance.node).ok_or(ScriptRefusal::Unknown)?;
-        nodes.push(node)?;
+    let place = node_named(program, form.node).ok_or(ScriptRefusal::Unknown)?;
+    let name = String::from_str(alloc, form.name)?;
+    let node = String::from_str(alloc, form.node)?;
+    Ok(Instance {
+        name,
+        node,
+        id: NodeId(place as u32),
+    })
+}
+
+/// The instances of a form, of nodes that there are.
+pub(crate) fn instances_of(
+    alloc: Global,
+    program: &Program,
+    form: &Form<'_>,
+) -> Result<Vec<Instance>, ScriptRefusal>
+    requires { length program.now.nodes.items < 2 ^ 32 }
+    ensures ok { IfOk result (λ v. each (instance_of (program_seen program.now)) (form_seen form.now).instances ≡ Some (map instance_kept v.items)) }
+    ensures unknown { result ≡ Err ScriptRefusal.Unknown → each (instance_of (program_seen program.now)) (form_seen form.now).instances ≡ None }
+    ensures errors { IfErr result (λ e. (e ≡ ScriptRefusal.Unknown) ⊎ (e ≡ ScriptRefusal.Memory)) }
+{
+    let mut instances = Vec::new(alloc);
+    for named in &form.instances {
+        let instance = instance_of(alloc, program, named)?;
+        instances.push(instance)?;
     }
-    Ok(nodes)
+    Ok(instances)
 }
 
 fn are_on_instances(table: &IndexSet<String>, calls: &[CallForm<'_>]) -> bool
@@ -83,23 +109,4 @@ pub(crate) fn are_calls_known(table: &IndexSet<String>, form: &Form<'_>) -> bool
     form.callers
         .iter()
         .all(|caller| are_on_instances(table, &caller.calls))
-}
-
-fn are_steps(calls: &[CallForm<'_>]) -> bool
-    ensures { result ≡ list_all (λ c. is_step (ask_seen c.ask)) calls.now }
-{
-    calls.iter().all(|call| matches!(&call.ask, Ask::Step(_)))
-}
-
-fn only_step(callers: &[CallerForm<'_>]) -> bool
-    ensures { result ≡ list_all (λ c. list_all (λ call. is_step (ask_seen call.ask)) c.calls.items) callers.now }
-{
-    callers.iter().all(|caller| are_steps(&caller.calls))
-}
-
-/// Whether the scripts are what is run today: one caller that steps one instance.
-pub(crate) fn is_run(form: &Form<'_>) -> bool
-    ensures { result ≡ is_run (form_seen form.now) }
-{
-    form.instances.len() == 1 && (form.callers.len() == 1 && only_step(&form.callers))
 }

@@ -64,3 +64,14 @@ pub(crate) fn caller_names<'v>(alloc: Global, form: &Form<'v>) -> Result<Vec<&'v
     }
     Ok(names)
 }
+
+/// Equal texts of their own.
+pub(crate) fn copy_names(alloc: Global, names: &[&str]) -> Result<Vec<String>, AllocError>
+    ensures { IfOk result (λ v. map string_bytes v.items ≡ map (λ n. n.now) names.now) }
+{
+    let mut copies = Vec::new(alloc);
+    for name in names {
+        copies.push(String::from_str(alloc, *name)?)?;
+    }
+    Ok(copies)
+}

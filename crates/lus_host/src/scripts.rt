@@ -1,265 +1,28 @@
 //! Scripts: instances, and callers with the calls that they make on them.
 
-ghost use Rattle.std.specs.Prelude.{◌≡◌, ◌⊎◌, ◌<◌, ◌≤◌, IfErr, IfOk, Some, None, Ok, Err, map, length, option_map, string_bytes};
-ghost use Rattle.serde_json.specs.Data.{Data};
-ghost use Rattle.serde_json.specs.Read.{read};
-ghost use Rattle.serde_json.specs.View.{view};
-ghost use Rattle.std.specs.Str.{IsUtf8};
-ghost use Rattle.lus_program.specs.View.{node_of, program_seen};
-ghost use Rattle.lus_host.specs.Forms.{each};
-ghost use Rattle.lus_host.specs.Scripts.{HaveNodes, IsRun, call_of, caller_of, instance_names, request_of, scripts_of, scripts_of_form, with_table};
-ghost use Rattle.lus_host.specs.View.{ask_seen, call_seen, caller_kept, caller_seen, form_seen, instance_kept, scope_seen, scripts_seen};
+ghost use Rattle.std.specs.Prelude.{◌≡◌, ◌≤◌, length, true};
+ghost use Rattle.lus_host.specs.Scripts.{are_on, have_few_calls};
 
-use crate::form::{Ask, CallForm, CallerForm, Form, read_form};
-use crate::known::{are_calls_known, instance_nodes, is_run, is_within_limits};
-use crate::names::{caller_names, instance_names, name_table, place_of};
-use crate::refusal::ScriptRefusal;
-use crate::value::read_row;
-use indexmap::IndexSet;
-use lus_requests::Request;
-use lus_program::{Node, Program};
-use lus_values::Names;
-use serde_json::Value;
-use std::alloc::{AllocError, Global};
+use lus_callers::Caller;
+use lus_program::NodeId;
 
-/// The most bytes of scripts.
-pub const MOST_BYTES: usize = 1048576;
-
-/// An instance of a node.
+/// An instance of a node, with the node's name as written and its place in the program.
 #[derive(Drop)]
 pub struct Instance {
     pub name: String,
     pub node: String,
+    pub id: NodeId,
 }
 
-/// A call on an instance, by its place from 0 among the instances.
-#[derive(Drop)]
-pub struct Call {
-    pub on: usize,
-    pub request: Request,
-}
-
-/// A caller, with its calls in order.
-#[derive(Drop)]
-pub struct Caller {
-    pub name: String,
-    pub calls: Vec<Call>,
-}
-
-/// What is run: instances of a program's nodes, and their callers.
+/// What is run: instances of a program's nodes, and their callers, with the name of each. Each call is on one of the
+/// instances. There are at most 64 callers, each with at most 10,000 calls.
 #[derive(Drop)]
 pub struct Scripts {
     pub instances: Vec<Instance>,
+    pub names: Vec<String>,
     pub callers: Vec<Caller>,
-}
-
-/// What the calls of scripts are read by: the program, the names of its constructors, and the instances' names and nodes.
-#[derive(Clone, Copy)]
-struct Scope<'p> {
-    program: &'p Program,
-    names: &'p Names,
-    instances: &'p IndexSet<String>,
-    nodes: &'p [&'p Node],
-}
-
-fn read_request(
-    alloc: Global,
-    scope: Scope<'_>,
-    node: Option<&Node>,
-    ask: Ask<'_>,
-) -> Result<Request, ScriptRefusal>
-    ensures ok { IfOk result (λ r. request_of (scope_seen scope.entry) (option_map (λ f. node_of f.now) node.entry) (ask_seen ask.entry) ≡ Some r) }
-    ensures form { result ≡ Err ScriptRefusal.Form
-        → request_of (scope_seen scope.entry) (option_map (λ f. node_of f.now) node.entry) (ask_seen ask.entry) ≡ None }
-    ensures errors { IfErr result (λ e. (e ≡ ScriptRefusal.Form) ⊎ (e ≡ ScriptRefusal.Memory)) }
-{
-    match ask {
-        Ask::Step(items) => Ok(Request::Step(read_row(
-            alloc,
-            scope.program,
-            scope.names,
-            node,
-            items,
-        )?)),
-        Ask::Reset => Ok(Request::Reset),
-        Ask::Save(slot) => Ok(Request::Save(slot)),
-        Ask::Restore(slot) => Ok(Request::Restore(slot)),
-    }
-}
-
-fn read_call(alloc: Global, scope: Scope<'_>, form: &CallForm<'_>) -> Result<Call, ScriptRefusal>
-    ensures ok { IfOk result (λ call. call_of (scope_seen scope.entry) (call_seen form.now) ≡ Some call) }
-    ensures form { result ≡ Err ScriptRefusal.Form → call_of (scope_seen scope.entry) (call_seen form.now) ≡ None }
-    ensures errors { IfErr result (λ e. (e ≡ ScriptRefusal.Form) ⊎ (e ≡ ScriptRefusal.Memory)) }
-{
-    let on = place_of(scope.instances, form.on).ok_or(ScriptRefusal::Form)?;
-    let node = scope.nodes.get(on).copied();
-    let request = read_request(alloc, scope, node, form.ask)?;
-    Ok(Call { on, request })
-}
-
-fn read_calls(
-    alloc: Global,
-    scope: Scope<'_>,
-    forms: &[CallForm<'_>],
-) -> Result<Vec<Call>, ScriptRefusal>
-    ensures ok { IfOk result (λ calls. each (call_of (scope_seen scope.entry)) (map call_seen forms.now) ≡ Some calls.items) }
-    ensures form { result ≡ Err ScriptRefusal.Form → each (call_of (scope_seen scope.entry)) (map call_seen forms.now) ≡ None }
-    ensures errors { IfErr result (λ e. (e ≡ ScriptRefusal.Form) ⊎ (e ≡ ScriptRefusal.Memory)) }
-{
-    let mut calls = Vec::new(alloc);
-    for form in forms {
-        let call = read_call(alloc, scope, form)?;
-        calls.push(call)?;
-    }
-    Ok(calls)
-}
-
-fn read_caller(
-    alloc: Global,
-    scope: Scope<'_>,
-    form: &CallerForm<'_>,
-) -> Result<Caller, ScriptRefusal>
-    ensures ok { IfOk result (λ caller. caller_of (scope_seen scope.entry) (caller_seen form.now) ≡ Some (caller_kept caller)) }
-    ensures form { result ≡ Err ScriptRefusal.Form → caller_of (scope_seen scope.entry) (caller_seen form.now) ≡ None }
-    ensures errors { IfErr result (λ e. (e ≡ ScriptRefusal.Form) ⊎ (e ≡ ScriptRefusal.Memory)) }
-{
-    let calls = read_calls(alloc, scope, &form.calls)?;
-    let name = String::from_str(alloc, form.name)?;
-    Ok(Caller { name, calls })
-}
-
-fn read_callers(
-    alloc: Global,
-    scope: Scope<'_>,
-    form: &Form<'_>,
-) -> Result<Vec<Caller>, ScriptRefusal>
-    ensures ok { IfOk result (λ callers. each (caller_of (scope_seen scope.entry)) (form_seen form.now).callers ≡ Some (map caller_kept callers.items)) }
-    ensures form { result ≡ Err ScriptRefusal.Form → each (caller_of (scope_seen scope.entry)) (form_seen form.now).callers ≡ None }
-    ensures errors { IfErr result (λ e. (e ≡ ScriptRefusal.Form) ⊎ (e ≡ ScriptRefusal.Memory)) }
-{
-    let mut callers = Vec::new(alloc);
-    for caller_form in &form.callers {
-        let caller = read_caller(alloc, scope, caller_form)?;
-        callers.push(caller)?;
-    }
-    Ok(callers)
-}
-
-fn keep_instances(alloc: Global, form: &Form<'_>) -> Result<Vec<Instance>, AllocError>
-    ensures { IfOk result (λ v. map instance_kept v.items ≡ (form_seen form.now).instances) }
-{
-    let mut instances = Vec::new(alloc);
-    for instance in &form.instances {
-        let name = String::from_str(alloc, instance.name)?;
-        let node = String::from_str(alloc, instance.node)?;
-        instances.push(Instance { name, node })?;
-    }
-    Ok(instances)
-}
-
-/// The scripts of a form whose instances have the names of this table.
-fn with_table(
-    alloc: Global,
-    program: &Program,
-    names: &Names,
-    form: &Form<'_>,
-    table: &IndexSet<String>,
-) -> Result<Scripts, ScriptRefusal>
-    requires { map string_bytes table.now.keys ≡ instance_names (form_seen form.now) }
-    ensures ok { IfOk result (λ s. with_table (program_seen program.now) names.now (form_seen form.now) ≡ Ok (scripts_seen s)) }
-    ensures refused { IfErr result (λ e. (e ≡ ScriptRefusal.Memory)
-        ⊎ (with_table (program_seen program.now) names.now (form_seen form.now) ≡ Err e)) }
-{
-    let nodes = match instance_nodes(alloc, program, form) {
-        Ok(nodes) => nodes,
-        Err(refusal) => return Err(refusal),
-    };
-    if !are_calls_known(table, form) {
-        return Err(ScriptRefusal::Unknown);
-    }
-    let scope = Scope {
-        program,
-        names,
-        instances: table,
-        nodes: &nodes,
-    };
-    match read_callers(alloc, scope, form) {
-        Ok(callers) => Ok(Scripts {
-            instances: keep_instances(alloc, form)?,
-            callers,
-        }),
-        Err(refusal) => Err(refusal),
-    }
-}
-
-/// The scripts of a form, by the checks that come after the form's own.
-fn from_form(
-    alloc: Global,
-    program: &Program,
-    names: &Names,
-    form: &Form<'_>,
-) -> Result<Scripts, ScriptRefusal>
-    ensures ok { IfOk result (λ s. scripts_of_form (program_seen program.now) names.now (form_seen form.now) ≡ Ok (scripts_seen s)) }
-    ensures refused { IfErr result (λ e. (e ≡ ScriptRefusal.Memory)
-        ⊎ (scripts_of_form (program_seen program.now) names.now (form_seen form.now) ≡ Err e)) }
-{
-    if !is_within_limits(form) {
-        return Err(ScriptRefusal::Limit);
-    }
-    let table = match name_table(alloc, &instance_names(alloc, form)?) {
-        Ok(table) => table,
-        Err(refusal) => return Err(refusal),
-    };
-    match name_table(alloc, &caller_names(alloc, form)?) {
-        Ok(_) => with_table(alloc, program, names, form, &table),
-        Err(refusal) => Err(refusal),
-    }
-}
-
-/// The scripts of a JSON value.
-fn from_json(
-    alloc: Global,
-    program: &Program,
-    names: &Names,
-    json: &Value,
-) -> Result<Scripts, ScriptRefusal>
-    ensures ok { IfOk result (λ s. scripts_of (program_seen program.now) names.now (view json.now) ≡ Ok (scripts_seen s)) }
-    ensures refused { IfErr result (λ e. (e ≡ ScriptRefusal.Memory)
-        ⊎ (scripts_of (program_seen program.now) names.now (view json.now) ≡ Err e)) }
-{
-    let form = read_form(alloc, json)?;
-    if !is_run(&form) {
-        return Err(ScriptRefusal::Form);
-    }
-    from_form(alloc, program, names, &form)
-}
-
-/// Reads scripts for a program with these names of constructors. So far they are run, and else refused by their form, only
-/// where one caller steps one instance.
-pub fn read_scripts(
-    alloc: Global,
-    program: &Program,
-    names: &Names,
-    bytes: &[u8],
-) -> Result<Scripts, ScriptRefusal>
-    ensures long { 1048576 < length bytes.now → result ≡ Err ScriptRefusal.Limit }
-    ensures ok { IfOk result (λ s. (d : Data) × (read bytes.now ≡ Some d) × (scripts_of (program_seen program.now) names.now d ≡ Ok (scripts_seen s))) }
-    ensures nodes { IfOk result (λ s. HaveNodes (program_seen program.now) (scripts_seen s).instances) }
-    ensures run { IfOk result (λ s. IsRun (scripts_seen s)) }
-    ensures json { result ≡ Err ScriptRefusal.Json → IsUtf8 bytes.now → read bytes.now ≡ None }
-    ensures refused { length bytes.now ≤ 1048576 → IfErr result (λ e. (e ≡ ScriptRefusal.Memory) ⊎ ((e ≡ ScriptRefusal.Json)
-        ⊎ ((d : Data) × (read bytes.now ≡ Some d) × (scripts_of (program_seen program.now) names.now d ≡ Err e)))) }
-{
-    if bytes.len() > MOST_BYTES {
-        return Err(ScriptRefusal::Limit);
-    }
-    match Value::from_slice(alloc, bytes) {
-        Ok(json) => from_json(alloc, program, names, &json),
-        Err(error) => Err(if error.is_memory() {
-            ScriptRefusal::Memory
-        } else {
-            ScriptRefusal::Json
-        }),
-    }
+    pub ghost known: { are_on (length instances.items) callers.items ≡ true },
+    pub ghost named: { length names.items ≡ length callers.items },
+    pub ghost few: { length callers.items ≤ 64 },
+    pub ghost few_calls: { have_few_calls callers.items ≡ true },
 }

@@ -1,0 +1,12 @@
+use Rattle.std.proofs.Common.{◌≡◌, ◌++◌, drop, map, option_map}
+use Rattle.lus_program.specs.View.{program_seen}
+use Rattle.lus_host.specs.Forms.{each}
+use Rattle.lus_host.specs.Scripts.{instance_of}
+use Rattle.lus_host.specs.View.{instance_kept, instance_seen}
+use Rattle.lus_host.proofs.known.instances_of.Given as goal
+
+abbrev pub invariant-loop-named : goal.invariant-loop-named
+invariant-loop-named l =
+    each (instance_of (program_seen l.program)) (map instance_seen l.form.instances.items)
+    ≡ option_map (λ rest. map instance_kept l.instances.items ++ rest)
+    (each (instance_of (program_seen l.program)) (map instance_seen (drop l.named-index l.form.instances.items)))

@@ -1,0 +1,11 @@
+use Rattle.std.proofs.Common.{subst}
+use Rattle.std.proofs.lemmas.Result.{IfErr-weaker}
+use Rattle.lus_machine.specs.Acceptance.{RefusedWith}
+use Rattle.lus_host.specs.Sources.{is_no_text, is_refused}
+use Rattle.lus_host.proofs.program.program_of.Goals as goal
+
+pub returns-in-Ok-clause-refused : goal.returns-in-Ok-clause-refused
+returns-in-Ok-clause-refused c = IfErr-weaker c.compile.result _ _ (λ e first h. is_refused c.in-Ok.ensures.short (subst (λ t. RefusedWith t e) c.in-Ok.ensures.same (first h))) c.compile.ensures.first
+
+pub returns-in-Err-clause-refused : goal.returns-in-Err-clause-refused
+returns-in-Err-clause-refused c = λ h. is_no_text c.in-Err.ensures.refused

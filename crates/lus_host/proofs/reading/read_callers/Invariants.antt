@@ -1,0 +1,11 @@
+use Rattle.std.proofs.Common.{◌≡◌, ◌++◌, drop, map, option_map}
+use Rattle.lus_host.specs.Forms.{each}
+use Rattle.lus_host.specs.Scripts.{calls_of}
+use Rattle.lus_host.specs.View.{calls_kept, caller_seen, scope_seen}
+use Rattle.lus_host.proofs.reading.read_callers.Given as goal
+
+abbrev pub invariant-loop-caller_form : goal.invariant-loop-caller_form
+invariant-loop-caller_form l =
+    each (calls_of (scope_seen l.scope)) (map caller_seen l.form.callers.items)
+    ≡ option_map (λ rest. map calls_kept l.callers.items ++ rest)
+    (each (calls_of (scope_seen l.scope)) (map caller_seen (drop l.caller_form-index l.form.callers.items)))

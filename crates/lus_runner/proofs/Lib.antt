@@ -1,9 +1,0 @@
-pub mod Numbering
-pub mod Operands
-pub mod PlacedEquations
-pub mod Shapes
-pub mod RightSides
-pub mod Solutions
-pub mod PlainStreams
-pub mod PlainSteps
-pub mod NodeReplies
