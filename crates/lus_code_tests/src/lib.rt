@@ -1,0 +1,5 @@
+//! Tests of the code that small programs are translated to.
+#![tactic(auto)]
+
+#[cfg(test)]
+mod tests;
