@@ -13,6 +13,7 @@ ghost use Rattle.lus_code.specs.Codes.{IsCodeOf, program_of};
 use crate::classes::classes_of_nodes;
 use lus_cells::cells_of_nodes;
 use lus_flat_classes::Class;
+use lus_meaning::Typed;
 use lus_normal::Normal;
 use lus_order::Ordered;
 use lus_program::{NodeId, Program};
@@ -90,6 +91,16 @@ impl Code {
     }
 }
 
+/// The typed program that a normal form is made of, whose checks the passes after it have made.
+fn typed_of(normal: &Normal) -> &Typed
+    ensures same { result.now.program ≡ normal.now.source.program }
+    ensures checked { IsChecked (program_seen normal.now.source.program) }
+{
+    let source = normal.source();
+    let _program = source.program();
+    source.initialised().clocked().typed()
+}
+
 /// Translates a program in normal form. A program with a node that has more than 100,000 state cells is refused at that node's
 /// name.
 pub fn translate(alloc: Global, normal: Normal) -> Result<Code, Refusal>
@@ -98,8 +109,7 @@ pub fn translate(alloc: Global, normal: Normal) -> Result<Code, Refusal>
     ensures refused { IfErr result (λ e. e.number ≢ numbers.Memory → (e.number ≡ numbers.Limit) × (FitsCells (program_seen normal.source.program) → ⊥)) }
     ensures placed { IfErr result (λ e. e.number ≢ numbers.Memory → NamesTooMany normal.source.program e.line e.column) }
 {
-    let typed = normal.source().initialised().clocked().typed();
-    let cells = cells_of_nodes(alloc, typed)?;
+    let cells = cells_of_nodes(alloc, typed_of(&normal))?;
     let classes = classes_of_nodes(alloc, normal.program(), normal.orders())?;
     let source = normal.into_source();
     Ok(Code {
