@@ -1,4 +1,4 @@
-use Rattle.std.proofs.Common.{◌≡◌, ◌<◌, ◌∙◌, [], None, length, replicate, sym, subst}
+use Rattle.std.proofs.Common.{◌≡◌, ◌∙◌, [], None, replicate, subst}
 use Rattle.std.specs.Arc.{arc_value}
 use Rattle.lus_history.specs.Replies.{slots}
 use Rattle.lus_code.specs.Codes.{ProgramCode, program_of}
