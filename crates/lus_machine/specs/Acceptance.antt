@@ -69,12 +69,15 @@ pub record NamesCycle (p : Program) (e : Refusal) : Type 0 where
 pub data RefusedWith (text : Text) (e : Refusal) : Type 0 where
   too_long : most_bytes < length text → IsAt e numbers.Limit start → RefusedWith text e
   no_tokens : IsShort text → TellsFault text e → RefusedWith text e
-  no_tree : IsShort text → (ts : List Lexeme) → Tokens text ts → e.number ≢ numbers.Memory → RefusedRightly 100 ts e.number → RefusedWith text e
+  no_tree : IsShort text → (ts : List Lexeme) → Tokens text ts
+      → e.number ≢ numbers.Memory → RefusedRightly 100 ts e.number → RefusedWith text e
   ill_formed : IsShort text → (tree : Tree) → IsRead text tree → FirstFails tree e.number → RefusedWith text e
   off_clocks : (p : Program) → IsTextOf text p → (ProgramOnClocks p → ⊥) → e.number ≡ numbers.Clock → RefusedWith text e
   not_flagged : (p : Program) → IsTextOf text p → ProgramOnClocks p → (IsFlagged p → ⊥) → e.number ≡ numbers.Nil → RefusedWith text e
-  not_causal : (p : Program) → IsTextOf text p → ProgramOnClocks p → IsFlagged p → (IsCausal p → ⊥) → e.number ≡ numbers.Cycle → NamesCycle p e → RefusedWith text e
-  too_many_cells : (p : Program) → IsTextOf text p → ProgramOnClocks p → IsFlagged p → IsCausal p → (FitsCells p → ⊥) → e.number ≡ numbers.Limit → RefusedWith text e
+  not_causal : (p : Program) → IsTextOf text p → ProgramOnClocks p → IsFlagged p → (IsCausal p → ⊥)
+      → e.number ≡ numbers.Cycle → NamesCycle p e → RefusedWith text e
+  too_many_cells : (p : Program) → IsTextOf text p → ProgramOnClocks p → IsFlagged p → IsCausal p → (FitsCells p → ⊥)
+      → e.number ≡ numbers.Limit → RefusedWith text e
 
 -- no program is accepted for the text
 abbrev pub IsRefused : Text → Type 0
