@@ -1,4 +1,4 @@
-//! Devices, scripts, and the text of journals.
+//! Devices, scripts, the text of journals, and checks and runs of programs.
 #![tactic(auto)]
 
 mod answering;
