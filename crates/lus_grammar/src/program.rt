@@ -1,7 +1,8 @@
 //! Whole sources.
 
-ghost use Rattle.std.specs.Prelude.{◌≡◌, ◌≤◌, IfOk, IfErr, MatchResult};
+ghost use Rattle.std.specs.Prelude.{◌≡◌, ◌≤◌, [], IfOk, IfErr, MatchResult};
 ghost use Rattle.lus_syntax.specs.declared.refusal.RefusalNumber.TheVariants.{Memory};
+ghost use Rattle.lus_syntax.specs.Refusals.{HasShape};
 ghost use Rattle.lus_syntax.specs.Trees.{Tree as PlainTree};
 ghost use Rattle.lus_syntax.specs.View.{tokens_seen, tree_seen};
 ghost use Rattle.lus_spelling.specs.Declarations.{SpellsProgram, tree_depth};
@@ -121,14 +122,16 @@ fn place(left: usize, tokens: &[Token]) -> Place {
 }
 
 fn refusal_at(number: RefusalNumber, left: usize, tokens: &[Token]) -> Refusal
-    ensures { result.number ≡ number }
+    ensures number { result.number ≡ number }
+    ensures cycle { result.cycle ≡ [] }
 {
     let place = place(left, tokens);
     Refusal::new(number, place.line, place.column)
 }
 
 fn refusal(error: ParseError, tokens: &[Token]) -> Refusal
-    ensures { Numbered error result.number }
+    ensures numbered { Numbered error result.number }
+    ensures shaped { HasShape result }
 {
     match error {
         ParseError::Memory => Refusal::memory(),
@@ -146,6 +149,7 @@ pub fn parse(alloc: Global, tokens: &[Token]) -> Result<Tree, Refusal>
     ensures exact { Answers tree_seen result (program_at LIMIT (tokens_seen tokens.now)) }
     ensures spelled { IfOk result (λ t. SpellsProgram (tree_seen t) (tokens_seen tokens.now) × (tree_depth (tree_seen t) ≤ LIMIT)) }
     ensures refused { IfErr result (λ e. RefusedRightly LIMIT (tokens_seen tokens.now) e.number) }
+    ensures shaped { IfErr result HasShape }
     ensures parsed { (tree : PlainTree) → SpellsProgram tree (tokens_seen tokens.now) → tree_depth tree ≤ LIMIT → MatchResult result (λ t. tree_seen t ≡ tree) (λ e. e.number ≡ Memory) }
 {
     match program(alloc, tokens) {

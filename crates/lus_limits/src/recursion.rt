@@ -3,6 +3,7 @@
 ghost use Rattle.std.specs.Prelude.{◌≡◌, ◌≢◌, ◌≤◌, IfOk, IfErr, OnOk, length, map, string_bytes};
 ghost use Rattle.lus_graph.specs.Ways.{HasNoWayBack, IsOrder};
 ghost use Rattle.lus_syntax.specs.declared.refusal.RefusalNumber.TheVariants as numbers;
+ghost use Rattle.lus_syntax.specs.Refusals.{HasShape};
 ghost use Rattle.lus_syntax.specs.View.{tree_seen};
 ghost use Rattle.lus_limits.specs.GraphErrors.{number_of};
 ghost use Rattle.lus_meaning.specs.Loopless.{Loopless, node_names, node_uses as calls_of_nodes, type_names, type_uses as uses_of_types};
@@ -35,6 +36,7 @@ pub fn check_recursion(
     ensures nodes { IfOk result (λ orders. IsOrder (calls_of_nodes (tree_seen tree.now)) orders.nodes.items) }
     ensures loopless { OnOk result (Loopless (tree_seen tree.now)) }
     ensures refused { IfErr result (λ e. e.number ≢ numbers.Memory → (Loopless (tree_seen tree.now) → ⊥) × (e.number ≡ numbers.Recursion)) }
+    ensures shaped { IfErr result HasShape }
 {
     let types = order_of_types(alloc, tree, types)?;
     let nodes = order_of_nodes(alloc, tree, nodes)?;
@@ -50,6 +52,7 @@ fn order_of_types(
     requires names { map string_bytes types.now.keys ≡ type_names (tree_seen tree.now) }
     ensures order { IfOk result (λ order. IsOrder (uses_of_types (tree_seen tree.now)) order.items) }
     ensures refused { IfErr result (λ e. e.number ≢ numbers.Memory → (HasNoWayBack (uses_of_types (tree_seen tree.now)) → ⊥) × (e.number ≡ numbers.Recursion)) }
+    ensures shaped { IfErr result HasShape }
 {
     let uses = type_uses(alloc, types, tree)?;
     match order_of(alloc, &uses) {
@@ -67,6 +70,7 @@ fn order_of_nodes(
     requires names { map string_bytes nodes.now.keys ≡ node_names (tree_seen tree.now) }
     ensures order { IfOk result (λ order. IsOrder (calls_of_nodes (tree_seen tree.now)) order.items) }
     ensures refused { IfErr result (λ e. e.number ≢ numbers.Memory → (HasNoWayBack (calls_of_nodes (tree_seen tree.now)) → ⊥) × (e.number ≡ numbers.Recursion)) }
+    ensures shaped { IfErr result HasShape }
 {
     let uses = node_uses(alloc, nodes, tree)?;
     match order_of(alloc, &uses) {
@@ -77,7 +81,8 @@ fn order_of_nodes(
 
 /// At the name of a type that leads back to itself.
 fn looping_type(tree: &Tree, error: &GraphError) -> Refusal
-    ensures { result.number ≡ number_of error.now }
+    ensures number { result.number ≡ number_of error.now }
+    ensures shaped { HasShape result }
 {
     match error {
         GraphError::Memory => Refusal::memory(),
@@ -93,7 +98,8 @@ fn looping_type(tree: &Tree, error: &GraphError) -> Refusal
 
 /// At the name of a call that leads back to the node in which it stands.
 fn looping_node(tree: &Tree, error: &GraphError) -> Refusal
-    ensures { result.number ≡ number_of error.now }
+    ensures number { result.number ≡ number_of error.now }
+    ensures shaped { HasShape result }
 {
     match error {
         GraphError::Memory => Refusal::memory(),
@@ -108,7 +114,8 @@ const FIRST_PLACE: Place = Place {
 };
 
 fn refusal_at(place: Place) -> Refusal
-    ensures { result.number ≡ numbers.Recursion }
+    ensures number { result.number ≡ numbers.Recursion }
+    ensures shaped { HasShape result }
 {
     Refusal::new(RefusalNumber::Recursion, place.line, place.column)
 }

@@ -11,3 +11,4 @@ pub mod Spans
 pub mod Refused
 pub mod Characters
 mod Examples
+pub mod Shapes

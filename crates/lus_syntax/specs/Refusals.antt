@@ -1,10 +1,19 @@
--- The text of a refusal.
-use Rattle.std.specs.Prelude.{ℕ, List, [], ◌∷◌, ◌++◌, codes}
+-- The shape of a refusal, and its text.
+use Rattle.std.specs.Prelude.{◌≡◌, ◌≢◌, ℕ, List, [], ◌∷◌, ◌++◌, codes}
 use Rattle.std.specs.Fmt.{decimal}
 use Rattle.std.specs.List.{flat_map}
 use Rattle.lus_syntax.specs.declared.refusal.RefusalNumber.{RefusalNumber}
 use Rattle.lus_syntax.specs.declared.refusal.RefusalNumber.TheVariants as numbers
 use Rattle.lus_syntax.specs.declared.refusal.Refusal.{Refusal}
+
+-- only a causal cycle names variables, and want of memory has no place
+pub record HasShape (r : Refusal) : Type 0 where
+  pub cycle : r.number ≢ numbers.Cycle → r.cycle ≡ []
+  pub memory : r.number ≡ numbers.Memory → (r.line ≡ 0) × (r.column ≡ 0)
+
+-- the refusal for want of memory
+abbrev pub out_of_memory : Refusal
+out_of_memory = record { number = numbers.Memory; line = 0; column = 0; cycle = [] }
 
 abbrev pub number_text : RefusalNumber → List ℕ
 number_text numbers.Lexical = codes "E1"

@@ -7,6 +7,7 @@ ghost use Rattle.lus_syntax.specs.declared.token.Place.{Place};
 ghost use Rattle.lus_syntax.specs.Gaps.{IsPlain, IsGap};
 ghost use Rattle.lus_syntax.specs.Lexemes.{Lexeme};
 ghost use Rattle.lus_syntax.specs.Reading.{HasRoom, IsFault, IsBreak, IsWrong, IsOpen, IsNext};
+ghost use Rattle.lus_syntax.specs.Refusals.{HasShape};
 ghost use Rattle.lus_syntax.specs.Spans.{StandsIn, InOrder};
 ghost use Rattle.lus_syntax.specs.Tokens.{Tokens, Faulty, Here, IsAt, TellsFault};
 ghost use Rattle.lus_syntax.specs.View.{token_seen, tokens_seen};
@@ -106,8 +107,8 @@ pub fn lex(alloc: Global, text: &str) -> Result<Vec<Token>, Refusal>
     // A text with a fault is refused with it, unless memory runs out.
     ensures refused { (number : RefusalNumber) (place : Place) → Faulty text.now number place
         → MatchResult result (λ _. ⊥) (λ e. e.number ≢ RefusalNumber.Memory → IsAt e number place) }
-    // Want of memory has no place.
-    ensures memory { IfErr result (λ e. e.number ≡ RefusalNumber.Memory → (e.line ≡ 0) × (e.column ≡ 0)) }
+    // Want of memory has no place, and no refusal has a cycle.
+    ensures shaped { IfErr result HasShape }
     ensures cycle { IfErr result (λ e. e.cycle ≡ []) }
 
     // Each token's text is the slice at its span, and spans are in order.

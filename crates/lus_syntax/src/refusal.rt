@@ -1,8 +1,7 @@
 //! Why a source is refused.
 
 ghost use Rattle.std.specs.Prelude.{◌≡◌, [], map, string_bytes, Some};
-ghost use Rattle.lus_syntax.specs.declared.refusal.RefusalNumber.TheVariants.{Memory as OfMemory};
-ghost use Rattle.lus_syntax.specs.Refusals.{number_text, cycle_text, refusal_text};
+ghost use Rattle.lus_syntax.specs.Refusals.{number_text, cycle_text, out_of_memory, refusal_text};
 
 use lus_values::Memory;
 use std::alloc::{AllocError, AllocFailed};
@@ -200,7 +199,7 @@ impl fmt::Display for Refusal {
 impl Error for Refusal {}
 
 impl From<Memory> for Refusal {
-    ghost from_gives = { λ _ r. r.number ≡ OfMemory };
+    ghost from_gives = { λ _ r. r ≡ out_of_memory };
 
     fn from(_error: Memory) -> Refusal {
         Refusal::memory()
@@ -208,7 +207,7 @@ impl From<Memory> for Refusal {
 }
 
 impl From<AllocError> for Refusal {
-    ghost from_gives = { λ _ r. r.number ≡ OfMemory };
+    ghost from_gives = { λ _ r. r ≡ out_of_memory };
 
     fn from(_error: AllocError) -> Refusal {
         Refusal::memory()
@@ -216,7 +215,7 @@ impl From<AllocError> for Refusal {
 }
 
 impl<T: Drop> From<AllocFailed<T>> for Refusal {
-    ghost from_gives = { λ _ r. r.number ≡ OfMemory };
+    ghost from_gives = { λ _ r. r ≡ out_of_memory };
 
     fn from(_error: AllocFailed<T>) -> Refusal {
         Refusal::memory()

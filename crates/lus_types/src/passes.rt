@@ -2,6 +2,7 @@
 
 ghost use Rattle.std.specs.Prelude.{◌≡◌, ◌≢◌, IfErr, IfOk, OnOk, [], map};
 ghost use Rattle.lus_syntax.specs.declared.refusal.RefusalNumber.TheVariants as numbers;
+ghost use Rattle.lus_syntax.specs.Refusals.{HasShape};
 ghost use Rattle.lus_syntax.specs.View.{tree_seen};
 ghost use Rattle.lus_graph.specs.Ways.{IsOrder};
 ghost use Rattle.lus_values.specs.Lists.{Each};
@@ -28,7 +29,8 @@ use std::alloc::Global;
 
 /// The refusal of a pass by this number.
 fn refusal(number: RefusalNumber, fault: Fault) -> Refusal
-    ensures { result.number ≡ number_of number fault }
+    ensures number { result.number ≡ number_of number fault }
+    ensures shaped { number ≢ numbers.Memory → HasShape result }
 {
     match fault {
         Fault::Memory => Refusal::memory(),
@@ -40,6 +42,7 @@ fn refusal(number: RefusalNumber, fault: Fault) -> Refusal
 pub fn counts(tree: &Tree) -> Result<(), Refusal>
     ensures ok { OnOk result (Counted (tree_seen tree.now)) }
     ensures refused { IfErr result (λ e. e.number ≢ numbers.Memory → (Counted (tree_seen tree.now) → ⊥) × (e.number ≡ numbers.Limit)) }
+    ensures shaped { IfErr result HasShape }
 {
     match check_counts(tree) {
         Ok(_) => Ok(()),
@@ -52,6 +55,7 @@ pub fn names(alloc: Global, tree: &Tree) -> Result<Names, Refusal>
     ensures ok { OnOk result (Named (tree_seen tree.now)) }
     ensures known { IfOk result (λ names. known_seen names ≡ known (tree_seen tree.now) []) }
     ensures refused { IfErr result (λ e. e.number ≢ numbers.Memory → (Named (tree_seen tree.now) → ⊥) × (e.number ≡ numbers.Name)) }
+    ensures shaped { IfErr result HasShape }
 {
     match check_names(alloc, tree) {
         Ok(names) => Ok(names),
@@ -67,6 +71,7 @@ pub fn recursion(alloc: Global, tree: &Tree, names: &Names) -> Result<Orders, Re
     ensures types { IfOk result (λ orders. IsOrder (uses_of_types (tree_seen tree.now)) orders.types.items) }
     ensures nodes { IfOk result (λ orders. IsOrder (calls_of_nodes (tree_seen tree.now)) orders.nodes.items) }
     ensures refused { IfErr result (λ e. e.number ≢ numbers.Memory → (Loopless (tree_seen tree.now) → ⊥) × (e.number ≡ numbers.Recursion)) }
+    ensures shaped { IfErr result HasShape }
 {
     check_recursion(alloc, tree, &names.types, &names.nodes)
 }
@@ -79,6 +84,7 @@ pub fn sizes(alloc: Global, tree: &Tree, names: &Names, orders: &Orders) -> Resu
     requires nodes { IsOrder (calls_of_nodes (tree_seen tree.now)) orders.now.nodes.items }
     ensures ok { OnOk result (Bounded (tree_seen tree.now)) }
     ensures refused { IfErr result (λ e. e.number ≢ numbers.Memory → (Bounded (tree_seen tree.now) → ⊥) × (e.number ≡ numbers.Limit)) }
+    ensures shaped { IfErr result HasShape }
 {
     match check_sizes(alloc, tree, &names.types, &names.nodes, orders) {
         Ok(_) => Ok(()),
@@ -95,6 +101,7 @@ pub fn types(alloc: Global, tree: &Tree, names: &Names, orders: &Orders) -> Resu
     ensures ok { OnOk result (IsTyped (tree_seen tree.now)) }
     ensures means { IfOk result (λ q. program_seen q ≡ program_of (tree_seen tree.now)) }
     ensures refused { IfErr result (λ e. e.number ≢ numbers.Memory → (IsTyped (tree_seen tree.now) → ⊥) × (e.number ≡ numbers.Type)) }
+    ensures shaped { IfErr result HasShape }
 {
     match program(alloc, tree, names, &orders.types) {
         Ok(program) => Ok(program),

@@ -2,6 +2,7 @@
 
 ghost use Rattle.std.specs.Prelude.{◌≡◌, ◌≢◌, IfErr, IfOk, OnOk, []};
 ghost use Rattle.lus_syntax.specs.declared.refusal.RefusalNumber.TheVariants as numbers;
+ghost use Rattle.lus_syntax.specs.Refusals.{HasShape};
 ghost use Rattle.lus_syntax.specs.View.{tree_seen};
 ghost use Rattle.lus_graph.specs.Ways.{IsOrder};
 ghost use Rattle.lus_program.specs.View.{program_seen};
@@ -28,6 +29,7 @@ pub fn check_types(alloc: Global, tree: Tree) -> Result<Typed, Refusal>
     ensures ok { OnOk result (WellFormed (tree_seen tree)) }
     ensures means { IfOk result (λ typed. program_seen typed.program ≡ program_of (tree_seen tree)) }
     ensures refused { IfErr result (λ e. e.number ≢ numbers.Memory → FirstFails (tree_seen tree) e.number) }
+    ensures shaped { IfErr result HasShape }
 {
     let program = checked(alloc, &tree)?;
     Ok(Typed::new(tree, program))
@@ -38,6 +40,7 @@ fn checked(alloc: Global, tree: &Tree) -> Result<Program, Refusal>
     ensures ok { OnOk result (WellFormed (tree_seen tree.now)) }
     ensures means { IfOk result (λ q. program_seen q ≡ program_of (tree_seen tree.now)) }
     ensures refused { IfErr result (λ e. e.number ≢ numbers.Memory → FirstFails (tree_seen tree.now) e.number) }
+    ensures shaped { IfErr result HasShape }
 {
     counts(tree)?;
     let names = names(alloc, tree)?;
@@ -52,6 +55,7 @@ fn loopless(alloc: Global, tree: &Tree, names: &Names) -> Result<Program, Refusa
     ensures ok { OnOk result (WellFormed (tree_seen tree.now)) }
     ensures means { IfOk result (λ q. program_seen q ≡ program_of (tree_seen tree.now)) }
     ensures refused { IfErr result (λ e. e.number ≢ numbers.Memory → FirstFails (tree_seen tree.now) e.number) }
+    ensures shaped { IfErr result HasShape }
 {
     let orders = recursion(alloc, tree, names)?;
     bounded(alloc, tree, names, &orders)
@@ -68,6 +72,7 @@ fn bounded(alloc: Global, tree: &Tree, names: &Names, orders: &Orders) -> Result
     ensures ok { OnOk result (WellFormed (tree_seen tree.now)) }
     ensures means { IfOk result (λ q. program_seen q ≡ program_of (tree_seen tree.now)) }
     ensures refused { IfErr result (λ e. e.number ≢ numbers.Memory → FirstFails (tree_seen tree.now) e.number) }
+    ensures shaped { IfErr result HasShape }
 {
     sizes(alloc, tree, names, orders)?;
     types(alloc, tree, names, orders)
