@@ -1,5 +1,4 @@
-use Rattle.std.proofs.Common.{◌≢◌, ◌∙◌, sym}
-use Rattle.lus_syntax.specs.declared.refusal.RefusalNumber.TheVariants as numbers
+use Rattle.std.proofs.Common.{◌∙◌, sym}
 use Rattle.lus_syntax.proofs.Shapes.{shaped_at, shaped_nowhere}
 use Rattle.lus_types.proofs.passes.refusal.Goals as goal
 
