@@ -15,8 +15,15 @@ use Rattle.lus_requests.specs.declared.request.Entry.{Entry}
 use Rattle.lus_machine.specs.Machines.{Told, full}
 use Rattle.lus_shared.specs.Knowledge.{Origin, IsLegal, machine_at, Facts, Sight, kept}
 use Rattle.lus_shared.specs.Rule.{Each, takers, times, holders, FitsOne, Fits, Sound, fresh, opening_sight}
+use Rattle.lus_shared.specs.Views.{facts_of}
 use Rattle.lus_shared.specs.Plays.{seeing, looking, Shown, looked, took, after_giving, gave, joined, nobody, first_of, others_of, cut_first, cut_others}
 use Rattle.lus_shared.proofs.Lists.{sum_set, sum_at, sum_two, sum_map, each_append, each_map, prefix_self, prefix_trans, kept-append, kept_none, callers_of_one, is_number, same_number}
+
+-- the view of one seat that is not the taker
+pub is_alone : (m : Me Told Sight) (f : Facts) → m ≡ (record { taker = false; seats = f ∷ [] }, []) → m ≡ (record { taker = false; seats = facts_of m.0.seats ∷ [] }, [])
+is_alone m f e =
+    let P : Me Told Sight → Type 0 = λ n. n ≡ (record { taker = false; seats = facts_of n.0.seats ∷ [] }, []) in
+    subst P (sym e) refl
 
 abbrev pub bit : Sight → ℕ
 bit v = cond v.taker 1 0

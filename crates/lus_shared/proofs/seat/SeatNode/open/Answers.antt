@@ -1,14 +1,15 @@
 use Rattle.std.proofs.Common.{map, ◌≡◌, ℕ, ◌+◌, ◌∷◌, ◌++◌, [], List, length, false, ap, sym, ◌∙◌, subst, arith}
+use Rattle.atomic_table.specs.Seated.{TableId}
 use Rattle.atomic_table.specs.Table.{Me}
 use Rattle.lus_machine.specs.Machines.{Told, IsLegal}
 use Rattle.lus_shared.specs.Knowledge.{machine_at, Facts, Sight, Instance, Standing}
 use Rattle.std.specs.List.{All, range_with_len}
 use Rattle.lus_shared.proofs.Numbers.{fresh_numbers, fresh_none}
-use Rattle.lus_shared.specs.Plays.{cut_others, first_of}
-use Rattle.lus_shared.specs.Views.{standing_of, facts_of}
+use Rattle.lus_shared.specs.Plays.{cut_first, cut_others, first_of}
+use Rattle.lus_shared.specs.Views.{standing_of, facts_of, fresh_seats}
 use Rattle.lus_shared.specs.Key.{origin_of}
 use Rattle.lus_shared.proofs.Lists.{fresh_more, fresh_next, fresh_length, fresh_belong}
-use Rattle.lus_shared.proofs.Keeps.{starts, splits}
+use Rattle.lus_shared.proofs.Keeps.{is_alone, starts, splits}
 use Rattle.lus_shared.proofs.seat.SeatNode.open.Goals as goal
 
 pub new-requires : goal.new-requires
@@ -59,3 +60,25 @@ pub returns-clause-none_made : goal.returns-clause-none_made
 returns-clause-none_made c =
     let i : Instance = record { table = c.in-Ok.table.shared.table_id; origin = origin_of c.in-Ok.table.shared.key } in
     subst (All (λ (s : Standing). length s.mine ≡ 0)) (sym c.loop-number.invariant.items) (fresh_none i 0 c.loop-number.number)
+
+pub invariant_of-push_reserved : goal.invariant_of-push_reserved
+invariant_of-push_reserved c =
+    let k = c.loop-number.number in
+    let o = origin_of c.in-Ok.table.shared.key in
+    let first : Facts = record { origin = o; number = k; seen = []; mine = [] } in
+    let next = c.loop-number.invariant.rest ∙ ap (λ (fs : List Facts). let m : Me Told Sight = (record { taker = false; seats = fs }, []) in m) (fresh_next o k c.args.callers c.loop-number-test.true) in
+    let me = c.split_seat-place.ensures.4 ∙ ap (λ (m : Me Told Sight). let n : Me Told Sight = (cut_first m.0, []) in n) next in
+    let table = c.split_seat-place.ensures.3 ∙ c.loop-number.invariant.table in
+    let slots = c.push_reserved.ensures.items ∙ ap (λ (l : List Told). l ++ c.args.machine ∷ []) c.in_ok-slots.ensures.items in
+    record {
+      words = ap (λ (t : TableId). t.words) table ∙ c.in-Ok.ensures.ok.0;
+      slots = ap (λ (t : TableId). t.slots) table ∙ (c.in-Ok.ensures.ok.1 ∙ ap (λ (l : List Told). length l) slots);
+      alone = is_alone c.split_seat-place.result.me first me;
+      number_is = ap (λ (m : Me Told Sight). (facts_of m.0.seats).number) me;
+      share_is = ap (λ (m : Me Told Sight). length (facts_of m.0.seats).mine) me;
+    }
+
+pub returns-clause-seats : goal.returns-clause-seats
+returns-clause-seats c =
+    let i : Instance = record { table = c.in-Ok.table.shared.table_id; origin = origin_of c.in-Ok.table.shared.key } in
+    c.loop-number.invariant.items ∙ ap (fresh_seats i 0) (omega (arith, c.loop-number-test.false, c.loop-number.auto.number-end))
