@@ -9,7 +9,7 @@ ghost use Rattle.lus_code.specs.Codes.{program_of};
 use lus_machine::{CallError, Machine, NodeId, Program, compile};
 use lus_requests::{Reply, Request};
 use lus_values::{Row, print};
-use std::alloc::Global;
+use std::alloc::{AllocError, Global};
 use std::process::ExitCode;
 use std::sync::Arc;
 use std::{env, fs};
@@ -64,7 +64,9 @@ fn run(rt: &HostRuntime, name: &str, steps: &str) -> Option<()> {
     if !program.has(node) {
         return None;
     }
-    let kept = program.clone();
+    let Ok(kept): Result<Arc<Program>, AllocError> = program.clone() else {
+        return None;
+    };
     let last = stepped(rt.alloc(), kept, node, steps).ok()??;
     tell(rt, &program, &last)
 }
