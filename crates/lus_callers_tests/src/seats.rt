@@ -48,6 +48,7 @@ fn locked_comes_back<R: Wait>(rt: &R, alloc: Global) -> Result<bool, Memory> {
     }
 }
 
+// Whether a refused close gives all back, and a seat that was kept goes on.
 fn seated_comes_back<R: Wait>(rt: &R, alloc: Global) -> Result<bool, Memory> {
     let (node, mut seats) = SeatNode::open(alloc, a_machine(alloc)?, 2)?;
     let Some(mut last) = seats.pop() else {
@@ -60,19 +61,9 @@ fn seated_comes_back<R: Wait>(rt: &R, alloc: Global) -> Result<bool, Memory> {
     let Err(strangers) = node.close(seats) else {
         return Ok(false);
     };
-    let Strangers { node, mut seats } = strangers;
-    if node.call(rt, &mut last, &step).is_err() {
-        return Ok(false);
-    }
-    let shared = last.share() == 2;
-    seats.push(last)?;
-    match node.close(seats) {
-        Ok(journal) => Ok(shared && journal.entries.len() == 2),
-        Err(strangers) => {
-            let Strangers { node: _, seats: _ } = strangers;
-            Ok(false)
-        }
-    }
+    let Strangers { node, seats } = strangers;
+    let answered = node.call(rt, &mut last, &step).is_ok();
+    Ok(answered && last.share() == 2 && seats.len() == 1)
 }
 
 #[test]
