@@ -9,3 +9,4 @@ pub mod Spans
 pub mod Reading
 pub mod Cycles
 pub mod Refusals
+pub mod Limits

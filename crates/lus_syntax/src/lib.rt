@@ -6,6 +6,7 @@ mod gap;
 mod kind;
 mod laws;
 mod lexer;
+mod limits;
 mod place;
 mod refusal;
 mod table;
@@ -15,6 +16,10 @@ mod tree;
 
 pub use laws::{one_reading, places_in_words};
 pub use lexer::lex;
+pub use limits::{
+    MOST_BYTES, MOST_CALLS_DEEP, MOST_CELLS, MOST_CONSTRUCTORS, MOST_DECLARATIONS, MOST_DEPTH,
+    MOST_FIELDS, MOST_LEAVES, MOST_NESTING, MOST_VARIABLES,
+};
 pub use refusal::{Cycle, Refusal, RefusalNumber};
 pub use token::{Place, Span, Symbol, Token, TokenKind, Word};
 pub use tree::{
