@@ -40,3 +40,7 @@ most_calls_deep = 64
 -- the most state cells of a node
 abbrev pub most_cells : ℕ
 most_cells = 100000
+
+-- the most parts of a program, which no source within its limit of bytes passes
+abbrev pub most_parts : ℕ
+most_parts = 1048576

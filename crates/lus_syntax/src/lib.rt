@@ -18,7 +18,7 @@ pub use laws::{one_reading, places_in_words};
 pub use lexer::lex;
 pub use limits::{
     MOST_BYTES, MOST_CALLS_DEEP, MOST_CELLS, MOST_CONSTRUCTORS, MOST_DECLARATIONS, MOST_DEPTH,
-    MOST_FIELDS, MOST_LEAVES, MOST_NESTING, MOST_VARIABLES,
+    MOST_FIELDS, MOST_LEAVES, MOST_NESTING, MOST_PARTS, MOST_VARIABLES,
 };
 pub use refusal::{Cycle, Refusal, RefusalNumber};
 pub use token::{Place, Span, Symbol, Token, TokenKind, Word};

@@ -29,3 +29,6 @@ pub const MOST_CALLS_DEEP: usize = 64;
 
 /// The most state cells of a node.
 pub const MOST_CELLS: u32 = 100000;
+
+/// The most parts of a program, which no source within its limit of bytes passes.
+pub const MOST_PARTS: usize = 1048576;
