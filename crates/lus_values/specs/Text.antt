@@ -1,5 +1,5 @@
 -- The text of a value.
-use Rattle.std.specs.Prelude.{[], ◌++◌, codes, if◌then◌else◌, unwrap_or}
+use Rattle.std.specs.Prelude.{◌≡◌, [], ◌++◌, codes, if◌then◌else◌, unwrap_or}
 use Rattle.std.specs.Fmt.{signed_decimal}
 use Rattle.lus_values.specs.Values.{Value, bool, int, enum, struct, nil, Fields, end, field}
 use Rattle.lus_values.specs.Names.{Text, Names, name_of}
@@ -17,3 +17,7 @@ abbrev mutual
   pub fields_text : Names → Text → Fields → Text
   fields_text names before end = []
   fields_text names before (field v fs) = before ++ text_of names v ++ fields_text names (codes "; ") fs
+
+-- the first text is a beginning of the second
+abbrev pub Begins : Text → Text → Type 0
+Begins a b = (rest : Text) × (b ≡ a ++ rest)
