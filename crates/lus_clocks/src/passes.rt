@@ -2,6 +2,7 @@
 
 ghost use Rattle.std.specs.Prelude.{◌≡◌, ◌≢◌, IfOk, IfErr, OnOk};
 ghost use Rattle.lus_syntax.specs.declared.refusal.RefusalNumber.TheVariants as numbers;
+ghost use Rattle.lus_syntax.specs.Refusals.{HasShape};
 ghost use Rattle.lus_program.specs.View.{program_seen};
 ghost use Rattle.lus_streams.specs.OnClock.{ProgramOnClocks};
 ghost use Rattle.lus_streams.specs.Flags.{IsFlagged};
@@ -63,6 +64,7 @@ pub fn check_clocks(typed: Typed) -> Result<Clocked, Refusal>
     ensures same { IfOk result (λ clocked. clocked ≡ typed) }
     ensures ok { OnOk result (ProgramOnClocks (program_seen typed.program)) }
     ensures refused { IfErr result (λ e. (ProgramOnClocks (program_seen typed.program) → ⊥) × (e.number ≡ numbers.Clock)) }
+    ensures shaped { IfErr result HasShape }
 {
     match clocks_fit(typed.program()) {
         Ok(()) => Ok(Clocked { typed }),
@@ -119,6 +121,7 @@ pub fn check_nil(alloc: Global, clocked: Clocked) -> Result<Initialised, Refusal
     ensures same { IfOk result (λ initialised. initialised ≡ clocked) }
     ensures ok { OnOk result (IsFlagged (program_seen clocked.program)) }
     ensures refused { IfErr result (λ e. e.number ≢ numbers.Memory → (IsFlagged (program_seen clocked.program) → ⊥) × (e.number ≡ numbers.Nil)) }
+    ensures shaped { IfErr result HasShape }
 {
     match flags_fit(alloc, clocked.program()) {
         Ok(()) => Ok(Initialised { clocked }),
