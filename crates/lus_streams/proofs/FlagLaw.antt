@@ -1,4 +1,4 @@
--- Flags hold in every world of a causal program on clocks without nil in its inputs.
+-- Flags hold in every world of a causal program on clocks without nil in its inputs, and in the worlds that it calls.
 use Rattle.std.proofs.Common.{◌≡◌, ℕ, suc, ◌+◌, ◌<◌, ◌≤◌, nat_lt, Bool, true, false, ◌||◌, List, [], ◌∷◌, length, take, drop, Option, Some, None, refl, sym, ◌∙◌, subst, IsFalse, MatchBool, is_some, true≢false, arith, ⊎_elim}
 use Rattle.lus_values.specs.Values.{Value, nil, Row}
 use Rattle.lus_program.specs.Programs.{Expression, literal, variable, operate, pre, arrow, fby, when, merge, call, Operands, none, more, Equation, Node, Program, node_at, empty_node}
@@ -8,6 +8,7 @@ use Rattle.lus_streams.specs.Clocks.{Clock, clock_of, Part, at, formal_clock, ba
 use Rattle.lus_streams.specs.Equations.{Definition, given_by, place_in, equation_clock, definition_in, definition_of, equation_parts, node_parts, Site, sites}
 use Rattle.lus_streams.specs.OnClock.{DefinedOnClock, PartOnClock, RightOnClock, IsOnClocks}
 use Rattle.lus_streams.specs.Streams.{Instant, instant, Called, nobody, also, World, row_of, entry, called_instant, called_world, holds, is_on, at_last, with_operand, with_operands, where_on, output, value, values, branch, inputs_given, definition_value, Follows, EquationsHold, IsInstant, EachCall, Satisfies}
+use Rattle.lus_streams.specs.Throughout.{Throughout, ThroughoutCalls}
 use Rattle.lus_streams.specs.Order.{needs, needs_all, clock_variables, needs_right, needed, HasOrder}
 use Rattle.lus_streams.specs.Flags.{IsNilFree, flag, greatest, Required, DefinedFlag, AreFlagsOf, was_on, FlagHolds, PartFlagHolds, FlagsHold, OutputIs, HasOutput, CallsHaveOutputs}
 use Rattle.lus_streams.proofs.Lists.{each_left, each_right, each_append, each_all, each_implies, each_both, each_item, below_at, item_past, item_take}
@@ -15,6 +16,7 @@ use Rattle.lus_streams.proofs.Definitions.{defined_on_clock}
 use Rattle.lus_streams.proofs.Orders.{by_order}
 use Rattle.lus_streams.proofs.Calls.{OfCall, OfSite, AtBase, each_equation_part, equation_calls, sites_of_parts, parts_of_sites}
 use Rattle.lus_streams.proofs.Worlds.{called_satisfies}
+use Rattle.lus_streams.proofs.Throughout.{throughout_here}
 use Rattle.lus_streams.proofs.Unique.{order_at, clocks_at}
 use Rattle.lus_streams.specs.Laws.{HasNilFreeInputs, FlagsHoldInWorlds}
 use Rattle.std.proofs.lemmas.Bool.{ltb-true, cases_lt}
@@ -253,21 +255,22 @@ equation_variables p f (q ∷ qs) h =
 
 module _ (p : Program) (orders : (f : ℕ) → HasOrder (node_at p f)) (clocks : (f : ℕ) → IsOnClocks p (node_at p f)) (flags_at : ℕ → ℕ → Bool)
     (meets : (f : ℕ) → AreFlagsOf (flags_at f) p (node_at p f)) (fit : (f : ℕ) → CallsHaveOutputs p (node_at p f)) where
-  abbrev mutual
-    FlagsHoldAt : Instant → ℕ → World → Type 0
-    FlagsHoldAt (instant b row js) f past = VariableFlagsHold p (node_at p f) (flags_at f) (instant b row js) past × FlagsHoldInCalls js (sites p (node_at p f)) past
+  -- the flags of the variables of a node hold at an instant
+  abbrev VariablesHold : ℕ → Instant → World → Type 0
+  VariablesHold f i past = VariableFlagsHold p (node_at p f) (flags_at f) i past
 
-    FlagsHoldInCalls : Called → List Site → World → Type 0
-    FlagsHoldInCalls nobody ss past = Unit {0}
-    FlagsHoldInCalls (also j js) [] past = Unit {0}
-    FlagsHoldInCalls (also j js) (s ∷ ss) past = FlagsHoldAt j s.node (called_world s.number past) × FlagsHoldInCalls js ss past
+  abbrev FlagsHoldAt : Instant → ℕ → World → Type 0
+  FlagsHoldAt i f past = Throughout p VariablesHold i f past
+
+  abbrev FlagsHoldInCalls : Called → List Site → World → Type 0
+  FlagsHoldInCalls js ss past = ThroughoutCalls p VariablesHold js ss past
 
   abbrev FlagsHoldOver : ℕ → World → Type 0
   FlagsHoldOver f [] = Unit {0}
   FlagsHoldOver f (i ∷ past) = FlagsHoldAt i f past × FlagsHoldOver f past
 
   variable_flags : (i : Instant) (f : ℕ) (past : World) → FlagsHoldAt i f past → VariableFlagsHold p (node_at p f) (flags_at f) i past
-  variable_flags (instant b row js) f past h = h.0
+  variable_flags i f past h = throughout_here p VariablesHold i f past h
 
   variables_over : (f : ℕ) (w : World) → FlagsHoldOver f w → AllOver (VariableFlagsHold p (node_at p f) (flags_at f)) w
   variables_over f [] h = tt
@@ -365,11 +368,13 @@ module _ (p : Program) (orders : (f : ℕ) → HasOrder (node_at p f)) (clocks :
   world_flag_holds f [] h hi = tt
   world_flag_holds f (i ∷ past) h hi = let before = world_flag_holds f past h.1 hi.1 in (instant_flags_hold i f past h.0 hi.0 h.1 before, before)
 
-  -- in a world without nil in its inputs the flags of variables and of all parts hold at its newest instant
-  pub flags_law : (f : ℕ) (now : Instant) (past : World) → Satisfies p f (now ∷ past) → Each (HasNilFreeInputs p f) (now ∷ past) → FlagsHold p (flags_at f) now past (node_at p f)
-  flags_law f now past h hi =
+  abbrev PartsHold : ℕ → Instant → World → Type 0
+  PartsHold f i past = FlagsHold p (flags_at f) i past (node_at p f)
+
+  -- where the flags of variables hold over a world and all that it calls, those of all parts hold too
+  parts_hold : (f : ℕ) (now : Instant) (past : World) → Satisfies p f (now ∷ past) → FlagsHoldOver f (now ∷ past) → PartsHold f now past
+  parts_hold f now past h over =
       let node = node_at p f in
-      let over = world_flag_holds f (now ∷ past) h hi in
       let here = variable_flags now f past over.0 in
       let before = variables_over f past over.1 in
       let premises = premises_met f (now ∷ past) (calls_over f (now ∷ past) h over) in
@@ -380,6 +385,25 @@ module _ (p : Program) (orders : (f : ℕ) → HasOrder (node_at p f)) (clocks :
             (λ e k met. value_flag_holds p node (flags_at f) e k now past (each_all (VariableFlagIs p node (flags_at f) now past) here (needs e)) before met)
             node node.equations premises;
       }
+
+  mutual
+    parts_hold_throughout : (i : Instant) (f : ℕ) (past : World) → Satisfies p f (i ∷ past) → FlagsHoldOver f (i ∷ past) → Throughout p PartsHold i f past
+    parts_hold_throughout (instant b row js) f past h over = (
+      parts_hold f (instant b row js) past h over,
+      parts_hold_in_calls js (sites p (node_at p f)) (instant b row js) past h.0.1 over.0.1
+          (each_both (λ s. Satisfies p s.node (called_world s.number past)) (λ s. FlagsHoldOver s.node (called_world s.number past)) (sites p (node_at p f)) (called_satisfies p f past h.1) (sites_over f past h.1 over.1)),
+    )
+
+    parts_hold_in_calls : (js : Called) (ss : List Site) (now : Instant) (past : World) → EachCall p js ss now past → FlagsHoldInCalls js ss past → Each (PastFlagsHold past) ss → ThroughoutCalls p PartsHold js ss past
+    parts_hold_in_calls nobody ss now past h k l = tt
+    parts_hold_in_calls (also j js) [] now past h k l = tt
+    parts_hold_in_calls (also j js) (s ∷ ss) now past h k l = (
+      parts_hold_throughout j s.node (called_world s.number past) (h.1, l.0.0) (k.0, l.0.1),
+      parts_hold_in_calls js ss now past h.2 k.1 l.1,
+    )
+
+  pub flags_law : (f : ℕ) (now : Instant) (past : World) → Satisfies p f (now ∷ past) → Each (HasNilFreeInputs p f) (now ∷ past) → Throughout p PartsHold now f past
+  flags_law f now past h hi = parts_hold_throughout now f past h (world_flag_holds f (now ∷ past) h hi)
 
 pub flags_hold_in_worlds : FlagsHoldInWorlds
 flags_hold_in_worlds p causal clocks fit flags meets =

@@ -5,6 +5,7 @@ pub mod Definitions
 pub mod Calls
 pub mod Unique
 pub mod Worlds
+pub mod Throughout
 pub mod Alike
 pub mod NilFree
 pub mod FlagLaw

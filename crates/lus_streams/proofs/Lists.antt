@@ -1,5 +1,5 @@
 -- Lemmas on lists.
-use Rattle.std.proofs.Common.{◌≡◌, ℕ, zero, suc, ◌<◌, ◌≤◌, nat_eq, Bool, true, false, ◌||◌, List, [], ◌∷◌, ◌++◌, map, length, take, drop, refl, sym, ap₂, subst, arith, IsTrue, true≢false, le_of_suc-le-suc, not-suc-le-zero, suc-ne-zero}
+use Rattle.std.proofs.Common.{◌≡◌, ℕ, zero, suc, ◌<◌, ◌≤◌, nat_eq, Bool, true, false, ◌||◌, List, [], ◌∷◌, ◌++◌, map, length, take, drop, slice_get, Contains, Some, refl, sym, ap₂, subst, arith, IsTrue, true≢false, le_of_suc-le-suc, not-suc-le-zero, suc-ne-zero}
 use Rattle.std.proofs.lemmas.Bool.{eqb-true}
 use Rattle.lus_values.specs.Lists.{item, Each}
 use Rattle.lus_streams.specs.Order.{is_in}
@@ -27,6 +27,15 @@ module _ {X : Type 0} (P : X → Type 0) where
   each_item d (x ∷ xs) pd h zero = h.0
   each_item d (x ∷ xs) pd h (suc n) = each_item d xs pd h.1 n
 
+  pub each_of_items : (d : X) (xs : List X) → ((k : ℕ) → k < length xs → P (item d xs k)) → Each P xs
+  each_of_items d [] h = tt
+  each_of_items d (x ∷ xs) h = (h 0 (omega arith), each_of_items d xs (λ k lt. h (suc k) (omega arith)))
+
+  pub each_found : (xs : List X) (n : ℕ) (x : X) → Each P xs → slice_get xs n ≡ Some x → P x
+  each_found [] n x h e = cc
+  each_found (y ∷ xs) zero x h e = let same : y ≡ x = cc in subst P same h.0
+  each_found (y ∷ xs) (suc n) x h e = each_found xs n x h.1 e
+
 pub each_implies : {X : Type 0} (P Q : X → Type 0) → ((x : X) → P x → Q x) → (xs : List X) → Each P xs → Each Q xs
 each_implies P Q f [] h = tt
 each_implies P Q f (x ∷ xs) h = (f x h.0, each_implies P Q f xs h.1)
@@ -53,6 +62,15 @@ module _ (P : ℕ → Type 0) where
   in_cases : {y : ℕ} (b c : Bool) → (b ≡ true → P y) → (c ≡ true → P y) → (b || c) ≡ true → P y
   in_cases true c f g e = f refl
   in_cases false c f g e = g e
+
+  pub each_contained : (xs : List ℕ) → ((y : ℕ) → Contains xs y → P y) → Each P xs
+  each_contained [] h = tt
+  each_contained (x ∷ xs) h = (h x (0, omega arith, refl), each_contained xs (λ y c. h y (suc c.0, omega arith, c.2)))
+
+  pub contained_at : (xs : List ℕ) → Each P xs → (y : ℕ) → Contains xs y → P y
+  contained_at [] h y (k, lt, e) = elim (not-suc-le-zero lt) [ ]
+  contained_at (x ∷ xs) h y (zero, lt, e) = subst P e h.0
+  contained_at (x ∷ xs) h y (suc k, lt, e) = contained_at xs h.1 y (k, omega arith, e)
 
   pub each_in : (xs : List ℕ) → Each P xs → (y : ℕ) → IsTrue (is_in xs y) → P y
   each_in [] h y e = elim (true≢false (sym e)) [ ]

@@ -5,6 +5,7 @@ use Rattle.lus_values.specs.Values.{Row}
 use Rattle.lus_program.specs.Programs.{Program, node_at}
 use Rattle.lus_streams.specs.OnClock.{ProgramOnClocks}
 use Rattle.lus_streams.specs.Streams.{Instant, World, row_of, Satisfies, Streams}
+use Rattle.lus_streams.specs.Throughout.{Throughout}
 use Rattle.lus_streams.specs.Order.{IsCausal}
 use Rattle.lus_streams.specs.Flags.{IsNilFree, AreFlagsOf, FlagsHold, CallsHaveOutputs}
 
@@ -20,10 +21,13 @@ abbrev pub HasNilFreeInputs : Program → ℕ → Instant → Type 0
 HasNilFreeInputs p f i = Each IsNilFree (take (node_at p f).inputs (row_of i))
 
 -- whatever flags meet the requirements of each node, in each world without nil in its inputs they hold at the newest
--- instant; and so at each, since the past of a world is one
-abbrev pub FlagsHoldInWorlds : Type 0
-FlagsHoldInWorlds =
-    (p : Program) → IsCausal p → ProgramOnClocks p → Each (CallsHaveOutputs p) p.nodes
-    → (flags : ℕ → ℕ → Bool) → ((f : ℕ) → AreFlagsOf (flags f) p (node_at p f))
+-- instant, and at the same instant of every node that it calls, directly or round; and so at each instant, since the past of
+-- a world is one
+abbrev pub FlagsHoldIn : Program → Type 0
+FlagsHoldIn p =
+    (flags : ℕ → ℕ → Bool) → ((f : ℕ) → AreFlagsOf (flags f) p (node_at p f))
     → (f : ℕ) (now : Instant) (past : World) → Satisfies p f (now ∷ past) → Each (HasNilFreeInputs p f) (now ∷ past)
-    → FlagsHold p (flags f) now past (node_at p f)
+    → Throughout p (λ g i before. FlagsHold p (flags g) i before (node_at p g)) now f past
+
+abbrev pub FlagsHoldInWorlds : Type 0
+FlagsHoldInWorlds = (p : Program) → IsCausal p → ProgramOnClocks p → Each (CallsHaveOutputs p) p.nodes → FlagsHoldIn p

@@ -9,8 +9,8 @@ pub fn streams_are_unique()
     ensures { CausalStreamsAreUnique }
 {}
 
-/// Where no input has nil, an expression of flag 0 is nil nowhere, and one of flag 1 at most at the first instant of its
-/// clock.
+/// Where no input of a node has nil, in its text and in that of every node that it calls, directly or round, an expression of
+/// flag 0 is nil nowhere, and one of flag 1 at most at the first instant of its clock.
 pub fn flags_hold()
     ensures { FlagsHoldInWorlds }
 {}
