@@ -11,7 +11,7 @@ use Rattle.lus_syntax.specs.Trees.{Expression, Binary}
 use Rattle.lus_spelling.specs.Expressions.{Level}
 use Rattle.lus_spelling.specs.Reading.{Fault, Syntax, Deep, Found, found, Read, Reader, ◌>>=◌, infix_at, join, more_at, chain_at, read, read_implication, read_disjunction, read_conjunction, read_comparison, read_sum, read_term}
 use Rattle.lus_grammar.specs.Rules.{level_of, operand_of}
-use Rattle.lus_grammar.specs.Answers.{Fails, Lowers}
+use Rattle.lus_grammar.specs.Answers.{Fails}
 
 -- with enough turns, going on from `left` gives `total`
 pub record Remains (level : Level) (limit : ℕ) (operand : Reader) (left : Found) (total : Read) : Type 0 where
@@ -41,40 +41,42 @@ starts c n ts f e = record {
 }
 
 module _ (level : Level) (n : ℕ) (operand : Reader) (left : Found) (total : Read) (op : Infix) (after : List Lexeme) (at : infix_at level left.tree left.rest ≡ Some (op, after)) where
-  pub too_deep_in : (turns : ℕ) → n < left.depth → more_at turns level n operand left ≡ Err Deep
+  module _ (right : Found) (read_right : operand after ≡ Ok right) where
+    pub too_deep_in : (turns : ℕ) → n < left.depth → more_at turns level n operand left ≡ Err Deep
+    unfolding more_at
+    too_deep_in zero lt = rw (at, read_right) refl
+    too_deep_in (suc k) lt = rw (at, read_right, lt-ltb n left.depth lt) refl
+
+    pub too_deep : Remains level n operand left total → n < left.depth → total ≡ Err Deep
+    too_deep r lt = sym r.goes_on ∙ too_deep_in r.turns lt
+
+    pub turn : (k : ℕ) → left.depth ≤ n → more_at (suc k) level n operand left ≡ more_at k level n operand (join op left right)
+    unfolding more_at
+    turn k le = rw (at, read_right, le-ltb n left.depth le) refl
+
+    goes_on_in : (turns : ℕ) → n < turns + left.depth → more_at turns level n operand left ≡ total → left.depth ≤ n → Remains level n operand (join op left right) total
+    goes_on_in zero enough same le = absurd (omega arith)
+    goes_on_in (suc k) enough same le = record {
+      turns = k;
+      enough = omega arith;
+      goes_on = sym (turn k le) ∙ same;
+    }
+
+  right_fails_in : (f : Fault) (turns : ℕ) → operand after ≡ Err f → more_at turns level n operand left ≡ Err f
   unfolding more_at
-  too_deep_in zero lt = rw at refl
-  too_deep_in (suc k) lt = rw (at, lt-ltb n left.depth lt) refl
+  right_fails_in f zero e = rw (at, e) refl
+  right_fails_in f (suc k) e = rw (at, e) refl
 
-  pub too_deep : Remains level n operand left total → n < left.depth → total ≡ Err Deep
-  too_deep r lt = sym r.goes_on ∙ too_deep_in r.turns lt
-
-  pub turn : (k : ℕ) → left.depth ≤ n → more_at (suc k) level n operand left ≡ (operand after >>= λ right. more_at k level n operand (join op left right))
-  unfolding more_at
-  turn k le = rw (at, le-ltb n left.depth le) refl
-
-  right_fails_in : (f : Fault) (turns : ℕ) → n < turns + left.depth → left.depth ≤ n → operand after ≡ Err f → more_at turns level n operand left ≡ Err f
-  right_fails_in f zero enough le e = absurd (omega arith)
-  right_fails_in f (suc k) enough le e = turn k le ∙ rw e refl
-
-  pub right_fails : (e : ParseError) → Remains level n operand left total → left.depth ≤ n → Fails e (operand after) → Fails e total
-  right_fails errors.Memory r le e = tt
-  right_fails (errors.Syntax l) r le e = sym r.goes_on ∙ right_fails_in Syntax r.turns r.enough le e
-  right_fails (errors.Deep l) r le e = sym r.goes_on ∙ right_fails_in Deep r.turns r.enough le e
-
-  goes_on_in : (right : Found) (turns : ℕ) → n < turns + left.depth → more_at turns level n operand left ≡ total → left.depth ≤ n → operand after ≡ Ok right → Remains level n operand (join op left right) total
-  goes_on_in right zero enough same le e = absurd (omega arith)
-  goes_on_in right (suc k) enough same le e = record {
-    turns = k;
-    enough = omega arith;
-    goes_on = sym (turn k le ∙ rw e refl) ∙ same;
-  }
+  pub right_fails : (e : ParseError) → Remains level n operand left total → Fails e (operand after) → Fails e total
+  right_fails errors.Memory r e = tt
+  right_fails (errors.Syntax l) r e = sym r.goes_on ∙ right_fails_in Syntax r.turns e
+  right_fails (errors.Deep l) r e = sym r.goes_on ∙ right_fails_in Deep r.turns e
 
   pub goes_on : (tree : Expression) (depth : ℕ) (rest : List Lexeme) → Remains level n operand left total → left.depth ≤ n → operand after ≡ Ok (found tree depth rest)
-      → (a b : Expression) (d : ℕ) → a ≡ left.tree → b ≡ tree → d ≡ max left.depth depth + 1 → Remains level n operand (found (Binary op a b) d rest) total
-  goes_on tree depth rest r le e a b d ea eb ed =
-      let same : join op left (found tree depth rest) ≡ found (Binary op a b) d rest = rw (ea, eb, ed, add-one (max left.depth depth)) refl in
-      subst (λ (f : Found). Remains level n operand f total) same (goes_on_in (found tree depth rest) r.turns r.enough r.goes_on le e)
+      → (t : Expression) (d : ℕ) → t ≡ Binary op left.tree tree → d ≡ max left.depth depth + 1 → Remains level n operand (found t d rest) total
+  goes_on tree depth rest r le e t d et ed =
+      let same : join op left (found tree depth rest) ≡ found t d rest = rw (et, ed, add-one (max left.depth depth)) refl in
+      subst (λ (f : Found). Remains level n operand f total) same (goes_on_in (found tree depth rest) e r.turns r.enough r.goes_on le)
 
 -- the loop ends
 pub is_done : (level : Level) (n : ℕ) (operand : Reader) (left : Found) (total : Read) → Remains level n operand left total → infix_at level left.tree left.rest ≡ None → total ≡ Ok left
@@ -84,13 +86,3 @@ is_done level n operand left total r at = sym r.goes_on ∙ go r.turns
     go : (k : ℕ) → more_at k level n operand left ≡ Ok left
     go zero = rw at refl
     go (suc k) = rw at refl
-
--- nothing is left for a right operand
-pub nothing_left : (level : Level) (part : Level) (n : ℕ) (left : Found) (total : Read) (op : Infix) (after : List Lexeme) → infix_at level left.tree left.rest ≡ Some (op, after) → (e : ParseError) → Remains level n (read n part) left total → left.depth ≤ n → Lowers n (Err e) → Fails e total
-unfolding read
-nothing_left level part n left total op after at errors.Memory r le low = tt
-nothing_left level part n left total op after at (errors.Syntax l) r le low = elim low [ ]
-nothing_left level part n left total op after at (errors.Deep l) r le low = right_fails level n (read n part) left total op after at (errors.Deep l) r le (rw low (nothing after))
-  where
-    nothing : (ts : List Lexeme) → read 0 part ts ≡ Err Deep
-    nothing ts = refl

@@ -1,10 +1,8 @@
 -- Steps of the parser.
-use Rattle.std.proofs.Common.{◌≡◌, ℕ, suc, ◌+◌, ◌≤◌, List, Some, None, Result, Ok, Err, refl, ap, ◌∙◌, add-one}
-use Rattle.std.proofs.lemmas.Bool.{le-ltb}
+use Rattle.std.proofs.Common.{◌≡◌, ℕ, suc, ◌+◌, List, Some, None, Result, Ok, refl, ap, ◌∙◌, add-one}
 use Rattle.lus_syntax.specs.declared.token.Span.{Span}
 use Rattle.lus_syntax.specs.declared.token.Symbol.TheVariants as symbols
 use Rattle.lus_syntax.specs.declared.token.Word.TheVariants as words
-use Rattle.lus_syntax.specs.declared.tree.Infix.TheVariants as operators
 use Rattle.lus_syntax.specs.declared.tree.Prefix.{Prefix}
 use Rattle.lus_grammar.specs.declared.fault.ParseError.{ParseError}
 use Rattle.lus_grammar.specs.declared.fault.ParseError.TheVariants as errors
@@ -13,31 +11,15 @@ use Rattle.lus_grammar.specs.declared.operators.Head.TheVariants as heads
 use Rattle.lus_spelling.specs.declared.form.Form.TheVariants as forms
 use Rattle.lus_syntax.specs.Lexemes.{Lexeme, Sign, Keyword}
 use Rattle.lus_syntax.specs.Trees.{Named, Call, Structure, Merge, End, Expression, Unary}
-use Rattle.lus_spelling.specs.Expressions.{Primary, Level, Whole, Arrow, Implication}
-use Rattle.lus_spelling.specs.Reading.{Fault, Found, found, Read, Reader, ◌>>=◌, front, identifier_at, name_at, call_on, listed_at, primary_at, prefix_at, prefixed_on, prefixed_at, join, choice_at, arrow_at, read, read_arrow, read_negation, read_negated, read_signed, read_primary}
+use Rattle.lus_spelling.specs.Expressions.{Primary, Level, Whole}
+use Rattle.lus_spelling.specs.Reading.{Fault, found, Read, Reader, ◌>>=◌, front, identifier_at, name_at, call_on, listed_at, entry, deep_at, primary_at, prefix_at, prefixed_on, prefixed_at, read, read_negation, read_negated, read_signed, read_primary}
 use Rattle.lus_grammar.specs.Rules.{head_level, head_operand, head_other}
-use Rattle.lus_grammar.specs.Answers.{Fails, Lowers}
+use Rattle.lus_grammar.specs.Answers.{Fails}
 
 pub bind_fails : {A B : Type 0} (e : ParseError) (r : Result A Fault) (f : A → Result B Fault) → Fails e r → Fails e (r >>= f)
 bind_fails errors.Memory r f h = tt
 bind_fails (errors.Syntax l) r f h = rw h refl
 bind_fails (errors.Deep l) r f h = rw h refl
-
--- there is nothing left for a part
-nothing : (n : ℕ) (level : Level) (ts : List Lexeme) (e : ParseError) → Lowers n (Err e) → Fails e (read n level ts)
-unfolding read
-nothing n level ts errors.Memory low = tt
-nothing n level ts (errors.Syntax l) low = elim low [ ]
-nothing n level ts (errors.Deep l) low = rw low refl
-
-pub arrow_is : (n : ℕ) (ts : List Lexeme) (left : Found) (x : Span × List Lexeme) → front (Keyword words.If) ts ≡ None → read (suc n) Implication ts ≡ Ok left → front (Sign symbols.Arrow) left.rest ≡ Some x → left.depth ≤ n
-    → read (suc n) Arrow ts ≡ (read n Arrow x.1 >>= λ right. Ok (join operators.Arrow left right))
-unfolding read read_arrow choice_at arrow_at
-arrow_is n ts left x no_if value at le = rw (no_if, value, at, le-ltb n left.depth le) refl
-
-pub arrow_nothing : (n : ℕ) (ts : List Lexeme) (left : Found) (x : Span × List Lexeme) → front (Keyword words.If) ts ≡ None → read (suc n) Implication ts ≡ Ok left → front (Sign symbols.Arrow) left.rest ≡ Some x → left.depth ≤ n
-    → (e : ParseError) → Lowers n (Err e) → Fails e (read (suc n) Arrow ts)
-arrow_nothing n ts left x no_if value at le e low = rw (arrow_is n ts left x no_if value at le) (bind_fails e (read n Arrow x.1) _ (nothing n Arrow x.1 e low))
 
 pub prefixed_is : (h : Head) (n : ℕ) (ts : List Lexeme) → read (suc n) (head_level h) ts ≡ prefixed_on (read n (head_level (head_operand h))) (read (suc n) (head_other h)) ts (prefix_at (head_level h) ts)
 unfolding read read_negation read_negated read_signed prefixed_at
@@ -54,10 +36,12 @@ prefixed_some h n ts x at = prefixed_is h n ts ∙ ap (prefixed_on (read n (head
 pub prefixed_fails : (h : Head) (n : ℕ) (ts : List Lexeme) (x : Prefix × Span × List Lexeme) (e : ParseError) → prefix_at (head_level h) ts ≡ Some x → Fails e (read n (head_level (head_operand h)) x.2) → Fails e (read (suc n) (head_level h) ts)
 prefixed_fails h n ts x e at fails = rw (prefixed_some h n ts x at) (bind_fails e (read n (head_level (head_operand h)) x.2) _ fails)
 
-pub prefixed_nothing : (h : Head) (n : ℕ) (ts : List Lexeme) (x : Prefix × Span × List Lexeme) (e : ParseError) → prefix_at (head_level h) ts ≡ Some x → Lowers n (Err e) → Fails e (read (suc n) (head_level h) ts)
-prefixed_nothing h n ts x e at low = prefixed_fails h n ts x e at (nothing n (head_level (head_operand h)) x.2 e low)
+-- where no depth is left, what may begin decides the fault
+pub nothing_read : (n wanted : ℕ) (level : Level) (ts : List Lexeme) (e : ParseError) → n ≡ 0 → wanted ≡ entry level → Fails e (deep_at wanted ts) → Fails e (read n level ts)
+unfolding read
+nothing_read n wanted level ts e none same fails = rw (none, ← same) fails
 
-pub prefixed_ok : (h : Head) (n : ℕ) (ts : List Lexeme) (x : Prefix × Span × List Lexeme) (t u : Expression) (d : ℕ) (rest : List Lexeme) → prefix_at (head_level h) ts ≡ Some x → read n (head_level (head_operand h)) x.2 ≡ Ok (found t d rest) → u ≡ t → read (suc n) (head_level h) ts ≡ Ok (found (Unary x.0 x.1 u) (d + 1) rest)
+pub prefixed_ok : (h : Head) (n : ℕ) (ts : List Lexeme) (x : Prefix × Span × List Lexeme) (t u : Expression) (d : ℕ) (rest : List Lexeme) → prefix_at (head_level h) ts ≡ Some x → read n (head_level (head_operand h)) x.2 ≡ Ok (found t d rest) → u ≡ Unary x.0 x.1 t → read (suc n) (head_level h) ts ≡ Ok (found u (d + 1) rest)
 prefixed_ok h n ts x t u d rest at inner same = prefixed_some h n ts x at ∙ ap (λ (r : Read). r >>= λ i. Ok (found (Unary x.0 x.1 i.tree) (suc i.depth) i.rest)) inner ∙ rw (same, add-one d) refl
 
 -- a name and what belongs to it

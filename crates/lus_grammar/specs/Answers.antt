@@ -1,13 +1,19 @@
 -- What the parser answers, against what reading gives.
-use Rattle.std.specs.Prelude.{◌≡◌, ℕ, suc, ◌≤◌, List, Result, Ok, Err}
+use Rattle.std.specs.Prelude.{◌≡◌, ℕ, ◌≤◌, List, Result, Ok, Err, Box}
+use Rattle.std.specs.Borrow.{Bor}
+use Rattle.std.specs.Global.{Global}
 use Rattle.lus_syntax.specs.declared.refusal.Refusal.{Refusal}
 use Rattle.lus_syntax.specs.declared.refusal.RefusalNumber.{RefusalNumber}
 use Rattle.lus_syntax.specs.declared.refusal.RefusalNumber.TheVariants as numbers
+use Rattle.lus_syntax.specs.declared.token.Token.{Token}
+use Rattle.lus_syntax.specs.declared.tree.Expr.{Expr}
+use Rattle.lus_syntax.specs.declared.tree.Part.{Part}
 use Rattle.lus_syntax.specs.Lexemes.{Lexeme}
-use Rattle.lus_syntax.specs.Trees.{Tree}
+use Rattle.lus_syntax.specs.Trees.{Tree, Expression}
+use Rattle.lus_syntax.specs.View.{tokens_seen, expression_seen, lead_seen}
 use Rattle.lus_grammar.specs.declared.fault.ParseError.{ParseError}
 use Rattle.lus_grammar.specs.declared.fault.ParseError.TheVariants as errors
-use Rattle.lus_spelling.specs.Reading.{Fault, Syntax, Deep}
+use Rattle.lus_spelling.specs.Reading.{Fault, Syntax, Deep, Found, found, Item, item}
 use Rattle.lus_spelling.specs.Declarations.{SpellsProgram, tree_depth}
 
 -- the same fault, unless memory ran out
@@ -21,12 +27,18 @@ abbrev pub Gives : {X Y : Type 0} → (X → Y) → Result X ParseError → Resu
 Gives look (Ok x) read = read ≡ Ok (look x)
 Gives look (Err e) read = Fails e read
 
--- one less, or too deep
-abbrev pub Lowers : ℕ → Result ℕ ParseError → Type 0
-Lowers limit (Ok below) = limit ≡ suc below
-Lowers limit (Err errors.Memory) = ⊥
-Lowers limit (Err (errors.Syntax left)) = ⊥
-Lowers limit (Err (errors.Deep left)) = limit ≡ 0
+-- a tree that was read, its depth, and the tokens after it
+abbrev pub tree_read : Box Expr Global × ℕ × Bor (List Token) → Found
+tree_read x = found (expression_seen x.0.value) x.1 (tokens_seen x.2.now)
+
+-- a part that was read, its depth, and the tokens after it
+abbrev pub part_read : Part × ℕ × Bor (List Token) → Item
+part_read x = item (lead_seen x.0.lead) (expression_seen x.0.value) x.1 (tokens_seen x.2.now)
+
+-- this tree in a box, unless memory ran out
+abbrev pub Makes : Result (Box Expr Global) ParseError → Expression → Type 0
+Makes (Ok tree) wanted = expression_seen tree.value ≡ wanted
+Makes (Err e) wanted = e ≡ errors.Memory
 
 -- the number of a fault
 abbrev pub Numbered : ParseError → RefusalNumber → Type 0

@@ -1,4 +1,7 @@
 -- Which rule of the grammar each rule of the parser reads.
+use Rattle.std.specs.Prelude.{ℕ}
+use Rattle.lus_grammar.specs.declared.openings.Entry.{Entry}
+use Rattle.lus_grammar.specs.declared.openings.Entry.TheVariants as entries
 use Rattle.lus_grammar.specs.declared.operators.Chain.{Chain}
 use Rattle.lus_grammar.specs.declared.operators.Chain.TheVariants as chains
 use Rattle.lus_grammar.specs.declared.operators.Head.{Head}
@@ -38,3 +41,10 @@ abbrev pub head_other : Head → Level
 head_other heads.Negation = Comparison
 head_other heads.Negated = Signed
 head_other heads.Signed = Primary
+
+-- how tight a rule must be, at least, to begin there
+abbrev pub entry_of : Entry → ℕ
+entry_of entries.Choice = 1
+entry_of entries.Negation = 2
+entry_of entries.Signed = 3
+entry_of entries.Primary = 4

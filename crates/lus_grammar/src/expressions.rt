@@ -1,65 +1,52 @@
-//! Expressions. The functions of the grammar's cycle stand together.
+//! Expressions. The functions of the grammar's cycle stand together; they hold trees in boxes alone, since they are
+//! entered once for each rule at each depth.
 
-ghost use Rattle.std.specs.Prelude.{◌<◌, ◌≤◌, ◌+◌, suc, [], map, length, IfOk};
-ghost use Rattle.lus_syntax.specs.View.{tokens_seen, expression_seen, name_seen, lead_seen, part_seen};
+ghost use Rattle.std.specs.Prelude.{◌≤◌, ◌+◌, suc, [], map, length, IfOk};
+ghost use Rattle.lus_syntax.specs.Limits.{most_depth};
+ghost use Rattle.lus_syntax.specs.View.{tokens_seen, name_seen, part_seen};
 ghost use Rattle.lus_spelling.specs.Expressions.{Whole, Arrow, Else, Primary, Dotted, Atom};
-ghost use Rattle.lus_spelling.specs.Reading.{found, item, part_at, parts_at, name_at, parentheses_at, branches_at, read};
+ghost use Rattle.lus_spelling.specs.Reading.{part_at, parts_at, name_at, parentheses_at, branches_at, read};
 ghost use Rattle.lus_grammar.specs.Rules.{level_of, operand_of, head_level, head_other};
-ghost use Rattle.lus_grammar.specs.Answers.{Gives, Lowers};
+ghost use Rattle.lus_grammar.specs.Answers.{Gives, tree_read, part_read};
 
 use crate::fault::{ParseError, Read};
-use crate::front::{expect_symbol, expect_word, identifier, symbol, test, word};
-use crate::operators::{Chain, Head, after_prefix, infix, prefix};
+use crate::front::{expect_symbol, expect_word, identifier, symbol, word};
+use crate::openings::{Entry, nothing_left};
+use crate::operators::{Chain, Head, after_prefix, head_entry, infix, operand_entry, prefix};
 use crate::parts::{lead, tail, turn};
-use crate::primaries::{dots, truth};
+use crate::primaries::{dots, sampled, truth};
+use crate::trees;
 use lus_spelling::{Form, primary_shape};
 use lus_syntax::{Expr, Infix, Name, Part, Span, Symbol, Token, TokenKind, Word};
 use std::alloc::Global;
 
-/// A boxed expression, its depth, and the tokens after it.
-type Boxed<'a> = Result<(Box<Expr>, u32, &'a [Token]), ParseError>;
-
-/// What a part of a part may have.
-fn lower(limit: u32, left: usize) -> Result<u32, ParseError>
-    ensures { Lowers limit result }
-{
-    if limit == 0 {
-        return Err(ParseError::Deep(left));
-    }
-    Ok(limit - 1)
-}
+/// Parts, the greatest depth among them, and the tokens after what closes them.
+type Parts<'a> = Result<(Vec<Part>, u32, &'a [Token]), ParseError>;
 
 #[cycle(parser)]
 #[tactic(auto, unfolding(lus_spelling::specs::Reading::read, lus_spelling::specs::Reading::read_whole, lus_spelling::specs::Reading::whole_at))]
 fn whole(alloc: Global, limit: u32, tokens: &[Token]) -> Read<'_>
-    requires { limit < 1000 }
+    requires { limit ≤ most_depth }
     ensures within { IfOk result (λ x. x.1 ≤ limit + 1) }
-    ensures exact { Gives (λ x. found (expression_seen x.0) x.1 (tokens_seen x.2.now)) result (read (suc limit) Whole (tokens_seen tokens.now)) }
+    ensures exact { Gives tree_read result (read (suc limit) Whole (tokens_seen tokens.now)) }
 {
     let (left, depth, rest) = arrow(alloc, limit, tokens)?;
     if let Some((_, after)) = word(Word::Fby, rest) {
-        if !primary_shape(&left) {
+        if !primary_shape(&*left) {
             return Err(ParseError::Syntax(rest.len()));
         }
+        let (right, right_depth, after) = primary_inside(alloc, limit, after)?;
         if depth > limit {
             return Err(ParseError::Deep(rest.len()));
         }
-        let left = Box::new(alloc, left)?;
-        let (right, right_depth, after) = primary_boxed(alloc, limit, after)?;
-        let tree = Expr::Binary(Infix::Fby, left, right);
+        let tree = trees::binary(alloc, Infix::Fby, left, right)?;
         return Ok((tree, depth.max(right_depth) + 1, after));
     }
     if let Some((_, after)) = word(Word::When, rest) {
-        if !primary_shape(&left) {
+        if !primary_shape(&*left) {
             return Err(ParseError::Syntax(rest.len()));
         }
-        if depth > limit {
-            return Err(ParseError::Deep(rest.len()));
-        }
-        let left = Box::new(alloc, left)?;
-        let (test, after) = test(alloc, after)?;
-        let tree = Expr::When(left, test);
-        return Ok((tree, depth + 1, after));
+        return sampled(alloc, limit, left, depth, after);
     }
     Ok((left, depth, rest))
 }
@@ -68,12 +55,12 @@ fn whole(alloc: Global, limit: u32, tokens: &[Token]) -> Read<'_>
 #[cycle(parser)]
 #[tactic(auto, unfolding(lus_spelling::specs::Reading::read))]
 pub fn inside(alloc: Global, limit: u32, tokens: &[Token]) -> Read<'_>
-    requires { limit < 1000 }
+    requires { limit ≤ most_depth }
     ensures within { IfOk result (λ x. x.1 ≤ limit) }
-    ensures exact { Gives (λ x. found (expression_seen x.0) x.1 (tokens_seen x.2.now)) result (read limit Whole (tokens_seen tokens.now)) }
+    ensures exact { Gives tree_read result (read limit Whole (tokens_seen tokens.now)) }
 {
     if limit == 0 {
-        return Err(ParseError::Deep(tokens.len()));
+        return Err(nothing_left(Entry::Choice, tokens));
     }
     whole(alloc, limit - 1, tokens)
 }
@@ -82,12 +69,12 @@ pub fn inside(alloc: Global, limit: u32, tokens: &[Token]) -> Read<'_>
 #[cycle(parser)]
 #[tactic(auto, unfolding(lus_spelling::specs::Reading::read))]
 fn primary_inside(alloc: Global, limit: u32, tokens: &[Token]) -> Read<'_>
-    requires { limit < 1000 }
+    requires { limit ≤ most_depth }
     ensures within { IfOk result (λ x. x.1 ≤ limit) }
-    ensures exact { Gives (λ x. found (expression_seen x.0) x.1 (tokens_seen x.2.now)) result (read limit Primary (tokens_seen tokens.now)) }
+    ensures exact { Gives tree_read result (read limit Primary (tokens_seen tokens.now)) }
 {
     if limit == 0 {
-        return Err(ParseError::Deep(tokens.len()));
+        return Err(nothing_left(Entry::Primary, tokens));
     }
     primary(alloc, limit - 1, tokens)
 }
@@ -95,9 +82,9 @@ fn primary_inside(alloc: Global, limit: u32, tokens: &[Token]) -> Read<'_>
 #[cycle(parser)]
 #[tactic(auto, unfolding(lus_spelling::specs::Reading::read, lus_spelling::specs::Reading::read_arrow, lus_spelling::specs::Reading::choice_at, lus_spelling::specs::Reading::arrow_at))]
 fn arrow(alloc: Global, limit: u32, tokens: &[Token]) -> Read<'_>
-    requires { limit < 1000 }
+    requires { limit ≤ most_depth }
     ensures within { IfOk result (λ x. x.1 ≤ limit + 1) }
-    ensures exact { Gives (λ x. found (expression_seen x.0) x.1 (tokens_seen x.2.now)) result (read (suc limit) Arrow (tokens_seen tokens.now)) }
+    ensures exact { Gives tree_read result (read (suc limit) Arrow (tokens_seen tokens.now)) }
 {
     if let Some((span, rest)) = word(Word::If, tokens) {
         return branches(alloc, limit, span, rest);
@@ -106,28 +93,40 @@ fn arrow(alloc: Global, limit: u32, tokens: &[Token]) -> Read<'_>
     match symbol(Symbol::Arrow, rest) {
         None => Ok((left, depth, rest)),
         Some((_, after)) => {
+            let (right, right_depth, after) = arrow_inside(alloc, limit, after)?;
             if depth > limit {
                 return Err(ParseError::Deep(rest.len()));
             }
-            let left = Box::new(alloc, left)?;
-            let below = lower(limit, rest.len())?;
-            let (right, right_depth, rest) = arrow_boxed(alloc, below, after)?;
-            let tree = Expr::Binary(Infix::Arrow, left, right);
-            Ok((tree, depth.max(right_depth) + 1, rest))
+            let tree = trees::binary(alloc, Infix::Arrow, left, right)?;
+            Ok((tree, depth.max(right_depth) + 1, after))
         }
     }
+}
+
+/// What stands after `->`, as a part.
+#[cycle(parser)]
+#[tactic(auto, unfolding(lus_spelling::specs::Reading::read))]
+fn arrow_inside(alloc: Global, limit: u32, tokens: &[Token]) -> Read<'_>
+    requires { limit ≤ most_depth }
+    ensures within { IfOk result (λ x. x.1 ≤ limit) }
+    ensures exact { Gives tree_read result (read limit Arrow (tokens_seen tokens.now)) }
+{
+    if limit == 0 {
+        return Err(nothing_left(Entry::Choice, tokens));
+    }
+    arrow(alloc, limit - 1, tokens)
 }
 
 /// What stands after `else`, as a part.
 #[cycle(parser)]
 #[tactic(auto, unfolding(lus_spelling::specs::Reading::read, lus_spelling::specs::Reading::read_else, lus_spelling::specs::Reading::choice_at))]
 fn otherwise(alloc: Global, limit: u32, tokens: &[Token]) -> Read<'_>
-    requires { limit < 1000 }
+    requires { limit ≤ most_depth }
     ensures within { IfOk result (λ x. x.1 ≤ limit) }
-    ensures exact { Gives (λ x. found (expression_seen x.0) x.1 (tokens_seen x.2.now)) result (read limit Else (tokens_seen tokens.now)) }
+    ensures exact { Gives tree_read result (read limit Else (tokens_seen tokens.now)) }
 {
     if limit == 0 {
-        return Err(ParseError::Deep(tokens.len()));
+        return Err(nothing_left(Entry::Choice, tokens));
     }
     match word(Word::If, tokens) {
         Some((span, rest)) => branches(alloc, limit - 1, span, rest),
@@ -135,78 +134,36 @@ fn otherwise(alloc: Global, limit: u32, tokens: &[Token]) -> Read<'_>
     }
 }
 
-#[cycle(parser)]
-fn inside_boxed(alloc: Global, limit: u32, tokens: &[Token]) -> Boxed<'_>
-    requires { limit < 1000 }
-    ensures within { IfOk result (λ x. x.1 ≤ limit) }
-    ensures exact { Gives (λ x. found (expression_seen x.0.value) x.1 (tokens_seen x.2.now)) result (read limit Whole (tokens_seen tokens.now)) }
-{
-    let (tree, depth, rest) = inside(alloc, limit, tokens)?;
-    Ok((Box::new(alloc, tree)?, depth, rest))
-}
-
-#[cycle(parser)]
-fn otherwise_boxed(alloc: Global, limit: u32, tokens: &[Token]) -> Boxed<'_>
-    requires { limit < 1000 }
-    ensures within { IfOk result (λ x. x.1 ≤ limit) }
-    ensures exact { Gives (λ x. found (expression_seen x.0.value) x.1 (tokens_seen x.2.now)) result (read limit Else (tokens_seen tokens.now)) }
-{
-    let (tree, depth, rest) = otherwise(alloc, limit, tokens)?;
-    Ok((Box::new(alloc, tree)?, depth, rest))
-}
-
-#[cycle(parser)]
-fn primary_boxed(alloc: Global, limit: u32, tokens: &[Token]) -> Boxed<'_>
-    requires { limit < 1000 }
-    ensures within { IfOk result (λ x. x.1 ≤ limit) }
-    ensures exact { Gives (λ x. found (expression_seen x.0.value) x.1 (tokens_seen x.2.now)) result (read limit Primary (tokens_seen tokens.now)) }
-{
-    let (tree, depth, rest) = primary_inside(alloc, limit, tokens)?;
-    Ok((Box::new(alloc, tree)?, depth, rest))
-}
-
-#[cycle(parser)]
-fn arrow_boxed(alloc: Global, limit: u32, tokens: &[Token]) -> Boxed<'_>
-    requires { limit < 1000 }
-    ensures within { IfOk result (λ x. x.1 ≤ limit + 1) }
-    ensures exact { Gives (λ x. found (expression_seen x.0.value) x.1 (tokens_seen x.2.now)) result (read (suc limit) Arrow (tokens_seen tokens.now)) }
-{
-    let (tree, depth, rest) = arrow(alloc, limit, tokens)?;
-    Ok((Box::new(alloc, tree)?, depth, rest))
-}
-
 /// What stands after an `if`.
 #[cycle(parser)]
 #[tactic(auto, unfolding(lus_spelling::specs::Reading::branches_at))]
 fn branches(alloc: Global, limit: u32, span: Span, tokens: &[Token]) -> Read<'_>
-    requires { limit < 1000 }
+    requires { limit ≤ most_depth }
     ensures within { IfOk result (λ x. x.1 ≤ limit + 1) }
-    ensures exact { Gives (λ x. found (expression_seen x.0) x.1 (tokens_seen x.2.now)) result (branches_at (read limit Whole) (read limit Else) span (tokens_seen tokens.now)) }
+    ensures exact { Gives tree_read result (branches_at (read limit Whole) (read limit Else) span (tokens_seen tokens.now)) }
 {
-    let (condition, first_depth, rest) = inside_boxed(alloc, limit, tokens)?;
+    let (condition, first_depth, rest) = inside(alloc, limit, tokens)?;
     let rest = expect_word(Word::Then, rest)?;
-    let (yes, second_depth, rest) = inside_boxed(alloc, limit, rest)?;
+    let (yes, second_depth, rest) = inside(alloc, limit, rest)?;
     let rest = expect_word(Word::Else, rest)?;
-    let (no, third_depth, rest) = otherwise_boxed(alloc, limit, rest)?;
+    let (no, third_depth, rest) = otherwise(alloc, limit, rest)?;
     let depth = first_depth.max(second_depth.max(third_depth)) + 1;
-    Ok((Expr::If(span, condition, yes, no), depth, rest))
+    Ok((trees::choice(alloc, span, condition, yes, no)?, depth, rest))
 }
 
 #[cycle(parser)]
 fn joined(alloc: Global, chain: Chain, limit: u32, tokens: &[Token]) -> Read<'_>
-    requires { limit < 1000 }
+    requires { limit ≤ most_depth }
     ensures within { IfOk result (λ x. x.1 ≤ limit + 1) }
-    ensures exact { Gives (λ x. found (expression_seen x.0) x.1 (tokens_seen x.2.now)) result (read (suc limit) (level_of chain) (tokens_seen tokens.now)) }
+    ensures exact { Gives tree_read result (read (suc limit) (level_of chain) (tokens_seen tokens.now)) }
 {
     let (mut left, mut depth, mut rest) = operand(alloc, chain, limit, tokens)?;
-    while let Some((operator, after)) = infix(chain, &left, rest) {
+    while let Some((operator, after)) = infix(chain, &*left, rest) {
+        let (right, right_depth, after) = operand_inside(alloc, chain, limit, after)?;
         if depth > limit {
             return Err(ParseError::Deep(rest.len()));
         }
-        let first = Box::new(alloc, left)?;
-        let below = lower(limit, rest.len())?;
-        let (right, right_depth, after) = operand(alloc, chain, below, after)?;
-        left = Expr::Binary(operator, first, Box::new(alloc, right)?);
+        left = trees::binary(alloc, operator, left, right)?;
         depth = depth.max(right_depth) + 1;
         rest = after;
     }
@@ -215,9 +172,9 @@ fn joined(alloc: Global, chain: Chain, limit: u32, tokens: &[Token]) -> Read<'_>
 
 #[cycle(parser)]
 fn operand(alloc: Global, chain: Chain, limit: u32, tokens: &[Token]) -> Read<'_>
-    requires { limit < 1000 }
+    requires { limit ≤ most_depth }
     ensures within { IfOk result (λ x. x.1 ≤ limit + 1) }
-    ensures exact { Gives (λ x. found (expression_seen x.0) x.1 (tokens_seen x.2.now)) result (read (suc limit) (operand_of chain) (tokens_seen tokens.now)) }
+    ensures exact { Gives tree_read result (read (suc limit) (operand_of chain) (tokens_seen tokens.now)) }
 {
     match chain {
         Chain::Implication => joined(alloc, Chain::Disjunction, limit, tokens),
@@ -229,31 +186,53 @@ fn operand(alloc: Global, chain: Chain, limit: u32, tokens: &[Token]) -> Read<'_
     }
 }
 
+/// An operand behind an operator, as a part.
+#[cycle(parser)]
+fn operand_inside(alloc: Global, chain: Chain, limit: u32, tokens: &[Token]) -> Read<'_>
+    requires { limit ≤ most_depth }
+    ensures within { IfOk result (λ x. x.1 ≤ limit) }
+    ensures exact { Gives tree_read result (read limit (operand_of chain) (tokens_seen tokens.now)) }
+{
+    if limit == 0 {
+        return Err(nothing_left(operand_entry(chain), tokens));
+    }
+    operand(alloc, chain, limit - 1, tokens)
+}
+
 #[cycle(parser)]
 fn prefixed(alloc: Global, head: Head, limit: u32, tokens: &[Token]) -> Read<'_>
-    requires { limit < 1000 }
+    requires { limit ≤ most_depth }
     ensures within { IfOk result (λ x. x.1 ≤ limit + 1) }
-    ensures exact { Gives (λ x. found (expression_seen x.0) x.1 (tokens_seen x.2.now)) result (read (suc limit) (head_level head) (tokens_seen tokens.now)) }
+    ensures exact { Gives tree_read result (read (suc limit) (head_level head) (tokens_seen tokens.now)) }
 {
     match prefix(head, tokens) {
         None => bare(alloc, head, limit, tokens),
         Some((operator, span, rest)) => {
-            let below = lower(limit, rest.len())?;
-            let (inner, depth, rest) = prefixed(alloc, after_prefix(head), below, rest)?;
-            Ok((
-                Expr::Unary(operator, span, Box::new(alloc, inner)?),
-                depth + 1,
-                rest,
-            ))
+            let (inner, depth, rest) = prefixed_inside(alloc, after_prefix(head), limit, rest)?;
+            Ok((trees::unary(alloc, operator, span, inner)?, depth + 1, rest))
         }
     }
 }
 
+/// The operand of an operator before it, as a part.
+#[cycle(parser)]
+fn prefixed_inside(alloc: Global, head: Head, limit: u32, tokens: &[Token]) -> Read<'_>
+    requires { limit ≤ most_depth }
+    ensures within { IfOk result (λ x. x.1 ≤ limit) }
+    ensures exact { Gives tree_read result (read limit (head_level head) (tokens_seen tokens.now)) }
+{
+    if limit == 0 {
+        return Err(nothing_left(head_entry(head), tokens));
+    }
+    prefixed(alloc, head, limit - 1, tokens)
+}
+
+/// What stands where no operator does.
 #[cycle(parser)]
 fn bare(alloc: Global, head: Head, limit: u32, tokens: &[Token]) -> Read<'_>
-    requires { limit < 1000 }
+    requires { limit ≤ most_depth }
     ensures within { IfOk result (λ x. x.1 ≤ limit + 1) }
-    ensures exact { Gives (λ x. found (expression_seen x.0) x.1 (tokens_seen x.2.now)) result (read (suc limit) (head_other head) (tokens_seen tokens.now)) }
+    ensures exact { Gives tree_read result (read (suc limit) (head_other head) (tokens_seen tokens.now)) }
 {
     match head {
         Head::Negation => joined(alloc, Chain::Comparison, limit, tokens),
@@ -265,16 +244,16 @@ fn bare(alloc: Global, head: Head, limit: u32, tokens: &[Token]) -> Read<'_>
 #[cycle(parser)]
 #[tactic(auto, unfolding(lus_spelling::specs::Reading::read, lus_spelling::specs::Reading::read_primary, lus_spelling::specs::Reading::primary_at, lus_spelling::specs::Reading::listed_at))]
 fn primary(alloc: Global, limit: u32, tokens: &[Token]) -> Read<'_>
-    requires { limit < 1000 }
+    requires { limit ≤ most_depth }
     ensures within { IfOk result (λ x. x.1 ≤ limit + 1) }
-    ensures exact { Gives (λ x. found (expression_seen x.0) x.1 (tokens_seen x.2.now)) result (read (suc limit) Primary (tokens_seen tokens.now)) }
+    ensures exact { Gives tree_read result (read (suc limit) Primary (tokens_seen tokens.now)) }
 {
     match word(Word::Merge, tokens) {
         None => dotted(alloc, limit, tokens),
         Some((span, rest)) => {
             let (name, rest) = identifier(alloc, rest)?;
             let (branches, depth, rest) = parts(alloc, Form::Merge, limit, rest)?;
-            Ok((Expr::Merge(span, name, branches), depth + 1, rest))
+            Ok((trees::merge(alloc, span, name, branches)?, depth + 1, rest))
         }
     }
 }
@@ -282,9 +261,9 @@ fn primary(alloc: Global, limit: u32, tokens: &[Token]) -> Read<'_>
 #[cycle(parser)]
 #[tactic(auto, unfolding(lus_spelling::specs::Reading::read, lus_spelling::specs::Reading::read_dotted, lus_spelling::specs::Reading::dotted_at))]
 fn dotted(alloc: Global, limit: u32, tokens: &[Token]) -> Read<'_>
-    requires { limit < 1000 }
+    requires { limit ≤ most_depth }
     ensures within { IfOk result (λ x. x.1 ≤ limit + 1) }
-    ensures exact { Gives (λ x. found (expression_seen x.0) x.1 (tokens_seen x.2.now)) result (read (suc limit) Dotted (tokens_seen tokens.now)) }
+    ensures exact { Gives tree_read result (read (suc limit) Dotted (tokens_seen tokens.now)) }
 {
     let (left, depth, rest) = atom(alloc, limit, tokens)?;
     dots(alloc, limit, left, depth, rest)
@@ -293,9 +272,9 @@ fn dotted(alloc: Global, limit: u32, tokens: &[Token]) -> Read<'_>
 #[cycle(parser)]
 #[tactic(auto, unfolding(lus_spelling::specs::Reading::read, lus_spelling::specs::Reading::read_atom, lus_spelling::specs::Reading::atom_at))]
 fn atom(alloc: Global, limit: u32, tokens: &[Token]) -> Read<'_>
-    requires { limit < 1000 }
+    requires { limit ≤ most_depth }
     ensures within { IfOk result (λ x. x.1 ≤ limit + 1) }
-    ensures exact { Gives (λ x. found (expression_seen x.0) x.1 (tokens_seen x.2.now)) result (read (suc limit) Atom (tokens_seen tokens.now)) }
+    ensures exact { Gives tree_read result (read (suc limit) Atom (tokens_seen tokens.now)) }
 {
     match tokens {
         [] => Err(ParseError::Syntax(0)),
@@ -305,7 +284,7 @@ fn atom(alloc: Global, limit: u32, tokens: &[Token]) -> Read<'_>
                 span,
             },
             rest @ ..,
-        ] => Ok((Expr::Number(*number, *span), 1, rest)),
+        ] => Ok((Box::new(alloc, Expr::Number(*number, *span))?, 1, rest)),
         [
             Token {
                 kind: TokenKind::Identifier(text),
@@ -325,7 +304,7 @@ fn atom(alloc: Global, limit: u32, tokens: &[Token]) -> Read<'_>
                 span,
             },
             rest @ ..,
-        ] => truth(*word, *span, tokens.len(), rest),
+        ] => truth(alloc, *word, *span, tokens.len(), rest),
         [
             Token {
                 kind: TokenKind::Punctuation(_),
@@ -340,33 +319,28 @@ fn atom(alloc: Global, limit: u32, tokens: &[Token]) -> Read<'_>
 #[cycle(parser)]
 #[tactic(auto, unfolding(lus_spelling::specs::Reading::name_at, lus_spelling::specs::Reading::listed_at))]
 fn named(alloc: Global, limit: u32, name: Name, tokens: &[Token]) -> Read<'_>
-    requires { limit < 1000 }
+    requires { limit ≤ most_depth }
     ensures within { IfOk result (λ x. x.1 ≤ limit + 1) }
-    ensures exact { Gives (λ x. found (expression_seen x.0) x.1 (tokens_seen x.2.now)) result (name_at (read limit Whole) (name_seen name) (tokens_seen tokens.now)) }
+    ensures exact { Gives tree_read result (name_at (read limit Whole) (name_seen name) (tokens_seen tokens.now)) }
 {
     if let Some((_, rest)) = symbol(Symbol::Open, tokens) {
         if let Some((_, after)) = symbol(Symbol::Close, rest) {
-            return Ok((Expr::Call(name, Vec::new(alloc)), 1, after));
+            return Ok((trees::call(alloc, name, Vec::new(alloc))?, 1, after));
         }
         let (arguments, depth, after) = parts(alloc, Form::Call, limit, rest)?;
-        return Ok((Expr::Call(name, arguments), depth + 1, after));
+        return Ok((trees::call(alloc, name, arguments)?, depth + 1, after));
     }
     if let Some((_, rest)) = symbol(Symbol::OpenBrace, tokens) {
         let (fields, depth, after) = parts(alloc, Form::Structure, limit, rest)?;
-        return Ok((Expr::Structure(name, fields), depth + 1, after));
+        return Ok((trees::structure(alloc, name, fields)?, depth + 1, after));
     }
-    Ok((Expr::Name(name), 1, tokens))
+    Ok((Box::new(alloc, Expr::Name(name))?, 1, tokens))
 }
 
 /// The parts of a call, a structure or a merge.
 #[cycle(parser)]
-fn parts(
-    alloc: Global,
-    form: Form,
-    limit: u32,
-    tokens: &[Token],
-) -> Result<(Vec<Part>, u32, &[Token]), ParseError>
-    requires { limit < 1000 }
+fn parts(alloc: Global, form: Form, limit: u32, tokens: &[Token]) -> Parts<'_>
+    requires { limit ≤ most_depth }
     ensures within { IfOk result (λ x. x.1 ≤ limit) }
     ensures exact { Gives (λ x. (map part_seen x.0.items, x.1, tokens_seen x.2.now)) result (parts_at (length tokens.now + 1) form (read limit Whole) [] 0 (tokens_seen tokens.now)) }
 {
@@ -395,29 +369,30 @@ fn part(
     limit: u32,
     tokens: &[Token],
 ) -> Result<(Part, u32, &[Token]), ParseError>
-    requires { limit < 1000 }
+    requires { limit ≤ most_depth }
     ensures within { IfOk result (λ x. x.1 ≤ limit) }
-    ensures exact { Gives (λ x. item (lead_seen x.0.lead) (expression_seen x.0.value) x.1 (tokens_seen x.2.now)) result (part_at form (read limit Whole) (tokens_seen tokens.now)) }
+    ensures exact { Gives part_read result (part_at form (read limit Whole) (tokens_seen tokens.now)) }
 {
     let (lead, rest) = lead(alloc, form, tokens)?;
     let (value, depth, rest) = inside(alloc, limit, rest)?;
     let rest = tail(form, rest)?;
+    let value = Box::into_inner(value);
     Ok((Part { lead, value }, depth, rest))
 }
 
 #[cycle(parser)]
 #[tactic(auto, unfolding(lus_spelling::specs::Reading::parentheses_at))]
 fn parentheses(alloc: Global, limit: u32, tokens: &[Token]) -> Read<'_>
-    requires { limit < 1000 }
+    requires { limit ≤ most_depth }
     ensures within { IfOk result (λ x. x.1 ≤ limit + 1) }
-    ensures exact { Gives (λ x. found (expression_seen x.0) x.1 (tokens_seen x.2.now)) result (parentheses_at (read limit Whole) (tokens_seen tokens.now)) }
+    ensures exact { Gives tree_read result (parentheses_at (read limit Whole) (tokens_seen tokens.now)) }
 {
     match symbol(Symbol::Open, tokens) {
         None => Err(ParseError::Syntax(tokens.len())),
         Some((span, rest)) => {
-            let (inner, depth, rest) = inside_boxed(alloc, limit, rest)?;
+            let (inner, depth, rest) = inside(alloc, limit, rest)?;
             let rest = expect_symbol(Symbol::Close, rest)?;
-            Ok((Expr::Parentheses(span, inner), depth + 1, rest))
+            Ok((trees::parentheses(alloc, span, inner)?, depth + 1, rest))
         }
     }
 }

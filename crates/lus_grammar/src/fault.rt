@@ -10,7 +10,7 @@ use std::alloc::{AllocError, AllocFailed};
 pub type Parsed<'a, T> = Result<(T, &'a [Token]), ParseError>;
 
 /// An expression, its depth, and the tokens after it.
-pub type Read<'a> = Result<(Expr, u32, &'a [Token]), ParseError>;
+pub type Read<'a> = Result<(Box<Expr>, u32, &'a [Token]), ParseError>;
 
 /// A fault, with how many tokens were left where it was met.
 #[derive(Debug, Drop)]

@@ -6,10 +6,12 @@ mod expressions;
 mod fault;
 mod front;
 mod nodes;
+mod openings;
 mod operators;
 mod parts;
 mod primaries;
 mod program;
+mod trees;
 mod types;
 mod variables;
 

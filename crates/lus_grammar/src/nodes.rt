@@ -1,6 +1,7 @@
 //! Equations and nodes.
 
 ghost use Rattle.std.specs.Prelude.{◌≡◌, [], map};
+ghost use Rattle.lus_syntax.specs.Limits.{most_depth};
 ghost use Rattle.lus_syntax.specs.View.{tokens_seen, names_seen, equation_seen, node_seen};
 ghost use Rattle.lus_grammar.specs.Answers.{Gives};
 ghost use Rattle.lus_spelling.specs.ReadingDeclarations.{others_at, at_equation, left_at, ended, equation_at, body_at, node_at};
@@ -10,11 +11,8 @@ use crate::fault::Parsed;
 use crate::front::{begins_equation, expect_symbol, expect_word, identifier, skip_symbol, symbol};
 use crate::types::names;
 use crate::variables::{inputs, locals, outputs};
-use lus_syntax::{Equation, Name, Node, NodeKind, Symbol, Token, Word};
+use lus_syntax::{Equation, MOST_DEPTH, Name, Node, NodeKind, Symbol, Token, Word};
 use std::alloc::Global;
-
-/// How deep a right side may be.
-pub const LIMIT: u32 = 100;
 
 /// The variables on the left, in parentheses or not.
 #[tactic(auto, unfolding(lus_spelling::specs::ReadingDeclarations::left_at))]
@@ -33,17 +31,18 @@ fn left(alloc: Global, tokens: &[Token]) -> Parsed<'_, Vec<Name>>
 
 #[tactic(auto, unfolding(lus_spelling::specs::ReadingDeclarations::equation_at))]
 fn equation(alloc: Global, tokens: &[Token]) -> Parsed<'_, Equation>
-    ensures { Gives (λ x. (equation_seen x.0, tokens_seen x.1.now)) result (equation_at LIMIT (tokens_seen tokens.now)) }
+    ensures { Gives (λ x. (equation_seen x.0, tokens_seen x.1.now)) result (equation_at most_depth (tokens_seen tokens.now)) }
 {
     let (left, rest) = left(alloc, tokens)?;
     let rest = expect_symbol(Symbol::Equal, rest)?;
-    let (right, _, rest) = inside(alloc, LIMIT, rest)?;
+    let (right, _, rest) = inside(alloc, MOST_DEPTH, rest)?;
     let rest = expect_symbol(Symbol::Semicolon, rest)?;
+    let right = Box::into_inner(right);
     Ok((Equation { left, right }, rest))
 }
 
 fn equations(alloc: Global, tokens: &[Token]) -> Parsed<'_, Vec<Equation>>
-    ensures { Gives (λ x. (map equation_seen x.0.items, tokens_seen x.1.now)) result (others_at at_equation (equation_at LIMIT) [] (tokens_seen tokens.now)) }
+    ensures { Gives (λ x. (map equation_seen x.0.items, tokens_seen x.1.now)) result (others_at at_equation (equation_at most_depth) [] (tokens_seen tokens.now)) }
 {
     let mut found = Vec::new(alloc);
     let mut rest = tokens;
@@ -68,7 +67,7 @@ fn after_end(tokens: &[Token]) -> &[Token]
 /// The equations of a node, from `let` to its end.
 #[tactic(auto, unfolding(lus_spelling::specs::ReadingDeclarations::body_at))]
 fn body(alloc: Global, tokens: &[Token]) -> Parsed<'_, Vec<Equation>>
-    ensures { Gives (λ x. (map equation_seen x.0.items, tokens_seen x.1.now)) result (body_at LIMIT (tokens_seen tokens.now)) }
+    ensures { Gives (λ x. (map equation_seen x.0.items, tokens_seen x.1.now)) result (body_at most_depth (tokens_seen tokens.now)) }
 {
     let rest = expect_word(Word::Let, tokens)?;
     let (equations, rest) = equations(alloc, rest)?;
@@ -79,7 +78,7 @@ fn body(alloc: Global, tokens: &[Token]) -> Parsed<'_, Vec<Equation>>
 /// What stands after `node` or `function`.
 #[tactic(auto, unfolding(lus_spelling::specs::ReadingDeclarations::node_at))]
 pub fn node(alloc: Global, kind: NodeKind, tokens: &[Token]) -> Parsed<'_, Node>
-    ensures { Gives (λ x. (node_seen x.0, tokens_seen x.1.now)) result (node_at LIMIT kind (tokens_seen tokens.now)) }
+    ensures { Gives (λ x. (node_seen x.0, tokens_seen x.1.now)) result (node_at most_depth kind (tokens_seen tokens.now)) }
 {
     let (name, rest) = identifier(alloc, tokens)?;
     let (inputs, rest) = inputs(alloc, rest)?;

@@ -4,9 +4,10 @@ ghost use Rattle.std.specs.Prelude.{◌≡◌, option_map};
 ghost use Rattle.lus_syntax.specs.Lexemes.{Sign, Keyword};
 ghost use Rattle.lus_syntax.specs.View.{tokens_seen, expression_seen};
 ghost use Rattle.lus_spelling.specs.Expressions.{infix_of, mixing_of, mixes, may_join};
-ghost use Rattle.lus_spelling.specs.Reading.{infix_at, prefix_at};
-ghost use Rattle.lus_grammar.specs.Rules.{level_of, head_level, head_operand};
+ghost use Rattle.lus_spelling.specs.Reading.{entry, infix_at, prefix_at};
+ghost use Rattle.lus_grammar.specs.Rules.{entry_of, level_of, operand_of, head_level, head_operand};
 
+use crate::openings::Entry;
 use lus_spelling::Mixing;
 use lus_syntax::{Expr, Infix, Prefix, Span, Symbol, Token, TokenKind, Word};
 
@@ -191,5 +192,25 @@ pub fn after_prefix(head: Head) -> Head
     match head {
         Head::Negation | Head::Negated => Head::Negated,
         Head::Signed => Head::Signed,
+    }
+}
+
+/// What the operands of a chain may begin with.
+pub fn operand_entry(chain: Chain) -> Entry
+    ensures { entry_of result ≡ entry (operand_of chain) }
+{
+    match chain {
+        Chain::Implication | Chain::Disjunction | Chain::Conjunction => Entry::Negation,
+        Chain::Comparison | Chain::Sum | Chain::Term => Entry::Signed,
+    }
+}
+
+/// What an expression with operators before an operand may begin with.
+pub fn head_entry(head: Head) -> Entry
+    ensures { entry_of result ≡ entry (head_level head) }
+{
+    match head {
+        Head::Negation | Head::Negated => Entry::Negation,
+        Head::Signed => Entry::Signed,
     }
 }

@@ -2,6 +2,7 @@
 
 ghost use Rattle.std.specs.Prelude.{◌≡◌, ◌≤◌, [], IfOk, IfErr, MatchResult};
 ghost use Rattle.lus_syntax.specs.declared.refusal.RefusalNumber.TheVariants.{Memory};
+ghost use Rattle.lus_syntax.specs.Limits.{most_depth};
 ghost use Rattle.lus_syntax.specs.Refusals.{HasShape};
 ghost use Rattle.lus_syntax.specs.Trees.{Tree as PlainTree};
 ghost use Rattle.lus_syntax.specs.View.{tokens_seen, tree_seen};
@@ -11,14 +12,14 @@ ghost use Rattle.lus_spelling.specs.ReadingDeclarations.{more_node, declaration_
 
 use crate::constants::constants;
 use crate::fault::{ParseError, Parsed};
-use crate::nodes::{LIMIT, node};
+use crate::nodes::node;
 use crate::types::type_declarations;
 use lus_syntax::{NodeKind, Place, Refusal, RefusalNumber, Token, TokenKind, Tree, Word};
 use std::alloc::Global;
 
 /// A node behind the declarations that were found before.
 fn with_node(alloc: Global, kind: NodeKind, found: Tree, tokens: &[Token]) -> Parsed<'_, Tree>
-    ensures { Gives (λ x. (tree_seen x.0, tokens_seen x.1.now)) result (more_node LIMIT kind (tree_seen found) (tokens_seen tokens.now)) }
+    ensures { Gives (λ x. (tree_seen x.0, tokens_seen x.1.now)) result (more_node most_depth kind (tree_seen found) (tokens_seen tokens.now)) }
 {
     let Tree {
         types,
@@ -38,7 +39,7 @@ fn with_node(alloc: Global, kind: NodeKind, found: Tree, tokens: &[Token]) -> Pa
 /// One declaration behind those that were found before.
 #[tactic(auto, unfolding(lus_spelling::specs::ReadingDeclarations::declaration_at))]
 fn declaration(alloc: Global, found: Tree, tokens: &[Token]) -> Parsed<'_, Tree>
-    ensures { Gives (λ x. (tree_seen x.0, tokens_seen x.1.now)) result (declaration_at LIMIT (tree_seen found) (tokens_seen tokens.now)) }
+    ensures { Gives (λ x. (tree_seen x.0, tokens_seen x.1.now)) result (declaration_at most_depth (tree_seen found) (tokens_seen tokens.now)) }
 {
     match tokens {
         [
@@ -91,7 +92,7 @@ fn declaration(alloc: Global, found: Tree, tokens: &[Token]) -> Parsed<'_, Tree>
 
 /// The declarations of a whole source.
 fn program(alloc: Global, tokens: &[Token]) -> Result<Tree, ParseError>
-    ensures { Gives tree_seen result (program_at LIMIT (tokens_seen tokens.now)) }
+    ensures { Gives tree_seen result (program_at most_depth (tokens_seen tokens.now)) }
 {
     let mut tree = Tree {
         types: Vec::new(alloc),
@@ -146,11 +147,11 @@ fn refusal(error: ParseError, tokens: &[Token]) -> Refusal
 /// the end of the last token (line 1, column 1 where there are none). `Limit` stands at a token of a right side that is
 /// too deep.
 pub fn parse(alloc: Global, tokens: &[Token]) -> Result<Tree, Refusal>
-    ensures exact { Answers tree_seen result (program_at LIMIT (tokens_seen tokens.now)) }
-    ensures spelled { IfOk result (λ t. SpellsProgram (tree_seen t) (tokens_seen tokens.now) × (tree_depth (tree_seen t) ≤ LIMIT)) }
-    ensures refused { IfErr result (λ e. RefusedRightly LIMIT (tokens_seen tokens.now) e.number) }
+    ensures exact { Answers tree_seen result (program_at most_depth (tokens_seen tokens.now)) }
+    ensures spelled { IfOk result (λ t. SpellsProgram (tree_seen t) (tokens_seen tokens.now) × (tree_depth (tree_seen t) ≤ most_depth)) }
+    ensures refused { IfErr result (λ e. RefusedRightly most_depth (tokens_seen tokens.now) e.number) }
     ensures shaped { IfErr result HasShape }
-    ensures parsed { (tree : PlainTree) → SpellsProgram tree (tokens_seen tokens.now) → tree_depth tree ≤ LIMIT → MatchResult result (λ t. tree_seen t ≡ tree) (λ e. e.number ≡ Memory) }
+    ensures parsed { (tree : PlainTree) → SpellsProgram tree (tokens_seen tokens.now) → tree_depth tree ≤ most_depth → MatchResult result (λ t. tree_seen t ≡ tree) (λ e. e.number ≡ Memory) }
 {
     match program(alloc, tokens) {
         Ok(tree) => Ok(tree),

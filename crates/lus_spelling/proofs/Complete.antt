@@ -10,10 +10,10 @@ use Rattle.lus_syntax.specs.declared.tree.Infix.TheVariants as operators
 use Rattle.lus_syntax.specs.declared.tree.Prefix.{Prefix}
 use Rattle.lus_spelling.specs.declared.form.Form.{Form}
 use Rattle.lus_spelling.specs.declared.form.Form.TheVariants as forms
-use Rattle.lus_syntax.specs.Lexemes.{Kind, Identifier, Number, Sign, Keyword, Lexeme, tok}
+use Rattle.lus_syntax.specs.Lexemes.{Kind, Number, Sign, Keyword, Lexeme, tok}
 use Rattle.lus_syntax.specs.Trees.{Named, Label, Constructor, Boolean, Test, Lead, Plain, Of, Branch, Expression, Numeral, Truth, Name, Call, Structure, Merge, Field, Parentheses, When, Unary, Binary, If, Parts, End, More, parts_of}
 use Rattle.lus_spelling.specs.Expressions.{ident, label, depth, deepest, Level, Whole, Arrow, Else, Choice, Implication, Disjunction, Conjunction, Negation, Negated, Comparison, Sum, Term, Signed, Primary, Dotted, Atom, infix_of, may_join, prefix_of, Joins, implication, disjunction, conjunction, comparison, sum, term, Heads, negation, negated, signed, Spells, SpellsAll, SpellsPart, SpellsTest, Separates, Closes, holds, fails, fails_in, labelled, comma, semicolon, unparted, closed, braced, late, unclosed, number, truth, falsity, name, call_empty, call, structure, parentheses, undotted, dotted, primary, merge, prefixed, bare, first, next, choice, else_choice, else_value, arrow_choice, arrow_value, arrow, whole, fby, when, final, further, argument, init, branch}
-use Rattle.lus_spelling.specs.Reading.{Fault, Syntax, Deep, Found, found, Read, Reader, ◌>>=◌, front, expect, identifier_at, label_at, closed_name_at, test_at, turn_at, Item, item, lead_at, part_at, Several, onward, parts_at, listed_at, after_open, parentheses_at, name_at, atom_at, dots_at, dotted_at, primary_at, prefix_at, prefixed_on, prefixed_at, join, two_on, infix_at, no_turn, one_turn, more_at, chain_at, branches_at, choice_at, arrow_on, arrow_at, is_primary, when_on, fby_on, whole_at, read_atom, read_dotted, read_primary, read_signed, read_term, read_sum, read_comparison, read_negated, read_negation, read_conjunction, read_disjunction, read_implication, read_choice, read_else, read_arrow, read_whole, read}
+use Rattle.lus_spelling.specs.Reading.{Fault, Syntax, Deep, Found, found, Read, Reader, ◌>>=◌, front, expect, identifier_at, label_at, closed_name_at, test_at, turn_at, Item, item, lead_at, part_at, Several, onward, parts_at, listed_at, after_open, parentheses_at, name_at, atom_at, dots_at, dotted_at, primary_at, prefix_at, prefixed_on, prefixed_at, join, two_on, infix_at, no_turn, one_turn, more_at, chain_at, branches_at, choice_at, arrow_on, arrow_at, is_primary, when_on, fby_on, whole_at, read_atom, read_dotted, read_primary, read_signed, read_term, read_sum, read_comparison, read_negated, read_negation, read_conjunction, read_disjunction, read_implication, read_choice, read_else, read_arrow, read_whole, read, opening_of, opening, entry, sampled}
 use Rattle.lus_spelling.proofs.Sound.{front_is, zero_least, max_regroups}
 
 -- ---- what may follow, and what may begin
@@ -66,42 +66,6 @@ rank Signed = 9
 rank Primary = 9
 rank Dotted = 10
 rank Atom = 11
-
--- how tight the rule is that a token may begin
-abbrev opening_of : Kind → ℕ
-opening_of (Keyword words.If) = 1
-opening_of (Keyword words.Not) = 2
-opening_of (Keyword words.Pre) = 3
-opening_of (Sign symbols.Minus) = 3
-opening_of (Keyword words.Merge) = 4
-opening_of (Number n) = 5
-opening_of (Identifier n) = 5
-opening_of (Keyword words.True) = 5
-opening_of (Keyword words.False) = 5
-opening_of (Sign symbols.Open) = 5
-opening_of _ = 0
-
-abbrev opening : List Lexeme → ℕ
-opening [] = 0
-opening (t ∷ ts) = opening_of t.kind
-
-abbrev entry : Level → ℕ
-entry Whole = 1
-entry Arrow = 1
-entry Else = 1
-entry Choice = 1
-entry Implication = 2
-entry Disjunction = 2
-entry Conjunction = 2
-entry Negation = 2
-entry Negated = 2
-entry Comparison = 3
-entry Sum = 3
-entry Term = 3
-entry Signed = 3
-entry Primary = 4
-entry Dotted = 5
-entry Atom = 5
 
 -- a level's operator weighs what the level does
 operator_heft : (level : Level) (l : Kind) (op : Infix) → infix_of level l ≡ Some op → heft l ≡ rank level
@@ -210,8 +174,13 @@ begins (when s {a} {c} {xs} {ys} d e) rest = let h = begins d (tok (Keyword word
 abbrev pub outcome : ℕ → Expression → List Lexeme → Read
 outcome limit t rest = cond (leb (depth t) limit) (Ok (found t (depth t) rest)) (Err Deep)
 
+-- what is read within any limit
 pub record Reads (level : Level) (t : Expression) (ts : List Lexeme) : Type 0 where
   pub by : (n : ℕ) (rest : List Lexeme) → weight rest < rank level → read n level (ts ++ rest) ≡ outcome n t rest
+
+-- what is read where some depth is left
+pub record ReadsWithin (level : Level) (t : Expression) (ts : List Lexeme) : Type 0 where
+  pub by : (n : ℕ) (rest : List Lexeme) → weight rest < rank level → read (suc n) level (ts ++ rest) ≡ outcome (suc n) t rest
 
 -- a loop that has read the tree and goes on
 pub record Grown (level operand : Level) (n : ℕ) (t : Expression) (ts rest : List Lexeme) : Type 0 where
@@ -232,7 +201,7 @@ pub data IsDotted : Level → Type 0 where
   is_dotted : IsDotted Dotted
 
 pub record Goal (level : Level) (t : Expression) (ts : List Lexeme) : Type 0 where
-  pub reads : Reads level t ts
+  pub reads : ReadsWithin level t ts
   pub grows : (operand : Level) → Joins level operand → Grows level operand t ts
   pub dots : IsDotted level → (n : ℕ) (rest : List Lexeme) → weight rest < 11 → Dots t ts n rest
 
@@ -256,17 +225,20 @@ within limit t rest le = rw (le-leb (depth t) limit le) refl
 beyond : (limit : ℕ) (t : Expression) (rest : List Lexeme) → limit < depth t → outcome limit t rest ≡ Err Deep
 beyond limit t rest lt = rw (lt-leb (depth t) limit lt) refl
 
-none_read : (level : Level) (t : Expression) (ts rest : List Lexeme) → read 0 level ts ≡ outcome 0 t rest
+none_read : (level : Level) (t : Expression) (ts rest : List Lexeme) → entry level ≤ opening ts → read 0 level ts ≡ outcome 0 t rest
 unfolding read
-none_read level t ts rest = sym (beyond 0 t rest (depth_positive t))
+none_read level t ts rest opened = rw (le-leb (entry level) (opening ts) opened) (sym (beyond 0 t rest (depth_positive t)))
 
--- it is enough to read with a positive limit
-reads_from : (level : Level) (t : Expression) (ts : List Lexeme) → ((n : ℕ) (rest : List Lexeme) → weight rest < rank level → read (suc n) level (ts ++ rest) ≡ outcome (suc n) t rest) → Reads level t ts
-reads_from level t ts h = record { by = by }
+-- where no depth is left, a tree is too deep
+reads_of : {level : Level} {t : Expression} {ts : List Lexeme} → Spells level t ts → ReadsWithin level t ts → Reads level t ts
+reads_of {level} {t} {ts} d h = record { by = by }
   where
     by : (n : ℕ) (rest : List Lexeme) → weight rest < rank level → read n level (ts ++ rest) ≡ outcome n t rest
-    by zero rest lt = none_read level t (ts ++ rest) rest
-    by (suc n) rest lt = h n rest lt
+    by zero rest lt = none_read level t (ts ++ rest) rest (begins d rest)
+    by (suc n) rest lt = h.by n rest lt
+
+reads_from : (level : Level) (t : Expression) (ts : List Lexeme) → ((n : ℕ) (rest : List Lexeme) → weight rest < rank level → read (suc n) level (ts ++ rest) ≡ outcome (suc n) t rest) → ReadsWithin level t ts
+reads_from level t ts h = record { by = h }
 
 abbrev too_deep : Read
 too_deep = Err Deep
@@ -298,18 +270,19 @@ module _ (n : ℕ) (op : Infix) (operand : Reader) (more : Found → Read) (a b 
   pair : cond (leb (depth a) (suc n)) (two_on n op operand more (found a (depth a) before) after) (Err Deep) ≡ cond (leb (suc (max (depth a) (depth b))) (suc n)) (more (found (Binary op a b) (suc (max (depth a) (depth b))) rest)) (Err Deep)
   pair =
       let whole_tree = found (Binary op a b) (suc (max (depth a) (depth b))) rest in
-      let lost : n < max (depth a) (depth b) → Err Deep ≡ cond (leb (suc (max (depth a) (depth b))) (suc n)) (more whole_tree) (Err Deep) = λ lt. sym (rw (lt-leb (suc (max (depth a) (depth b))) (suc n) (omega arith)) refl) in
-      elim (cases_lt n (depth a)) [
-        | inl far ↦
-            (elim (cases_lt (suc n) (depth a)) [
-              | inl farther ↦ rw (lt-leb (depth a) (suc n) farther) (lost (omega (arith, le-max_left (depth a) (depth b))))
-              | inr near ↦ rw (le-leb (depth a) (suc n) near, lt-ltb n (depth a) far) (lost (omega (arith, le-max_left (depth a) (depth b))))
-            ])
-        | inr le ↦
-            rw (le-leb (depth a) (suc n) (omega arith), le-ltb n (depth a) le)
-            (ap (λ (r : Read). r >>= λ f. more (join op (found a (depth a) before) f)) right
-            ∙ over n b rest (λ f. more (join op (found a (depth a) before) f)) (cond (leb (suc (max (depth a) (depth b))) (suc n)) (more whole_tree) (Err Deep)) (λ lt. lost (omega (arith, le-max_right (depth a) (depth b))))
-            (λ near. sym (rw (le-leb (suc (max (depth a) (depth b))) (suc n) (omega (arith, max-le le near))) refl)))
+      let target = cond (leb (suc (max (depth a) (depth b))) (suc n)) (more whole_tree) (Err Deep) in
+      let step : Found → Read = λ f. cond (ltb n (depth a)) (Err Deep) (more (join op (found a (depth a) before) f)) in
+      let lost : n < max (depth a) (depth b) → Err Deep ≡ target = λ lt. sym (rw (lt-leb (suc (max (depth a) (depth b))) (suc n) (omega arith)) refl) in
+      let left_deep : n < depth a → Err Deep ≡ target = λ far. lost (omega (arith, le-max_left (depth a) (depth b))) in
+      let read_both : (outcome n b rest >>= step) ≡ target =
+          over n b rest step target (λ far. lost (omega (arith, le-max_right (depth a) (depth b)))) (λ near.
+          elim (cases_lt n (depth a)) [
+            | inl far ↦ rw (lt-ltb n (depth a) far) (left_deep far)
+            | inr le ↦ rw (le-ltb n (depth a) le) (sym (rw (le-leb (suc (max (depth a) (depth b))) (suc n) (omega (arith, max-le le near))) refl))
+          ]) in
+      elim (cases_lt (suc n) (depth a)) [
+        | inl farther ↦ rw (lt-leb (depth a) (suc n) farther) (left_deep (omega (arith, farther)))
+        | inr le ↦ rw (le-leb (depth a) (suc n) le) (ap (λ (r : Read). r >>= step) right ∙ read_both)
       ]
 
 -- ---- leaves
@@ -616,7 +589,7 @@ module _ (n : ℕ) (t : Expression) (s : Span) (x : Named) (rest : List Lexeme) 
   dot_left = found t (depth t) (tok (Sign symbols.Dot) s ∷ ident x ∷ rest)
 
   dot_deep : (k : ℕ) → n < depth t → dots_at k n dot_left ≡ Err Deep
-  unfolding dots_at dot_left
+  unfolding dots_at dot_left identifier_at
   dot_deep zero lt = refl
   dot_deep (suc k) lt = rw (lt-ltb n (depth t) lt) refl
 
@@ -747,7 +720,7 @@ unfolding more_at
 ends zero level n operand left e = rw e refl
 ends (suc k) level n operand left e = rw e refl
 
-settles : (level operand : Level) (t : Expression) (ts : List Lexeme) → Joins level operand → Grows level operand t ts → Reads level t ts
+settles : (level operand : Level) (t : Expression) (ts : List Lexeme) → Joins level operand → Grows level operand t ts → ReadsWithin level t ts
 settles level operand t ts j g = reads_from level t ts (λ n rest lt.
     let more = tighter j in
     let h = g.by n rest (omega (arith, lt, more)) in
@@ -794,12 +767,14 @@ module _ (level operand : Level) (l : Kind) (op : Infix) (s : Span) (a b : Expre
   lost : n < depth a → cond (leb (depth a) (suc n)) (so_far 0) (Err Deep) ≡ cond (leb (suc (max (depth a) (depth b))) (suc n)) (then_on (suc n)) (Err Deep)
   unfolding so_far more_at
   lost lt =
-      ap (λ (o : Option (Infix × List Lexeme)). cond (leb (depth a) (suc n)) (no_turn (found a (depth a) (tok l s ∷ (ys ++ rest))) o) (Err Deep)) at
-      ∙ both (leb (depth a) (suc n)) ∙ sym (rw (lt-leb (suc (max (depth a) (depth b))) (suc n) (omega (arith, le-max_left (depth a) (depth b)))) refl)
+      ap (λ (o : Option (Infix × List Lexeme)). cond (leb (depth a) (suc n)) (no_turn (read n operand) (found a (depth a) (tok l s ∷ (ys ++ rest))) o) (Err Deep)) at
+      ∙ ap (λ (r : Read). cond (leb (depth a) (suc n)) (r >>= λ f. Err Deep) (Err Deep)) right
+      ∙ both (leb (depth a) (suc n)) (leb (depth b) n) ∙ sym (rw (lt-leb (suc (max (depth a) (depth b))) (suc n) (omega (arith, le-max_left (depth a) (depth b)))) refl)
     where
-      both : (c : Bool) → cond c too_deep (Err Deep) ≡ Err Deep
-      both true = refl
-      both false = refl
+      both : (c d : Bool) → cond c (cond d (Ok (found b (depth b) rest)) (Err Deep) >>= λ f. too_deep) (Err Deep) ≡ Err Deep
+      both true true = refl
+      both true false = refl
+      both false d = refl
 
   grown : (r : Read) (k : ℕ) → n < k + depth a → r ≡ cond (leb (depth a) (suc n)) (so_far k) (Err Deep)
       → (turns : ℕ) × (n < turns + suc (max (depth a) (depth b))) × (r ≡ cond (leb (suc (max (depth a) (depth b))) (suc n)) (then_on turns) (Err Deep))
@@ -883,30 +858,30 @@ arrow_is_value : (n : ℕ) (ts : List Lexeme) → front (Keyword words.If) ts �
 unfolding read read_arrow choice_at arrow_at
 arrow_is_value n ts e = rw e refl
 
-goal_else : (t : Expression) (ts : List Lexeme) → Reads Else t ts → Goal Else t ts
+goal_else : (t : Expression) (ts : List Lexeme) → ReadsWithin Else t ts → Goal Else t ts
 goal_else t ts h = record { reads = h; grows = λ some j. elim j [ ]; dots = λ e. elim e [ ] }
 
-goal_arrow : (t : Expression) (ts : List Lexeme) → Reads Arrow t ts → Goal Arrow t ts
+goal_arrow : (t : Expression) (ts : List Lexeme) → ReadsWithin Arrow t ts → Goal Arrow t ts
 goal_arrow t ts h = record { reads = h; grows = λ some j. elim j [ ]; dots = λ e. elim e [ ] }
 
-goal_whole : (t : Expression) (ts : List Lexeme) → Reads Whole t ts → Goal Whole t ts
+goal_whole : (t : Expression) (ts : List Lexeme) → ReadsWithin Whole t ts → Goal Whole t ts
 goal_whole t ts h = record { reads = h; grows = λ some j. elim j [ ]; dots = λ e. elim e [ ] }
 
-else_choice_again : (t : Expression) (ts : List Lexeme) → Spells Choice t ts → Reads Choice t ts → Reads Else t ts
+else_choice_again : (t : Expression) (ts : List Lexeme) → Spells Choice t ts → Reads Choice t ts → ReadsWithin Else t ts
 else_choice_again t ts d h = reads_from Else t ts (λ n rest lt. let b = begins_if d rest in else_is_choice n (ts ++ rest) b.0 b.1 ∙ h.by (suc n) rest lt)
 
-else_value_again : (t : Expression) (ts : List Lexeme) → Spells Implication t ts → Reads Implication t ts → Reads Else t ts
+else_value_again : (t : Expression) (ts : List Lexeme) → Spells Implication t ts → Reads Implication t ts → ReadsWithin Else t ts
 else_value_again t ts d h = reads_from Else t ts (λ n rest lt. else_is_value n (ts ++ rest) (no_if (ts ++ rest) (begins d rest)) ∙ h.by (suc n) rest lt)
 
 -- ---- arrow
 
-arrow_choice_again : (t : Expression) (ts : List Lexeme) → Spells Choice t ts → Reads Choice t ts → Reads Arrow t ts
+arrow_choice_again : (t : Expression) (ts : List Lexeme) → Spells Choice t ts → Reads Choice t ts → ReadsWithin Arrow t ts
 arrow_choice_again t ts d h = reads_from Arrow t ts (λ n rest lt. let b = begins_if d rest in arrow_is_choice n (ts ++ rest) b.0 b.1 ∙ h.by (suc n) rest (omega (arith, lt)))
 
 arrow_step : ℕ → Found → Read
 arrow_step n left = arrow_on n (read n Arrow) left (front (Sign symbols.Arrow) left.rest)
 
-arrow_value_again : (t : Expression) (ts : List Lexeme) → Spells Implication t ts → Reads Implication t ts → Reads Arrow t ts
+arrow_value_again : (t : Expression) (ts : List Lexeme) → Spells Implication t ts → Reads Implication t ts → ReadsWithin Arrow t ts
 unfolding arrow_step
 arrow_value_again t ts d h = reads_from Arrow t ts (λ n rest lt.
     arrow_is_value n (ts ++ rest) (no_if (ts ++ rest) (begins d rest))
@@ -916,7 +891,7 @@ arrow_value_again t ts d h = reads_from Arrow t ts (λ n rest lt.
 abbrev keep : Found → Read
 keep f = Ok f
 
-arrow_again : (s : Span) (a b : Expression) (xs ys : List Lexeme) → Spells Implication a xs → Reads Implication a xs → Reads Arrow b ys → Reads Arrow (Binary operators.Arrow a b) (xs ++ tok (Sign symbols.Arrow) s ∷ ys)
+arrow_again : (s : Span) (a b : Expression) (xs ys : List Lexeme) → Spells Implication a xs → Reads Implication a xs → Reads Arrow b ys → ReadsWithin Arrow (Binary operators.Arrow a b) (xs ++ tok (Sign symbols.Arrow) s ∷ ys)
 unfolding arrow_step
 arrow_again s a b xs ys d ha hb = reads_from Arrow (Binary operators.Arrow a b) (xs ++ tok (Sign symbols.Arrow) s ∷ ys) (λ n rest lt.
     let after = tok (Sign symbols.Arrow) s ∷ (ys ++ rest) in
@@ -935,7 +910,7 @@ whole_is : (n : ℕ) (ts : List Lexeme) → read (suc n) Whole ts ≡ (read (suc
 unfolding read read_whole whole_at whole_step
 whole_is n ts = refl
 
-whole_again : (t : Expression) (ts : List Lexeme) → Reads Arrow t ts → Reads Whole t ts
+whole_again : (t : Expression) (ts : List Lexeme) → Reads Arrow t ts → ReadsWithin Whole t ts
 unfolding whole_step
 whole_again t ts h = reads_from Whole t ts (λ n rest lt.
     whole_is n (ts ++ rest)
@@ -943,20 +918,25 @@ whole_again t ts h = reads_from Whole t ts (λ n rest lt.
     ∙ keeps (suc n) t rest (whole_step n) (ap (fby_on n (read n Primary) (found t (depth t) rest)) (no_light (Keyword words.Fby) rest lt) ∙ ap (when_on n (found t (depth t) rest)) (no_light (Keyword words.When) rest lt)))
 
 -- a primary may stand in an arrow's place
-climb : (t : Expression) (ts : List Lexeme) → Spells Primary t ts → Reads Primary t ts → Reads Arrow t ts
+climb : (t : Expression) (ts : List Lexeme) → Spells Primary t ts → Reads Primary t ts → ReadsWithin Arrow t ts
 climb t ts d h =
     let d1 : Spells Signed t ts = bare signed d in
-    let d2 : Spells Comparison t ts = first comparison (first sum (first term d1)) in
-    let d3 : Spells Implication t ts = first implication (first disjunction (first conjunction (bare negation d2))) in
-    let h1 = (bare_again Signed Signed Primary t ts signed d h).reads in
-    let h2 = (first_again Term Signed t ts term h1).reads in
-    let h3 = (first_again Sum Term t ts sum h2).reads in
-    let h4 = (first_again Comparison Sum t ts comparison h3).reads in
-    let h5 = (bare_again Negation Negated Comparison t ts negation d2 h4).reads in
-    let h6 = (first_again Conjunction Negation t ts conjunction h5).reads in
-    let h7 = (first_again Disjunction Conjunction t ts disjunction h6).reads in
-    let h8 = (first_again Implication Disjunction t ts implication h7).reads in
-    arrow_value_again t ts d3 h8
+    let d2 : Spells Term t ts = first term d1 in
+    let d3 : Spells Sum t ts = first sum d2 in
+    let d4 : Spells Comparison t ts = first comparison d3 in
+    let d5 : Spells Negation t ts = bare negation d4 in
+    let d6 : Spells Conjunction t ts = first conjunction d5 in
+    let d7 : Spells Disjunction t ts = first disjunction d6 in
+    let d8 : Spells Implication t ts = first implication d7 in
+    let h1 = reads_of d1 (bare_again Signed Signed Primary t ts signed d h).reads in
+    let h2 = reads_of d2 (first_again Term Signed t ts term h1).reads in
+    let h3 = reads_of d3 (first_again Sum Term t ts sum h2).reads in
+    let h4 = reads_of d4 (first_again Comparison Sum t ts comparison h3).reads in
+    let h5 = reads_of d5 (bare_again Negation Negated Comparison t ts negation d4 h4).reads in
+    let h6 = reads_of d6 (first_again Conjunction Negation t ts conjunction h5).reads in
+    let h7 = reads_of d7 (first_again Disjunction Conjunction t ts disjunction h6).reads in
+    let h8 = reads_of d8 (first_again Implication Disjunction t ts implication h7).reads in
+    arrow_value_again t ts d8 h8
 
 atom_shape : {t : Expression} {ts : List Lexeme} → Spells Atom t ts → is_primary t ≡ true
 atom_shape (number k s) = refl
@@ -988,12 +968,12 @@ primary_shape (bare h d) = elim h [ ]
 primary_shape (first j d) = elim j [ ]
 primary_shape (next l op s j at may d e) = elim j [ ]
 
-fby_again : (s : Span) (a b : Expression) (xs ys : List Lexeme) → Spells Primary a xs → Reads Primary a xs → Reads Primary b ys → Reads Whole (Binary operators.Fby a b) (xs ++ tok (Keyword words.Fby) s ∷ ys)
+fby_again : (s : Span) (a b : Expression) (xs ys : List Lexeme) → Spells Primary a xs → Reads Primary a xs → Reads Primary b ys → ReadsWithin Whole (Binary operators.Fby a b) (xs ++ tok (Keyword words.Fby) s ∷ ys)
 unfolding whole_step
 fby_again s a b xs ys d ha hb = reads_from Whole (Binary operators.Fby a b) (xs ++ tok (Keyword words.Fby) s ∷ ys) (λ n rest lt.
     let after = tok (Keyword words.Fby) s ∷ (ys ++ rest) in
     let two : Read = two_on n operators.Fby (read n Primary) keep (found a (depth a) after) (ys ++ rest) in
-    let up = (climb a xs d ha).by (suc n) after (omega arith) in
+    let up = (climb a xs d ha).by n after (omega arith) in
     ap (read (suc n) Whole) (append_assoc xs (tok (Keyword words.Fby) s ∷ ys) rest)
     ∙ whole_is n (xs ++ after)
     ∙ ap (λ (r : Read). r >>= whole_step n) up
@@ -1010,32 +990,30 @@ test_again (labelled (Constructor m) o c n) rest lt = refl
 test_again (labelled (Boolean true s) o c n) rest lt = refl
 test_again (labelled (Boolean false s) o c n) rest lt = refl
 
-test_step : Expression → ℕ → Test × List Lexeme → Read
-test_step a d c = Ok (found (When a c.0) (suc d) c.1)
-
 both_gone : (b : Bool) → cond b too_deep (Err Deep) ≡ Err Deep
 both_gone true = refl
 both_gone false = refl
 
-when_cases : (n : ℕ) (a : Expression) (c : Test) (r : Result (Test × List Lexeme) Fault) (rest : List Lexeme) → r ≡ Ok (c, rest) → cond (leb (depth a) (suc n)) (cond (ltb n (depth a)) (Err Deep) (r >>= test_step a (depth a))) (Err Deep) ≡ outcome (suc n) (When a c) rest
-unfolding test_step
-when_cases n a c r rest e = elim (cases_lt n (depth a)) [
+when_cases : (n : ℕ) (a : Expression) (c : Test) (rest : List Lexeme) → cond (leb (depth a) (suc n)) (sampled n a (depth a) c rest) (Err Deep) ≡ outcome (suc n) (When a c) rest
+when_cases n a c rest = elim (cases_lt n (depth a)) [
   | inl far ↦ rw (lt-ltb n (depth a) far) (both_gone (leb (depth a) (suc n)) ∙ sym (beyond (suc n) (When a c) rest (omega (arith, far))))
-  | inr le ↦ rw (le-ltb n (depth a) le, le-leb (depth a) (suc n) (omega (arith, le)), e) (sym (within (suc n) (When a c) rest (omega (arith, le))))
+  | inr le ↦ rw (le-ltb n (depth a) le, le-leb (depth a) (suc n) (omega (arith, le))) (sym (within (suc n) (When a c) rest (omega (arith, le))))
 ]
 
-when_again : (s : Span) (a : Expression) (c : Test) (xs ys : List Lexeme) → Spells Primary a xs → Reads Primary a xs → SpellsTest c ys → Reads Whole (When a c) (xs ++ tok (Keyword words.When) s ∷ ys)
-unfolding whole_step test_step
+when_again : (s : Span) (a : Expression) (c : Test) (xs ys : List Lexeme) → Spells Primary a xs → Reads Primary a xs → SpellsTest c ys → ReadsWithin Whole (When a c) (xs ++ tok (Keyword words.When) s ∷ ys)
+unfolding whole_step
 when_again s a c xs ys d ha dc = reads_from Whole (When a c) (xs ++ tok (Keyword words.When) s ∷ ys) (λ n rest lt.
     let after = tok (Keyword words.When) s ∷ (ys ++ rest) in
-    let step : Read = cond (ltb n (depth a)) (Err Deep) (test_at (ys ++ rest) >>= test_step a (depth a)) in
-    let up = (climb a xs d ha).by (suc n) after (omega arith) in
+    let left = found a (depth a) after in
+    let step : Test × List Lexeme → Read = λ x. sampled n a (depth a) x.0 x.1 in
+    let up = (climb a xs d ha).by n after (omega arith) in
     ap (read (suc n) Whole) (append_assoc xs (tok (Keyword words.When) s ∷ ys) rest)
     ∙ whole_is n (xs ++ after)
     ∙ ap (λ (r : Read). r >>= whole_step n) up
-    ∙ bind_cond (leb (depth a) (suc n)) (found a (depth a) after) (whole_step n)
-    ∙ ap (λ (p : Bool). cond (leb (depth a) (suc n)) (cond p step (Err Syntax)) (Err Deep)) (primary_shape d)
-    ∙ when_cases n a c (test_at (ys ++ rest)) rest (test_again dc rest lt))
+    ∙ bind_cond (leb (depth a) (suc n)) left (whole_step n)
+    ∙ ap (λ (p : Bool). cond (leb (depth a) (suc n)) (cond p (test_at (ys ++ rest) >>= step) (Err Syntax)) (Err Deep)) (primary_shape d)
+    ∙ ap (λ (r : Result (Test × List Lexeme) Fault). cond (leb (depth a) (suc n)) (r >>= step) (Err Deep)) (test_again dc rest lt)
+    ∙ when_cases n a c rest)
 
 -- ---- all of it
 
@@ -1048,35 +1026,35 @@ mutual
   goal_of (call_empty n o e) = call_empty_again n o e
   goal_of (call n o {us} {ts} d) = call_again n o us ts d (all_of d)
   goal_of (structure n o {us} {ts} d) = structure_again n o us ts (all_of d)
-  goal_of (undotted {t} {ts} d) = goal_dots t ts (dots_first t ts (goal_of d).reads)
+  goal_of (undotted {t} {ts} d) = goal_dots t ts (dots_first t ts (reads_of d (goal_of d).reads))
   goal_of (dotted s x {t} {ts} d) = goal_dots (Field t x) (ts ++ tok (Sign symbols.Dot) s ∷ ident x ∷ []) (dots_next t ts s x ((goal_of d).dots is_dotted))
-  goal_of (primary {t} {ts} d) = primary_again t ts d (goal_of d).reads
+  goal_of (primary {t} {ts} d) = primary_again t ts d (reads_of d (goal_of d).reads)
   goal_of (merge s n {us} {ts} d) = merge_again s n us ts (all_of d)
-  goal_of (when s {a} {c} {xs} {ys} d dc) = goal_whole (When a c) (xs ++ tok (Keyword words.When) s ∷ ys) (when_again s a c xs ys d (goal_of d).reads dc)
-  goal_of (parentheses s e {t} {ts} d) = parentheses_again s e t ts (goal_of d).reads
-  goal_of (prefixed {level} {operand} {other} l op s {t} {ts} h at d) = prefixed_again level operand other l op s t ts h at (goal_of d).reads
-  goal_of (bare {level} {operand} {other} {t} {ts} h d) = bare_again level operand other t ts h d (goal_of d).reads
-  goal_of (first {level} {operand} {t} {ts} j d) = first_again level operand t ts j (goal_of d).reads
+  goal_of (when s {a} {c} {xs} {ys} d dc) = goal_whole (When a c) (xs ++ tok (Keyword words.When) s ∷ ys) (when_again s a c xs ys d (reads_of d (goal_of d).reads) dc)
+  goal_of (parentheses s e {t} {ts} d) = parentheses_again s e t ts (reads_of d (goal_of d).reads)
+  goal_of (prefixed {level} {operand} {other} l op s {t} {ts} h at d) = prefixed_again level operand other l op s t ts h at (reads_of d (goal_of d).reads)
+  goal_of (bare {level} {operand} {other} {t} {ts} h d) = bare_again level operand other t ts h d (reads_of d (goal_of d).reads)
+  goal_of (first {level} {operand} {t} {ts} j d) = first_again level operand t ts j (reads_of d (goal_of d).reads)
   goal_of (next {level} {operand} l op s {a} {b} {xs} {ys} j e may da db) =
-      goal_chain level operand (Binary op a b) (xs ++ tok l s ∷ ys) j (next_grows level operand l op s a b xs ys j e may ((goal_of da).grows operand j) (goal_of db).reads)
-  goal_of (choice i t e {c} {a} {b} {xs} {ys} {zs} dc da db) = choice_again i t e c a b xs ys zs (goal_of dc).reads (goal_of da).reads (goal_of db).reads
-  goal_of (else_choice {t} {ts} d) = goal_else t ts (else_choice_again t ts d (goal_of d).reads)
-  goal_of (else_value {t} {ts} d) = goal_else t ts (else_value_again t ts d (goal_of d).reads)
-  goal_of (arrow_choice {t} {ts} d) = goal_arrow t ts (arrow_choice_again t ts d (goal_of d).reads)
-  goal_of (arrow_value {t} {ts} d) = goal_arrow t ts (arrow_value_again t ts d (goal_of d).reads)
-  goal_of (arrow s {a} {b} {xs} {ys} da db) = goal_arrow (Binary operators.Arrow a b) (xs ++ tok (Sign symbols.Arrow) s ∷ ys) (arrow_again s a b xs ys da (goal_of da).reads (goal_of db).reads)
-  goal_of (whole {t} {ts} d) = goal_whole t ts (whole_again t ts (goal_of d).reads)
-  goal_of (fby s {a} {b} {xs} {ys} da db) = goal_whole (Binary operators.Fby a b) (xs ++ tok (Keyword words.Fby) s ∷ ys) (fby_again s a b xs ys da (goal_of da).reads (goal_of db).reads)
+      goal_chain level operand (Binary op a b) (xs ++ tok l s ∷ ys) j (next_grows level operand l op s a b xs ys j e may ((goal_of da).grows operand j) (reads_of db (goal_of db).reads))
+  goal_of (choice i t e {c} {a} {b} {xs} {ys} {zs} dc da db) = choice_again i t e c a b xs ys zs (reads_of dc (goal_of dc).reads) (reads_of da (goal_of da).reads) (reads_of db (goal_of db).reads)
+  goal_of (else_choice {t} {ts} d) = goal_else t ts (else_choice_again t ts d (reads_of d (goal_of d).reads))
+  goal_of (else_value {t} {ts} d) = goal_else t ts (else_value_again t ts d (reads_of d (goal_of d).reads))
+  goal_of (arrow_choice {t} {ts} d) = goal_arrow t ts (arrow_choice_again t ts d (reads_of d (goal_of d).reads))
+  goal_of (arrow_value {t} {ts} d) = goal_arrow t ts (arrow_value_again t ts d (reads_of d (goal_of d).reads))
+  goal_of (arrow s {a} {b} {xs} {ys} da db) = goal_arrow (Binary operators.Arrow a b) (xs ++ tok (Sign symbols.Arrow) s ∷ ys) (arrow_again s a b xs ys da (reads_of da (goal_of da).reads) (reads_of db (goal_of db).reads))
+  goal_of (whole {t} {ts} d) = goal_whole t ts (whole_again t ts (reads_of d (goal_of d).reads))
+  goal_of (fby s {a} {b} {xs} {ys} da db) = goal_whole (Binary operators.Fby a b) (xs ++ tok (Keyword words.Fby) s ∷ ys) (fby_again s a b xs ys da (reads_of da (goal_of da).reads) (reads_of db (goal_of db).reads))
 
   all_of : {form : Form} {us : Parts} {ts : List Lexeme} → SpellsAll form us ts → ReadsAll form us ts
   all_of (final {form} {l} {t} {xs} {es} p c) = final_again form l t xs es (part_long p) (part_of p) c
   all_of (further {form} {l} {t} {us} {xs} {ss} {ys} p s d) = further_again form l t us xs ss ys (part_long p) (part_of p) s (all_starts d) (all_of d)
 
   part_of : {form : Form} {l : Lead} {t : Expression} {xs : List Lexeme} → SpellsPart form l t xs → ReadsPart form l t xs
-  part_of (argument {t} {ts} d) = argument_again t ts (goal_of d).reads
-  part_of (init x e {t} {ts} d) = init_again x e t ts (goal_of d).reads
-  part_of (branch l o a c {t} {ts} d) = branch_again l o a c t ts (goal_of d).reads
+  part_of (argument {t} {ts} d) = argument_again t ts (reads_of d (goal_of d).reads)
+  part_of (init x e {t} {ts} d) = init_again x e t ts (reads_of d (goal_of d).reads)
+  part_of (branch l o a c {t} {ts} d) = branch_again l o a c t ts (reads_of d (goal_of d).reads)
 
 -- what is spelled is read, whatever follows that doesn't go on with it
 pub complete : {level : Level} {t : Expression} {ts : List Lexeme} → Spells level t ts → (n : ℕ) (rest : List Lexeme) → weight rest < rank level → read n level (ts ++ rest) ≡ outcome n t rest
-complete d = (goal_of d).reads.by
+complete d = (reads_of d (goal_of d).reads).by

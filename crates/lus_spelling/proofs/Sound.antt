@@ -1,5 +1,5 @@
 -- What is read is spelled so.
-use Rattle.std.proofs.Common.{◌≡◌, ℕ, zero, suc, ◌+◌, ◌≤◌, max, Bool, true, false, cond, ltb, eqb, length, List, [], ◌∷◌, ◌++◌, Option, Some, None, Result, Ok, Err, refl, sym, ap, subst, ◌∙◌, append_assoc, arith}
+use Rattle.std.proofs.Common.{◌≡◌, ℕ, zero, suc, ◌+◌, ◌≤◌, max, Bool, true, false, cond, ltb, leb, eqb, length, List, [], ◌∷◌, ◌++◌, Option, Some, None, Result, Ok, Err, refl, sym, ap, subst, ◌∙◌, append_assoc, arith}
 use Rattle.std.proofs.lemmas.Bool.{eqb-true, ltb-false}
 use Rattle.std.proofs.Math.Nat.{max-le, le-max_left, le-max_right}
 use Rattle.lus_syntax.specs.declared.token.Span.{Span}
@@ -15,7 +15,7 @@ use Rattle.lus_spelling.specs.declared.form.Form.TheVariants as forms
 use Rattle.lus_syntax.specs.Lexemes.{Kind, Identifier, Number, Sign, Keyword, Lexeme, tok}
 use Rattle.lus_syntax.specs.Trees.{Named, named, Label, Constructor, Boolean, Test, Holds, Fails, Is, Lead, Plain, Of, Branch, Expression, Numeral, Truth, Name, Call, Structure, Merge, Field, Parentheses, When, Unary, Binary, If, Parts, End, parts_of}
 use Rattle.lus_spelling.specs.Expressions.{ident, label, depth, deepest, Level, Whole, Arrow, Else, Choice, Implication, Disjunction, Conjunction, Negation, Negated, Comparison, Sum, Term, Signed, Primary, Dotted, Atom, infix_of, may_join, prefix_of, Joins, implication, disjunction, conjunction, comparison, sum, term, Heads, negation, negated, signed, Spells, SpellsAll, SpellsPart, SpellsTest, Separates, Closes, holds, fails, fails_in, labelled, comma, semicolon, unparted, closed, braced, late, unclosed, number, truth, falsity, name, call_empty, call, structure, parentheses, undotted, dotted, primary, merge, prefixed, bare, first, next, choice, else_choice, else_value, arrow_choice, arrow_value, arrow, whole, fby, when, final, further, argument, init, branch}
-use Rattle.lus_spelling.specs.Reading.{Fault, Syntax, Deep, Found, found, Read, Reader, ◌>>=◌, place, word_place, is_lexeme, front, expected, expect, named_on, identifier_at, label_on, label_at, closed_name_at, denied, tested, test_on, test_at, after_argument, after_semicolon, after_init, after_branch, turn_at, Item, item, lead_on, lead_at, tail_at, part_at, Several, onward, parts_at, listed_at, after_open, parentheses_on, parentheses_at, truth_on, call_on, brace_on, name_on, name_at, atom_on, atom_at, no_dot, one_dot, dots_at, dotted_at, merge_on, primary_at, with_operand, prefix_at, prefixed_on, prefixed_at, join, two_on, allowed, infix_at, no_turn, one_turn, more_at, chain_at, branches_at, choice_on, choice_at, arrow_on, arrow_at, is_primary, when_on, fby_on, whole_at, refuse, read_atom, read_dotted, read_primary, read_signed, read_term, read_sum, read_comparison, read_negated, read_negation, read_conjunction, read_disjunction, read_implication, read_choice, read_else, read_arrow, read_whole, read}
+use Rattle.lus_spelling.specs.Reading.{Fault, Syntax, Deep, Found, found, Read, Reader, ◌>>=◌, place, word_place, is_lexeme, front, expected, expect, named_on, identifier_at, label_on, label_at, closed_name_at, denied, tested, test_on, test_at, after_argument, after_semicolon, after_init, after_branch, turn_at, Item, item, lead_on, lead_at, tail_at, part_at, Several, onward, parts_at, listed_at, after_open, parentheses_on, parentheses_at, truth_on, call_on, brace_on, name_on, name_at, atom_on, atom_at, no_dot, one_dot, dots_at, dotted_at, merge_on, primary_at, with_operand, prefix_at, prefixed_on, prefixed_at, join, two_on, allowed, infix_at, no_turn, one_turn, more_at, chain_at, branches_at, choice_on, choice_at, arrow_on, arrow_at, is_primary, when_on, fby_on, whole_at, refuse, read_atom, read_dotted, read_primary, read_signed, read_term, read_sum, read_comparison, read_negated, read_negation, read_conjunction, read_disjunction, read_implication, read_choice, read_else, read_arrow, read_whole, read, opening, entry, sampled as sampled_by}
 
 -- ---- steps that may fail
 
@@ -32,6 +32,16 @@ same_result x y e = cc
 guard_ok : {A : Type 0} (b : Bool) (r : Result A Fault) (y : A) → cond b (Err Deep) r ≡ Ok y → (b ≡ false) × (r ≡ Ok y)
 guard_ok true r y e = absurd cc
 guard_ok false r y e = (refl, e)
+
+abbrev failed : Fault → Read
+failed f = Err f
+
+never_found : (f : Found) → failed Deep ≡ Ok f → ⊥
+never_found f e = cc
+
+never_begun : (b : Bool) (f : Found) → cond b (failed Deep) (failed Syntax) ≡ Ok f → ⊥
+never_begun true f e = cc
+never_begun false f e = cc
 
 -- ---- tokens at the front
 
@@ -471,14 +481,14 @@ module _ (n : ℕ) (wholes : Reader) (sound : IsSound n Whole wholes) where
 module _ (n : ℕ) (ts : List Lexeme) where
   dot_ended : (left f : Found) (o : Option (Span × List Lexeme)) → Spelt (suc n) Dotted ts left → no_dot left o ≡ Ok f → Spelt (suc n) Dotted ts f
   dot_ended left f None h e = subst (Spelt (suc n) Dotted ts) (same_result left f e) h
-  dot_ended left f (Some x) h e = absurd cc
+  dot_ended left f (Some x) h e = let b = bind_ok (identifier_at x.1) (λ y. Err Deep) f e in absurd (never_found f b.2)
 
   dot_turned : (others : Found → Read) → ((left f : Found) → Spelt (suc n) Dotted ts left → others left ≡ Ok f → Spelt (suc n) Dotted ts f)
       → (left f : Found) (o : Option (Span × List Lexeme)) → front (Sign symbols.Dot) left.rest ≡ o → Spelt (suc n) Dotted ts left → one_dot n others left o ≡ Ok f → Spelt (suc n) Dotted ts f
   dot_turned others later left f None at h e = subst (Spelt (suc n) Dotted ts) (same_result left f e) h
   dot_turned others later left f (Some x) at h e =
-      let g = guard_ok (ltb n left.depth) (identifier_at x.1 >>= λ y. others (found (Field left.tree y.0) (suc left.depth) y.1)) f e in
-      let b = bind_ok (identifier_at x.1) (λ y. others (found (Field left.tree y.0) (suc left.depth) y.1)) f g.1 in
+      let b = bind_ok (identifier_at x.1) (λ y. cond (ltb n left.depth) (Err Deep) (others (found (Field left.tree y.0) (suc left.depth) y.1))) f e in
+      let g = guard_ok (ltb n left.depth) (others (found (Field left.tree b.0.0) (suc left.depth) b.0.1)) f b.2 in
       let le = ltb-false _ _ g.0 in
       let dot_token = tok (Sign symbols.Dot) x.0 in
       later (found (Field left.tree b.0.0) (suc left.depth) b.0.1) f
@@ -488,7 +498,7 @@ module _ (n : ℕ) (ts : List Lexeme) where
         spells = dotted x.0 b.0.0 h.spells;
         deep = ap suc h.deep;
         within = omega (arith, le);
-      }) b.2
+      }) g.1
 
   dots_sound_at : (turns : ℕ) (left f : Found) → Spelt (suc n) Dotted ts left → dots_at turns n left ≡ Ok f → Spelt (suc n) Dotted ts f
   unfolding dots_at
@@ -522,18 +532,18 @@ module _ (n : ℕ) (level operand other : Level) (heads : Heads level operand ot
   prefixed_sound ts f e = headed ts f (prefix_at level ts) refl e
 
 module _ (level operand : Level) (joins : Joins level operand) (n : ℕ) (operands : Reader) (sound : IsSound n operand operands) (ts : List Lexeme) where
-  ended : (left f : Found) (o : Option (Infix × List Lexeme)) → Spelt (suc n) level ts left → no_turn left o ≡ Ok f → Spelt (suc n) level ts f
+  ended : (left f : Found) (o : Option (Infix × List Lexeme)) → Spelt (suc n) level ts left → no_turn operands left o ≡ Ok f → Spelt (suc n) level ts f
   ended left f None h e = subst (Spelt (suc n) level ts) (same_result left f e) h
-  ended left f (Some x) h e = absurd cc
+  ended left f (Some x) h e = let b = bind_ok (operands x.1) (λ right. Err Deep) f e in absurd (never_found f b.2)
 
   turned : (more : Found → Read) → ((left f : Found) → Spelt (suc n) level ts left → more left ≡ Ok f → Spelt (suc n) level ts f)
       → (left f : Found) (o : Option (Infix × List Lexeme)) → infix_at level left.tree left.rest ≡ o → Spelt (suc n) level ts left → one_turn n operands more left o ≡ Ok f → Spelt (suc n) level ts f
   turned more goes_on left f None at h e = subst (Spelt (suc n) level ts) (same_result left f e) h
   turned more goes_on left f (Some x) at h e =
-      let g = guard_ok (ltb n left.depth) (operands x.1 >>= λ right. more (join x.0 left right)) f e in
-      let b = bind_ok (operands x.1) (λ right. more (join x.0 left right)) f g.1 in
+      let b = bind_ok (operands x.1) (λ right. cond (ltb n left.depth) (Err Deep) (more (join x.0 left right))) f e in
+      let g = guard_ok (ltb n left.depth) (more (join x.0 left b.0)) f b.2 in
       let i = infix_is level left.tree left.rest x at in
-      goes_on (join x.0 left b.0) f (two n level level operand x.0 i.0 i.1 ts x.1 left b.0 h i.4 (λ ys s. next i.0 x.0 i.1 joins i.2 i.3 h.spells s) (ltb-false _ _ g.0) (sound x.1 b.0 b.1)) b.2
+      goes_on (join x.0 left b.0) f (two n level level operand x.0 i.0 i.1 ts x.1 left b.0 h i.4 (λ ys s. next i.0 x.0 i.1 joins i.2 i.3 h.spells s) (ltb-false _ _ g.0) (sound x.1 b.0 b.1)) g.1
 
   more_sound : (turns : ℕ) (left f : Found) → Spelt (suc n) level ts left → more_at turns level n operands left ≡ Ok f → Spelt (suc n) level ts f
   unfolding more_at
@@ -602,9 +612,9 @@ module _ (n : ℕ) (arrows values : Reader) (sound : IsSound n Arrow arrows) (va
   arrowed : (ts : List Lexeme) (left f : Found) (o : Option (Span × List Lexeme)) → Spelt (suc n) Implication ts left → front (Sign symbols.Arrow) left.rest ≡ o → arrow_on n arrows left o ≡ Ok f → Spelt (suc n) Arrow ts f
   arrowed ts left f None h at e = subst (Spelt (suc n) Arrow ts) (same_result left f e) (lifted (suc n) Implication Arrow ts left (λ text s. arrow_value s) h)
   arrowed ts left f (Some x) h at e =
-      let g = guard_ok (ltb n left.depth) (arrows x.1 >>= λ right. keep (join operators.Arrow left right)) f e in
-      let b = bind_ok (arrows x.1) (λ right. keep (join operators.Arrow left right)) f g.1 in
-      subst (Spelt (suc n) Arrow ts) (same_result (join operators.Arrow left b.0) f b.2)
+      let b = bind_ok (arrows x.1) (λ right. cond (ltb n left.depth) (Err Deep) (keep (join operators.Arrow left right))) f e in
+      let g = guard_ok (ltb n left.depth) (keep (join operators.Arrow left b.0)) f b.2 in
+      subst (Spelt (suc n) Arrow ts) (same_result (join operators.Arrow left b.0) f g.1)
       (two n Arrow Implication Arrow operators.Arrow (Sign symbols.Arrow) x.0 ts x.1 left b.0 h (front_is (Sign symbols.Arrow) left.rest x at) (λ ys s. arrow x.0 h.spells s) (ltb-false _ _ g.0) (sound x.1 b.0 b.1))
 
   pub arrow_sound : IsSound (suc n) Arrow (arrow_at n arrows values)
@@ -652,14 +662,14 @@ module _ (n : ℕ) (primaries arrows : Reader) (sound : IsSound n Primary primar
   sampled : (ts : List Lexeme) (left f : Found) (o : Option (Span × List Lexeme)) → Spelt (suc n) Arrow ts left → front (Keyword words.When) left.rest ≡ o → when_on n left o ≡ Ok f → Spelt (suc n) Whole ts f
   sampled ts left f None h at e = subst (Spelt (suc n) Whole ts) (same_result left f e) (lifted (suc n) Arrow Whole ts left (λ text s. whole s) h)
   sampled ts left f (Some x) h at e =
-      let step : Test × List Lexeme → Read = λ c. Ok (found (When left.tree c.0) (suc left.depth) c.1) in
-      let p = test_ok (is_primary left.tree) (cond (ltb n left.depth) (Err Deep) (test_at x.1 >>= step)) f e in
-      let g = guard_ok (ltb n left.depth) (test_at x.1 >>= step) f p.1 in
-      let b = bind_ok (test_at x.1) step f g.1 in
+      let step : Test × List Lexeme → Read = λ c. sampled_by n left.tree left.depth c.0 c.1 in
+      let p = test_ok (is_primary left.tree) (test_at x.1 >>= step) f e in
+      let b = bind_ok (test_at x.1) step f p.1 in
+      let g = guard_ok (ltb n left.depth) (Ok (found (When left.tree b.0.0) (suc left.depth) b.0.1)) f b.2 in
       let c = test_is x.1 b.0 b.1 in
       let le = ltb-false _ _ g.0 in
       let when_token = tok (Keyword words.When) x.0 in
-      subst (Spelt (suc n) Whole ts) (same_result (found (When left.tree b.0.0) (suc left.depth) b.0.1) f b.2)
+      subst (Spelt (suc n) Whole ts) (same_result (found (When left.tree b.0.0) (suc left.depth) b.0.1) f g.1)
       (record {
         text = h.text ++ when_token ∷ c.0;
         cut = h.cut ∙ ap (λ (r : List Lexeme). h.text ++ r) (front_is (Keyword words.When) left.rest x at ∙ ap (λ (r : List Lexeme). when_token ∷ r) c.1) ∙ sym (append_assoc h.text (when_token ∷ c.0) b.0.1);
@@ -672,9 +682,9 @@ module _ (n : ℕ) (primaries arrows : Reader) (sound : IsSound n Primary primar
   followed ts left f None h at e = sampled ts left f (front (Keyword words.When) left.rest) h refl e
   followed ts left f (Some x) h at e =
       let p = test_ok (is_primary left.tree) (two_on n operators.Fby primaries keep left x.1) f e in
-      let g = guard_ok (ltb n left.depth) (primaries x.1 >>= λ right. keep (join operators.Fby left right)) f p.1 in
-      let b = bind_ok (primaries x.1) (λ right. keep (join operators.Fby left right)) f g.1 in
-      subst (Spelt (suc n) Whole ts) (same_result (join operators.Fby left b.0) f b.2)
+      let b = bind_ok (primaries x.1) (λ right. cond (ltb n left.depth) (Err Deep) (keep (join operators.Fby left right))) f p.1 in
+      let g = guard_ok (ltb n left.depth) (keep (join operators.Fby left b.0)) f b.2 in
+      subst (Spelt (suc n) Whole ts) (same_result (join operators.Fby left b.0) f g.1)
       (two n Whole Arrow Primary operators.Fby (Keyword words.Fby) x.0 ts x.1 left b.0 h (front_is (Keyword words.Fby) left.rest x at) (λ ys s. fby x.0 (tight h.spells p.0) s) (ltb-false _ _ g.0) (sound x.1 b.0 b.1))
 
   pub whole_sound : IsSound (suc n) Whole (whole_at n primaries arrows)
@@ -774,5 +784,5 @@ level_step n sound Whole ts f e = whole_step n (read n) sound ts f e
 
 pub read_sound : (n : ℕ) (level : Level) → IsSound n level (read n level)
 unfolding read
-read_sound zero level = λ ts f e. absurd cc
+read_sound zero level = λ ts f e. absurd (never_begun (leb (entry level) (opening ts)) f e)
 read_sound (suc n) level = level_step n (read_sound n) level

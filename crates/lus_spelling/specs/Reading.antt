@@ -1,5 +1,5 @@
 -- Reading expressions from left to right, with a limit on the depth and the first fault that is met.
-use Rattle.std.specs.Prelude.{ℕ, zero, suc, max, Bool, true, false, List, [], ◌∷◌, Option, Some, None, Result, Ok, Err, nat_lt, length, ◌++◌, ◌+◌, ◌==◌, if◌then◌else◌}
+use Rattle.std.specs.Prelude.{ℕ, zero, suc, max, Bool, true, false, List, [], ◌∷◌, Option, Some, None, Result, Ok, Err, nat_lt, nat_le, length, ◌++◌, ◌+◌, ◌==◌, if◌then◌else◌}
 use Rattle.lus_syntax.specs.declared.token.Span.{Span}
 use Rattle.lus_syntax.specs.declared.token.Symbol.{Symbol}
 use Rattle.lus_syntax.specs.declared.token.Symbol.TheVariants as symbols
@@ -149,6 +149,49 @@ test_on ts None = label_at ts >>= λ l. tested l.0 l.1 (front (Sign symbols.Open
 unfoldable pub test_at : List Lexeme → Result (Test × List Lexeme) Fault
 test_at ts = test_on ts (front (Keyword words.Not) ts)
 
+-- ---- what may begin
+
+-- how tight the rule is that a token may begin
+abbrev pub opening_of : Kind → ℕ
+opening_of (Keyword words.If) = 1
+opening_of (Keyword words.Not) = 2
+opening_of (Keyword words.Pre) = 3
+opening_of (Sign symbols.Minus) = 3
+opening_of (Keyword words.Merge) = 4
+opening_of (Number n) = 5
+opening_of (Identifier n) = 5
+opening_of (Keyword words.True) = 5
+opening_of (Keyword words.False) = 5
+opening_of (Sign symbols.Open) = 5
+opening_of _ = 0
+
+abbrev pub opening : List Lexeme → ℕ
+opening [] = 0
+opening (t ∷ ts) = opening_of t.kind
+
+-- how tight a rule must be, at least, to begin a level
+abbrev pub entry : Level → ℕ
+entry Whole = 1
+entry Arrow = 1
+entry Else = 1
+entry Choice = 1
+entry Implication = 2
+entry Disjunction = 2
+entry Conjunction = 2
+entry Negation = 2
+entry Negated = 2
+entry Comparison = 3
+entry Sum = 3
+entry Term = 3
+entry Signed = 3
+entry Primary = 4
+entry Dotted = 5
+entry Atom = 5
+
+-- where no depth is left: what begins a rule that is tight enough is too deep
+abbrev pub deep_at : ℕ → List Lexeme → Read
+deep_at wanted ts = if nat_le wanted (opening ts) then Err Deep else Err Syntax
+
 -- ---- parts
 
 -- whether another part follows, and the tokens where it begins; or the tokens after the parts
@@ -268,11 +311,11 @@ atom_at whole (t ∷ ts) = atom_on whole t t.kind ts
 
 abbrev pub no_dot : Found → Option (Span × List Lexeme) → Read
 no_dot left None = Ok left
-no_dot left (Some x) = Err Deep
+no_dot left (Some x) = identifier_at x.1 >>= λ n. Err Deep
 
 abbrev pub one_dot : ℕ → (Found → Read) → Found → Option (Span × List Lexeme) → Read
 one_dot limit more left None = Ok left
-one_dot limit more left (Some x) = if nat_lt limit left.depth then Err Deep else (identifier_at x.1 >>= λ n. more (found (Field left.tree n.0) (suc left.depth) n.1))
+one_dot limit more left (Some x) = identifier_at x.1 >>= λ n. if nat_lt limit left.depth then Err Deep else more (found (Field left.tree n.0) (suc left.depth) n.1)
 
 -- the fields after `left`
 unfoldable pub dots_at : ℕ → ℕ → Found → Read
@@ -313,7 +356,7 @@ join op left right = found (Binary op left.tree right.tree) (suc (max left.depth
 
 -- the right operand, where a part may have the depth `limit`, and what `more` reads after it
 abbrev pub two_on : ℕ → Infix → Reader → (Found → Read) → Found → List Lexeme → Read
-two_on limit op operand more left ts = if nat_lt limit left.depth then Err Deep else (operand ts >>= λ right. more (join op left right))
+two_on limit op operand more left ts = operand ts >>= λ right. if nat_lt limit left.depth then Err Deep else more (join op left right)
 
 abbrev pub allowed : Expression → List Lexeme → Option Infix → Option (Infix × List Lexeme)
 allowed left ts None = None
@@ -325,9 +368,9 @@ infix_at level left [] = None
 infix_at level left (t ∷ ts) = allowed left ts (infix_of level t.kind)
 
 -- no turn is left for an operator
-abbrev pub no_turn : Found → Option (Infix × List Lexeme) → Read
-no_turn left None = Ok left
-no_turn left (Some x) = Err Deep
+abbrev pub no_turn : Reader → Found → Option (Infix × List Lexeme) → Read
+no_turn operand left None = Ok left
+no_turn operand left (Some x) = operand x.1 >>= λ right. Err Deep
 
 abbrev pub one_turn : ℕ → Reader → (Found → Read) → Found → Option (Infix × List Lexeme) → Read
 one_turn limit operand more left None = Ok left
@@ -335,7 +378,7 @@ one_turn limit operand more left (Some x) = two_on limit x.0 operand more left x
 
 -- the operands after `left`, where a part may have the depth `limit`; more turns than that are never made
 unfoldable pub more_at : ℕ → Level → ℕ → Reader → Found → Read
-more_at zero level limit operand left = no_turn left (infix_at level left.tree left.rest)
+more_at zero level limit operand left = no_turn operand left (infix_at level left.tree left.rest)
 more_at (suc turns) level limit operand left = one_turn limit operand (more_at turns level limit operand) left (infix_at level left.tree left.rest)
 
 -- `first` reads the first operand within what the whole may have, `operand` the others within what a part may
@@ -376,9 +419,16 @@ is_primary (Binary op a b) = false
 is_primary (If s c a b) = false
 is_primary _ = true
 
+abbrev pub sampled : ℕ → Expression → ℕ → Test → List Lexeme → Read
+sampled limit t d c ts = if nat_lt limit d then Err Deep else Ok (found (When t c) (suc d) ts)
+
+-- the test after a tree of the depth `d`, where a part may have the depth `limit`
+abbrev pub sampled_at : ℕ → Expression → ℕ → Reader
+sampled_at limit t d ts = test_at ts >>= λ c. sampled limit t d c.0 c.1
+
 abbrev pub when_on : ℕ → Found → Option (Span × List Lexeme) → Read
 when_on limit left None = Ok left
-when_on limit left (Some x) = if is_primary left.tree then (if nat_lt limit left.depth then Err Deep else (test_at x.1 >>= λ c. Ok (found (When left.tree c.0) (suc left.depth) c.1))) else Err Syntax
+when_on limit left (Some x) = if is_primary left.tree then sampled_at limit left.tree left.depth x.1 else Err Syntax
 
 abbrev pub fby_on : ℕ → Reader → Found → Option (Span × List Lexeme) → Read
 fby_on limit primary left None = when_on limit left (front (Keyword words.When) left.rest)
@@ -460,5 +510,5 @@ module _ (limit : ℕ) (part : Level → Reader) where
 
 -- reads a level, where the whole may have the depth `limit`
 unfoldable pub read : ℕ → Level → Reader
-read zero level ts = Err Deep
+read zero level ts = deep_at (entry level) ts
 read (suc limit) level ts = level_at limit (read limit) level ts

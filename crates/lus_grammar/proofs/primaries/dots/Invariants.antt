@@ -7,7 +7,7 @@ use Rattle.lus_grammar.proofs.primaries.dots.Given as goal
 abbrev pub invariant-loop-after : goal.invariant-loop-after
 invariant-loop-after l = record {
   within : l.depth ≤ l.limit + 1;
-  remains : Dotting l.limit (found (expression_seen l.left) l.depth (tokens_seen l.rest)) (dots_at (suc l.limit) l.limit (found (expression_seen l.fn.left) l.fn.depth (tokens_seen l.tokens)));
+  remains : Dotting l.limit (found (expression_seen l.left.value) l.depth (tokens_seen l.rest)) (dots_at (suc l.limit) l.limit (found (expression_seen l.fn.left.value) l.fn.depth (tokens_seen l.tokens)));
 }
 
 abbrev pub decreases-loop-after : goal.decreases-loop-after
