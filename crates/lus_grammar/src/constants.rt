@@ -2,7 +2,7 @@
 
 ghost use Rattle.std.specs.Prelude.{map, option_map};
 ghost use Rattle.lus_syntax.specs.View.{tokens_seen, type_name_seen, literal_seen, constant_seen};
-ghost use Rattle.lus_grammar.specs.Answers.{Gives};
+ghost use Rattle.lus_grammar.specs.Answers.{Gives, read_as, all_read_as};
 ghost use Rattle.lus_spelling.specs.ReadingDeclarations.{several_at, at_name, negative_at, literal_at, type_of_at, constant_at};
 
 use crate::fault::{ParseError, Parsed};
@@ -14,7 +14,7 @@ use std::alloc::Global;
 /// The number after a minus.
 #[tactic(auto, unfolding(lus_spelling::specs::ReadingDeclarations::negative_at))]
 fn negative(minus: Span, tokens: &[Token]) -> Parsed<'_, Literal>
-    ensures { Gives (λ x. (literal_seen x.0, tokens_seen x.1.now)) result (negative_at minus (tokens_seen tokens.now)) }
+    ensures { Gives (read_as literal_seen) result (negative_at minus (tokens_seen tokens.now)) }
 {
     match tokens {
         [
@@ -31,7 +31,7 @@ fn negative(minus: Span, tokens: &[Token]) -> Parsed<'_, Literal>
 /// A constant's value.
 #[tactic(auto, unfolding(lus_spelling::specs::ReadingDeclarations::literal_at))]
 fn literal(alloc: Global, tokens: &[Token]) -> Parsed<'_, Literal>
-    ensures { Gives (λ x. (literal_seen x.0, tokens_seen x.1.now)) result (literal_at (tokens_seen tokens.now)) }
+    ensures { Gives (read_as literal_seen) result (literal_at (tokens_seen tokens.now)) }
 {
     match tokens {
         [
@@ -95,7 +95,7 @@ fn type_of(alloc: Global, tokens: &[Token]) -> Parsed<'_, Option<TypeName>>
 
 #[tactic(auto, unfolding(lus_spelling::specs::ReadingDeclarations::constant_at))]
 fn constant(alloc: Global, tokens: &[Token]) -> Parsed<'_, Constant>
-    ensures { Gives (λ x. (constant_seen x.0, tokens_seen x.1.now)) result (constant_at (tokens_seen tokens.now)) }
+    ensures { Gives (read_as constant_seen) result (constant_at (tokens_seen tokens.now)) }
 {
     let (name, rest) = identifier(alloc, tokens)?;
     let (type_name, rest) = type_of(alloc, rest)?;
@@ -116,7 +116,7 @@ pub fn constants(
     mut found: Vec<Constant>,
     tokens: &[Token],
 ) -> Parsed<'_, Vec<Constant>>
-    ensures { Gives (λ x. (map constant_seen x.0.items, tokens_seen x.1.now)) result (several_at at_name constant_at (map constant_seen found.items) (tokens_seen tokens.now)) }
+    ensures { Gives (all_read_as constant_seen) result (several_at at_name constant_at (map constant_seen found.items) (tokens_seen tokens.now)) }
 {
     let (first, mut rest) = constant(alloc, tokens)?;
     found.push(first)?;

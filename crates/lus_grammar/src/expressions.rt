@@ -1,13 +1,13 @@
 //! Expressions. The functions of the grammar's cycle stand together; they hold trees in boxes alone, since they are
 //! entered once for each rule at each depth.
 
-ghost use Rattle.std.specs.Prelude.{◌≤◌, ◌+◌, suc, [], map, length, IfOk};
+ghost use Rattle.std.specs.Prelude.{◌≤◌, ◌+◌, suc, [], length, IfOk};
 ghost use Rattle.lus_syntax.specs.Limits.{most_depth};
-ghost use Rattle.lus_syntax.specs.View.{tokens_seen, name_seen, part_seen};
+ghost use Rattle.lus_syntax.specs.View.{tokens_seen, name_seen};
 ghost use Rattle.lus_spelling.specs.Expressions.{Whole, Arrow, Else, Primary, Dotted, Atom};
 ghost use Rattle.lus_spelling.specs.Reading.{part_at, parts_at, name_at, parentheses_at, branches_at, read};
 ghost use Rattle.lus_grammar.specs.Rules.{level_of, operand_of, head_level, head_other};
-ghost use Rattle.lus_grammar.specs.Answers.{Gives, tree_read, part_read};
+ghost use Rattle.lus_grammar.specs.Answers.{Gives, tree_read, part_read, parts_read};
 
 use crate::fault::{ParseError, Read};
 use crate::front::{expect_symbol, expect_word, identifier, symbol, word};
@@ -342,7 +342,7 @@ fn named(alloc: Global, limit: u32, name: Name, tokens: &[Token]) -> Read<'_>
 fn parts(alloc: Global, form: Form, limit: u32, tokens: &[Token]) -> Parts<'_>
     requires { limit ≤ most_depth }
     ensures within { IfOk result (λ x. x.1 ≤ limit) }
-    ensures exact { Gives (λ x. (map part_seen x.0.items, x.1, tokens_seen x.2.now)) result (parts_at (length tokens.now + 1) form (read limit Whole) [] 0 (tokens_seen tokens.now)) }
+    ensures exact { Gives parts_read result (parts_at (length tokens.now + 1) form (read limit Whole) [] 0 (tokens_seen tokens.now)) }
 {
     let mut found = Vec::new(alloc);
     let mut deepest: u32 = 0;

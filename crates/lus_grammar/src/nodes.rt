@@ -3,7 +3,7 @@
 ghost use Rattle.std.specs.Prelude.{◌≡◌, [], map};
 ghost use Rattle.lus_syntax.specs.Limits.{most_depth};
 ghost use Rattle.lus_syntax.specs.View.{tokens_seen, names_seen, equation_seen, node_seen};
-ghost use Rattle.lus_grammar.specs.Answers.{Gives};
+ghost use Rattle.lus_grammar.specs.Answers.{Gives, read_as, all_read_as};
 ghost use Rattle.lus_spelling.specs.ReadingDeclarations.{others_at, at_equation, left_at, ended, equation_at, body_at, node_at};
 
 use crate::expressions::inside;
@@ -31,7 +31,7 @@ fn left(alloc: Global, tokens: &[Token]) -> Parsed<'_, Vec<Name>>
 
 #[tactic(auto, unfolding(lus_spelling::specs::ReadingDeclarations::equation_at))]
 fn equation(alloc: Global, tokens: &[Token]) -> Parsed<'_, Equation>
-    ensures { Gives (λ x. (equation_seen x.0, tokens_seen x.1.now)) result (equation_at most_depth (tokens_seen tokens.now)) }
+    ensures { Gives (read_as equation_seen) result (equation_at most_depth (tokens_seen tokens.now)) }
 {
     let (left, rest) = left(alloc, tokens)?;
     let rest = expect_symbol(Symbol::Equal, rest)?;
@@ -42,7 +42,7 @@ fn equation(alloc: Global, tokens: &[Token]) -> Parsed<'_, Equation>
 }
 
 fn equations(alloc: Global, tokens: &[Token]) -> Parsed<'_, Vec<Equation>>
-    ensures { Gives (λ x. (map equation_seen x.0.items, tokens_seen x.1.now)) result (others_at at_equation (equation_at most_depth) [] (tokens_seen tokens.now)) }
+    ensures { Gives (all_read_as equation_seen) result (others_at at_equation (equation_at most_depth) [] (tokens_seen tokens.now)) }
 {
     let mut found = Vec::new(alloc);
     let mut rest = tokens;
@@ -67,7 +67,7 @@ fn after_end(tokens: &[Token]) -> &[Token]
 /// The equations of a node, from `let` to its end.
 #[tactic(auto, unfolding(lus_spelling::specs::ReadingDeclarations::body_at))]
 fn body(alloc: Global, tokens: &[Token]) -> Parsed<'_, Vec<Equation>>
-    ensures { Gives (λ x. (map equation_seen x.0.items, tokens_seen x.1.now)) result (body_at most_depth (tokens_seen tokens.now)) }
+    ensures { Gives (all_read_as equation_seen) result (body_at most_depth (tokens_seen tokens.now)) }
 {
     let rest = expect_word(Word::Let, tokens)?;
     let (equations, rest) = equations(alloc, rest)?;
@@ -78,7 +78,7 @@ fn body(alloc: Global, tokens: &[Token]) -> Parsed<'_, Vec<Equation>>
 /// What stands after `node` or `function`.
 #[tactic(auto, unfolding(lus_spelling::specs::ReadingDeclarations::node_at))]
 pub fn node(alloc: Global, kind: NodeKind, tokens: &[Token]) -> Parsed<'_, Node>
-    ensures { Gives (λ x. (node_seen x.0, tokens_seen x.1.now)) result (node_at most_depth kind (tokens_seen tokens.now)) }
+    ensures { Gives (read_as node_seen) result (node_at most_depth kind (tokens_seen tokens.now)) }
 {
     let (name, rest) = identifier(alloc, tokens)?;
     let (inputs, rest) = inputs(alloc, rest)?;

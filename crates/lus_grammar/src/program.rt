@@ -1,13 +1,11 @@
 //! Whole sources.
 
-ghost use Rattle.std.specs.Prelude.{◌≡◌, ◌≤◌, [], IfOk, IfErr, MatchResult};
-ghost use Rattle.lus_syntax.specs.declared.refusal.RefusalNumber.TheVariants.{Memory};
+ghost use Rattle.std.specs.Prelude.{◌≡◌, ◌≤◌, [], IfOk, IfErr};
 ghost use Rattle.lus_syntax.specs.Limits.{most_depth};
 ghost use Rattle.lus_syntax.specs.Refusals.{HasShape};
-ghost use Rattle.lus_syntax.specs.Trees.{Tree as PlainTree};
 ghost use Rattle.lus_syntax.specs.View.{tokens_seen, tree_seen};
 ghost use Rattle.lus_spelling.specs.Declarations.{SpellsProgram, tree_depth};
-ghost use Rattle.lus_grammar.specs.Answers.{Gives, Numbered, Answers, RefusedRightly};
+ghost use Rattle.lus_grammar.specs.Answers.{Gives, read_as, Numbered, Answers, RefusedRightly, ReadsAll};
 ghost use Rattle.lus_spelling.specs.ReadingDeclarations.{more_node, declaration_at, program_at};
 
 use crate::constants::constants;
@@ -19,7 +17,7 @@ use std::alloc::Global;
 
 /// A node behind the declarations that were found before.
 fn with_node(alloc: Global, kind: NodeKind, found: Tree, tokens: &[Token]) -> Parsed<'_, Tree>
-    ensures { Gives (λ x. (tree_seen x.0, tokens_seen x.1.now)) result (more_node most_depth kind (tree_seen found) (tokens_seen tokens.now)) }
+    ensures { Gives (read_as tree_seen) result (more_node most_depth kind (tree_seen found) (tokens_seen tokens.now)) }
 {
     let Tree {
         types,
@@ -39,7 +37,7 @@ fn with_node(alloc: Global, kind: NodeKind, found: Tree, tokens: &[Token]) -> Pa
 /// One declaration behind those that were found before.
 #[tactic(auto, unfolding(lus_spelling::specs::ReadingDeclarations::declaration_at))]
 fn declaration(alloc: Global, found: Tree, tokens: &[Token]) -> Parsed<'_, Tree>
-    ensures { Gives (λ x. (tree_seen x.0, tokens_seen x.1.now)) result (declaration_at most_depth (tree_seen found) (tokens_seen tokens.now)) }
+    ensures { Gives (read_as tree_seen) result (declaration_at most_depth (tree_seen found) (tokens_seen tokens.now)) }
 {
     match tokens {
         [
@@ -151,7 +149,7 @@ pub fn parse(alloc: Global, tokens: &[Token]) -> Result<Tree, Refusal>
     ensures spelled { IfOk result (λ t. SpellsProgram (tree_seen t) (tokens_seen tokens.now) × (tree_depth (tree_seen t) ≤ most_depth)) }
     ensures refused { IfErr result (λ e. RefusedRightly most_depth (tokens_seen tokens.now) e.number) }
     ensures shaped { IfErr result HasShape }
-    ensures parsed { (tree : PlainTree) → SpellsProgram tree (tokens_seen tokens.now) → tree_depth tree ≤ most_depth → MatchResult result (λ t. tree_seen t ≡ tree) (λ e. e.number ≡ Memory) }
+    ensures parsed { ReadsAll most_depth (tokens_seen tokens.now) result }
 {
     match program(alloc, tokens) {
         Ok(tree) => Ok(tree),

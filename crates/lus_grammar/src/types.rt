@@ -3,7 +3,7 @@
 ghost use Rattle.std.specs.Prelude.{[], map};
 ghost use Rattle.lus_syntax.specs.declared.token.Symbol.TheVariants.{CloseBrace};
 ghost use Rattle.lus_syntax.specs.View.{tokens_seen, names_seen, type_name_seen, fields_seen, definition_seen, type_seen};
-ghost use Rattle.lus_grammar.specs.Answers.{Gives};
+ghost use Rattle.lus_grammar.specs.Answers.{Gives, read_as, all_read_as};
 ghost use Rattle.lus_spelling.specs.ReadingDeclarations.{several_at, further, at_name, names_at, type_name_at, fields_at, enumeration_at, structure_at, definition_at, type_at};
 
 use crate::fault::{ParseError, Parsed};
@@ -31,7 +31,7 @@ pub fn names(alloc: Global, tokens: &[Token]) -> Parsed<'_, Vec<Name>>
 /// `bool`, `int` or a name.
 #[tactic(auto, unfolding(lus_spelling::specs::ReadingDeclarations::type_name_at))]
 pub fn type_name(alloc: Global, tokens: &[Token]) -> Parsed<'_, TypeName>
-    ensures { Gives (λ x. (type_name_seen x.0, tokens_seen x.1.now)) result (type_name_at (tokens_seen tokens.now)) }
+    ensures { Gives (read_as type_name_seen) result (type_name_at (tokens_seen tokens.now)) }
 {
     match tokens {
         [
@@ -68,7 +68,7 @@ pub fn type_name(alloc: Global, tokens: &[Token]) -> Parsed<'_, TypeName>
 /// Names and their type.
 #[tactic(auto, unfolding(lus_spelling::specs::ReadingDeclarations::fields_at))]
 pub fn fields(alloc: Global, tokens: &[Token]) -> Parsed<'_, Fields>
-    ensures { Gives (λ x. (fields_seen x.0, tokens_seen x.1.now)) result (fields_at (tokens_seen tokens.now)) }
+    ensures { Gives (read_as fields_seen) result (fields_at (tokens_seen tokens.now)) }
 {
     let (names, rest) = names(alloc, tokens)?;
     let rest = expect_symbol(Symbol::Colon, rest)?;
@@ -78,7 +78,7 @@ pub fn fields(alloc: Global, tokens: &[Token]) -> Parsed<'_, Fields>
 
 /// Fields with semicolons between.
 fn all_fields(alloc: Global, tokens: &[Token]) -> Parsed<'_, Vec<Fields>>
-    ensures { Gives (λ x. (map fields_seen x.0.items, tokens_seen x.1.now)) result (several_at (further CloseBrace) fields_at [] (tokens_seen tokens.now)) }
+    ensures { Gives (all_read_as fields_seen) result (several_at (further CloseBrace) fields_at [] (tokens_seen tokens.now)) }
 {
     let mut found = Vec::new(alloc);
     let (first, mut rest) = fields(alloc, tokens)?;
@@ -94,7 +94,7 @@ fn all_fields(alloc: Global, tokens: &[Token]) -> Parsed<'_, Vec<Fields>>
 /// What stands after `enum`.
 #[tactic(auto, unfolding(lus_spelling::specs::ReadingDeclarations::enumeration_at))]
 fn enumeration(alloc: Global, tokens: &[Token]) -> Parsed<'_, Definition>
-    ensures { Gives (λ x. (definition_seen x.0, tokens_seen x.1.now)) result (enumeration_at (tokens_seen tokens.now)) }
+    ensures { Gives (read_as definition_seen) result (enumeration_at (tokens_seen tokens.now)) }
 {
     let rest = expect_symbol(Symbol::OpenBrace, tokens)?;
     let (names, rest) = names(alloc, rest)?;
@@ -105,7 +105,7 @@ fn enumeration(alloc: Global, tokens: &[Token]) -> Parsed<'_, Definition>
 /// What may stand after `struct`.
 #[tactic(auto, unfolding(lus_spelling::specs::ReadingDeclarations::structure_at))]
 fn structure(alloc: Global, tokens: &[Token]) -> Parsed<'_, Definition>
-    ensures { Gives (λ x. (definition_seen x.0, tokens_seen x.1.now)) result (structure_at (tokens_seen tokens.now)) }
+    ensures { Gives (read_as definition_seen) result (structure_at (tokens_seen tokens.now)) }
 {
     let rest = expect_symbol(Symbol::OpenBrace, tokens)?;
     let (fields, rest) = all_fields(alloc, rest)?;
@@ -116,7 +116,7 @@ fn structure(alloc: Global, tokens: &[Token]) -> Parsed<'_, Definition>
 /// What a type's name stands for.
 #[tactic(auto, unfolding(lus_spelling::specs::ReadingDeclarations::definition_at))]
 fn definition(alloc: Global, tokens: &[Token]) -> Parsed<'_, Definition>
-    ensures { Gives (λ x. (definition_seen x.0, tokens_seen x.1.now)) result (definition_at (tokens_seen tokens.now)) }
+    ensures { Gives (read_as definition_seen) result (definition_at (tokens_seen tokens.now)) }
 {
     if let Some((_, rest)) = word(Word::Enum, tokens) {
         return enumeration(alloc, rest);
@@ -133,7 +133,7 @@ fn definition(alloc: Global, tokens: &[Token]) -> Parsed<'_, Definition>
 
 #[tactic(auto, unfolding(lus_spelling::specs::ReadingDeclarations::type_at))]
 fn type_declaration(alloc: Global, tokens: &[Token]) -> Parsed<'_, TypeDeclaration>
-    ensures { Gives (λ x. (type_seen x.0, tokens_seen x.1.now)) result (type_at (tokens_seen tokens.now)) }
+    ensures { Gives (read_as type_seen) result (type_at (tokens_seen tokens.now)) }
 {
     let (name, rest) = identifier(alloc, tokens)?;
     let rest = expect_symbol(Symbol::Equal, rest)?;
@@ -148,7 +148,7 @@ pub fn type_declarations(
     mut found: Vec<TypeDeclaration>,
     tokens: &[Token],
 ) -> Parsed<'_, Vec<TypeDeclaration>>
-    ensures { Gives (λ x. (map type_seen x.0.items, tokens_seen x.1.now)) result (several_at at_name type_at (map type_seen found.items) (tokens_seen tokens.now)) }
+    ensures { Gives (all_read_as type_seen) result (several_at at_name type_at (map type_seen found.items) (tokens_seen tokens.now)) }
 {
     let (first, mut rest) = type_declaration(alloc, tokens)?;
     found.push(first)?;

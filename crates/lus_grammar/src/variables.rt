@@ -3,7 +3,7 @@
 ghost use Rattle.std.specs.Prelude.{[], map, option_map};
 ghost use Rattle.lus_syntax.specs.declared.token.Symbol.TheVariants.{Close};
 ghost use Rattle.lus_syntax.specs.View.{tokens_seen, test_seen, group_seen};
-ghost use Rattle.lus_grammar.specs.Answers.{Gives};
+ghost use Rattle.lus_grammar.specs.Answers.{Gives, read_as, all_read_as};
 ghost use Rattle.lus_spelling.specs.ReadingDeclarations.{several_at, further, at_name, clock_at, group_at, variables_at, inputs_at, outputs_at, local_at, locals_at};
 
 use crate::fault::Parsed;
@@ -31,7 +31,7 @@ fn clock(alloc: Global, tokens: &[Token]) -> Parsed<'_, Option<Test>>
 /// Variables of one type on one clock.
 #[tactic(auto, unfolding(lus_spelling::specs::ReadingDeclarations::group_at))]
 fn group(alloc: Global, tokens: &[Token]) -> Parsed<'_, Group>
-    ensures { Gives (λ x. (group_seen x.0, tokens_seen x.1.now)) result (group_at (tokens_seen tokens.now)) }
+    ensures { Gives (read_as group_seen) result (group_at (tokens_seen tokens.now)) }
 {
     let (Fields { names, type_name }, rest) = fields(alloc, tokens)?;
     let (test, rest) = clock(alloc, rest)?;
@@ -45,7 +45,7 @@ fn group(alloc: Global, tokens: &[Token]) -> Parsed<'_, Group>
 
 /// Groups with semicolons between.
 fn groups(alloc: Global, tokens: &[Token]) -> Parsed<'_, Vec<Group>>
-    ensures { Gives (λ x. (map group_seen x.0.items, tokens_seen x.1.now)) result (several_at (further Close) group_at [] (tokens_seen tokens.now)) }
+    ensures { Gives (all_read_as group_seen) result (several_at (further Close) group_at [] (tokens_seen tokens.now)) }
 {
     let mut found = Vec::new(alloc);
     let (first, mut rest) = group(alloc, tokens)?;
@@ -61,7 +61,7 @@ fn groups(alloc: Global, tokens: &[Token]) -> Parsed<'_, Vec<Group>>
 /// Groups, and a last semicolon that may stand.
 #[tactic(auto, unfolding(lus_spelling::specs::ReadingDeclarations::variables_at))]
 fn variables(alloc: Global, tokens: &[Token]) -> Parsed<'_, Vec<Group>>
-    ensures { Gives (λ x. (map group_seen x.0.items, tokens_seen x.1.now)) result (variables_at (tokens_seen tokens.now)) }
+    ensures { Gives (all_read_as group_seen) result (variables_at (tokens_seen tokens.now)) }
 {
     let (groups, rest) = groups(alloc, tokens)?;
     Ok((groups, skip_symbol(Symbol::Semicolon, rest)))
@@ -70,7 +70,7 @@ fn variables(alloc: Global, tokens: &[Token]) -> Parsed<'_, Vec<Group>>
 /// The inputs of a node, in parentheses.
 #[tactic(auto, unfolding(lus_spelling::specs::ReadingDeclarations::inputs_at))]
 pub fn inputs(alloc: Global, tokens: &[Token]) -> Parsed<'_, Vec<Group>>
-    ensures { Gives (λ x. (map group_seen x.0.items, tokens_seen x.1.now)) result (inputs_at (tokens_seen tokens.now)) }
+    ensures { Gives (all_read_as group_seen) result (inputs_at (tokens_seen tokens.now)) }
 {
     let rest = expect_symbol(Symbol::Open, tokens)?;
     if let Some((_, rest)) = symbol(Symbol::Close, rest) {
@@ -84,7 +84,7 @@ pub fn inputs(alloc: Global, tokens: &[Token]) -> Parsed<'_, Vec<Group>>
 /// `returns`, the outputs of a node in parentheses, and a semicolon that may stand.
 #[tactic(auto, unfolding(lus_spelling::specs::ReadingDeclarations::outputs_at))]
 pub fn outputs(alloc: Global, tokens: &[Token]) -> Parsed<'_, Vec<Group>>
-    ensures { Gives (λ x. (map group_seen x.0.items, tokens_seen x.1.now)) result (outputs_at (tokens_seen tokens.now)) }
+    ensures { Gives (all_read_as group_seen) result (outputs_at (tokens_seen tokens.now)) }
 {
     let rest = expect_word(Word::Returns, tokens)?;
     let rest = expect_symbol(Symbol::Open, rest)?;
@@ -96,7 +96,7 @@ pub fn outputs(alloc: Global, tokens: &[Token]) -> Parsed<'_, Vec<Group>>
 /// A group and its semicolon.
 #[tactic(auto, unfolding(lus_spelling::specs::ReadingDeclarations::local_at))]
 fn local(alloc: Global, tokens: &[Token]) -> Parsed<'_, Group>
-    ensures { Gives (λ x. (group_seen x.0, tokens_seen x.1.now)) result (local_at (tokens_seen tokens.now)) }
+    ensures { Gives (read_as group_seen) result (local_at (tokens_seen tokens.now)) }
 {
     let (group, rest) = group(alloc, tokens)?;
     let rest = expect_symbol(Symbol::Semicolon, rest)?;
@@ -105,7 +105,7 @@ fn local(alloc: Global, tokens: &[Token]) -> Parsed<'_, Group>
 
 /// What stands after `var`, behind the groups that were found before.
 fn section(alloc: Global, mut found: Vec<Group>, tokens: &[Token]) -> Parsed<'_, Vec<Group>>
-    ensures { Gives (λ x. (map group_seen x.0.items, tokens_seen x.1.now)) result (several_at at_name local_at (map group_seen found.items) (tokens_seen tokens.now)) }
+    ensures { Gives (all_read_as group_seen) result (several_at at_name local_at (map group_seen found.items) (tokens_seen tokens.now)) }
 {
     let (first, mut rest) = local(alloc, tokens)?;
     found.push(first)?;
@@ -119,7 +119,7 @@ fn section(alloc: Global, mut found: Vec<Group>, tokens: &[Token]) -> Parsed<'_,
 
 /// The locals of a node, in any number of sections.
 pub fn locals(alloc: Global, tokens: &[Token]) -> Parsed<'_, Vec<Group>>
-    ensures { Gives (λ x. (map group_seen x.0.items, tokens_seen x.1.now)) result (locals_at (tokens_seen tokens.now)) }
+    ensures { Gives (all_read_as group_seen) result (locals_at (tokens_seen tokens.now)) }
 {
     let mut found = Vec::new(alloc);
     let mut rest = tokens;

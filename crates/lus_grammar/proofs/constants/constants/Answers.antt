@@ -1,3 +1,4 @@
+-- The loop over constants reads what the definition reads.
 use Rattle.std.proofs.Common.{map}
 use Rattle.std.proofs.lemmas.Result.{err_from_is_err_and}
 use Rattle.lus_syntax.specs.View.{tokens_seen, constant_seen}

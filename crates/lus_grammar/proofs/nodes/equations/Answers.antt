@@ -1,3 +1,4 @@
+-- The loop over equations reads what the definition reads.
 use Rattle.std.proofs.Common.{[], map, ap}
 use Rattle.std.proofs.lemmas.Result.{err_from_is_err_and}
 use Rattle.lus_syntax.specs.Limits.{most_depth}

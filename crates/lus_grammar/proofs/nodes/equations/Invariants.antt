@@ -1,3 +1,4 @@
+-- What the loop over equations keeps, and what falls at each turn.
 use Rattle.std.proofs.Common.{length, map, []}
 use Rattle.lus_syntax.specs.Limits.{most_depth}
 use Rattle.lus_syntax.specs.View.{tokens_seen, equation_seen}

@@ -1,3 +1,4 @@
+-- The loop over fields after an expression reads what the definition reads.
 use Rattle.std.proofs.Common.{sym, refl, arith}
 use Rattle.std.proofs.lemmas.Result.{err_from_is_err_and}
 use Rattle.lus_syntax.specs.View.{tokens_seen, name_seen}

@@ -1,3 +1,4 @@
+-- What the loop over fields after an expression keeps, and what falls at each turn.
 use Rattle.std.proofs.Common.{suc, ◌+◌, ◌-◌, ◌≤◌}
 use Rattle.lus_spelling.specs.Reading.{found, dots_at}
 use Rattle.lus_syntax.specs.View.{tokens_seen, expression_seen}

@@ -1,3 +1,4 @@
+-- What is read is spelt, and a refusal has its reason.
 use Rattle.lus_syntax.specs.Limits.{most_depth}
 use Rattle.lus_syntax.specs.View.{tokens_seen}
 use Rattle.lus_spelling.proofs.SoundDeclarations.{program_sound}

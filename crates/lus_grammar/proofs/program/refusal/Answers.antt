@@ -1,3 +1,4 @@
+-- Each refusal has its shape.
 use Rattle.std.proofs.Common.{◌≢◌}
 use Rattle.lus_syntax.specs.declared.refusal.RefusalNumber.TheVariants as numbers
 use Rattle.lus_syntax.proofs.Shapes.{shaped_at, shaped_nowhere}

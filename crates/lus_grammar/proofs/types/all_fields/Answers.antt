@@ -1,3 +1,4 @@
+-- The loop over groups of fields reads what the definition reads.
 use Rattle.std.proofs.Common.{[], sym}
 use Rattle.std.proofs.lemmas.Result.{err_from_is_err_and}
 use Rattle.lus_syntax.specs.declared.token.Symbol.TheVariants as symbols

@@ -1,3 +1,4 @@
+-- What the loop over groups of fields keeps, and what falls at each turn.
 use Rattle.std.proofs.Common.{length, map, []}
 use Rattle.lus_syntax.specs.declared.token.Symbol.TheVariants as symbols
 use Rattle.lus_syntax.specs.View.{tokens_seen, fields_seen}

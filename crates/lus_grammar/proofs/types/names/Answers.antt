@@ -1,3 +1,4 @@
+-- The loop over names reads what the definition reads.
 use Rattle.std.proofs.Common.{[], sym, ap}
 use Rattle.std.proofs.lemmas.Result.{err_from_is_err_and}
 use Rattle.lus_syntax.specs.declared.token.Symbol.TheVariants as symbols

@@ -1,3 +1,4 @@
+-- The loop over types reads what the definition reads.
 use Rattle.std.proofs.Common.{map}
 use Rattle.std.proofs.lemmas.Result.{err_from_is_err_and}
 use Rattle.lus_syntax.specs.View.{tokens_seen, type_seen}

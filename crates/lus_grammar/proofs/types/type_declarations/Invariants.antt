@@ -1,3 +1,4 @@
+-- What the loop over types keeps, and what falls at each turn.
 use Rattle.std.proofs.Common.{length, map}
 use Rattle.lus_syntax.specs.View.{tokens_seen, type_seen}
 use Rattle.lus_spelling.specs.ReadingDeclarations.{at_name, several_at, type_at}

@@ -1,3 +1,4 @@
+-- What the loop over sections of locals keeps, and what falls at each turn.
 use Rattle.std.proofs.Common.{length, map}
 use Rattle.lus_syntax.specs.declared.token.Word.TheVariants as words
 use Rattle.lus_syntax.specs.Lexemes.{Keyword}
