@@ -36,7 +36,9 @@ fn outputs_are_on(
     targets: &[u32],
     base: Option<NewestTest>,
 ) -> bool
-    ensures { result ≡ outputs_fit (node_of node.now) (node_at (program_seen program.now) called) (names_in (actuals (operands_of arguments.now) targets.now)) (clock_in base) 0 targets.now }
+    ensures { let g = node_at (program_seen program.now) called in
+        let names = names_in (actuals (operands_of arguments.now) targets.now) in
+        result ≡ outputs_fit (node_of node.now) g names (clock_in base) 0 targets.now }
 {
     let named = names_tested(formals_at(program, called), arguments, targets);
     let variables = variables_at(program, called);

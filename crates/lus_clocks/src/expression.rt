@@ -99,7 +99,9 @@ fn is_output(
     base: Option<NewestTest>,
     clock: Option<NewestTest>,
 ) -> bool
-    ensures { result ≡ output_fits (node_of node.now) (node_at (program_seen program.now) called) (names_in (actuals (operands_of arguments.now) [])) 0 (clock_in base) (clock_in clock) }
+    ensures { let g = node_at (program_seen program.now) called in
+        let names = names_in (actuals (operands_of arguments.now) []) in
+        result ≡ output_fits (node_of node.now) g names 0 (clock_in base) (clock_in clock) }
 {
     let first = inputs_at(program, called) as usize;
     follows_base(
@@ -157,7 +159,9 @@ pub fn check_arguments(
     arguments: &[Expr],
     base: Option<NewestTest>,
 ) -> Result<(), Place>
-    ensures { is_ok result ≡ arguments_fit (program_seen program.now) (node_of node.now) (operands_of arguments.now) (node_at (program_seen program.now) called) (names_in (actuals (operands_of arguments.now) [])) (clock_in base) 0 }
+    ensures { let p = program_seen program.now in
+        let args = operands_of arguments.now in
+        is_ok result ≡ arguments_fit p (node_of node.now) args (node_at p called) (names_in (actuals args [])) (clock_in base) 0 }
 {
     for (formal, argument) in arguments.iter().enumerate() {
         let clock = argument_clock(variables_at(program, called), formal, arguments, base);

@@ -17,7 +17,8 @@ use std::alloc::Global;
 /// nodes of the program.
 fn check_node(alloc: Global, node: &Node) -> Result<(), Refusal>
     ensures ok { OnOk result ((p : PlainProgram) → HasFlags p (node_of node.now)) }
-    ensures err { IfErr result (λ refusal. refusal.number ≢ RefusalNumber.Memory → (p : PlainProgram) → HasFlags p (node_of node.now) → ⊥) }
+    ensures err { IfErr result (λ refusal. refusal.number ≢ RefusalNumber.Memory →
+        (p : PlainProgram) → HasFlags p (node_of node.now) → ⊥) }
     ensures number { IfErr result (λ refusal. refusal.number ≢ RefusalNumber.Memory → refusal.number ≡ RefusalNumber.Nil) }
     ensures shaped { IfErr result HasShape }
 {

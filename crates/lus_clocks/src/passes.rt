@@ -120,7 +120,8 @@ impl Initialised {
 pub fn check_nil(alloc: Global, clocked: Clocked) -> Result<Initialised, Refusal>
     ensures same { IfOk result (λ initialised. initialised ≡ clocked) }
     ensures ok { OnOk result (IsFlagged (program_seen clocked.program)) }
-    ensures refused { IfErr result (λ e. e.number ≢ numbers.Memory → (IsFlagged (program_seen clocked.program) → ⊥) × (e.number ≡ numbers.Nil)) }
+    ensures refused { IfErr result (λ e. e.number ≢ numbers.Memory →
+        (IsFlagged (program_seen clocked.program) → ⊥) × (e.number ≡ numbers.Nil)) }
     ensures shaped { IfErr result HasShape }
 {
     match flags_fit(alloc, clocked.program()) {

@@ -1,3 +1,4 @@
+-- A normal form's equations are simple.
 use Rattle.lus_normal_form.proofs.Simple.{normal_is_simple}
 use Rattle.lus_normal_form.proofs.normal_form_is_simple.Goals as goal
 

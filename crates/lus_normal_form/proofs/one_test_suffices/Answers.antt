@@ -1,3 +1,4 @@
+-- The newest test of a clock tells the clock.
 use Rattle.lus_normal_form.proofs.OneTest.{one_test_suffices}
 use Rattle.lus_normal_form.proofs.one_test_suffices.Goals as goal
 

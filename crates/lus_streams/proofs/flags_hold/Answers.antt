@@ -1,3 +1,4 @@
+-- Flags hold in worlds and in those that they call.
 use Rattle.lus_streams.proofs.FlagLaw.{flags_hold_in_worlds}
 use Rattle.lus_streams.proofs.flags_hold.Goals as goal
 

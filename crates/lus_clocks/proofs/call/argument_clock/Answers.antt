@@ -1,3 +1,4 @@
+-- A formal whose test has no name stands for is left; the rest leads where the whole does.
 use Rattle.std.proofs.Common.{◌≡◌, ◌+◌, ◌-◌, ◌<◌, suc, [], List, Some, map, length, sym, ap, ◌∙◌, arith}
 use Rattle.std.proofs.Math.ListN.{length-map}
 use Rattle.lus_values.specs.Lists.{item}

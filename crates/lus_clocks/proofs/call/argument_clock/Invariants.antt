@@ -1,3 +1,4 @@
+-- What is left of the formal's clock gives the argument the clock that the whole gives.
 use Rattle.std.proofs.Common.{◌≡◌, ◌-◌, [], map, length}
 use Rattle.lus_program.specs.View.{variable_of, operands_of}
 use Rattle.lus_streams.specs.Clocks.{chain}

@@ -1,3 +1,4 @@
+-- What is left of the output's clock leads from what is left of the variable's to the base where the whole does.
 use Rattle.std.proofs.Common.{◌≡◌, ◌-◌, map, length}
 use Rattle.lus_program.specs.View.{variable_of, node_of, operands_of}
 use Rattle.lus_streams.specs.Clocks.{chain}

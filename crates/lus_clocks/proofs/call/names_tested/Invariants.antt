@@ -1,3 +1,4 @@
+-- The rest is named where the whole is.
 use Rattle.std.proofs.Common.{◌≡◌, map, drop}
 use Rattle.lus_program.specs.View.{variable_of, operands_of}
 use Rattle.lus_streams.specs.OnClock.{actuals}

@@ -1,3 +1,4 @@
+-- The rest is lawful where the whole is.
 use Rattle.std.proofs.Common.{◌≡◌, drop}
 use Rattle.lus_clocks.specs.Fitting.{all_declared}
 use Rattle.lus_clocks.proofs.checking.check_all_declared.Given as goal

@@ -1,3 +1,4 @@
+-- The test decides: a program that passes is on clocks, and one that fails isn't.
 use Rattle.std.proofs.Common.{is_ok, sym, ap, ◌∙◌}
 use Rattle.lus_clocks.proofs.Whole.{on_clocks, off_clocks}
 use Rattle.lus_clocks.proofs.checking.clocks_fit.Goals as goal

@@ -1,3 +1,4 @@
+-- The tests that are met and those that are left are all.
 use Rattle.std.proofs.Common.{◌≡◌, ◌+◌, ◌-◌, ◌≤◌, map, length}
 use Rattle.lus_program.specs.View.{variable_of}
 use Rattle.lus_streams.specs.Clocks.{chain}

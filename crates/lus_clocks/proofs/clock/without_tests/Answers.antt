@@ -1,3 +1,4 @@
+-- One test fewer, and one fewer to leave out.
 use Rattle.std.proofs.Common.{◌≡◌, ◌+◌, ◌-◌, suc, sym, ap, ◌∙◌, arith}
 use Rattle.lus_program.specs.View.{node_of}
 use Rattle.lus_clocks.specs.Fitting.{without_tests as without_newest}

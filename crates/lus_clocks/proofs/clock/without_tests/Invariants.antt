@@ -1,3 +1,4 @@
+-- The rest without what is still to leave out is the clock without all.
 use Rattle.std.proofs.Common.{◌≡◌, ◌-◌}
 use Rattle.lus_program.specs.View.{node_of}
 use Rattle.lus_clocks.specs.Fitting.{without_tests as without_newest}

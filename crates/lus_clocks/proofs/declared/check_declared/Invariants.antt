@@ -1,3 +1,4 @@
+-- The rest is lawful where the whole is.
 use Rattle.std.proofs.Common.{◌≡◌, drop, map}
 use Rattle.lus_program.specs.View.{node_of, variable_of}
 use Rattle.lus_clocks.specs.Fitting.{are_declared}

@@ -1,3 +1,4 @@
+-- The right side, where it is a call, as contracts see it.
 use Rattle.std.proofs.Common.{◌≡◌, ◌∙◌, ap, arith}
 use Rattle.std.proofs.lemmas.Grind.{common_steps}
 use Rattle.lus_program.specs.View.{expression_of}

@@ -1,3 +1,4 @@
+-- The rest is on clocks where the whole is.
 use Rattle.std.proofs.Common.{◌≡◌, drop}
 use Rattle.lus_program.specs.View.{node_of, program_seen}
 use Rattle.lus_clocks.specs.Fitting.{equations_fit}

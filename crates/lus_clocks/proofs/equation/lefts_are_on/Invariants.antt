@@ -1,3 +1,4 @@
+-- The rest is on the clock where the whole is.
 use Rattle.std.proofs.Common.{◌≡◌, drop}
 use Rattle.lus_program.specs.View.{node_of}
 use Rattle.lus_clocks.specs.Fitting.{lefts_fit}

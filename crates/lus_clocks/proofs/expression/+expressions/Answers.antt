@@ -1,3 +1,4 @@
+-- Operations, merges and calls, as contracts see their operands.
 use Rattle.std.proofs.Common.{rules, ◌≡◌, ◌∙◌, ap, arith}
 use Rattle.std.proofs.lemmas.Grind.{common_steps}
 use Rattle.lus_program.specs.View.{expression_of}

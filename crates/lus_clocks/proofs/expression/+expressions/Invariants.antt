@@ -1,3 +1,4 @@
+-- The rest is on clocks where the whole is.
 use Rattle.std.proofs.Common.{◌≡◌, [], drop}
 use Rattle.lus_program.specs.Programs.{node_at}
 use Rattle.lus_program.specs.View.{node_of, operands_of, program_seen}

@@ -1,3 +1,4 @@
+-- An operation, as contracts see its operands.
 use Rattle.std.proofs.Common.{rules, ◌≡◌, ◌∙◌, ap}
 use Rattle.lus_program.specs.View.{expression_of}
 use Rattle.lus_program.proofs.OperandViews.{seen_operate}

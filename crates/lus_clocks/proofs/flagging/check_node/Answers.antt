@@ -1,3 +1,4 @@
+-- The least flags meet what is required where any do.
 use Rattle.std.proofs.Common.{◌≡◌, true, false, is_ok, sym, ap, ◌∙◌}
 use Rattle.lus_program.specs.View.{node_of}
 use Rattle.lus_clocks.specs.Raising.{flags_in, all_required}

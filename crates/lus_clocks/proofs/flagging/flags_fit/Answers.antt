@@ -1,3 +1,4 @@
+-- One node more has flags; one without them is without in the program.
 use Rattle.std.proofs.Common.{rules, ◌≡◌, ◌≢◌, ◌<◌, ◌≤◌, length, map, sym, ap, ◌∙◌, subst}
 use Rattle.std.proofs.lemmas.List.{take_all}
 use Rattle.lus_values.specs.Lists.{item, Each}

@@ -1,3 +1,4 @@
+-- Each node before this one has flags.
 use Rattle.std.proofs.Common.{map, take}
 use Rattle.lus_values.specs.Lists.{Each}
 use Rattle.lus_program.specs.Programs.{Program}

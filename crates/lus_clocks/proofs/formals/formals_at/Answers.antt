@@ -1,3 +1,4 @@
+-- The formals are the first variables, inputs and outputs.
 use Rattle.std.proofs.Common.{◌+◌, take, ap₂, ◌∙◌}
 use Rattle.lus_program.specs.View.{variable_of}
 use Rattle.lus_clocks.proofs.Lookups.{map-take}

@@ -1,3 +1,4 @@
+-- An argument names where there is one, else a variable on the left.
 use Rattle.std.proofs.Common.{◌≤◌, length, sym, ◌∙◌, arith}
 use Rattle.std.proofs.lemmas.Grind.{common_steps}
 use Rattle.lus_clocks.proofs.Lookups.{names_of_argument, names_of_target}

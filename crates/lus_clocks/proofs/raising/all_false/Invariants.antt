@@ -1,3 +1,4 @@
+-- The flags so far are false.
 use Rattle.lus_clocks.specs.Raising.{AreFalse}
 use Rattle.lus_clocks.proofs.raising.all_false.Given as goal
 

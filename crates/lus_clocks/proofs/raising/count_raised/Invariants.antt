@@ -1,3 +1,4 @@
+-- Those that are counted and those that are left are all.
 use Rattle.std.proofs.Common.{◌≡◌, ◌+◌, ◌≤◌, drop}
 use Rattle.lus_clocks.specs.Raising.{raised_count}
 use Rattle.lus_clocks.proofs.raising.count_raised.Given as goal

@@ -1,3 +1,4 @@
+-- The rest of the variables makes of the table what all make of the first.
 use Rattle.std.proofs.Common.{◌≡◌, drop}
 use Rattle.lus_clocks.specs.Raising.{given}
 use Rattle.lus_clocks.proofs.raising.give.Given as goal

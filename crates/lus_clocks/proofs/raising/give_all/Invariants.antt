@@ -1,3 +1,4 @@
+-- The equations from here on have given their flags, the last first.
 use Rattle.std.proofs.Common.{◌≡◌, ◌≤◌, length, drop}
 use Rattle.lus_clocks.specs.Raising.{flags_in, all_given}
 use Rattle.lus_clocks.proofs.raising.give_all.Given as goal

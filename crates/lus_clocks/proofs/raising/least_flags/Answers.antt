@@ -1,3 +1,4 @@
+-- A round that raises nothing ends at the least flags; any other raises more.
 use Rattle.std.proofs.Common.{◌≡◌, ◌≤◌, ◌∙◌, length, sym, ap, subst, arith}
 use Rattle.std.proofs.Math.ListN.{length-map}
 use Rattle.lus_program.specs.View.{node_of, variable_of}

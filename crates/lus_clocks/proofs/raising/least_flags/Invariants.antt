@@ -1,3 +1,4 @@
+-- The flags rise, each true only where it must be; as many rounds are left as flags are false.
 use Rattle.std.proofs.Common.{◌-◌, length}
 use Rattle.lus_clocks.specs.Raising.{raised_count}
 use Rattle.lus_clocks.proofs.Rising.{IsRising}

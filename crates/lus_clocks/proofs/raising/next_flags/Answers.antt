@@ -1,3 +1,4 @@
+-- What the equations give over false flags are the next.
 use Rattle.std.proofs.Common.{sym, subst}
 use Rattle.lus_clocks.specs.Raising.{IsNext}
 use Rattle.lus_clocks.proofs.Rising.{next_given}

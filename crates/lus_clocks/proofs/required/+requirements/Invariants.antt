@@ -1,3 +1,4 @@
+-- The rest meets its requirements where the whole does.
 use Rattle.std.proofs.Common.{◌≡◌, drop}
 use Rattle.lus_program.specs.View.{operands_of}
 use Rattle.lus_clocks.specs.Raising.{flags_in, all_meet}

@@ -1,3 +1,4 @@
+-- The rest has a flag of 1 where the whole has.
 use Rattle.std.proofs.Common.{◌≡◌, drop}
 use Rattle.lus_program.specs.View.{operands_of}
 use Rattle.lus_streams.specs.Flags.{greatest}

@@ -1,3 +1,4 @@
+-- The rest is false where the whole is.
 use Rattle.std.proofs.Common.{◌≡◌, drop}
 use Rattle.lus_clocks.specs.Raising.{none_raised}
 use Rattle.lus_clocks.proofs.required.check_none_raised.Given as goal

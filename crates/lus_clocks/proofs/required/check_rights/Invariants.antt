@@ -1,3 +1,4 @@
+-- The rest meets its requirements where the whole does.
 use Rattle.std.proofs.Common.{◌≡◌, drop}
 use Rattle.lus_clocks.specs.Raising.{flags_in, rights_meet}
 use Rattle.lus_clocks.proofs.required.check_rights.Given as goal

@@ -1,3 +1,4 @@
+-- The rest tests no variable of flag 1 where the whole does not.
 use Rattle.std.proofs.Common.{◌≡◌, drop, map}
 use Rattle.lus_program.specs.View.{variable_of}
 use Rattle.lus_clocks.specs.Raising.{flags_in, tests_meet}

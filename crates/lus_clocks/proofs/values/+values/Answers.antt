@@ -1,3 +1,4 @@
+-- A structure, as contracts see its fields.
 use Rattle.std.proofs.Common.{rules, ◌≡◌, ◌∙◌, ap}
 use Rattle.lus_values.specs.View.{value_of}
 use Rattle.lus_values.proofs.Views.{struct_fields}

@@ -1,3 +1,4 @@
+-- The rest is without nil where the whole is.
 use Rattle.std.proofs.Common.{◌≡◌, map, drop}
 use Rattle.lus_values.specs.Values.{fields_of}
 use Rattle.lus_values.specs.View.{value_of}
