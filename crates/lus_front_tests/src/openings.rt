@@ -49,6 +49,65 @@ fn deeper_right_sides_pass_a_limit(rt: HostRuntime) -> Result<(), Fail> {
     Ok(())
 }
 
+/// Openings, and then a text.
+fn opened(alloc: Global, count: usize, text: &str) -> Result<String, AllocError> {
+    let mut opened = String::new(alloc);
+    for _ in 0..count {
+        opened.push_str("(")?;
+    }
+    opened.push_str(text)?;
+    Ok(opened)
+}
+
+#[test]
+fn what_spells_nothing_is_not_too_deep(rt: HostRuntime) -> Result<(), Fail> {
+    let alloc = rt.alloc();
+    for (count, text, column) in [
+        (100, "", 136),
+        (100, ")", 136),
+        (100, "= a", 136),
+        (99, "a + ", 139),
+        (99, "a * not b", 139),
+        (99, "- ", 137),
+        (99, "a -> then", 140),
+        (99, "a fby not b", 141),
+        (99, "a when 1", 142),
+        (99, "a.1", 137),
+    ] {
+        assert_eq!(rt;
+            right_refused(alloc, &opened(alloc, count, text)?)?,
+            Some((RefusalNumber::Syntax, 1, column)),
+            "at {text}"
+        );
+    }
+    Ok(())
+}
+
+#[test]
+fn operands_that_begin_too_deep_pass_a_limit(rt: HostRuntime) -> Result<(), Fail> {
+    let alloc = rt.alloc();
+    for (count, text, column) in [
+        (100, "a", 136),
+        (100, "(", 136),
+        (100, "- a", 136),
+        (100, "if c", 136),
+        (99, "a + b", 139),
+        (99, "a and not b", 141),
+        (99, "not a", 139),
+        (99, "a -> if c", 140),
+        (99, "a fby b", 141),
+        (99, "a when c", 142),
+        (99, "a.x", 136),
+    ] {
+        assert_eq!(rt;
+            right_refused(alloc, &opened(alloc, count, text)?)?,
+            Some((RefusalNumber::Limit, 1, column)),
+            "at {text}"
+        );
+    }
+    Ok(())
+}
+
 const START: Place = Place {
     byte: 0,
     line: 1,
