@@ -45,7 +45,8 @@ ill_formed_is tree numbers.Cycle fails w = fails
 ill_formed_is tree numbers.Nil fails w = fails
 ill_formed_is tree numbers.Recursion fails w = fails.2 w.loopless
 ill_formed_is tree numbers.Limit (inl not_counted) w = not_counted w.counted
-ill_formed_is tree numbers.Limit (inr fails) w = fails.3 w.bounded
+ill_formed_is tree numbers.Limit (inr (inl fails)) w = fails.3 w.bounded
+ill_formed_is tree numbers.Limit (inr (inr fails)) w = fails.5 w.parts
 ill_formed_is tree numbers.Memory fails w = fails
 
 no_tree_is : (ts : List Lexeme) (n : RefusalNumber) → n ≢ numbers.Memory → RefusedRightly 100 ts n → (t : Tree) → SpellsProgram t ts → tree_depth t ≤ 100 → ⊥

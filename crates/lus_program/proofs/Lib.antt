@@ -1,2 +1,3 @@
 pub mod OperandViews
 pub mod Lefts
+pub mod Parts

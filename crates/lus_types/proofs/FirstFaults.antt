@@ -1,17 +1,16 @@
 -- What a pass that fails says of the whole source, where those before it held.
-use Rattle.std.proofs.Common.{rules, IsTrue, ◌≡◌, ◌≢◌, Result, Ok, Err, inr, true, false}
-use Rattle.std.specs.Prelude.{IfErr, OnOk}
+use Rattle.std.proofs.Common.{rules, IsTrue, ◌≡◌, ◌≢◌, Result, Ok, Err, inl, inr, true, false}
+use Rattle.std.specs.Prelude.{OnOk}
 use Rattle.std.specs.List.{list_all}
 use Rattle.lus_syntax.specs.declared.refusal.RefusalNumber.{RefusalNumber}
 use Rattle.lus_syntax.specs.declared.refusal.RefusalNumber.TheVariants as numbers
-use Rattle.lus_syntax.specs.declared.refusal.Refusal.{Refusal}
 use Rattle.lus_syntax.specs.Trees.{Tree}
 use Rattle.lus_values.specs.Lists.{Each}
 use Rattle.lus_meaning.specs.Named.{Named}
 use Rattle.lus_meaning.specs.Loopless.{Loopless}
 use Rattle.lus_meaning.specs.Sized.{Bounded, Counted}
 use Rattle.lus_meaning.specs.WellTyped.{IsTyped, NodeTyped, constant_typed}
-use Rattle.lus_meaning.specs.Refusals.{FirstFails, WellFormed}
+use Rattle.lus_meaning.specs.Refusals.{FirstFails, HasFewParts}
 
 pub constants_fail : (p : Tree) → list_all (constant_typed p) p.constants ≡ false → IsTyped p → ⊥
 constants_fail p failed typed = let held : list_all (constant_typed p) p.constants ≡ true = typed.constants in cc
@@ -24,15 +23,10 @@ pub recursion_fails : (p : Tree) (n : RefusalNumber) → Counted p → Named p �
 recursion_fails p n counted named fails other = let wrong = fails other in rw wrong.1 (counted, named, wrong.0)
 
 pub sizes_fail : (p : Tree) (n : RefusalNumber) → Counted p → Named p → Loopless p → (n ≢ numbers.Memory → (Bounded p → ⊥) × (n ≡ numbers.Limit)) → n ≢ numbers.Memory → FirstFails p n
-sizes_fail p n counted named loopless fails other = let wrong = fails other in rw wrong.1 (inr (counted, named, loopless, wrong.0))
+sizes_fail p n counted named loopless fails other = let wrong = fails other in rw wrong.1 (inr (inl (counted, named, loopless, wrong.0)))
 
-types_fail : (p : Tree) (n : RefusalNumber) → Counted p → Named p → Loopless p → Bounded p → (n ≢ numbers.Memory → (IsTyped p → ⊥) × (n ≡ numbers.Type)) → n ≢ numbers.Memory → FirstFails p n
+pub types_fail : (p : Tree) (n : RefusalNumber) → Counted p → Named p → Loopless p → Bounded p → (n ≢ numbers.Memory → (IsTyped p → ⊥) × (n ≡ numbers.Type)) → n ≢ numbers.Memory → FirstFails p n
 types_fail p n counted named loopless bounded fails other = let wrong = fails other in rw wrong.1 (counted, named, loopless, bounded, wrong.0)
 
-pub types_refuse : {X : Type 0} (p : Tree) (r : Result X Refusal) → Counted p → Named p → Loopless p → Bounded p → IfErr r (λ e. e.number ≢ numbers.Memory → (IsTyped p → ⊥) × (e.number ≡ numbers.Type)) → IfErr r (λ e. e.number ≢ numbers.Memory → FirstFails p e.number)
-types_refuse p (Ok x) counted named loopless bounded refused = refused
-types_refuse p (Err e) counted named loopless bounded refused = types_fail p e.number counted named loopless bounded refused
-
-pub types_hold : {X E : Type 0} (p : Tree) (r : Result X E) → Counted p → Named p → Loopless p → Bounded p → OnOk r (IsTyped p) → OnOk r (WellFormed p)
-types_hold p (Ok x) counted named loopless bounded typed = record { counted = counted; named = named; loopless = loopless; bounded = bounded; typed = typed }
-types_hold p (Err e) counted named loopless bounded typed = typed
+pub parts_fail : (p : Tree) (n : RefusalNumber) → Counted p → Named p → Loopless p → Bounded p → IsTyped p → (HasFewParts p → ⊥) → n ≡ numbers.Limit → FirstFails p n
+parts_fail p n counted named loopless bounded typed many is = rw is (inr (inr (counted, named, loopless, bounded, typed, many)))

@@ -3,3 +3,4 @@ pub mod Numbering
 pub mod Groups
 pub mod NodesMeant
 pub mod FirstFaults
+pub mod PartSums

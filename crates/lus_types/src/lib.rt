@@ -3,7 +3,9 @@
 
 mod constants;
 mod nodes;
+mod parts;
 mod passes;
 mod typing;
 
+pub use lus_meaning::Typed;
 pub use typing::check_types;

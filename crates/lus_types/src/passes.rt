@@ -1,11 +1,13 @@
 //! The passes over the declarations of a source, each with the number that it refuses by.
 
-ghost use Rattle.std.specs.Prelude.{◌≡◌, ◌≢◌, IfErr, IfOk, OnOk, [], map};
+ghost use Rattle.std.specs.Prelude.{◌≡◌, ◌≢◌, ◌≤◌, IfErr, IfOk, OnOk, [], map};
 ghost use Rattle.lus_syntax.specs.declared.refusal.RefusalNumber.TheVariants as numbers;
+ghost use Rattle.lus_syntax.specs.Limits.{most_parts};
 ghost use Rattle.lus_syntax.specs.Refusals.{HasShape};
 ghost use Rattle.lus_syntax.specs.View.{tree_seen};
 ghost use Rattle.lus_graph.specs.Ways.{IsOrder};
 ghost use Rattle.lus_values.specs.Lists.{Each};
+ghost use Rattle.lus_program.specs.Parts.{program_parts};
 ghost use Rattle.lus_program.specs.View.{node_of, program_seen};
 ghost use Rattle.lus_meaning.specs.Named.{Named, known};
 ghost use Rattle.lus_meaning.specs.Loopless.{Loopless, node_uses as calls_of_nodes, type_uses as uses_of_types};
@@ -19,6 +21,7 @@ ghost use Rattle.lus_types.specs.Numbers.{number_of};
 
 use crate::constants::check_constants;
 use crate::nodes::node;
+use crate::parts::check_parts;
 use lus_limits::{Orders, check_counts, check_recursion, check_sizes, kinds_of_types};
 use lus_meaning::{Fault, Scope};
 use lus_names::{Names, check_names};
@@ -106,6 +109,18 @@ pub fn types(alloc: Global, tree: &Tree, names: &Names, orders: &Orders) -> Resu
     match program(alloc, tree, names, &orders.types) {
         Ok(program) => Ok(program),
         Err(fault) => Err(refusal(RefusalNumber::Type, fault)),
+    }
+}
+
+/// Checks the parts of a program.
+pub fn parts(program: &Program) -> Result<(), Refusal>
+    ensures ok { OnOk result (program_parts (program_seen program.now) ≤ most_parts) }
+    ensures refused { IfErr result (λ e. (program_parts (program_seen program.now) ≤ most_parts → ⊥) × (e.number ≡ numbers.Limit)) }
+    ensures shaped { IfErr result HasShape }
+{
+    match check_parts(program) {
+        Ok(_) => Ok(()),
+        Err(place) => Err(refusal(RefusalNumber::Limit, Fault::At(place))),
     }
 }
 

@@ -13,7 +13,7 @@ ghost use Rattle.lus_meaning.specs.Meaning.{program_of};
 ghost use Rattle.lus_meaning.specs.Refusals.{FirstFails, WellFormed};
 ghost use Rattle.lus_names.specs.NameView.{known_seen};
 
-use crate::passes::{counts, names, recursion, sizes, types};
+use crate::passes::{counts, names, parts, recursion, sizes, types};
 use lus_limits::Orders;
 use lus_meaning::Typed;
 use lus_names::Names;
@@ -21,9 +21,9 @@ use lus_program::Program;
 use lus_syntax::{Refusal, Tree};
 use std::alloc::Global;
 
-/// Checks a source against the limits of its declarations, then its names, recursion, the limits of sizes, and types, each
-/// over the whole source; gives it back with the program that it means. Refuses by the number of the first of these that
-/// fails (E10, E4, E9, E10, E5) at a place of a fault of it, or for want of memory (E11).
+/// Checks a source against the limits of its declarations, then its names, recursion, the limits of sizes, types, and the
+/// limit of parts, each over the whole source; gives it back with the program that it means. Refuses by the number of the
+/// first of these that fails (E10, E4, E9, E10, E5, E10) at a place of a fault of it, or for want of memory (E11).
 pub fn check_types(alloc: Global, tree: Tree) -> Result<Typed, Refusal>
     ensures same { IfOk result (λ typed. typed.tree ≡ tree) }
     ensures ok { OnOk result (WellFormed (tree_seen tree)) }
@@ -61,7 +61,7 @@ fn loopless(alloc: Global, tree: &Tree, names: &Names) -> Result<Program, Refusa
     bounded(alloc, tree, names, &orders)
 }
 
-/// The program that a source without recursion means, where it is within the limits of sizes and well typed.
+/// The program that a source without recursion means, where it is within the limits of sizes, well typed, and of few parts.
 fn bounded(alloc: Global, tree: &Tree, names: &Names, orders: &Orders) -> Result<Program, Refusal>
     requires counted { Counted (tree_seen tree.now) }
     requires named { Named (tree_seen tree.now) }
@@ -75,5 +75,7 @@ fn bounded(alloc: Global, tree: &Tree, names: &Names, orders: &Orders) -> Result
     ensures shaped { IfErr result HasShape }
 {
     sizes(alloc, tree, names, orders)?;
-    types(alloc, tree, names, orders)
+    let program = types(alloc, tree, names, orders)?;
+    parts(&program)?;
+    Ok(program)
 }

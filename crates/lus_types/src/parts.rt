@@ -1,0 +1,66 @@
+//! The parts of a program, against the limit of them.
+
+ghost use Rattle.std.specs.Prelude.{◌≡◌, ◌+◌, ◌<◌, ◌≤◌, OnOk, OnErr, MatchOption};
+ghost use Rattle.lus_syntax.specs.Limits.{most_parts};
+ghost use Rattle.lus_program.specs.Parts.{node_parts, parts, parts_all, program_parts};
+ghost use Rattle.lus_program.specs.View.{expression_of, node_of, operands_of, program_seen};
+
+use lus_program::{Expr, Node, Program};
+use lus_syntax::{MOST_PARTS, Place};
+
+/// Tells whether a program has no more parts than the limit admits. The place is that of the node with the first past it.
+pub fn check_parts(program: &Program) -> Result<(), Place>
+    ensures ok { OnOk result (program_parts (program_seen program.now) ≤ most_parts) }
+    ensures err { OnErr result (most_parts < program_parts (program_seen program.now)) }
+{
+    let mut most = MOST_PARTS;
+    for node in &program.nodes {
+        match node_parts_left(node, most) {
+            Some(left) => most = left,
+            None => return Err(node.place),
+        }
+    }
+    Ok(())
+}
+
+/// How many of so many more parts there may be behind a node.
+fn node_parts_left(node: &Node, most: usize) -> Option<usize>
+    ensures { MatchOption result (most < node_parts (node_of node.now)) (λ left. left + node_parts (node_of node.now) ≡ most) }
+{
+    let mut left = most;
+    for equation in &node.equations {
+        left = parts_left(&equation.right, left.checked_sub(1)?)?;
+    }
+    Some(left)
+}
+
+/// How many of so many more parts there may be behind an expression.
+#[cycle(parts)]
+fn parts_left(expr: &Expr, most: usize) -> Option<usize>
+    ensures { MatchOption result (most < parts (expression_of expr.now)) (λ left. left + parts (expression_of expr.now) ≡ most) }
+{
+    let left = most.checked_sub(1)?;
+    match expr {
+        Expr::Literal(_, _) => Some(left),
+        Expr::Variable(_, _) => Some(left),
+        Expr::Operate(_, _, operands) => all_parts_left(operands, left),
+        Expr::Pre(_, operand) => parts_left(operand, left),
+        Expr::Arrow(_, first, later) => parts_left(later, parts_left(first, left)?),
+        Expr::Fby(_, first, later) => parts_left(later, parts_left(first, left)?),
+        Expr::When(_, _, operand) => parts_left(operand, left),
+        Expr::Merge(_, _, branches) => all_parts_left(branches, left),
+        Expr::Call(_, _, arguments) => all_parts_left(arguments, left),
+    }
+}
+
+/// How many of so many more parts there may be behind operands.
+#[cycle(parts)]
+fn all_parts_left(operands: &[Expr], most: usize) -> Option<usize>
+    ensures { MatchOption result (most < parts_all (operands_of operands.now)) (λ left. left + parts_all (operands_of operands.now) ≡ most) }
+{
+    let mut left = most;
+    for operand in operands {
+        left = parts_left(operand, left)?;
+    }
+    Some(left)
+}
