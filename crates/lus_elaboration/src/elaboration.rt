@@ -8,7 +8,7 @@ ghost use Rattle.lus_meaning.specs.Types.{kind_of, kinds_of};
 ghost use Rattle.lus_meaning.specs.Meaning.{meant, all_meant};
 ghost use Rattle.lus_meaning.specs.ScopeView.{scope_of, Faulty};
 
-use crate::forms::{Elaborated, binary, choice, field, named, place_of, sampled, unary};
+use crate::forms::{Elaborated, begin_at, binary, choice, field, named, place_of, sampled, unary};
 use crate::parts::{call, merge, structure};
 use lus_meaning::{Fault, Scope};
 use lus_program::{Expr, Kind};
@@ -50,7 +50,11 @@ pub fn elaborate(alloc: Global, scope: &Scope, source: &Source) -> Result<Elabor
             let operand = elaborate(alloc, scope, operand)?;
             field(alloc, scope, place, operand, name)
         }
-        Source::Parentheses(_, inner) => elaborate(alloc, scope, inner),
+        Source::Parentheses(span, inner) => {
+            let mut inner = elaborate(alloc, scope, inner)?;
+            begin_at(&mut inner.expr, span.start);
+            Ok(inner)
+        }
         Source::When(operand, test) => {
             let operand = elaborate(alloc, scope, operand)?;
             sampled(alloc, scope, place, operand, test)

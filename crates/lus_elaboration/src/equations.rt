@@ -10,7 +10,7 @@ ghost use Rattle.lus_meaning.specs.WellTyped.{kinds_given, left_kinds as kinds_o
 ghost use Rattle.lus_meaning.specs.ScopeView.{scope_of, Faulty};
 
 use crate::elaboration::{elaborate, elaborate_all};
-use crate::forms::place_of;
+use crate::forms::{begin_at, place_of};
 use crate::kinds::all_same;
 use crate::parts::callee;
 use lus_meaning::{Fault, Scope};
@@ -32,7 +32,11 @@ pub fn right_side(alloc: Global, scope: &Scope, source: &Source) -> Result<Given
     ensures refused { IfErr result (Faulty (kinds_given (scope_of scope.now) (expression_seen source.now) ≡ None)) }
 {
     match source {
-        Source::Parentheses(_, inner) => right_side(alloc, scope, inner),
+        Source::Parentheses(span, inner) => {
+            let mut inner = right_side(alloc, scope, inner)?;
+            begin_at(&mut inner.expr, span.start);
+            Ok(inner)
+        }
         Source::Call(name, arguments) => {
             let (operands, kinds) = elaborate_all(alloc, scope, arguments)?;
             let node = callee(scope, name, arguments, &kinds)?;

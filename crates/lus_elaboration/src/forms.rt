@@ -41,6 +41,23 @@ pub fn place_of(source: &Source) -> Place {
     }
 }
 
+/// Tells that an expression begins at the parenthesis before it.
+pub fn begin_at(expr: &mut Expr, parenthesis: Place)
+    ensures { expression_of expr.new ≡ expression_of expr.old }
+{
+    match expr {
+        Expr::Literal(place, _) => *place = parenthesis,
+        Expr::Variable(place, _) => *place = parenthesis,
+        Expr::Operate(place, _, _) => *place = parenthesis,
+        Expr::Pre(place, _) => *place = parenthesis,
+        Expr::Arrow(place, _, _) => *place = parenthesis,
+        Expr::Fby(place, _, _) => *place = parenthesis,
+        Expr::When(place, _, _) => *place = parenthesis,
+        Expr::Merge(place, _, _) => *place = parenthesis,
+        Expr::Call(place, _, _) => *place = parenthesis,
+    }
+}
+
 /// A name: a variable hides a constant or a constructor.
 pub fn named(alloc: Global, scope: &Scope, name: &Name) -> Result<Elaborated, Fault>
     ensures typed { IfOk result (λ x. name_kind (scope_of scope.now) (name_seen name.now).text ≡ Some x.kind) }
