@@ -3,6 +3,7 @@
 ghost use Rattle.std.specs.Prelude.{◌≡◌, ◌≤◌, IfErr, OnOk, length, map, string_bytes};
 ghost use Rattle.lus_values.specs.Lists.{Below, item};
 ghost use Rattle.lus_graph.specs.Ways.{IsOrder};
+ghost use Rattle.lus_syntax.specs.Limits.{most_calls_deep, most_declarations};
 ghost use Rattle.lus_syntax.specs.View.{tree_seen};
 ghost use Rattle.lus_meaning.specs.Loopless.{node_names, node_uses as calls_of_nodes};
 ghost use Rattle.lus_meaning.specs.ScopeView.{Faulty};
@@ -11,10 +12,8 @@ ghost use Rattle.lus_meaning.specs.Sized.{call_depth_at, greatest};
 use crate::uses::node_uses;
 use indexmap::IndexSet;
 use lus_meaning::Fault;
-use lus_syntax::Tree;
+use lus_syntax::{MOST_CALLS_DEEP, Tree};
 use std::alloc::Global;
-
-const MOST_DEEP: usize = 64;
 
 /// Checks the depth of each node's calls against the limit, by an order in which the nodes that one calls stand before it.
 pub fn check_calls(
@@ -23,17 +22,17 @@ pub fn check_calls(
     nodes: &IndexSet<String>,
     order: &[usize],
 ) -> Result<(), Fault>
-    requires few_nodes { length nodes.now.keys ≤ 1000 }
+    requires few_nodes { length nodes.now.keys ≤ most_declarations }
     requires node_names { map string_bytes nodes.now.keys ≡ node_names (tree_seen tree.now) }
     requires order { IsOrder (calls_of_nodes (tree_seen tree.now)) order.now }
-    ensures ok { OnOk result (Below (length (tree_seen tree.now).nodes) (λ f. call_depth_at (tree_seen tree.now) f ≤ 64)) }
-    ensures err { IfErr result (Faulty (Below (length (tree_seen tree.now).nodes) (λ f. call_depth_at (tree_seen tree.now) f ≤ 64) → ⊥)) }
+    ensures ok { OnOk result (Below (length (tree_seen tree.now).nodes) (λ f. call_depth_at (tree_seen tree.now) f ≤ most_calls_deep)) }
+    ensures err { IfErr result (Faulty (Below (length (tree_seen tree.now).nodes) (λ f. call_depth_at (tree_seen tree.now) f ≤ most_calls_deep) → ⊥)) }
 {
     let uses = node_uses(alloc, nodes, tree)?;
     let mut depths = vec![in alloc; 0usize; tree.nodes.len()]?;
     for place in order {
         let deepest = deepest_call(&uses[*place], &depths);
-        if deepest >= MOST_DEEP {
+        if deepest >= MOST_CALLS_DEEP {
             return Err(Fault::At(tree.nodes[*place].name.span.start));
         }
         depths[*place] = deepest + 1;

@@ -2,18 +2,15 @@
 
 ghost use Rattle.std.specs.Prelude.{◌≡◌, ◌+◌, ◌<◌, ◌≤◌, OnOk, OnErr, MatchOption, map};
 ghost use Rattle.std.specs.Bool.{Decides};
+ghost use Rattle.lus_syntax.specs.Limits.{most_variables};
 ghost use Rattle.lus_syntax.specs.View.{definition_seen, fields_seen, group_seen, node_seen, tree_seen};
 ghost use Rattle.lus_meaning.specs.Sized.{Counted, DefinitionCounted, field_count, variable_count};
 ghost use Rattle.lus_meaning.specs.Tables.{groups};
 
-use lus_syntax::{Definition, Fields, Group, Node, Place, Tree};
-
-/// The most types, the most constants and the most nodes of a source, and the most variables of a node.
-const MOST_DECLARED: usize = 1000;
-
-const MOST_CONSTRUCTORS: usize = 256;
-
-const MOST_FIELDS: usize = 64;
+use lus_syntax::{
+    Definition, Fields, Group, MOST_CONSTRUCTORS, MOST_DECLARATIONS, MOST_FIELDS, MOST_VARIABLES,
+    Node, Place, Tree,
+};
 
 /// Tells whether a source declares no more than the limits admit. The place is that of a name past a limit, or of the type
 /// or the node that has too much.
@@ -21,13 +18,13 @@ pub fn check_counts(tree: &Tree) -> Result<(), Place>
     ensures ok { OnOk result (Counted (tree_seen tree.now)) }
     ensures err { OnErr result (Counted (tree_seen tree.now) → ⊥) }
 {
-    if let Some(past) = tree.types.get(MOST_DECLARED) {
+    if let Some(past) = tree.types.get(MOST_DECLARATIONS) {
         return Err(past.name.span.start);
     }
-    if let Some(past) = tree.constants.get(MOST_DECLARED) {
+    if let Some(past) = tree.constants.get(MOST_DECLARATIONS) {
         return Err(past.name.span.start);
     }
-    if let Some(past) = tree.nodes.get(MOST_DECLARED) {
+    if let Some(past) = tree.nodes.get(MOST_DECLARATIONS) {
         return Err(past.name.span.start);
     }
     for declaration in &tree.types {
@@ -56,9 +53,9 @@ fn is_counted(definition: &Definition) -> bool
 
 /// Whether a node has no more variables than the limit admits.
 fn has_few_variables(node: &Node) -> bool
-    ensures { Decides result (variable_count (groups (node_seen node.now)) ≤ 1000) }
+    ensures { Decides result (variable_count (groups (node_seen node.now)) ≤ most_variables) }
 {
-    let Some(left) = variables_left(&node.inputs, MOST_DECLARED) else {
+    let Some(left) = variables_left(&node.inputs, MOST_VARIABLES) else {
         return false;
     };
     let Some(left) = variables_left(&node.outputs, left) else {

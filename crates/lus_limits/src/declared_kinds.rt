@@ -4,6 +4,7 @@ ghost use Rattle.std.specs.Prelude.{◌≡◌, ◌<◌, ◌≤◌, IfOk, length,
 ghost use Rattle.lus_values.specs.Lists.{item};
 ghost use Rattle.lus_program.specs.declared.types.Kind.TheVariants as kind_names;
 ghost use Rattle.lus_graph.specs.Ways.{IsOrder};
+ghost use Rattle.lus_syntax.specs.Limits.{most_declarations};
 ghost use Rattle.lus_syntax.specs.View.{definition_seen, tree_seen};
 ghost use Rattle.lus_meaning.specs.Loopless.{type_names, type_uses as uses_of_types};
 ghost use Rattle.lus_meaning.specs.Tables.{AreKinds};
@@ -23,7 +24,7 @@ pub fn kinds_of_types(
     types: &IndexSet<String>,
     order: &[usize],
 ) -> Result<Vec<Kind>, Memory>
-    requires few_types { length types.now.keys ≤ 1000 }
+    requires few_types { length types.now.keys ≤ most_declarations }
     requires type_names { map string_bytes types.now.keys ≡ type_names (tree_seen tree.now) }
     requires order { IsOrder (uses_of_types (tree_seen tree.now)) order.now }
     ensures { IfOk result (λ kinds. AreKinds (tree_seen tree.now) kinds.items) }
@@ -38,7 +39,7 @@ pub fn kinds_of_types(
 
 /// The type that a type's declaration declares, by those of the types that it names.
 fn kind_of(types: &IndexSet<String>, place: usize, definition: &Definition, kinds: &[Kind]) -> Kind
-    requires few { place < 1000 }
+    requires few { place < most_declarations }
     ensures { result ≡ kind_by_names (map string_bytes types.now.keys) (item kind_names.Bool kinds.now) place (definition_seen definition.now) }
 {
     match definition {

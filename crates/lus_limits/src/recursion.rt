@@ -2,6 +2,7 @@
 
 ghost use Rattle.std.specs.Prelude.{◌≡◌, ◌≢◌, ◌≤◌, IfOk, IfErr, OnOk, length, map, string_bytes};
 ghost use Rattle.lus_graph.specs.Ways.{HasNoWayBack, IsOrder};
+ghost use Rattle.lus_syntax.specs.Limits.{most_declarations};
 ghost use Rattle.lus_syntax.specs.declared.refusal.RefusalNumber.TheVariants as numbers;
 ghost use Rattle.lus_syntax.specs.Refusals.{HasShape};
 ghost use Rattle.lus_syntax.specs.View.{tree_seen};
@@ -28,8 +29,8 @@ pub fn check_recursion(
     types: &IndexSet<String>,
     nodes: &IndexSet<String>,
 ) -> Result<Orders, Refusal>
-    requires few_types { length types.now.keys ≤ 1000 }
-    requires few_nodes { length nodes.now.keys ≤ 1000 }
+    requires few_types { length types.now.keys ≤ most_declarations }
+    requires few_nodes { length nodes.now.keys ≤ most_declarations }
     requires type_names { map string_bytes types.now.keys ≡ type_names (tree_seen tree.now) }
     requires node_names { map string_bytes nodes.now.keys ≡ node_names (tree_seen tree.now) }
     ensures types { IfOk result (λ orders. IsOrder (uses_of_types (tree_seen tree.now)) orders.types.items) }
@@ -48,7 +49,7 @@ fn order_of_types(
     tree: &Tree,
     types: &IndexSet<String>,
 ) -> Result<Vec<usize>, Refusal>
-    requires few { length types.now.keys ≤ 1000 }
+    requires few { length types.now.keys ≤ most_declarations }
     requires names { map string_bytes types.now.keys ≡ type_names (tree_seen tree.now) }
     ensures order { IfOk result (λ order. IsOrder (uses_of_types (tree_seen tree.now)) order.items) }
     ensures refused { IfErr result (λ e. e.number ≢ numbers.Memory → (HasNoWayBack (uses_of_types (tree_seen tree.now)) → ⊥) × (e.number ≡ numbers.Recursion)) }
@@ -66,7 +67,7 @@ fn order_of_nodes(
     tree: &Tree,
     nodes: &IndexSet<String>,
 ) -> Result<Vec<usize>, Refusal>
-    requires few { length nodes.now.keys ≤ 1000 }
+    requires few { length nodes.now.keys ≤ most_declarations }
     requires names { map string_bytes nodes.now.keys ≡ node_names (tree_seen tree.now) }
     ensures order { IfOk result (λ order. IsOrder (calls_of_nodes (tree_seen tree.now)) order.items) }
     ensures refused { IfErr result (λ e. e.number ≢ numbers.Memory → (HasNoWayBack (calls_of_nodes (tree_seen tree.now)) → ⊥) × (e.number ≡ numbers.Recursion)) }

@@ -3,6 +3,7 @@
 ghost use Rattle.std.specs.Prelude.{◌≡◌, ◌≤◌, ◌*◌, suc, IfErr, OnOk, length, map, string_bytes, sum_by};
 ghost use Rattle.lus_values.specs.Lists.{Below, item};
 ghost use Rattle.lus_graph.specs.Ways.{IsOrder};
+ghost use Rattle.lus_syntax.specs.Limits.{most_declarations, most_leaves, most_nesting};
 ghost use Rattle.lus_syntax.specs.View.{definition_seen, fields_seen, tree_seen};
 ghost use Rattle.lus_meaning.specs.Loopless.{node_names, node_uses as calls_of_nodes, type_names, type_uses as uses_of_types};
 ghost use Rattle.lus_meaning.specs.ScopeView.{Faulty};
@@ -15,12 +16,8 @@ use crate::named::of_name;
 use crate::recursion::Orders;
 use indexmap::IndexSet;
 use lus_meaning::Fault;
-use lus_syntax::{Definition, Fields, Tree};
+use lus_syntax::{Definition, Fields, MOST_LEAVES, MOST_NESTING, Tree};
 use std::alloc::Global;
-
-const MOST_LEAVES: usize = 1024;
-
-const MOST_NESTING: usize = 64;
 
 /// Checks leaves and nesting of types and call depth of nodes against the limits. A fault stands at the declared name.
 pub fn check_sizes(
@@ -30,7 +27,7 @@ pub fn check_sizes(
     nodes: &IndexSet<String>,
     orders: &Orders,
 ) -> Result<(), Fault>
-    requires few_nodes { length nodes.now.keys ≤ 1000 }
+    requires few_nodes { length nodes.now.keys ≤ most_declarations }
     requires type_names { map string_bytes types.now.keys ≡ type_names (tree_seen tree.now) }
     requires node_names { map string_bytes nodes.now.keys ≡ node_names (tree_seen tree.now) }
     requires types { IsOrder (uses_of_types (tree_seen tree.now)) orders.now.types.items }
@@ -51,8 +48,8 @@ fn check_leaves(
 ) -> Result<(), Fault>
     requires type_names { map string_bytes types.now.keys ≡ type_names (tree_seen tree.now) }
     requires order { IsOrder (uses_of_types (tree_seen tree.now)) order.now }
-    ensures ok { OnOk result (Below (length (tree_seen tree.now).types) (λ t. leaves_at (tree_seen tree.now) t ≤ 1024)) }
-    ensures err { IfErr result (Faulty (Below (length (tree_seen tree.now).types) (λ t. leaves_at (tree_seen tree.now) t ≤ 1024) → ⊥)) }
+    ensures ok { OnOk result (Below (length (tree_seen tree.now).types) (λ t. leaves_at (tree_seen tree.now) t ≤ most_leaves)) }
+    ensures err { IfErr result (Faulty (Below (length (tree_seen tree.now).types) (λ t. leaves_at (tree_seen tree.now) t ≤ most_leaves) → ⊥)) }
 {
     let mut leaves = vec![in alloc; 0usize; tree.types.len()]?;
     for place in order {
@@ -67,7 +64,7 @@ fn check_leaves(
 
 /// The leaves of a type, if they are within the limit, by those of the types that its declaration names.
 fn leaves_of(types: &IndexSet<String>, definition: &Definition, leaves: &[usize]) -> Option<usize>
-    ensures { IsLimited 1024 (leaves_by_names (map string_bytes types.now.keys) (item 1 leaves.now) (definition_seen definition.now)) result }
+    ensures { IsLimited most_leaves (leaves_by_names (map string_bytes types.now.keys) (item 1 leaves.now) (definition_seen definition.now)) result }
 {
     match definition {
         Definition::Alias(name) => at_most(of_name(types, name, 1, 1, leaves), MOST_LEAVES),
@@ -78,7 +75,7 @@ fn leaves_of(types: &IndexSet<String>, definition: &Definition, leaves: &[usize]
 
 /// The leaves of all fields, if they are within the limit.
 fn leaves_of_fields(types: &IndexSet<String>, groups: &[Fields], leaves: &[usize]) -> Option<usize>
-    ensures { IsLimited 1024 (sum_by (λ g. length g.names * by_name (map string_bytes types.now.keys) 1 1 (item 1 leaves.now) g.type_name) (map fields_seen groups.now)) result }
+    ensures { IsLimited most_leaves (sum_by (λ g. length g.names * by_name (map string_bytes types.now.keys) 1 1 (item 1 leaves.now) g.type_name) (map fields_seen groups.now)) result }
 {
     let mut left = MOST_LEAVES;
     for group in groups {
@@ -97,8 +94,8 @@ fn check_nesting(
 ) -> Result<(), Fault>
     requires type_names { map string_bytes types.now.keys ≡ type_names (tree_seen tree.now) }
     requires order { IsOrder (uses_of_types (tree_seen tree.now)) order.now }
-    ensures ok { OnOk result (Below (length (tree_seen tree.now).types) (λ t. nesting_at (tree_seen tree.now) t ≤ 64)) }
-    ensures err { IfErr result (Faulty (Below (length (tree_seen tree.now).types) (λ t. nesting_at (tree_seen tree.now) t ≤ 64) → ⊥)) }
+    ensures ok { OnOk result (Below (length (tree_seen tree.now).types) (λ t. nesting_at (tree_seen tree.now) t ≤ most_nesting)) }
+    ensures err { IfErr result (Faulty (Below (length (tree_seen tree.now).types) (λ t. nesting_at (tree_seen tree.now) t ≤ most_nesting) → ⊥)) }
 {
     let mut nesting = vec![in alloc; 0usize; tree.types.len()]?;
     for place in order {
@@ -113,7 +110,7 @@ fn check_nesting(
 
 /// How deep structures stand in a type, if that is within the limit, by the types that its declaration names.
 fn nesting_of(types: &IndexSet<String>, definition: &Definition, nesting: &[usize]) -> Option<usize>
-    ensures { IsLimited 64 (nesting_by_names (map string_bytes types.now.keys) (item 0 nesting.now) (definition_seen definition.now)) result }
+    ensures { IsLimited most_nesting (nesting_by_names (map string_bytes types.now.keys) (item 0 nesting.now) (definition_seen definition.now)) result }
 {
     match definition {
         Definition::Alias(name) => at_most(of_name(types, name, 0, 0, nesting), MOST_NESTING),
@@ -134,7 +131,7 @@ fn deepest_field(types: &IndexSet<String>, groups: &[Fields], nesting: &[usize])
 
 /// One level more, within the limit of nesting.
 fn one_deeper(depth: usize) -> Option<usize>
-    ensures { IsLimited 64 (suc depth) result }
+    ensures { IsLimited most_nesting (suc depth) result }
 {
     if depth < MOST_NESTING {
         Some(depth + 1)

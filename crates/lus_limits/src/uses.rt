@@ -3,6 +3,7 @@
 ghost use Rattle.std.specs.Prelude.{◌≡◌, ◌≤◌, ◌++◌, IfOk, OnOk, length, map, string_bytes};
 ghost use Rattle.std.specs.Option.{option_to_list};
 ghost use Rattle.lus_graph.specs.Walks.{uses_of};
+ghost use Rattle.lus_syntax.specs.Limits.{most_declarations};
 ghost use Rattle.lus_syntax.specs.Trees.{parts_of};
 ghost use Rattle.lus_syntax.specs.View.{definition_seen, expression_seen, node_seen, tree_seen, type_name_seen, part_seen};
 ghost use Rattle.lus_meaning.specs.Loopless.{called, called_in, calls_of, definition_uses as uses_of_definition, named_type, node_names, node_uses as calls_of_nodes, place_in, type_names, type_uses as uses_of_types};
@@ -14,7 +15,7 @@ use std::alloc::Global;
 
 /// Appends the place of a name among these, where it is one of them.
 fn push_place(names: &IndexSet<String>, name: &str, found: &mut Vec<u32>) -> Result<(), Memory>
-    requires few { length names.now.keys ≤ 1000 }
+    requires few { length names.now.keys ≤ most_declarations }
     ensures { OnOk result (found.new.items ≡ found.old.items ++ option_to_list (place_in (map string_bytes names.now.keys) name.now)) }
 {
     match names.get_index_of(name) {
@@ -28,7 +29,7 @@ fn push_place(names: &IndexSet<String>, name: &str, found: &mut Vec<u32>) -> Res
 
 /// Appends the declared type that a type's name names.
 fn push_named(types: &IndexSet<String>, name: &TypeName, found: &mut Vec<u32>) -> Result<(), Memory>
-    requires few { length types.now.keys ≤ 1000 }
+    requires few { length types.now.keys ≤ most_declarations }
     ensures { OnOk result (found.new.items ≡ found.old.items ++ named_type (map string_bytes types.now.keys) (type_name_seen name.now)) }
 {
     match name {
@@ -44,7 +45,7 @@ fn definition_uses(
     types: &IndexSet<String>,
     definition: &Definition,
 ) -> Result<Vec<u32>, Memory>
-    requires few { length types.now.keys ≤ 1000 }
+    requires few { length types.now.keys ≤ most_declarations }
     ensures { IfOk result (λ found. found.items ≡ uses_of_definition (map string_bytes types.now.keys) (definition_seen definition.now)) }
 {
     let mut found = Vec::new(alloc);
@@ -69,7 +70,7 @@ pub fn type_uses(
     types: &IndexSet<String>,
     tree: &Tree,
 ) -> Result<Vec<Vec<u32>>, Memory>
-    requires few { length types.now.keys ≤ 1000 }
+    requires few { length types.now.keys ≤ most_declarations }
     requires names { map string_bytes types.now.keys ≡ type_names (tree_seen tree.now) }
     ensures { IfOk result (λ uses. uses_of uses.items ≡ uses_of_types (tree_seen tree.now)) }
 {
@@ -83,7 +84,7 @@ pub fn type_uses(
 /// Appends the nodes that an expression calls.
 #[cycle(calls)]
 fn push_called(nodes: &IndexSet<String>, expr: &Expr, found: &mut Vec<u32>) -> Result<(), Memory>
-    requires few { length nodes.now.keys ≤ 1000 }
+    requires few { length nodes.now.keys ≤ most_declarations }
     ensures { OnOk result (found.new.items ≡ found.old.items ++ called (map string_bytes nodes.now.keys) (expression_seen expr.now)) }
 {
     match expr {
@@ -119,7 +120,7 @@ fn push_called_in(
     parts: &[Part],
     found: &mut Vec<u32>,
 ) -> Result<(), Memory>
-    requires few { length nodes.now.keys ≤ 1000 }
+    requires few { length nodes.now.keys ≤ most_declarations }
     ensures { OnOk result (found.new.items ≡ found.old.items ++ called_in (map string_bytes nodes.now.keys) (parts_of (map part_seen parts.now))) }
 {
     for part in parts {
@@ -134,7 +135,7 @@ pub fn node_uses(
     nodes: &IndexSet<String>,
     tree: &Tree,
 ) -> Result<Vec<Vec<u32>>, Memory>
-    requires few { length nodes.now.keys ≤ 1000 }
+    requires few { length nodes.now.keys ≤ most_declarations }
     requires names { map string_bytes nodes.now.keys ≡ node_names (tree_seen tree.now) }
     ensures { IfOk result (λ uses. uses_of uses.items ≡ calls_of_nodes (tree_seen tree.now)) }
 {
@@ -147,7 +148,7 @@ pub fn node_uses(
 
 /// The nodes that a node calls.
 fn node_calls(alloc: Global, nodes: &IndexSet<String>, node: &Node) -> Result<Vec<u32>, Memory>
-    requires few { length nodes.now.keys ≤ 1000 }
+    requires few { length nodes.now.keys ≤ most_declarations }
     ensures { IfOk result (λ found. found.items ≡ calls_of (map string_bytes nodes.now.keys) (node_seen node.now)) }
 {
     let mut found = Vec::new(alloc);

@@ -18,7 +18,7 @@ use Rattle.lus_meaning.specs.Loopless.{node_uses}
 use Rattle.lus_meaning.specs.Sized.{Counted, Bounded, leaves_at, nesting_at, call_depth_at}
 use Rattle.lus_meaning.specs.Types.{kind_of}
 use Rattle.lus_meaning.specs.Meaning.{meant, program_of}
-use Rattle.lus_meaning.specs.WellTyped.{equation_typed, keeps_memory, IsTyped}
+use Rattle.lus_meaning.specs.WellTyped.{equation_typed, memory_fits, IsTyped}
 use Rattle.lus_values.specs.Lists.{Each}
 use Rattle.lus_meaning.specs.Resolved.{NodeResolved}
 
@@ -257,10 +257,10 @@ doubled : all_new [] ((97 ∷ []) ∷ (98 ∷ []) ∷ (97 ∷ []) ∷ []) ≡ fa
 doubled = refl
 
 -- a function that calls a node, and one with `pre`
-calls_a_node : keeps_memory node_kinds.Function (scope fields s) (equation (n 121 ∷ []) (tree.Call (n 116) (argument (var 120) tree.End)) ∷ []) ≡ false
+calls_a_node : memory_fits node_kinds.Function (scope fields s) (equation (n 121 ∷ []) (tree.Call (n 116) (argument (var 120) tree.End)) ∷ []) ≡ false
 calls_a_node = refl
 
-has_pre : keeps_memory node_kinds.Function (scope fields s) (equation (n 121 ∷ []) (tree.Unary prefixes.Pre here (var 120)) ∷ []) ≡ false
+has_pre : memory_fits node_kinds.Function (scope fields s) (equation (n 121 ∷ []) (tree.Unary prefixes.Pre here (var 120)) ∷ []) ≡ false
 has_pre = refl
 
 -- node r(x: int) returns (y: int); let y = r(x); tel

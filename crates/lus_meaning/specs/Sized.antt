@@ -1,5 +1,6 @@
 -- The limits of a source: counts, and what counts only where nothing leads back to itself.
 use Rattle.std.specs.Prelude.{◌*◌, ◌≤◌, ℕ, suc, true, false, List, [], ◌∷◌, length, sum_by, nat_lt}
+use Rattle.lus_syntax.specs.Limits.{most_calls_deep, most_constructors, most_declarations, most_fields, most_leaves, most_nesting, most_variables}
 use Rattle.lus_syntax.specs.Trees.{Fields, Definition, Alias, Enumeration, StructureOf, Group, Tree}
 use Rattle.lus_values.specs.Lists.{Each, Below}
 use Rattle.lus_meaning.specs.Tables.{groups, of_type, definition_at, within}
@@ -14,16 +15,16 @@ variable_count gs = sum_by (λ g. length g.names) gs
 
 abbrev pub DefinitionCounted : Definition → Type 0
 DefinitionCounted (Alias y) = Unit {0}
-DefinitionCounted (Enumeration cs) = length cs ≤ 256
-DefinitionCounted (StructureOf fs) = field_count fs ≤ 64
+DefinitionCounted (Enumeration cs) = length cs ≤ most_constructors
+DefinitionCounted (StructureOf fs) = field_count fs ≤ most_fields
 
 -- the counts of declarations
 pub record Counted (p : Tree) : Type 0 where
-  pub types : length p.types ≤ 1000
-  pub constants : length p.constants ≤ 1000
-  pub nodes : length p.nodes ≤ 1000
+  pub types : length p.types ≤ most_declarations
+  pub constants : length p.constants ≤ most_declarations
+  pub nodes : length p.nodes ≤ most_declarations
   pub definitions : Each (λ d. DefinitionCounted d.definition) p.types
-  pub variables : Each (λ f. variable_count (groups f) ≤ 1000) p.nodes
+  pub variables : Each (λ f. variable_count (groups f) ≤ most_variables) p.nodes
 
 abbrev pub greater : ℕ → ℕ → ℕ
 greater m n = elim (nat_lt m n) [ true ↦ n | false ↦ m ]
@@ -55,6 +56,6 @@ abbrev pub call_depth_at : Tree → ℕ → ℕ
 call_depth_at p = within (length p.nodes) 0 (λ at f. suc (greatest at (used (node_uses p) f)))
 
 pub record Bounded (p : Tree) : Type 0 where
-  pub leaves : Below (length p.types) (λ t. leaves_at p t ≤ 1024)
-  pub nesting : Below (length p.types) (λ t. nesting_at p t ≤ 64)
-  pub calls : Below (length p.nodes) (λ f. call_depth_at p f ≤ 64)
+  pub leaves : Below (length p.types) (λ t. leaves_at p t ≤ most_leaves)
+  pub nesting : Below (length p.types) (λ t. nesting_at p t ≤ most_nesting)
+  pub calls : Below (length p.nodes) (λ f. call_depth_at p f ≤ most_calls_deep)

@@ -3,6 +3,7 @@ use Rattle.std.specs.Prelude.{◌&&◌, ℕ, zero, suc, Bool, true, false, List,
 use Rattle.std.specs.List.{list_all}
 use Rattle.std.specs.Option.{option_and_then}
 use Rattle.std.specs.Str.{bytes_eq}
+use Rattle.lus_syntax.specs.Limits.{most_fields}
 use Rattle.lus_syntax.specs.Lexemes.{Text}
 use Rattle.lus_syntax.specs.declared.tree.Prefix.{Prefix}
 use Rattle.lus_syntax.specs.declared.tree.Prefix.TheVariants as prefixes
@@ -141,7 +142,7 @@ constructors_in (structure fs) = 0
 
 -- no structure has more fields than the limit
 abbrev pub has_few_fields : Declared → Bool
-has_few_fields d = nat_le (length (fields_in d)) 64
+has_few_fields d = nat_le (length (fields_in d)) most_fields
 
 abbrev pub nothing_declared : Declared
 nothing_declared = alias kinds.Bool

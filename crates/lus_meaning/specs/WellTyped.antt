@@ -82,15 +82,15 @@ abbrev mutual
   are_pure s End = true
   are_pure s (More l e ps) = is_pure s e && are_pure s ps
 
--- a function keeps no memory
-abbrev pub keeps_memory : NodeKind → Scope → List Equation → Bool
-keeps_memory node_kinds.Node s qs = true
-keeps_memory node_kinds.Function s qs = list_all (λ q. is_pure s q.right) qs
+-- a node may keep memory, a function none
+abbrev pub memory_fits : NodeKind → Scope → List Equation → Bool
+memory_fits node_kinds.Node s qs = true
+memory_fits node_kinds.Function s qs = list_all (λ q. is_pure s q.right) qs
 
 pub record NodeTyped (p : Tree) (f : Node) : Type 0 where
   pub tests : IsTrue (list_all (λ g. test_typed (scope p f) g.test) (groups f))
   pub equations : IsTrue (list_all (equation_typed (scope p f)) f.equations)
-  pub memory : IsTrue (keeps_memory f.kind (scope p f) f.equations)
+  pub memory : IsTrue (memory_fits f.kind (scope p f) f.equations)
 
 pub record IsTyped (p : Tree) : Type 0 where
   pub constants : IsTrue (list_all (constant_typed p) p.constants)

@@ -2,6 +2,7 @@
 
 ghost use Rattle.std.specs.Prelude.{◌≡◌, ◌≤◌, IsTrue, length, map};
 ghost use Rattle.std.specs.List.{list_all};
+ghost use Rattle.lus_syntax.specs.Limits.{most_fields};
 ghost use Rattle.lus_program.specs.View.{declared_of, field_of};
 ghost use Rattle.lus_meaning.specs.Types.{field_named, has_few_fields};
 
@@ -95,7 +96,7 @@ impl Scope {
     /// The fields of a structure; no other type has any.
     pub fn fields_of(&self, kind: Kind) -> &[Field]
         ensures fields { map field_of result.now ≡ fields (scope_of self.now) kind }
-        ensures few { length result.now ≤ 64 }
+        ensures few { length result.now ≤ most_fields }
     {
         match kind {
             Kind::Bool => &[],
@@ -113,7 +114,7 @@ impl Scope {
 
 /// The field of this name, by its place.
 pub fn field(fields: &[Field], name: &str) -> Option<Placed>
-    requires { length fields.now ≤ 64 }
+    requires { length fields.now ≤ most_fields }
     ensures { result ≡ field_named (map field_of fields.now) name.now }
 {
     for (place, field) in fields.iter().enumerate() {

@@ -1,6 +1,7 @@
 //! The nodes of a source, as calls see them.
 
 ghost use Rattle.std.specs.Prelude.{◌≡◌, ◌≤◌, ◌++◌, IfOk, OnOk, length, map};
+ghost use Rattle.lus_syntax.specs.Limits.{most_declarations};
 ghost use Rattle.lus_syntax.specs.View.{group_seen, names_seen, node_seen};
 ghost use Rattle.lus_meaning.specs.Named.{Distinct};
 ghost use Rattle.lus_meaning.specs.ScopeView.{entries_of, signature_of};
@@ -22,7 +23,7 @@ pub fn nodes(
     types: &IndexMap<String, Kind>,
     nodes: &[Node],
 ) -> Result<IndexMap<String, Signature>, Memory>
-    requires few { length nodes.now ≤ 1000 }
+    requires few { length nodes.now ≤ most_declarations }
     requires distinct { Distinct (map (λ f. f.name.text) (map node_seen nodes.now)) }
     ensures { IfOk result (λ table. entries_of signature_of table.entries ≡ map (λ e. (e.0.name.text, signature_by (kind_in (entries_of (λ x. x) types.now.entries)) e.0 e.1)) (numbered_from 0 (map node_seen nodes.now))) }
 {

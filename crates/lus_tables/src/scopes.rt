@@ -3,6 +3,7 @@
 ghost use Rattle.std.specs.Prelude.{◌≡◌, ◌≤◌, IfOk, OnErr, OnOk, [], flat_map, map};
 ghost use Rattle.lus_values.specs.View.{value_of};
 ghost use Rattle.lus_program.specs.View.{declared_of};
+ghost use Rattle.lus_syntax.specs.Limits.{most_variables};
 ghost use Rattle.lus_syntax.specs.View.{node_seen, tree_seen};
 ghost use Rattle.lus_syntax.specs.Trees.{Tree as PlainTree};
 ghost use Rattle.lus_meaning.specs.Named.{Distinct, Named, names_in};
@@ -76,7 +77,7 @@ fn values(
 /// Puts a node's variables in the place of those that the tables have.
 pub fn enter(alloc: Global, scope: &mut Scope, node: &Node) -> Result<(), Memory>
     requires distinct { Distinct (names_in (groups (node_seen node.now))) }
-    requires few { variable_count (groups (node_seen node.now)) ≤ 1000 }
+    requires few { variable_count (groups (node_seen node.now)) ≤ most_variables }
     ensures entered { OnOk result ((p : PlainTree) → record (scope_of scope.old) { variables = [] } ≡ tables_of p → scope_of scope.new ≡ scope_in p (node_seen node.now)) }
     ensures others { OnOk result (record (scope_of scope.new) { variables = [] } ≡ record (scope_of scope.old) { variables = [] }) }
     ensures kept { OnErr result (scope.new ≡ scope.old) }
@@ -92,7 +93,7 @@ fn variables(
     node: &Node,
 ) -> Result<IndexMap<String, Placed>, Memory>
     requires distinct { Distinct (names_in (groups (node_seen node.now))) }
-    requires few { variable_count (groups (node_seen node.now)) ≤ 1000 }
+    requires few { variable_count (groups (node_seen node.now)) ≤ most_variables }
     ensures { IfOk result (λ table. entries_of (λ x. x) table.entries ≡ placed (kinds_by (kind_in (entries_of (λ x. x) types.now.entries)) (groups (node_seen node.now)))) }
 {
     let mut table = IndexMap::new(alloc);

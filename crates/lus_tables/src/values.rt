@@ -1,6 +1,7 @@
 //! The constructors and the constants of a source.
 
 ghost use Rattle.std.specs.Prelude.{◌≡◌, ◌≤◌, ◌++◌, IfOk, OnOk, flat_map, length, map, true};
+ghost use Rattle.lus_syntax.specs.Limits.{most_constructors, most_declarations};
 ghost use Rattle.lus_syntax.specs.View.{constant_seen, definition_seen, literal_seen, names_seen, type_seen};
 ghost use Rattle.lus_values.specs.Lists.{Each};
 ghost use Rattle.lus_values.specs.View.{value_of};
@@ -22,7 +23,7 @@ pub fn constructors(
     alloc: Global,
     declarations: &[TypeDeclaration],
 ) -> Result<IndexMap<String, Constructor>, Memory>
-    requires few { length declarations.now ≤ 1000 }
+    requires few { length declarations.now ≤ most_declarations }
     requires counted { Each (λ d. DefinitionCounted d.definition) (map type_seen declarations.now) }
     requires distinct { Distinct (all_constructor_names (map type_seen declarations.now)) }
     ensures { IfOk result (λ table. entries_of (λ x. x) table.entries ≡ flat_map (λ e. constructors_of e.0.definition e.1) (numbered_from 0 (map type_seen declarations.now))) }
@@ -56,7 +57,7 @@ fn declare_in_order(
     enumeration: u32,
     names: &[Name],
 ) -> Result<(), Memory>
-    requires few { length names.now ≤ 256 }
+    requires few { length names.now ≤ most_constructors }
     requires new { all_new (names_in (entries_of (λ x. x) table.old.entries)) (map text_of (names_seen names.now)) ≡ true }
     ensures { OnOk result (entries_of (λ x. x) table.new.entries ≡ entries_of (λ x. x) table.old.entries ++ constructors_from enumeration 0 (names_seen names.now)) }
 {

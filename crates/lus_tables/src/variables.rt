@@ -1,6 +1,7 @@
 //! The variables of a node.
 
 ghost use Rattle.std.specs.Prelude.{◌≡◌, ◌+◌, ◌≤◌, ◌++◌, OnOk, length, map, true};
+ghost use Rattle.lus_syntax.specs.Limits.{most_variables};
 ghost use Rattle.lus_syntax.specs.View.{group_seen, names_seen};
 ghost use Rattle.lus_meaning.specs.Named.{all_new, names_in as names_of_groups};
 ghost use Rattle.lus_meaning.specs.ScopeView.{entries_of};
@@ -22,7 +23,7 @@ pub fn place_groups(
     types: &IndexMap<String, Kind>,
     groups: &[Group],
 ) -> Result<(), Memory>
-    requires few { length table.old.entries + variable_count (map group_seen groups.now) ≤ 1000 }
+    requires few { length table.old.entries + variable_count (map group_seen groups.now) ≤ most_variables }
     requires new { all_new (names_in (entries_of (λ x. x) table.old.entries)) (names_of_groups (map group_seen groups.now)) ≡ true }
     ensures { OnOk result (entries_of (λ x. x) table.new.entries ≡ entries_of (λ x. x) table.old.entries ++ placed_from (length table.old.entries) (kinds_by (kind_in (entries_of (λ x. x) types.now.entries)) (map group_seen groups.now))) }
 {
@@ -39,7 +40,7 @@ fn place_names(
     names: &[Name],
     kind: Kind,
 ) -> Result<(), Memory>
-    requires few { length table.old.entries + length names.now ≤ 1000 }
+    requires few { length table.old.entries + length names.now ≤ most_variables }
     requires new { all_new (names_in (entries_of (λ x. x) table.old.entries)) (map text_of (names_seen names.now)) ≡ true }
     ensures { OnOk result (entries_of (λ x. x) table.new.entries ≡ entries_of (λ x. x) table.old.entries ++ placed_from (length table.old.entries) (each_of (names_seen names.now) kind)) }
 {

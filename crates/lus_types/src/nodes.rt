@@ -2,12 +2,13 @@
 
 ghost use Rattle.std.specs.Prelude.{◌≡◌, ◌≤◌, ◌+◌, ◌++◌, IfOk, IfErr, OnOk, flat_map, is_none, length, map, option_map, true, false};
 ghost use Rattle.std.specs.List.{list_all};
+ghost use Rattle.lus_syntax.specs.Limits.{most_variables};
 ghost use Rattle.lus_syntax.specs.View.{equation_seen, group_seen, node_seen, test_seen, tree_seen};
 ghost use Rattle.lus_program.specs.View.{equations_from, node_of, variable_of};
 ghost use Rattle.lus_meaning.specs.Tables.{groups, scope as scope_in};
 ghost use Rattle.lus_meaning.specs.Sized.{variable_count};
 ghost use Rattle.lus_meaning.specs.Meaning.{equations_meant, node_meant, test_meant};
-ghost use Rattle.lus_meaning.specs.WellTyped.{NodeTyped, equation_typed, is_pure, keeps_memory, test_typed};
+ghost use Rattle.lus_meaning.specs.WellTyped.{NodeTyped, equation_typed, is_pure, memory_fits, test_typed};
 ghost use Rattle.lus_meaning.specs.ScopeView.{scope_of, Faulty};
 ghost use Rattle.lus_types.specs.GroupVariables.{variables_in};
 
@@ -78,7 +79,7 @@ struct Variables {
 
 /// The variables of a node.
 fn node_variables(alloc: Global, scope: &Scope, source: &SourceNode) -> Result<Variables, Fault>
-    requires { variable_count (groups (node_seen source.now)) ≤ 1000 }
+    requires { variable_count (groups (node_seen source.now)) ≤ most_variables }
     ensures meant { IfOk result (λ v. map variable_of v.all.items ≡ flat_map (variables_in (scope_of scope.now)) (groups (node_seen source.now))) }
     ensures inputs { IfOk result (λ v. v.inputs ≡ variable_count (node_seen source.now).inputs) }
     ensures outputs { IfOk result (λ v. v.outputs ≡ variable_count (node_seen source.now).outputs) }
@@ -129,8 +130,8 @@ fn memory_in(scope: &Scope, sources: &[SourceEquation]) -> Option<Place>
 
 /// A function keeps no memory.
 fn check_memory(scope: &Scope, kind: NodeKind, sources: &[SourceEquation]) -> Result<(), Fault>
-    ensures typed { OnOk result (keeps_memory kind (scope_of scope.now) (map equation_seen sources.now) ≡ true) }
-    ensures refused { IfErr result (Faulty (keeps_memory kind (scope_of scope.now) (map equation_seen sources.now) ≡ false)) }
+    ensures typed { OnOk result (memory_fits kind (scope_of scope.now) (map equation_seen sources.now) ≡ true) }
+    ensures refused { IfErr result (Faulty (memory_fits kind (scope_of scope.now) (map equation_seen sources.now) ≡ false)) }
 {
     match kind {
         NodeKind::Node => Ok(()),
@@ -144,7 +145,7 @@ fn check_memory(scope: &Scope, kind: NodeKind, sources: &[SourceEquation]) -> Re
 /// A node, as the program has it, where it is well typed.
 pub fn node(alloc: Global, tree: &Tree, scope: &Scope, source: &SourceNode) -> Result<Node, Fault>
     requires scoped { scope_of scope.now ≡ scope_in (tree_seen tree.now) (node_seen source.now) }
-    requires few { variable_count (groups (node_seen source.now)) ≤ 1000 }
+    requires few { variable_count (groups (node_seen source.now)) ≤ most_variables }
     ensures meant { IfOk result (λ n. node_of n ≡ node_meant (tree_seen tree.now) (node_seen source.now)) }
     ensures typed { OnOk result (NodeTyped (tree_seen tree.now) (node_seen source.now)) }
     ensures refused { IfErr result (Faulty (NodeTyped (tree_seen tree.now) (node_seen source.now) → ⊥)) }

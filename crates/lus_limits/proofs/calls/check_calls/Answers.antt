@@ -15,8 +15,8 @@ index-requires c =
     let room : get_or c.args.order.now c.loop-place.place-index 0 < length c.in_ok-uses.uses.items = omega (arith, uses_length c.in_ok-uses.uses.items (node_uses (tree_seen t)) c.in_ok-uses.ensures, calls_length t) in
     search rules
 
-pub index-requires-then-deepest-ge-MOST_DEEP : goal.index-requires-then-deepest-ge-MOST_DEEP
-index-requires-then-deepest-ge-MOST_DEEP c =
+pub index-requires-then-deepest-ge-MOST_CALLS_DEEP : goal.index-requires-then-deepest-ge-MOST_CALLS_DEEP
+index-requires-then-deepest-ge-MOST_CALLS_DEEP c =
     let fits : get_or c.args.order.now c.loop-place.place-index 0 < length c.args.tree.now.nodes.items = node_fits c.args.tree.now c.args.order.now c.requires.order c.loop-place.place-index c.loop-place-test.true in
     search rules
 
@@ -45,8 +45,8 @@ loop-place-preserved c =
       filled = depth_more t c.args.order.now c.requires.order i c.loop-place.depths.items depth c.loop-place-test.true c.loop-place.invariant.filled is c.loop-place.invariant.size;
     }
 
-pub returns-then-deepest-ge-MOST_DEEP-clause-err : goal.returns-then-deepest-ge-MOST_DEEP-clause-err
-returns-then-deepest-ge-MOST_DEEP-clause-err c =
+pub returns-then-deepest-ge-MOST_CALLS_DEEP-clause-err : goal.returns-then-deepest-ge-MOST_CALLS_DEEP-clause-err
+returns-then-deepest-ge-MOST_CALLS_DEEP-clause-err c =
     let t = c.args.tree.now in
     let i = c.loop-place.place-index in
     let x = get_or c.args.order.now i 0 in
@@ -58,7 +58,7 @@ returns-then-deepest-ge-MOST_DEEP-clause-err c =
     let depth = c.deepest_call-deepest.result in
     let deepest = rw (c.deref.ensures.value, c.deref-in-loop-place.ensures.value) at c.deepest_call-deepest.ensures in
     let is : depth ≡ greatest (item 0 c.loop-place.depths.items) (used uses x) = rw used_is deepest in
-    depth_past t c.args.order.now c.requires.order i c.loop-place.depths.items depth c.loop-place-test.true c.loop-place.invariant.filled is c.if-deepest-ge-MOST_DEEP.true
+    depth_past t c.args.order.now c.requires.order i c.loop-place.depths.items depth c.loop-place-test.true c.loop-place.invariant.filled is c.if-deepest-ge-MOST_CALLS_DEEP.true
 
 pub returns : goal.returns
 returns c = record {
