@@ -6,8 +6,8 @@ ghost use Rattle.lus_syntax.specs.Reading.{HasRoom};
 
 use crate::token::Place;
 
-// The place behind one byte. Only the first byte of a character is counted as one.
-fn past_one(at: Place, b: u8) -> Place
+/// The place behind one byte. Only the first byte of a character is counted as one.
+pub fn past_one(at: Place, b: u8) -> Place
     requires byte { at.byte < 2 ^ 64 - 1 }
     requires line { at.line < 2 ^ 64 - 1 }
     requires column { at.column < 2 ^ 64 - 1 }

@@ -18,6 +18,10 @@ pub and_right : (a b : Bool) → (a && b) ≡ true → b ≡ true
 and_right true b e = e
 and_right false b e = absurd (true≢false (sym e))
 
+pub and_true : (a b : Bool) → a ≡ true → b ≡ true → (a && b) ≡ true
+and_true true b h k = k
+and_true false b h k = h
+
 bool_equal-true : (a b : Bool) → bool_equal a b ≡ true → a ≡ b
 bool_equal-true true b e = sym e
 bool_equal-true false false e = refl

@@ -31,7 +31,8 @@ pub fn try_apply(op: Op, operands: &[Value]) -> Option<Value>
     }
 }
 
-fn any_nil(operands: &[Value]) -> bool
+/// Whether an operand is nil.
+pub fn any_nil(operands: &[Value]) -> bool
     ensures { result ≡ any_nil (map value_of operands.now) }
 {
     for operand in operands {

@@ -11,12 +11,12 @@ mod row;
 mod text;
 mod value;
 
-pub use application::{apply, try_apply};
+pub use application::{any_nil, apply, try_apply};
 pub use equality::same;
 pub use fitting::fits_op;
 pub use memory::Memory;
 pub use names::Names;
 pub use operator::{Op, Operator};
-pub use row::Row;
+pub use row::{Row, copy_entry};
 pub use text::{print, push_value};
 pub use value::{Value, copy};

@@ -53,7 +53,8 @@ impl Row {
     }
 }
 
-fn copy_entry(alloc: Global, entry: &Option<Value>) -> Result<Option<Value>, Memory>
+/// An equal entry.
+pub fn copy_entry(alloc: Global, entry: &Option<Value>) -> Result<Option<Value>, Memory>
     ensures { IfOk result (λ e. entry_of e ≡ entry_of entry.now) }
 {
     match entry {
