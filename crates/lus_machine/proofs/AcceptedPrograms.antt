@@ -8,7 +8,7 @@ use Rattle.lus_streams.specs.Laws.{StreamsAreUnique}
 use Rattle.lus_streams.proofs.Unique.{streams_unique}
 use Rattle.lus_streams.proofs.FlagLaw.{flags_hold_in_worlds}
 use Rattle.lus_order.specs.Orders.{FlagsHoldIn}
-use Rattle.lus_resolution.proofs.CallsResolved.{resolved_calls_have_outputs}
+use Rattle.lus_resolved_streams.proofs.CallsResolved.{resolved_calls_have_outputs}
 use Rattle.lus_resolution.proofs.ProgramsMeant.{meant_programs_are_resolved}
 use Rattle.lus_simulation.specs.Checked.{IsChecked}
 use Rattle.lus_requests.specs.declared.request.Request.{Request}

@@ -12,7 +12,7 @@ use Rattle.lus_streams.specs.Order.{clock_variables}
 use Rattle.lus_streams.specs.Flags.{HasOutput, OutputIs, CallsHaveOutputs}
 use Rattle.lus_streams.proofs.Lists.{each_left, each_right, each_implies, each_item, below_at}
 use Rattle.lus_meaning.specs.Resolved.{EquationFits, NodeResolved, Resolved}
-use Rattle.lus_resolution.proofs.CallsResolved.{output_within, resolved_calls_have_outputs}
+use Rattle.lus_resolved_streams.proofs.CallsResolved.{output_within, resolved_calls_have_outputs}
 use Rattle.lus_values.proofs.Lists.{below_all}
 use Rattle.lus_resolution.proofs.Typed.{fits_given}
 use Rattle.lus_normal_form.specs.NormalForm.{StandsFor, IsRight, IsSimple}

@@ -11,7 +11,7 @@ use Rattle.lus_streams.proofs.Lists.{each_implies, each_item, each_left, each_ri
 use Rattle.lus_meaning.specs.Types.{count}
 use Rattle.lus_meaning.specs.Resolved.{targets_of, NodeResolved, Resolved}
 use Rattle.lus_meaning.specs.Resolved.{IsDefined as IsCounted}
-use Rattle.lus_resolution.proofs.CallsResolved.{resolved_calls_have_outputs}
+use Rattle.lus_resolved_streams.proofs.CallsResolved.{resolved_calls_have_outputs}
 use Rattle.lus_normal_form.specs.NormalNodes.{IsNormalNode, IsWithin}
 use Rattle.lus_normal_form.proofs.Equations.{each_within}
 use Rattle.lus_normal_form.proofs.Faults.{first_part}

@@ -5,7 +5,7 @@ use Rattle.std.specs.Prelude.{option_map}
 use Rattle.lus_values.specs.Lists.{item}
 use Rattle.lus_program.specs.declared.types.Kind.{Kind}
 use Rattle.lus_program.specs.Programs.{Expression, Operands, none, more, Node, Program}
-use Rattle.lus_streams.proofs.NilFree.{and_left, and_right}
+use Rattle.lus_values.proofs.Equalities.{and_left, and_right}
 use Rattle.lus_meaning.specs.Types.{count, each_counted}
 use Rattle.lus_meaning.specs.Meaning.{beside, in_order_from}
 use Rattle.lus_meaning.specs.Resolved.{kind_in, kinds_in}

@@ -13,8 +13,8 @@ use Rattle.lus_syntax.specs.Trees as tree
 use Rattle.lus_syntax.specs.Trees.{Numeral, Truth, Name, Call, Structure, Merge, Field, Parentheses, When, Unary, Binary, If, Parts, End, More, Tree}
 use Rattle.lus_program.specs.declared.types.Kind.TheVariants as kinds
 use Rattle.lus_program.specs.Programs.{Expression, literal, variable, operate, pre, arrow, fby, when, merge, call, Operands, none, more, calls, numbered, Equation, Node}
-use Rattle.lus_streams.proofs.Lists.{each_left, each_right, each_append}
-use Rattle.lus_streams.proofs.NilFree.{and_left, and_right}
+use Rattle.lus_values.proofs.Lists.{each_left, each_right, each_append}
+use Rattle.lus_values.proofs.Equalities.{and_left, and_right}
 use Rattle.lus_meaning.specs.Scopes.{Scope, Signature, entry}
 use Rattle.lus_meaning.specs.Tables.{numbered_from, groups, signature, scope}
 use Rattle.lus_meaning.specs.Types.{fields_of, fields_asked, size_of, branch_places, variable_kind, field_named, name_value, kind_of}

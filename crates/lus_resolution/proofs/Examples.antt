@@ -1,12 +1,10 @@
 -- Trees that no tokens spell: their programs lack what is promised, so they are not well formed.
-use Rattle.std.proofs.Common.{◌≡◌, ℕ, refl, List, [], ◌∷◌, None, Some, false, arith}
+use Rattle.std.proofs.Common.{◌≡◌, ℕ, refl, List, [], ◌∷◌, None, Some, false}
 use Rattle.lus_syntax.specs.declared.token.Place.{Place}
 use Rattle.lus_syntax.specs.declared.token.Span.{Span}
 use Rattle.lus_syntax.specs.declared.tree.NodeKind.TheVariants as node_kinds
 use Rattle.lus_syntax.specs.Trees as tree
 use Rattle.lus_program.specs.declared.types.Kind.TheVariants as kinds
-use Rattle.lus_streams.specs.Clocks.{at}
-use Rattle.lus_streams.specs.Flags.{HasOutput}
 use Rattle.lus_meaning.specs.Named.{has_left}
 use Rattle.lus_meaning.specs.Tables.{scope}
 use Rattle.lus_meaning.specs.WellTyped.{equation_typed}
@@ -56,6 +54,3 @@ silent = record { types = []; constants = []; nodes = node 103 [] [] ∷ h ∷ [
 
 bare_has_no_left : has_left bare ≡ false
 bare_has_no_left = refl
-
-bare_has_no_output : HasOutput (program_of silent) (at [] (meant (scope silent h) bare.right)) → ⊥
-bare_has_no_output some = absurd (omega (arith, some))

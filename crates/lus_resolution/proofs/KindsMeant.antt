@@ -29,7 +29,7 @@ use Rattle.lus_meaning.specs.Types.{same, all_same, where_true, prefix_kind, inf
 use Rattle.lus_meaning.specs.WellTyped.{kinds_given}
 use Rattle.lus_meaning.specs.Meaning.{one, two, in_order, prefix_meant, infix_meant, variable_place, no_test, test_meant, node_place, structure_meant, branches_meant, meant, all_meant}
 use Rattle.lus_meaning.specs.Resolved.{values_of, field_kinds, operator_kind, call_results, results, kind_of_variable, test_fits, merged, kind_in, kinds_in, kinds_given_in}
-use Rattle.lus_streams.proofs.NilFree.{and_left, and_right, and_true}
+use Rattle.lus_values.proofs.Equalities.{and_left, and_right, and_true}
 use Rattle.lus_resolution.proofs.Options.{and_then_gives, map_gives, where_true_gives, same_is, all_same_is, where_true_is, same_self, all_same_self}
 use Rattle.lus_resolution.proofs.Numbering.{paired, put}
 use Rattle.lus_resolution.proofs.Arranging.{kinds_from, kinds_from_are, order_kinds}

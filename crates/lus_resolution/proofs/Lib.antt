@@ -16,6 +16,4 @@ pub mod NodesMeant
 pub mod CallsNamed
 pub mod ProgramsMeant
 pub mod Typed
-pub mod CallsResolved
-pub mod NeedsResolved
 mod Examples

@@ -11,8 +11,8 @@ use Rattle.lus_syntax.specs.Trees.{Group, Tree}
 use Rattle.lus_program.specs.declared.expr.Test.{Test}
 use Rattle.lus_program.specs.declared.types.Kind.{Kind}
 use Rattle.lus_program.specs.Programs.{Node, calls}
-use Rattle.lus_streams.proofs.Lists.{each_left, each_right, each_append}
-use Rattle.lus_streams.proofs.NilFree.{and_left, and_right}
+use Rattle.lus_values.proofs.Lists.{each_left, each_right, each_append}
+use Rattle.lus_values.proofs.Equalities.{and_left, and_right}
 use Rattle.lus_meaning.specs.Scopes.{Scope}
 use Rattle.lus_meaning.specs.Tables.{text_of, groups, kind_named, scope}
 use Rattle.lus_meaning.specs.Types.{test_placed}

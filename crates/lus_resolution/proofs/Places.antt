@@ -5,7 +5,7 @@ use Rattle.std.specs.List.{list_all}
 use Rattle.std.specs.Str.{bytes_eq}
 use Rattle.lus_values.specs.Lists.{Each}
 use Rattle.lus_syntax.specs.Lexemes.{Text}
-use Rattle.lus_streams.proofs.NilFree.{and_left, and_right}
+use Rattle.lus_values.proofs.Equalities.{and_left, and_right}
 use Rattle.lus_meaning.specs.Named.{is_in, all_new}
 use Rattle.lus_meaning.proofs.AppendedNames.{is_in-append}
 use Rattle.lus_resolution.proofs.Texts.{same_text, text_self}

@@ -13,7 +13,7 @@ use Rattle.lus_syntax.specs.Trees as tree
 use Rattle.lus_syntax.specs.Trees.{Definition, Alias, Enumeration, StructureOf, TypeDeclaration, Group, Tree}
 use Rattle.lus_program.specs.declared.types.Kind.{Kind}
 use Rattle.lus_program.specs.Programs.{Declared, Variable, Node}
-use Rattle.lus_streams.proofs.Lists.{each_append}
+use Rattle.lus_values.proofs.Lists.{each_append}
 use Rattle.lus_meaning.specs.declared.entries.Placed.{Placed}
 use Rattle.lus_meaning.specs.declared.entries.Constructor.{Constructor}
 use Rattle.lus_meaning.specs.Scopes.{Scope, Signature, entry}

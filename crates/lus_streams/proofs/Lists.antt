@@ -3,21 +3,9 @@ use Rattle.std.proofs.Common.{◌≡◌, ℕ, zero, suc, ◌<◌, ◌≤◌, nat
 use Rattle.std.proofs.lemmas.Bool.{eqb-true}
 use Rattle.lus_values.specs.Lists.{item, Each}
 use Rattle.lus_streams.specs.Order.{is_in}
-pub use Rattle.lus_values.proofs.Lists.{below_at}
+pub use Rattle.lus_values.proofs.Lists.{below_at, each_left, each_right, each_append}
 
 module _ {X : Type 0} (P : X → Type 0) where
-  pub each_left : (xs ys : List X) → Each P (xs ++ ys) → Each P xs
-  each_left [] ys h = tt
-  each_left (x ∷ xs) ys h = (h.0, each_left xs ys h.1)
-
-  pub each_right : (xs ys : List X) → Each P (xs ++ ys) → Each P ys
-  each_right [] ys h = h
-  each_right (x ∷ xs) ys h = each_right xs ys h.1
-
-  pub each_append : (xs ys : List X) → Each P xs → Each P ys → Each P (xs ++ ys)
-  each_append [] ys h k = k
-  each_append (x ∷ xs) ys h k = (h.0, each_append xs ys h.1 k)
-
   pub each_all : ((x : X) → P x) → (xs : List X) → Each P xs
   each_all h [] = tt
   each_all h (x ∷ xs) = (h x, each_all h xs)

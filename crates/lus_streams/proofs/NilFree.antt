@@ -8,15 +8,11 @@ use Rattle.lus_values.specs.Values.{Value, bool, int, struct, nil, Fields, end, 
 use Rattle.lus_values.specs.Lists.{Each}
 use Rattle.std.specs.Option.{option_and_then, option_map}
 use Rattle.lus_values.specs.Operators.{one_int, two_ints, one_bool, two_bools, two_values, on_int, on_ints, compare_ints, on_bools, compare, compute, choose, field_at, project, is_nil, any_nil, give, apply}
-pub use Rattle.lus_values.proofs.Equalities.{and_left, and_right}
+pub use Rattle.lus_values.proofs.Equalities.{and_left, and_right, and_true}
 use Rattle.lus_streams.specs.Flags.{nil_free, nil_free_fields, IsNilFree}
 
 abbrev pub AreNilFree : List Value → Type 0
 AreNilFree vs = Each (λ v. IsTrue (nil_free v)) vs
-
-pub and_true : (a b : Bool) → a ≡ true → b ≡ true → (a && b) ≡ true
-and_true true b h k = k
-and_true false b h k = h
 
 pub or_more : (a b a' b' : Bool) → (a ≡ true → a' ≡ true) → (b ≡ true → b' ≡ true) → (a || b) ≡ true → (a' || b') ≡ true
 or_more true b a' b' f g h = ap (λ x. x || b') (f refl)

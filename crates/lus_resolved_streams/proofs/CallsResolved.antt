@@ -5,19 +5,20 @@ use Rattle.std.proofs.lemmas.List.{length-take-le}
 use Rattle.std.proofs.lemmas.Option.{get_or_from_slice_get}
 use Rattle.std.specs.Prelude.{slice_get}
 use Rattle.lus_values.specs.Lists.{Each}
-use Rattle.lus_values.proofs.Lists.{below_all}
+use Rattle.lus_values.proofs.Lists.{below_all, each_append, each_found}
 use Rattle.lus_program.specs.declared.types.Kind.{Kind}
 use Rattle.lus_program.specs.Programs.{Expression, literal, variable, operate, pre, arrow, fby, when, merge, call, Operands, none, more, Equation, Node, Program, empty_node, node_at}
 use Rattle.lus_streams.specs.Clocks.{Clock, parts}
 use Rattle.lus_streams.specs.Equations.{Definition, given_by, place_in, equation_clock, definition_in, definition_of, equation_parts}
 use Rattle.lus_streams.specs.Flags.{HasOutput, OutputIs, CallsHaveOutputs}
-use Rattle.lus_streams.proofs.Lists.{each_append, each_implies}
+use Rattle.lus_streams.proofs.Lists.{each_implies}
 use Rattle.lus_meaning.specs.Types.{all_same}
 use Rattle.lus_meaning.specs.Resolved.{input_kinds, output_kinds, call_results, results, kinds_given_in, EquationFits, NodeResolved}
-use Rattle.lus_resolution.specs.Laws.{ResolvedCallsHaveOutputs}
+use Rattle.lus_resolved_streams.specs.Laws.{ResolvedCallsHaveOutputs}
 use Rattle.lus_resolution.proofs.Options.{and_then_gives, where_true_gives}
 use Rattle.lus_resolution.proofs.Typed.{HasKind, HaveKinds, IsCall, HasGiven, operate_typed, both_typed, when_typed, merge_typed, call_typed, more_typed, whole_call, whole_typed, fits_given}
-use Rattle.lus_resolution.proofs.Calls.{EachCall, EachCallIn, HasSome, parts_have}
+use Rattle.lus_resolution.proofs.Calls.{EachCall, EachCallIn}
+use Rattle.lus_resolved_streams.proofs.CallParts.{HasSome, parts_have}
 
 -- a place on a left side is below its size
 place_or : (n : ℕ) (x : ℕ) (ys : List ℕ) (i : ℕ) (b : Bool) → (place_in x ys (suc n) ≡ Some i → i < suc n + length ys) → (if b then Some n else place_in x ys (suc n)) ≡ Some i → i < n + suc (length ys)
@@ -33,11 +34,6 @@ output_count f le =
     length-map (take f.outputs (drop f.inputs f.variables)) (λ v. v.kind)
     ∙ length-take-le f.outputs (drop f.inputs f.variables) (let rest = length-drop f.inputs f.variables in omega (arith, le, rest))
 
-each_at : {X : Type 0} (P : X → Type 0) (xs : List X) → Each P xs → (n : ℕ) (x : X) → slice_get xs n ≡ Some x → P x
-each_at P [] h n x e = cc
-each_at P (y ∷ ys) h zero x e = let same : y ≡ x = cc in subst P same h.0
-each_at P (y ∷ ys) h (suc n) x e = each_at P ys h.1 n x e
-
 module _ (p : Program) (resolved : Each (NodeResolved p) p.nodes) where
   -- a call gives as many types as its node has outputs
   results_count : (g : ℕ) (ks ls : List Kind) → results p g ks ≡ Some ls → (node_at p g).outputs ≡ length ls
@@ -47,7 +43,7 @@ module _ (p : Program) (resolved : Each (NodeResolved p) p.nodes) where
       let fits = where_true_gives (all_same (input_kinds f) ks) (Some (output_kinds f)) ls found.2 in
       let given : output_kinds f ≡ ls = let e = fits.1 in cc in
       let is : node_at p g ≡ f = get_or_from_slice_get p.nodes g f empty_node found.1 in
-      let r = each_at (NodeResolved p) p.nodes resolved g f found.1 in
+      let r = each_found (NodeResolved p) p.nodes g f resolved found.1 in
       ap (λ d. d.outputs) is ∙ sym (output_count f r.formals) ∙ ap length given
 
   module _ (f : Node) where

@@ -3,16 +3,16 @@ use Rattle.std.proofs.Common.{◌≡◌, refl, sym, ℕ, zero, suc, ◌<◌, nat
 use Rattle.std.proofs.lemmas.Option.{slice_get_within}
 use Rattle.std.specs.Prelude.{slice_get}
 use Rattle.lus_values.specs.Lists.{item, Each, Below}
-use Rattle.lus_values.proofs.Lists.{below_all}
+use Rattle.lus_values.proofs.Lists.{below_all, each_append}
 use Rattle.lus_program.specs.declared.expr.Test.{Test}
 use Rattle.lus_program.specs.declared.types.Kind.{Kind}
 use Rattle.lus_program.specs.Programs.{Expression, literal, variable, operate, pre, arrow, fby, when, merge, call, Operands, none, more, Equation, Node, Program, no_variable}
 use Rattle.lus_streams.specs.Clocks.{chain, clock_of}
 use Rattle.lus_streams.specs.Equations.{Definition, given_by, place_in, equation_clock, definition_in, definition_of}
 use Rattle.lus_streams.specs.Order.{needs, needs_all, clock_variables, needs_right, needed}
-use Rattle.lus_streams.proofs.Lists.{each_append, each_implies, each_item}
+use Rattle.lus_streams.proofs.Lists.{each_implies, each_item}
 use Rattle.lus_meaning.specs.Resolved.{values_of, kind_of_variable, test_fits, kinds_given_in, EquationFits, VariableFits, NodeResolved}
-use Rattle.lus_resolution.specs.Laws.{ResolvedNeedsAreVariables}
+use Rattle.lus_resolved_streams.specs.Laws.{ResolvedNeedsAreVariables}
 use Rattle.lus_resolution.proofs.Options.{map_gives}
 use Rattle.lus_resolution.proofs.Typed.{HasKind, HaveKinds, operate_typed, both_typed, when_typed, merge_typed, call_typed, more_typed, whole_call, whole_typed, fits_given}
 

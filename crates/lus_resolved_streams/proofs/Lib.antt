@@ -1,0 +1,4 @@
+pub mod CallParts
+pub mod CallsResolved
+pub mod NeedsResolved
+mod Examples
