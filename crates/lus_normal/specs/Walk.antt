@@ -1,26 +1,56 @@
 -- What the walk over a right side adds to what has been taken out and to the equations in normal form.
-use Rattle.std.specs.Prelude.{◌≡◌, ℕ, Option, List, [], ◌∷◌, ◌++◌, length}
+use Rattle.std.specs.Prelude.{◌≡◌, ◌+◌, ◌^◌, ◌<◌, ℕ, suc, Option, List, [], ◌∷◌, ◌++◌, length}
 use Rattle.lus_values.specs.Lists.{item}
 use Rattle.lus_program.specs.declared.expr.Expr.{Expr}
-use Rattle.lus_program.specs.declared.expr.Test.{Test}
 use Rattle.lus_program.specs.declared.node.Equation.{Equation as StoredEquation}
 use Rattle.lus_program.specs.declared.node.Node.{Node as StoredNode}
 use Rattle.lus_program.specs.declared.node.Program.{Program as StoredProgram}
 use Rattle.lus_program.specs.Programs.{Equation, node_at}
 use Rattle.lus_program.specs.View.{expression_of, node_of, operands_of, program_seen}
 use Rattle.lus_streams.specs.OnClock.{actuals, test_of}
+use Rattle.lus_clocks.specs.declared.clock.NewestTest.{NewestTest}
 use Rattle.lus_clocks.specs.Fitting.{names_in}
+use Rattle.lus_clocks.specs.View.{clock_in}
 use Rattle.lus_normal_nodes.specs.Forms.{added_equations, inner_form, normal_equations, right_form}
+use Rattle.lus_normal_nodes.specs.Forms.{operand_count, inner_count, right_count, inner_counts, argument_counts, equations_count}
 use Rattle.lus_normal_nodes.specs.Forms.{operand_out, inner_out, right_out, inner_outs, argument_outs}
 use Rattle.lus_normal.specs.declared.taking.Taking.{Taking}
 use Rattle.lus_normal.specs.Forms.{Taken, operand_takes, inner_takes, right_takes, inners_takes, branches_takes, arguments_takes}
 use Rattle.lus_normal.specs.Laws.{equations_take}
 use Rattle.lus_normal.specs.View.{all_taken_seen, equations_seen}
 
+-- how many new variables a whole right side makes, an operand that is taken out, and what may be one
+abbrev pub new_in_right : Expr → ℕ
+new_in_right e = right_count (expression_of e)
+
+abbrev pub new_in_part : Expr → ℕ
+new_in_part e = suc (right_count (expression_of e))
+
+abbrev pub new_in_operand : Expr → ℕ
+new_in_operand e = operand_count (expression_of e) (right_count (expression_of e))
+
+-- how many an expression inside of another makes, the operands of an operator, and arguments
+abbrev pub new_in_inner : Expr → ℕ
+new_in_inner e = inner_count (expression_of e) (right_count (expression_of e))
+
+abbrev pub new_in_inners : List Expr → ℕ
+new_in_inners es = inner_counts (operands_of es)
+
+abbrev pub new_in_arguments : List Expr → ℕ
+new_in_arguments es = argument_counts (operands_of es)
+
+-- numbers are left for n new variables
+abbrev pub HasRoom : Taking → (n : ℕ) → Type 0
+HasRoom t n = t.next + n < 2 ^ 32
+
 module _ (old new : Taking) where
   -- these are taken out behind what was
   abbrev pub Takes : List Taken → Type 0
   Takes ts = all_taken_seen new.taken.items ≡ all_taken_seen old.taken.items ++ ts
+
+  -- n variables got numbers
+  abbrev pub Numbers : ℕ → Type 0
+  Numbers n = new.next ≡ old.next + n
 
   -- these equations stand behind those that stood
   abbrev pub Adds : List Equation → Type 0
@@ -28,39 +58,48 @@ module _ (old new : Taking) where
 
   module _ (p : StoredProgram) (f : StoredNode) where
     -- what is taken out of a whole right side
-    abbrev pub TakesRight : Expr → Option Test → Type 0
-    TakesRight e test = Takes (right_takes (program_seen p) (node_of f) (expression_of e) test)
+    abbrev pub TakesRight : Expr → Option NewestTest → Type 0
+    TakesRight e clock = Takes (right_takes (program_seen p) (node_of f) (expression_of e) (clock_in clock))
 
     -- an operand, and what is taken out of it in turn
-    abbrev pub TakesPart : Expr → Option Test → Type 0
-    TakesPart e test =
-        Takes (record { test = test; operand = expression_of e } ∷ right_takes (program_seen p) (node_of f) (expression_of e) test)
+    abbrev pub TakesPart : Expr → Option NewestTest → Type 0
+    TakesPart e clock =
+        let own = expression_of e in
+        let test = clock_in clock in
+        Takes (record { test = test; operand = own } ∷ right_takes (program_seen p) (node_of f) own test)
 
     -- what is taken out for an operand, which may be a literal or a variable
-    abbrev pub TakesOperand : Expr → Option Test → Type 0
-    TakesOperand e test = Takes (operand_takes (expression_of e) test (right_takes (program_seen p) (node_of f) (expression_of e) test))
+    abbrev pub TakesOperand : Expr → Option NewestTest → Type 0
+    TakesOperand e clock =
+        let own = expression_of e in
+        let test = clock_in clock in
+        Takes (operand_takes own test (right_takes (program_seen p) (node_of f) own test))
 
     -- what is taken out for an expression inside of another
-    abbrev pub TakesInner : Expr → Option Test → Type 0
-    TakesInner e test = Takes (inner_takes (expression_of e) test (right_takes (program_seen p) (node_of f) (expression_of e) test))
+    abbrev pub TakesInner : Expr → Option NewestTest → Type 0
+    TakesInner e clock =
+        let own = expression_of e in
+        let test = clock_in clock in
+        Takes (inner_takes own test (right_takes (program_seen p) (node_of f) own test))
 
     -- what is taken out of the operands of an operator
-    abbrev pub TakesInners : List Expr → Option Test → Type 0
-    TakesInners es test = Takes (inners_takes (program_seen p) (node_of f) (operands_of es) test)
+    abbrev pub TakesInners : List Expr → Option NewestTest → Type 0
+    TakesInners es clock = Takes (inners_takes (program_seen p) (node_of f) (operands_of es) (clock_in clock))
 
     -- what is taken out of the branches of a merge by x
     abbrev pub TakesBranches : List Expr → (x : ℕ) → Type 0
     TakesBranches es x = Takes (branches_takes (program_seen p) (node_of f) (operands_of es) x 0)
 
     -- what is taken out of the arguments of a call of g with this base
-    abbrev pub TakesArguments : List Expr → (g : ℕ) → Option Test → Type 0
+    abbrev pub TakesArguments : List Expr → (g : ℕ) → Option NewestTest → Type 0
     TakesArguments es g base =
-        Takes
-        (arguments_takes (program_seen p) (node_of f) (operands_of es) (node_at (program_seen p) g) (names_in (actuals (operands_of es) [])) base 0)
+        let args = operands_of es in
+        let called = node_at (program_seen p) g in
+        Takes (arguments_takes (program_seen p) (node_of f) args called (names_in (actuals args [])) (clock_in base) 0)
 
     -- what is taken out of an equation, on the clock of its first variable
     abbrev pub TakesEquation : StoredEquation → Type 0
-    TakesEquation q = TakesRight q.right (test_of (node_of f) (item 0 q.targets.items 0))
+    TakesEquation q = Takes (right_takes (program_seen p) (node_of f) (expression_of q.right) (test_of (node_of f) (item 0 q.targets.items 0)))
 
   -- the equations of what is taken out of a whole right side
   abbrev pub AddsRight : Expr → Type 0
@@ -100,3 +139,7 @@ HasEquations f t = equations_seen t.equations.items ≡ normal_equations (length
 -- all that is taken out of it
 abbrev pub HasTaken : StoredProgram → StoredNode → Taking → Type 0
 HasTaken p f t = all_taken_seen t.taken.items ≡ equations_take (program_seen p) (node_of f) f.equations.items
+
+-- numbers are left for all new variables of a node
+abbrev pub NodeHasRoom : StoredNode → Type 0
+NodeHasRoom f = length (node_of f).variables + equations_count (equations_seen f.equations.items) < 2 ^ 32
