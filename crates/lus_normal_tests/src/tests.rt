@@ -1,5 +1,6 @@
 //! What normal forms of small programs keep, and what is taken out of them.
 
+use crate::{Counts, counts_of};
 use lus_clocks::{check_clocks, check_nil};
 use lus_grammar::parse;
 use lus_normal::{Normal, normalise};
@@ -54,8 +55,8 @@ fn memories_and_marks_are_counted(rt: HostRuntime) -> Result<(), Fail> {
     for (text, place, memories, firsts) in rows {
         let normal = normal_of(rt.alloc(), text).ok().ok_or("refused")?;
         assert!(rt; (place as usize) < normal.nodes(), "{text}");
-        assert_eq!(rt; normal.memories(NodeId(place)), memories, "{text}");
-        assert_eq!(rt; normal.firsts(NodeId(place)), firsts, "{text}");
+        let counts = counts_of(&normal, NodeId(place));
+        assert_eq!(rt; counts, Counts { memories, firsts }, "{text}");
     }
     Ok(())
 }
@@ -102,4 +103,26 @@ fn is_ten_by(expr: &Expr, divisor: u32) -> bool {
         ] => { *dividend == 10 && *variable == divisor }
         _ => false,
     }
+}
+
+#[test]
+fn operands_within_operands_are_taken_out_from_the_outermost(rt: HostRuntime) -> Result<(), Fail> {
+    let text = "node f(x: int) returns (y: int); let y = x; tel
+        node m(a: int; c: bool) returns (z: int when c); let z = f((0 -> pre f(a)) when c); tel";
+    let normal = normal_of(rt.alloc(), text).ok().ok_or("refused")?;
+    let node = normal.program().nodes.get(1).ok_or("no node")?;
+    let mut targets = Vec::new(rt.alloc());
+    for equation in &node.equations {
+        targets.extend_from_slice(&equation.targets)?;
+    }
+    assert_eq!(rt; targets.as_slice(), [2, 3, 4, 5].as_slice());
+    let mut on_base = Vec::new(rt.alloc());
+    for variable in &node.variables {
+        on_base.push(variable.test.is_none())?;
+    }
+    assert_eq!(rt;
+        on_base.as_slice(),
+        [true, true, false, false, true, true].as_slice()
+    );
+    Ok(())
 }

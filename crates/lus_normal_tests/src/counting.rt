@@ -1,0 +1,28 @@
+//! What a normal form tells of a node's state.
+
+ghost use Rattle.std.specs.Prelude.{◌≡◌, ◌<◌, length, min};
+ghost use Rattle.lus_program.specs.Programs.{node_at};
+ghost use Rattle.lus_program.specs.View.{program_seen};
+ghost use Rattle.lus_normal_form.specs.NormalNodes.{node_firsts, node_memories};
+
+use lus_normal::Normal;
+use lus_program::NodeId;
+
+/// How many memories and how many marks of a first instant stand in a node.
+#[derive(Clone, Copy, PartialEq, Eq, Debug)]
+pub struct Counts {
+    pub memories: u32,
+    pub firsts: u32,
+}
+
+/// The counts of a node of the source, the nodes that it calls aside.
+pub fn counts_of(normal: &Normal, node: NodeId) -> Counts
+    requires { node.0 < length (program_seen normal.now.source.program).nodes }
+    ensures memories { result.memories ≡ min (node_memories (node_at (program_seen normal.now.source.program) node.0)) 4294967295 }
+    ensures firsts { result.firsts ≡ min (node_firsts (node_at (program_seen normal.now.source.program) node.0)) 4294967295 }
+{
+    Counts {
+        memories: normal.memories(node),
+        firsts: normal.firsts(node),
+    }
+}
