@@ -15,7 +15,7 @@ use Rattle.lus_simulation.specs.Nesting.{depth_of}
 use Rattle.lus_simulation.proofs.Nested.{calls_nested}
 use Rattle.lus_flat_classes.specs.declared.class.Call.{Call}
 use Rattle.lus_flat_classes.specs.declared.class.Class.{Class}
-use Rattle.lus_flat_classes.specs.View.{class_of, classes_of, clock_seen}
+use Rattle.lus_flat_classes.specs.View.{class_of, classes_of, clock_from}
 use Rattle.lus_places.specs.Shaped.{AreNested, AreShaped, CallsClass}
 use Rattle.lus_turns.specs.Turned.{CallsNode, IsTurned}
 use Rattle.lus_code.specs.Made.{AreFirstTurned, AreTurned, HasSource}
@@ -119,7 +119,7 @@ module _ (p : Program) (classes : List Class) (are : AreTurned p classes) where
       let inputs = turned.belongs.inputs in
       let outputs = turned.outputs in
       let width = turned.belongs.width in
-      let long = length-map c.clocks.items clock_seen in
+      let long = length-map c.tests.items (clock_from c.tests.items) in
       let within = formals_within p has g in
       record {
         outputs = omega (arith, inputs, outputs, width, long, within);

@@ -12,7 +12,7 @@ use Rattle.lus_classes.specs.States.{WithinDepth}
 use Rattle.lus_classes.specs.Steps.{is_on_row}
 use Rattle.lus_classes.specs.ClassesOf.{IsClassOf}
 use Rattle.lus_flat_classes.specs.declared.class.Class.{Class}
-use Rattle.lus_flat_classes.specs.View.{clock_seen, class_of, classes_of}
+use Rattle.lus_flat_classes.specs.View.{clock_from, class_of, classes_of}
 use Rattle.lus_simulation.specs.Checked.{IsChecked}
 use Rattle.lus_simulation.specs.Fitting.{has_shape, has_presence, all_below, same_truth}
 use Rattle.lus_simulation.specs.LineageLaws.{StepsTo, Faults}
@@ -44,11 +44,11 @@ module _ (p : Program) (classes : List Class) (checked : IsChecked p) (code : Is
     pub same_inputs : k.inputs ≡ (node_at p f).inputs
     same_inputs = belongs.inputs ∙ (code.1.normal f).inputs
 
-    room : (node_at p f).inputs + (node_at p f).outputs ≤ length k.clocks.items
+    room : (node_at p f).inputs + (node_at p f).outputs ≤ length k.tests.items
     room =
         let own = formals_at p checked.resolved f in
         let more = (code.1.normal f).width in
-        let wide = sym (length-map k.clocks.items clock_seen) ∙ belongs.width in
+        let wide = sym (length-map k.tests.items (clock_from k.tests.items)) ∙ belongs.width in
         omega (arith, own, more, wide)
 
     pub same_clock : (x : ℕ) → x < (node_at p f).inputs → clock_in (class_of k) x ≡ clock_of (node_at p f) x
@@ -58,7 +58,7 @@ module _ (p : Program) (classes : List Class) (checked : IsChecked p) (code : Is
 
     module _ (i : Row) (shape : IsTrue (has_shape p f i)) (presence : IsTrue (has_presence p f i)) where
       pub has_formals : HasFormals (node_at p f).outputs i k
-      has_formals = (((rows_that_fit p checked).fits f i shape presence).long ∙ sym same_inputs, subst (λ n. n + (node_at p f).outputs ≤ length k.clocks.items) (sym same_inputs) room)
+      has_formals = (((rows_that_fit p checked).fits f i shape presence).long ∙ sym same_inputs, subst (λ n. n + (node_at p f).outputs ≤ length k.tests.items) (sym same_inputs) room)
 
   module _ (before after : Instance) (k : Class) (found : slice_get classes before.node ≡ Some k) (i : Row) (depth : ℕ) (deep : suc depth ≡ depth_of p) where
     pub step_follows : (outputs : Row) → IsTrue (has_shape p before.node i) → IsTrue (has_presence p before.node i)

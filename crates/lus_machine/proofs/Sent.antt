@@ -21,9 +21,9 @@ use Rattle.lus_program.specs.contracts.expr.Expr as Expr
 use Rattle.lus_program.specs.contracts.node.Equation as Equation
 use Rattle.lus_program.specs.contracts.node.Node as Node
 use Rattle.lus_program.specs.contracts.node.Program as Source
-use Rattle.lus_flat_classes.proofs.code.Code.TheLaws.TheKnot as class_code
-use Rattle.lus_flat_classes.specs.contracts.code.Code as ClassCode
-use Rattle.lus_flat_classes.specs.contracts.code.Atom as Atom
+use Rattle.lus_flat_classes.proofs.formula.Formula.TheLaws.TheKnot as formula
+use Rattle.lus_flat_classes.specs.contracts.formula.Formula as Formula
+use Rattle.lus_flat_classes.specs.contracts.formula.Atom as Atom
 use Rattle.lus_flat_classes.specs.contracts.class.Step as Step
 use Rattle.lus_flat_classes.specs.contracts.class.Cell as Cell
 use Rattle.lus_flat_classes.specs.contracts.class.Argument as Argument
@@ -119,11 +119,11 @@ ordered_sync = search (crosses, initialised_sync, sendable) depth 20
 
 -- ---- classes
 
-class_code_send : IsSend (ClassCode.the_field).row
-class_code_send = search (crosses, class_code.crosses, value.crosses, sendable) depth 60 fits 20000
+formula_send : IsSend (Formula.the_field).row
+formula_send = search (crosses, formula.crosses, value.crosses, sendable) depth 60 fits 20000
 
-class_code_sync : IsSync (ClassCode.the_field).row
-class_code_sync = search (crosses, class_code.crosses, value.crosses, sendable) depth 60 fits 20000
+formula_sync : IsSync (Formula.the_field).row
+formula_sync = search (crosses, formula.crosses, value.crosses, sendable) depth 60 fits 20000
 
 atom_send : IsSend (Atom.the_field).row
 atom_send = search (crosses, value.crosses, sendable) depth 60 fits 20000
@@ -132,10 +132,10 @@ atom_sync : IsSync (Atom.the_field).row
 atom_sync = search (crosses, value.crosses, sendable) depth 60 fits 20000
 
 step_send : IsSend Step.the_row
-step_send = search (crosses, class_code_send, sendable) depth 20
+step_send = search (crosses, formula_send, sendable) depth 20
 
 step_sync : IsSync Step.the_row
-step_sync = search (crosses, class_code_sync, sendable) depth 20
+step_sync = search (crosses, formula_sync, sendable) depth 20
 
 cell_send : IsSend Cell.the_row
 cell_send = search (crosses, atom_send, sendable) depth 20

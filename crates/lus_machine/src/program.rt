@@ -28,14 +28,14 @@ impl Model for Program {
     ghost use Rattle.std.specs.Coded.{codes};
     ghost use Rattle.lus_program.specs.contracts.expr.Expr as program_expr;
     ghost use Rattle.lus_syntax.specs.contracts.tree.Expr as tree_expr;
-    ghost use Rattle.lus_flat_classes.specs.contracts.code.Code as class_code;
+    ghost use Rattle.lus_flat_classes.specs.contracts.formula.Formula as formula;
     ghost use Rattle.lus_values.specs.contracts.value.Value as value;
     ghost use Rattle.lus_code.specs.Codes.{ProgramCode, program_of};
     ghost use Rattle.lus_machine.specs.Machines.{IsReady};
 
     ghost Value = { ProgramCode };
 
-    ghost coded = { Prim.hlevel (codes, program_expr.the_row.coded, tree_expr.the_row.coded, class_code.the_row.coded, value.the_row.coded) };
+    ghost coded = { Prim.hlevel (codes, program_expr.the_row.coded, tree_expr.the_row.coded, formula.the_row.coded, value.the_row.coded) };
 
     ghost view = { λ p. p.code };
 

@@ -45,7 +45,7 @@ module _ (old new : List Class) (rooms : List Extent) (done : List ℕ) (is : Is
         let was = is.placed q.node calls.called among calls.found in
         let cells : length c'.cells.items ≡ length c.cells.items = ap (λ d. length d.cells.items) placed.same in
         let firsts : length c'.firsts.items ≡ length c.firsts.items = ap (λ d. length d.firsts.items) placed.same in
-        let clocks : length c'.clocks.items ≡ length c.clocks.items = ap (λ d. length d.clocks.items) placed.same in
+        let clocks : length c'.tests.items ≡ length c.tests.items = ap (λ d. length d.tests.items) placed.same in
         let whole : c'.extent ≡ room_with c (parts_end rooms no_room c.calls.items) = ap (λ d. d.extent) placed.same ∙ placed.extent in
         let all_cells = ap (λ e. e.cells) whole in
         let all_firsts = ap (λ e. e.firsts) whole in
@@ -80,7 +80,7 @@ module _ (old new : List Class) (rooms : List Extent) (done : List ℕ) (is : Is
         let outputs : c'.outputs ≡ c.outputs = ap (λ d. d.outputs) placed.same in
         let cells : length c'.cells.items ≡ length c.cells.items = ap (λ d. length d.cells.items) placed.same in
         let firsts : length c'.firsts.items ≡ length c.firsts.items = ap (λ d. length d.firsts.items) placed.same in
-        let clocks : length c'.clocks.items ≡ length c.clocks.items = ap (λ d. length d.clocks.items) placed.same in
+        let clocks : length c'.tests.items ≡ length c.tests.items = ap (λ d. length d.tests.items) placed.same in
         let whole : c'.extent ≡ room_with c (parts_end rooms no_room c.calls.items) = ap (λ d. d.extent) placed.same ∙ placed.extent in
         let all_cells = ap (λ e. e.cells) whole in
         let all_firsts = ap (λ e. e.firsts) whole in

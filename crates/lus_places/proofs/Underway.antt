@@ -69,14 +69,15 @@ pub record IsUnderway (old new : List Class) (rooms : List Extent) (done : List 
   pub kept : (g : ℕ) → (Contains done g → ⊥) → slice_get new g ≡ slice_get old g
   pub placed : (g : ℕ) (c : Class) → Contains done g → slice_get old g ≡ Some c → IsDone new rooms done g c
 
-calls_seen : (rooms : List Extent) (from : Extent) (qs : List Call) → map call_of (placed_calls rooms from qs) ≡ map call_of qs
-calls_seen rooms from [] = refl
-calls_seen rooms from (q ∷ qs) = ap (λ l. call_of q ∷ l) (calls_seen rooms (together from (item no_room rooms q.node)) qs)
+calls_seen : (c : Class) (rooms : List Extent) (from : Extent) (qs : List Call) → map (call_of c.tests.items) (placed_calls rooms from qs) ≡ map (call_of c.tests.items) qs
+calls_seen c rooms from [] = refl
+calls_seen c rooms from (q ∷ qs) = ap (λ l. call_of c.tests.items q ∷ l) (calls_seen c rooms (together from (item no_room rooms q.node)) qs)
 
 -- a class with its places is seen as it was
 pub class_seen : (rooms : List Extent) (c c' : Class) (room : Extent) → IsPlaced rooms c c' room → class_of c' ≡ class_of c
 class_seen rooms c c' room is =
-    let same : map call_of is.calls.items ≡ map call_of c.calls.items = ap (map call_of) is.items ∙ calls_seen rooms no_room c.calls.items in
+    let ts = c.tests.items in
+    let same : map (call_of ts) is.calls.items ≡ map (call_of ts) c.calls.items = ap (map (call_of ts)) is.items ∙ calls_seen c rooms no_room c.calls.items in
     let with_calls = λ (qs : _). record (class_of c) { calls = qs } in
     ap class_of is.same ∙ ap with_calls same
 

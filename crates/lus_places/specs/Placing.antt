@@ -34,7 +34,7 @@ parts_end rooms from (q ∷ qs) = parts_end rooms (together from (item no_room r
 -- room for a class's own places and the parts behind them
 abbrev pub room_with : Class → Extent → Extent
 room_with c parts =
-    record { cells = length c.cells.items + parts.cells; firsts = length c.firsts.items + parts.firsts; variables = length c.clocks.items + parts.variables }
+    record { cells = length c.cells.items + parts.cells; firsts = length c.firsts.items + parts.firsts; variables = length c.tests.items + parts.variables }
 
 -- the part of a call ends within room for parts
 pub record EndsWithin (parts : Extent) (q : Call) : Type 0 where

@@ -17,7 +17,7 @@ pub record CallsClass (classes : List Class) (q : Call) : Type 0 where
 -- a class can be run once it has places: its outputs stand behind its inputs, its steps are made in their turns, and its calls
 -- are of classes
 pub record IsShaped (classes : List Class) (c : Class) : Type 0 where
-  pub outputs : c.inputs + c.outputs ≤ length c.clocks.items
+  pub outputs : c.inputs + c.outputs ≤ length c.tests.items
   pub turns : HasTurns c
   pub calls : Each (CallsClass classes) c.calls.items
 

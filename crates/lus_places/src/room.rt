@@ -72,7 +72,7 @@ fn room_with(class: &Class, parts: Extent) -> Option<Extent>
 {
     let cells = counted(class.cells.len(), parts.cells)?;
     let firsts = counted(class.firsts.len(), parts.firsts)?;
-    let variables = counted(class.clocks.len(), parts.variables)?;
+    let variables = counted(class.tests.len(), parts.variables)?;
     Some(Extent {
         cells,
         firsts,

@@ -11,7 +11,7 @@ use crate::entries::entry_at;
 use crate::error::StepError;
 use crate::presence::is_on;
 use crate::value::value_of;
-use lus_flat_classes::{Class, Code, Target};
+use lus_flat_classes::{Class, Formula, Target};
 use lus_values::Value;
 use std::alloc::Global;
 
@@ -19,8 +19,8 @@ use std::alloc::Global;
 pub fn is_present(class: &Class, row: &[Option<Value>], variable: usize) -> bool
     ensures { result ≡ is_on_row (clock_in (class_of class.now) variable) (map entry_of row.now) }
 {
-    match class.clocks.get(variable) {
-        Some(clock) => is_on(clock, row),
+    match class.tests.get(variable) {
+        Some(test) => is_on(&class.tests, *test, row),
         None => true,
     }
 }
@@ -34,7 +34,7 @@ pub fn put(row: &mut [Option<Value>], variable: usize, entry: Option<Value>)
     }
 }
 
-/// Gives a variable the value of its code, or no entry where its clock is absent.
+/// Gives a variable the value of its formula, or no entry where its clock is absent.
 pub fn give(
     alloc: Global,
     class: &Class,
@@ -42,15 +42,15 @@ pub fn give(
     firsts: &[bool],
     row: &mut [Option<Value>],
     variable: usize,
-    code: &Code,
+    formula: &Formula,
 ) -> Result<(), StepError>
-    ensures { GivesTo class.now cells.now firsts.now variable code.now row.old result row.new }
+    ensures { GivesTo class.now cells.now firsts.now variable formula.now row.old result row.new }
 {
     if !is_present(class, row, variable) {
         put(row, variable, None);
         return Ok(());
     }
-    match value_of(alloc, code, cells, firsts, row)? {
+    match value_of(alloc, formula, cells, firsts, row)? {
         Some(value) => {
             put(row, variable, Some(value));
             Ok(())

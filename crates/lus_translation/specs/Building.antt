@@ -11,36 +11,37 @@ use Rattle.lus_program.specs.View.{expression_of, operands_of, node_of, program_
 use Rattle.lus_streams.specs.Clocks.{Clock, chain, clock_of}
 use Rattle.lus_classes.specs.Classes.{Argument, Call, Class, Memory, Step}
 use Rattle.lus_flat_classes.specs.declared.class.Call.{Call as StoredCall}
-use Rattle.lus_flat_classes.specs.declared.code.Code.{Code as StoredCode}
-use Rattle.lus_flat_classes.specs.View.{call_of, clock_seen, code_of, memory_of, steps_of}
+use Rattle.lus_flat_classes.specs.declared.formula.Formula.{Formula}
+use Rattle.lus_flat_classes.specs.View.{code_of, steps_of}
 use Rattle.lus_translation.specs.declared.kept.Kept.{Kept}
 use Rattle.lus_translation.specs.declared.steps.Built.{Built}
 use Rattle.lus_translation.specs.declared.turn.Turn.{Turn as StoredTurn}
 use Rattle.lus_translation.specs.Forms.{all_cells, all_firsts, all_steps, arguments_form, branch_codes, call_first, calls_form, cells_at, class_form, code_form, codes_form, equation_steps, firsts_at, given_steps, numbers_form, steps_at, turn_steps}
+use Rattle.lus_translation.specs.Newest.{call_seen, cell_seen, newest, tested_call, tested_memory}
 use Rattle.lus_translation.specs.View.{turn_of}
 
 -- the numbers of the next cell and the next first-flag
 abbrev pub next_cell : Kept → ℕ
-next_cell kept = length (map memory_of kept.cells.items)
+next_cell kept = length (map cell_seen kept.cells.items)
 
 abbrev pub next_first : Kept → ℕ
-next_first kept = length (map clock_seen kept.firsts.items)
+next_first kept = length kept.firsts.items
 
--- these cells were added, and these first-flags
+-- cells were added for these memories, and first-flags on these clocks: what is stored of a clock is its newest test
 abbrev pub KeepsCells : (old new : Kept) → List Memory → Type 0
-KeepsCells old new ms = map memory_of new.cells.items ≡ map memory_of old.cells.items ++ ms
+KeepsCells old new ms = map cell_seen new.cells.items ≡ map cell_seen old.cells.items ++ map tested_memory ms
 
 abbrev pub KeepsFirsts : (old new : Kept) → List Clock → Type 0
-KeepsFirsts old new ks = map clock_seen new.firsts.items ≡ map clock_seen old.firsts.items ++ ks
+KeepsFirsts old new ks = new.firsts.items ≡ old.firsts.items ++ map newest ks
 
 -- a code whose cells and first-flags come next is that of an expression on a clock
-abbrev pub IsCodeFrom : Kept → Expression → Clock → StoredCode → Type 0
+abbrev pub IsCodeFrom : Kept → Expression → Clock → Formula → Type 0
 IsCodeFrom kept e k d = code_of d ≡ code_form (next_cell kept) (next_first kept) e k
 
-abbrev pub AreCodesFrom : Kept → Operands → Clock → List StoredCode → Type 0
+abbrev pub AreCodesFrom : Kept → Operands → Clock → List Formula → Type 0
 AreCodesFrom kept es k ds = map code_of ds ≡ codes_form (next_cell kept) (next_first kept) es k
 
-abbrev pub AreBranchesFrom : Kept → Operands → (variable : ℕ) → Clock → List StoredCode → Type 0
+abbrev pub AreBranchesFrom : Kept → Operands → (variable : ℕ) → Clock → List Formula → Type 0
 AreBranchesFrom kept es x k ds = map code_of ds ≡ branch_codes (next_cell kept) (next_first kept) es x 0 k
 
 -- the clock of a variable among these
@@ -57,7 +58,7 @@ calls_from p f = calls_form (program_seen p) (node_of f) (node_of f).equations
 
 abbrev pub AddsCall : StoredProgram → StoredNode → StoredEquation → (old new : List StoredCall) → Type 0
 AddsCall p f q old new =
-    map call_of new ≡ map call_of old ++ call_first (program_seen p) (expression_of q.right) (clock_of (node_of f) (item 0 q.targets.items 0)) []
+    map call_seen new ≡ map call_seen old ++ map tested_call (call_first (program_seen p) (expression_of q.right) (clock_of (node_of f) (item 0 q.targets.items 0)) [])
 
 -- these cells, first-flags and steps were added
 abbrev pub AddsCells : (old new : Built) → List Memory → Type 0

@@ -14,6 +14,9 @@ use Rattle.lus_normal_form.specs.NormalForm.{AreAtoms, IsSimple}
 use Rattle.lus_normal_form.specs.Named.{Known, GivesOutput, Uses}
 use Rattle.lus_normal_nodes.specs.Laws.{HaveFormals}
 use Rattle.lus_normal_nodes.specs.Ready.{Declared, IsReady, operand_size}
+use Rattle.lus_flat_classes.specs.declared.class.Class.{Class as StoredClass}
+use Rattle.lus_flat_classes.specs.View.{class_of}
+use Rattle.lus_translation.specs.Newest.{HasNewest}
 use Rattle.lus_translation.specs.Forms.{Turn, class_form, code_form, call_form, calls_form, kept_cells, kept_firsts, numbers_form}
 
 -- a list has these items from place n on
@@ -77,3 +80,9 @@ pub record HasShapeOf (p : Program) (f : Node) (c : Class) : Type 0 where
 abbrev pub ClassesHaveShape : Type 0
 ClassesHaveShape =
     (p : Program) (f : Node) → IsReady p f → (qs : List StoredEquation) → f.equations ≡ equations_from 0 qs → (ts : List Turn) → HasShapeOf p f (class_form p f qs (numbers_form 0 qs) ts)
+
+-- a class that keeps the newest tests of the class that is made is that class: the older ones are those of the tests' variables
+abbrev pub NewestSuffice : Type 0
+NewestSuffice =
+    (p : Program) (f : Node) → IsReady p f → (qs : List StoredEquation) → f.equations ≡ equations_from 0 qs → (ts : List Turn) (c : StoredClass)
+    → HasNewest f c (class_form p f qs (numbers_form 0 qs) ts) → class_of c ≡ class_form p f qs (numbers_form 0 qs) ts

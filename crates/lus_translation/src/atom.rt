@@ -6,7 +6,7 @@ ghost use Rattle.lus_flat_classes.specs.View.{atom_of as atom_in, code_of as cod
 ghost use Rattle.lus_classes.specs.ClassesOf.{atom_code};
 ghost use Rattle.lus_translation.specs.Forms.{atom_form};
 
-use lus_flat_classes::{Atom, Code};
+use lus_flat_classes::{Atom, Formula};
 use lus_program::Expr;
 use lus_values::{Memory, Value, copy};
 use std::alloc::Global;
@@ -22,12 +22,12 @@ pub fn atom_of(alloc: Global, operand: &Expr) -> Result<Atom, Memory>
     }
 }
 
-/// The code of what an atom holds.
-pub fn code_of_atom(atom: Atom) -> Code
+/// The formula of what an atom holds.
+pub fn formula_of_atom(atom: Atom) -> Formula
     ensures { code_in result ≡ atom_code (atom_in atom) }
 {
     match atom {
-        Atom::Constant(value) => Code::Fixed(value),
-        Atom::Variable(variable) => Code::Fetch(variable),
+        Atom::Constant(value) => Formula::Fixed(value),
+        Atom::Variable(variable) => Formula::Fetch(variable),
     }
 }

@@ -4,12 +4,12 @@ ghost use Rattle.std.specs.Prelude.{◌≡◌, ◌++◌, IfOk, OnOk, map};
 ghost use Rattle.lus_program.specs.Programs.{node_at};
 ghost use Rattle.lus_program.specs.View.{expression_of, operands_of, program_seen};
 ghost use Rattle.lus_streams.specs.Clocks.{base_of as base_in, operand, renamed_clock};
-ghost use Rattle.lus_flat_classes.specs.View.{argument_of, call_of as call_in};
 ghost use Rattle.lus_translation.specs.Forms.{call_form, renamed_one};
+ghost use Rattle.lus_translation.specs.Newest.{argument_seen, call_seen, tested_argument, tested_call};
 ghost use Rattle.lus_translation.specs.Building.{clock_among, arguments_from};
 
 use crate::atom::atom_of;
-use crate::clock::{clock_at, without_tests};
+use crate::clock::{clock_at, newest, without_tests};
 use crate::formals::inputs_at;
 use crate::kept::number_of;
 use lus_clocks::variables_at;
@@ -88,7 +88,7 @@ fn arguments_of(
     arguments: &[Expr],
     base: &[Test],
 ) -> Result<Vec<Argument>, Memory>
-    ensures { IfOk result (λ found. map argument_of found.items ≡ arguments_from program.now called arguments.now base.now) }
+    ensures { IfOk result (λ found. map argument_seen found.items ≡ map tested_argument (arguments_from program.now called arguments.now base.now)) }
 {
     let mut found = Vec::new(alloc);
     for (formal, argument) in arguments.iter().enumerate() {
@@ -101,7 +101,8 @@ fn arguments_of(
             base,
         )?;
         let atom = atom_of(alloc, argument)?;
-        found.push(Argument { clock, atom })?;
+        let test = newest(&clock);
+        found.push(Argument { test, atom })?;
     }
     Ok(found)
 }
@@ -131,13 +132,13 @@ pub fn call_of(
     arguments: &[Expr],
     clock: &[Test],
 ) -> Result<Call, Memory>
-    ensures { IfOk result (λ q. call_in q ≡ call_form (program_seen program.now) called (operands_of arguments.now) clock.now) }
+    ensures { IfOk result (λ q. call_seen q ≡ tested_call (call_form (program_seen program.now) called (operands_of arguments.now) clock.now)) }
 {
     let base = base_of(alloc, program, called, clock)?;
     let arguments = arguments_of(alloc, program, called, arguments, &base)?;
     Ok(Call {
         node: called,
-        base,
+        base: newest(&base),
         arguments,
         offset: NO_ROOM,
         extent: NO_ROOM,

@@ -4,8 +4,8 @@ ghost use Rattle.std.specs.Prelude.{◌≡◌, IfOk, OnOk, length, map};
 ghost use Rattle.lus_values.specs.Lists.{item};
 ghost use Rattle.lus_program.specs.View.{node_of};
 ghost use Rattle.lus_streams.specs.Clocks.{clock_of as clock_in};
-ghost use Rattle.lus_flat_classes.specs.View.{call_of as call_in, clock_seen};
-ghost use Rattle.lus_translation.specs.Forms.{all_clocks, numbers_form};
+ghost use Rattle.lus_translation.specs.Forms.{numbers_form};
+ghost use Rattle.lus_translation.specs.Newest.{call_seen, tested_call};
 ghost use Rattle.lus_translation.specs.Building.{calls_from, AddsCall};
 
 use crate::call::call_of;
@@ -53,7 +53,7 @@ fn add_call(
 
 /// The calls that are right sides of a node, in the order of its equations.
 pub fn calls_of(alloc: Global, program: &Program, node: &Node) -> Result<Vec<Call>, Memory>
-    ensures { IfOk result (λ qs. map call_in qs.items ≡ calls_from program.now node.now) }
+    ensures { IfOk result (λ qs. map call_seen qs.items ≡ map tested_call (calls_from program.now node.now)) }
 {
     let mut calls = Vec::new(alloc);
     for equation in &node.equations {
@@ -81,14 +81,13 @@ pub fn numbers_of(alloc: Global, node: &Node) -> Result<Vec<u32>, Memory>
     Ok(numbers)
 }
 
-/// The clock of each variable of a node.
-pub fn clocks_of(alloc: Global, node: &Node) -> Result<Vec<Vec<Test>>, Memory>
-    ensures { IfOk result (λ ks. map clock_seen ks.items ≡ all_clocks (node_of node.now) 0 (length (node_of node.now).variables)) }
+/// The newest test of each variable of a node.
+pub fn tests_of(alloc: Global, node: &Node) -> Result<Vec<Option<Test>>, Memory>
+    ensures { IfOk result (λ ts. ts.items ≡ map (λ v. v.test) node.now.variables.items) }
 {
-    let mut clocks = Vec::new(alloc);
-    for place in 0..node.variables.len() {
-        let variable = number_of(place)?;
-        clocks.push(clock_at(alloc, &node.variables, variable)?)?;
+    let mut tests = Vec::new(alloc);
+    for variable in &node.variables {
+        tests.push(variable.test)?;
     }
-    Ok(clocks)
+    Ok(tests)
 }

@@ -2,13 +2,13 @@
 
 ghost use Rattle.std.specs.Prelude.{◌≡◌, Some, IfOk, OnOk, length};
 ghost use Rattle.lus_program.specs.View.{node_of};
-ghost use Rattle.lus_flat_classes.specs.View.{class_of as class_in};
 ghost use Rattle.lus_values.specs.Lists.{Each};
 ghost use Rattle.lus_translation.specs.Making.{GivesAny};
+ghost use Rattle.lus_translation.specs.Newest.{HasNewest};
 ghost use Rattle.lus_translation.specs.Forms.{equation_cells, equation_firsts};
 ghost use Rattle.lus_translation.specs.Building.{AddsCells, AddsFirsts, Adds, steps_for, steps_in_turn, cells_in_turn, firsts_in_turn, steps_in_turns, cells_in_turns, firsts_in_turns, class_from};
 
-use crate::calls::{calls_of, clock_of_equation, clocks_of, numbers_of};
+use crate::calls::{calls_of, clock_of_equation, numbers_of, tests_of};
 use crate::kept::Kept;
 use crate::steps::{Built, give_turn};
 use crate::turn::Turn;
@@ -90,14 +90,15 @@ fn make_turns(
     Ok(())
 }
 
-/// The class of a node whose equations have these turns, without its own room and that of its calls.
+/// The class of a node whose equations have these turns, without its own room and that of its calls. Of its clocks it keeps the
+/// newest tests.
 pub fn class_with(
     alloc: Global,
     program: &Program,
     node: &Node,
     turns: &[Turn],
 ) -> Result<Class, Memory>
-    ensures form { IfOk result (λ c. class_in c ≡ class_from program.now node.now turns.now) }
+    ensures form { IfOk result (λ c. HasNewest (node_of node.now) c (class_from program.now node.now turns.now)) }
     ensures outputs { IfOk result (λ c. c.outputs ≡ node.now.outputs) }
     ensures given { IfOk result (λ c. Each GivesAny c.steps.items) }
 {
@@ -110,12 +111,12 @@ pub fn class_with(
     };
     let numbers = numbers_of(alloc, node)?;
     make_turns(alloc, program, node, &numbers, turns, &mut built)?;
-    let clocks = clocks_of(alloc, node)?;
+    let tests = tests_of(alloc, node)?;
     let calls = calls_of(alloc, program, node)?;
     Ok(Class {
         inputs: node.inputs,
         outputs: node.outputs,
-        clocks,
+        tests,
         steps: built.steps,
         cells: built.kept.cells,
         firsts: built.kept.firsts,

@@ -5,10 +5,10 @@ ghost use Rattle.lus_program.specs.View.{expression_of, operands_of};
 ghost use Rattle.lus_translation.specs.Forms.{cell_for, kept_cells, all_kept_cells, branch_cells, kept_firsts, all_kept_firsts, branch_firsts};
 ghost use Rattle.lus_translation.specs.Building.{next_cell, next_first, KeepsCells, KeepsFirsts, IsCodeFrom, AreCodesFrom, AreBranchesFrom};
 
-use crate::atom::{atom_of, code_of_atom};
-use crate::clock::{copied, with_test};
+use crate::atom::{atom_of, formula_of_atom};
+use crate::clock::{newest, with_test};
 use crate::kept::{Kept, keep_cell, keep_first, number_of};
-use lus_flat_classes::Code;
+use lus_flat_classes::Formula;
 use lus_program::{Expr, Test};
 use lus_values::{Memory, Value, copy};
 use std::alloc::Global;
@@ -20,53 +20,58 @@ fn cell_of(alloc: Global, operand: &Expr, clock: &[Test], kept: &mut Kept) -> Re
     ensures firsts { OnOk result (kept.new.firsts ≡ kept.old.firsts) }
 {
     let atom = atom_of(alloc, operand)?;
-    keep_cell(copied(alloc, clock)?, atom, kept)
+    keep_cell(newest(clock), atom, kept)
 }
 
 /// A first-flag on a clock: its number.
-fn first_of(alloc: Global, clock: &[Test], kept: &mut Kept) -> Result<u32, Memory>
+fn first_of(clock: &[Test], kept: &mut Kept) -> Result<u32, Memory>
     ensures number { IfOk result (λ n. n ≡ next_first kept.old) }
     ensures firsts { OnOk result (KeepsFirsts kept.old kept.new (clock.now ∷ [])) }
     ensures cells { OnOk result (kept.new.cells ≡ kept.old.cells) }
 {
-    keep_first(copied(alloc, clock)?, kept)
+    keep_first(newest(clock), kept)
 }
 
 /// The code of an expression in normal form, which is no call, on a clock. Its cells and first-flags are numbered in the order
 /// of the text, a flag before those of its operands, a cell after them.
 #[cycle(codes)]
-pub fn code_of(alloc: Global, expr: &Expr, clock: &[Test], kept: &mut Kept) -> Result<Code, Memory>
+pub fn code_of(
+    alloc: Global,
+    expr: &Expr,
+    clock: &[Test],
+    kept: &mut Kept,
+) -> Result<Formula, Memory>
     ensures code { IfOk result (λ d. IsCodeFrom kept.old (expression_of expr.now) clock.now d) }
     ensures cells { OnOk result (KeepsCells kept.old kept.new (kept_cells (expression_of expr.now) clock.now)) }
     ensures firsts { OnOk result (KeepsFirsts kept.old kept.new (kept_firsts (expression_of expr.now) clock.now)) }
 {
     match expr {
-        Expr::Literal(_, value) => Ok(Code::Fixed(copy(alloc, value)?)),
-        Expr::Variable(_, variable) => Ok(Code::Fetch(*variable)),
+        Expr::Literal(_, value) => Ok(Formula::Fixed(copy(alloc, value)?)),
+        Expr::Variable(_, variable) => Ok(Formula::Fetch(*variable)),
         Expr::Operate(_, operator, operands) => {
             let codes = codes_of(alloc, operands, clock, kept)?;
-            Ok(Code::Compute(*operator, codes))
+            Ok(Formula::Compute(*operator, codes))
         }
-        Expr::Pre(_, operand) => Ok(Code::Recall(cell_of(alloc, operand, clock, kept)?)),
+        Expr::Pre(_, operand) => Ok(Formula::Recall(cell_of(alloc, operand, clock, kept)?)),
         Expr::Arrow(_, first, later) => {
-            let flag = first_of(alloc, clock, kept)?;
+            let flag = first_of(clock, kept)?;
             let first = Box::new(alloc, code_of(alloc, first, clock, kept)?)?;
             let later = Box::new(alloc, code_of(alloc, later, clock, kept)?)?;
-            Ok(Code::Choose(flag, first, later))
+            Ok(Formula::Choose(flag, first, later))
         }
         Expr::Fby(_, first, later) => {
-            let flag = first_of(alloc, clock, kept)?;
+            let flag = first_of(clock, kept)?;
             let first = Box::new(alloc, code_of(alloc, first, clock, kept)?)?;
             let cell = cell_of(alloc, later, clock, kept)?;
-            let later = Box::new(alloc, Code::Recall(cell))?;
-            Ok(Code::Choose(flag, first, later))
+            let later = Box::new(alloc, Formula::Recall(cell))?;
+            Ok(Formula::Choose(flag, first, later))
         }
-        Expr::When(_, _, operand) => Ok(code_of_atom(atom_of(alloc, operand)?)),
+        Expr::When(_, _, operand) => Ok(formula_of_atom(atom_of(alloc, operand)?)),
         Expr::Merge(_, variable, branches) => {
             let codes = branch_codes_of(alloc, *variable, branches, clock, kept)?;
-            Ok(Code::Select(*variable, codes))
+            Ok(Formula::Select(*variable, codes))
         }
-        Expr::Call(_, _, _) => Ok(Code::Fixed(Value::Nil)),
+        Expr::Call(_, _, _) => Ok(Formula::Fixed(Value::Nil)),
     }
 }
 
@@ -77,7 +82,7 @@ fn codes_of(
     operands: &[Expr],
     clock: &[Test],
     kept: &mut Kept,
-) -> Result<Vec<Code>, Memory>
+) -> Result<Vec<Formula>, Memory>
     ensures code { IfOk result (λ ds. AreCodesFrom kept.old (operands_of operands.now) clock.now ds.items) }
     ensures cells { OnOk result (KeepsCells kept.old kept.new (all_kept_cells (operands_of operands.now) clock.now)) }
     ensures firsts { OnOk result (KeepsFirsts kept.old kept.new (all_kept_firsts (operands_of operands.now) clock.now)) }
@@ -98,7 +103,7 @@ fn branch_codes_of(
     branches: &[Expr],
     clock: &[Test],
     kept: &mut Kept,
-) -> Result<Vec<Code>, Memory>
+) -> Result<Vec<Formula>, Memory>
     ensures code { IfOk result (λ ds. AreBranchesFrom kept.old (operands_of branches.now) variable clock.now ds.items) }
     ensures cells { OnOk result (KeepsCells kept.old kept.new (branch_cells (operands_of branches.now) variable 0 clock.now)) }
     ensures firsts { OnOk result (KeepsFirsts kept.old kept.new (branch_firsts (operands_of branches.now) variable 0 clock.now)) }

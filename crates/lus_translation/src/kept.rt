@@ -1,18 +1,19 @@
 //! What a class keeps from one instant to the next, numbered as it is met.
 
-ghost use Rattle.std.specs.Prelude.{◌≡◌, ◌∷◌, [], IfOk, OnOk};
+ghost use Rattle.std.specs.Prelude.{◌≡◌, ◌∷◌, ◌++◌, [], IfOk, OnOk, map};
 ghost use Rattle.lus_flat_classes.specs.View.{atom_of as atom_in};
-ghost use Rattle.lus_translation.specs.Building.{next_cell, next_first, KeepsCells, KeepsFirsts};
+ghost use Rattle.lus_translation.specs.Building.{next_cell, next_first};
+ghost use Rattle.lus_translation.specs.Newest.{cell_seen};
 
 use lus_flat_classes::{Atom, Cell};
 use lus_program::Test;
 use lus_values::Memory;
 
-/// The cells and the clocks of first-flags so far.
+/// The cells so far, and the newest tests of the clocks of first-flags.
 #[derive(Drop)]
 pub struct Kept {
     pub cells: Vec<Cell>,
-    pub firsts: Vec<Vec<Test>>,
+    pub firsts: Vec<Option<Test>>,
 }
 
 /// The number of what comes next, where it is a `u32`.
@@ -25,24 +26,24 @@ pub fn number_of(count: usize) -> Result<u32, Memory>
     }
 }
 
-/// A cell for an operand on a clock: its number.
-pub fn keep_cell(clock: Vec<Test>, operand: Atom, kept: &mut Kept) -> Result<u32, Memory>
+/// A cell for an operand on a clock with this newest test: its number.
+pub fn keep_cell(test: Option<Test>, operand: Atom, kept: &mut Kept) -> Result<u32, Memory>
     ensures number { IfOk result (λ n. n ≡ next_cell kept.old) }
-    ensures cells { OnOk result (KeepsCells kept.old kept.new (record { clock = clock.items; operand = atom_in operand } ∷ [])) }
+    ensures cells { OnOk result (map cell_seen kept.new.cells.items ≡ map cell_seen kept.old.cells.items ++ record { test = test; atom = atom_in operand } ∷ []) }
     ensures firsts { OnOk result (kept.new.firsts ≡ kept.old.firsts) }
 {
     let number = number_of(kept.cells.len())?;
-    kept.cells.push(Cell { clock, operand })?;
+    kept.cells.push(Cell { test, operand })?;
     Ok(number)
 }
 
-/// A first-flag on a clock: its number.
-pub fn keep_first(clock: Vec<Test>, kept: &mut Kept) -> Result<u32, Memory>
+/// A first-flag on a clock with this newest test: its number.
+pub fn keep_first(test: Option<Test>, kept: &mut Kept) -> Result<u32, Memory>
     ensures number { IfOk result (λ n. n ≡ next_first kept.old) }
-    ensures firsts { OnOk result (KeepsFirsts kept.old kept.new (clock.items ∷ [])) }
+    ensures firsts { OnOk result (kept.new.firsts.items ≡ kept.old.firsts.items ++ test ∷ []) }
     ensures cells { OnOk result (kept.new.cells ≡ kept.old.cells) }
 {
     let number = number_of(kept.firsts.len())?;
-    kept.firsts.push(clock)?;
+    kept.firsts.push(test)?;
     Ok(number)
 }

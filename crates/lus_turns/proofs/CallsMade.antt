@@ -9,11 +9,12 @@ use Rattle.lus_program.specs.View.{equations_from}
 use Rattle.lus_streams.specs.Clocks.{Clock}
 use Rattle.lus_streams.specs.Equations.{Definition, given_by, definition_of, equation_clock, Site, sites}
 use Rattle.lus_streams.proofs.Lists.{each_left, each_right}
+use Rattle.lus_program.specs.declared.expr.Test.{Test}
 use Rattle.lus_classes.specs.Classes.{Atom, constant, named, Class, answer, Step, Call}
 use Rattle.lus_classes.specs.ClassesOf.{IsClassOf, IsCode, IsCovered, IsSource, IsStep, AreCalls, InTurn, atom_code}
 use Rattle.lus_normal_form.specs.NormalForm.{IsSimpleRight}
 use Rattle.lus_normal_nodes.specs.Ready.{IsReady}
-use Rattle.lus_flat_classes.specs.declared.code.Code.{Code as StoredCode, Fixed, Fetch, Compute', Recall, Choose', Select'}
+use Rattle.lus_flat_classes.specs.declared.formula.Formula.{Formula, Fixed, Fetch, Compute', Recall, Choose', Select'}
 use Rattle.lus_flat_classes.specs.declared.class.Call.{Call as StoredCall}
 use Rattle.lus_flat_classes.specs.declared.class.Class.{Class as StoredClass}
 use Rattle.lus_flat_classes.specs.declared.class.Target.{Target}
@@ -86,7 +87,7 @@ answering_append : (n : ℕ) (ss rs : List Step) → IsAnswering n (ss ++ rs) �
 answering_append n [] rs h = inr h
 answering_append n (s ∷ ss) rs h = ⊎_elim (λ here. inl (inl here)) (λ rest. ⊎_elim (λ left. inl (inr left)) (λ right. inr right) (answering_append n ss rs rest)) h
 
-stored_asks : (d : StoredCode) (n m : ℕ) → code_of d ≡ answer n m → ⊥
+stored_asks : (d : Formula) (n m : ℕ) → code_of d ≡ answer n m → ⊥
 stored_asks (Fixed v) n m e = cc
 stored_asks (Fetch x) n m e = cc
 stored_asks (Compute' o shape ds) n m e = cc
@@ -174,15 +175,15 @@ calls_known p c all =
     let same : m.asked ≡ q = cc in
     subst (λ z. z.node < length p.nodes) same m.known)
 
-calls_node : (p : Program) (f : Node) (c : Class) (ss : List Site) (qs : List StoredCall) (n : ℕ) → AreCalls p f c ss (map call_of qs) n → Each (λ q. q.node < length p.nodes) (map call_of qs) → Each (CallsNode p) qs
-calls_node p f c ss [] n are known = tt
-calls_node p f c [] (q ∷ qs) n are known = absurd are
-calls_node p f c (s ∷ ss) (q ∷ qs) n are known = (
+calls_node : (p : Program) (f : Node) (c : Class) (ts : List (Option Test)) (ss : List Site) (qs : List StoredCall) (n : ℕ) → AreCalls p f c ss (map (call_of ts) qs) n → Each (λ q. q.node < length p.nodes) (map (call_of ts) qs) → Each (CallsNode p) qs
+calls_node p f c ts ss [] n are known = tt
+calls_node p f c ts [] (q ∷ qs) n are known = absurd are
+calls_node p f c ts (s ∷ ss) (q ∷ qs) n are known = (
   record {
     known = known.0;
-    arguments = sym (length-map q.arguments.items argument_of) ∙ are.0.arity ∙ ap (λ g. (node_at p g).inputs) (sym are.0.node);
+    arguments = sym (length-map q.arguments.items (argument_of ts)) ∙ are.0.arity ∙ ap (λ g. (node_at p g).inputs) (sym are.0.node);
   },
-  calls_node p f c ss qs (suc n) are.1 known.1,
+  calls_node p f c ts ss qs (suc n) are.1 known.1,
 )
 
 -- a class that belongs to its node and whose calls are those of its equations has its turns
@@ -190,7 +191,7 @@ pub classes_are_turned : (p : Program) (f : Node) → IsReady p f → (qs : List
     → (class_of c).calls ≡ calls_form p f f.equations → c.outputs ≡ f.outputs → Each GivesAny c.steps.items → IsTurned p f c
 classes_are_turned p f ready qs is c belongs same_calls outputs any =
     let d = class_of c in
-    let size : length d.calls ≡ length c.calls.items = length-map c.calls.items call_of in
+    let size : length d.calls ≡ length c.calls.items = length-map c.calls.items (call_of c.tests.items) in
     let all = made p f ready qs is d belongs same_calls in
     record {
       belongs = belongs;
@@ -202,5 +203,5 @@ classes_are_turned p f ready qs is c belongs same_calls outputs any =
             let m = all n (subst (λ l. n < l) (sym size) lt) in
             making n c.steps.items (answering_at n m.output d.steps m.place m.step m.here m.code));
       };
-      calls = calls_node p f d (sites p f) c.calls.items 0 belongs.calls (calls_known p d all);
+      calls = calls_node p f d c.tests.items (sites p f) c.calls.items 0 belongs.calls (calls_known p d all);
     }

@@ -10,18 +10,19 @@ use Rattle.lus_running.proofs.keeping.pass.Goals as goal
 pub loop-place-preserved : goal.loop-place-preserved
 loop-place-preserved c =
     let i = c.loop-place.place in
-    let qs = map argument_of c.args.arguments.now in
+    let ts = c.args.tests.now in
+    let qs = map (argument_of ts) c.args.arguments.now in
     let ns = map entry_of c.args.called.now in
     let r = map entry_of c.args.row.now in
     let a = c.index-arguments-place.result in
     let u = c.in_ok-value.value in
     let lt : i < length c.args.arguments.now = c.loop-place-test.true in
-    let lq : i < length qs = rw (length-map c.args.arguments.now argument_of) lt in
+    let lq : i < length qs = rw (length-map c.args.arguments.now (argument_of ts)) lt in
     let ln : i < length ns = rw (length-map c.args.called.now entry_of) (omega (arith, c.requires)) in
-    let e : argument_of a ≡ slice_index_or qs i (argument_of a) = sym (get_or-map argument_of c.args.arguments.now i a (argument_of a) lt ∙ ap argument_of (sym c.index-arguments-place.is)) in
-    let here : entry_of u ≡ argument_after (argument_of a) r = c.in_ok-value.ensures in
+    let e : argument_of ts a ≡ slice_index_or qs i (argument_of ts a) = sym (get_or-map (argument_of ts) c.args.arguments.now i a (argument_of ts a) lt ∙ ap (argument_of ts) (sym c.index-arguments-place.is)) in
+    let here : entry_of u ≡ argument_after (argument_of ts a) r = c.in_ok-value.ensures in
     rw add-one
     (map-set entry_of c.loop-place.called i u
     ∙ ap (λ l. slice_set l i (entry_of u)) c.loop-place.invariant
     ∙ ap (slice_set (passed (take i qs) r ++ drop i ns) i) here
-    ∙ next_argument qs ns r i (argument_of a) lq ln e)
+    ∙ next_argument qs ns r i (argument_of ts a) lq ln e)

@@ -5,4 +5,4 @@ use Rattle.lus_flat_classes.specs.View.{argument_of}
 use Rattle.lus_running.proofs.keeping.pass.Given as goal
 
 abbrev pub invariant-loop-place : goal.invariant-loop-place
-invariant-loop-place l = map entry_of l.called ≡ passed (take l.place (map argument_of l.arguments)) (map entry_of l.row) ++ drop l.place (map entry_of l.initial.called)
+invariant-loop-place l = map entry_of l.called ≡ passed (take l.place (map (argument_of l.tests) l.arguments)) (map entry_of l.row) ++ drop l.place (map entry_of l.initial.called)

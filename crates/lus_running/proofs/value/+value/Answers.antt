@@ -11,7 +11,7 @@ use Rattle.lus_streams.specs.Streams.{with_operand, with_operands}
 use Rattle.lus_classes.specs.Classes.{compute, choose, select}
 use Rattle.lus_classes.specs.Steps.{chosen, run, runs}
 use Rattle.lus_flat_classes.specs.View.{code_of, codes_of}
-use Rattle.lus_flat_classes.proofs.CodeViews.{seen_compute, seen_choose, seen_select}
+use Rattle.lus_flat_classes.proofs.FormulaViews.{seen_compute, seen_choose, seen_select}
 use Rattle.lus_running.specs.Constructors.{constructor_in}
 use Rattle.lus_running.proofs.Branches.{selected_none, selected_at}
 use Rattle.lus_running.proofs.Operands.{values_more, two_items}
@@ -45,14 +45,14 @@ value_of-returns-in_ok-right-in-Compute t c =
     let o = arm.operator in
     let a = c.index.result.now in
     let b = c.index-in-Compute.result.now in
-    let e : code_of c.args.code.now ≡ compute o (codes_of ds) = ap code_of arm.is ∙ seen_compute o arm.operands in
+    let e : code_of c.args.formula.now ≡ compute o (codes_of ds) = ap code_of arm.is ∙ seen_compute o arm.operands in
     let long : length ds ≡ 2 = search rules in
     let first : a ≡ slice_index_or ds 0 a = search rules in
     let second : b ≡ slice_index_or ds 1 b = search rules in
     let both : ds ≡ a ∷ b ∷ [] = two_items ds a b long first second in
     let left : entry_of c.in_ok-left-in-Compute.left ≡ run cells flags [] (code_of a) r = search rules in
     let right : entry_of c.in_ok-right-in-Compute.right ≡ run cells flags [] (code_of b) r = search rules in
-    let whole : with_operands (apply o) (with_operand (entry_of c.in_ok-left-in-Compute.left) (with_operand (entry_of c.in_ok-right-in-Compute.right) (Some []))) ≡ run cells flags [] (code_of c.args.code.now) r =
+    let whole : with_operands (apply o) (with_operand (entry_of c.in_ok-left-in-Compute.left) (with_operand (entry_of c.in_ok-right-in-Compute.right) (Some []))) ≡ run cells flags [] (code_of c.args.formula.now) r =
     ap₂ (λ u v. with_operands (apply o) (with_operand u (with_operand v (Some [])))) left right
     ∙ sym (ap (λ d. run cells flags [] d r) e ∙ ap (λ l. with_operands (apply o) (runs cells flags [] (codes_of l) r)) both) in
     subst (λ (v : Option Value). IfOk c.combined.result (λ u. entry_of u ≡ v)) whole c.combined.ensures
@@ -63,9 +63,9 @@ value_of-returns-in-Some t c =
     let flags = c.args.firsts.now in
     let r = map entry_of c.args.row.now in
     let o = c.in-Compute-2.operator in
-    let e : code_of c.args.code.now ≡ compute o (codes_of c.in-Compute-2.operands.items) = ap code_of c.in-Compute-2.is ∙ seen_compute o c.in-Compute-2.operands in
+    let e : code_of c.args.formula.now ≡ compute o (codes_of c.in-Compute-2.operands.items) = ap code_of c.in-Compute-2.is ∙ seen_compute o c.in-Compute-2.operands in
     let given : Some (map value_of c.in-Some.values.items) ≡ runs cells flags [] (codes_of c.in-Compute-2.operands.items) r = search rules in
-    let whole : apply o (map value_of c.in-Some.values.items) ≡ run cells flags [] (code_of c.args.code.now) r = ap (with_operands (apply o)) given ∙ sym (ap (λ d. run cells flags [] d r) e) in
+    let whole : apply o (map value_of c.in-Some.values.items) ≡ run cells flags [] (code_of c.args.formula.now) r = ap (with_operands (apply o)) given ∙ sym (ap (λ d. run cells flags [] d r) e) in
     subst (λ (v : Option Value). IfOk c.operate.result (λ u. entry_of u ≡ v)) whole c.operate.ensures
 
 pub value_of-returns-in-None : goal.value_of-returns-in-None
@@ -74,7 +74,7 @@ value_of-returns-in-None t c =
     let flags = c.args.firsts.now in
     let r = map entry_of c.args.row.now in
     let o = c.in-Compute-2.operator in
-    let e : code_of c.args.code.now ≡ compute o (codes_of c.in-Compute-2.operands.items) = ap code_of c.in-Compute-2.is ∙ seen_compute o c.in-Compute-2.operands in
+    let e : code_of c.args.formula.now ≡ compute o (codes_of c.in-Compute-2.operands.items) = ap code_of c.in-Compute-2.is ∙ seen_compute o c.in-Compute-2.operands in
     let given : None ≡ runs cells flags [] (codes_of c.in-Compute-2.operands.items) r = search rules in
     ap (with_operands (apply o)) given ∙ sym (ap (λ d. run cells flags [] d r) e)
 
@@ -85,7 +85,7 @@ value_of-returns-in_ok-then-in-Choose t c =
     let r = map entry_of c.args.row.now in
     let arm = c.in-Choose in
     let j = arm.flag in
-    let e : code_of c.args.code.now ≡ choose j (code_of arm.first.value) (code_of arm.later.value) = ap code_of arm.is ∙ seen_choose j arm.first arm.later in
+    let e : code_of c.args.formula.now ≡ choose j (code_of arm.first.value) (code_of arm.later.value) = ap code_of arm.is ∙ seen_choose j arm.first arm.later in
     let now : entry_of c.in_ok-now-in-Choose.now ≡ run cells flags [] (code_of arm.first.value) r = c.in_ok-now-in-Choose.ensures ∙ ap (λ d. run cells flags [] (code_of d) r) c.deref-in-Choose.ensures in
     let then : entry_of c.in_ok-then-in-Choose.then ≡ run cells flags [] (code_of arm.later.value) r = c.in_ok-then-in-Choose.ensures ∙ ap (λ d. run cells flags [] (code_of d) r) c.deref-in-Choose-2.ensures in
     c.chosen.ensures
@@ -102,12 +102,12 @@ value_of-returns-in-Some-get t c =
     let ds = c.in-Select.branches.items in
     let n = c.in-Some-constructor_at.place in
     let d = c.in-Some-get.branch.now in
-    let e : code_of c.args.code.now ≡ select x (codes_of ds) = ap code_of c.in-Select.is ∙ seen_select x c.in-Select.branches in
+    let e : code_of c.args.formula.now ≡ select x (codes_of ds) = ap code_of c.in-Select.is ∙ seen_select x c.in-Select.branches in
     let held : constructor_in (item None r x) ≡ Some n = search rules in
     let lt : n < length ds = search rules in
     let here : d ≡ slice_index_or ds n d = search rules in
     let found : slice_get ds n ≡ Some d = slice_get_read ds (length ds) n d refl lt here in
-    let whole : run cells flags [] (code_of d) r ≡ run cells flags [] (code_of c.args.code.now) r =
+    let whole : run cells flags [] (code_of d) r ≡ run cells flags [] (code_of c.args.formula.now) r =
     sym (ap (λ b. run cells flags [] b r) e ∙ selected_at cells flags x r ds 0 n n (omega arith) held ∙ ap (option_and_then (λ b. run cells flags [] (code_of b) r)) found) in
     subst (λ (v : Option Value). IfOk c.value_of-in-Some-get.result (λ u. entry_of u ≡ v)) whole c.value_of-in-Some-get.ensures
 
@@ -119,7 +119,7 @@ value_of-returns-in-None-get t c =
     let x = c.in-Select.variable in
     let ds = c.in-Select.branches.items in
     let n = c.in-Some-constructor_at.place in
-    let e : code_of c.args.code.now ≡ select x (codes_of ds) = ap code_of c.in-Select.is ∙ seen_select x c.in-Select.branches in
+    let e : code_of c.args.formula.now ≡ select x (codes_of ds) = ap code_of c.in-Select.is ∙ seen_select x c.in-Select.branches in
     let held : constructor_in (item None r x) ≡ Some n = search rules in
     let past : length ds ≤ n = search rules in
     let found : slice_get ds n ≡ None = slice_get_past ds n past in
@@ -131,6 +131,6 @@ value_of-returns-in-None-constructor_at t c =
     let flags = c.args.firsts.now in
     let r = map entry_of c.args.row.now in
     let x = c.in-Select.variable in
-    let e : code_of c.args.code.now ≡ select x (codes_of c.in-Select.branches.items) = ap code_of c.in-Select.is ∙ seen_select x c.in-Select.branches in
+    let e : code_of c.args.formula.now ≡ select x (codes_of c.in-Select.branches.items) = ap code_of c.in-Select.is ∙ seen_select x c.in-Select.branches in
     let held : constructor_in (item None r x) ≡ None = search rules in
     sym (ap (λ b. run cells flags [] b r) e ∙ selected_none cells flags x r c.in-Select.branches.items 0 held)

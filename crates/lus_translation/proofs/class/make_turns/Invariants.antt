@@ -1,9 +1,10 @@
 use Rattle.std.proofs.Common.{◌≡◌, ◌++◌, map, drop, length}
 use Rattle.lus_program.specs.View.{node_of, program_seen}
-use Rattle.lus_flat_classes.specs.View.{clock_seen, memory_of, steps_of}
+use Rattle.lus_flat_classes.specs.View.{steps_of}
 use Rattle.lus_values.specs.Lists.{Each}
 use Rattle.lus_translation.specs.Making.{GivesAny}
 use Rattle.lus_translation.specs.Forms.{all_cells, all_firsts, all_steps}
+use Rattle.lus_translation.specs.Newest.{cell_seen, newest, tested_memory}
 use Rattle.lus_translation.specs.View.{turn_of}
 use Rattle.lus_translation.proofs.class.make_turns.Given as goal
 
@@ -14,13 +15,13 @@ invariant-loop-turn l =
     let qs = l.node.equations.items in
     let rest = map turn_of (drop l.turn-index l.turns) in
     let whole = map turn_of l.turns in
-    let cells = map memory_of l.built.kept.cells.items in
-    let firsts = map clock_seen l.built.kept.firsts.items in
-    let cells_first = map memory_of l.initial.built.kept.cells.items in
-    let firsts_first = map clock_seen l.initial.built.kept.firsts.items in
+    let cells = map cell_seen l.built.kept.cells.items in
+    let firsts = l.built.kept.firsts.items in
+    let cells_first = map cell_seen l.initial.built.kept.cells.items in
+    let firsts_first = l.initial.built.kept.firsts.items in
     record {
       steps : steps_of l.built.steps.items ++ all_steps p f qs l.numbers (length cells) (length firsts) rest ≡ steps_of l.initial.built.steps.items ++ all_steps p f qs l.numbers (length cells_first) (length firsts_first) whole;
-      cells : cells ++ all_cells p f qs l.numbers rest ≡ cells_first ++ all_cells p f qs l.numbers whole;
+      cells : cells ++ map tested_memory (all_cells p f qs l.numbers rest) ≡ cells_first ++ map tested_memory (all_cells p f qs l.numbers whole);
       given : Each GivesAny l.initial.built.steps.items → Each GivesAny l.built.steps.items;
-      firsts : firsts ++ all_firsts p f qs l.numbers rest ≡ firsts_first ++ all_firsts p f qs l.numbers whole;
+      firsts : firsts ++ map newest (all_firsts p f qs l.numbers rest) ≡ firsts_first ++ map newest (all_firsts p f qs l.numbers whole);
     }

@@ -2,7 +2,7 @@ use Rattle.std.proofs.Common.{◌≡◌, ◌∙◌, ap}
 use Rattle.lus_program.specs.View.{expression_of}
 use Rattle.lus_program.proofs.OperandViews.{seen_operate, seen_merge}
 use Rattle.lus_classes.specs.Classes.{compute, select}
-use Rattle.lus_flat_classes.proofs.CodeViews.{seen_compute, seen_select}
+use Rattle.lus_flat_classes.proofs.FormulaViews.{seen_compute, seen_select}
 use Rattle.lus_translation.specs.Forms.{code_list}
 use Rattle.lus_translation.proofs.CodeList.{codes_listed}
 use Rattle.lus_translation.proofs.code.+codes.Goals as goal

@@ -1,11 +1,13 @@
 use Rattle.std.proofs.Common.{◌≡◌, ◌∙◌, ◌+◌, ◌<◌, ◌++◌, ◌∷◌, [], suc, map, drop, length, get_or, sym, ap, subst, arith, drop-cons, append_assoc, length-append}
+use Rattle.std.proofs.lemmas.List.{length-map, map-append}
 use Rattle.lus_program.specs.View.{expression_of}
-use Rattle.lus_flat_classes.specs.View.{clock_seen, memory_of, steps_of}
+use Rattle.lus_flat_classes.specs.View.{steps_of}
 use Rattle.lus_flat_classes.specs.declared.class.Step.TheVariants as variants
 use Rattle.lus_values.specs.Lists.{Each}
 use Rattle.lus_streams.proofs.Lists.{each_append}
 use Rattle.lus_translation.specs.Making.{GivesAny}
 use Rattle.lus_translation.specs.Forms.{given_cells, given_firsts, given_steps, kept_cells, kept_firsts}
+use Rattle.lus_translation.specs.Newest.{cell_seen, newest, tested_memory}
 use Rattle.lus_translation.proofs.Giving.{given_next, steps_pushed}
 use Rattle.lus_translation.proofs.steps.give_right.Goals as goal
 
@@ -16,27 +18,29 @@ loop-variable-preserved c =
     let xs = c.args.variables.now in
     let i = c.loop-variable.variable-index in
     let x = get_or xs i 0 in
-    let cells = map memory_of c.loop-variable.built.kept.cells.items in
-    let firsts = map clock_seen c.loop-variable.built.kept.firsts.items in
+    let cells = map cell_seen c.loop-variable.built.kept.cells.items in
+    let firsts = c.loop-variable.built.kept.firsts.items in
     let ss = c.loop-variable.built.steps.items in
     let next : i + 1 ≡ suc i = omega arith in
     let lt : i < length xs = omega (arith, c.loop-variable-test.true) in
     let rest : drop i xs ≡ x ∷ drop (i + 1) xs = drop-cons xs i 0 lt ∙ ap (λ n. x ∷ drop n xs) (sym next) in
     let more_cells = c.in_ok-code.ensures.cells in
     let more_firsts = c.in_ok-code.ensures.firsts in
-    let m' = ap length more_cells ∙ length-append cells (kept_cells e k) in
-    let n' = ap length more_firsts ∙ length-append firsts (kept_firsts e k) in
+    let m' = ap length more_cells ∙ length-append cells (map tested_memory (kept_cells e k)) ∙ ap (λ j. length cells + j) (length-map (kept_cells e k) tested_memory) in
+    let n' = ap length more_firsts ∙ length-append firsts (map newest (kept_firsts e k)) ∙ ap (λ j. length firsts + j) (length-map (kept_firsts e k) newest) in
     let pushed = ap steps_of c.in_ok-push.ensures.items ∙ steps_pushed ss (variants.Give x c.in_ok-code.code) in
     let before = ap (λ l. steps_of ss ++ given_steps (length cells) (length firsts) e k l) (sym rest) ∙ c.loop-variable.invariant.steps in
     record {
       steps =
-          ap (λ l. l ++ given_steps (length (map memory_of c.code_of.new.kept.cells.items)) (length (map clock_seen c.code_of.new.kept.firsts.items)) e k (drop (i + 1) xs)) pushed
+          ap (λ l. l ++ given_steps (length (map cell_seen c.code_of.new.kept.cells.items)) (length c.code_of.new.kept.firsts.items) e k (drop (i + 1) xs)) pushed
           ∙ given_next (steps_of ss) _ _ (length cells) (length firsts) _ _ e k x (drop (i + 1) xs) c.in_ok-code.ensures.code m' n' before;
       cells =
-          ap (λ l. l ++ given_cells e k (drop (i + 1) xs)) more_cells ∙ append_assoc cells (kept_cells e k) (given_cells e k (drop (i + 1) xs))
-          ∙ ap (λ l. cells ++ given_cells e k l) (sym rest) ∙ c.loop-variable.invariant.cells;
+          ap (λ l. l ++ map tested_memory (given_cells e k (drop (i + 1) xs))) more_cells ∙ append_assoc cells (map tested_memory (kept_cells e k)) (map tested_memory (given_cells e k (drop (i + 1) xs)))
+          ∙ ap (λ l. cells ++ l) (sym (map-append tested_memory (kept_cells e k) (given_cells e k (drop (i + 1) xs))))
+          ∙ ap (λ l. cells ++ map tested_memory (given_cells e k l)) (sym rest) ∙ c.loop-variable.invariant.cells;
       given = λ first. subst (Each GivesAny) (sym c.in_ok-push.ensures.items) (each_append GivesAny ss (variants.Give x c.in_ok-code.code ∷ []) (c.loop-variable.invariant.given first) (tt, tt));
       firsts =
-          ap (λ l. l ++ given_firsts e k (drop (i + 1) xs)) more_firsts ∙ append_assoc firsts (kept_firsts e k) (given_firsts e k (drop (i + 1) xs))
-          ∙ ap (λ l. firsts ++ given_firsts e k l) (sym rest) ∙ c.loop-variable.invariant.firsts;
+          ap (λ l. l ++ map newest (given_firsts e k (drop (i + 1) xs))) more_firsts ∙ append_assoc firsts (map newest (kept_firsts e k)) (map newest (given_firsts e k (drop (i + 1) xs)))
+          ∙ ap (λ l. firsts ++ l) (sym (map-append newest (kept_firsts e k) (given_firsts e k (drop (i + 1) xs))))
+          ∙ ap (λ l. firsts ++ map newest (given_firsts e k l)) (sym rest) ∙ c.loop-variable.invariant.firsts;
     }

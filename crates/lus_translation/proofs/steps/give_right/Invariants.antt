@@ -1,22 +1,23 @@
 use Rattle.std.proofs.Common.{◌≡◌, ◌++◌, map, drop, length}
 use Rattle.lus_program.specs.View.{expression_of}
-use Rattle.lus_flat_classes.specs.View.{clock_seen, memory_of, steps_of}
+use Rattle.lus_flat_classes.specs.View.{steps_of}
 use Rattle.lus_values.specs.Lists.{Each}
 use Rattle.lus_translation.specs.Making.{GivesAny}
 use Rattle.lus_translation.specs.Forms.{given_steps, given_cells, given_firsts}
+use Rattle.lus_translation.specs.Newest.{cell_seen, newest, tested_memory}
 use Rattle.lus_translation.proofs.steps.give_right.Given as goal
 
 abbrev pub invariant-loop-variable : goal.invariant-loop-variable
 invariant-loop-variable l =
     let e = expression_of l.right in
     let rest = drop l.variable-index l.variables in
-    let cells = map memory_of l.built.kept.cells.items in
-    let firsts = map clock_seen l.built.kept.firsts.items in
-    let cells_first = map memory_of l.initial.built.kept.cells.items in
-    let firsts_first = map clock_seen l.initial.built.kept.firsts.items in
+    let cells = map cell_seen l.built.kept.cells.items in
+    let firsts = l.built.kept.firsts.items in
+    let cells_first = map cell_seen l.initial.built.kept.cells.items in
+    let firsts_first = l.initial.built.kept.firsts.items in
     record {
       steps : steps_of l.built.steps.items ++ given_steps (length cells) (length firsts) e l.clock rest ≡ steps_of l.initial.built.steps.items ++ given_steps (length cells_first) (length firsts_first) e l.clock l.variables;
-      cells : cells ++ given_cells e l.clock rest ≡ cells_first ++ given_cells e l.clock l.variables;
+      cells : cells ++ map tested_memory (given_cells e l.clock rest) ≡ cells_first ++ map tested_memory (given_cells e l.clock l.variables);
       given : Each GivesAny l.initial.built.steps.items → Each GivesAny l.built.steps.items;
-      firsts : firsts ++ given_firsts e l.clock rest ≡ firsts_first ++ given_firsts e l.clock l.variables;
+      firsts : firsts ++ map newest (given_firsts e l.clock rest) ≡ firsts_first ++ map newest (given_firsts e l.clock l.variables);
     }

@@ -1,0 +1,142 @@
+-- The clocks of what is made of a node on clocks: each is a test after the clock of the test's variable.
+use Rattle.std.proofs.Common.{◌≡◌, ◌∙◌, ℕ, zero, suc, ◌+◌, List, [], ◌∷◌, ◌++◌, drop, slice_get, refl, ap}
+use Rattle.lus_values.specs.Lists.{item, Each}
+use Rattle.lus_program.specs.declared.node.Equation.{Equation as StoredEquation}
+use Rattle.lus_program.specs.Programs.{Expression, literal, variable, operate, pre, arrow, fby, when, merge, call, Operands, none, more, Equation, Node, Program, node_at, calls, numbered, all_numbered}
+use Rattle.lus_program.specs.View.{expression_of, equations_from}
+use Rattle.lus_streams.specs.Clocks.{Clock, clock_of, operand, renamed_clock, renamed_test, formal_clock, base_of, Part, parts, operand_parts, branch_parts, argument_parts}
+use Rattle.lus_streams.specs.Equations.{equation_clock}
+use Rattle.lus_streams.specs.OnClock.{PartOnClock}
+use Rattle.lus_streams.proofs.Lists.{each_left, each_right, each_append}
+use Rattle.lus_classes.specs.Classes.{Memory, Argument, Call}
+use Rattle.lus_normal_form.specs.Laws.{IsChain}
+use Rattle.lus_normal_form.proofs.OneTest.{call_clock, clock_is_chain}
+use Rattle.lus_translation.specs.Forms.{Turn, all_cells, all_firsts, arguments_form, call_first, call_form, calls_form, cells_at, equation_cells, equation_firsts, firsts_at, given_cells, given_firsts, turn_cells, turn_firsts, kept_cells, all_kept_cells, branch_cells, cell_for, kept_firsts, all_kept_firsts, branch_firsts}
+use Rattle.lus_translation.specs.Laws.{IsFittingCall, IsFittingRight}
+
+module _ (f : Node) where
+  -- so are those of a memory, an argument and a call
+  abbrev pub Chained : Memory → Type 0
+  Chained m = IsChain f m.clock
+
+  abbrev pub ArgumentChained : Argument → Type 0
+  ArgumentChained a = IsChain f a.clock
+
+  pub record CallChained (q : Call) : Type 0 where
+    pub base : IsChain f q.base
+    pub arguments : Each ArgumentChained q.arguments
+
+  older_chained : (n : ℕ) (k : Clock) → IsChain f k → IsChain f (drop n k)
+  older_chained zero k h = h
+  older_chained (suc n) [] h = tt
+  older_chained (suc n) (t ∷ k) h = older_chained n k h.1
+
+  one_renamed : (e : Expression) (c : ℕ) (k base : Clock) → IsChain f (k ++ base) → ((x : ℕ) → e ≡ variable x → clock_of f x ≡ k ++ base) → IsChain f (renamed_test e c k ++ base)
+  one_renamed (variable x) c k base h on = (on x refl, h)
+  one_renamed _ c k base h on = h
+
+  renamed_chained : (g : Node) (args : Operands) (base k : Clock) → IsChain g k → IsChain f base → ((m x : ℕ) → operand args m ≡ variable x → clock_of f x ≡ formal_clock g args base m) → IsChain f (renamed_clock args k ++ base)
+  renamed_chained g args base [] tests h on = h
+  renamed_chained g args base (t ∷ k) tests h on =
+      one_renamed (operand args t.variable) t.constructor (renamed_clock args k) base (renamed_chained g args base k tests.1 h on)
+      (λ x e. on t.variable x e ∙ ap (λ z. renamed_clock args z ++ base) tests.0)
+
+  arguments_chained : (es : Operands) (g : Node) (args : Operands) (base : Clock) (m : ℕ) → ((y : ℕ) → IsChain g (clock_of g y)) → IsChain f base
+      → ((m x : ℕ) → operand args m ≡ variable x → clock_of f x ≡ formal_clock g args base m) → Each ArgumentChained (arguments_form es g args base m)
+  arguments_chained none g args base m formals h on = tt
+  arguments_chained (more e es) g args base m formals h on =
+      (renamed_chained g args base (clock_of g m) (formals m) h on, arguments_chained es g args base (suc m) formals h on)
+
+module _ (p : Program) (f : Node) where
+  abbrev OnClock : Part → Type 0
+  OnClock = PartOnClock p f
+
+  -- what an expression without numbers keeps, where it is on its clock with its numbers
+  mutual
+    kept_chained : (n : ℕ) (e : Expression) (k : Clock) → IsChain f k → Each OnClock (parts p (numbered n e) k) → Each (Chained f) (kept_cells e k) × Each (IsChain f) (kept_firsts e k)
+    kept_chained n (literal v) k h o = (tt, tt)
+    kept_chained n (variable x) k h o = (tt, tt)
+    kept_chained n (operate op es) k h o = all_kept_chained n es k h o.1
+    kept_chained n (pre a) k h o = ((h, tt), tt)
+    kept_chained n (arrow a b) k h o =
+        let first = kept_chained n a k h (each_left OnClock (parts p (numbered n a) k) (parts p (numbered (n + calls a) b) k) o.1) in
+        let later = kept_chained (n + calls a) b k h (each_right OnClock (parts p (numbered n a) k) (parts p (numbered (n + calls a) b) k) o.1) in
+        (each_append (Chained f) (kept_cells a k) (kept_cells b k) first.0 later.0, (h, each_append (IsChain f) (kept_firsts a k) (kept_firsts b k) first.1 later.1))
+    kept_chained n (fby a b) k h o =
+        let first = kept_chained n a k h (each_left OnClock (parts p (numbered n a) k) (parts p (numbered (n + calls a) b) k) o.1) in
+        (each_append (Chained f) (kept_cells a k) (cell_for b k) first.0 (h, tt), (h, first.1))
+    kept_chained n (when t a) k h o = (tt, tt)
+    kept_chained n (merge x bs) k h o = branches_chained n bs x 0 k o.0 h o.1
+    kept_chained n (call g i args) k h o = (tt, tt)
+
+    all_kept_chained : (n : ℕ) (es : Operands) (k : Clock) → IsChain f k → Each OnClock (operand_parts p (all_numbered n es) k) → Each (Chained f) (all_kept_cells es k) × Each (IsChain f) (all_kept_firsts es k)
+    all_kept_chained n none k h o = (tt, tt)
+    all_kept_chained n (more e es) k h o =
+        let rest = operand_parts p (all_numbered (n + calls e) es) k in
+        let first = kept_chained n e k h (each_left OnClock (parts p (numbered n e) k) rest o) in
+        let later = all_kept_chained (n + calls e) es k h (each_right OnClock (parts p (numbered n e) k) rest o) in
+        (each_append (Chained f) (kept_cells e k) (all_kept_cells es k) first.0 later.0, each_append (IsChain f) (kept_firsts e k) (all_kept_firsts es k) first.1 later.1)
+
+    branches_chained : (n : ℕ) (es : Operands) (x c : ℕ) (k : Clock) → clock_of f x ≡ k → IsChain f k → Each OnClock (branch_parts p (all_numbered n es) x c k) → Each (Chained f) (branch_cells es x c k) × Each (IsChain f) (branch_firsts es x c k)
+    branches_chained n none x c k on h o = (tt, tt)
+    branches_chained n (more e es) x c k on h o =
+        let inner : Clock = record { variable = x; constructor = c } ∷ k in
+        let rest = branch_parts p (all_numbered (n + calls e) es) x (suc c) k in
+        let first = kept_chained n e inner (on, h) (each_left OnClock (parts p (numbered n e) inner) rest o) in
+        let later = branches_chained (n + calls e) es x (suc c) k on h (each_right OnClock (parts p (numbered n e) inner) rest o) in
+        (each_append (Chained f) (kept_cells e inner) (branch_cells es x (suc c) k) first.0 later.0, each_append (IsChain f) (kept_firsts e inner) (branch_firsts es x (suc c) k) first.1 later.1)
+
+  given_chained : (e : Expression) (k : Clock) (xs : List ℕ) → Each (Chained f) (kept_cells e k) × Each (IsChain f) (kept_firsts e k) → Each (Chained f) (given_cells e k xs) × Each (IsChain f) (given_firsts e k xs)
+  given_chained e k [] h = (tt, tt)
+  given_chained e k (x ∷ xs) h =
+      let later = given_chained e k xs h in
+      (each_append (Chained f) (kept_cells e k) (given_cells e k xs) h.0 later.0, each_append (IsChain f) (kept_firsts e k) (given_firsts e k xs) h.1 later.1)
+
+  turn_chained : (n : ℕ) (e : Expression) (k : Clock) (xs : List ℕ) → IsChain f k → IsFittingRight p f (numbered n e) k → Each (Chained f) (turn_cells e k xs) × Each (IsChain f) (turn_firsts e k xs)
+  turn_chained n (call g i args) k xs h fit = (tt, tt)
+  turn_chained n (literal v) k xs h fit = given_chained (literal v) k xs (kept_chained n (literal v) k h fit.1.on_clock)
+  turn_chained n (variable x) k xs h fit = given_chained (variable x) k xs (kept_chained n (variable x) k h fit.1.on_clock)
+  turn_chained n (operate o es) k xs h fit = given_chained (operate o es) k xs (kept_chained n (operate o es) k h fit.1.on_clock)
+  turn_chained n (pre a) k xs h fit = given_chained (pre a) k xs (kept_chained n (pre a) k h fit.1.on_clock)
+  turn_chained n (arrow a b) k xs h fit = given_chained (arrow a b) k xs (kept_chained n (arrow a b) k h fit.1.on_clock)
+  turn_chained n (fby a b) k xs h fit = given_chained (fby a b) k xs (kept_chained n (fby a b) k h fit.1.on_clock)
+  turn_chained n (when t a) k xs h fit = given_chained (when t a) k xs (kept_chained n (when t a) k h fit.1.on_clock)
+  turn_chained n (merge x bs) k xs h fit = given_chained (merge x bs) k xs (kept_chained n (merge x bs) k h fit.1.on_clock)
+
+  module _ (own : (x : ℕ) → IsChain f (clock_of f x)) where
+    equation_chained : (n : ℕ) (qs : List StoredEquation) (i : ℕ) (xs : List ℕ) → Each (λ q. IsFittingRight p f q.right (equation_clock f q)) (equations_from n qs)
+        → Each (Chained f) (equation_cells f (slice_get qs i) xs) × Each (IsChain f) (equation_firsts f (slice_get qs i) xs)
+    equation_chained n [] i xs fit = (tt, tt)
+    equation_chained n (q ∷ qs) zero xs fit = turn_chained n (expression_of q.right) (clock_of f (item 0 q.targets.items 0)) xs (own (item 0 q.targets.items 0)) fit.0
+    equation_chained n (q ∷ qs) (suc i) xs fit = equation_chained (n + calls (expression_of q.right)) qs i xs fit.1
+
+    -- what all turns keep
+    pub all_chained : (qs : List StoredEquation) (numbers : List ℕ) (ts : List Turn) → Each (λ q. IsFittingRight p f q.right (equation_clock f q)) (equations_from 0 qs)
+        → Each (Chained f) (all_cells p f qs numbers ts) × Each (IsChain f) (all_firsts p f qs numbers ts)
+    all_chained qs numbers [] fit = (tt, tt)
+    all_chained qs numbers (t ∷ ts) fit =
+        let first = equation_chained 0 qs t.equation t.variables fit in
+        let later = all_chained qs numbers ts fit in
+        (each_append (Chained f) (cells_at p f qs numbers t) (all_cells p f qs numbers ts) first.0 later.0, each_append (IsChain f) (firsts_at p f qs numbers t) (all_firsts p f qs numbers ts) first.1 later.1)
+
+    call_chained : (g : ℕ) (args : Operands) (k : Clock) → IsChain f k → IsFittingCall p f g args (base_of (node_at p g) k) → CallChained f (call_form p g args k)
+    call_chained g args k h fit =
+        let callee = node_at p g in
+        let base = base_of callee k in
+        let below = older_chained f _ k h in
+        record { base = below; arguments = arguments_chained f args callee args base 0 (clock_is_chain callee fit.declared) below (call_clock p f callee args base fit.on_clock) }
+
+    calls_first : (e : Expression) (k : Clock) → IsChain f k → IsFittingRight p f e k → (rest : List Call) → Each (CallChained f) rest → Each (CallChained f) (call_first p e k rest)
+    calls_first (call g i args) k h fit rest later = (call_chained g args k h fit, later)
+    calls_first (literal v) k h fit rest later = later
+    calls_first (variable x) k h fit rest later = later
+    calls_first (operate o es) k h fit rest later = later
+    calls_first (pre a) k h fit rest later = later
+    calls_first (arrow a b) k h fit rest later = later
+    calls_first (fby a b) k h fit rest later = later
+    calls_first (when t a) k h fit rest later = later
+    calls_first (merge x bs) k h fit rest later = later
+
+    pub calls_chained : (qs : List Equation) → Each (λ q. IsFittingRight p f q.right (equation_clock f q)) qs → Each (CallChained f) (calls_form p f qs)
+    calls_chained [] fit = tt
+    calls_chained (q ∷ qs) fit = calls_first q.right (equation_clock f q) (own (item 0 q.targets 0)) fit.0 (calls_form p f qs) (calls_chained qs fit.1)
