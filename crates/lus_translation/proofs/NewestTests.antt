@@ -1,5 +1,5 @@
 -- A class that keeps the newest tests of the class of a node in normal form is that class.
-use Rattle.std.proofs.Common.{◌≡◌, ◌∙◌, ℕ, zero, suc, ◌+◌, ◌<◌, ◌≤◌, List, [], ◌∷◌, map, length, drop, Option, Some, None, refl, sym, ap, ap₂, subst, arith, ⊎_elim, drop-cons, drop_of_length-le}
+use Rattle.std.proofs.Common.{◌≡◌, ◌∙◌, ℕ, zero, suc, ◌+◌, ◌<◌, ◌≤◌, List, [], ◌∷◌, map, length, drop, Option, Some, None, refl, sym, ap, ap₂, subst, arith, drop-cons, drop_of_length-le}
 use Rattle.std.proofs.Math.ListN.{length-map}
 use Rattle.lus_values.specs.Lists.{item, Each}
 use Rattle.lus_program.specs.declared.expr.Test.{Test}
