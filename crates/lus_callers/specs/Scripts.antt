@@ -5,8 +5,8 @@ use Rattle.lus_program.specs.Programs.{Program}
 use Rattle.lus_program.specs.declared.node.NodeId.{NodeId}
 use Rattle.lus_requests.specs.declared.request.Entry.{Entry}
 use Rattle.lus_shared.specs.declared.shared.Journal.{Journal}
-use Rattle.lus_callers.specs.declared.script.Call.{Call}
-use Rattle.lus_callers.specs.declared.script.Caller.{Caller}
+use Rattle.lus_requests.specs.declared.call.Call.{Call}
+use Rattle.lus_requests.specs.declared.call.Caller.{Caller}
 use Rattle.lus_callers.specs.declared.run.Journals.{Journals}
 use Rattle.lus_callers.specs.Served.{IsHistoryOf}
 

@@ -8,14 +8,13 @@ mod gate;
 mod jobs;
 mod open;
 mod run;
-mod script;
 mod seated;
 mod shares;
 mod threads;
 
 pub use condition::fit;
 pub use gate::{Gate, OpenGate};
+pub use lus_requests::{Call, Caller};
 pub use run::{Journals, run_callers};
-pub use script::{Call, Caller};
 pub use seated::run_seated;
 pub use threads::HostError;

@@ -1,12 +1,12 @@
 -- How a command ends short: the status of the process, and the line on standard error.
 use Rattle.std.specs.Prelude.{◌≡◌, ◌≢◌, ◌⊎◌, ℕ, ◌++◌, codes, Option}
-use Rattle.lus_host.specs.Devices.{Bytes, WritesBeginning, one_more, with_text}
+use Rattle.lus_devices.specs.Devices.{Bytes, WritesBeginning, one_more, with_text}
 use Rattle.lus_callers.specs.declared.threads.HostError.{HostError}
 use Rattle.lus_callers.specs.declared.threads.HostError.TheVariants as hosts
 use Rattle.lus_host.specs.declared.error.RunError.{RunError}
 use Rattle.lus_host.specs.declared.error.RunError.TheVariants as runs
-use Rattle.lus_host.specs.declared.refusal.ScriptRefusal.{ScriptRefusal}
-use Rattle.lus_host.specs.declared.refusal.ScriptRefusal.TheVariants as scripts
+use Rattle.lus_scripts.specs.declared.refusal.ScriptRefusal.{ScriptRefusal}
+use Rattle.lus_scripts.specs.declared.refusal.ScriptRefusal.TheVariants as scripts
 use Rattle.lus_syntax.specs.Refusals.{refusal_text}
 use Rattle.lus_syntax.specs.declared.refusal.Refusal.{Refusal}
 use Rattle.lus_syntax.specs.declared.refusal.RefusalNumber.{RefusalNumber}

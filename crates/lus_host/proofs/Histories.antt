@@ -13,13 +13,14 @@ use Rattle.lus_history.specs.Histories.{History}
 use Rattle.lus_machine.specs.declared.error.CallError.{CallError}
 use Rattle.lus_shared.specs.declared.shared.Journal.{Journal}
 use Rattle.lus_callers.specs.Served.{AllServed, IsHistoryOf}
-use Rattle.lus_callers.specs.declared.script.Call.{Call}
-use Rattle.lus_callers.specs.declared.script.Caller.{Caller}
+use Rattle.lus_requests.specs.declared.call.Call.{Call}
+use Rattle.lus_requests.specs.declared.call.Caller.{Caller}
 use Rattle.lus_host.specs.Runs.{AreHistories, IsServed}
-use Rattle.lus_host.specs.Scripts.{Scripts, are_on, have_few_calls}
-use Rattle.lus_host.specs.View.{calls_kept, instance_kept}
-use Rattle.lus_host.specs.declared.scripts.Instance.{Instance}
-use Rattle.lus_host.proofs.ReadScripts.{parts}
+use Rattle.lus_scripts.specs.Limits.{most_calls}
+use Rattle.lus_scripts.specs.Scripts.{Scripts, are_on, have_few_calls}
+use Rattle.lus_scripts.specs.View.{calls_kept, instance_kept}
+use Rattle.lus_scripts.specs.declared.scripts.Instance.{Instance}
+use Rattle.lus_scripts.proofs.ReadScripts.{parts}
 
 pub both_ok : {X E : Type 0} (r : Result X E) {P Q R : X → Type 0} → IfOk r P → IfOk r Q → ((x : X) → P x → Q x → R x) → IfOk r R
 both_ok (Ok x) p q f = f x p q
@@ -30,7 +31,7 @@ both_ok (Err e) p q f = tt
 tested_below : (m n : ℕ) → nat_lt m n ≡ true → m < n
 tested_below m n h = grind (arith, common_steps)
 
-tested_within : (m : ℕ) → nat_le m 10000 ≡ true → m ≤ 10000
+tested_within : (m : ℕ) → nat_le m most_calls ≡ true → m ≤ most_calls
 tested_within m h = grind (arith, common_steps)
 
 all_below : (n : ℕ) (cs : List Call) → list_all (λ c. nat_lt c.on n) cs ≡ true → All (λ c. c.on < n) cs
@@ -45,13 +46,13 @@ known_calls n (v ∷ vs) h =
     let both = parts (list_all (λ c. nat_lt c.on n) v.calls.items) (are_on n vs) h in
     All-cons (λ x. All (λ c. c.on < n) x.calls.items) v vs (all_below n v.calls.items both.0) (known_calls n vs both.1)
 
-few_of : (m : ℕ) → m ≤ 10000 → m < 2 ^ 32
+few_of : (m : ℕ) → m ≤ most_calls → m < 2 ^ 32
 few_of m h = omega arith
 
 pub few_calls : (callers : List Caller) → have_few_calls callers ≡ true → All (λ v. length v.calls.items < 2 ^ 32) callers
 few_calls [] h = All-nil (λ v. length v.calls.items < 2 ^ 32)
 few_calls (v ∷ vs) h =
-    let both = parts (nat_le (length v.calls.items) 10000) (have_few_calls vs) h in
+    let both = parts (nat_le (length v.calls.items) most_calls) (have_few_calls vs) h in
     All-cons (λ x. length x.calls.items < 2 ^ 32) v vs (few_of (length v.calls.items) (tested_within (length v.calls.items) both.0)) (few_calls vs both.1)
 
 pub known_nodes : (n : ℕ) (is : List Instance) → Each (λ i. i.place < n) (map instance_kept is) → All (λ f. f.0 < n) (map (λ i. i.id) is)

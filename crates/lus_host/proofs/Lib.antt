@@ -1,11 +1,3 @@
-pub mod Laws
-pub mod Lists
-pub mod Checks
-pub mod DistinctNames
-pub mod Lines
-pub mod Values
-pub mod ReadScripts
 pub mod Sources
-pub mod Constructors
 pub mod ScriptErrors
 pub mod Histories

@@ -5,13 +5,13 @@ use Rattle.serde_json.specs.Data.{Data}
 use Rattle.serde_json.specs.Read.{read}
 use Rattle.lus_values.specs.Names.{Names}
 use Rattle.lus_program.specs.Programs.{Program}
-use Rattle.lus_machine.specs.Acceptance.{most_bytes}
-use Rattle.lus_host.specs.Constructors.{names_of}
-use Rattle.lus_host.specs.Devices.{Bytes}
+use Rattle.lus_syntax.specs.Limits.{most_bytes}
+use Rattle.lus_machine.specs.Constructors.{names_of}
+use Rattle.lus_devices.specs.Devices.{Bytes}
 use Rattle.lus_host.specs.ScriptRefusals.{AreRefused, AreScripts, ScriptsRefused, are_too_long, are_no_json, are_refused}
-use Rattle.lus_host.specs.Scripts.{Scripts, scripts_of}
-use Rattle.lus_host.specs.declared.refusal.ScriptRefusal.{ScriptRefusal}
-use Rattle.lus_host.specs.declared.refusal.ScriptRefusal.TheVariants as refusals
+use Rattle.lus_scripts.specs.Scripts.{Scripts, scripts_of}
+use Rattle.lus_scripts.specs.declared.refusal.ScriptRefusal.{ScriptRefusal}
+use Rattle.lus_scripts.specs.declared.refusal.ScriptRefusal.TheVariants as refusals
 use Rattle.lus_host.proofs.Sources.{read_whole, read_part}
 
 long_or_short : (m n : ℕ) → (m < n) ⊎ (n ≤ m)

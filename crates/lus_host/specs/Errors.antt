@@ -3,7 +3,7 @@ use Rattle.std.specs.Prelude.{◌≡◌, ℕ, ⊤, ◌⊎◌, Option, IfSome}
 use Rattle.lus_program.specs.Programs.{Program}
 use Rattle.lus_machine.specs.Acceptance.{Accepted}
 use Rattle.lus_callers.specs.declared.threads.HostError.TheVariants as hosts
-use Rattle.lus_host.specs.Devices.{Bytes, one_more}
+use Rattle.lus_devices.specs.Devices.{Bytes, one_more}
 use Rattle.lus_host.specs.ScriptRefusals.{AreRefused}
 use Rattle.lus_host.specs.Sources.{IsRightRefusal}
 use Rattle.lus_host.specs.declared.error.RunError.{RunError}

@@ -1,10 +1,5 @@
-pub mod Devices
-pub mod Forms
-pub mod Journals
-pub mod Scripts
-pub mod View
-pub mod Constructors
 pub mod Sources
 pub mod ScriptRefusals
 pub mod Errors
 pub mod Runs
+pub mod View

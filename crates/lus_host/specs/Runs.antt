@@ -2,19 +2,18 @@
 use Rattle.std.specs.Prelude.{◌≡◌, ◌↔◌, ◌<◌, ◌≤◌, ℕ, Bool, true, List, [], ◌∷◌, length, map, take, Option}
 use Rattle.std.specs.List.{AllZip, list_all}
 use Rattle.lus_values.specs.Lists.{item}
-use Rattle.lus_values.specs.Names.{Names}
 use Rattle.lus_program.specs.Programs.{Program}
 use Rattle.lus_requests.specs.declared.request.Entry.{Entry}
 use Rattle.lus_history.specs.Histories.{History}
 use Rattle.lus_machine.specs.Acceptance.{Accepted}
 use Rattle.lus_callers.specs.Fronts.{requests_of, requests_on}
 use Rattle.lus_shared.specs.Knowledge.{kept}
-use Rattle.lus_callers.specs.declared.script.Call.{Call}
-use Rattle.lus_host.specs.Constructors.{names_of}
-use Rattle.lus_host.specs.Devices.{Bytes, WritesBeginning}
-use Rattle.lus_host.specs.Journals.{Journal, journals_text}
+use Rattle.lus_requests.specs.declared.call.Call.{Call}
+use Rattle.lus_machine.specs.Constructors.{names_of}
+use Rattle.lus_devices.specs.Devices.{Bytes, WritesBeginning, with_text}
+use Rattle.lus_devices.specs.Journals.{Journal, journals_text}
 use Rattle.lus_host.specs.ScriptRefusals.{AreScripts}
-use Rattle.lus_host.specs.Scripts.{Instance, Scripts}
+use Rattle.lus_scripts.specs.Scripts.{Instance, Scripts}
 
 -- a front of a caller's calls was made: on each instance, the caller's entries have the requests of the front's calls on it
 pub record IsServed (calls : List Call) (caller : ℕ) (histories : List (List Entry)) (whole : Bool) : Type 0 where
@@ -40,9 +39,8 @@ journals_of (i ∷ is) (h ∷ hs) = record { instance = i.name; node = i.node; e
 abbrev pub run_text : Program → Scripts → List (List Entry) → Bytes
 run_text p s histories = journals_text (names_of p) s.callers (journals_of s.instances histories)
 
--- the bytes are scripts of the program, which may give these histories; and these are the names of its constructors
-pub record IsAnswered (p : Program) (bytes : Bytes) (names : Names) (s : Scripts) (done : Bool) (histories : List (List Entry)) : Type 0 where
-  pub named : names ≡ names_of p
+-- the bytes are scripts of the program, which may give these histories
+pub record IsAnswered (p : Program) (bytes : Bytes) (s : Scripts) (done : Bool) (histories : List (List Entry)) : Type 0 where
   pub read : AreScripts p bytes s
   pub legal : AreHistories p s done histories
 
@@ -55,6 +53,10 @@ pub record Ran (text bytes : Bytes) (done : Bool) (journal : Bytes) : Type 0 whe
   pub histories : List (List Entry)
   pub legal : AreHistories program scripts done histories
   pub text_is : journal ≡ run_text program scripts histories
+
+-- the text of a run was written
+abbrev pub WritesRun : Bytes → Bytes → Bool → Option Bytes → Option Bytes → Type 0
+WritesRun text bytes done old new = (journal : Bytes) × Ran text bytes done journal × (new ≡ with_text old journal)
 
 -- a beginning of the text of a run was written
 abbrev pub BeginsRun : Bytes → Bytes → Option Bytes → Option Bytes → Type 0

@@ -3,12 +3,12 @@ use Rattle.std.specs.Prelude.{◌≡◌, ◌<◌, ◌≤◌, Some, Ok, Err, None
 use Rattle.serde_json.specs.Data.{Data}
 use Rattle.serde_json.specs.Read.{read}
 use Rattle.lus_program.specs.Programs.{Program}
-use Rattle.lus_machine.specs.Acceptance.{most_bytes}
-use Rattle.lus_host.specs.Constructors.{names_of}
-use Rattle.lus_host.specs.Devices.{Bytes}
-use Rattle.lus_host.specs.Scripts.{Scripts, scripts_of}
-use Rattle.lus_host.specs.declared.refusal.ScriptRefusal.{ScriptRefusal}
-use Rattle.lus_host.specs.declared.refusal.ScriptRefusal.TheVariants as refusals
+use Rattle.lus_syntax.specs.Limits.{most_bytes}
+use Rattle.lus_machine.specs.Constructors.{names_of}
+use Rattle.lus_devices.specs.Devices.{Bytes}
+use Rattle.lus_scripts.specs.Scripts.{Scripts, scripts_of}
+use Rattle.lus_scripts.specs.declared.refusal.ScriptRefusal.{ScriptRefusal}
+use Rattle.lus_scripts.specs.declared.refusal.ScriptRefusal.TheVariants as refusals
 
 -- the bytes are these scripts of the program
 pub record AreScripts (p : Program) (bytes : Bytes) (s : Scripts) : Type 0 where

@@ -1,13 +1,15 @@
 -- What bytes are the text of a program, why bytes are refused, and what a check writes.
-use Rattle.std.specs.Prelude.{◌≤◌, ◌<◌, ◌≢◌, ℕ, ◌++◌, codes, length, take, IsUtf8, Option, IfSome}
+use Rattle.std.specs.Prelude.{◌≡◌, ◌≤◌, ◌<◌, ◌≢◌, ℕ, ◌++◌, codes, length, take, IsUtf8, Option, IfSome}
 use Rattle.std.specs.Fmt.{decimal}
 use Rattle.std.specs.Str.Lossy.{utf8_valid_len}
 use Rattle.lus_syntax.specs.declared.refusal.Refusal.{Refusal}
 use Rattle.lus_syntax.specs.declared.refusal.RefusalNumber.TheVariants as numbers
 use Rattle.lus_syntax.specs.Places.{start, place_behind}
 use Rattle.lus_syntax.specs.Tokens.{IsAt}
-use Rattle.lus_machine.specs.Acceptance.{RefusedWith, most_bytes}
-use Rattle.lus_host.specs.Devices.{Bytes}
+use Rattle.lus_syntax.specs.Limits.{most_bytes}
+use Rattle.lus_program.specs.Programs.{Program}
+use Rattle.lus_machine.specs.Acceptance.{Accepted, RefusedWith}
+use Rattle.lus_devices.specs.Devices.{Bytes, WritesBeginning, with_text}
 
 -- the longest front that is UTF-8
 abbrev pub valid_front : Bytes → Bytes
@@ -30,3 +32,11 @@ IsRightRefusal left e = e.number ≢ numbers.Memory → IfSome left (λ bytes. P
 -- what a check writes of a program with n nodes
 abbrev pub accepted_text : ℕ → Bytes
 accepted_text n = codes "accepted " ++ decimal n ++ codes "\n"
+
+-- the text is accepted, and that is written
+abbrev pub WritesAccepted : Bytes → Option Bytes → Option Bytes → Type 0
+WritesAccepted text old new = (p : Program) × Accepted text p × (new ≡ with_text old (accepted_text (length p.nodes)))
+
+-- the text is accepted, and a beginning of that is written
+abbrev pub BeginsAccepted : Bytes → Option Bytes → Option Bytes → Type 0
+BeginsAccepted text old new = (p : Program) × Accepted text p × WritesBeginning old new (accepted_text (length p.nodes))

@@ -1,69 +1,21 @@
--- What the values of the code stand for.
-use Rattle.std.specs.Prelude.{ℕ, List, map, string_bytes}
-use Rattle.serde_json.specs.View.{view}
-use Rattle.lus_host.specs.Forms as forms
-use Rattle.lus_host.specs.Journals as journals
-use Rattle.lus_host.specs.Runs.{journals_of}
-use Rattle.lus_host.specs.Scripts as scripts
-use Rattle.lus_host.specs.declared.scripts.Instance.{Instance}
-use Rattle.lus_callers.specs.declared.script.Call.{Call}
-use Rattle.lus_callers.specs.declared.script.Caller.{Caller}
-use Rattle.lus_host.specs.declared.reading.Scope.{Scope}
+-- What a run leaves to be written.
+use Rattle.std.specs.Prelude.{Bool, List, is_some, map, not}
+use Rattle.std.specs.List.{list_all}
+use Rattle.std.specs.Arc.{arc_value}
+use Rattle.lus_requests.specs.declared.request.Entry.{Entry}
+use Rattle.lus_code.specs.Codes.{program_of}
+use Rattle.lus_scripts.specs.View.{scripts_seen}
+use Rattle.lus_devices.specs.Devices.{Bytes}
+use Rattle.lus_host.specs.Runs.{run_text}
 use Rattle.lus_host.specs.declared.running.Ended.{Ended}
-use Rattle.lus_host.specs.declared.scripts.Scripts.{Scripts}
-use Rattle.lus_program.specs.View.{program_seen}
-use Rattle.lus_host.specs.declared.journal.Journal.{Journal}
-use Rattle.lus_host.specs.declared.form.Ask.{Ask}
-use Rattle.lus_host.specs.declared.form.Ask.TheVariants as asks
-use Rattle.lus_host.specs.declared.form.CallForm.{CallForm}
-use Rattle.lus_host.specs.declared.form.CallerForm.{CallerForm}
-use Rattle.lus_host.specs.declared.form.InstanceForm.{InstanceForm}
-use Rattle.lus_host.specs.declared.form.Form.{Form}
 
-abbrev pub ask_seen : Ask → forms.Ask
-ask_seen (asks.Step items) = forms.step (map view items.now)
-ask_seen asks.Reset = forms.reset
-ask_seen (asks.Save n) = forms.save n
-ask_seen (asks.Restore n) = forms.restore n
+abbrev pub histories : Ended → List (List Entry)
+histories e = map (λ j. j.entries.items) e.journals.journals.items
 
-abbrev pub call_seen : CallForm → forms.CallForm
-call_seen c = record { on = c.on.now; ask = ask_seen c.ask }
-
-abbrev pub instance_seen : InstanceForm → forms.InstanceForm
-instance_seen i = record { name = i.name.now; node = i.node.now }
-
-abbrev pub caller_seen : CallerForm → forms.CallerForm
-caller_seen c = record { name = c.name.now; calls = map call_seen c.calls.items }
-
-abbrev pub form_seen : Form → forms.Form
-form_seen f = record { instances = map instance_seen f.instances.items; callers = map caller_seen f.callers.items }
-
-abbrev pub journal_seen : Journal → journals.Journal
-journal_seen j = record { instance = j.instance.now; node = j.node.now; entries = j.entries.now }
-
-abbrev pub instance_kept : Instance → scripts.Instance
-instance_kept i = record { name = string_bytes i.name; node = string_bytes i.node; place = i.id.0 }
-
-abbrev pub calls_kept : Caller → List Call
-calls_kept c = c.calls.items
-
-abbrev pub scripts_seen : Scripts → scripts.Scripts
-scripts_seen s = record {
-  instances = map instance_kept s.instances.items;
-  callers = map string_bytes s.names.items;
-  calls = map calls_kept s.callers.items;
-}
-
-abbrev pub scope_seen : Scope → scripts.Scope
-scope_seen s = record {
-  program = program_seen s.program.now;
-  names = s.names.now;
-  instances = map string_bytes s.table.now.keys;
-  nodes = map (λ i. i.id.0) s.instances.now;
-}
+-- no caller ran out of anything
+abbrev pub none_wanted : Ended → Bool
+none_wanted e = list_all (λ w. not (is_some w)) e.journals.wants.items
 
 -- the text of the journals that a run leaves
-abbrev pub ended_text : Ended → List ℕ
-ended_text e =
-    journals.journals_text e.names (scripts_seen e.scripts).callers
-    (journals_of (scripts_seen e.scripts).instances (map (λ h. h.entries.items) e.journals.journals.items))
+abbrev pub ended_text : Ended → Bytes
+ended_text e = run_text (program_of (arc_value e.program)) (scripts_seen e.scripts) (histories e)

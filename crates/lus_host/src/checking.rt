@@ -1,23 +1,21 @@
 //! Checking a program.
 
-ghost use Rattle.std.specs.Prelude.{◌≡◌, ◌≢◌, ◌⊎◌, OnOk, IfErr, IfSome, Err, length};
-ghost use Rattle.lus_program.specs.Programs.{Program};
-ghost use Rattle.lus_host.specs.Devices.{WritesBeginning, one_more, with_text};
-ghost use Rattle.lus_machine.specs.Acceptance.{Accepted};
+ghost use Rattle.std.specs.Prelude.{◌≡◌, ◌≢◌, ◌⊎◌, OnOk, IfErr, IfSome, Err};
+ghost use Rattle.lus_devices.specs.Devices.{WritesBeginning, one_more, with_text};
 ghost use Rattle.lus_host.specs.Errors.{IsCheckError};
-ghost use Rattle.lus_host.specs.Sources.{accepted_text};
+ghost use Rattle.lus_host.specs.Sources.{BeginsAccepted, WritesAccepted, accepted_text};
 
 use crate::error::RunError;
 use crate::program::read_program;
-use crate::sink::{Sink, write_all};
-use crate::source::Source;
+use lus_devices::{Sink, Source, write_all};
 use std::alloc::Global;
 
 /// Writes that a program with this many nodes is accepted.
 fn write_accepted<O: Sink>(alloc: Global, nodes: usize, output: &mut O) -> Result<(), RunError>
     ensures whole { OnOk result (O.written output.new ≡ with_text (O.written output.old) (accepted_text nodes)) }
     ensures errors { IfErr result (λ e. (e ≡ RunError.Write) ⊎ (e ≡ RunError.Memory)) }
-    ensures beginning { result ≡ Err RunError.Write → WritesBeginning (O.written output.old) (O.written output.new) (accepted_text nodes) }
+    ensures beginning { result ≡ Err RunError.Write
+        → WritesBeginning (O.written output.old) (O.written output.new) (accepted_text nodes) }
     ensures nothing { result ≡ Err RunError.Memory → O.written output.new ≡ O.written output.old }
     ensures quiet { (result ≡ Err RunError.Write → ⊥) → O.failures output.new ≡ O.failures output.old }
     ensures failed { result ≡ Err RunError.Write → O.failures output.new ≡ one_more (O.failures output.old) }
@@ -40,12 +38,11 @@ pub fn check<P: Source, O: Sink>(
     program: &mut P,
     output: &mut O,
 ) -> Result<(), RunError>
-    ensures ok { OnOk result (IfSome (P.left program.old) (λ bytes. (p : Program) × Accepted bytes p
-        × (O.written output.new ≡ with_text (O.written output.old) (accepted_text (length p.nodes))))) }
+    ensures ok { OnOk result (IfSome (P.left program.old) (λ bytes. WritesAccepted bytes (O.written output.old) (O.written output.new))) }
     ensures refused { IfErr result (λ e. IsCheckError (P.left program.old) e) }
 
-    ensures beginning { result ≡ Err RunError.Write → IfSome (P.left program.old) (λ bytes. (p : Program) × Accepted bytes p
-        × WritesBeginning (O.written output.old) (O.written output.new) (accepted_text (length p.nodes))) }
+    ensures beginning { result ≡ Err RunError.Write
+        → IfSome (P.left program.old) (λ bytes. BeginsAccepted bytes (O.written output.old) (O.written output.new)) }
     ensures nothing { IfErr result (λ e. e ≢ RunError.Write → O.written output.new ≡ O.written output.old) }
 
     ensures quiet { (result ≡ Err RunError.Write → ⊥) → O.failures output.new ≡ O.failures output.old }

@@ -1,7 +1,7 @@
 //! Why a check or a run ends before its end.
 
-use crate::refusal::ScriptRefusal;
 use lus_callers::HostError;
+use lus_scripts::ScriptRefusal;
 use lus_syntax::Refusal;
 use thiserror::Error;
 

@@ -2,19 +2,18 @@
 
 ghost use Rattle.std.specs.Prelude.{◌≡◌, ◌<◌, ◌≤◌, ◌^◌, IfOk, IfErr, IfSome, Err, length};
 ghost use Rattle.lus_program.specs.View.{program_seen};
-ghost use Rattle.lus_host.specs.Constructors.{CanBeNamed, names_of};
-ghost use Rattle.lus_host.specs.Devices.{one_more};
+ghost use Rattle.lus_machine.specs.Constructors.{names_of};
+ghost use Rattle.lus_devices.specs.Devices.{one_more};
 ghost use Rattle.lus_host.specs.Errors.{IsScriptsError};
 ghost use Rattle.lus_host.specs.ScriptRefusals.{AreRefused, AreScripts};
-ghost use Rattle.lus_host.specs.Scripts.{HaveNodes};
-ghost use Rattle.lus_host.specs.View.{scripts_seen};
+ghost use Rattle.lus_scripts.specs.Scripts.{HaveNodes};
+ghost use Rattle.lus_scripts.specs.View.{scripts_seen};
 
 use crate::error::RunError;
-use crate::reading::{MOST_BYTES, read_scripts};
-use crate::refusal::ScriptRefusal;
-use crate::scripts::Scripts;
-use crate::source::{ReadError, Source, read_at_most};
+use lus_devices::{ReadError, Source, read_at_most};
 use lus_program::Program;
+use lus_scripts::{ScriptRefusal, Scripts, read_scripts};
+use lus_syntax::MOST_BYTES;
 use lus_values::Names;
 use std::alloc::Global;
 

@@ -3,17 +3,16 @@
 ghost use Rattle.std.specs.Prelude.{◌≡◌, ◌≢◌, IfOk, IfErr, IfSome, Err};
 ghost use Rattle.lus_syntax.specs.declared.refusal.RefusalNumber.TheVariants as numbers;
 ghost use Rattle.lus_code.specs.Codes.{program_of};
-ghost use Rattle.lus_host.specs.Devices.{one_more};
+ghost use Rattle.lus_devices.specs.Devices.{one_more};
 ghost use Rattle.lus_machine.specs.Acceptance.{Accepted, IsAccepted};
 ghost use Rattle.lus_host.specs.Errors.{IsReadingError};
 ghost use Rattle.lus_host.specs.Sources.{ProgramRefused};
 
 use crate::error::RunError;
-use crate::reading::MOST_BYTES;
-use crate::source::{ReadError, Source, read_at_most};
 use crate::text::text_of;
+use lus_devices::{ReadError, Source, read_at_most};
 use lus_machine::{Program, compile};
-use lus_syntax::Refusal;
+use lus_syntax::{MOST_BYTES, Refusal};
 use std::alloc::Global;
 
 /// The program that bytes are the text of.

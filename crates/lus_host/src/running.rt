@@ -1,36 +1,34 @@
 //! Running a program with scripts.
 
-ghost use Rattle.std.specs.Prelude.{◌≡◌, ◌≢◌, ◌⊎◌, ℕ, IfOk, IfErr, IfSome, OnErr, Err, map, is_some, not};
-ghost use Rattle.std.specs.List.{list_all};
+ghost use Rattle.std.specs.Prelude.{◌≡◌, ◌≢◌, ◌⊎◌, IfOk, IfErr, IfSome, OnErr, Err, map};
+ghost use Rattle.std.specs.Arc.{arc_value};
 ghost use Rattle.lus_syntax.specs.declared.refusal.Refusal.{Refusal as ARefusal};
 ghost use Rattle.lus_code.specs.Codes.{program_of};
 ghost use Rattle.lus_machine.specs.Acceptance.{IsAccepted};
-ghost use Rattle.lus_host.specs.Devices.{Bytes, WritesBeginning, one_more, with_text};
+ghost use Rattle.lus_devices.specs.Devices.{WritesBeginning, one_more, with_text};
 ghost use Rattle.lus_host.specs.Errors.{IsAnsweringError, IsRunError, OneFailed};
-ghost use Rattle.lus_host.specs.Runs.{BeginsRun, IsAnswered, Ran, journals_of};
-ghost use Rattle.lus_host.specs.View.{ended_text, instance_kept, journal_seen, scripts_seen};
+ghost use Rattle.lus_host.specs.Runs.{BeginsRun, IsAnswered, Ran, WritesRun, journals_of};
+ghost use Rattle.lus_devices.specs.View.{journal_seen};
+ghost use Rattle.lus_scripts.specs.View.{instance_kept, scripts_seen};
+ghost use Rattle.lus_host.specs.View.{ended_text, histories, none_wanted};
 
 use crate::answering::{histories_of, is_done};
 use crate::error::RunError;
-use crate::journal::{Journal, WriteError, write_journals};
-use crate::naming::names_of;
 use crate::preparing::scripts_for;
 use crate::program::read_program;
-use crate::scripts::{Instance, Scripts};
-use crate::sink::Sink;
-use crate::source::Source;
 use lus_callers::{Gate, Journals};
+use lus_devices::{Journal, Sink, Source, WriteError, write_journals};
 use lus_machine::Program;
+use lus_scripts::{Instance, Scripts};
 use lus_shared::Journal as History;
-use lus_values::Names;
 use std::alloc::{AllocError, Global};
 use std::sync::{Arc, Wait};
 use std::thread::Threads;
 
-/// What a run leaves to be written: the histories of the scripts' instances, and the names that their text needs.
+/// What a run leaves to be written: the program, whose names the text needs, and the histories of the scripts' instances.
 #[derive(Drop)]
 struct Ended {
-    names: Names,
+    program: Arc<Program>,
     scripts: Scripts,
     journals: Journals,
 }
@@ -41,7 +39,8 @@ fn journals<'a>(
     instances: &'a [Instance],
     histories: &'a [History],
 ) -> Result<Vec<Journal<'a>>, AllocError>
-    ensures { IfOk result (λ v. map journal_seen v.items ≡ journals_of (map instance_kept instances.now) (map (λ h. h.entries.items) histories.now)) }
+    ensures { IfOk result (λ v. map journal_seen v.items
+        ≡ journals_of (map instance_kept instances.now) (map (λ h. h.entries.items) histories.now)) }
 {
     let mut journals = Vec::new(alloc);
     for (place, instance) in instances.iter().enumerate() {
@@ -66,16 +65,14 @@ fn answered<S: Source, G: Gate + Sync, R: Threads + Wait + Sync>(
     gate: &G,
 ) -> Result<Ended, RunError>
     requires { IsAccepted (program_of program) }
-    ensures ok { IfOk result (λ e. IfSome (S.left scripts.old) (λ bytes. IsAnswered (program_of program) bytes e.names (scripts_seen e.scripts)
-        (list_all (λ w. not (is_some w)) e.journals.wants.items) (map (λ j. j.entries.items) e.journals.journals.items))) }
+    ensures same { IfOk result (λ e. arc_value e.program ≡ program) }
+    ensures ok { IfOk result (λ e. IfSome (S.left scripts.old) (λ bytes. IsAnswered (program_of program) bytes (scripts_seen e.scripts)
+        (none_wanted e) (histories e))) }
     ensures refused { IfErr result (λ e. IsAnsweringError (program_of program) (S.left scripts.old) e) }
     ensures quiet { (result ≡ Err RunError.Read → ⊥) → S.failures scripts.new ≡ S.failures scripts.old }
     ensures failed { result ≡ Err RunError.Read → S.failures scripts.new ≡ one_more (S.failures scripts.old) }
 {
-    let Ok(names) = names_of(alloc, &program.source().types) else {
-        return Err(RunError::Memory);
-    };
-    let scripts = match scripts_for(alloc, program.source(), &names, scripts) {
+    let scripts = match scripts_for(alloc, program.source(), program.names(), scripts) {
         Ok(scripts) => scripts,
         Err(error) => return Err(error),
     };
@@ -84,7 +81,7 @@ fn answered<S: Source, G: Gate + Sync, R: Threads + Wait + Sync>(
     };
     match histories_of(rt, alloc, &program, &scripts, gate) {
         Ok(journals) => Ok(Ended {
-            names,
+            program,
             scripts,
             journals,
         }),
@@ -94,7 +91,7 @@ fn answered<S: Source, G: Gate + Sync, R: Threads + Wait + Sync>(
 
 /// Writes the journals of a run, and says whether no caller ran out of anything.
 fn write_ended<O: Sink>(alloc: Global, ended: Ended, output: &mut O) -> Result<bool, RunError>
-    ensures done { IfOk result (λ done. done ≡ list_all (λ w. not (is_some w)) ended.journals.wants.items) }
+    ensures done { IfOk result (λ done. done ≡ none_wanted ended) }
     ensures whole { IfOk result (λ done. O.written output.new ≡ with_text (O.written output.old) (ended_text ended)) }
     ensures errors { IfErr result (λ e. (e ≡ RunError.Write) ⊎ (e ≡ RunError.Memory)) }
     ensures beginning { OnErr result (WritesBeginning (O.written output.old) (O.written output.new) (ended_text ended)) }
@@ -102,7 +99,7 @@ fn write_ended<O: Sink>(alloc: Global, ended: Ended, output: &mut O) -> Result<b
     ensures failed { result ≡ Err RunError.Write → O.failures output.new ≡ one_more (O.failures output.old) }
 {
     let Ended {
-        names,
+        program,
         scripts,
         journals: ran,
     } = ended;
@@ -110,7 +107,7 @@ fn write_ended<O: Sink>(alloc: Global, ended: Ended, output: &mut O) -> Result<b
     let Ok(texts) = journals(alloc, &scripts.instances, &ran.journals) else {
         return Err(RunError::Memory);
     };
-    match write_journals(alloc, output, &names, &scripts.names, &texts) {
+    match write_journals(alloc, output, program.names(), &scripts.names, &texts) {
         Ok(()) => Ok(done),
         Err(WriteError::Write) => Err(RunError::Write),
         Err(WriteError::Memory) => Err(RunError::Memory),
@@ -126,11 +123,13 @@ fn run_ended<P: Source, S: Source, G: Gate + Sync, R: Threads + Wait + Sync>(
     gate: &G,
 ) -> Result<Ended, RunError>
     ensures ok { IfOk result (λ e. IfSome (P.left program.old) (λ text. IfSome (S.left scripts.old) (λ bytes.
-        Ran text bytes (list_all (λ w. not (is_some w)) e.journals.wants.items) (ended_text e)))) }
+        Ran text bytes (none_wanted e) (ended_text e)))) }
     ensures refused { IfErr result (λ e. IsRunError (P.left program.old) (S.left scripts.old) e) }
     ensures unwritten { result ≡ Err RunError.Write → ⊥ }
-    ensures read { result ≡ Err RunError.Read → OneFailed (P.failures program.old) (P.failures program.new) (S.failures scripts.old) (S.failures scripts.new) }
-    ensures quiet { (result ≡ Err RunError.Read → ⊥) → (P.failures program.new ≡ P.failures program.old) × (S.failures scripts.new ≡ S.failures scripts.old) }
+    ensures read { result ≡ Err RunError.Read
+        → OneFailed (P.failures program.old) (P.failures program.new) (S.failures scripts.old) (S.failures scripts.new) }
+    ensures quiet { (result ≡ Err RunError.Read → ⊥)
+        → (P.failures program.new ≡ P.failures program.old) × (S.failures scripts.new ≡ S.failures scripts.old) }
     ensures unread { (e : ARefusal) → result ≡ Err (RunError.Program e) → S.left scripts.new ≡ S.left scripts.old }
 {
     match read_program(alloc, program) {
@@ -153,8 +152,8 @@ pub fn run<P: Source, S: Source, O: Sink, G: Gate + Sync, R: Threads + Wait + Sy
     output: &mut O,
     gate: &G,
 ) -> Result<bool, RunError>
-    ensures ok { IfOk result (λ done. IfSome (P.left program.old) (λ text. IfSome (S.left scripts.old) (λ bytes. (journal : Bytes) × Ran text bytes done journal
-        × (O.written output.new ≡ with_text (O.written output.old) journal)))) }
+    ensures ok { IfOk result (λ done. IfSome (P.left program.old) (λ text. IfSome (S.left scripts.old) (λ bytes.
+        WritesRun text bytes done (O.written output.old) (O.written output.new)))) }
     ensures refused { IfErr result (λ e. IsRunError (P.left program.old) (S.left scripts.old) e) }
 
     ensures beginning { result ≡ Err RunError.Write → IfSome (P.left program.old) (λ text. IfSome (S.left scripts.old) (λ bytes.
@@ -166,8 +165,10 @@ pub fn run<P: Source, S: Source, O: Sink, G: Gate + Sync, R: Threads + Wait + Sy
 
     ensures quiet { (result ≡ Err RunError.Write → ⊥) → O.failures output.new ≡ O.failures output.old }
     ensures failed { result ≡ Err RunError.Write → O.failures output.new ≡ one_more (O.failures output.old) }
-    ensures reads { (result ≡ Err RunError.Read → ⊥) → (P.failures program.new ≡ P.failures program.old) × (S.failures scripts.new ≡ S.failures scripts.old) }
-    ensures fails { result ≡ Err RunError.Read → OneFailed (P.failures program.old) (P.failures program.new) (S.failures scripts.old) (S.failures scripts.new) }
+    ensures reads { (result ≡ Err RunError.Read → ⊥)
+        → (P.failures program.new ≡ P.failures program.old) × (S.failures scripts.new ≡ S.failures scripts.old) }
+    ensures fails { result ≡ Err RunError.Read
+        → OneFailed (P.failures program.old) (P.failures program.new) (S.failures scripts.old) (S.failures scripts.new) }
     ensures unread { (e : ARefusal) → result ≡ Err (RunError.Program e) → S.left scripts.new ≡ S.left scripts.old }
 {
     match run_ended(rt, alloc, program, scripts, gate) {

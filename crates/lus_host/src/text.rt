@@ -2,11 +2,10 @@
 
 ghost use Rattle.std.specs.Prelude.{◌≡◌, ◌<◌, ◌≤◌, ◌^◌, ◌-◌, ◌+◌, IfOk, IfErr, length, take};
 ghost use Rattle.lus_syntax.specs.Places.{past_one, place_behind};
-ghost use Rattle.lus_machine.specs.Acceptance.{most_bytes};
+ghost use Rattle.lus_syntax.specs.Limits.{most_bytes};
 ghost use Rattle.lus_host.specs.Sources.{IsNoText};
 
-use crate::reading::MOST_BYTES;
-use lus_syntax::{Place, Refusal, RefusalNumber};
+use lus_syntax::{MOST_BYTES, Place, Refusal, RefusalNumber};
 use std::str;
 
 // The place behind one byte. Only the first byte of a character is counted as one.

@@ -1,4 +1,4 @@
-//! Tests of lus_host, in a crate of their own since that one takes long to prove.
+//! Tests of devices, scripts and the text of journals, in a crate of their own since those take long to prove.
 #![tactic(auto)]
 
 #[cfg(test)]

@@ -1,13 +1,13 @@
 //! What clauses can't show: printed texts, that calls succeed, and devices that give and take a byte at a time and fail.
 
-ghost use Rattle.std.specs.Prelude.{◌≡◌, IfOk, None, length};
+ghost use Rattle.std.specs.Prelude.{◌≡◌, IfOk, None, Some, length};
 
-use lus_host::{
-    Failure, Journal, ReadError, ScriptRefusal, Sink, Source, WriteError, read_at_most,
-    read_scripts, write_journals,
+use lus_devices::{
+    Failure, Journal, ReadError, Sink, Source, WriteError, read_at_most, write_all, write_journals,
 };
 use lus_program::{Kind, Node, Program, Variable};
 use lus_requests::{Entry, Reply, Request};
+use lus_scripts::{ScriptRefusal, read_scripts};
 use lus_syntax::{NodeKind, Place};
 use lus_values::{Names, Row, Value};
 use std::alloc::Global;
@@ -23,7 +23,7 @@ struct Slow<'a> {
 }
 
 impl Source for Slow<'_> {
-    ghost left = { λ _. None };
+    ghost left = { λ source. Some source.bytes.now };
 
     ghost failures = { λ _. None };
 
@@ -53,7 +53,7 @@ struct Narrow {
 }
 
 impl Sink for Narrow {
-    ghost written = { λ _. None };
+    ghost written = { λ sink. Some sink.bytes.items };
 
     ghost failures = { λ _. None };
 
@@ -149,6 +149,17 @@ fn a_failed_read_is_told(rt: HostRuntime) -> Result<(), Fail> {
             }
         }
     }
+    Ok(())
+}
+
+#[test]
+fn bytes_in_memory_are_read_and_written(rt: HostRuntime) -> Result<(), Fail> {
+    let mut source = JOURNAL.as_bytes();
+    let mut sink = Vec::new(rt.alloc());
+    let bytes = read_at_most(rt.alloc(), &mut source, 30)?;
+    assert_eq!(rt; write_all(&mut sink, &bytes), Ok(()));
+    assert_eq!(rt; write_all(&mut sink, source), Ok(()));
+    assert_eq!(rt; sink.as_slice(), JOURNAL.as_bytes());
     Ok(())
 }
 

@@ -7,6 +7,7 @@ use Rattle.lus_syntax.specs.declared.refusal.RefusalNumber.TheVariants as number
 use Rattle.lus_syntax.specs.Lexemes.{Lexeme, Text}
 use Rattle.lus_syntax.specs.declared.refusal.Refusal.{Refusal}
 use Rattle.lus_syntax.specs.declared.token.Place.{Place}
+use Rattle.lus_syntax.specs.Limits.{most_bytes, most_depth}
 use Rattle.lus_syntax.specs.Places.{start}
 use Rattle.lus_syntax.specs.Tokens.{Faulty, IsAt}
 use Rattle.lus_syntax.specs.Trees.{Tree}
@@ -24,7 +25,7 @@ use Rattle.lus_streams.specs.Flags.{IsFlagged}
 use Rattle.lus_streams.specs.Order.{IsCausal}
 use Rattle.lus_order.specs.Orders.{TellsCycleOf}
 use Rattle.lus_cells.specs.Cells.{FitsCells}
-use Rattle.lus_machine.specs.Acceptance.{most_bytes, IsRead, IsTextOf, Accepted, NamesCycle, RefusedWith, too_long, no_tokens, no_tree, ill_formed, off_clocks, not_flagged, not_causal, too_many_cells, IsRefused, HasOneProgram, IsToldAs}
+use Rattle.lus_machine.specs.Acceptance.{IsRead, IsTextOf, Accepted, NamesCycle, RefusedWith, too_long, no_tokens, no_tree, ill_formed, off_clocks, not_flagged, not_causal, too_many_cells, IsRefused, HasOneProgram, IsToldAs}
 
 read_once : (text : Text) (t u : Tree) → IsRead text t → IsRead text u → t ≡ u
 read_once text t u a b =
@@ -49,7 +50,7 @@ ill_formed_is tree numbers.Limit (inr (inl fails)) w = fails.3 w.bounded
 ill_formed_is tree numbers.Limit (inr (inr fails)) w = fails.5 w.parts
 ill_formed_is tree numbers.Memory fails w = fails
 
-no_tree_is : (ts : List Lexeme) (n : RefusalNumber) → n ≢ numbers.Memory → RefusedRightly 100 ts n → (t : Tree) → SpellsProgram t ts → tree_depth t ≤ 100 → ⊥
+no_tree_is : (ts : List Lexeme) (n : RefusalNumber) → n ≢ numbers.Memory → RefusedRightly most_depth ts n → (t : Tree) → SpellsProgram t ts → tree_depth t ≤ most_depth → ⊥
 no_tree_is ts numbers.Syntax h none t spelled depth = none t spelled
 no_tree_is ts numbers.Limit h none t spelled depth = none t spelled depth
 no_tree_is ts numbers.Memory h none t spelled depth = h refl
@@ -110,7 +111,7 @@ module _ (text : Text) (e e' : Refusal) (told : IsToldAs e e') where
   refused_too (too_long long at) = too_long long (at_too numbers.Limit start at)
   refused_too (no_tokens short tells) =
       no_tokens short (tells.0, subst (λ n. Faulty text n tells.0) (sym told.number) tells.1, subst (λ n. IsAt e' n tells.0) (sym told.number) (at_too e.number tells.0 tells.2))
-  refused_too (no_tree short ts lexed h none) = no_tree short ts lexed (λ memory. h (sym told.number ∙ memory)) (subst (RefusedRightly 100 ts) (sym told.number) none)
+  refused_too (no_tree short ts lexed h none) = no_tree short ts lexed (λ memory. h (sym told.number ∙ memory)) (subst (RefusedRightly most_depth ts) (sym told.number) none)
   refused_too (ill_formed short tree read fails) = ill_formed short tree read (subst (FirstFails tree) (sym told.number) fails)
   refused_too (off_clocks p is off number) = off_clocks p is off (told.number ∙ number)
   refused_too (not_flagged p is on not number) = not_flagged p is on not (told.number ∙ number)

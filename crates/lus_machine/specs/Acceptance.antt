@@ -3,6 +3,7 @@ use Rattle.std.specs.Prelude.{◌≡◌, ◌≢◌, ◌<◌, ◌≤◌, ℕ, Lis
 use Rattle.lus_syntax.specs.declared.refusal.Refusal.{Refusal}
 use Rattle.lus_syntax.specs.declared.refusal.RefusalNumber.TheVariants as numbers
 use Rattle.lus_syntax.specs.Lexemes.{Lexeme, Text}
+use Rattle.lus_syntax.specs.Limits.{most_bytes, most_depth}
 use Rattle.lus_syntax.specs.Places.{start}
 use Rattle.lus_syntax.specs.Tokens.{Tokens, TellsFault, IsAt}
 use Rattle.lus_syntax.specs.Trees.{Tree}
@@ -17,20 +18,16 @@ use Rattle.lus_streams.specs.Order.{IsCausal}
 use Rattle.lus_order.specs.Orders.{IsNeedCycle, name_of}
 use Rattle.lus_cells.specs.Cells.{FitsCells}
 
--- the most bytes of a source
-abbrev pub most_bytes : ℕ
-most_bytes = 1048576
-
 -- the text isn't too long
 abbrev pub IsShort : Text → Type 0
 IsShort text = length text ≤ most_bytes
 
--- the text's tokens spell this tree, of depth at most 100
+-- the text's tokens spell this tree, of no greater depth than there may be
 pub record IsRead (text : Text) (tree : Tree) : Type 0 where
   pub tokens : List Lexeme
   pub lexed : Tokens text tokens
   pub spelled : SpellsProgram tree tokens
-  pub depth : tree_depth tree ≤ 100
+  pub depth : tree_depth tree ≤ most_depth
 
 -- the text isn't too long, and its tree is well formed and means this program
 pub record IsTextOf (text : Text) (p : Program) : Type 0 where
@@ -70,7 +67,7 @@ pub data RefusedWith (text : Text) (e : Refusal) : Type 0 where
   too_long : most_bytes < length text → IsAt e numbers.Limit start → RefusedWith text e
   no_tokens : IsShort text → TellsFault text e → RefusedWith text e
   no_tree : IsShort text → (ts : List Lexeme) → Tokens text ts
-      → e.number ≢ numbers.Memory → RefusedRightly 100 ts e.number → RefusedWith text e
+      → e.number ≢ numbers.Memory → RefusedRightly most_depth ts e.number → RefusedWith text e
   ill_formed : IsShort text → (tree : Tree) → IsRead text tree → FirstFails tree e.number → RefusedWith text e
   off_clocks : (p : Program) → IsTextOf text p → (ProgramOnClocks p → ⊥) → e.number ≡ numbers.Clock → RefusedWith text e
   not_flagged : (p : Program) → IsTextOf text p → ProgramOnClocks p → (IsFlagged p → ⊥) → e.number ≡ numbers.Nil → RefusedWith text e

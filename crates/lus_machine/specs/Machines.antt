@@ -10,7 +10,7 @@ use Rattle.lus_history.specs.Keeping.{IsInstance}
 use Rattle.lus_code.specs.Codes.{ProgramCode, program_of}
 use Rattle.lus_eval.specs.Objects.{Kept, ObjectLived}
 use Rattle.lus_machine.specs.Acceptance.{IsAccepted}
-use Rattle.lus_machine.specs.Constructors.{names_from}
+use Rattle.lus_machine.specs.Constructors.{names_of}
 
 pub record Told : Type 0 where
   pub program : Program
@@ -27,7 +27,7 @@ entry c r a = record { caller = c; request = r; reply = a }
 -- a program is accepted, and these are the names of its constructors
 pub record IsReady (p : Program) (names : Names) : Type 0 where
   pub accepted : IsAccepted p
-  pub named : names ≡ names_from p.types
+  pub named : names ≡ names_of p
 
 -- the history is one reactive node's: one of an accepted program
 pub record IsLegal (m : Told) : Type 0 where

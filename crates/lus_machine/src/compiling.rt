@@ -1,7 +1,8 @@
 //! From a text to a program, pass by pass.
 
-ghost use Rattle.std.specs.Prelude.{◌≡◌, ◌≢◌, [], IfOk, IfErr, OnOk};
+ghost use Rattle.std.specs.Prelude.{◌≡◌, ◌≢◌, IfOk, IfErr, OnOk};
 ghost use Rattle.lus_syntax.specs.declared.refusal.RefusalNumber.TheVariants as numbers;
+ghost use Rattle.lus_syntax.specs.Refusals.{HasShape};
 ghost use Rattle.lus_syntax.specs.View.{tree_seen};
 ghost use Rattle.lus_code.specs.Codes.{program_of};
 ghost use Rattle.lus_machine.specs.Acceptance.{Accepted, IsShort, IsRead, RefusedWith, IsRefused, IsToldAs};
@@ -13,12 +14,9 @@ use lus_code::{Code, translate};
 use lus_grammar::parse;
 use lus_normal::normalise;
 use lus_order::order;
-use lus_syntax::{Refusal, RefusalNumber, Tree, lex};
+use lus_syntax::{MOST_BYTES, Refusal, RefusalNumber, Tree, lex};
 use lus_types::check_types;
 use std::alloc::Global;
-
-/// The most bytes of a text.
-const MOST_BYTES: usize = 1048576;
 
 /// Checks that a text isn't too long: a limit, refused at its start.
 fn check_size(text: &str) -> Result<(), Refusal>
@@ -66,24 +64,27 @@ fn program_of(alloc: Global, text: &str) -> Result<Program, Refusal>
     Ok(Program::new(code, names))
 }
 
-/// The refusal, which has a cycle only if it is for one: no pass gives another a cycle, but their contracts don't say so.
+/// The refusal, which has a cycle only if it is for one, and for want of memory no place: no pass gives another, but not
+/// every contract says so.
 fn shaped(refusal: Refusal) -> Refusal
-    ensures told { IsToldAs refusal result }
-    ensures cycle { result.number ≢ numbers.Cycle → result.cycle ≡ [] }
+    ensures told { refusal.number ≢ numbers.Memory → IsToldAs refusal result }
+    ensures memory { refusal.number ≡ numbers.Memory → result.number ≡ numbers.Memory }
+    ensures shaped { HasShape result }
 {
-    if refusal.number == RefusalNumber::Cycle {
-        return refusal;
+    match refusal.number {
+        RefusalNumber::Cycle => refusal,
+        RefusalNumber::Memory => Refusal::memory(),
+        number => Refusal::new(number, refusal.line, refusal.column),
     }
-    Refusal::new(refusal.number, refusal.line, refusal.column)
 }
 
 /// The program that a text is accepted as. A refusal is that of the first pass that fails over the whole text: size, tokens,
-/// grammar, counts, names, recursion, limits, types, clocks, nil, order, state cells. Only one for a cycle has variables.
+/// grammar, counts, names, recursion, limits, types, clocks, nil, order, state cells. Only one for a cycle has variables, and want of memory stands at 0:0.
 pub fn compile(alloc: Global, text: &str) -> Result<Program, Refusal>
     ensures ok { IfOk result (λ p. Accepted text.now (program_of p)) }
     ensures first { IfErr result (λ e. e.number ≢ numbers.Memory → RefusedWith text.now e) }
     ensures refused { IfErr result (λ e. e.number ≢ numbers.Memory → IsRefused text.now) }
-    ensures shape { IfErr result (λ e. e.number ≢ numbers.Cycle → e.cycle ≡ []) }
+    ensures shaped { IfErr result HasShape }
 {
     match program_of(alloc, text) {
         Ok(program) => Ok(program),

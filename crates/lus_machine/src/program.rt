@@ -9,7 +9,7 @@ ghost use Rattle.lus_meaning.specs.Resolved.{declared_in};
 ghost use Rattle.lus_meaning.specs.Types.{fields_in};
 ghost use Rattle.lus_code.specs.Codes.{program_of};
 ghost use Rattle.lus_machine.specs.Acceptance.{IsAccepted};
-ghost use Rattle.lus_machine.specs.Constructors.{names_from};
+ghost use Rattle.lus_machine.specs.Constructors.{names_of};
 ghost use Rattle.lus_machine.specs.Formals.{node_named, inputs_of, outputs_of};
 
 use lus_code::Code;
@@ -46,7 +46,7 @@ impl Program {
     /// The program of this code, with the names of its constructors.
     pub(crate) fn new(code: Code, names: Names) -> Program
         requires accepted { IsAccepted (program_of code) }
-        requires named { names ≡ names_from (program_of code).types }
+        requires named { names ≡ names_of (program_of code) }
         ensures { result ≡ code }
     {
         Program { code, names }
@@ -134,7 +134,7 @@ impl Program {
 
     /// The names of the constructors of the program's types.
     pub fn names(&self) -> &Names
-        ensures { result.now ≡ names_from (program_of self.now).types }
+        ensures { result.now ≡ names_of (program_of self.now) }
     {
         &self.names
     }

@@ -1,6 +1,8 @@
-//! Requests to an instance of a node, its replies, and the entries of its history.
+//! Requests to an instance of a node, its replies, the entries of its history, and callers with their calls.
 #![tactic(auto)]
 
+mod call;
 mod request;
 
+pub use call::{Call, Caller};
 pub use request::{Entry, Reply, Request, Why};

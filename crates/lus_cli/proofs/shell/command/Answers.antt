@@ -1,6 +1,6 @@
 -- Mistaken words end the command by their own fault or by want of memory.
 use Rattle.std.proofs.Common.{◌≡◌, ℕ, Option, subst, inl, inr}
-use Rattle.lus_host.specs.Devices.{Bytes}
+use Rattle.lus_devices.specs.Devices.{Bytes}
 use Rattle.lus_cli.specs.Faults.{IsToldBy}
 use Rattle.lus_cli.specs.declared.fault.Fault.{Fault}
 use Rattle.lus_cli.specs.declared.fault.Fault.TheVariants.{Words, Memory}

@@ -5,8 +5,8 @@ use Rattle.std.specs.List.{All, AllZip}
 use Rattle.lus_program.specs.declared.node.NodeId.{NodeId}
 use Rattle.lus_code.specs.Codes.{program_of}
 use Rattle.lus_callers.specs.Served.{AllServed, IsHistoryOf}
-use Rattle.lus_callers.specs.declared.script.Caller.{Caller}
-use Rattle.lus_host.specs.View.{scripts_seen}
+use Rattle.lus_requests.specs.declared.call.Caller.{Caller}
+use Rattle.lus_scripts.specs.View.{scripts_seen}
 use Rattle.lus_host.proofs.Histories.{both_ok, histories_are, known_nodes, legal_of}
 use Rattle.lus_host.proofs.answering.histories_of.Goals as goal
 

@@ -1,3 +1,4 @@
+-- The nodes so far are those of the instances seen.
 use Rattle.std.proofs.Common.{◌≡◌, map, take}
 use Rattle.lus_host.proofs.answering.nodes_of.Given as goal
 

@@ -1,5 +1,6 @@
+-- The clauses of reading, in the words of a run.
 use Rattle.lus_program.specs.View.{program_seen}
-use Rattle.lus_host.specs.View.{scripts_seen}
+use Rattle.lus_scripts.specs.View.{scripts_seen}
 use Rattle.lus_host.proofs.ScriptErrors.{read_are, read_refused}
 use Rattle.lus_host.proofs.preparing.scripts_of.Goals as goal
 

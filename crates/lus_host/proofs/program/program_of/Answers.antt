@@ -1,3 +1,4 @@
+-- Bytes are refused as no text, or as the text that they are.
 use Rattle.std.proofs.Common.{subst}
 use Rattle.std.proofs.lemmas.Result.{IfErr-weaker}
 use Rattle.lus_machine.specs.Acceptance.{RefusedWith}

@@ -1,6 +1,8 @@
+-- The journals so far come before those of the instances that are left.
 use Rattle.std.proofs.Common.{◌≡◌, ◌++◌, drop, map}
 use Rattle.lus_host.specs.Runs.{journals_of}
-use Rattle.lus_host.specs.View.{instance_kept, journal_seen}
+use Rattle.lus_devices.specs.View.{journal_seen}
+use Rattle.lus_scripts.specs.View.{instance_kept}
 use Rattle.lus_host.proofs.running.journals.Given as goal
 
 abbrev pub invariant-loop-place : goal.invariant-loop-place

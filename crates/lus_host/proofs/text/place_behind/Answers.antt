@@ -1,3 +1,4 @@
+-- The place behind one byte more.
 use Rattle.std.proofs.Common.{◌≡◌, get_or, take, sym, ap, ◌∙◌, arith}
 use Rattle.std.proofs.lemmas.List.{take_more, take_all}
 use Rattle.lus_syntax.specs.declared.token.Place.{Place}

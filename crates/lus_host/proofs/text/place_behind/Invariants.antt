@@ -1,3 +1,4 @@
+-- The place is that behind the bytes so far, and no number has passed its type.
 use Rattle.std.proofs.Common.{◌≡◌, ◌≤◌, ◌+◌, take}
 use Rattle.lus_syntax.specs.Places.{past, start}
 use Rattle.lus_host.proofs.text.place_behind.Given as goal

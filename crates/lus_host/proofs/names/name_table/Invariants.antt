@@ -1,8 +1,0 @@
-use Rattle.std.proofs.Common.{◌≡◌, map, take, true, string_bytes}
-use Rattle.lus_host.specs.Scripts.{all_distinct}
-use Rattle.lus_host.proofs.names.name_table.Given as goal
-
-abbrev pub invariant-loop-name : goal.invariant-loop-name
-invariant-loop-name l =
-    (map string_bytes l.table.keys ≡ map (λ n. n.now) (take l.name-index l.names))
-    × (all_distinct (map string_bytes l.table.keys) ≡ true)

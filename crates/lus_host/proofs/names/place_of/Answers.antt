@@ -1,7 +1,0 @@
-use Rattle.std.proofs.Common.{◌∙◌, sym, string_bytes}
-use Rattle.std.specs.Str.{bytes_eq}
-use Rattle.lus_host.proofs.Lists.{position-map}
-use Rattle.lus_host.proofs.names.place_of.Goals as goal
-
-pub returns : goal.returns
-returns c = c.get_index_of.ensures.index ∙ sym (position-map (bytes_eq c.args.name.now) string_bytes c.args.table.now.keys)

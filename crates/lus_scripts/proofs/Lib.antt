@@ -1,0 +1,5 @@
+pub mod Lists
+pub mod Checks
+pub mod DistinctNames
+pub mod Values
+pub mod ReadScripts

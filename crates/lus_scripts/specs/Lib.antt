@@ -1,0 +1,4 @@
+pub mod Limits
+pub mod Forms
+pub mod Scripts
+pub mod View

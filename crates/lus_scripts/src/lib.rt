@@ -1,0 +1,16 @@
+//! Scripts: the instances of a program's nodes, and the callers with their calls, that bytes of JSON are.
+#![tactic(auto)]
+
+mod form;
+mod known;
+mod limits;
+mod names;
+mod reading;
+mod refusal;
+mod scripts;
+mod value;
+
+pub use limits::{MOST_CALLERS, MOST_CALLS, MOST_INSTANCES, MOST_NAME_BYTES};
+pub use reading::read_scripts;
+pub use refusal::ScriptRefusal;
+pub use scripts::{Instance, Scripts};
