@@ -1,17 +1,23 @@
-//! Steps an instance of a program's last node, which takes no inputs, so many times, and prints its last outputs, one a line:
-//! `lus_bench PROGRAM STEPS`. How a host embeds the compiler, and what `bench/run` measures.
+//! How a host embeds the compiler, and what `bench/run` measures. `lus_bench PROGRAM STEPS` steps an instance of a program's last
+//! node, which takes no inputs, so many times, and prints its last outputs, one a line. `lus_bench PROGRAM STEPS CALLERS lock`, or
+//! `seats`, lets each of so many callers, on a thread of its own, step the one instance, and prints how many entries it has.
 #![tactic(auto)]
+
+mod callers;
 
 ghost use Rattle.std.specs.Prelude.{◌<◌, length};
 ghost use Rattle.std.specs.Arc.{arc_value};
 ghost use Rattle.lus_code.specs.Codes.{program_of};
 
+use callers::{Sharing, entries};
 use lus_machine::{CallError, Machine, NodeId, Program, compile};
 use lus_requests::{Reply, Request};
 use lus_values::{Row, print};
 use std::alloc::{AllocError, Global};
 use std::process::ExitCode;
-use std::sync::Arc;
+use std::rt::Files;
+use std::sync::{Arc, Wait};
+use std::thread::Threads;
 use std::{env, fs};
 
 /// The reply to the last of so many steps of an instance, none where there is no step.
@@ -35,7 +41,7 @@ fn stepped(
 }
 
 /// The program of a file.
-fn program_in(rt: &HostRuntime, name: &str) -> Option<Arc<Program>> {
+fn program_in<R: Files + AllocGlobal>(rt: &R, name: &str) -> Option<Arc<Program>> {
     let text = fs::read_to_string(rt, name).ok()?;
     let program = compile(rt.alloc(), text.as_str()).ok()?;
     Arc::new(rt.alloc(), program).ok()
@@ -71,6 +77,23 @@ fn run(rt: &HostRuntime, name: &str, steps: &str) -> Option<()> {
     tell(rt, &program, &last)
 }
 
+/// Lets so many callers share an instance, and prints how many entries it has in the end.
+fn share<R: Files + AllocGlobal + Print + Threads + Wait + Sync>(
+    rt: &R,
+    name: &str,
+    steps: &str,
+    callers: &str,
+    sharing: &str,
+) -> Option<()> {
+    let steps: u32 = steps.parse().ok()?;
+    let callers: u32 = callers.parse().ok()?;
+    let sharing = Sharing::named(sharing)?;
+    let program = program_in(rt, name)?;
+    let node = NodeId(program.nodes().checked_sub(1)?);
+    let count = entries(rt, &program, node, callers, steps, sharing)?;
+    println!(rt; "{count}").ok()
+}
+
 fn main(rt: HostRuntime) -> ExitCode {
     let Ok(arguments) = env::args(&rt) else {
         return ExitCode::from(2);
@@ -78,11 +101,19 @@ fn main(rt: HostRuntime) -> ExitCode {
     let Ok(words): Result<Vec<String>, _> = arguments.skip(1).collect(rt.alloc()) else {
         return ExitCode::from(2);
     };
-    match words.as_slice() {
-        [name, steps] => match run(&rt, name.as_str(), steps.as_str()) {
-            Some(()) => ExitCode::from(0),
-            None => ExitCode::from(1),
-        },
-        _ => ExitCode::from(2),
+    let done = match words.as_slice() {
+        [name, steps] => run(&rt, name.as_str(), steps.as_str()),
+        [name, steps, callers, sharing] => share(
+            &rt,
+            name.as_str(),
+            steps.as_str(),
+            callers.as_str(),
+            sharing.as_str(),
+        ),
+        _ => return ExitCode::from(2),
+    };
+    match done {
+        Some(()) => ExitCode::from(0),
+        None => ExitCode::from(1),
     }
 }
