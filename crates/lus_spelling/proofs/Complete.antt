@@ -275,11 +275,11 @@ module _ (n : ℕ) (op : Infix) (operand : Reader) (more : Found → Read) (a b 
       let lost : n < max (depth a) (depth b) → Err Deep ≡ target = λ lt. sym (rw (lt-leb (suc (max (depth a) (depth b))) (suc n) (omega arith)) refl) in
       let left_deep : n < depth a → Err Deep ≡ target = λ far. lost (omega (arith, le-max_left (depth a) (depth b))) in
       let read_both : (outcome n b rest >>= step) ≡ target =
-          over n b rest step target (λ far. lost (omega (arith, le-max_right (depth a) (depth b)))) (λ near.
-          elim (cases_lt n (depth a)) [
-            | inl far ↦ rw (lt-ltb n (depth a) far) (left_deep far)
-            | inr le ↦ rw (le-ltb n (depth a) le) (sym (rw (le-leb (suc (max (depth a) (depth b))) (suc n) (omega (arith, max-le le near))) refl))
-          ]) in
+      over n b rest step target (λ far. lost (omega (arith, le-max_right (depth a) (depth b)))) (λ near.
+      elim (cases_lt n (depth a)) [
+        | inl far ↦ rw (lt-ltb n (depth a) far) (left_deep far)
+        | inr le ↦ rw (le-ltb n (depth a) le) (sym (rw (le-leb (suc (max (depth a) (depth b))) (suc n) (omega (arith, max-le le near))) refl))
+      ]) in
       elim (cases_lt (suc n) (depth a)) [
         | inl farther ↦ rw (lt-leb (depth a) (suc n) farther) (left_deep (omega (arith, farther)))
         | inr le ↦ rw (le-leb (depth a) (suc n) le) (ap (λ (r : Read). r >>= step) right ∙ read_both)
