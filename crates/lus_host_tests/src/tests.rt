@@ -23,7 +23,7 @@ struct Slow<'a> {
 }
 
 impl Source for Slow<'_> {
-    ghost left = { λ source. Some source.bytes.now };
+    ghost left = { λ _. None };
 
     ghost failures = { λ _. None };
 
