@@ -12,7 +12,8 @@ use Rattle.lus_program.specs.View.{declared_of}
 use Rattle.lus_meaning.specs.Types.{nothing_declared}
 use Rattle.lus_meaning.specs.Resolved.{declared_in}
 use Rattle.lus_cells.specs.Cells.{declared_leaves, AreLeaves}
-use Rattle.lus_cells.specs.Uses.{declared_uses, type_uses, AreCappedLeaves}
+use Rattle.lus_meaning.specs.Sound.{declared_uses, type_uses}
+use Rattle.lus_cells.specs.Uses.{AreCappedLeaves}
 use Rattle.lus_cells.proofs.AlongOrders.{IsLocal, GivesNothing, IsFilled, uses_before, solution, solves, filled_more, filled_all}
 use Rattle.lus_cells.proofs.Related.{declared_related}
 

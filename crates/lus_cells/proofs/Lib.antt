@@ -6,5 +6,4 @@ pub mod Related
 pub mod LeavesAlong
 pub mod CellsAlong
 pub mod CountsAlong
-pub mod TypesMeant
 mod Examples

@@ -2,4 +2,3 @@ pub mod Calls
 pub mod Cells
 pub mod Given
 pub mod Uses
-pub mod Laws

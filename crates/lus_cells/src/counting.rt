@@ -22,12 +22,10 @@ const MOST_CELLS: u32 = 100_000;
 /// The state cells of each node, in the program's order. A program with a node that has more than 100,000 is refused at that
 /// node's name. Linear in the source.
 pub fn cells_of_nodes(alloc: Global, typed: &Typed) -> Result<Vec<u32>, Refusal>
-    ensures ok { IfOk result (λ cells. AreStateCells (program_seen typed.now.program) cells.items) }
-    ensures refused { IfErr result (λ e. e.number ≢ numbers.Memory → (e.number ≡ numbers.Limit) × (FitsCells (program_seen typed.now.program) → ⊥)) }
-    ensures placed { IfErr result (λ e. e.number ≢ numbers.Memory → NamesTooMany typed.now.program e.line e.column) }
+    ensures ok { IfOk result (λ cells. AreStateCells (program_seen typed.now) cells.items) }
+    ensures refused { IfErr result (λ e. e.number ≢ numbers.Memory → (e.number ≡ numbers.Limit) × (FitsCells (program_seen typed.now) → ⊥)) }
+    ensures placed { IfErr result (λ e. e.number ≢ numbers.Memory → NamesTooMany typed.now e.line e.column) }
 {
-    // No type of its tree leads back to itself, so none of the program.
-    let _tree = typed.tree();
     let program = typed.program();
     let types = order_of_types(alloc, program)?;
     let leaves = leaves_along(alloc, program, &types)?;

@@ -3,10 +3,8 @@
 
 mod counting;
 mod kinds;
-mod laws;
 mod leaves;
 mod orders;
 mod weights;
 
 pub use counting::cells_of_nodes;
-pub use laws::types_lead_nowhere_back;

@@ -1,4 +1,4 @@
-//! The checks as passes over a typed program. Contracts see what they give as the typed program.
+//! The checks as passes over a typed program. Contracts see what they give as the program.
 
 ghost use Rattle.std.specs.Prelude.{◌≡◌, ◌≢◌, IfOk, IfErr, OnOk};
 ghost use Rattle.lus_syntax.specs.declared.refusal.RefusalNumber.TheVariants as numbers;
@@ -25,32 +25,31 @@ pub struct Clocked {
 impl Model for Clocked {
     ghost use Rattle.std.specs.Coded.{codes};
     ghost use Rattle.lus_program.specs.contracts.expr.Expr as program_expr;
-    ghost use Rattle.lus_syntax.specs.contracts.tree.Expr as tree_expr;
     ghost use Rattle.lus_program.specs.View.{program_seen};
     ghost use Rattle.lus_streams.specs.OnClock.{ProgramOnClocks};
-    ghost use Rattle.lus_meaning.specs.TypedPrograms.{TypedProgram};
+    ghost use Rattle.lus_program.specs.declared.node.Program.{Program as StoredProgram};
 
-    ghost Value = { TypedProgram };
+    ghost Value = { StoredProgram };
 
-    ghost coded = { Prim.hlevel (codes, program_expr.the_row.coded, tree_expr.the_row.coded) };
+    ghost coded = { Prim.hlevel (codes, program_expr.the_row.coded) };
 
     ghost view = { λ c. c.typed };
 
-    ghost invariant = { λ c. ProgramOnClocks (program_seen c.typed.program) };
+    ghost invariant = { λ c. ProgramOnClocks (program_seen c.typed) };
 }
 
 impl Clocked {
     /// The typed program that is on clocks.
     pub fn typed(&self) -> &Typed
         ensures same { result.now ≡ self.now }
-        ensures on_clocks { ProgramOnClocks (program_seen result.now.program) }
+        ensures on_clocks { ProgramOnClocks (program_seen result.now) }
     {
         &self.typed
     }
 
     /// The program that is on clocks.
     pub fn program(&self) -> &Program
-        ensures same { result.now ≡ self.now.program }
+        ensures same { result.now ≡ self.now }
         ensures resolved { Resolved (program_seen result.now) }
         ensures on_clocks { ProgramOnClocks (program_seen result.now) }
     {
@@ -62,8 +61,8 @@ impl Clocked {
 /// first token of an expression.
 pub fn check_clocks(typed: Typed) -> Result<Clocked, Refusal>
     ensures same { IfOk result (λ clocked. clocked ≡ typed) }
-    ensures ok { OnOk result (ProgramOnClocks (program_seen typed.program)) }
-    ensures refused { IfErr result (λ e. (ProgramOnClocks (program_seen typed.program) → ⊥) × (e.number ≡ numbers.Clock)) }
+    ensures ok { OnOk result (ProgramOnClocks (program_seen typed)) }
+    ensures refused { IfErr result (λ e. (ProgramOnClocks (program_seen typed) → ⊥) × (e.number ≡ numbers.Clock)) }
     ensures shaped { IfErr result HasShape }
 {
     match clocks_fit(typed.program()) {
@@ -81,32 +80,31 @@ pub struct Initialised {
 impl Model for Initialised {
     ghost use Rattle.std.specs.Coded.{codes};
     ghost use Rattle.lus_program.specs.contracts.expr.Expr as program_expr;
-    ghost use Rattle.lus_syntax.specs.contracts.tree.Expr as tree_expr;
     ghost use Rattle.lus_program.specs.View.{program_seen};
     ghost use Rattle.lus_streams.specs.Flags.{IsFlagged};
-    ghost use Rattle.lus_meaning.specs.TypedPrograms.{TypedProgram};
+    ghost use Rattle.lus_program.specs.declared.node.Program.{Program as StoredProgram};
 
-    ghost Value = { TypedProgram };
+    ghost Value = { StoredProgram };
 
-    ghost coded = { Prim.hlevel (codes, program_expr.the_row.coded, tree_expr.the_row.coded) };
+    ghost coded = { Prim.hlevel (codes, program_expr.the_row.coded) };
 
     ghost view = { λ i. i.clocked };
 
-    ghost invariant = { λ i. IsFlagged (program_seen i.clocked.program) };
+    ghost invariant = { λ i. IsFlagged (program_seen i.clocked) };
 }
 
 impl Initialised {
     /// The program on clocks in which nil stands only where flags allow.
     pub fn clocked(&self) -> &Clocked
         ensures same { result.now ≡ self.now }
-        ensures flagged { IsFlagged (program_seen result.now.program) }
+        ensures flagged { IsFlagged (program_seen result.now) }
     {
         &self.clocked
     }
 
     /// The program in which nil stands only where flags allow.
     pub fn program(&self) -> &Program
-        ensures same { result.now ≡ self.now.program }
+        ensures same { result.now ≡ self.now }
         ensures resolved { Resolved (program_seen result.now) }
         ensures on_clocks { ProgramOnClocks (program_seen result.now) }
         ensures flagged { IsFlagged (program_seen result.now) }
@@ -119,9 +117,9 @@ impl Initialised {
 /// at a variable's place on the left of its equation.
 pub fn check_nil(alloc: Global, clocked: Clocked) -> Result<Initialised, Refusal>
     ensures same { IfOk result (λ initialised. initialised ≡ clocked) }
-    ensures ok { OnOk result (IsFlagged (program_seen clocked.program)) }
+    ensures ok { OnOk result (IsFlagged (program_seen clocked)) }
     ensures refused { IfErr result (λ e. e.number ≢ numbers.Memory →
-        (IsFlagged (program_seen clocked.program) → ⊥) × (e.number ≡ numbers.Nil)) }
+        (IsFlagged (program_seen clocked) → ⊥) × (e.number ≡ numbers.Nil)) }
     ensures shaped { IfErr result HasShape }
 {
     match flags_fit(alloc, clocked.program()) {

@@ -32,7 +32,6 @@ pub struct Code {
 impl Model for Code {
     ghost use Rattle.std.specs.Coded.{codes};
     ghost use Rattle.lus_program.specs.contracts.expr.Expr as program_expr;
-    ghost use Rattle.lus_syntax.specs.contracts.tree.Expr as tree_expr;
     ghost use Rattle.lus_flat_classes.specs.contracts.formula.Formula as formula;
     ghost use Rattle.lus_values.specs.contracts.value.Value as value;
     ghost use Rattle.lus_program.specs.View.{program_seen};
@@ -40,7 +39,7 @@ impl Model for Code {
 
     ghost Value = { ProgramCode };
 
-    ghost coded = { Prim.hlevel (codes, program_expr.the_row.coded, tree_expr.the_row.coded, formula.the_row.coded, value.the_row.coded) };
+    ghost coded = { Prim.hlevel (codes, program_expr.the_row.coded, formula.the_row.coded, value.the_row.coded) };
 
     ghost view = { λ c. record { source = c.source; classes = c.classes.items; cells = c.cells.items } };
 
@@ -93,7 +92,7 @@ impl Code {
 
 /// The typed program that a normal form is made of, whose checks the passes after it have made.
 fn typed_of(normal: &Normal) -> &Typed
-    ensures same { result.now.program ≡ normal.now.source.program }
+    ensures same { result.now ≡ normal.now.source.program }
     ensures checked { IsChecked (program_seen normal.now.source.program) }
 {
     let source = normal.source();

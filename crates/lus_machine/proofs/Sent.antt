@@ -5,15 +5,6 @@ use Rattle.std.proofs.Crossing.{crosses}
 use Rattle.std.proofs.string.String.TheSendSync as string
 use Rattle.lus_values.proofs.value.Value.TheLaws.TheKnot as value
 use Rattle.lus_values.proofs.names.Names.TheSendSync as names
-use Rattle.lus_syntax.proofs.tree.Expr.TheLaws.TheKnot as tree_knot
-use Rattle.lus_syntax.proofs.tree.Name.TheSendSync as name
-use Rattle.lus_syntax.proofs.tree.Group.TheSendSync as group
-use Rattle.lus_syntax.proofs.tree.TypeDeclaration.TheSendSync as type_declaration
-use Rattle.lus_syntax.proofs.tree.Constant.TheSendSync as constant
-use Rattle.lus_syntax.specs.contracts.tree.Expr as TreeExpr
-use Rattle.lus_syntax.specs.contracts.tree.Equation as TreeEquation
-use Rattle.lus_syntax.specs.contracts.tree.Node as TreeNode
-use Rattle.lus_syntax.specs.contracts.tree.Tree as Tree
 use Rattle.lus_program.proofs.expr.Expr.TheLaws.TheKnot as expr
 use Rattle.lus_program.proofs.node.Variable.TheSendSync as variable
 use Rattle.lus_program.proofs.types.Declared.TheSendSync as declared
@@ -39,33 +30,7 @@ use Rattle.lus_requests.specs.contracts.request.Entry as Entry
 use Rattle.lus_machine.specs.contracts.program.Program as Program
 use Rattle.lus_machine.specs.contracts.machine.Machine as Machine
 
--- ---- trees
-
-tree_expr_send : IsSend (TreeExpr.the_field).row
-tree_expr_send = search (crosses, tree_knot.crosses, sendable) depth 60 fits 20000
-
-tree_expr_sync : IsSync (TreeExpr.the_field).row
-tree_expr_sync = search (crosses, tree_knot.crosses, sendable) depth 60 fits 20000
-
-tree_equation_send : IsSend TreeEquation.the_row
-tree_equation_send = search (crosses, tree_expr_send, name.the_send, sendable) depth 20
-
-tree_equation_sync : IsSync TreeEquation.the_row
-tree_equation_sync = search (crosses, tree_expr_sync, name.the_sync, sendable) depth 20
-
-tree_node_send : IsSend TreeNode.the_row
-tree_node_send = search (crosses, tree_equation_send, name.the_field_send, group.the_send, sendable) depth 20
-
-tree_node_sync : IsSync TreeNode.the_row
-tree_node_sync = search (crosses, tree_equation_sync, name.the_field_sync, group.the_sync, sendable) depth 20
-
-tree_send : IsSend (Tree.the_field).row
-tree_send = search (crosses, tree_node_send, type_declaration.the_send, constant.the_send, sendable) depth 20
-
-tree_sync : IsSync (Tree.the_field).row
-tree_sync = search (crosses, tree_node_sync, type_declaration.the_sync, constant.the_sync, sendable) depth 20
-
--- ---- programs that trees mean
+-- ---- programs
 
 expr_send : IsSend (Expr.the_field).row
 expr_send = search (crosses, expr.crosses, value.crosses, sendable) depth 60 fits 20000
@@ -94,10 +59,10 @@ source_sync = search (crosses, node_sync, declared.the_sync, sendable) depth 20
 -- ---- passes
 
 typed_send : IsSend Typed.the_row
-typed_send = search (crosses, tree_send, source_send, sendable) depth 20
+typed_send = search (crosses, source_send, sendable) depth 20
 
 typed_sync : IsSync Typed.the_row
-typed_sync = search (crosses, tree_sync, source_sync, sendable) depth 20
+typed_sync = search (crosses, source_sync, sendable) depth 20
 
 clocked_send : IsSend Clocked.the_row
 clocked_send = search (crosses, typed_send, sendable) depth 20

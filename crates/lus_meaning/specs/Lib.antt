@@ -9,5 +9,4 @@ pub mod WellTyped
 pub mod Refusals
 pub mod ScopeView
 pub mod Resolved
-pub mod TypedPrograms
-pub mod MeantPrograms
+pub mod Sound

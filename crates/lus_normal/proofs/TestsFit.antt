@@ -23,7 +23,8 @@ use Rattle.lus_resolution.proofs.Options.{and_then_gives, map_gives, where_true_
 use Rattle.lus_resolution.proofs.Typed.{HasKind, HaveKinds, operate_typed, both_typed, when_typed, merge_typed, call_typed, more_typed, whole_call, whole_typed, fits_given}
 use Rattle.lus_normal.specs.Forms.{Taken, operand_takes, inner_takes, right_takes, inners_takes, branches_takes, arguments_takes}
 use Rattle.lus_normal.specs.Laws.{equations_take}
-use Rattle.lus_normal.specs.Numbers.{AllFit, Fits, IsLimited}
+use Rattle.lus_meaning.specs.Sound.{IsLimited}
+use Rattle.lus_normal.specs.Numbers.{AllFit, Fits}
 
 abbrev Stored : Taken → Type 0
 Stored t = Fits t.test

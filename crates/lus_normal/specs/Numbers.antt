@@ -1,10 +1,7 @@
 -- Which numbers the code stores: those of variables and of tests, as `u32`.
-use Rattle.std.specs.Prelude.{◌^◌, ◌<◌, ◌≤◌, List, length, Option, Some, None}
+use Rattle.std.specs.Prelude.{◌^◌, ◌<◌, List, Option, Some, None}
 use Rattle.lus_values.specs.Lists.{Each}
-use Rattle.lus_syntax.specs.Limits.{most_variables, most_constructors}
 use Rattle.lus_program.specs.declared.expr.Test.{Test}
-use Rattle.lus_program.specs.Programs.{Program}
-use Rattle.lus_meaning.specs.Types.{constructors_in}
 use Rattle.lus_normal.specs.Forms.{Taken}
 
 -- the numbers of a test, if there is one, can be stored
@@ -15,8 +12,3 @@ Fits (Some t) = (t.variable < 2 ^ 32) × (t.constructor < 2 ^ 32)
 -- so can those of all that is taken out
 abbrev pub AllFit : List Taken → Type 0
 AllFit = Each (λ t. Fits t.test)
-
--- no node has more variables, and no type more constructors, than a source may declare
-pub record IsLimited (p : Program) : Type 0 where
-  pub variables : Each (λ f. length f.variables ≤ most_variables) p.nodes
-  pub constructors : Each (λ d. constructors_in d ≤ most_constructors) p.types

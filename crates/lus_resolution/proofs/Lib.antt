@@ -14,6 +14,8 @@ pub mod Places
 pub mod Lefts
 pub mod NodesMeant
 pub mod CallsNamed
+pub mod TypesMeant
+pub mod Limited
 pub mod ProgramsMeant
 pub mod Typed
 mod Examples

@@ -1,7 +1,14 @@
--- What a well-formed tree means is resolved.
-use Rattle.lus_resolution.specs.Laws.{MeantProgramsAreResolved}
-use Rattle.lus_resolution.proofs.NodesMeant.{meant_nodes_resolved}
+-- What a well-formed tree means is sound.
+use Rattle.lus_meaning.specs.Sound.{IsSound}
+use Rattle.lus_resolution.specs.Laws.{MeantProgramsAreSound}
 use Rattle.lus_resolution.proofs.CallsNamed.{meant_loopless}
+use Rattle.lus_resolution.proofs.Limited.{meant_limited}
+use Rattle.lus_resolution.proofs.NodesMeant.{meant_nodes_resolved}
+use Rattle.lus_resolution.proofs.TypesMeant.{types_loopless}
 
-pub meant_programs_are_resolved : MeantProgramsAreResolved
-meant_programs_are_resolved t formed = record { nodes = meant_nodes_resolved t formed; loopless = meant_loopless t formed.named.each formed.loopless.nodes; parts = formed.parts }
+pub meant_programs_are_sound : MeantProgramsAreSound
+meant_programs_are_sound t formed = record {
+  resolved = record { nodes = meant_nodes_resolved t formed; loopless = meant_loopless t formed.named.each formed.loopless.nodes; parts = formed.parts };
+  loopless = types_loopless t formed.loopless.types;
+  limited = meant_limited t formed;
+}

@@ -2,8 +2,8 @@
 use Rattle.lus_syntax.specs.Trees.{Tree}
 use Rattle.lus_meaning.specs.Meaning.{program_of}
 use Rattle.lus_meaning.specs.Refusals.{WellFormed}
-use Rattle.lus_meaning.specs.Resolved.{Resolved}
+use Rattle.lus_meaning.specs.Sound.{IsSound}
 
--- a well-formed tree means a resolved program
-abbrev pub MeantProgramsAreResolved : Type 0
-MeantProgramsAreResolved = (t : Tree) → WellFormed t → Resolved (program_of t)
+-- a well-formed tree means a sound program
+abbrev pub MeantProgramsAreSound : Type 0
+MeantProgramsAreSound = (t : Tree) → WellFormed t → IsSound (program_of t)

@@ -1,10 +1,11 @@
 //! The law of the program that a well-formed tree means.
 #![tactic(auto)]
 
-ghost use Rattle.lus_resolution.specs.Laws.{MeantProgramsAreResolved};
+ghost use Rattle.lus_resolution.specs.Laws.{MeantProgramsAreSound};
 
-/// The program that a well-formed tree means is resolved: its nodes are well typed, each output and local is defined once,
-/// and no node calls itself, directly or round.
-pub fn resolved()
-    ensures { MeantProgramsAreResolved }
+/// The program that a well-formed tree means is sound: its nodes are well typed, each output and local is defined once, no
+/// node calls itself and no structure has itself among its fields, directly or round, and no node or type is larger than a
+/// source may declare.
+pub fn sound()
+    ensures { MeantProgramsAreSound }
 {}

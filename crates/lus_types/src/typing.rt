@@ -22,17 +22,16 @@ use lus_syntax::{Refusal, Tree};
 use std::alloc::Global;
 
 /// Checks a source against the limits of its declarations, then its names, recursion, the limits of sizes, types, and the
-/// limit of parts, each over the whole source; gives it back with the program that it means. Refuses by the number of the
+/// limit of parts, each over the whole source; gives the program that it means. Refuses by the number of the
 /// first of these that fails (E10, E4, E9, E10, E5, E10) at a place of a fault of it, or for want of memory (E11).
 pub fn check_types(alloc: Global, tree: Tree) -> Result<Typed, Refusal>
-    ensures same { IfOk result (λ typed. typed.tree ≡ tree) }
     ensures ok { OnOk result (WellFormed (tree_seen tree)) }
-    ensures means { IfOk result (λ typed. program_seen typed.program ≡ program_of (tree_seen tree)) }
+    ensures means { IfOk result (λ typed. program_seen typed ≡ program_of (tree_seen tree)) }
     ensures refused { IfErr result (λ e. e.number ≢ numbers.Memory → FirstFails (tree_seen tree) e.number) }
     ensures shaped { IfErr result HasShape }
 {
     let program = checked(alloc, &tree)?;
-    Ok(Typed::new(tree, program))
+    Ok(Typed::new(program))
 }
 
 /// The program that a source means, where no pass refuses it.

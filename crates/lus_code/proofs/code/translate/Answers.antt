@@ -22,7 +22,7 @@ pub invariant_of-result : goal.invariant_of-result
 invariant_of-result c =
     let p = c.args.normal.source.program in
     let q = c.program.result.now in
-    let given : c.typed_of.result.now.program ≡ p = c.typed_of.ensures.same in
+    let given : c.typed_of.result.now ≡ p = c.typed_of.ensures.same in
     let same : c.into_source-source.result.program ≡ p = ap (λ s. s.program) c.into_source-source.ensures in
     let long = length-map q.nodes.items node_of ∙ as_many (program_seen p) p.nodes.items q.nodes.items c.program.ensures.made ∙ sym (length-map p.nodes.items node_of) in
     subst (λ z. IsTranslated (program_seen z) c.in_ok-classes.classes.items c.in_ok-cells.cells.items) (sym same) (record {

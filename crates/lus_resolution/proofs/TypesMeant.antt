@@ -17,7 +17,7 @@ use Rattle.lus_meaning.specs.Scopes.{entry}
 use Rattle.lus_meaning.specs.Loopless.{place_in, type_names, named_type, definition_uses, type_uses as tree_uses}
 use Rattle.lus_meaning.specs.Tables.{numbered_from, type_places, of_type, definition_at, no_definition, definition_kind, within, kind_named, fields_declared, declared_as}
 use Rattle.lus_meaning.specs.Meaning.{program_of}
-use Rattle.lus_cells.specs.Uses.{structures_in, declared_uses, type_uses}
+use Rattle.lus_meaning.specs.Sound.{structures_in, declared_uses, type_uses}
 
 -- ways
 

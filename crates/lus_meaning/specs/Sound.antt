@@ -1,0 +1,37 @@
+-- What a typed program keeps: it is resolved, no structure has itself among its fields, directly or round, and no node or type
+-- is larger than a source may declare. Passes after types rely on this, and on nothing of the tree.
+use Rattle.std.specs.Prelude.{◌≤◌, ℕ, List, [], ◌∷◌, map, flat_map, length}
+use Rattle.lus_values.specs.Lists.{Each}
+use Rattle.lus_graph.specs.Ways.{Uses, HasNoWayBack}
+use Rattle.lus_syntax.specs.Limits.{most_variables, most_constructors}
+use Rattle.lus_program.specs.declared.types.Kind.{Kind}
+use Rattle.lus_program.specs.declared.types.Kind.TheVariants as kinds
+use Rattle.lus_program.specs.Programs.{Declared, alias, enumeration, structure, Program}
+use Rattle.lus_meaning.specs.Types.{constructors_in}
+use Rattle.lus_meaning.specs.Resolved.{Resolved}
+
+-- the structure that a type is, if it is one
+abbrev pub structures_in : Kind → List ℕ
+structures_in kinds.Bool = []
+structures_in kinds.Int = []
+structures_in (kinds.Enum t) = []
+structures_in (kinds.Struct t) = t ∷ []
+
+abbrev pub declared_uses : Declared → List ℕ
+declared_uses (alias k) = structures_in k
+declared_uses (enumeration cs) = []
+declared_uses (structure fs) = flat_map (λ g. structures_in g.kind) fs
+
+-- the structures that each type's declaration names
+abbrev pub type_uses : Program → Uses
+type_uses p = map declared_uses p.types
+
+-- no node has more variables, and no type more constructors, than a source may declare
+pub record IsLimited (p : Program) : Type 0 where
+  pub variables : Each (λ f. length f.variables ≤ most_variables) p.nodes
+  pub constructors : Each (λ d. constructors_in d ≤ most_constructors) p.types
+
+pub record IsSound (p : Program) : Type 0 where
+  pub resolved : Resolved p
+  pub loopless : HasNoWayBack (type_uses p)
+  pub limited : IsLimited p
