@@ -31,7 +31,7 @@ pub fn arranged(
     ensures once { IfOk result (λ r. is_some r ≡ each_once count places.items) }
     ensures order { IfOk result (λ r. IfSome r (λ es. operands_of es.items ≡ in_order count places.items (operands_of operands.items))) }
 {
-    let mut arranged = Vec::new(alloc);
+    let mut arranged = Vec::with_capacity(alloc, operands.len())?;
     for place in 0..count {
         let Some(index) = index_of(&places, place) else {
             return Ok(None);

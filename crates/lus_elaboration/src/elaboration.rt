@@ -89,8 +89,8 @@ pub fn elaborate_all(
     ensures alike { IfOk result (λ x. length x.0.items ≡ length parts.now) }
     ensures refused { IfErr result (Faulty (kinds_of (scope_of scope.now) (parts_of (map part_seen parts.now)) ≡ None)) }
 {
-    let mut operands = Vec::new(alloc);
-    let mut kinds = Vec::new(alloc);
+    let mut operands = Vec::with_capacity(alloc, parts.len())?;
+    let mut kinds = Vec::with_capacity(alloc, parts.len())?;
     for part in parts {
         let Elaborated { expr, kind } = elaborate(alloc, scope, &part.value)?;
         operands.push(Box::into_inner(expr))?;

@@ -67,7 +67,7 @@ pub fn right_side(alloc: Global, scope: &Scope, source: &Source) -> Result<Given
 fn copied(alloc: Global, kinds: &[Kind]) -> Result<Vec<Kind>, AllocError>
     ensures { IfOk result (λ ks. ks.items ≡ kinds.now) }
 {
-    let mut copies = Vec::new(alloc);
+    let mut copies = Vec::with_capacity(alloc, kinds.len())?;
     for kind in kinds {
         copies.push(*kind)?;
     }
@@ -77,7 +77,7 @@ fn copied(alloc: Global, kinds: &[Kind]) -> Result<Vec<Kind>, AllocError>
 fn left_kinds(alloc: Global, scope: &Scope, names: &[Name]) -> Result<Vec<Kind>, AllocError>
     ensures { IfOk result (λ ks. ks.items ≡ kinds_of_left (scope_of scope.now) (names_seen names.now)) }
 {
-    let mut kinds = Vec::new(alloc);
+    let mut kinds = Vec::with_capacity(alloc, names.len())?;
     for name in names {
         kinds.push(left_kind(scope, name))?;
     }
@@ -105,7 +105,7 @@ fn target(scope: &Scope, name: &Name) -> u32
 fn targets(alloc: Global, scope: &Scope, names: &[Name]) -> Result<Vec<u32>, AllocError>
     ensures { IfOk result (λ ts. ts.items ≡ map (λ x. variable_place (scope_of scope.now) x.text) (names_seen names.now)) }
 {
-    let mut targets = Vec::new(alloc);
+    let mut targets = Vec::with_capacity(alloc, names.len())?;
     for name in names {
         targets.push(target(scope, name))?;
     }
@@ -113,7 +113,7 @@ fn targets(alloc: Global, scope: &Scope, names: &[Name]) -> Result<Vec<u32>, All
 }
 
 fn places(alloc: Global, names: &[Name]) -> Result<Vec<Place>, AllocError> {
-    let mut places = Vec::new(alloc);
+    let mut places = Vec::with_capacity(alloc, names.len())?;
     for name in names {
         places.push(name.span.start)?;
     }

@@ -344,7 +344,7 @@ fn parts(alloc: Global, form: Form, limit: u32, tokens: &[Token]) -> Parts<'_>
     ensures within { IfOk result (λ x. x.1 ≤ limit) }
     ensures exact { Gives parts_read result (parts_at (length tokens.now + 1) form (read limit Whole) [] 0 (tokens_seen tokens.now)) }
 {
-    let mut found = Vec::new(alloc);
+    let mut found = Vec::with_capacity(alloc, 1)?;
     let mut deepest: u32 = 0;
     let mut rest = tokens;
     let count = tokens.len() + 1;

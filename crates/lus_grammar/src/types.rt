@@ -17,7 +17,7 @@ use std::alloc::Global;
 pub fn names(alloc: Global, tokens: &[Token]) -> Parsed<'_, Vec<Name>>
     ensures { Gives (λ x. (names_seen x.0.items, tokens_seen x.1.now)) result (names_at (tokens_seen tokens.now)) }
 {
-    let mut names = Vec::new(alloc);
+    let mut names = Vec::with_capacity(alloc, 1)?;
     let (first, mut rest) = identifier(alloc, tokens)?;
     names.push(first)?;
     while let Some((_, after)) = symbol(Symbol::Comma, rest) {

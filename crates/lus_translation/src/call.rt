@@ -90,7 +90,7 @@ fn arguments_of(
 ) -> Result<Vec<Argument>, Memory>
     ensures { IfOk result (λ found. map argument_seen found.items ≡ map tested_argument (arguments_from program.now called arguments.now base.now)) }
 {
-    let mut found = Vec::new(alloc);
+    let mut found = Vec::with_capacity(alloc, arguments.len())?;
     for (formal, argument) in arguments.iter().enumerate() {
         let formal = number_of(formal)?;
         let clock = formal_clock(

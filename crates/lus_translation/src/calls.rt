@@ -67,7 +67,7 @@ pub fn numbers_of(alloc: Global, node: &Node) -> Result<Vec<u32>, Memory>
     ensures numbers { IfOk result (λ ns. ns.items ≡ numbers_form 0 node.now.equations.items) }
     ensures size { IfOk result (λ ns. length ns.items ≡ length node.now.equations.items) }
 {
-    let mut numbers = Vec::new(alloc);
+    let mut numbers = Vec::with_capacity(alloc, node.equations.len())?;
     let mut calls: usize = 0;
     for equation in &node.equations {
         numbers.push(number_of(calls)?)?;
@@ -85,7 +85,7 @@ pub fn numbers_of(alloc: Global, node: &Node) -> Result<Vec<u32>, Memory>
 pub fn tests_of(alloc: Global, node: &Node) -> Result<Vec<Option<Test>>, Memory>
     ensures { IfOk result (λ ts. ts.items ≡ map (λ v. v.test) node.now.variables.items) }
 {
-    let mut tests = Vec::new(alloc);
+    let mut tests = Vec::with_capacity(alloc, node.variables.len())?;
     for variable in &node.variables {
         tests.push(variable.test)?;
     }

@@ -87,7 +87,7 @@ fn codes_of(
     ensures cells { OnOk result (KeepsCells kept.old kept.new (all_kept_cells (operands_of operands.now) clock.now)) }
     ensures firsts { OnOk result (KeepsFirsts kept.old kept.new (all_kept_firsts (operands_of operands.now) clock.now)) }
 {
-    let mut codes = Vec::new(alloc);
+    let mut codes = Vec::with_capacity(alloc, operands.len())?;
     for operand in operands {
         let code = code_of(alloc, operand, clock, kept)?;
         codes.push(code)?;

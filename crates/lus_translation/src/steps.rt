@@ -45,7 +45,7 @@ fn targets_of(
 ) -> Result<Vec<Target>, Memory>
     ensures { IfOk result (λ ts. (number : _) → map (taken number) ts.items ≡ answers_form number inputs targets.now variables.now) }
 {
-    let mut found = Vec::new(alloc);
+    let mut found = Vec::with_capacity(alloc, variables.len())?;
     for variable in variables {
         if let Some(output) = place_of(targets, *variable) {
             let Some(place) = (inputs as usize).checked_add(output) else {

@@ -109,7 +109,7 @@ fn equations(
     ensures typed { OnOk result (list_all (equation_typed (scope_of scope.now)) (map equation_seen sources.now) ≡ true) }
     ensures refused { IfErr result (Faulty (list_all (equation_typed (scope_of scope.now)) (map equation_seen sources.now) ≡ false)) }
 {
-    let mut equations = Vec::new(alloc);
+    let mut equations = Vec::with_capacity(alloc, sources.len())?;
     for source in sources {
         equations.push(equation(alloc, scope, source)?)?;
     }

@@ -179,7 +179,7 @@ fn nodes(alloc: Global, tree: &Tree, scope: &mut Scope) -> Result<Vec<Node>, Fau
     ensures declared { OnOk result ((scope_of scope.new).declared ≡ map (λ d. declared_as (tree_seen tree.now) d.definition) (tree_seen tree.now).types) }
     ensures refused { IfErr result (Faulty (Each (NodeTyped (tree_seen tree.now)) (tree_seen tree.now).nodes → ⊥)) }
 {
-    let mut nodes = Vec::new(alloc);
+    let mut nodes = Vec::with_capacity(alloc, tree.nodes.len())?;
     for source in &tree.nodes {
         enter(alloc, scope, source)?;
         nodes.push(node(alloc, tree, scope, source)?)?;

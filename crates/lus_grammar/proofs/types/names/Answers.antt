@@ -12,11 +12,11 @@ use Rattle.lus_grammar.proofs.types.names.Goals as goal
 
 pub returns-in_err-first : goal.returns-in_err-first
 returns-in_err-first c =
-    let p = err_from_is_err_and c.from_residual.result c.from_residual.ensures.1 in
+    let p = err_from_is_err_and c.from_residual-in_err-first.result c.from_residual-in_err-first.ensures.1 in
     rw (p.1, p.2) (first_fails (after (Sign symbols.Comma)) identifier_at [] (tokens_seen c.args.tokens.now) _ c.in_err-first.ensures)
 
 pub loop-after-init : goal.loop-after-init
-loop-after-init c = first_read (after (Sign symbols.Comma)) identifier_at [] (tokens_seen c.args.tokens.now) _ _ _ c.in_ok-first.ensures (seen_first name_seen _ _ _ c.in_ok-push.ensures.items c.new-names.ensures.items)
+loop-after-init c = first_read (after (Sign symbols.Comma)) identifier_at [] (tokens_seen c.args.tokens.now) _ _ _ c.in_ok-first.ensures (seen_first name_seen _ _ _ c.in_ok-push.ensures.items c.in_ok-names.ensures.items)
 
 pub returns-in_err-next : goal.returns-in_err-next
 returns-in_err-next c =
