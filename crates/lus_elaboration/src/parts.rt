@@ -246,7 +246,9 @@ fn part_place(part: &Part) -> Place {
     match &part.lead {
         Lead::Plain => place_of(&part.value),
         Lead::Field(name) => name.span.start,
-        Lead::Branch(_, Label::Constructor(name)) => name.span.start,
-        Lead::Branch(_, Label::Truth(_, span)) => span.start,
+        Lead::Branch(_, label) => match &**label {
+            Label::Constructor(name) => name.span.start,
+            Label::Truth(_, span) => span.start,
+        },
     }
 }

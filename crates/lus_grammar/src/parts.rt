@@ -56,6 +56,7 @@ pub fn lead(alloc: Global, form: Form, tokens: &[Token]) -> Result<(Lead, &[Toke
             Some((span, rest)) => {
                 let (label, rest) = label(alloc, rest)?;
                 let rest = expect_symbol(Symbol::Arrow, rest)?;
+                let label = Box::new(alloc, label)?;
                 Ok((Lead::Branch(span, label), rest))
             }
         },

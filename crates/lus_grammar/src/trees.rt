@@ -49,6 +49,7 @@ pub fn parentheses(alloc: Global, span: Span, inner: Box<Expr>) -> Made
 pub fn when(alloc: Global, left: Box<Expr>, test: Test) -> Made
     ensures { Makes result (plain.When (expression_seen left.value) (test_seen test)) }
 {
+    let test = Box::new(alloc, test)?;
     Ok(Box::new(alloc, Expr::When(left, test))?)
 }
 
@@ -63,6 +64,7 @@ pub fn field(alloc: Global, left: Box<Expr>, name: Name) -> Made
 pub fn call(alloc: Global, name: Name, arguments: Vec<Part>) -> Made
     ensures { Makes result (plain.Call (name_seen name) (plain.parts_of (map part_seen arguments.items))) }
 {
+    let name = Box::new(alloc, name)?;
     Ok(Box::new(alloc, Expr::Call(name, arguments))?)
 }
 
@@ -70,6 +72,7 @@ pub fn call(alloc: Global, name: Name, arguments: Vec<Part>) -> Made
 pub fn structure(alloc: Global, name: Name, fields: Vec<Part>) -> Made
     ensures { Makes result (plain.Structure (name_seen name) (plain.parts_of (map part_seen fields.items))) }
 {
+    let name = Box::new(alloc, name)?;
     Ok(Box::new(alloc, Expr::Structure(name, fields))?)
 }
 
@@ -77,5 +80,6 @@ pub fn structure(alloc: Global, name: Name, fields: Vec<Part>) -> Made
 pub fn merge(alloc: Global, span: Span, name: Name, branches: Vec<Part>) -> Made
     ensures { Makes result (plain.Merge span (name_seen name) (plain.parts_of (map part_seen branches.items))) }
 {
+    let name = Box::new(alloc, name)?;
     Ok(Box::new(alloc, Expr::Merge(span, name, branches))?)
 }

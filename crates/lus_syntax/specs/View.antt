@@ -56,19 +56,19 @@ test_seen (tests.Is l n) = plain.Is (label_seen l) (name_seen n)
 abbrev pub lead_seen : Lead → plain.Lead
 lead_seen leads.Plain = plain.Plain
 lead_seen (leads.Field n) = plain.Of (name_seen n)
-lead_seen (leads.Branch s l) = plain.Branch s (label_seen l)
+lead_seen (leads.Branch s l) = plain.Branch s (label_seen l.value)
 
 abbrev mutual
   pub expression_seen : Expr → plain.Expression
   expression_seen (exprs.Number n s) = plain.Numeral n s
   expression_seen (exprs.Truth b s) = plain.Truth b s
   expression_seen (exprs.Name n) = plain.Name (name_seen n)
-  expression_seen (exprs.Call' n shape row) = plain.Call (name_seen n) (parts_in row)
-  expression_seen (exprs.Structure' n shape row) = plain.Structure (name_seen n) (parts_in row)
-  expression_seen (exprs.Merge' s n shape row) = plain.Merge s (name_seen n) (parts_in row)
+  expression_seen (exprs.Call' n shape row) = plain.Call (name_seen n.value) (parts_in row)
+  expression_seen (exprs.Structure' n shape row) = plain.Structure (name_seen n.value) (parts_in row)
+  expression_seen (exprs.Merge' s n shape row) = plain.Merge s (name_seen n.value) (parts_in row)
   expression_seen (exprs.Field' p t n) = plain.Field (expression_seen t) (name_seen n)
   expression_seen (exprs.Parentheses' s p t) = plain.Parentheses s (expression_seen t)
-  expression_seen (exprs.When' p t c) = plain.When (expression_seen t) (test_seen c)
+  expression_seen (exprs.When' p t c) = plain.When (expression_seen t) (test_seen c.value)
   expression_seen (exprs.Unary' op s p t) = plain.Unary op s (expression_seen t)
   expression_seen (exprs.Binary' op p a q b) = plain.Binary op (expression_seen a) (expression_seen b)
   expression_seen (exprs.If' s p c q a r b) = plain.If s (expression_seen c) (expression_seen a) (expression_seen b)

@@ -119,7 +119,7 @@ pub enum Lead {
     /// A field's name.
     Field(Name),
     /// A branch's parenthesis and label.
-    Branch(Span, Label),
+    Branch(Span, Box<Label>),
 }
 
 /// An argument of a call, a field's value of a structure, or a branch of a merge.
@@ -130,19 +130,20 @@ pub struct Part {
     pub value: Expr,
 }
 
-/// An expression. A form that begins with a token of its own has that token's span.
+/// An expression. A form that begins with a token of its own has that token's span. What only few forms have is boxed, since
+/// each form takes the room of the largest.
 #[cycle(tree)]
 #[derive(Drop)]
 pub enum Expr {
     Number(i64, Span),
     Truth(bool, Span),
     Name(Name),
-    Call(Name, Vec<Part>),
-    Structure(Name, Vec<Part>),
-    Merge(Span, Name, Vec<Part>),
+    Call(Box<Name>, Vec<Part>),
+    Structure(Box<Name>, Vec<Part>),
+    Merge(Span, Box<Name>, Vec<Part>),
     Field(Box<Expr>, Name),
     Parentheses(Span, Box<Expr>),
-    When(Box<Expr>, Test),
+    When(Box<Expr>, Box<Test>),
     Unary(Prefix, Span, Box<Expr>),
     Binary(Infix, Box<Expr>, Box<Expr>),
     If(Span, Box<Expr>, Box<Expr>, Box<Expr>),

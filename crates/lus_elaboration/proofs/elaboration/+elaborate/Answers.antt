@@ -32,8 +32,8 @@ elaborate-returns-in_ok-operands-in-Call-clause-refused t c =
     let parts = parts_of (map part_seen c.in-Call.arguments.items) in
     let kinds = c.in_ok-operands-in-Call.kinds.items in
     let given : kinds_of s parts ≡ Some kinds = rw c.deref.ensures.value at c.in_ok-operands-in-Call.ensures.typed in
-    let kind : kind_of s (expression_seen c.args.source.now) ≡ _ = ap (kind_of s) e ∙ kind_of-call s (name_seen c.in-Call.name) parts kinds given in
-    let refused = rw (c.deref-in-Call.ensures.value, c.deref-in-Call-2.ensures.value) at c.call.ensures.refused in
+    let kind : kind_of s (expression_seen c.args.source.now) ≡ _ = ap (kind_of s) e ∙ kind_of-call s (name_seen c.in-Call.name.value) parts kinds given in
+    let refused = rw (c.deref-in-Call.ensures, c.deref-in-Call-2.ensures.value, c.deref-in-Call-3.ensures.value) at c.call.ensures.refused in
     rw kind refused
 
 pub elaborate-returns-in_err-operands-in-Structure-clause-refused : goal.elaborate-returns-in_err-operands-in-Structure-clause-refused
@@ -58,8 +58,8 @@ elaborate-returns-in_ok-operands-in-Structure-clause-refused t c =
     let parts = parts_of (map part_seen c.in-Structure.fields.items) in
     let kinds = c.in_ok-operands-in-Structure.kinds.items in
     let given : kinds_of s parts ≡ Some kinds = rw c.deref-in-Structure.ensures.value at c.in_ok-operands-in-Structure.ensures.typed in
-    let kind : kind_of s (expression_seen c.args.source.now) ≡ _ = ap (kind_of s) e ∙ kind_of-structure s (name_seen c.in-Structure.name) parts kinds given in
-    let refused = rw (c.deref-in-Structure-2.ensures.value, c.deref-in-Structure-3.ensures.value) at c.structure.ensures.refused in
+    let kind : kind_of s (expression_seen c.args.source.now) ≡ _ = ap (kind_of s) e ∙ kind_of-structure s (name_seen c.in-Structure.name.value) parts kinds given in
+    let refused = rw (c.deref-in-Structure-2.ensures, c.deref-in-Structure-3.ensures.value, c.deref-in-Structure-4.ensures.value) at c.structure.ensures.refused in
     rw kind refused
 
 pub elaborate-returns-in_err-operands-in-Merge-clause-refused : goal.elaborate-returns-in_err-operands-in-Merge-clause-refused
@@ -84,8 +84,8 @@ elaborate-returns-in_ok-operands-in-Merge-clause-refused t c =
     let parts = parts_of (map part_seen c.in-Merge.branches.items) in
     let kinds = c.in_ok-operands-in-Merge.kinds.items in
     let given : kinds_of s parts ≡ Some kinds = rw c.deref-in-Merge.ensures.value at c.in_ok-operands-in-Merge.ensures.typed in
-    let kind : kind_of s (expression_seen c.args.source.now) ≡ _ = ap (kind_of s) e ∙ kind_of-merge s c.in-Merge.field-0 (name_seen c.in-Merge.variable) parts kinds given in
-    let refused = rw (c.deref-in-Merge-2.ensures.value, c.deref-in-Merge-3.ensures.value) at c.merge.ensures.refused in
+    let kind : kind_of s (expression_seen c.args.source.now) ≡ _ = ap (kind_of s) e ∙ kind_of-merge s c.in-Merge.field-0 (name_seen c.in-Merge.variable.value) parts kinds given in
+    let refused = rw (c.deref-in-Merge-2.ensures, c.deref-in-Merge-3.ensures.value, c.deref-in-Merge-4.ensures.value) at c.merge.ensures.refused in
     rw kind refused
 
 pub elaborate_all-returns-clause-meant : goal.elaborate_all-returns-clause-meant

@@ -15,7 +15,7 @@ use Rattle.lus_elaboration.proofs.equations.+right_side.Goals as goal
 pub returns-in_err-operands-in-Call-clause-refused : goal.returns-in_err-operands-in-Call-clause-refused
 returns-in_err-operands-in-Call-clause-refused t c =
     let s = scope_of c.args.scope.now in
-    let n = name_seen c.in-Call.name in
+    let n = name_seen c.in-Call.name.value in
     let parts = parts_of (map part_seen c.in-Call.arguments.items) in
     let e : expression_seen c.args.source.now ≡ Call n parts = ap expression_seen c.in-Call.is ∙ seen_call c.in-Call.name c.in-Call.arguments in
     rw e (search rules)
@@ -23,35 +23,35 @@ returns-in_err-operands-in-Call-clause-refused t c =
 pub returns-in_err-node-in-Call-clause-refused : goal.returns-in_err-node-in-Call-clause-refused
 returns-in_err-node-in-Call-clause-refused t c =
     let s = scope_of c.args.scope.now in
-    let n = name_seen c.in-Call.name in
+    let n = name_seen c.in-Call.name.value in
     let parts = parts_of (map part_seen c.in-Call.arguments.items) in
     let e : expression_seen c.args.source.now ≡ Call n parts = ap expression_seen c.in-Call.is ∙ seen_call c.in-Call.name c.in-Call.arguments in
     let kinds = c.in_ok-operands-in-Call.kinds.items in
     let given : kinds_of s parts ≡ Some kinds = rw c.deref-in-Call.ensures.value at c.in_ok-operands-in-Call.ensures.typed in
     let whole : kinds_given s (expression_seen c.args.source.now) ≡ outputs_of s n.text parts kinds = ap (kinds_given s) e ∙ ap (option_and_then (λ ks. outputs_of s n.text parts ks)) given in
-    let refused = rw (c.deref-in-Call-2.ensures.value, c.deref-in-Call-3.ensures.value) at c.in_err-node-in-Call.ensures.refused in
+    let refused = rw (c.deref-in-Call-2.ensures, c.deref-in-Call-3.ensures.value, c.deref-in-Call-4.ensures.value) at c.in_err-node-in-Call.ensures.refused in
     rw whole (search (rules, refused))
 
 pub returns-in_ok-copied-in-Call-clause-typed : goal.returns-in_ok-copied-in-Call-clause-typed
 returns-in_ok-copied-in-Call-clause-typed t c =
     let s = scope_of c.args.scope.now in
-    let n = name_seen c.in-Call.name in
+    let n = name_seen c.in-Call.name.value in
     let parts = parts_of (map part_seen c.in-Call.arguments.items) in
     let e : expression_seen c.args.source.now ≡ Call n parts = ap expression_seen c.in-Call.is ∙ seen_call c.in-Call.name c.in-Call.arguments in
     let kinds = c.in_ok-operands-in-Call.kinds.items in
     let given : kinds_of s parts ≡ Some kinds = rw c.deref-in-Call.ensures.value at c.in_ok-operands-in-Call.ensures.typed in
     let whole : kinds_given s (expression_seen c.args.source.now) ≡ outputs_of s n.text parts kinds = ap (kinds_given s) e ∙ ap (option_and_then (λ ks. outputs_of s n.text parts ks)) given in
-    let found = rw (c.deref-in-Call-2.ensures.value, c.deref-in-Call-3.ensures.value) at c.in_ok-node-in-Call.ensures.typed in
-    whole ∙ found ∙ ap Some (sym (c.in_ok-copied-in-Call.ensures ∙ c.deref-in-Call-4.ensures.value))
+    let found = rw (c.deref-in-Call-2.ensures, c.deref-in-Call-3.ensures.value, c.deref-in-Call-4.ensures.value) at c.in_ok-node-in-Call.ensures.typed in
+    whole ∙ found ∙ ap Some (sym (c.in_ok-copied-in-Call.ensures ∙ c.deref-in-Call-6.ensures.value))
 
 pub returns-in_ok-copied-in-Call-clause-meant : goal.returns-in_ok-copied-in-Call-clause-meant
 returns-in_ok-copied-in-Call-clause-meant t c =
     let s = scope_of c.args.scope.now in
-    let n = name_seen c.in-Call.name in
+    let n = name_seen c.in-Call.name.value in
     let parts = parts_of (map part_seen c.in-Call.arguments.items) in
     let e : expression_seen c.args.source.now ≡ Call n parts = ap expression_seen c.in-Call.is ∙ seen_call c.in-Call.name c.in-Call.arguments in
     let out = operands_of c.in_ok-operands-in-Call.operands.items in
     let same : out ≡ all_meant s parts = rw c.deref-in-Call.ensures.value at c.in_ok-operands-in-Call.ensures.meant in
     ap expression_of c.in_ok-new-in-Call.ensures.ok
-    ∙ program.seen_call c.in-Call.name.span.start c.in_ok-node-in-Call.node.now.place c.in_ok-operands-in-Call.operands
-    ∙ ap (λ g. call g 0 out) c.in_ok-node-in-Call.ensures.placed ∙ ap (call (node_place s n.text) 0) same ∙ sym (ap (meant s) e)
+    ∙ program.seen_call c.deref-in-Call-5.result.now.span.start c.in_ok-node-in-Call.node.now.place c.in_ok-operands-in-Call.operands
+    ∙ ap (λ g. call g 0 out) (rw c.deref-in-Call-2.ensures at c.in_ok-node-in-Call.ensures.placed) ∙ ap (call (node_place s n.text) 0) same ∙ sym (ap (meant s) e)

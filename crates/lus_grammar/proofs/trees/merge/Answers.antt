@@ -1,8 +1,8 @@
 -- The tree of a vector of parts is that of their list.
-use Rattle.std.proofs.Common.{ap, ◌∙◌}
+use Rattle.std.proofs.Common.{ap, sym, ◌∙◌}
 use Rattle.lus_syntax.specs.View.{expression_seen}
 use Rattle.lus_syntax.proofs.TreeViews.{seen_merge}
 use Rattle.lus_grammar.proofs.trees.merge.Goals as goal
 
 pub returns : goal.returns
-returns c = ap expression_seen c.in_ok-new.ensures.ok ∙ seen_merge c.args.span c.args.name c.args.branches
+returns c = rw (sym c.in_ok-name.ensures.ok) (ap expression_seen c.in_ok-new.ensures.ok ∙ seen_merge c.args.span c.in_ok-name.name c.args.branches)
