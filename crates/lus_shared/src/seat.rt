@@ -20,6 +20,7 @@ use std::alloc::Global;
 use std::marker::Model;
 use std::snapshot::Snapshot;
 use std::sync::Wait;
+use std::thread;
 
 /// A machine that several seats call, one at a time and without waiting.
 #[derive(Drop)]
@@ -278,7 +279,8 @@ impl SeatNode {
                 Ok(reply) => return Ok(reply),
                 Err(TryError::Memory) => return Err(CallError::Memory),
                 Err(TryError::Full) => return Err(CallError::Full),
-                Err(TryError::Busy(_)) => {}
+                // Whoever has the machine may be waiting for this processor.
+                Err(TryError::Busy(_)) => thread::yield_now(),
             }
         }
         unreachable!()
