@@ -3,9 +3,10 @@
 ghost use Rattle.std.specs.Prelude.{◌≡◌, ◌≢◌, ◌<◌, ◌≤◌, IfOk, IfErr};
 ghost use Rattle.lus_graph.specs.Ways.{IsOrder};
 ghost use Rattle.lus_syntax.specs.declared.refusal.RefusalNumber.TheVariants as numbers;
+ghost use Rattle.lus_syntax.specs.Limits.{most_cells};
 ghost use Rattle.lus_program.specs.View.{program_seen};
 ghost use Rattle.lus_meaning.specs.Resolved.{Resolved, program_uses};
-ghost use Rattle.lus_cells.specs.Cells.{AreStateCells, FitsCells, NamesTooMany, most_cells};
+ghost use Rattle.lus_cells.specs.Cells.{AreStateCells, FitsCells, NamesTooMany};
 ghost use Rattle.lus_cells.specs.Uses.{AreCappedLeaves};
 
 use crate::leaves::leaves_along;
@@ -13,11 +14,8 @@ use crate::orders::{order_of_nodes, order_of_types};
 use crate::weights::node_cells;
 use lus_meaning::Typed;
 use lus_program::{Node, Program};
-use lus_syntax::{Refusal, RefusalNumber};
+use lus_syntax::{MOST_CELLS, Refusal, RefusalNumber};
 use std::alloc::Global;
-
-/// The most state cells of a node.
-const MOST_CELLS: u32 = 100_000;
 
 /// The state cells of each node, in the program's order. A program with a node that has more than 100,000 is refused at that
 /// node's name. Linear in the source.
