@@ -28,6 +28,19 @@ declared_leaves at (structure fs) = sum_by (λ g. kind_leaves at g.kind) fs
 abbrev pub AreLeaves : Program → (ℕ → ℕ) → Type 0
 AreLeaves p at = (t : ℕ) → at t ≡ declared_leaves at (declared_in p t)
 
+-- a structure has fields, as each that can be written has
+abbrev pub HasFields : Declared → Type 0
+HasFields (alias k) = Unit {0}
+HasFields (enumeration cs) = Unit {0}
+HasFields (structure fs) = 0 < length fs
+
+abbrev pub HaveFields : Program → Type 0
+HaveFields p = Each HasFields p.types
+
+-- each declared type has a leaf
+abbrev pub HaveLeaves : Program → Type 0
+HaveLeaves p = (at : ℕ → ℕ) → AreLeaves p at → (t : ℕ) → 1 ≤ at t
+
 -- the leaves of what an expression gives
 abbrev pub leaves_given : (ℕ → ℕ) → Option Kind → ℕ
 leaves_given at None = 0

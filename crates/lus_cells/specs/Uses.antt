@@ -1,5 +1,5 @@
 -- Which types the declarations of types use, and tables of the leaves of types.
-use Rattle.std.specs.Prelude.{◌≡◌, ℕ, List, [], ◌∷◌, map, flat_map, min}
+use Rattle.std.specs.Prelude.{◌≡◌, ◌≤◌, ℕ, List, [], ◌∷◌, map, flat_map, min}
 use Rattle.lus_values.specs.Lists.{item}
 use Rattle.lus_graph.specs.Ways.{Uses}
 use Rattle.lus_program.specs.declared.types.Kind.{Kind}
@@ -26,6 +26,10 @@ type_uses p = map declared_uses p.types
 -- the greatest count that a table holds
 abbrev pub most : ℕ
 most = 4294967295
+
+-- the table gives each type a leaf
+abbrev pub ArePositive : List ℕ → Type 0
+ArePositive table = (t : ℕ) → 1 ≤ item 1 table t
 
 -- the declared types have leaves, and the table has these, each up to the greatest count
 pub record AreCappedLeaves (p : Program) (table : List ℕ) : Type 0 where

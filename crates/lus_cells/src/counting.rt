@@ -1,13 +1,13 @@
 //! The count of every node's cells.
 
-ghost use Rattle.std.specs.Prelude.{◌≡◌, ◌≢◌, ◌<◌, ◌≤◌, IfOk, IfErr};
+ghost use Rattle.std.specs.Prelude.{◌≡◌, ◌≢◌, ◌<◌, ◌≤◌, IfOk, IfErr, OnOk};
 ghost use Rattle.lus_graph.specs.Ways.{IsOrder};
 ghost use Rattle.lus_syntax.specs.declared.refusal.RefusalNumber.TheVariants as numbers;
 ghost use Rattle.lus_syntax.specs.Limits.{most_cells};
 ghost use Rattle.lus_syntax.specs.Refusals.{HasShape};
 ghost use Rattle.lus_program.specs.View.{program_seen};
 ghost use Rattle.lus_meaning.specs.Resolved.{Resolved, program_uses};
-ghost use Rattle.lus_cells.specs.Cells.{AreStateCells, FitsCells, NamesTooMany};
+ghost use Rattle.lus_cells.specs.Cells.{AreStateCells, FitsCells, HaveFields, HaveLeaves, NamesTooMany};
 ghost use Rattle.lus_cells.specs.Uses.{AreCappedLeaves};
 
 use crate::leaves::leaves_along;
@@ -22,6 +22,7 @@ use std::alloc::Global;
 /// node's name. Linear in the source.
 pub fn cells_of_nodes(alloc: Global, typed: &Typed) -> Result<Vec<u32>, Refusal>
     ensures ok { IfOk result (λ cells. AreStateCells (program_seen typed.now.program) cells.items) }
+    ensures leaves { OnOk result (HaveFields (program_seen typed.now.program) → HaveLeaves (program_seen typed.now.program)) }
     ensures refused { IfErr result (λ e. e.number ≢ numbers.Memory → (e.number ≡ numbers.Limit) × (FitsCells (program_seen typed.now.program) → ⊥)) }
     ensures placed { IfErr result (λ e. e.number ≢ numbers.Memory → NamesTooMany typed.now.program e.line e.column) }
     ensures shaped { IfErr result HasShape }

@@ -1,1 +1,4 @@
 pub mod MadeClasses
+pub mod KeptRows
+pub mod FewNodes
+pub mod SpelledFields

@@ -8,8 +8,10 @@ ghost use Rattle.lus_program.specs.View.{program_seen};
 ghost use Rattle.lus_flat_classes.specs.Turns.{AreReady};
 ghost use Rattle.lus_flat_classes.specs.View.{classes_of};
 ghost use Rattle.lus_simulation.specs.Checked.{IsChecked};
-ghost use Rattle.lus_cells.specs.Cells.{AreStateCells, FitsCells, NamesTooMany};
+ghost use Rattle.lus_places.specs.Few.{AreAsLong};
+ghost use Rattle.lus_cells.specs.Cells.{AreStateCells, FitsCells, HaveFields, NamesTooMany};
 ghost use Rattle.lus_code.specs.Codes.{IsCodeOf, program_of};
+ghost use Rattle.lus_code.specs.Made.{HasFewNodes};
 
 use crate::classes::classes_of_nodes;
 use lus_cells::cells_of_nodes;
@@ -70,6 +72,7 @@ impl Code {
         ensures code { IsCodeOf (program_of self.now) (classes_of result.now) }
         ensures size { length result.now ≡ length (program_of self.now).nodes }
         ensures ready { AreReady result.now }
+        ensures rows { AreAsLong self.now.cells result.now }
     {
         &self.classes
     }
@@ -96,15 +99,19 @@ impl Code {
 fn typed_of(normal: &Normal) -> &Typed
     ensures same { result.now.program ≡ normal.now.source.program }
     ensures checked { IsChecked (program_seen normal.now.source.program) }
+    ensures few { HasFewNodes (program_seen normal.now.source.program) }
 {
     let source = normal.source();
     let _program = source.program();
-    source.initialised().clocked().typed()
+    let typed = source.initialised().clocked().typed();
+    let _tree = typed.tree();
+    typed
 }
 
-/// Translates a program in normal form. A program with a node that has more than 100,000 state cells is refused at that node's
-/// name.
+/// Translates a program in normal form, each structure of which has a field, as a source's have. A program with a node that has
+/// more than 100,000 state cells is refused at that node's name.
 pub fn translate(alloc: Global, normal: Normal) -> Result<Code, Refusal>
+    requires { HaveFields (program_seen normal.source.program) }
     ensures same { IfOk result (λ c. c.source ≡ normal.source) }
     ensures ok { OnOk result (FitsCells (program_seen normal.source.program)) }
     ensures refused { IfErr result (λ e. e.number ≢ numbers.Memory → (e.number ≡ numbers.Limit) × (FitsCells (program_seen normal.source.program) → ⊥)) }

@@ -3,5 +3,7 @@
 
 mod classes;
 mod code;
+mod laws;
 
 pub use code::{Code, translate};
+pub use laws::spelled_structures_have_fields;

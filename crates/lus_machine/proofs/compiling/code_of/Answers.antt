@@ -8,10 +8,20 @@ use Rattle.lus_streams.specs.Flags.{IsFlagged}
 use Rattle.lus_streams.specs.Order.{IsCausal}
 use Rattle.lus_meaning.specs.TypedPrograms.{TypedProgram}
 use Rattle.lus_order.specs.OrderedPrograms.{OrderedProgram}
-use Rattle.lus_cells.specs.Cells.{FitsCells}
+use Rattle.lus_cells.specs.Cells.{FitsCells, HaveFields}
+use Rattle.lus_code.proofs.SpelledFields.{spelled_have_fields}
 use Rattle.lus_machine.specs.Acceptance.{IsTextOf, ill_formed, off_clocks, not_flagged, not_causal, too_many_cells}
 use Rattle.lus_machine.proofs.Acceptances.{accepted_with, names_cycle, both_ok}
 use Rattle.lus_machine.proofs.compiling.code_of.Goals as goal
+
+-- each structure of the program has a field
+pub translate-requires : goal.translate-requires
+translate-requires c =
+    let clocked : c.in_ok-clocked.clocked.program ≡ c.in_ok-typed.typed.program = ap (λ (t : TypedProgram). t.program) c.in_ok-clocked.ensures.same in
+    let initialised : c.in_ok-initialised.initialised.program ≡ c.in_ok-typed.typed.program = ap (λ (t : TypedProgram). t.program) c.in_ok-initialised.ensures.same ∙ clocked in
+    let normal : c.in_ok-normal.normal.source.program ≡ c.in_ok-typed.typed.program = ap (λ (s : OrderedProgram). s.program) c.in_ok-normal.ensures.source ∙ c.in_ok-ordered.ensures.same_program ∙ initialised in
+    let read = c.in_ok-tree.ensures.ok in
+    subst HaveFields (sym c.in_ok-typed.ensures.means ∙ ap program_seen (sym normal)) (spelled_have_fields (tree_seen c.in_ok-tree.tree) read.tokens read.spelled)
 
 pub returns-in_err-typed-clause-first : goal.returns-in_err-typed-clause-first
 returns-in_err-typed-clause-first c =
