@@ -10,13 +10,14 @@ use Rattle.std.proofs.Math.ListN.{get_or-map as get_or_any-map}
 use Rattle.lus_values.specs.Lists.{item, Each}
 use Rattle.lus_values.proofs.Lists.{below_all, below_at, each_at}
 use Rattle.lus_graph.specs.Ways.{used, IsOrder}
+use Rattle.lus_syntax.specs.Limits.{most_cells}
 use Rattle.lus_program.specs.declared.node.Node.{Node as StoredNode}
 use Rattle.lus_program.specs.Programs.{Expression, Node, Program, empty_node, node_at}
 use Rattle.lus_program.specs.View.{expression_of, node_of}
 use Rattle.lus_meaning.specs.Resolved.{EquationFits, NodeResolved, Resolved, program_uses, kind_in}
 use Rattle.lus_resolution.proofs.Typed.{HasKind}
 use Rattle.lus_cells.specs.Calls.{nodes_used}
-use Rattle.lus_cells.specs.Cells.{leaves_given, kind_leaves, node_cells, most_cells, AreLeaves, AreCells, AreStateCells, FitsCells}
+use Rattle.lus_cells.specs.Cells.{leaves_given, kind_leaves, node_cells, AreLeaves, AreCells, AreStateCells, FitsCells}
 use Rattle.lus_cells.specs.Given.{given_leaves, counted}
 use Rattle.lus_cells.specs.Uses.{AreCappedLeaves}
 use Rattle.lus_cells.proofs.AlongOrders.{IsLocal, GivesNothing, IsFilled, uses_before, solution, solves, filled_more, filled_all}
@@ -130,7 +131,7 @@ module _ (p : Program) (resolved : Resolved p) where
           ∙ ap (λ f. min (sum_by (λ q. counted p f leaves table q.right) f.equations) 4294967295) (sym seen)
           ∙ counted_right
 
-      pub cells_more : (count : ℕ) → count ≤ 100000 → count ≡ min (item 0 exact (get_or order i 0)) 4294967295 → IsFilled 0 (item 0 exact) (take (i + 1) order) (set table (get_or order i 0) count)
+      pub cells_more : (count : ℕ) → count ≤ most_cells → count ≡ min (item 0 exact (get_or order i 0)) 4294967295 → IsFilled 0 (item 0 exact) (take (i + 1) order) (set table (get_or order i 0) count)
       cells_more count few is =
           let x = get_or order i 0 in
           let room : x < length table = omega (arith, node_fits i lt, size) in
@@ -147,7 +148,7 @@ module _ (p : Program) (resolved : Resolved p) where
         omega (arith, few, many)
 
     -- the whole table
-    pub cells_whole : (leaves : List ℕ) → AreCappedLeaves p leaves → (i : ℕ) (table : List ℕ) → length order ≤ i → length table ≡ length p.nodes → All (λ n. n ≤ 100000) table
+    pub cells_whole : (leaves : List ℕ) → AreCappedLeaves p leaves → (i : ℕ) (table : List ℕ) → length order ≤ i → length table ≡ length p.nodes → All (λ n. n ≤ most_cells) table
         → ((exact : List ℕ) → AreCells p exact → IsFilled 0 (item 0 exact) (take i order) table) → AreStateCells p table
     cells_whole leaves capped i table le size small filled =
         let some = some_cells capped.leaves capped.leaves_are in
@@ -172,5 +173,5 @@ module _ (p : Program) (resolved : Resolved p) where
                 ∙ below_at (λ y. item 0 exact y ≡ node_cells p are.leaves (item 0 exact) (node_at p y)) n are.each f lt
                 ∙ ap (λ a. node_cells p are.leaves a (node_at p f)) (sym same));
           };
-          few = each_from (λ n. n ≤ most_cells) table (λ k lt. All-get_or (λ n. n ≤ 100000) table k 0 lt small);
+          few = each_from (λ n. n ≤ most_cells) table (λ k lt. All-get_or (λ n. n ≤ most_cells) table k 0 lt small);
         }

@@ -5,12 +5,13 @@ use Rattle.std.proofs.lemmas.List.{length-map}
 use Rattle.std.proofs.lemmas.Option.{slice_get_read}
 use Rattle.lus_values.specs.Lists.{item}
 use Rattle.lus_graph.specs.Ways.{IsOrder}
+use Rattle.lus_syntax.specs.Limits.{most_cells}
 use Rattle.lus_program.specs.declared.node.Node.{Node as StoredNode}
 use Rattle.lus_program.specs.declared.node.Program.{Program as StoredProgram}
 use Rattle.lus_program.specs.Programs.{node_at}
 use Rattle.lus_program.specs.View.{expression_of, node_of, program_seen}
 use Rattle.lus_meaning.specs.Resolved.{Resolved, program_uses}
-use Rattle.lus_cells.specs.Cells.{AreCells, FitsCells, NamesTooMany, most_cells}
+use Rattle.lus_cells.specs.Cells.{AreCells, FitsCells, NamesTooMany}
 use Rattle.lus_cells.specs.Given.{counted}
 use Rattle.lus_cells.specs.Uses.{AreCappedLeaves}
 use Rattle.lus_cells.proofs.AlongOrders.{IsFilled}

@@ -4,6 +4,7 @@ pub mod Numbering
 pub mod KindsGiven
 pub mod Related
 pub mod LeavesAlong
+pub mod Positive
 pub mod CellsAlong
 pub mod CountsAlong
 mod Examples

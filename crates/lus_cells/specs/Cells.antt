@@ -2,6 +2,7 @@
 -- counted, is this project's choice.
 use Rattle.std.specs.Prelude.{◌≡◌, ◌<◌, ◌≤◌, ◌+◌, ℕ, max, sum_by, List, length, Option, Some, None, slice_get}
 use Rattle.lus_values.specs.Lists.{item, Each, Below}
+use Rattle.lus_syntax.specs.Limits.{most_cells}
 use Rattle.lus_program.specs.declared.node.Node.{Node as StoredNode}
 use Rattle.lus_program.specs.declared.node.Program.{Program as StoredProgram}
 use Rattle.lus_program.specs.declared.types.Kind.{Kind}
@@ -9,10 +10,6 @@ use Rattle.lus_program.specs.declared.types.Kind.TheVariants as kinds
 use Rattle.lus_program.specs.Programs.{Expression, literal, variable, operate, pre, arrow, fby, when, merge, call, Operands, none, more, Declared, alias, enumeration, structure, Node, Program, node_at}
 use Rattle.lus_program.specs.View.{program_seen}
 use Rattle.lus_meaning.specs.Resolved.{declared_in, kind_in}
-
--- the most state cells of a node
-abbrev pub most_cells : ℕ
-most_cells = 100000
 
 -- the leaves of a type, where declared type t has `at t`: bool, int and an enumeration have one
 abbrev pub kind_leaves : (ℕ → ℕ) → Kind → ℕ
@@ -30,6 +27,10 @@ declared_leaves at (structure fs) = sum_by (λ g. kind_leaves at g.kind) fs
 -- the leaves of each declared type
 abbrev pub AreLeaves : Program → (ℕ → ℕ) → Type 0
 AreLeaves p at = (t : ℕ) → at t ≡ declared_leaves at (declared_in p t)
+
+-- each declared type has a leaf
+abbrev pub HaveLeaves : Program → Type 0
+HaveLeaves p = (at : ℕ → ℕ) → AreLeaves p at → (t : ℕ) → 1 ≤ at t
 
 -- the leaves of what an expression gives
 abbrev pub leaves_given : (ℕ → ℕ) → Option Kind → ℕ

@@ -1,11 +1,13 @@
 //! The count of every node's cells.
 
-ghost use Rattle.std.specs.Prelude.{◌≡◌, ◌≢◌, ◌<◌, ◌≤◌, IfOk, IfErr};
+ghost use Rattle.std.specs.Prelude.{◌≡◌, ◌≢◌, ◌<◌, ◌≤◌, IfOk, IfErr, OnOk};
 ghost use Rattle.lus_graph.specs.Ways.{IsOrder};
 ghost use Rattle.lus_syntax.specs.declared.refusal.RefusalNumber.TheVariants as numbers;
+ghost use Rattle.lus_syntax.specs.Limits.{most_cells};
+ghost use Rattle.lus_syntax.specs.Refusals.{HasShape};
 ghost use Rattle.lus_program.specs.View.{program_seen};
 ghost use Rattle.lus_meaning.specs.Resolved.{Resolved, program_uses};
-ghost use Rattle.lus_cells.specs.Cells.{AreStateCells, FitsCells, NamesTooMany, most_cells};
+ghost use Rattle.lus_cells.specs.Cells.{AreStateCells, FitsCells, HaveLeaves, NamesTooMany};
 ghost use Rattle.lus_cells.specs.Uses.{AreCappedLeaves};
 
 use crate::leaves::leaves_along;
@@ -13,18 +15,17 @@ use crate::orders::{order_of_nodes, order_of_types};
 use crate::weights::node_cells;
 use lus_meaning::Typed;
 use lus_program::{Node, Program};
-use lus_syntax::{Refusal, RefusalNumber};
+use lus_syntax::{MOST_CELLS, Refusal, RefusalNumber};
 use std::alloc::Global;
-
-/// The most state cells of a node.
-const MOST_CELLS: u32 = 100_000;
 
 /// The state cells of each node, in the program's order. A program with a node that has more than 100,000 is refused at that
 /// node's name. Linear in the source.
 pub fn cells_of_nodes(alloc: Global, typed: &Typed) -> Result<Vec<u32>, Refusal>
     ensures ok { IfOk result (λ cells. AreStateCells (program_seen typed.now) cells.items) }
+    ensures leaves { OnOk result (HaveLeaves (program_seen typed.now)) }
     ensures refused { IfErr result (λ e. e.number ≢ numbers.Memory → (e.number ≡ numbers.Limit) × (FitsCells (program_seen typed.now) → ⊥)) }
     ensures placed { IfErr result (λ e. e.number ≢ numbers.Memory → NamesTooMany typed.now e.line e.column) }
+    ensures shaped { IfErr result HasShape }
 {
     let program = typed.program();
     let types = order_of_types(alloc, program)?;
@@ -46,6 +47,7 @@ fn cells_along(
     ensures ok { IfOk result (λ cells. AreStateCells (program_seen program.now) cells.items) }
     ensures refused { IfErr result (λ e. e.number ≢ numbers.Memory → (e.number ≡ numbers.Limit) × (FitsCells (program_seen program.now) → ⊥)) }
     ensures placed { IfErr result (λ e. e.number ≢ numbers.Memory → NamesTooMany program.now e.line e.column) }
+    ensures shaped { IfErr result HasShape }
 {
     let mut cells = vec![in alloc; 0u32; program.nodes.len()]?;
     for place in order {
@@ -61,6 +63,7 @@ fn limited(node: &Node, count: u32) -> Result<u32, Refusal>
     ensures ok { IfOk result (λ n. (n ≡ count) × (n ≤ most_cells)) }
     ensures refused { IfErr result (λ e. (most_cells < count) × (e.number ≡ numbers.Limit)) }
     ensures placed { IfErr result (λ e. (e.line ≡ node.now.place.line) × (e.column ≡ node.now.place.column)) }
+    ensures shaped { IfErr result HasShape }
 {
     if count > MOST_CELLS {
         return Err(Refusal::new(RefusalNumber::Limit, node.place.line, node.place.column));

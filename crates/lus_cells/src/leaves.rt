@@ -6,8 +6,8 @@ ghost use Rattle.lus_graph.specs.Ways.{IsOrder};
 ghost use Rattle.lus_graph.specs.Walks.{uses_of};
 ghost use Rattle.lus_program.specs.View.{declared_of, program_seen};
 ghost use Rattle.lus_cells.specs.Cells.{declared_leaves as leaves_declared, kind_leaves as leaves_in};
-ghost use Rattle.lus_meaning.specs.Sound.{declared_uses as uses_declared, structures_in, type_uses as uses_of_types};
-ghost use Rattle.lus_cells.specs.Uses.{AreCappedLeaves, most};
+ghost use Rattle.lus_meaning.specs.Sound.{HaveFields, declared_uses as uses_declared, structures_in, type_uses as uses_of_types};
+ghost use Rattle.lus_cells.specs.Uses.{AreCappedLeaves, ArePositive, most};
 
 use lus_program::{Declared, Kind, Program};
 use lus_values::Memory;
@@ -91,7 +91,8 @@ fn declared_leaves(declared: &Declared, leaves: &[u32]) -> u32
 /// The leaves of each declared type, by an order in which the structures that one names stand before it.
 pub fn leaves_along(alloc: Global, program: &Program, order: &[usize]) -> Result<Vec<u32>, Memory>
     requires { IsOrder (uses_of_types (program_seen program.now)) order.now }
-    ensures { IfOk result (λ leaves. AreCappedLeaves (program_seen program.now) leaves.items) }
+    ensures capped { IfOk result (λ leaves. AreCappedLeaves (program_seen program.now) leaves.items) }
+    ensures positive { IfOk result (λ leaves. HaveFields (program_seen program.now) → ArePositive leaves.items) }
 {
     let mut leaves = vec![in alloc; 1u32; program.types.len()]?;
     for place in order {

@@ -1,1 +1,3 @@
 pub mod MadeClasses
+pub mod KeptRows
+pub mod FewNodes

@@ -9,6 +9,7 @@ use Rattle.lus_simulation.specs.Codes.{AreCodeOf}
 use Rattle.lus_flat_classes.specs.declared.class.Class.{Class as StoredClass}
 use Rattle.lus_flat_classes.specs.Turns.{AreReady}
 use Rattle.lus_flat_classes.specs.View.{classes_of}
+use Rattle.lus_places.specs.Few.{AreAsLong}
 use Rattle.lus_cells.specs.Cells.{AreStateCells}
 
 pub record ProgramCode : Type 0 where
@@ -27,9 +28,10 @@ plain_classes c = classes_of c.classes
 abbrev pub IsCodeOf : Program → List Class → Type 0
 IsCodeOf p classes = (q : Program) × AreCodeOf p q classes
 
--- a class for each node of p, that can be run, and the state cells of the nodes
+-- a class for each node of p, that can be run, and the state cells of the nodes: the part of each is no longer than these
 pub record IsTranslated (p : Program) (classes : List StoredClass) (cells : List ℕ) : Type 0 where
   pub code : IsCodeOf p (classes_of classes)
   pub size : length classes ≡ length p.nodes
   pub ready : AreReady classes
   pub counted : AreStateCells p cells
+  pub rows : AreAsLong cells classes

@@ -1,11 +1,14 @@
 -- The classes of a program in normal form, as they are made.
-use Rattle.std.specs.Prelude.{◌≡◌, ℕ, List, length, Some, slice_get}
+use Rattle.std.specs.Prelude.{◌≡◌, ℕ, ◌+◌, ◌≤◌, List, length, sum_by, Some, slice_get}
+use Rattle.lus_values.specs.Lists.{item, Each}
+use Rattle.lus_syntax.specs.Limits.{most_cells, most_declarations, most_parts, most_variables}
 use Rattle.lus_program.specs.Programs.{Program, node_at}
 use Rattle.lus_streams.specs.Clocks.{Part}
-use Rattle.lus_normal_form.specs.NormalNodes.{IsNormalOf}
+use Rattle.lus_streams.specs.Equations.{sites}
+use Rattle.lus_normal_form.specs.NormalNodes.{IsNormalOf, node_firsts, node_memories}
 use Rattle.lus_simulation.specs.Checked.{IsChecked}
 use Rattle.lus_flat_classes.specs.declared.class.Class.{Class}
-use Rattle.lus_turns.specs.Turned.{IsTurned}
+use Rattle.lus_turns.specs.Turned.{HaveOneLeft, IsTurned}
 
 -- a class for each of the first n nodes, with its steps in their turns
 pub record AreFirstTurned (p : Program) (n : ℕ) (classes : List Class) : Type 0 where
@@ -21,3 +24,19 @@ pub record HasSource (p : Program) : Type 0 where
   pub new_parts : ℕ → List Part
   pub checked : IsChecked source
   pub normal : IsNormalOf source p new_parts
+
+-- each node keeps no more than its count: its memories, its marks of a first instant, and for each call what the called node's
+-- count says
+abbrev pub NodesKeepTo : List ℕ → Program → Type 0
+NodesKeepTo counts p =
+    (g : ℕ) → node_memories (node_at p g) + node_firsts (node_at p g) + sum_by (λ s. item 0 counts s.node) (sites p (node_at p g)) ≤ item 0 counts g
+
+-- the nodes keep to counts within the limit of state cells, right sides that are no calls give one variable, and there are no
+-- more nodes and variables than a program and its normal form may have
+pub record AreSmall (p : Program) : Type 0 where
+  pub counts : List ℕ
+  pub kept : NodesKeepTo counts p
+  pub few : (g : ℕ) → item 0 counts g ≤ most_cells
+  pub lefts : (g : ℕ) → HaveOneLeft (node_at p g)
+  pub nodes : length p.nodes ≤ most_declarations
+  pub variables : (g : ℕ) → length (node_at p g).variables ≤ most_variables + most_parts

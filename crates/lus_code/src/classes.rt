@@ -1,13 +1,14 @@
 //! The classes of a program in normal form.
 
-ghost use Rattle.std.specs.Prelude.{◌≡◌, length, map, IfOk};
+ghost use Rattle.std.specs.Prelude.{◌≡◌, ℕ, List, length, map, IfOk};
 ghost use Rattle.lus_program.specs.View.{program_seen};
 ghost use Rattle.lus_classes.specs.ClassesOf.{AreClassesOf};
 ghost use Rattle.lus_normal_nodes.specs.Ready.{AreReady as NodesAreReady};
 ghost use Rattle.lus_order.specs.Orders.{AreOrders};
 ghost use Rattle.lus_flat_classes.specs.Turns.{AreReady};
 ghost use Rattle.lus_flat_classes.specs.View.{classes_of};
-ghost use Rattle.lus_code.specs.Made.{AreTurned, HasSource};
+ghost use Rattle.lus_places.specs.Few.{AreAsLong};
+ghost use Rattle.lus_code.specs.Made.{AreSmall, AreTurned, HasSource, NodesKeepTo};
 
 use lus_flat_classes::Class;
 use lus_places::place_classes;
@@ -35,6 +36,7 @@ fn classes_without_places(
 }
 
 /// The class of each node of a normal form of a checked program, whose variables have these orders, with its places.
+/// Where each node keeps to a count, the part of its class is no longer.
 pub fn classes_of_nodes(
     alloc: Global,
     program: &Program,
@@ -43,9 +45,11 @@ pub fn classes_of_nodes(
     requires source { HasSource (program_seen program.now) }
     requires ready { NodesAreReady (program_seen program.now) }
     requires orders { AreOrders (program_seen program.now) (map (λ order. order.items) orders.now) }
+    requires small { AreSmall (program_seen program.now) }
     ensures belong { IfOk result (λ classes. AreClassesOf (program_seen program.now) (classes_of classes.items)) }
     ensures size { IfOk result (λ classes. length classes.items ≡ length (program_seen program.now).nodes) }
     ensures ready { IfOk result (λ classes. AreReady classes.items) }
+    ensures long { IfOk result (λ classes. (counts : List ℕ) → NodesKeepTo counts (program_seen program.now) → AreAsLong counts classes.items) }
 {
     let mut classes = classes_without_places(alloc, program, orders)?;
     place_classes(alloc, &mut classes)?;

@@ -3,10 +3,13 @@
 ghost use Rattle.std.specs.Prelude.{◌≡◌, ◌≢◌, ◌<◌, length, IfOk, IfErr, OnOk};
 ghost use Rattle.lus_values.specs.Lists.{item};
 ghost use Rattle.lus_syntax.specs.declared.refusal.RefusalNumber.TheVariants as numbers;
+ghost use Rattle.lus_syntax.specs.Refusals.{HasShape};
 ghost use Rattle.lus_program.specs.View.{program_seen};
+ghost use Rattle.lus_meaning.specs.Sound.{IsLimited};
 ghost use Rattle.lus_flat_classes.specs.Turns.{AreReady};
 ghost use Rattle.lus_flat_classes.specs.View.{classes_of};
 ghost use Rattle.lus_simulation.specs.Checked.{IsChecked};
+ghost use Rattle.lus_places.specs.Few.{AreAsLong};
 ghost use Rattle.lus_cells.specs.Cells.{AreStateCells, FitsCells, NamesTooMany};
 ghost use Rattle.lus_code.specs.Codes.{IsCodeOf, program_of};
 
@@ -68,6 +71,7 @@ impl Code {
         ensures code { IsCodeOf (program_of self.now) (classes_of result.now) }
         ensures size { length result.now ≡ length (program_of self.now).nodes }
         ensures ready { AreReady result.now }
+        ensures rows { AreAsLong self.now.cells result.now }
     {
         &self.classes
     }
@@ -94,10 +98,13 @@ impl Code {
 fn typed_of(normal: &Normal) -> &Typed
     ensures same { result.now ≡ normal.now.source.program }
     ensures checked { IsChecked (program_seen normal.now.source.program) }
+    ensures limited { IsLimited (program_seen normal.now.source.program) }
 {
     let source = normal.source();
     let _program = source.program();
-    source.initialised().clocked().typed()
+    let typed = source.initialised().clocked().typed();
+    let _program = typed.program();
+    typed
 }
 
 /// Translates a program in normal form. A program with a node that has more than 100,000 state cells is refused at that node's
@@ -107,6 +114,7 @@ pub fn translate(alloc: Global, normal: Normal) -> Result<Code, Refusal>
     ensures ok { OnOk result (FitsCells (program_seen normal.source.program)) }
     ensures refused { IfErr result (λ e. e.number ≢ numbers.Memory → (e.number ≡ numbers.Limit) × (FitsCells (program_seen normal.source.program) → ⊥)) }
     ensures placed { IfErr result (λ e. e.number ≢ numbers.Memory → NamesTooMany normal.source.program e.line e.column) }
+    ensures shaped { IfErr result HasShape }
 {
     let cells = cells_of_nodes(alloc, typed_of(&normal))?;
     let classes = classes_of_nodes(alloc, normal.program(), normal.orders())?;

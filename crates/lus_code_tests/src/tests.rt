@@ -19,7 +19,8 @@ fn code_of(alloc: Global, text: &str) -> Result<Code, Refusal> {
     let typed = check_types(alloc, tree)?;
     let clocked = check_clocks(typed)?;
     let initialised = check_nil(alloc, clocked)?;
-    let normal = normalise(alloc, order(alloc, initialised)?)?;
+    let ordered = order(alloc, initialised)?;
+    let normal = normalise(alloc, ordered)?;
     translate(alloc, normal)
 }
 

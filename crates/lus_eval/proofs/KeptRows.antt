@@ -1,5 +1,5 @@
 -- What an instance keeps, as contracts see it.
-use Rattle.std.proofs.Common.{◌≡◌, ◌∙◌, ◌<◌, List, sym, ap, subst, true, length, map, arith}
+use Rattle.std.proofs.Common.{◌≡◌, ◌∙◌, ◌+◌, ◌<◌, ◌≤◌, ℕ, List, Some, sym, ap, subst, true, length, map, arith}
 use Rattle.std.specs.Prelude.{slice_get}
 use Rattle.std.proofs.lemmas.List.{length-map}
 use Rattle.std.proofs.lemmas.Option.{slice_get_within}
@@ -22,13 +22,19 @@ use Rattle.lus_running.proofs.Placed.{resets_state}
 use Rattle.lus_eval.specs.Objects.{Kept, kept_by, IsEven, IsShaped, IsReset}
 
 module _ (c : ProgramCode) (classes : List Class) (same : classes ≡ c.classes) (o : Instance) where
-  pub shaped_in_code : instances.IsShaped classes o → IsShaped c (kept_by o)
-  shaped_in_code s = record {
+  pub shaped_in_code : ((g : ℕ) (k : Class) → slice_get classes g ≡ Some k → k.extent.cells + k.extent.firsts ≤ item 0 c.cells g) → instances.IsShaped classes o → IsShaped c (kept_by o)
+  shaped_in_code rows s = record {
     class = s.class;
     found = ap (λ l. slice_get l o.node) (sym same) ∙ s.found;
     cells = length-map o.cells.items value_of ∙ s.cells;
     firsts = s.firsts;
     variables = s.variables;
+    few = (
+        let long = length-map o.cells.items value_of in
+        let cells = s.cells in
+        let firsts = s.firsts in
+        let row = rows o.node s.class s.found in
+        omega (arith, long, cells, firsts, row));
   }
 
   pub instance_shaped : IsEven o → IsShaped c (kept_by o) → instances.IsShaped classes o

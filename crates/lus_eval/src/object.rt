@@ -47,7 +47,7 @@ impl Object {
         Ok(Object { instance })
     }
 
-    /// Whether the object's rows are as long as those of its node in this code.
+    /// Whether the object's rows are as long as those of its node in this code, and so no longer than the node's state cells.
     pub fn shaped(&self, code: &Code) -> bool
         ensures { IsTrue result ↔ IsShaped code.now self.now }
     {

@@ -40,14 +40,17 @@ pub fn check_counts(tree: &Tree) -> Result<(), Place>
     Ok(())
 }
 
-/// Whether a type has no more constructors or fields than the limits admit.
+/// Whether a type has no more constructors or fields than the limits admit, and a structure has a field.
 fn is_counted(definition: &Definition) -> bool
     ensures { Decides result (DefinitionCounted (definition_seen definition.now)) }
 {
     match definition {
         Definition::Alias(_) => true,
         Definition::Enumeration(constructors) => constructors.len() <= MOST_CONSTRUCTORS,
-        Definition::Structure(fields) => fields_left(fields, MOST_FIELDS).is_some(),
+        Definition::Structure(fields) => match fields_left(fields, MOST_FIELDS) {
+            Some(left) => left < MOST_FIELDS,
+            None => false,
+        },
     }
 }
 

@@ -25,7 +25,7 @@ use Rattle.lus_streams.specs.Flags.{IsFlagged}
 use Rattle.lus_streams.specs.Order.{IsCausal}
 use Rattle.lus_order.specs.Orders.{TellsCycleOf}
 use Rattle.lus_cells.specs.Cells.{FitsCells}
-use Rattle.lus_machine.specs.Acceptance.{IsRead, IsTextOf, Accepted, NamesCycle, RefusedWith, too_long, no_tokens, no_tree, ill_formed, off_clocks, not_flagged, not_causal, too_many_cells, IsRefused, HasOneProgram, IsToldAs}
+use Rattle.lus_machine.specs.Acceptance.{IsRead, IsTextOf, Accepted, NamesCycle, RefusedWith, too_long, no_tokens, no_tree, ill_formed, off_clocks, not_flagged, not_causal, too_many_cells, IsRefused, HasOneProgram}
 
 read_once : (text : Text) (t u : Tree) → IsRead text t → IsRead text u → t ≡ u
 read_once text t u a b =
@@ -97,26 +97,6 @@ names_cycle p e tells = record {
   is_cycle = tells.2.is_cycle;
   named = tells.2.named;
 }
-
--- ---- refusals told alike
-
-module _ (text : Text) (e e' : Refusal) (told : IsToldAs e e') where
-  at_too : (number : RefusalNumber) (place : Place) → IsAt e number place → IsAt e' number place
-  at_too number place at = (told.number ∙ at.0, told.line ∙ at.1, told.column ∙ at.2)
-
-  names_too : (p : Program) → e.number ≡ numbers.Cycle → NamesCycle p e → NamesCycle p e'
-  names_too p for_cycle names = record { node = names.node; within = names.within; cycle = names.cycle; is_cycle = names.is_cycle; named = told.cycle for_cycle ∙ names.named }
-
-  pub refused_too : RefusedWith text e → RefusedWith text e'
-  refused_too (too_long long at) = too_long long (at_too numbers.Limit start at)
-  refused_too (no_tokens short tells) =
-      no_tokens short (tells.0, subst (λ n. Faulty text n tells.0) (sym told.number) tells.1, subst (λ n. IsAt e' n tells.0) (sym told.number) (at_too e.number tells.0 tells.2))
-  refused_too (no_tree short ts lexed h none) = no_tree short ts lexed (λ memory. h (sym told.number ∙ memory)) (subst (RefusedRightly most_depth ts) (sym told.number) none)
-  refused_too (ill_formed short tree read fails) = ill_formed short tree read (subst (FirstFails tree) (sym told.number) fails)
-  refused_too (off_clocks p is off number) = off_clocks p is off (told.number ∙ number)
-  refused_too (not_flagged p is on not number) = not_flagged p is on not (told.number ∙ number)
-  refused_too (not_causal p is on flagged not number names) = not_causal p is on flagged not (told.number ∙ number) (names_too p number names)
-  refused_too (too_many_cells p is on flagged causal not number) = too_many_cells p is on flagged causal not (told.number ∙ number)
 
 -- ---- one behind the other
 

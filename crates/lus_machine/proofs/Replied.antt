@@ -1,5 +1,5 @@
 -- Each reply is right, and its change leads to what keeps the past after it.
-use Rattle.std.proofs.Common.{◌≡◌, ◌<◌, ◌≤◌, ◌++◌, ℕ, List, [], ◌∷◌, length, Option, Some, None, slice_set, slice_get, refl, sym, subst, ◌∙◌, true, false, get_or, replicate, arith, length-append}
+use Rattle.std.proofs.Common.{◌≡◌, ◌<◌, ◌≤◌, ◌++◌, ℕ, List, [], ◌∷◌, length, Option, Some, None, slice_set, slice_get, refl, sym, ap, subst, ◌∙◌, true, false, get_or, replicate, arith, length-append}
 use Rattle.std.proofs.lemmas.List.{get_or_default}
 use Rattle.lus_values.specs.Lists.{item}
 use Rattle.lus_values.specs.Values.{Row}
@@ -34,6 +34,12 @@ reset_shaped c o o' is shaped = record {
   cells = is.cells ∙ shaped.cells;
   firsts = is.firsts ∙ shaped.firsts;
   variables = is.room ∙ shaped.variables;
+  few = (
+      let cells = is.cells in
+      let firsts = is.firsts in
+      let node = ap (item 0 c.cells) is.node in
+      let row = shaped.few in
+      omega (arith, cells, firsts, node, row));
 }
 
 module _ (c : ProgramCode) (o : Kept) (kept : List (Option Kept)) where

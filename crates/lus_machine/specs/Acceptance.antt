@@ -83,10 +83,3 @@ IsRefused text = (p : Program) → Accepted text p → ⊥
 -- two programs of one text are one
 abbrev pub HasOneProgram : Text → Type 0
 HasOneProgram text = (p q : Program) → Accepted text p → Accepted text q → p ≡ q
-
--- the second refusal has the number and the place of the first, and if it is for a cycle, the cycle
-pub record IsToldAs (e e' : Refusal) : Type 0 where
-  pub number : e'.number ≡ e.number
-  pub line : e'.line ≡ e.line
-  pub column : e'.column ≡ e.column
-  pub cycle : e.number ≡ numbers.Cycle → e'.cycle ≡ e.cycle

@@ -1,5 +1,5 @@
 -- The limits of a source: counts, and what counts only where nothing leads back to itself.
-use Rattle.std.specs.Prelude.{◌*◌, ◌≤◌, ℕ, suc, true, false, List, [], ◌∷◌, length, sum_by, nat_lt}
+use Rattle.std.specs.Prelude.{◌*◌, ◌<◌, ◌≤◌, ℕ, suc, true, false, List, [], ◌∷◌, length, sum_by, nat_lt}
 use Rattle.lus_syntax.specs.Limits.{most_calls_deep, most_constructors, most_declarations, most_fields, most_leaves, most_nesting, most_variables}
 use Rattle.lus_syntax.specs.Trees.{Fields, Definition, Alias, Enumeration, StructureOf, Group, Tree}
 use Rattle.lus_values.specs.Lists.{Each, Below}
@@ -13,10 +13,11 @@ field_count fs = sum_by (λ g. length g.names) fs
 abbrev pub variable_count : List Group → ℕ
 variable_count gs = sum_by (λ g. length g.names) gs
 
+-- a structure has at least one field: the grammar lets no other be written
 abbrev pub DefinitionCounted : Definition → Type 0
 DefinitionCounted (Alias y) = Unit {0}
 DefinitionCounted (Enumeration cs) = length cs ≤ most_constructors
-DefinitionCounted (StructureOf fs) = field_count fs ≤ most_fields
+DefinitionCounted (StructureOf fs) = (0 < field_count fs) × (field_count fs ≤ most_fields)
 
 -- the counts of declarations
 pub record Counted (p : Tree) : Type 0 where

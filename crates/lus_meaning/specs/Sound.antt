@@ -1,9 +1,9 @@
--- What a typed program keeps: it is resolved, no structure has itself among its fields, directly or round, and no node or type
--- is larger than a source may declare. Passes after types rely on this, and on nothing of the tree.
-use Rattle.std.specs.Prelude.{◌≤◌, ℕ, List, [], ◌∷◌, map, flat_map, length}
+-- What a typed program keeps: it is resolved, no structure has itself among its fields, directly or round, each has one, and there
+-- are no more nodes, nor is a node or type larger, than a source may declare. Passes after types rely on this, and on nothing of the tree.
+use Rattle.std.specs.Prelude.{◌<◌, ◌≤◌, ℕ, List, [], ◌∷◌, map, flat_map, length}
 use Rattle.lus_values.specs.Lists.{Each}
 use Rattle.lus_graph.specs.Ways.{Uses, HasNoWayBack}
-use Rattle.lus_syntax.specs.Limits.{most_variables, most_constructors}
+use Rattle.lus_syntax.specs.Limits.{most_declarations, most_variables, most_constructors}
 use Rattle.lus_program.specs.declared.types.Kind.{Kind}
 use Rattle.lus_program.specs.declared.types.Kind.TheVariants as kinds
 use Rattle.lus_program.specs.Programs.{Declared, alias, enumeration, structure, Program}
@@ -26,12 +26,23 @@ declared_uses (structure fs) = flat_map (λ g. structures_in g.kind) fs
 abbrev pub type_uses : Program → Uses
 type_uses p = map declared_uses p.types
 
--- no node has more variables, and no type more constructors, than a source may declare
+-- there are no more nodes, no node has more variables, and no type more constructors, than a source may declare
 pub record IsLimited (p : Program) : Type 0 where
+  pub nodes : length p.nodes ≤ most_declarations
   pub variables : Each (λ f. length f.variables ≤ most_variables) p.nodes
   pub constructors : Each (λ d. constructors_in d ≤ most_constructors) p.types
+
+-- a structure has fields, as each that can be written has
+abbrev pub HasFields : Declared → Type 0
+HasFields (alias k) = Unit {0}
+HasFields (enumeration cs) = Unit {0}
+HasFields (structure fs) = 0 < length fs
+
+abbrev pub HaveFields : Program → Type 0
+HaveFields p = Each HasFields p.types
 
 pub record IsSound (p : Program) : Type 0 where
   pub resolved : Resolved p
   pub loopless : HasNoWayBack (type_uses p)
+  pub fields : HaveFields p
   pub limited : IsLimited p

@@ -4,7 +4,7 @@ ghost use Rattle.std.specs.Prelude.{◌≡◌};
 ghost use Rattle.lus_graph.specs.Ways.{HasNoWayBack};
 ghost use Rattle.lus_program.specs.View.{program_seen};
 ghost use Rattle.lus_meaning.specs.Resolved.{Resolved};
-ghost use Rattle.lus_meaning.specs.Sound.{IsLimited, IsSound, type_uses};
+ghost use Rattle.lus_meaning.specs.Sound.{HaveFields, IsLimited, IsSound, type_uses};
 
 use lus_program::Program;
 use std::marker::Model;
@@ -45,6 +45,7 @@ impl Typed {
         ensures same { result.now ≡ self.now }
         ensures resolved { Resolved (program_seen result.now) }
         ensures loopless { HasNoWayBack (type_uses (program_seen result.now)) }
+        ensures fields { HaveFields (program_seen result.now) }
         ensures limited { IsLimited (program_seen result.now) }
     {
         &self.program

@@ -2,3 +2,4 @@ pub mod Placed
 pub mod CallOrders
 pub mod Underway
 pub mod Ready
+pub mod Rooms

@@ -1,18 +1,19 @@
 -- Parts of calls one behind another are in order, and end within the whole.
-use Rattle.std.proofs.Common.{◌≤◌, List, [], ◌∷◌, arith}
+use Rattle.std.proofs.Common.{◌≡◌, ◌∙◌, ℕ, suc, ◌<◌, ◌≤◌, List, [], ◌∷◌, length, drop, get_or, sym, ap, subst, arith}
+use Rattle.std.proofs.Math.Seq.{drop-cons}
 use Rattle.lus_values.specs.Lists.{item}
 use Rattle.lus_flat_classes.specs.declared.class.Extent.{Extent}
 use Rattle.lus_flat_classes.specs.declared.class.Call.{Call}
 use Rattle.lus_places.specs.Placing.{no_room, together, parts_end, PlacedAreWell}
 
 -- one extent is within another
-record IsWithin (a b : Extent) : Type 0 where
-  cells : a.cells ≤ b.cells
-  firsts : a.firsts ≤ b.firsts
-  variables : a.variables ≤ b.variables
+pub record IsWithin (a b : Extent) : Type 0 where
+  pub cells : a.cells ≤ b.cells
+  pub firsts : a.firsts ≤ b.firsts
+  pub variables : a.variables ≤ b.variables
 
 -- the parts end behind the place from which they stand
-ends_behind : (rooms : List Extent) (from : Extent) (qs : List Call) → IsWithin from (parts_end rooms from qs)
+pub ends_behind : (rooms : List Extent) (from : Extent) (qs : List Call) → IsWithin from (parts_end rooms from qs)
 ends_behind rooms from [] = record { cells = omega arith; firsts = omega arith; variables = omega arith }
 ends_behind rooms from (q ∷ qs) =
     let rest = ends_behind rooms (together from (item no_room rooms q.node)) qs in
@@ -20,6 +21,15 @@ ends_behind rooms from (q ∷ qs) =
     let b = rest.firsts in
     let d = rest.variables in
     record { cells = omega (arith, a); firsts = omega (arith, b); variables = omega (arith, d) }
+
+-- and so do those behind the next one
+pub next_within : (rooms : List Extent) (from : Extent) (calls : List Call) (i : ℕ) (q : Call) (room : Extent) → i < length calls → q ≡ get_or calls i q → room ≡ item no_room rooms q.node
+    → IsWithin (together from room) (parts_end rooms from (drop i calls))
+next_within rooms from calls i q room lt here same =
+    let rest : drop i calls ≡ q ∷ drop (suc i) calls = drop-cons calls i q lt ∙ ap (λ z. z ∷ drop (suc i) calls) (sym here) in
+    let next = together from (item no_room rooms q.node) in
+    subst (λ qs. IsWithin (together from room) (parts_end rooms from qs)) (sym rest)
+    (subst (λ r. IsWithin (together from r) (parts_end rooms next (drop (suc i) calls))) (sym same) (ends_behind rooms next (drop (suc i) calls)))
 
 pub placed_are_well : PlacedAreWell
 placed_are_well rooms from [] = record { order = tt; ends = tt }

@@ -1,6 +1,6 @@
 -- Where the parts of calls stand: one behind another, each as long as the part of the called node. Variables are kept during a
 -- step alone and calls are made one after the other, so all calls of a node share the places of theirs.
-use Rattle.std.specs.Prelude.{◌≡◌, Option, Some, None, ◌+◌, ◌≤◌, max, List, [], ◌∷◌, Vec, length}
+use Rattle.std.specs.Prelude.{◌≡◌, ◌+◌, ◌≤◌, max, List, [], ◌∷◌, Vec, length}
 use Rattle.std.specs.Global.{Global}
 use Rattle.lus_values.specs.Lists.{item, Each}
 use Rattle.lus_flat_classes.specs.declared.class.Extent.{Extent}
@@ -50,28 +50,9 @@ pub record AreWellPlaced (parts from : Extent) (qs : List Call) : Type 0 where
 abbrev pub PlacedAreWell : Type 0
 PlacedAreWell = (rooms : List Extent) (from : Extent) (qs : List Call) → AreWellPlaced (parts_end rooms from qs) from (placed_calls rooms from qs)
 
--- an extent, if it is one, is room for both
-abbrev pub IsTogether : Extent → Extent → Option Extent → Type 0
-IsTogether a b None = Unit {0}
-IsTogether a b (Some e) = e ≡ together a b
-
--- an extent, if it is one, is room for a class and these parts
-abbrev pub IsRoomWith : Class → Extent → Option Extent → Type 0
-IsRoomWith c parts None = Unit {0}
-IsRoomWith c parts (Some e) = e ≡ room_with c parts
-
--- calls have their parts, and this is room for them
-abbrev pub ArePlaced : List Extent → (old new : List Call) → Option Extent → Type 0
-ArePlaced rooms old new None = Unit {0}
-ArePlaced rooms old new (Some parts) = (new ≡ placed_calls rooms no_room old) × (parts ≡ parts_end rooms no_room old)
-
 -- a class with places for its calls, where nodes have these extents, and with its own extent
 pub record IsPlaced (rooms : List Extent) (old new : Class) (room : Extent) : Type 0 where
   pub calls : Vec Call Global
   pub items : calls.items ≡ placed_calls rooms no_room old.calls.items
   pub extent : room ≡ room_with old (parts_end rooms no_room old.calls.items)
   pub same : new ≡ record old { calls = calls; extent = room }
-
-abbrev pub IsPlacedIn : List Extent → (old new : Class) → Option Extent → Type 0
-IsPlacedIn rooms old new None = Unit {0}
-IsPlacedIn rooms old new (Some room) = IsPlaced rooms old new room

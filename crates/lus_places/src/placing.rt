@@ -1,10 +1,11 @@
 //! Places for all classes of a program, those of called nodes first.
 
-ghost use Rattle.std.specs.Prelude.{◌≡◌, map, IfOk, OnOk};
+ghost use Rattle.std.specs.Prelude.{◌≡◌, ℕ, List, map, IfOk, OnOk};
 ghost use Rattle.lus_graph.specs.Ways.{IsOrder};
 ghost use Rattle.lus_graph.specs.Walks.{uses_of};
 ghost use Rattle.lus_flat_classes.specs.Turns.{AreReady};
 ghost use Rattle.lus_flat_classes.specs.View.{classes_of};
+ghost use Rattle.lus_places.specs.Few.{AreAsLong, AreFew, KeepTo};
 ghost use Rattle.lus_places.specs.Shaped.{AreNested, AreShaped, class_uses};
 
 use crate::room::place_class;
@@ -52,8 +53,10 @@ fn order_of_classes(alloc: Global, classes: &[Class]) -> Result<Vec<usize>, Memo
 fn place_in_order(alloc: Global, order: &[usize], classes: &mut [Class]) -> Result<(), Memory>
     requires shaped { AreShaped classes.old }
     requires order { IsOrder (class_uses classes.old) order.now }
+    requires few { AreFew classes.old }
     ensures same { OnOk result (classes_of classes.new ≡ classes_of classes.old) }
     ensures ready { OnOk result (AreReady classes.new) }
+    ensures long { OnOk result ((counts : List ℕ) → KeepTo counts classes.old → AreAsLong counts classes.new) }
 {
     let none = Extent {
         cells: 0,
@@ -62,21 +65,21 @@ fn place_in_order(alloc: Global, order: &[usize], classes: &mut [Class]) -> Resu
     };
     let mut rooms = vec![in alloc; none; classes.len()]?;
     for place in order {
-        // No part of an accepted program is so long: the limit on state cells excludes it, which isn't proved.
-        let Some(room) = place_class(&mut classes[*place], &rooms) else {
-            return Err(Memory);
-        };
+        let room = place_class(&mut classes[*place], &rooms);
         rooms[*place] = room;
     }
     Ok(())
 }
 
-/// Gives the parts of calls their places and the classes their extents, after which the classes can be run.
+/// Gives the parts of calls their places and the classes their extents, after which the classes can be run. Where each class
+/// keeps to a count, its part is no longer.
 pub fn place_classes(alloc: Global, classes: &mut [Class]) -> Result<(), Memory>
     requires shaped { AreShaped classes.old }
     requires nested { AreNested (classes_of classes.old) }
+    requires few { AreFew classes.old }
     ensures same { OnOk result (classes_of classes.new ≡ classes_of classes.old) }
     ensures ready { OnOk result (AreReady classes.new) }
+    ensures long { OnOk result ((counts : List ℕ) → KeepTo counts classes.old → AreAsLong counts classes.new) }
 {
     let order = order_of_classes(alloc, classes)?;
     place_in_order(alloc, &order, classes)

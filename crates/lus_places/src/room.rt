@@ -1,22 +1,22 @@
 //! Room for a class and for the parts of its calls.
 
-ghost use Rattle.std.specs.Prelude.{◌≡◌, ◌+◌, IfSome};
+ghost use Rattle.std.specs.Prelude.{◌≡◌};
 ghost use Rattle.lus_values.specs.Lists.{item};
-ghost use Rattle.lus_places.specs.Placing.{ArePlaced, IsPlacedIn, IsRoomWith, IsTogether, no_room};
+ghost use Rattle.lus_places.specs.Few.{CanBeStored};
+ghost use Rattle.lus_places.specs.Placing.{IsPlaced, no_room, parts_end, placed_calls, room_with as room_for_class, together};
 
 use lus_flat_classes::{Call, Class, Extent};
 
-/// Room for two parts that share the places of variables, or none where a count passes its type.
-fn room_for(a: Extent, b: Extent) -> Option<Extent>
-    ensures { IsTogether a b result }
+/// Room for two parts that share the places of variables.
+fn room_for(a: Extent, b: Extent) -> Extent
+    requires { CanBeStored (together a b) }
+    ensures { result ≡ together a b }
 {
-    let cells = a.cells.checked_add(b.cells)?;
-    let firsts = a.firsts.checked_add(b.firsts)?;
-    Some(Extent {
-        cells,
-        firsts,
+    Extent {
+        cells: a.cells + b.cells,
+        firsts: a.firsts + b.firsts,
         variables: a.variables.max(b.variables),
-    })
+    }
 }
 
 /// The extent of a node, none at all past the last.
@@ -33,9 +33,11 @@ fn room_of(rooms: &[Extent], node: u32) -> Extent
     }
 }
 
-/// Gives each call its part behind those before it: room for all, or none where a count passes its type.
-fn place_calls(calls: &mut [Call], rooms: &[Extent]) -> Option<Extent>
-    ensures { ArePlaced rooms.now calls.old calls.new result }
+/// Gives each call its part behind those before it: room for all.
+fn place_calls(calls: &mut [Call], rooms: &[Extent]) -> Extent
+    requires { CanBeStored (parts_end rooms.now no_room calls.old) }
+    ensures calls { calls.new ≡ placed_calls rooms.now no_room calls.old }
+    ensures end { result ≡ parts_end rooms.now no_room calls.old }
 {
     let mut from = Extent {
         cells: 0,
@@ -44,7 +46,7 @@ fn place_calls(calls: &mut [Call], rooms: &[Extent]) -> Option<Extent>
     };
     for call in calls.iter_mut() {
         let room = room_of(rooms, call.node);
-        let next = room_for(from, room)?;
+        let next = room_for(from, room);
         call.offset = Extent {
             cells: from.cells,
             firsts: from.firsts,
@@ -53,40 +55,28 @@ fn place_calls(calls: &mut [Call], rooms: &[Extent]) -> Option<Extent>
         call.extent = room;
         from = next;
     }
-    Some(from)
+    from
 }
 
-/// A count with so many more, or none where it passes its type.
-fn counted(count: usize, more: u32) -> Option<u32>
-    ensures { IfSome result (λ sum. sum ≡ count + more) }
+/// Room for a class and the parts of its calls.
+fn room_with(class: &Class, parts: Extent) -> Extent
+    requires { CanBeStored (room_for_class class.now parts) }
+    ensures { result ≡ room_for_class class.now parts }
 {
-    match u32::try_from(count) {
-        Ok(count) => count.checked_add(more),
-        Err(_) => None,
+    Extent {
+        cells: class.cells.len() as u32 + parts.cells,
+        firsts: class.firsts.len() as u32 + parts.firsts,
+        variables: class.tests.len() as u32 + parts.variables,
     }
 }
 
-/// Room for a class and the parts of its calls, or none where a count passes its type.
-fn room_with(class: &Class, parts: Extent) -> Option<Extent>
-    ensures { IsRoomWith class.now parts result }
+/// Gives the calls of a class their parts, where the nodes that they call have these extents, and the class its extent.
+pub fn place_class(class: &mut Class, rooms: &[Extent]) -> Extent
+    requires { CanBeStored (room_for_class class.old (parts_end rooms.now no_room class.old.calls.items)) }
+    ensures { IsPlaced rooms.now class.old class.new result }
 {
-    let cells = counted(class.cells.len(), parts.cells)?;
-    let firsts = counted(class.firsts.len(), parts.firsts)?;
-    let variables = counted(class.tests.len(), parts.variables)?;
-    Some(Extent {
-        cells,
-        firsts,
-        variables,
-    })
-}
-
-/// Gives the calls of a class their parts, where the nodes that they call have these extents, and the class its extent; none
-/// where a count passes its type.
-pub fn place_class(class: &mut Class, rooms: &[Extent]) -> Option<Extent>
-    ensures { IsPlacedIn rooms.now class.old class.new result }
-{
-    let parts = place_calls(&mut class.calls, rooms)?;
-    let room = room_with(class, parts)?;
+    let parts = place_calls(&mut class.calls, rooms);
+    let room = room_with(class, parts);
     class.extent = room;
-    Some(room)
+    room
 }

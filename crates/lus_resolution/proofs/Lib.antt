@@ -15,6 +15,7 @@ pub mod Lefts
 pub mod NodesMeant
 pub mod CallsNamed
 pub mod TypesMeant
+pub mod FieldsMeant
 pub mod Limited
 pub mod ProgramsMeant
 pub mod Typed

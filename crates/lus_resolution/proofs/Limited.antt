@@ -47,4 +47,11 @@ variables_few p [] h = tt
 variables_few p (f ∷ fs) h = (few_here h.0 (as_many (variable_meant p (scope p f)) (groups f)), variables_few p fs h.1)
 
 pub meant_limited : (t : Tree) → WellFormed t → IsLimited (program_of t)
-meant_limited t formed = record { variables = variables_few t t.nodes formed.counted.variables; constructors = types_few t t.types formed.counted.definitions }
+meant_limited t formed = record {
+  nodes = (
+      let many = length-map t.nodes (node_meant t) in
+      let nodes = formed.counted.nodes in
+      omega (arith, many, nodes));
+  variables = variables_few t t.nodes formed.counted.variables;
+  constructors = types_few t t.types formed.counted.definitions;
+}

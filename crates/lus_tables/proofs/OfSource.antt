@@ -99,7 +99,7 @@ module _ (kind : TypeName → Kind) where
   has_few : (d : Definition) → DefinitionCounted d → IsTrue (has_few_fields (declared_by kind d))
   has_few (Alias y) few = refl
   has_few (Enumeration cs) few = refl
-  has_few (StructureOf fs) few = le-leb (length (fields_by kind fs)) 64 (subst (λ n. n ≤ 64) (sym (length-fields_by fs)) few)
+  has_few (StructureOf fs) few = le-leb (length (fields_by kind fs)) 64 (subst (λ n. n ≤ 64) (sym (length-fields_by fs)) few.1)
 
   and_is : (a b : Bool) → IsTrue a → IsTrue b → IsTrue (a && b)
   and_is true b p q = q

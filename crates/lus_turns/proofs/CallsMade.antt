@@ -25,7 +25,7 @@ use Rattle.lus_flat_classes.specs.View.{argument_of, call_of, class_of, code_of,
 use Rattle.lus_translation.specs.Forms.{calls_form, numbers_form}
 use Rattle.lus_translation.specs.Making.{GivesAny}
 use Rattle.lus_translation.proofs.Numbered.{stored_calls, calls_stored}
-use Rattle.lus_turns.specs.Turned.{CallsNode, IsTurned}
+use Rattle.lus_turns.specs.Turned.{CallsNode, HaveOneLeft, IsTurned, KeepsFew}
 use Rattle.lus_turns.proofs.CallNumbers.{number_at}
 use Rattle.lus_turns.proofs.CallPlaces.{IsRightSide, call_place, equation_at}
 use Rattle.lus_turns.proofs.StoredEquations.{each_slice, numbered_equation}
@@ -188,8 +188,8 @@ calls_node p f c ts (s ∷ ss) (q ∷ qs) n are known = (
 
 -- a class that belongs to its node and whose calls are those of its equations has its turns
 pub classes_are_turned : (p : Program) (f : Node) → IsReady p f → (qs : List StoredEquation) → f.equations ≡ equations_from 0 qs → (c : StoredClass) → IsClassOf p f (class_of c)
-    → (class_of c).calls ≡ calls_form p f f.equations → c.outputs ≡ f.outputs → Each GivesAny c.steps.items → IsTurned p f c
-classes_are_turned p f ready qs is c belongs same_calls outputs any =
+    → (class_of c).calls ≡ calls_form p f f.equations → c.outputs ≡ f.outputs → Each GivesAny c.steps.items → (HaveOneLeft f → KeepsFew f c) → IsTurned p f c
+classes_are_turned p f ready qs is c belongs same_calls outputs any kept =
     let d = class_of c in
     let size : length d.calls ≡ length c.calls.items = length-map c.calls.items (call_of c.tests.items) in
     let all = made p f ready qs is d belongs same_calls in
@@ -204,4 +204,5 @@ classes_are_turned p f ready qs is c belongs same_calls outputs any =
             making n c.steps.items (answering_at n m.output d.steps m.place m.step m.here m.code));
       };
       calls = calls_node p f d c.tests.items (sites p f) c.calls.items 0 belongs.calls (calls_known p d all);
+      kept = kept;
     }

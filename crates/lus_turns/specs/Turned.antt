@@ -1,8 +1,9 @@
 -- What the class of a node promises besides that it belongs to the node.
-use Rattle.std.specs.Prelude.{◌≡◌, ◌<◌, length}
+use Rattle.std.specs.Prelude.{◌≡◌, ◌<◌, ◌≤◌, ℕ, length}
 use Rattle.lus_values.specs.Lists.{Each}
-use Rattle.lus_program.specs.Programs.{Node, Program, node_at}
+use Rattle.lus_program.specs.Programs.{Expression, call, Node, Program, node_at}
 use Rattle.lus_classes.specs.ClassesOf.{IsClassOf}
+use Rattle.lus_normal_form.specs.NormalNodes.{node_memories, node_firsts}
 use Rattle.lus_flat_classes.specs.declared.class.Call.{Call}
 use Rattle.lus_flat_classes.specs.declared.class.Class.{Class}
 use Rattle.lus_flat_classes.specs.Turns.{HasTurns}
@@ -13,9 +14,24 @@ pub record CallsNode (p : Program) (q : Call) : Type 0 where
   pub known : q.node < length p.nodes
   pub arguments : length q.arguments.items ≡ (node_at p q.node).inputs
 
--- a class belongs to node f of a program, has its outputs, makes its steps in their turns, and calls nodes of the program
+-- a right side that is no call has one variable on its left at most
+abbrev pub HasOneLeft : Expression → ℕ → Type 0
+HasOneLeft (call g c args) n = Unit {0}
+HasOneLeft e n = n ≤ 1
+
+abbrev pub HaveOneLeft : Node → Type 0
+HaveOneLeft f = Each (λ q. HasOneLeft q.right (length q.targets)) f.equations
+
+-- a class has no more cells than its node has memories, nor first-flags than marks of a first instant
+pub record KeepsFew (f : Node) (c : Class) : Type 0 where
+  pub cells : length c.cells.items ≤ node_memories f
+  pub firsts : length c.firsts.items ≤ node_firsts f
+
+-- a class belongs to node f of a program, has its outputs, makes its steps in their turns, calls nodes of the program, and keeps
+-- no more than its node wants
 pub record IsTurned (p : Program) (f : Node) (c : Class) : Type 0 where
   pub belongs : IsClassOf p f (class_of c)
   pub outputs : c.outputs ≡ f.outputs
   pub turns : HasTurns c
   pub calls : Each (CallsNode p) c.calls.items
+  pub kept : HaveOneLeft f → KeepsFew f c

@@ -2,6 +2,7 @@ use Rattle.std.proofs.Common.{rules, arith, ◌≡◌, ◌≢◌, ◌∙◌, sym
 use Rattle.std.specs.Prelude.{min}
 use Rattle.std.proofs.lemmas.List.Elements.{All-set}
 use Rattle.lus_program.specs.View.{expression_of, node_of, program_seen}
+use Rattle.lus_syntax.specs.Limits.{most_cells}
 use Rattle.lus_syntax.specs.declared.refusal.RefusalNumber.TheVariants as numbers
 use Rattle.lus_cells.specs.Cells.{FitsCells, NamesTooMany}
 use Rattle.lus_cells.specs.Given.{counted}
@@ -38,7 +39,7 @@ loop-place-preserved c =
     let is : count ≡ min (sum_by (λ q. counted (program_seen p) (node_of node) leaves table (expression_of q.right)) node.equations.items) 4294967295 = c.in_ok-count.ensures.ok.0 ∙ counted_is in
     record {
       size = length-set table x count ∙ size;
-      small = All-set (λ n. n ≤ 100000) table x count few c.loop-place.invariant.small;
+      small = All-set (λ n. n ≤ most_cells) table x count few c.loop-place.invariant.small;
       filled = count_more p c.requires.resolved order c.requires.order leaves c.requires.leaves i table c.loop-place-test.true size filled node c.index-node.ensures count is few;
     }
 

@@ -2,9 +2,13 @@ use Rattle.std.proofs.Common.{rules, arith, ◌≡◌, ◌∙◌, ap, sym, lengt
 use Rattle.std.specs.Prelude.{min}
 use Rattle.std.proofs.lemmas.List.{length-map}
 use Rattle.lus_values.specs.Lists.{item}
+use Rattle.lus_values.proofs.Lists.{each_at}
 use Rattle.lus_program.specs.View.{declared_of, program_seen}
 use Rattle.lus_meaning.specs.Resolved.{declared_in}
+use Rattle.lus_meaning.specs.Types.{nothing_declared}
+use Rattle.lus_meaning.specs.Sound.{HasFields}
 use Rattle.lus_cells.specs.Cells.{declared_leaves}
+use Rattle.lus_cells.proofs.Positive.{count_positive, more_positive}
 use Rattle.lus_cells.proofs.LeavesAlong.{declared_at, leaves_more, leaves_whole, type_fits}
 use Rattle.lus_cells.proofs.leaves.leaves_along.Goals as goal
 
@@ -42,10 +46,11 @@ loop-place-preserved c =
     record {
       size = length-set table x count ∙ size;
       filled = λ at are. leaves_more p order c.requires at are 4294967295 i table c.loop-place-test.true (size ∙ sym count_types) (c.loop-place.invariant.filled at are) count is;
+      positive = λ have. more_positive table x count (c.loop-place.invariant.positive have) (count_positive table (declared_in p x) count (c.loop-place.invariant.positive have) (each_at HasFields p.types x nothing_declared fits have) is);
     }
 
-pub returns : goal.returns
-returns c =
+pub returns-clause-capped : goal.returns-clause-capped
+returns-clause-capped c =
     let p = program_seen c.args.program.now in
     let ts = c.args.program.now.types.items in
     leaves_whole p c.args.order.now c.requires c.loop-place.place-index c.loop-place.leaves.items c.loop-place-test.false (c.loop-place.invariant.size ∙ sym (length-map ts declared_of)) c.loop-place.invariant.filled

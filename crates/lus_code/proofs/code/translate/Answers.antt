@@ -1,10 +1,13 @@
-use Rattle.std.proofs.Common.{◌≡◌, ◌∙◌, sym, ap, subst}
+use Rattle.std.proofs.Common.{◌≡◌, ◌≤◌, ◌∙◌, sym, ap, subst, arith}
 use Rattle.std.proofs.lemmas.List.{length-map}
 use Rattle.lus_program.specs.Programs.{node_at}
 use Rattle.lus_program.specs.View.{node_of, program_seen}
 use Rattle.lus_normal_nodes.specs.Parts.{node_taken}
-use Rattle.lus_cells.specs.Cells.{AreStateCells}
+use Rattle.lus_syntax.specs.Limits.{most_cells}
+use Rattle.lus_streams.proofs.Lists.{each_item}
+use Rattle.lus_cells.specs.Cells.{AreStateCells, HaveLeaves}
 use Rattle.lus_code.specs.Codes.{IsTranslated}
+use Rattle.lus_code.proofs.FewNodes.{kept_to, lefts_one, variables_few}
 use Rattle.lus_code.proofs.MadeClasses.{as_many}
 use Rattle.lus_code.proofs.code.translate.Goals as goal
 
@@ -18,6 +21,27 @@ classes_of_nodes-requires-clause-source c =
       normal = c.program.ensures.normal;
     }
 
+pub classes_of_nodes-requires-clause-small : goal.classes_of_nodes-requires-clause-small
+classes_of_nodes-requires-clause-small c =
+    let p = c.args.normal.source.program in
+    let q = c.program.result.now in
+    let cells = c.in_ok-cells.cells.items in
+    let given : c.typed_of.result.now ≡ p = c.typed_of.ensures.same in
+    let counted = subst (λ z. AreStateCells (program_seen z) cells) given c.in_ok-cells.ensures.ok in
+    let leaves = subst (λ z. HaveLeaves (program_seen z)) given c.in_ok-cells.ensures.leaves in
+    let resolved = c.typed_of.ensures.checked.resolved in
+    let few = c.typed_of.ensures.limited in
+    let long = length-map q.nodes.items node_of ∙ as_many (program_seen p) p.nodes.items q.nodes.items c.program.ensures.made ∙ sym (length-map p.nodes.items node_of) in
+    let nodes = few.nodes in
+    record {
+      counts = cells;
+      kept = kept_to p q c.program.ensures.normal cells resolved leaves counted;
+      few = λ g. each_item (λ n. n ≤ most_cells) 0 cells (omega arith) counted.few g;
+      lefts = lefts_one p q resolved c.program.ensures.made;
+      nodes = omega (arith, long, nodes);
+      variables = variables_few (program_seen p) (program_seen q) resolved few c.program.ensures.normal;
+    }
+
 pub invariant_of-result : goal.invariant_of-result
 invariant_of-result c =
     let p = c.args.normal.source.program in
@@ -25,6 +49,9 @@ invariant_of-result c =
     let given : c.typed_of.result.now ≡ p = c.typed_of.ensures.same in
     let same : c.into_source-source.result.program ≡ p = ap (λ s. s.program) c.into_source-source.ensures in
     let long = length-map q.nodes.items node_of ∙ as_many (program_seen p) p.nodes.items q.nodes.items c.program.ensures.made ∙ sym (length-map p.nodes.items node_of) in
+    let cells = c.in_ok-cells.cells.items in
+    let counted = subst (λ z. AreStateCells (program_seen z) cells) given c.in_ok-cells.ensures.ok in
+    let leaves = subst (λ z. HaveLeaves (program_seen z)) given c.in_ok-cells.ensures.leaves in
     subst (λ z. IsTranslated (program_seen z) c.in_ok-classes.classes.items c.in_ok-cells.cells.items) (sym same) (record {
       code = (
         program_seen q,
@@ -36,5 +63,6 @@ invariant_of-result c =
       );
       size = c.in_ok-classes.ensures.size ∙ long;
       ready = c.in_ok-classes.ensures.ready;
-      counted = subst (λ z. AreStateCells (program_seen z) c.in_ok-cells.cells.items) given c.in_ok-cells.ensures.ok;
+      counted = counted;
+      rows = c.in_ok-classes.ensures.long cells (kept_to p q c.program.ensures.normal cells c.typed_of.ensures.checked.resolved leaves counted);
     })

@@ -1,14 +1,18 @@
--- A refusal is handed on in its shape, and is right as it was.
-use Rattle.std.proofs.Common.{◌≢◌}
-use Rattle.lus_syntax.specs.declared.refusal.RefusalNumber.TheVariants as numbers
-use Rattle.lus_machine.proofs.Acceptances.{refused_with, refused_too}
+use Rattle.std.proofs.Common.{ap, sym, ◌∙◌, subst, map}
+use Rattle.std.proofs.lemmas.Result.{err_from_is_err_and}
+use Rattle.lus_program.specs.View.{declared_of}
+use Rattle.lus_code.specs.Codes.{program_of}
+use Rattle.lus_machine.specs.Constructors.{CanBeNamed}
+use Rattle.lus_machine.proofs.Acceptances.{refused_with}
+use Rattle.lus_machine.proofs.Named.{can_be_named}
 use Rattle.lus_machine.proofs.compiling.compile.Goals as goal
 
-pub returns-in-Err-clause-first : goal.returns-in-Err-clause-first
-returns-in-Err-clause-first c = λ h.
-    let other : c.in-Err.refusal.number ≢ numbers.Memory = λ memory. h (c.shaped.ensures.memory memory) in
-    refused_too c.args.text.now c.in-Err.refusal c.shaped.result (c.shaped.ensures.told other) (c.in-Err.ensures.first other)
+pub names_of-requires : goal.names_of-requires
+names_of-requires c =
+    let same = ap (map declared_of) (c.deref.ensures.value ∙ ap (λ p. p.types.items) c.program.ensures.same) in
+    subst CanBeNamed (sym same) (can_be_named c.args.text.now (program_of c.in_ok-code.code) c.in_ok-code.ensures.ok)
 
-pub returns-in-Err-clause-refused : goal.returns-in-Err-clause-refused
-returns-in-Err-clause-refused c = λ h.
-    refused_with c.args.text.now c.in-Err.refusal (c.in-Err.ensures.first (λ memory. h (c.shaped.ensures.memory memory)))
+pub returns-in_err-code-clause-refused : goal.returns-in_err-code-clause-refused
+returns-in_err-code-clause-refused c =
+    let p = err_from_is_err_and c.from_residual-in_err-code.result c.from_residual-in_err-code.ensures.1 in
+    rw (p.1, p.2) (λ h. refused_with c.args.text.now c.in_err-code.field-0.0 (c.in_err-code.ensures.first h))

@@ -1,4 +1,4 @@
-use Rattle.std.proofs.Common.{◌≡◌, ◌<◌, ◌≤◌, ℕ, List, length, take, take_all, get_or, subst, arith, rules}
+use Rattle.std.proofs.Common.{◌≡◌, ◌+◌, ◌<◌, ◌≤◌, ℕ, List, length, set, take, take_all, get_or, sym, subst, arith, rules}
 use Rattle.std.proofs.lemmas.List.{get_or_default, length-map}
 use Rattle.std.proofs.lemmas.Option.{slice_get-get_or}
 use Rattle.lus_graph.specs.Ways.{IsOrder}
@@ -6,6 +6,9 @@ use Rattle.lus_flat_classes.specs.declared.class.Class.{Class}
 use Rattle.lus_places.specs.Shaped.{class_uses, nodes_of}
 use Rattle.lus_places.proofs.Underway.{IsUnderway, underway_step}
 use Rattle.lus_places.proofs.Ready.{all_ready}
+use Rattle.lus_places.proofs.Rooms.{all_as_long, next_here, next_stored, order_short, rooms_first, rooms_next, whole_room, AreRoomsSoFar}
+use Rattle.lus_places.specs.Few.{CanBeStored}
+use Rattle.lus_places.specs.Placing.{IsPlaced}
 use Rattle.lus_places.proofs.placing.place_in_order.Goals as goal
 
 -- what stands in an order is a class
@@ -32,9 +35,25 @@ offset_bounds-classes-place c =
 pub index_mut-requires : goal.index_mut-requires
 index_mut-requires c =
     let low = in_order c.args.classes.now c.args.order.now c.loop-place.place-index c.requires.order c.loop-place-test.true in
-    let width = c.loop-place.invariant.width in
+    let width = c.loop-place.invariant.underway.width in
     let long = c.loop-place.rooms.ok in
     omega (arith, low, width, long)
+
+pub place_class-room-requires : goal.place_class-room-requires
+place_class-room-requires c =
+    let old = c.args.classes.now in
+    let order = c.args.order.now in
+    let i = c.loop-place.place-index in
+    let low = in_order old order i c.requires.order c.loop-place-test.true in
+    let long = c.loop-place.auto.classes in
+    let within : get_or order i 0 < length c.loop-place.classes = omega (arith, low, long) in
+    let one = c.index-classes-place.result in
+    let class = get_or c.loop-place.classes (get_or order i 0) one in
+    let here = slice_get-get_or c.loop-place.classes (get_or order i 0) one within in
+    let rooms = c.loop-place.rooms.items in
+    let same = next_here old c.loop-place.classes rooms order i class c.requires.order c.loop-place-test.true c.loop-place.invariant.underway here in
+    let short = order_short old order i c.requires.order c.loop-place-test.true in
+    subst (λ rs. CanBeStored (whole_room rs class)) (sym c.deref.ensures.value) (next_stored old c.requires.few i short rooms (c.loop-place.invariant.rooms c.requires.few) (get_or order i 0) class same)
 
 pub loop-place-preserved : goal.loop-place-preserved
 loop-place-preserved c =
@@ -45,10 +64,19 @@ loop-place-preserved c =
     let long = c.loop-place.auto.classes in
     let within : get_or order i 0 < length c.loop-place.classes = omega (arith, low, long) in
     let one = c.index-classes-place.result in
+    let class = get_or c.loop-place.classes (get_or order i 0) one in
     let here = slice_get-get_or c.loop-place.classes (get_or order i 0) one within in
-    let value = c.deref.ensures.value in
-    underway_step old c.loop-place.classes c.loop-place.rooms.items order i (get_or c.loop-place.classes (get_or order i 0) one) c.place_class.new.class c.in-Some.room c.requires.order c.requires.shaped c.loop-place-test.true c.loop-place.invariant here
-    (rw value at c.in-Some.ensures)
+    let rooms = c.loop-place.rooms.items in
+    let room = c.place_class-room.result in
+    let placed : IsPlaced rooms class c.place_class-room.new.class room = rw c.deref.ensures.value at c.place_class-room.ensures in
+    let same = next_here old c.loop-place.classes rooms order i class c.requires.order c.loop-place-test.true c.loop-place.invariant.underway here in
+    let short = order_short old order i c.requires.order c.loop-place-test.true in
+    let width = c.loop-place.invariant.underway.width in
+    let wide : get_or order i 0 < length rooms = omega (arith, low, width) in
+    record {
+      underway = underway_step old c.loop-place.classes rooms order i class c.place_class-room.new.class room c.requires.order c.requires.shaped c.loop-place-test.true c.loop-place.invariant.underway here placed;
+      rooms = λ few. subst (λ r. AreRoomsSoFar old few.variables (i + 1) (set rooms (get_or order i 0) r)) (sym placed.extent) (rooms_next old few i short rooms (c.loop-place.invariant.rooms few) (get_or order i 0) class same wide);
+    }
 
 pub returns-clause-ready : goal.returns-clause-ready
 returns-clause-ready c =
@@ -56,5 +84,15 @@ returns-clause-ready c =
     let order = c.args.order.now in
     let end : length order ≤ c.loop-place.place-index = omega arith in
     let whole : take c.loop-place.place-index order ≡ order = take_all c.loop-place.place-index order end in
-    all_ready old c.loop-place.classes c.loop-place.rooms.items order (subst (IsUnderway old c.loop-place.classes c.loop-place.rooms.items) whole c.loop-place.invariant) c.requires.shaped
+    all_ready old c.loop-place.classes c.loop-place.rooms.items order (subst (IsUnderway old c.loop-place.classes c.loop-place.rooms.items) whole c.loop-place.invariant.underway) c.requires.shaped
     (λ g lt. c.requires.order.whole g (let long = length-map old nodes_of in omega (arith, lt, long)))
+
+pub returns-clause-long : goal.returns-clause-long
+returns-clause-long c =
+    let old = c.args.classes.now in
+    let order = c.args.order.now in
+    let rooms = c.loop-place.rooms.items in
+    let end : length order ≤ c.loop-place.place-index = omega arith in
+    let whole : take c.loop-place.place-index order ≡ order = take_all c.loop-place.place-index order end in
+    λ counts kept. all_as_long old c.loop-place.classes rooms order (subst (IsUnderway old c.loop-place.classes rooms) whole c.loop-place.invariant.underway)
+    (λ g lt. c.requires.order.whole g (let long = length-map old nodes_of in omega (arith, lt, long))) counts ((c.loop-place.invariant.rooms c.requires.few).keep counts kept)

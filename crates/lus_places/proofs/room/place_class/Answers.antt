@@ -9,13 +9,13 @@ returns c =
     let old = c.args.class.now in
     let rooms = c.args.rooms.now in
     let value = c.deref_mut.ensures.value in
-    let long : length c.place_calls.new.calls ≡ old.calls.len = c.place_calls.auto.calls ∙ c.deref_mut.ensures.len in
-    let placed = c.in_ok-parts.ensures.0 in
-    let parts = c.in_ok-parts.ensures.1 in
-    let room = c.in_ok-room.ensures in
+    let long : length c.place_calls-parts.new.calls ≡ old.calls.len = c.place_calls-parts.auto.calls ∙ c.deref_mut.ensures.len in
+    let placed = c.place_calls-parts.ensures.calls in
+    let parts = c.place_calls-parts.ensures.end in
+    let room = c.room_with-room.ensures in
     record {
-      calls = with_items old.calls c.place_calls.new.calls;
-      items = with_items_is old.calls c.place_calls.new.calls long ∙ placed ∙ ap (placed_calls rooms no_room) value;
+      calls = with_items old.calls c.place_calls-parts.new.calls;
+      items = with_items_is old.calls c.place_calls-parts.new.calls long ∙ placed ∙ ap (placed_calls rooms no_room) value;
       extent = room ∙ ap (room_with old) (parts ∙ ap (parts_end rooms no_room) value);
       same = refl;
     }

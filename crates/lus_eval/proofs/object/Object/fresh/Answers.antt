@@ -25,6 +25,6 @@ returns c =
     let lived = subst (λ (s : State). HasLived p (classes_of classes) s f []) (sym (c.in_ok-instance.ensures.start depth within)) begun in
     record {
       node = c.in_ok-instance.ensures.node;
-      shaped = shaped_in_code code classes c.classes.ensures.same c.in_ok-instance.instance c.in_ok-instance.ensures.shaped;
+      shaped = shaped_in_code code classes c.classes.ensures.same c.in_ok-instance.instance c.classes.ensures.rows c.in_ok-instance.ensures.shaped;
       lived = subst (λ (l : List Class). HasLived p (classes_of l) (state_of l depth c.in_ok-instance.instance) f []) c.classes.ensures.same lived;
     }

@@ -94,6 +94,6 @@ returns-clause-ok c =
     let seen = subst (λ (l : List Class). StepsTo p (classes_of l) (instance_state l (depth_of p) before) (instance_state l (depth_of p) after) before.node i outputs) c.classes-classes.ensures.same steps in
     record {
       node = c.step.ensures.node ∙ ap (λ (k : Kept). k.node) c.self.view_is;
-      shaped = shaped_in_code code classes c.classes-classes.ensures.same after c.step.ensures.shaped;
+      shaped = shaped_in_code code classes c.classes-classes.ensures.same after c.classes-classes.ensures.rows c.step.ensures.shaped;
       steps = subst (λ (k : Kept). StepsTo p (plain_classes code) (state_of code k) (state_of code (kept_by after)) k.node i outputs) c.self.view_is seen;
     }

@@ -1,0 +1,35 @@
+-- Each structure of the program that a well-formed tree means has a field.
+use Rattle.std.proofs.Common.{◌≡◌, ◌<◌, List, [], ◌∷◌, length, length-append, map, refl, arith}
+use Rattle.std.proofs.lemmas.List.{length-map}
+use Rattle.std.proofs.lemmas.List.Sums.{sum_by-cons}
+use Rattle.lus_values.specs.Lists.{Each}
+use Rattle.lus_syntax.specs.Trees.{Named, Fields, Definition, Alias, Enumeration, StructureOf, TypeDeclaration, Tree}
+use Rattle.lus_program.specs.Programs.{Field}
+use Rattle.lus_meaning.specs.Meaning.{program_of}
+use Rattle.lus_meaning.specs.Refusals.{WellFormed}
+use Rattle.lus_meaning.specs.Sized.{DefinitionCounted, field_count}
+use Rattle.lus_meaning.specs.Sound.{HasFields, HaveFields}
+use Rattle.lus_meaning.specs.Tables.{declared_as, fields_declared, kind_named}
+
+module _ (p : Tree) where
+  fields_as_many : (fs : List Fields) → length (fields_declared p fs) ≡ field_count fs
+  fields_as_many [] = refl
+  fields_as_many (g ∷ gs) =
+      let own : List Field = map (λ (n : Named). record { name = n.text; kind = kind_named p g.type_name }) g.names in
+      let some : length own ≡ length g.names = length-map g.names (λ (n : Named). record { name = n.text; kind = kind_named p g.type_name }) in
+      let both = length-append own (fields_declared p gs) in
+      let rest = fields_as_many gs in
+      let sum = sum_by-cons (λ (h : Fields). length h.names) g gs in
+      omega (arith, some, both, rest, sum)
+
+  declared_full : (d : Definition) → DefinitionCounted d → HasFields (declared_as p d)
+  declared_full (Alias y) h = tt
+  declared_full (Enumeration cs) h = tt
+  declared_full (StructureOf fs) h = let some = h.0 in let many = fields_as_many fs in omega (arith, some, many)
+
+  all_full : (ds : List TypeDeclaration) → Each (λ d. DefinitionCounted d.definition) ds → Each HasFields (map (λ d. declared_as p d.definition) ds)
+  all_full [] h = tt
+  all_full (d ∷ ds) h = (declared_full d.definition h.0, all_full ds h.1)
+
+pub meant_fields : (t : Tree) → WellFormed t → HaveFields (program_of t)
+meant_fields t formed = all_full t t.types formed.counted.definitions
