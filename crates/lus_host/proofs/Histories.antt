@@ -12,7 +12,7 @@ use Rattle.lus_requests.specs.declared.request.Entry.{Entry}
 use Rattle.lus_history.specs.Histories.{History}
 use Rattle.lus_machine.specs.declared.error.CallError.{CallError}
 use Rattle.lus_shared.specs.declared.shared.Journal.{Journal}
-use Rattle.lus_callers.specs.Served.{AllServed, IsHistoryOf}
+use Rattle.lus_callers.specs.Served.{AllCounted, AllServed, IsHistoryOf}
 use Rattle.lus_requests.specs.declared.call.Call.{Call}
 use Rattle.lus_requests.specs.declared.call.Caller.{Caller}
 use Rattle.lus_host.specs.Runs.{AreHistories, IsServed}
@@ -22,9 +22,9 @@ use Rattle.lus_scripts.specs.View.{calls_kept, instance_kept}
 use Rattle.lus_scripts.specs.declared.scripts.Instance.{Instance}
 use Rattle.lus_scripts.proofs.ReadScripts.{parts}
 
-pub both_ok : {X E : Type 0} (r : Result X E) {P Q R : X → Type 0} → IfOk r P → IfOk r Q → ((x : X) → P x → Q x → R x) → IfOk r R
-both_ok (Ok x) p q f = f x p q
-both_ok (Err e) p q f = tt
+pub all_ok : {X E : Type 0} (r : Result X E) {P Q R S : X → Type 0} → IfOk r P → IfOk r Q → IfOk r R → ((x : X) → P x → Q x → R x → S x) → IfOk r S
+all_ok (Ok x) p q r f = f x p q r
+all_ok (Err e) p q r f = tt
 
 -- ---- what a run over seats requires
 
@@ -80,8 +80,8 @@ is_none_of None h = refl
 is_none_of (Some e) h = absurd (cc)
 
 module _ (p : Program) (s : Scripts) (wants : List (Option CallError)) (shares : List (List ℕ)) (histories : List (List Entry))
-    (all : AllServed true s.calls wants shares histories) where
-  served_by : (c : ℕ) → c < length s.calls → IsServed (item [] s.calls c) c histories (item true (map is_none wants) c)
+    (n : ℕ) (counted : AllCounted n shares histories) (all : AllServed true s.calls wants shares histories) where
+  served_by : (c : ℕ) → c < length s.calls → IsServed (item [] s.calls c) c histories (item [] shares c) (item true (map is_none wants) c)
   served_by c within =
       let by = all.each c within in
       let there : c < length wants = omega (arith, all.wanted) in
@@ -91,6 +91,7 @@ module _ (p : Program) (s : Scripts) (wants : List (Option CallError)) (shares :
         within = by.within;
         is_whole = (λ h. by.whole.0 (none_of (item None wants c) (sym same ∙ h)), λ h. same ∙ is_none_of (item None wants c) (by.whole.1 h));
         made = by.entered refl;
+        share = by.counted;
       }
 
   pub histories_are : AllZip (λ i h. History p i.place h) s.instances histories → AreHistories p s (list_all (λ w. not (is_some w)) wants) histories
@@ -98,6 +99,9 @@ module _ (p : Program) (s : Scripts) (wants : List (Option CallError)) (shares :
     legal = legal;
     whole = map is_none wants;
     count = length-map wants is_none ∙ all.wanted;
+    shares = shares;
+    shared = all.shared;
     served = served_by;
+    entries = λ i within. (counted.each i (omega (arith, within, counted.count))).counted;
     all = sym (list_all-map (λ w. w) is_none wants);
   }

@@ -1,6 +1,6 @@
 -- What a run of scripts is: histories of its instances, in which callers made their calls in order, and the text of the journals.
 use Rattle.std.specs.Prelude.{◌≡◌, ◌↔◌, ◌<◌, ◌≤◌, ℕ, Bool, true, List, [], ◌∷◌, length, map, take, Option}
-use Rattle.std.specs.List.{AllZip, list_all}
+use Rattle.std.specs.List.{AllZip, list_all, sum_by}
 use Rattle.lus_values.specs.Lists.{item}
 use Rattle.lus_program.specs.Programs.{Program}
 use Rattle.lus_requests.specs.declared.request.Entry.{Entry}
@@ -15,19 +15,25 @@ use Rattle.lus_devices.specs.Journals.{Journal, journals_text}
 use Rattle.lus_host.specs.ScriptRefusals.{AreScripts}
 use Rattle.lus_scripts.specs.Scripts.{Instance, Scripts}
 
--- a front of a caller's calls was made: on each instance, the caller's entries have the requests of the front's calls on it
-pub record IsServed (calls : List Call) (caller : ℕ) (histories : List (List Entry)) (whole : Bool) : Type 0 where
+-- a front of a caller's calls was made: on each instance, the caller's entries have the requests of the front's calls on it, and
+-- its share are as many
+pub record IsServed (calls : List Call) (caller : ℕ) (histories : List (List Entry)) (shares : List ℕ) (whole : Bool) : Type 0 where
   pub front : ℕ
   pub within : front ≤ length calls
   pub is_whole : (whole ≡ true) ↔ (front ≡ length calls)
   pub made : (i : ℕ) → i < length histories → requests_of (kept (item [] histories i) caller) ≡ requests_on i (take front calls)
+  pub share : (i : ℕ) → i < length histories → item 0 shares i ≡ length (requests_on i (take front calls))
 
--- a history of each instance's node, with a front of each caller's calls; all is done where each front is a whole script
+-- a history of each instance's node, with a front of each caller's calls, and as many entries as these; all is done where each front
+-- is a whole script
 pub record AreHistories (p : Program) (s : Scripts) (done : Bool) (histories : List (List Entry)) : Type 0 where
   pub legal : AllZip (λ i h. History p i.place h) s.instances histories
   pub whole : List Bool
   pub count : length whole ≡ length s.calls
-  pub served : (c : ℕ) → c < length s.calls → IsServed (item [] s.calls c) c histories (item true whole c)
+  pub shares : List (List ℕ)
+  pub shared : length shares ≡ length s.calls
+  pub served : (c : ℕ) → c < length s.calls → IsServed (item [] s.calls c) c histories (item [] shares c) (item true whole c)
+  pub entries : (i : ℕ) → i < length histories → sum_by (λ s. item 0 s i) shares ≡ length (item [] histories i)
   pub all : done ≡ list_all (λ w. w) whole
 
 -- each instance's history, with its names

@@ -7,7 +7,7 @@ use Rattle.lus_code.specs.Codes.{program_of}
 use Rattle.lus_callers.specs.Served.{AllServed, IsHistoryOf}
 use Rattle.lus_requests.specs.declared.call.Caller.{Caller}
 use Rattle.lus_scripts.specs.View.{scripts_seen}
-use Rattle.lus_host.proofs.Histories.{both_ok, histories_are, known_nodes, legal_of}
+use Rattle.lus_host.proofs.Histories.{all_ok, histories_are, known_nodes, legal_of}
 use Rattle.lus_host.proofs.answering.histories_of.Goals as goal
 
 pub run_seated-requires-clause-nodes : goal.run_seated-requires-clause-nodes
@@ -22,7 +22,7 @@ returns-in-Ok-clause-ok g c =
     let p = program_of (arc_value c.args.program.now) in
     let is = c.args.scripts.now.instances.items in
     let same : c.deref-in-Ok.result.now ≡ map (λ i. i.id) is = c.deref-in-Ok.ensures.value ∙ c.in-Ok.ensures ∙ ap (map (λ i. i.id)) c.deref.ensures.value in
-    both_ok c.run_seated.result c.run_seated.ensures.legal c.run_seated.ensures.served (λ r legal served.
-    histories_are p (scripts_seen c.args.scripts.now) r.wants.items (map (λ s. s.items) r.shares.items) (map (λ j. j.entries.items) r.journals.items)
+    all_ok c.run_seated.result c.run_seated.ensures.legal c.run_seated.ensures.counted c.run_seated.ensures.served (λ r legal counted served.
+    histories_are p (scripts_seen c.args.scripts.now) r.wants.items (map (λ s. s.items) r.shares.items) (map (λ j. j.entries.items) r.journals.items) _ counted
     (subst (λ (vs : List Caller). AllServed true (map (λ v. v.calls.items) vs) r.wants.items (map (λ s. s.items) r.shares.items) (map (λ j. j.entries.items) r.journals.items)) c.deref-in-Ok-2.ensures.value served)
     (legal_of p is r.journals.items (subst (λ (fs : List NodeId). AllZip (λ f j. IsHistoryOf p f.0 j.entries.items) fs r.journals.items) same legal)))
