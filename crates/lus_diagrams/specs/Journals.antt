@@ -1,0 +1,114 @@
+-- Which lines are those of journals.
+use Rattle.std.specs.Prelude.{◌≡◌, ◌==◌, ◌&&◌, ◌+◌, ℕ, Bool, false, List, [], ◌∷◌, ◌++◌, length, codes, ⊤}
+use Rattle.std.specs.Prelude.{Option, Some, None, is_none, option_map, Result, Ok, Err, if◌then◌else◌}
+use Rattle.std.specs.List.{slice_split}
+use Rattle.std.specs.Option.{option_map_or}
+use Rattle.std.specs.Str.{bytes_eq}
+use Rattle.lus_diagrams.specs.Texts.{Text, cut, ◌>>=◌}
+use Rattle.lus_diagrams.specs.Words.{is_decimal, is_name}
+use Rattle.lus_diagrams.specs.Items.{item_count}
+use Rattle.lus_diagrams.specs.Entries.{Entry, Request, Reply, step as asked_step, reset, save, restore, outputs, done, refused, entry_of}
+use Rattle.lus_diagrams.specs.declared.error.JournalError.{JournalError}
+use Rattle.lus_diagrams.specs.declared.error.JournalError.TheVariants.{Line, Memory}
+use Rattle.lus_diagrams.specs.declared.journal.Arity.{Arity}
+
+-- the history of an instance of a node, which begins at a line, counted from 1
+pub record Journal : Type 0 where
+  pub line : ℕ
+  pub instance : Text
+  pub node : Text
+  pub arity : Option Arity
+  pub entries : List Entry
+
+-- ---- the first line and the last
+
+abbrev pub head_of : Text → Option (Text × Text)
+head_of line = do
+  p ← cut 32 line
+  q ← cut 32 p.1
+  if bytes_eq p.0 (codes "instance") && (is_name q.0 && is_name q.1) then Some (q.0, q.1) else None
+
+abbrev pub is_count_at : ℕ → Option (Text × Text) → Bool
+is_count_at n None = false
+is_count_at n (Some p) = bytes_eq p.0 (codes "entries") && is_decimal n p.1
+
+-- `entries n`
+abbrev pub is_count : ℕ → Text → Bool
+is_count n line = is_count_at n (cut 32 line)
+
+-- ---- accepted instants of one instance have as many inputs and outputs
+
+abbrev pub arity_between : Request → Reply → Option Arity
+arity_between (asked_step i) (outputs o) = Some (record { inputs = item_count i; outputs = item_count o })
+arity_between (asked_step i) done = None
+arity_between (asked_step i) (refused why) = None
+arity_between reset r = None
+arity_between (save s) r = None
+arity_between (restore s) r = None
+
+abbrev pub arity_of : Entry → Option Arity
+arity_of e = arity_between e.request e.reply
+
+abbrev pub arity_with : Option Arity → Option Arity → Option (Option Arity)
+arity_with None new = Some new
+arity_with (Some a) None = Some (Some a)
+arity_with (Some a) (Some b) = if (a.inputs == b.inputs) && (a.outputs == b.outputs) then Some (Some a) else None
+
+-- ---- line by line
+
+abbrev pub begun : ℕ → Text → Option Journal
+begun n line = option_map (λ p. record { line = n; instance = p.0; node = p.1; arity = None; entries = [] }) (head_of line)
+
+abbrev pub with_entry : Journal → Text → Option Journal
+with_entry j line = do
+  e ← entry_of (length j.entries + 1) line
+  s ← arity_with j.arity (arity_of e)
+  Some (record { line = j.line; instance = j.instance; node = j.node; arity = s; entries = j.entries ++ e ∷ [] })
+
+-- the journals that were read whole, and the one whose last line is still to come
+pub record Reading : Type 0 where
+  pub whole : List Journal
+  pub open_one : Option Journal
+
+abbrev pub opened : List Journal → Option Journal → Option Reading
+opened js o = option_map (λ j. record { whole = js; open_one = Some j }) o
+
+abbrev pub step_within : List Journal → Journal → Text → Option Reading
+step_within js j line =
+    if is_count (length j.entries) line then Some (record { whole = js ++ j ∷ []; open_one = None })
+    else opened js (with_entry j line)
+
+abbrev pub step_at : ℕ → List Journal → Option Journal → Text → Option Reading
+step_at n js None line = opened js (begun n line)
+step_at n js (Some j) line = step_within js j line
+
+-- the nth line
+abbrev pub step : ℕ → Reading → Text → Option Reading
+step n r line = step_at n r.whole r.open_one line
+
+-- nothing stands behind the last line feed
+abbrev pub ended : ℕ → Reading → Text → Result (List Journal) ℕ
+ended n r line = if is_none r.open_one && length line == 0 then Ok r.whole else Err n
+
+-- the journals of lines from the nth on, or the number of the first that is none of a journal there
+abbrev pub run : ℕ → Reading → List Text → Result (List Journal) ℕ
+run n r [] = Err n
+run n r (l ∷ ls) = if length ls == 0 then ended n r l else option_map_or (λ s. run (n + 1) s ls) (step n r l) (Err n)
+
+abbrev pub nothing_read : Reading
+nothing_read = record { whole = []; open_one = None }
+
+-- the journals of a text
+abbrev pub journals_of : Text → Result (List Journal) ℕ
+journals_of text = run 1 nothing_read (slice_split (λ b. b == 10) text)
+
+-- ---- faults, but for want of memory
+
+-- the nth line is what is at fault
+abbrev pub IsFault : {A : Type 0} → ℕ → JournalError → Option A → Type 0
+IsFault n Memory r = ⊤
+IsFault n (Line k) r = (k ≡ n) × (r ≡ None)
+
+abbrev pub IsFaultOf : JournalError → Result (List Journal) ℕ → Type 0
+IsFaultOf Memory r = ⊤
+IsFaultOf (Line n) r = r ≡ Err n

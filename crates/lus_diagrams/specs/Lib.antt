@@ -1,0 +1,14 @@
+pub mod Texts
+pub mod Words
+pub mod Items
+pub mod Entries
+pub mod View
+pub mod Journals
+pub mod JournalView
+pub mod Columns
+pub mod ColumnView
+pub mod Plain
+pub mod Shapes
+pub mod ShapeView
+pub mod Pictures
+pub mod Documents

@@ -1,0 +1,177 @@
+//! Journals, read line by line.
+
+ghost use Rattle.std.specs.Prelude.{◌≡◌, ◌<◌, ◌^◌, ◌-◌, IfOk, IfErr, Ok, Some, map, option_map};
+ghost use Rattle.lus_diagrams.specs.Journals.{IsFault, IsFaultOf, begun, head_of, is_count, ended, journals_of, arity_of, arity_with, step, with_entry};
+ghost use Rattle.lus_diagrams.specs.View.{entry_seen};
+ghost use Rattle.lus_diagrams.specs.JournalView.{journal_seen, reading};
+
+use crate::cutting::{cut, parts};
+use crate::entry::{Entry, Reply, Request, read_entry};
+use crate::error::JournalError;
+use crate::items::item_count;
+use crate::names::{is_decimal, is_name};
+use std::alloc::Global;
+
+/// How many inputs and outputs the accepted instants of an instance have.
+#[derive(Clone, Copy)]
+pub struct Arity {
+    pub inputs: usize,
+    pub outputs: usize,
+}
+
+/// The history of an instance of a node. The line of its first line is counted from 1; without an accepted instant
+/// it has no arity.
+#[derive(Drop)]
+pub struct Journal<'a> {
+    pub line: u64,
+    pub instance: &'a str,
+    pub node: &'a str,
+    pub arity: Option<Arity>,
+    pub entries: Vec<Entry<'a>>,
+}
+
+/// The names in the first line of a journal.
+fn read_head(line: &str) -> Option<(&str, &str)>
+    ensures { option_map (λ p. (p.0.now, p.1.now)) result ≡ head_of line.now }
+{
+    let (word, rest) = cut(line, ' ')?;
+    let (instance, node) = cut(rest, ' ')?;
+    if word == "instance" && (is_name(instance) && is_name(node)) {
+        Some((instance, node))
+    } else {
+        None
+    }
+}
+
+/// Whether a line is the last of a journal with so many entries.
+fn is_count(count: u64, line: &str) -> bool
+    ensures { result ≡ is_count count line.now }
+{
+    match cut(line, ' ') {
+        Some((word, number)) => word == "entries" && is_decimal(count, number),
+        None => false,
+    }
+}
+
+/// The arity of an accepted instant.
+fn arity_of(entry: &Entry<'_>) -> Option<Arity>
+    ensures { result ≡ arity_of (entry_seen entry.now) }
+{
+    match (entry.request, entry.reply) {
+        (Request::Step(inputs), Reply::Outputs(outputs)) => Some(Arity {
+            inputs: item_count(inputs),
+            outputs: item_count(outputs),
+        }),
+        _ => None,
+    }
+}
+
+/// The arity of an instance once an entry of this arity follows, if they fit.
+fn arity_with(old: Option<Arity>, new: Option<Arity>) -> Option<Option<Arity>>
+    ensures { result ≡ arity_with old new }
+{
+    match (old, new) {
+        (Some(old), Some(new)) => {
+            if old.inputs == new.inputs && old.outputs == new.outputs {
+                Some(Some(old))
+            } else {
+                None
+            }
+        }
+        (Some(old), None) => Some(Some(old)),
+        (None, new) => Some(new),
+    }
+}
+
+fn begin<'a>(alloc: Global, number: u64, line: &'a str) -> Result<Journal<'a>, JournalError>
+    ensures ok { IfOk result (λ j. begun number line.now ≡ Some (journal_seen j)) }
+    ensures refused { IfErr result (λ e. IsFault number e (begun number line.now)) }
+{
+    match read_head(line) {
+        Some((instance, node)) => Ok(Journal {
+            line: number,
+            instance,
+            node,
+            arity: None,
+            entries: Vec::new(alloc),
+        }),
+        None => Err(JournalError::Line(number)),
+    }
+}
+
+/// The journal with the entry of a line.
+fn with_entry<'a>(
+    mut journal: Journal<'a>,
+    number: u64,
+    line: &'a str,
+) -> Result<Journal<'a>, JournalError>
+    ensures ok { IfOk result (λ j. with_entry (journal_seen journal.entry) line.now ≡ Some (journal_seen j)) }
+    ensures refused { IfErr result (λ e. IsFault number e (with_entry (journal_seen journal.entry) line.now)) }
+{
+    let Some(entry) = read_entry(journal.entries.len() as u64 + 1, line) else {
+        return Err(JournalError::Line(number));
+    };
+    let Some(arity) = arity_with(journal.arity, arity_of(&entry)) else {
+        return Err(JournalError::Line(number));
+    };
+    journal.arity = arity;
+    journal.entries.push(entry)?;
+    Ok(journal)
+}
+
+/// Reads the next line, where a journal may be unfinished: gives the one that is unfinished behind it.
+fn read_line<'a>(
+    alloc: Global,
+    whole: &mut Vec<Journal<'a>>,
+    unfinished: Option<Journal<'a>>,
+    number: u64,
+    line: &'a str,
+) -> Result<Option<Journal<'a>>, JournalError>
+    ensures ok { IfOk result (λ later. step number (reading whole.old unfinished.entry) line.now ≡ Some (reading whole.new later)) }
+    ensures refused { IfErr result (λ e. IsFault number e (step number (reading whole.old unfinished.entry) line.now)) }
+{
+    let Some(journal) = unfinished else {
+        return Ok(Some(begin(alloc, number, line)?));
+    };
+    if is_count(journal.entries.len() as u64, line) {
+        whole.push(journal)?;
+        return Ok(None);
+    }
+    Ok(Some(with_entry(journal, number, line)?))
+}
+
+/// The journals, where nothing stands behind the last line feed.
+fn finish<'a>(
+    whole: Vec<Journal<'a>>,
+    unfinished: Option<Journal<'a>>,
+    number: u64,
+    line: &str,
+) -> Result<Vec<Journal<'a>>, JournalError>
+    ensures ok { IfOk result (λ v. ended number (reading whole.entry unfinished.entry) line.now ≡ Ok (map journal_seen v.items)) }
+    ensures refused { IfErr result (λ e. IsFaultOf e (ended number (reading whole.entry unfinished.entry) line.now)) }
+{
+    if unfinished.is_none() && line.is_empty() {
+        Ok(whole)
+    } else {
+        Err(JournalError::Line(number))
+    }
+}
+
+/// The journals of a text, or the first line that is none of a journal there. A text that ends within a journal lacks the
+/// line behind its last.
+pub fn read_journals<'a>(alloc: Global, text: &'a str) -> Result<Vec<Journal<'a>>, JournalError>
+    ensures ok { IfOk result (λ v. journals_of text.now ≡ Ok (map journal_seen v.items)) }
+    ensures refused { IfErr result (λ e. IsFaultOf e (journals_of text.now)) }
+{
+    let lines = parts(alloc, text, '\n')?;
+    let mut whole = Vec::new(alloc);
+    let mut unfinished = None;
+    for (index, line) in lines.iter().enumerate() {
+        let number = index as u64 + 1;
+        if number == lines.len() as u64 {
+            return finish(whole, unfinished, number, line);
+        }
+        unfinished = read_line(alloc, &mut whole, unfinished, number, line)?;
+    }
+    Err(JournalError::Line(lines.len() as u64 + 1))
+}
