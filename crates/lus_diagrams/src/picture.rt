@@ -79,11 +79,11 @@ fn cell_ink(cell: &str, is_input: bool) -> Ink
     }
 }
 
-fn push_cells<'d>(
+fn push_cells<'d, 'a>(
     shapes: &mut Vec<Shape<'d>>,
     spot: Spot,
     inputs: usize,
-    cells: &'d [&'d str],
+    cells: &'d [&'a str],
 ) -> Result<(), AllocError>
     ensures { OnOk result (seen_words shapes.new.items ≡ seen_words shapes.old.items ++ map (λ t. t.now) cells.now) }
 {
@@ -135,12 +135,12 @@ fn push_mark<'d>(
     add(shapes, word)
 }
 
-fn push_column<'d>(
+fn push_column<'d, 'a>(
     shapes: &mut Vec<Shape<'d>>,
     spot: Spot,
     inputs: usize,
     bottom: usize,
-    column: &'d Column<'d>,
+    column: &'d Column<'a>,
 ) -> Result<(), AllocError>
     ensures { OnOk result (seen_words shapes.new.items ≡ seen_words shapes.old.items ++ column_texts (column_seen column.now)) }
 {
@@ -181,9 +181,9 @@ fn push_rule<'d>(
 }
 
 /// The labels of a band, and the lines between its rows.
-fn push_frame<'d>(
+fn push_frame<'d, 'a>(
     shapes: &mut Vec<Shape<'d>>,
-    diagram: &'d Diagram<'d>,
+    diagram: &'d Diagram<'a>,
     y: usize,
     right: usize,
 ) -> Result<(), AllocError>
@@ -205,9 +205,9 @@ fn push_frame<'d>(
 }
 
 /// Draws the columns in bands below each other.
-fn push_columns<'d>(
+fn push_columns<'d, 'a>(
     shapes: &mut Vec<Shape<'d>>,
-    diagram: &'d Diagram<'d>,
+    diagram: &'d Diagram<'a>,
     start: usize,
     top: usize,
 ) -> Result<Extent, AllocError>
@@ -242,9 +242,9 @@ fn push_columns<'d>(
 }
 
 /// The names of an instance and of its node.
-fn push_heading<'d>(
+fn push_heading<'d, 'a>(
     shapes: &mut Vec<Shape<'d>>,
-    diagram: &'d Diagram<'d>,
+    diagram: &'d Diagram<'a>,
     y: usize,
 ) -> Result<(), AllocError>
     ensures { OnOk result (seen_words shapes.new.items ≡ seen_words shapes.old.items) }
@@ -266,9 +266,9 @@ fn push_heading<'d>(
 }
 
 /// The lines of the refused calls.
-fn push_refused<'d>(
+fn push_refused<'d, 'a>(
     shapes: &mut Vec<Shape<'d>>,
-    lines: &'d [&'d str],
+    lines: &'d [&'a str],
     top: usize,
 ) -> Result<Extent, AllocError>
     ensures { OnOk result (seen_words shapes.new.items ≡ seen_words shapes.old.items) }
@@ -291,9 +291,9 @@ fn push_refused<'d>(
     Ok(extent)
 }
 
-fn push_diagram<'d>(
+fn push_diagram<'d, 'a>(
     shapes: &mut Vec<Shape<'d>>,
-    diagram: &'d Diagram<'d>,
+    diagram: &'d Diagram<'a>,
     top: usize,
 ) -> Result<Extent, AllocError>
     ensures { OnOk result (seen_words shapes.new.items ≡ seen_words shapes.old.items ++ flat_map (λ c. column_texts (column_seen c)) diagram.now.columns.items) }
@@ -311,7 +311,7 @@ fn push_diagram<'d>(
 
 /// The picture of diagrams, one below the other. The words of its columns are those of the diagrams' tables, column by
 /// column, each from its title down.
-pub fn draw<'d>(alloc: Global, diagrams: &'d [Diagram<'d>]) -> Result<Picture<'d>, AllocError>
+pub fn draw<'d, 'a>(alloc: Global, diagrams: &'d [Diagram<'a>]) -> Result<Picture<'d>, AllocError>
     ensures { IfOk result (λ p. seen_words p.shapes.items ≡ flat_map diagram_words diagrams.now) }
 {
     let mut shapes = Vec::new(alloc);
