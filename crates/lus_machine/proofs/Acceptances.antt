@@ -6,10 +6,7 @@ use Rattle.lus_syntax.specs.declared.refusal.RefusalNumber.{RefusalNumber}
 use Rattle.lus_syntax.specs.declared.refusal.RefusalNumber.TheVariants as numbers
 use Rattle.lus_syntax.specs.Lexemes.{Lexeme, Text}
 use Rattle.lus_syntax.specs.declared.refusal.Refusal.{Refusal}
-use Rattle.lus_syntax.specs.declared.token.Place.{Place}
 use Rattle.lus_syntax.specs.Limits.{most_bytes, most_depth}
-use Rattle.lus_syntax.specs.Places.{start}
-use Rattle.lus_syntax.specs.Tokens.{Faulty, IsAt}
 use Rattle.lus_syntax.specs.Trees.{Tree}
 use Rattle.lus_syntax.proofs.Unique as unique
 use Rattle.lus_spelling.specs.Declarations.{SpellsProgram, tree_depth}

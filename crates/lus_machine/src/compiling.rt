@@ -1,6 +1,6 @@
 //! From a text to a program, pass by pass.
 
-ghost use Rattle.std.specs.Prelude.{◌≡◌, ◌≢◌, IfOk, IfErr, OnOk};
+ghost use Rattle.std.specs.Prelude.{◌≢◌, IfOk, IfErr, OnOk};
 ghost use Rattle.lus_syntax.specs.declared.refusal.RefusalNumber.TheVariants as numbers;
 ghost use Rattle.lus_syntax.specs.Refusals.{HasShape};
 ghost use Rattle.lus_syntax.specs.View.{tree_seen};
