@@ -2,7 +2,7 @@
 #![tactic(auto)]
 
 use lus_cli::{Fault, command, tell};
-use lus_host::Output;
+use lus_devices::{Disk, Output};
 use std::env;
 use std::io::ErrorKind;
 use std::process::ExitCode;
@@ -22,11 +22,13 @@ fn words(rt: &HostRuntime) -> Result<Vec<String>, Fault> {
 }
 
 fn main(rt: HostRuntime) -> ExitCode {
+    let disk = Disk(&rt);
     let mut output = Output(rt.stdout());
     let mut faults = Output(rt.stderr());
     let status = match words(&rt) {
-        Ok(words) => command(&rt, &words, &mut output, &mut faults),
+        Ok(words) => command(&rt, &disk, &words, &mut output, &mut faults),
         Err(fault) => tell(rt.alloc(), &mut faults, fault),
     };
+    let Disk(_) = disk;
     ExitCode::from(status)
 }

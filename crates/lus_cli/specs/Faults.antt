@@ -1,6 +1,6 @@
 -- How a command ends short: the status of the process, and the line on standard error.
-use Rattle.std.specs.Prelude.{◌≡◌, ◌≢◌, ◌⊎◌, ℕ, ◌++◌, codes, Option}
-use Rattle.lus_devices.specs.Devices.{Bytes, WritesBeginning, one_more, with_text}
+use Rattle.std.specs.Prelude.{◌≡◌, ◌⊎◌, ℕ, ◌++◌, codes, Bool, true, false, Result, Ok, Err}
+use Rattle.lus_devices.specs.Devices.{WritesBeginning, with_text}
 use Rattle.lus_callers.specs.declared.threads.HostError.{HostError}
 use Rattle.lus_callers.specs.declared.threads.HostError.TheVariants as hosts
 use Rattle.lus_host.specs.declared.error.RunError.{RunError}
@@ -11,6 +11,7 @@ use Rattle.lus_syntax.specs.Refusals.{refusal_text}
 use Rattle.lus_syntax.specs.declared.refusal.Refusal.{Refusal}
 use Rattle.lus_syntax.specs.declared.refusal.RefusalNumber.{RefusalNumber}
 use Rattle.lus_syntax.specs.declared.refusal.RefusalNumber.TheVariants as numbers
+use Rattle.lus_cli.specs.Changes.{Change, HasFailed, IsSound}
 use Rattle.lus_cli.specs.CommandLine.{Text}
 use Rattle.lus_cli.specs.declared.words.WordsError.{WordsError}
 use Rattle.lus_cli.specs.declared.words.WordsError.TheVariants as words
@@ -74,18 +75,19 @@ abbrev pub fault_line : Fault → Text
 fault_line f = codes "error " ++ fault_text f ++ codes "\n"
 
 -- the line is written whole, or the device failed once and a beginning of it is written
-abbrev pub Told : Text → Option Bytes → Option Bytes → Option ℕ → Option ℕ → Type 0
-Told line old new before after =
-    ((new ≡ with_text old line) × (after ≡ before)) ⊎ (WritesBeginning old new line × (after ≡ one_more before))
+abbrev pub Told : Text → Change → Type 0
+Told line c = ((c.new ≡ with_text c.old line) × IsSound c) ⊎ (WritesBeginning c.old c.new line × HasFailed c)
 
 -- the status and the line are the fault's, or those of want of memory
-abbrev pub IsToldBy : ℕ → Fault → Option Bytes → Option Bytes → Option ℕ → Option ℕ → Type 0
-IsToldBy status f old new before after =
-    ((status ≡ fault_status f) × Told (fault_line f) old new before after)
-    ⊎ ((status ≡ 4) × Told (codes "error memory\n") old new before after)
+abbrev pub IsToldBy : ℕ → Fault → Change → Type 0
+IsToldBy status f c = ((status ≡ fault_status f) × Told (fault_line f) c) ⊎ ((status ≡ 4) × Told (codes "error memory\n") c)
 
--- the output failed where the fault is its own; unless memory was wanted, nothing else has written to it
-abbrev pub IsLeftBy : Fault → Option Bytes → Option Bytes → Option ℕ → Option ℕ → Type 0
-IsLeftBy f old new before after =
-    (f ≡ faults.Output → after ≡ one_more before) × (f ≢ faults.Output → after ≡ before)
-    × (f ≢ faults.Output → f ≢ faults.Memory → new ≡ old)
+-- what became of a task: it is done, or a fault ended it
+abbrev pub Outcome : Type 0
+Outcome = Result (Unit {0}) Fault
+
+-- a run in which a caller ran out is ended by want of memory, once its journals are written
+abbrev pub run_outcome : Result Bool RunError → Outcome
+run_outcome (Ok true) = Ok tt
+run_outcome (Ok false) = Err faults.Memory
+run_outcome (Err e) = Err (run_fault e)

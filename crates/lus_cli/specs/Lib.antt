@@ -1,2 +1,4 @@
+pub mod Changes
 pub mod CommandLine
+pub mod Ends
 pub mod Faults

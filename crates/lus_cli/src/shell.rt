@@ -1,24 +1,23 @@
-//! The command line over files.
+//! The command line over a folder.
 
-ghost use Rattle.std.specs.Prelude.{◌≡◌, ◌≢◌, ◌⊎◌, IfErr, OnOk, None, Err, map, string_bytes};
+ghost use Rattle.std.specs.Prelude.{◌≡◌, ◌⊎◌, map, string_bytes};
+ghost use Rattle.lus_cli.specs.Changes.{IsUntouched, change};
 ghost use Rattle.lus_cli.specs.CommandLine.{asked};
-ghost use Rattle.lus_cli.specs.Faults.{IsLeftBy, IsToldBy};
-ghost use Rattle.lus_cli.specs.declared.fault.Fault.{Fault as AFault};
+ghost use Rattle.lus_cli.specs.Ends.{CheckEnds, Ends, ReadFails, RunEnds, TaskEnds};
+ghost use Rattle.lus_cli.specs.Faults.{IsToldBy, run_outcome};
 
 use crate::fault::Fault;
 use crate::words::{Task, read_words};
-use lus_host::{Input, OpenGate, Sink, check, run, write_all};
+use lus_devices::Folder;
+use lus_host::{OpenGate, RunError, Sink, check, run, write_all};
 use std::alloc::Global;
-use std::fs;
-use std::io::Read;
-use std::rt::Files;
 use std::sync::Wait;
 use std::thread::Threads;
 
 /// Writes the fault's line and gives its status. A line that can't be written changes no status; one for which there is no
 /// memory is want of memory.
 pub fn tell<F: Sink>(alloc: Global, faults: &mut F, fault: Fault) -> u8
-    ensures { IsToldBy result fault (F.written faults.old) (F.written faults.new) (F.failures faults.old) (F.failures faults.new) }
+    ensures { IsToldBy result fault (change (F.written faults.old) (F.written faults.new) (F.failures faults.old) (F.failures faults.new)) }
 {
     match format!(in alloc; "error {fault}\n") {
         Ok(line) => {
@@ -32,89 +31,91 @@ pub fn tell<F: Sink>(alloc: Global, faults: &mut F, fault: Fault) -> u8
     }
 }
 
-fn open<R: Files>(rt: &R, name: &str) -> Result<Input<R::File>, Fault>
-    ensures { IfErr result (λ fault. fault ≡ Fault.File) }
-{
-    match fs::open(rt, name) {
-        Ok(file) => Ok(Input(file)),
-        Err(_) => Err(Fault::File),
-    }
-}
-
-fn check_file<R: Files + AllocGlobal, O: Sink>(
-    rt: &R,
+fn check_file<D: Folder, O: Sink>(
+    alloc: Global,
+    folder: &D,
     program: &str,
     output: &mut O,
 ) -> Result<(), Fault>
-    ensures quiet { OnOk result (O.failures output.new ≡ O.failures output.old) }
-    ensures left { IfErr result (λ fault. IsLeftBy fault (O.written output.old) (O.written output.new) (O.failures output.old) (O.failures output.new)) }
+    ensures { CheckEnds (ReadFails D.File D.File.failures) (D.known folder.now program.now) result
+        (change (O.written output.old) (O.written output.new) (O.failures output.old) (O.failures output.new)) }
 {
-    let mut program = open(rt, program)?;
-    check(rt.alloc(), &mut program, output)?;
+    let Ok(mut program) = folder.open(program) else {
+        return Err(Fault::File);
+    };
+    check(alloc, &mut program, output)?;
     Ok(())
 }
 
+/// How a run ended: one in which a caller ran out did so for want of memory.
+fn ended(ran: Result<bool, RunError>) -> Result<(), Fault>
+    ensures { result ≡ run_outcome ran }
+{
+    match ran {
+        Ok(true) => Ok(()),
+        Ok(false) => Err(Fault::Memory),
+        Err(error) => Err(Fault::from(error)),
+    }
+}
+
 /// Both files are opened before either is read. Where a caller ran out of something, the journals are written all the same.
-fn run_files<R: Files + AllocGlobal + Threads + Wait + Sync, O: Sink>(
+fn run_files<D: Folder, O: Sink, R: AllocGlobal + Threads + Wait + Sync>(
     rt: &R,
+    folder: &D,
     program: &str,
     scripts: &str,
     output: &mut O,
 ) -> Result<(), Fault>
-    ensures quiet { OnOk result (O.failures output.new ≡ O.failures output.old) }
-    ensures left { IfErr result (λ fault. IsLeftBy fault (O.written output.old) (O.written output.new) (O.failures output.old) (O.failures output.new)) }
+    ensures { RunEnds (ReadFails D.File D.File.failures) (D.known folder.now program.now) (D.known folder.now scripts.now) result
+        (change (O.written output.old) (O.written output.new) (O.failures output.old) (O.failures output.new)) }
 {
-    let mut program = open(rt, program)?;
-    let mut scripts = open(rt, scripts)?;
-    if run(
+    let Ok(mut program) = folder.open(program) else {
+        return Err(Fault::File);
+    };
+    let Ok(mut scripts) = folder.open(scripts) else {
+        return Err(Fault::File);
+    };
+    ended(run(
         rt,
         rt.alloc(),
         &mut program,
         &mut scripts,
         output,
         &OpenGate,
-    )? {
-        Ok(())
-    } else {
-        Err(Fault::Memory)
-    }
+    ))
 }
 
-fn perform<R: Files + AllocGlobal + Threads + Wait + Sync, O: Sink>(
+fn perform<D: Folder, O: Sink, R: AllocGlobal + Threads + Wait + Sync>(
     rt: &R,
+    folder: &D,
     words: &[String],
     output: &mut O,
 ) -> Result<(), Fault>
-    ensures words { asked (map string_bytes words.now) ≡ None → (result ≡ Err Fault.Words) ⊎ (result ≡ Err Fault.Memory) }
-    ensures untouched { asked (map string_bytes words.now) ≡ None → O.written output.new ≡ O.written output.old }
-    ensures quiet { OnOk result (O.failures output.new ≡ O.failures output.old) }
-    ensures left { IfErr result (λ fault. IsLeftBy fault (O.written output.old) (O.written output.new) (O.failures output.old) (O.failures output.new)) }
+    ensures { TaskEnds (ReadFails D.File D.File.failures) (D.known folder.now) (asked (map string_bytes words.now)) result
+        (change (O.written output.old) (O.written output.new) (O.failures output.old) (O.failures output.new)) }
 {
     match read_words(rt.alloc(), words)? {
-        Task::Check { program } => check_file(rt, program, output),
-        Task::Run { program, scripts } => run_files(rt, program, scripts, output),
+        Task::Check { program } => check_file(rt.alloc(), folder, program, output),
+        Task::Run { program, scripts } => run_files(rt, folder, program, scripts, output),
     }
 }
 
-/// Does what the words ask for, with standard output and a device for the line of a fault, and gives the status of the
-/// process: 0 where all is done, else that of the fault which ended it.
-pub fn command<R: Files + AllocGlobal + Threads + Wait + Sync, O: Sink, F: Sink>(
+/// Does what the words ask for over the files of a folder, with a device for the output and one for the line of a fault, and
+/// gives the status of the process: 0 where all is done, else that of the fault which ended it.
+pub fn command<D: Folder, O: Sink, F: Sink, R: AllocGlobal + Threads + Wait + Sync>(
     rt: &R,
+    folder: &D,
     words: &[String],
     output: &mut O,
     faults: &mut F,
 ) -> u8
-    ensures words { asked (map string_bytes words.now) ≡ None
-        → IsToldBy result Fault.Words (F.written faults.old) (F.written faults.new) (F.failures faults.old) (F.failures faults.new)
-        ⊎ IsToldBy result Fault.Memory (F.written faults.old) (F.written faults.new) (F.failures faults.old) (F.failures faults.new) }
-    ensures untouched { asked (map string_bytes words.now) ≡ None → O.written output.new ≡ O.written output.old }
+    ensures ends { Ends (ReadFails D.File D.File.failures) (D.known folder.now) (asked (map string_bytes words.now))
+        (change (O.written output.old) (O.written output.new) (O.failures output.old) (O.failures output.new))
+        (change (F.written faults.old) (F.written faults.new) (F.failures faults.old) (F.failures faults.new)) result }
     ensures kept { (result ≡ 1) ⊎ (result ≡ 2) → O.written output.new ≡ O.written output.old }
     ensures quiet { result ≡ 0 → (F.written faults.new ≡ F.written faults.old) × (O.failures output.new ≡ O.failures output.old) }
-    ensures told { result ≢ 0 → (fault : AFault)
-        × IsToldBy result fault (F.written faults.old) (F.written faults.new) (F.failures faults.old) (F.failures faults.new)
-        × IsLeftBy fault (O.written output.old) (O.written output.new) (O.failures output.old) (O.failures output.new) }
 {
-    match perform(rt, words, output) {
+    match perform(rt, folder, words, output) {
         Ok(()) => 0,
         Err(fault) => tell(rt.alloc(), faults, fault),
     }
