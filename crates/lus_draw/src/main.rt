@@ -1,0 +1,39 @@
+//! `lus_draw [--svg] JOURNAL [PROGRAM]` draws the journals that `lus` printed, as text or as a picture.
+#![tactic(auto)]
+
+mod drawing;
+mod fault;
+mod labels;
+mod shell;
+mod words;
+
+use crate::fault::Fault;
+use crate::shell::{command, tell};
+use lus_host::Output;
+use std::env;
+use std::io::ErrorKind;
+use std::process::ExitCode;
+
+/// The words after the program's own name. Words that are no text ask for nothing.
+fn given_words(rt: &HostRuntime) -> Result<Vec<String>, Fault> {
+    match env::args(rt) {
+        Ok(arguments) => match arguments.skip(1).collect(rt.alloc()) {
+            Ok(words) => Ok(words),
+            Err(_) => Err(Fault::Memory),
+        },
+        Err(error) => Err(match error.kind() {
+            ErrorKind::OutOfMemory => Fault::Memory,
+            _ => Fault::Words,
+        }),
+    }
+}
+
+fn main(rt: HostRuntime) -> ExitCode {
+    let mut output = Output(rt.stdout());
+    let mut faults = Output(rt.stderr());
+    let status = match given_words(&rt) {
+        Ok(words) => command(&rt, &words, &mut output, &mut faults),
+        Err(fault) => tell(rt.alloc(), &mut faults, fault),
+    };
+    ExitCode::from(status)
+}
