@@ -1,0 +1,4 @@
+pub mod Lines
+pub mod Sentences
+pub mod Explanations
+pub mod CommandLine
