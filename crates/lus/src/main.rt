@@ -29,6 +29,5 @@ fn main(rt: HostRuntime) -> ExitCode {
         Ok(words) => command(&rt, &disk, &words, &mut output, &mut faults),
         Err(fault) => tell(rt.alloc(), &mut faults, fault),
     };
-    let Disk(_) = disk;
     ExitCode::from(status)
 }
