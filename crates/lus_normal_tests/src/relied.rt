@@ -31,9 +31,9 @@ pub fn check_flags(alloc: Global, program: &Program) -> Result<(), Refusal>
 
 /// Orders each node's variables, or tells a cycle of variables that need each other.
 pub fn order_variables(alloc: Global, initialised: Initialised) -> Result<Ordered, Refusal>
-    ensures order { IfOk result (λ ordered. AreOrders (program_seen initialised.program) ordered.orders) }
+    ensures order { IfOk result (λ ordered. AreOrders (program_seen initialised) ordered.orders) }
     ensures refused { IfErr result (λ e. e.number ≢ numbers.Memory → e.number ≡ numbers.Cycle) }
-    ensures cycle { IfErr result (λ e. e.number ≡ numbers.Cycle → TellsCycleOf initialised.program e) }
+    ensures cycle { IfErr result (λ e. e.number ≡ numbers.Cycle → TellsCycleOf initialised e) }
 {
     order(alloc, initialised)
 }
