@@ -9,10 +9,10 @@ use std::sync::Wait;
 use std::test::Fail;
 use std::thread::Threads;
 
-const PROGRAM: &str =
-    "node m(a: int; b: int) returns (y: int); let y = a * b + 1; tel\n";
+const PROGRAM: &str = "node m(a: int; b: int) returns (y: int); let y = a * b + 1; tel\n";
 
-const SCRIPTS: &str = r#"{"instances":[{"name":"k","node":"m"}],"callers":[{"name":"a","calls":[{"on":"k","step":[2,3]},{"on":"k","step":[-4,5]}]}]}"#;
+const SCRIPTS: &str =
+    r#"{"instances":[{"name":"k","node":"m"}],"callers":[{"name":"a","calls":[{"on":"k","step":[2,3]},{"on":"k","step":[-4,5]}]}]}"#;
 
 const JOURNAL: &str = "instance k m\n1 a step(2, 3) -> (7)\n2 a step(-4, 5) -> (-19)\nentries 2\n";
 
@@ -236,7 +236,10 @@ fn a_failed_line_changes_no_status(rt: HostRuntime) -> Result<(), Fail> {
             },
         )?;
         assert_eq!(rt; end.status, 3, "after {lines} writes");
-        assert_eq!(rt; end.line.as_slice(), &b"error file\n".as_slice()[..lines.min(11)]);
+        assert_eq!(rt;
+            end.line.as_slice(),
+            &b"error file\n".as_slice()[..lines.min(11)]
+        );
     }
     Ok(())
 }

@@ -104,10 +104,16 @@ const MISTAKEN: [(&str, u64); 10] = [
     ("instance k m", 1),
     ("instance k m\n", 2),
     ("instance k m\nentries 1\n", 2),
-    ("instance k m\n1 a step(2, 3) -> (7)\n3 a reset -> done\nentries 2\n", 3),
+    (
+        "instance k m\n1 a step(2, 3) -> (7)\n3 a reset -> done\nentries 2\n",
+        3,
+    ),
     ("instance k m\n1 a step(2, 3) -> done\nentries 1\n", 2),
     ("instance k m\n1 a step(2,3) -> (7)\nentries 1\n", 2),
-    ("instance k m\n1 a step(2) -> (7)\n2 a step(2, 3) -> (7)\nentries 2\n", 3),
+    (
+        "instance k m\n1 a step(2) -> (7)\n2 a step(2, 3) -> (7)\nentries 2\n",
+        3,
+    ),
     ("instance k m\n1 a save 8 -> done\nentries 1\n", 2),
 ];
 

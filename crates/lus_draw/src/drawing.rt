@@ -11,7 +11,8 @@ use std::str;
 /// Whether the accepted instants of a journal have as many inputs and outputs as the node.
 fn fits(journal: &Journal<'_>, node: &Node) -> bool {
     match journal.arity {
-        Some(arity) => arity.inputs == node.inputs as usize && arity.outputs == node.outputs as usize,
+        Some(arity) => arity.inputs == node.inputs as usize
+            && arity.outputs == node.outputs as usize,
         None => true,
     }
 }

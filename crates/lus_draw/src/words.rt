@@ -14,7 +14,9 @@ pub struct Task<'a> {
 }
 
 fn command<'a>(alloc: Global) -> Result<Command<'a>, AllocError> {
-    let svg = Arg::new(alloc, "svg").long("svg").action(ArgAction::SetTrue);
+    let svg = Arg::new(alloc, "svg")
+        .long("svg")
+        .action(ArgAction::SetTrue);
     let journal = Arg::new(alloc, "JOURNAL").required(true);
     let program = Arg::new(alloc, "PROGRAM");
     Command::new(alloc, "lus_draw")

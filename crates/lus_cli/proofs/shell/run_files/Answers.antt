@@ -13,7 +13,7 @@ returns g c =
     let program = g.D.Folder.known c.args.folder.now c.args.program.now in
     let scripts = g.D.Folder.known c.args.folder.now c.args.scripts.now in
     let output : Change = change (g.O.Sink.written c.args.output.now) (g.O.Sink.written c.run.new.output)
-        (g.O.Sink.failures c.args.output.now) (g.O.Sink.failures c.run.new.output) in
+    (g.O.Sink.failures c.args.output.now) (g.O.Sink.failures c.run.new.output) in
     let e = c.run.ensures in
     subst (λ o. RunEnds read_fails program scripts o output) (sym c.ended.ensures)
     (run_ended read_fails program scripts (left c.in-Ok.program) (left c.in-Ok-open.scripts) output
