@@ -1,10 +1,9 @@
 //! What normal forms of small programs keep, and what is taken out of them.
 
-use crate::{Counts, counts_of};
+use crate::{Counts, check_flags, check_on_clocks, counts_of, order_variables};
 use lus_clocks::{check_clocks, check_nil};
 use lus_grammar::parse;
 use lus_normal::{Normal, normalise};
-use lus_order::order;
 use lus_program::{Expr, Node, NodeId};
 use lus_syntax::{Refusal, lex};
 use lus_types::check_types;
@@ -17,9 +16,11 @@ fn normal_of(alloc: Global, text: &str) -> Result<Normal, Refusal> {
     let tokens = lex(alloc, text)?;
     let tree = parse(alloc, &tokens)?;
     let typed = check_types(alloc, tree)?;
+    check_on_clocks(typed.program())?;
     let clocked = check_clocks(typed)?;
+    check_flags(alloc, clocked.program())?;
     let initialised = check_nil(alloc, clocked)?;
-    normalise(alloc, order(alloc, initialised)?)
+    normalise(alloc, order_variables(alloc, initialised)?)
 }
 
 const COUNTER: &str = "node t() returns (n: int); let n = 0 -> pre n + 1; tel";

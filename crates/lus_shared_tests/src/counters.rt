@@ -1,5 +1,5 @@
 //! A node that counts its steps, with two seats.
-ghost use Rattle.std.specs.Prelude.{◌≡◌, IfOk};
+ghost use Rattle.std.specs.Prelude.{◌≡◌, [], IfOk};
 
 use lus_machine::{Machine, compile};
 use lus_program::NodeId;
@@ -9,10 +9,9 @@ use lus_values::{Memory, Row, Value};
 use std::alloc::Global;
 use std::sync::Arc;
 
-/// The counter and its two seats. Its text is right, so a refusal is a want of memory.
-pub(crate) fn a_counter(alloc: Global) -> Result<(SeatNode, Seat, Seat), Memory>
-    ensures first { IfOk result (λ r. r.1.instance ≡ r.0) }
-    ensures second { IfOk result (λ r. r.2.instance ≡ r.0) }
+/// A counter that was never stepped. Its text is right, so a refusal is a want of memory.
+pub(crate) fn a_machine(alloc: Global) -> Result<Machine, Memory>
+    ensures { IfOk result (λ m. m.history ≡ []) }
 {
     let text = "node t() returns (n: int); let n = 0 -> pre n + 1; tel\n";
     let Ok(program) = compile(alloc, text) else {
@@ -22,8 +21,15 @@ pub(crate) fn a_counter(alloc: Global) -> Result<(SeatNode, Seat, Seat), Memory>
     if !program.has(NodeId(0)) {
         return Err(Memory);
     }
-    let machine = Machine::new(alloc, program, NodeId(0))?;
-    let (node, mut seats) = SeatNode::open(alloc, machine, 2)?;
+    Machine::new(alloc, program, NodeId(0))
+}
+
+/// The counter and its two seats.
+pub(crate) fn a_counter(alloc: Global) -> Result<(SeatNode, Seat, Seat), Memory>
+    ensures first { IfOk result (λ r. r.1.instance ≡ r.0) }
+    ensures second { IfOk result (λ r. r.2.instance ≡ r.0) }
+{
+    let (node, mut seats) = SeatNode::open(alloc, a_machine(alloc)?, 2)?;
     let Some(second) = seats.pop() else {
         return Err(Memory);
     };

@@ -1,15 +1,15 @@
 //! Nodes that are closed, with all of their seats and with some.
-ghost use Rattle.std.specs.Prelude.{◌≡◌};
-ghost use Rattle.std.specs.List.{All};
+ghost use Rattle.std.specs.Prelude.{◌≡◌, IfOk, IfSome};
 
 use crate::counters::{a_counter, a_step, counts};
+use crate::relied::{close_seats, count_entries};
 use lus_shared::{Seat, SeatNode, Strangers};
 use lus_values::Memory;
 use std::alloc::Global;
 use std::test::Fail;
 
 // How many entries the node is closed with, where these are its seats and the entries are a counter's in order.
-fn closed_with(
+pub(crate) fn closed_with(
     alloc: Global,
     node: SeatNode,
     first: Seat,
@@ -21,7 +21,7 @@ fn closed_with(
     let mut seats = Vec::new(alloc);
     seats.push(first)?;
     seats.push(second)?;
-    match node.close(seats) {
+    match close_seats(node, seats) {
         Ok(journal) => {
             let mut entries = journal.entries.iter().enumerate();
             let counted = entries.all(|(place, entry)| counts(&entry.reply, place as i64));
@@ -42,7 +42,7 @@ fn seats_see_and_close(rt: HostRuntime) -> Result<(), Fail> {
     assert!(&rt; node.try_call(&mut first, &step).is_ok());
     assert!(&rt; node.try_call(&mut first, &step).is_ok());
     assert!(&rt; node.try_call(&mut first, &step).is_ok());
-    assert!(&rt; node.count(&mut second) == 3);
+    assert!(&rt; count_entries(&node, &mut second) == 3);
     assert!(&rt; closed_with(alloc, node, second, first)? == Some(3));
     Ok(())
 }
@@ -68,4 +68,27 @@ fn held_seats_are_missed(rt: HostRuntime) -> Result<(), Fail> {
     };
     assert!(&rt; closed_with(alloc, node, first, second)? == Some(1));
     Ok(())
+}
+
+// The node and the seat, which were given back where one seat of two was missing.
+pub(crate) fn given_back(
+    alloc: Global,
+    node: SeatNode,
+    seat: Seat,
+) -> Result<Option<(SeatNode, Seat)>, Memory>
+    requires { seat.instance ≡ node }
+    ensures { IfOk result (λ o. IfSome o (λ r. (r.0 ≡ node) × (r.1 ≡ seat))) }
+{
+    let mut seats = Vec::new(alloc);
+    seats.push(seat)?;
+    match node.close(seats) {
+        Ok(_) => Ok(None),
+        Err(strangers) => {
+            let Strangers { node, mut seats } = strangers;
+            match seats.pop() {
+                Some(seat) => Ok(Some((node, seat))),
+                None => Ok(None),
+            }
+        }
+    }
 }

@@ -1,8 +1,10 @@
 //! Seats that call in turn, on one thread.
 
 use crate::calls::{call_both, found_taken};
-use crate::counters::{a_counter, a_step, counts};
-use lus_shared::{Busy, TryError};
+use crate::counters::{a_counter, a_machine, a_step, counts};
+use crate::relied::{call_machine, call_seat, call_shared, meet_seats};
+use crate::strangers::{closed_with, given_back};
+use lus_shared::{Busy, LockedNode, Shared, TryError};
 use std::test::Fail;
 
 #[test]
@@ -10,7 +12,7 @@ fn seats_take_turns(rt: HostRuntime) -> Result<(), Fail> {
     let alloc = rt.alloc();
     let (node, mut first, mut second) = a_counter(alloc)?;
     let step = a_step(alloc);
-    let Ok(reply) = node.try_call(&mut first, &step) else {
+    let Ok(reply) = call_seat(&node, &mut first, &step) else {
         panic!(&rt; "the machine is free")
     };
     assert!(&rt; counts(&reply, 0));
@@ -31,10 +33,14 @@ fn seats_take_turns(rt: HostRuntime) -> Result<(), Fail> {
     assert!(&rt; counts(&reply, 1));
     let (taken, second) = found_taken(&node, second);
     assert!(&rt; taken == None);
-    let (mut first, mut second) = node.meet(first, second);
+    let (mut first, mut second) = meet_seats(&node, first, second);
     assert!(&rt; first.number() == 0 && second.number() == 1);
     assert!(&rt; first.share() == 1 && second.share() == 1);
     assert!(&rt; node.count(&mut first) == 2 && node.count(&mut second) == 2);
+    let Some((node, first)) = given_back(alloc, node, first)? else {
+        panic!(&rt; "a seat is missing")
+    };
+    assert!(&rt; closed_with(alloc, node, first, second)? == Some(2));
     Ok(())
 }
 
@@ -49,5 +55,25 @@ fn nodes_are_apart(rt: HostRuntime) -> Result<(), Fail> {
         panic!(&rt; "both machines are free")
     };
     assert!(&rt; counts(&one, 1) && counts(&two, 0));
+    Ok(())
+}
+
+#[test]
+fn machines_and_locks_answer(rt: HostRuntime) -> Result<(), Fail> {
+    let alloc = rt.alloc();
+    let step = a_step(alloc);
+    let mut machine = a_machine(alloc)?;
+    let Ok(reply) = call_machine(&mut machine, 5, &step) else {
+        panic!(&rt; "there is memory")
+    };
+    assert!(&rt; counts(&reply, 0) && machine.history().len() == 1);
+    let (node, mut seats) = LockedNode::open(alloc, a_machine(alloc)?, 1)?;
+    let Some(mut seat) = seats.pop() else {
+        panic!(&rt; "there is a seat")
+    };
+    let Ok(reply) = call_shared(&rt, &node, &mut seat, &step) else {
+        panic!(&rt; "there is memory")
+    };
+    assert!(&rt; counts(&reply, 0) && LockedNode::share(&seat) == 1);
     Ok(())
 }
