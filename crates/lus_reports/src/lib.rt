@@ -14,7 +14,6 @@ mod scripts;
 mod sentences;
 mod spot;
 mod value;
-mod verdict;
 mod words;
 
 pub use check::Check;
@@ -24,5 +23,4 @@ pub use outlining::outline;
 pub use reporting::report;
 pub use scripts::{Complaint, explain_scripts, report_scripts};
 pub use spot::Spot;
-pub use verdict::{File, Verdict, judge};
 pub use words::{Task, read_words};
