@@ -1,4 +1,0 @@
-pub mod Lines
-pub mod Sentences
-pub mod Explanations
-pub mod CommandLine
