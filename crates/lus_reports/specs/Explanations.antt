@@ -1,0 +1,41 @@
+-- Why a program's bytes are refused, with the line of the source where it shows, and the text that says so.
+use Rattle.std.specs.Prelude.{◌≢◌, ◌≤◌, List, [], ◌∷◌, ◌++◌, codes, length, Option, Some, None}
+use Rattle.std.specs.Fmt.{decimal}
+use Rattle.lus_syntax.specs.Lexemes.{Text}
+use Rattle.lus_syntax.specs.Limits.{most_bytes}
+use Rattle.lus_syntax.specs.Refusals.{cycle_text, number_text}
+use Rattle.lus_syntax.specs.declared.refusal.Refusal.{Refusal}
+use Rattle.lus_syntax.specs.declared.refusal.RefusalNumber.{RefusalNumber}
+use Rattle.lus_syntax.specs.declared.refusal.RefusalNumber.TheVariants as numbers
+use Rattle.lus_machine.specs.Acceptance.{RefusedWith}
+use Rattle.lus_host.specs.Sources.{IsNoText}
+use Rattle.lus_reports.specs.Lines.{blanks, line_at}
+use Rattle.lus_reports.specs.Sentences.{fault_of, sentence_of}
+
+-- the bytes are no text, which has no lines to show, or a text whose refusal, but for want of memory, is its own, and the line
+-- is that of the refusal
+pub data IsExplained (bytes : Text) (r : Refusal) : Option Text → Type 0 where
+  is_no_text : IsNoText bytes r → IsExplained bytes r None
+  is_refused : length bytes ≤ most_bytes → (r.number ≢ numbers.Memory → RefusedWith bytes r) → IsExplained bytes r (line_at bytes r.line)
+
+-- where it is
+abbrev pub place_text : Text → Refusal → Text
+place_text name r = name ++ codes ":" ++ decimal r.line ++ codes ":" ++ decimal r.column ++ codes ": "
+
+-- what it is
+abbrev pub error_text : RefusalNumber → Text
+error_text number = codes "error " ++ number_text number ++ codes ": " ++ fault_of number ++ codes "\n"
+
+-- the line, and a caret under the column
+abbrev pub line_text : Option Text → Refusal → Text
+line_text None r = []
+line_text (Some line) r = line ++ codes "\n" ++ blanks line r.column ++ codes "^\n"
+
+-- the variables of a cycle
+abbrev pub cycle_line : List Text → Text
+cycle_line [] = []
+cycle_line (name ∷ names) = cycle_text (name ∷ names) ++ codes "\n"
+
+-- all that is said of a refusal of the program of this name
+abbrev pub report_text : Text → Refusal → Option Text → Text
+report_text name r line = place_text name r ++ error_text r.number ++ line_text line r ++ cycle_line r.cycle ++ sentence_of r.number ++ codes "\n"

@@ -1,0 +1,5 @@
+pub mod Lines
+pub mod Sentences
+pub mod Explanations
+pub mod CommandLine
+pub mod Verdicts

@@ -1,0 +1,167 @@
+//! Where the form of scripts is broken, values of steps aside.
+
+use crate::check::Check;
+use crate::finding::Finding;
+use crate::spot::Spot;
+use lus_scripts::MOST_NAME_BYTES;
+use serde_json::Value;
+
+/// The items of a list.
+pub(crate) fn items(value: Option<&Value>) -> Option<&[Value]> {
+    let items = value?.as_array()?;
+    Some(items.as_slice())
+}
+
+/// The items of the list at a key, and none where there is no list.
+pub(crate) fn items_at<'v>(value: &'v Value, key: &str) -> &'v [Value] {
+    items(value.get(key)).unwrap_or(&[])
+}
+
+/// How many members an object has, and 0 of any other value.
+pub(crate) fn member_count(value: &Value) -> usize {
+    match value.as_object() {
+        Some(members) => members.len(),
+        None => 0,
+    }
+}
+
+/// The string at a key.
+pub(crate) fn text_at<'v>(value: &'v Value, key: &str) -> Option<&'v str> {
+    value.get(key)?.as_str()
+}
+
+/// Whether a value is an object with exactly these two keys.
+fn has_keys(value: &Value, first: &str, second: &str) -> bool {
+    member_count(value) == 2 && value.get(first).is_some() && value.get(second).is_some()
+}
+
+fn is_name_byte(byte: u8) -> bool {
+    byte.is_ascii_alphanumeric() || byte == b'_'
+}
+
+/// Whether the string at a key is a name.
+fn has_name(value: &Value) -> bool {
+    let Some(name) = text_at(value, "name") else {
+        return false;
+    };
+    match name.as_bytes() {
+        [first, ..] => {
+            !first.is_ascii_digit()
+                && name.len() <= MOST_NAME_BYTES
+                && name.as_bytes().iter().all(|byte| is_name_byte(*byte))
+        }
+        [] => false,
+    }
+}
+
+/// What is wrong with an instance by itself.
+fn wrong_instance(place: usize, instance: &Value) -> Option<Finding> {
+    if !has_keys(instance, "name", "node") {
+        return Some(Finding::at(Spot::Instance(place), Check::Instance));
+    }
+    if !has_name(instance) {
+        return Some(Finding::at(Spot::OfInstance(place, "name"), Check::Name));
+    }
+    if text_at(instance, "node").is_none() {
+        return Some(Finding::at(Spot::OfInstance(place, "node"), Check::Text));
+    }
+    None
+}
+
+/// The key and the check, unless it holds.
+fn unless(holds: bool, key: &'static str, check: Check) -> Option<(&'static str, Check)> {
+    if holds { None } else { Some((key, check)) }
+}
+
+/// What is wrong with what a call asks, by the first of the keys that is there.
+fn wrong_ask(call: &Value) -> Option<(&'static str, Check)> {
+    if let Some(items) = call.get("step") {
+        return unless(items.is_array(), "step", Check::List);
+    }
+    if let Some(flag) = call.get("reset") {
+        return unless(flag.as_bool() == Some(true), "reset", Check::Reset);
+    }
+    if let Some(slot) = call.get("save") {
+        return unless(slot.as_u64().is_some(), "save", Check::Slot);
+    }
+    let slot = call.get("restore")?;
+    unless(slot.as_u64().is_some(), "restore", Check::Slot)
+}
+
+/// Whether a value is an object with `on` and one of the keys of what is asked.
+fn has_call_keys(call: &Value) -> bool {
+    has_keys(call, "on", "step")
+        || has_keys(call, "on", "reset")
+        || has_keys(call, "on", "save")
+        || has_keys(call, "on", "restore")
+}
+
+/// What is wrong with a call by itself.
+fn wrong_call(caller: usize, place: usize, call: &Value) -> Option<Finding> {
+    if !has_call_keys(call) {
+        return Some(Finding::at(Spot::Call(caller, place), Check::Call));
+    }
+    if text_at(call, "on").is_none() {
+        return Some(Finding::at(Spot::OfCall(caller, place, "on"), Check::Text));
+    }
+    let (key, check) = wrong_ask(call)?;
+    Some(Finding::at(Spot::OfCall(caller, place, key), check))
+}
+
+fn wrong_calls(caller: usize, calls: &[Value]) -> Option<Finding> {
+    for (place, call) in calls.iter().enumerate() {
+        let finding = wrong_call(caller, place, call);
+        if finding.is_some() {
+            return finding;
+        }
+    }
+    None
+}
+
+/// What is wrong with a caller by itself.
+fn wrong_caller(place: usize, caller: &Value) -> Option<Finding> {
+    if !has_keys(caller, "name", "calls") {
+        return Some(Finding::at(Spot::Caller(place), Check::Caller));
+    }
+    if !has_name(caller) {
+        return Some(Finding::at(Spot::OfCaller(place, "name"), Check::Name));
+    }
+    match items(caller.get("calls")) {
+        Some(calls) => wrong_calls(place, calls),
+        None => Some(Finding::at(Spot::OfCaller(place, "calls"), Check::List)),
+    }
+}
+
+fn wrong_instances(instances: &[Value]) -> Option<Finding> {
+    for (place, instance) in instances.iter().enumerate() {
+        let finding = wrong_instance(place, instance);
+        if finding.is_some() {
+            return finding;
+        }
+    }
+    None
+}
+
+fn wrong_callers(callers: &[Value]) -> Option<Finding> {
+    for (place, caller) in callers.iter().enumerate() {
+        let finding = wrong_caller(place, caller);
+        if finding.is_some() {
+            return finding;
+        }
+    }
+    None
+}
+
+/// The first place at which the form of scripts is broken.
+pub(crate) fn wrong_form(scripts: &Value) -> Option<Finding> {
+    if !has_keys(scripts, "instances", "callers") {
+        return Some(Finding::at(Spot::Scripts, Check::Scripts));
+    }
+    let Some(instances) = items(scripts.get("instances")) else {
+        return Some(Finding::at(Spot::Instances, Check::List));
+    };
+    let Some(callers) = items(scripts.get("callers")) else {
+        return Some(Finding::at(Spot::Callers, Check::List));
+    };
+    wrong_instances(instances).or(wrong_callers(callers))
+}

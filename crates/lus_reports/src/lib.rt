@@ -1,0 +1,30 @@
+//! What is said to people of programs and their scripts: why and where they are refused, and which nodes an accepted program has.
+#![tactic(auto)]
+
+mod check;
+mod explanation;
+mod finding;
+mod form;
+mod known;
+mod lines;
+mod nodes;
+mod outlining;
+mod reporting;
+mod scripts;
+mod sentences;
+mod shell;
+mod spot;
+mod value;
+mod verdict;
+mod words;
+
+pub use check::Check;
+pub use explanation::{Explanation, explain};
+pub use finding::{Finding, Found};
+pub use outlining::outline;
+pub use reporting::report;
+pub use scripts::{Complaint, explain_scripts, report_scripts};
+pub use shell::command;
+pub use spot::Spot;
+pub use verdict::{File, Verdict, judge};
+pub use words::{Task, read_words};

@@ -1,0 +1,48 @@
+//! What nodes an accepted program has.
+
+use crate::nodes::{Source, push_node};
+use lus_cells::cells_of_nodes;
+use lus_grammar::parse;
+use lus_host::text_of;
+use lus_syntax::{Refusal, Tree, lex};
+use lus_types::check_types;
+use std::alloc::{AllocError, Global};
+
+/// The names of the types that a tree declares, in its order.
+fn type_names(alloc: Global, tree: &Tree) -> Result<Vec<String>, AllocError> {
+    let mut names = Vec::with_capacity(alloc, tree.types.len())?;
+    for declaration in &tree.types {
+        names.push(declaration.name.text.clone()?)?;
+    }
+    Ok(names)
+}
+
+/// The program that a source means, with the names of its declared types.
+fn source_of(alloc: Global, text: &str) -> Result<Source, Refusal> {
+    let tokens = lex(alloc, text)?;
+    let tree = parse(alloc, &tokens)?;
+    let types = type_names(alloc, &tree)?;
+    let typed = check_types(alloc, tree)?;
+    Ok(Source { types, typed })
+}
+
+/// The nodes, each with its state cells, its inputs and its outputs.
+fn nodes_text(alloc: Global, source: &Source, cells: &[u32]) -> Result<String, AllocError> {
+    let mut text = String::new(alloc);
+    for (place, node) in source.typed.program().nodes.iter().enumerate() {
+        if place > 0 {
+            text.push_str("\n")?;
+        }
+        push_node(&mut text, source, node, cells.get(place).copied())?;
+    }
+    Ok(text)
+}
+
+/// The nodes of an accepted program: of each its state cells, and its inputs and outputs with their types and clocks, as they
+/// are declared. Another one may be refused.
+pub fn outline(alloc: Global, bytes: &[u8]) -> Result<String, Refusal> {
+    let text = text_of(bytes)?;
+    let source = source_of(alloc, text)?;
+    let cells = cells_of_nodes(alloc, &source.typed)?;
+    Ok(nodes_text(alloc, &source, &cells)?)
+}

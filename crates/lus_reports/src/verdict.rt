@@ -1,0 +1,121 @@
+//! What is said of a program and of scripts for it, and the status that tells which of them is accepted.
+
+ghost use Rattle.std.specs.Prelude.{◌≡◌, ◌≢◌, IfOk, OnOk, option_map};
+ghost use Rattle.lus_syntax.specs.declared.refusal.RefusalNumber.TheVariants as numbers;
+ghost use Rattle.lus_scripts.specs.declared.refusal.ScriptRefusal.TheVariants as refusals;
+ghost use Rattle.lus_code.specs.Codes.{program_of};
+ghost use Rattle.lus_reports.specs.Verdicts.{AreJudged, IsVerdict};
+
+use crate::explanation::{Explanation, explain};
+use crate::outlining::outline;
+use crate::reporting::report;
+use crate::scripts::{Complaint, explain_scripts, report_scripts};
+use lus_cli::Fault;
+use lus_machine::Program;
+use lus_scripts::{ScriptRefusal, Scripts};
+use lus_syntax::RefusalNumber;
+use std::alloc::{AllocError, Global};
+
+/// A file that was read, with its name.
+#[derive(Clone, Copy)]
+pub struct File<'a> {
+    pub name: &'a str,
+    pub bytes: &'a [u8],
+}
+
+/// What is said, and the status of the process: 0 where all is accepted, 1 where the program is refused, and 2 where the scripts
+/// are.
+#[derive(Drop)]
+pub struct Verdict {
+    pub text: String,
+    pub status: u8,
+}
+
+/// Of a refused program.
+fn refused_program(
+    alloc: Global,
+    name: &str,
+    explanation: &Explanation<'_>,
+) -> Result<Verdict, Fault>
+    ensures status { IfOk result (λ v. v.status ≡ 1) }
+    ensures number { OnOk result (explanation.now.refusal.number ≢ numbers.Memory) }
+{
+    if explanation.refusal.number == RefusalNumber::Memory {
+        return Err(Fault::Memory);
+    }
+    match report(alloc, name, explanation) {
+        Ok(text) => Ok(Verdict { text, status: 1 }),
+        Err(_) => Err(Fault::Memory),
+    }
+}
+
+/// Of refused scripts.
+fn refused_scripts(alloc: Global, name: &str, complaint: Complaint) -> Result<Verdict, Fault>
+    ensures status { IfOk result (λ v. v.status ≡ 2) }
+    ensures refusal { OnOk result (complaint.refusal ≢ refusals.Memory) }
+{
+    if complaint.refusal == ScriptRefusal::Memory {
+        return Err(Fault::Memory);
+    }
+    match report_scripts(alloc, name, complaint) {
+        Ok(text) => Ok(Verdict { text, status: 2 }),
+        Err(_) => Err(Fault::Memory),
+    }
+}
+
+/// The nodes of an accepted program: it was read before, so only memory can be wanting.
+fn nodes_of(alloc: Global, program: File<'_>) -> Result<String, Fault> {
+    match outline(alloc, program.bytes) {
+        Ok(nodes) => Ok(nodes),
+        Err(_) => Err(Fault::Memory),
+    }
+}
+
+/// Of an accepted program.
+fn accepted_program(alloc: Global, program: File<'_>) -> Result<Verdict, Fault>
+    ensures { IfOk result (λ v. v.status ≡ 0) }
+{
+    let text = nodes_of(alloc, program)?;
+    Ok(Verdict { text, status: 0 })
+}
+
+/// How many instances and callers accepted scripts have.
+fn counts_text(alloc: Global, name: &str, scripts: &Scripts) -> Result<String, AllocError> {
+    let instances = scripts.instances.len();
+    let callers = scripts.callers.len();
+    format!(in alloc; "{name}: instances {instances}, callers {callers}\n")
+}
+
+/// Of accepted scripts.
+fn accepted_scripts(alloc: Global, name: &str, scripts: &Scripts) -> Result<Verdict, Fault>
+    ensures { IfOk result (λ v. v.status ≡ 0) }
+{
+    match counts_text(alloc, name, scripts) {
+        Ok(text) => Ok(Verdict { text, status: 0 }),
+        Err(_) => Err(Fault::Memory),
+    }
+}
+
+/// Of scripts for an accepted program.
+fn judge_scripts(alloc: Global, program: &Program, scripts: File<'_>) -> Result<Verdict, Fault>
+    ensures { IfOk result (λ v. AreJudged (program_of program.now) scripts.entry.bytes.now v.status) }
+{
+    match explain_scripts(alloc, program, scripts.bytes) {
+        Ok(accepted) => accepted_scripts(alloc, scripts.name, &accepted),
+        Err(complaint) => refused_scripts(alloc, scripts.name, complaint),
+    }
+}
+
+/// Of a program, and of scripts for it if there are any. A program that is accepted is told by its nodes, scripts that are
+/// accepted by their counts.
+pub fn judge(alloc: Global, program: File<'_>, scripts: Option<File<'_>>) -> Result<Verdict, Fault>
+    ensures { IfOk result (λ v. IsVerdict program.entry.bytes.now (option_map (λ f. f.bytes.now) scripts.entry) v.status) }
+{
+    match explain(alloc, program.bytes) {
+        Ok(accepted) => match scripts {
+            Some(scripts) => judge_scripts(alloc, &accepted, scripts),
+            None => accepted_program(alloc, program),
+        },
+        Err(explanation) => refused_program(alloc, program.name, &explanation),
+    }
+}
