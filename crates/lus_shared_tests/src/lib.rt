@@ -13,6 +13,4 @@ mod strangers;
 mod turns;
 
 pub use calls::{call_both, found_taken};
-pub use relied::{
-    call_machine, call_seat, call_shared, close_seats, count_entries, meet_seats,
-};
+pub use relied::{call_machine, call_seat, call_shared, close_seats, count_entries, meet_seats};
