@@ -108,19 +108,13 @@ fn operands_that_begin_too_deep_pass_a_limit(rt: HostRuntime) -> Result<(), Fail
     Ok(())
 }
 
-const START: Place = Place {
-    byte: 0,
-    line: 1,
-    column: 1,
-};
-
 fn open(tokens: &mut Vec<Token>, count: usize) -> Result<(), AllocError> {
     for _ in 0..count {
         let token = Token {
             kind: TokenKind::Punctuation(Symbol::Open),
             span: Span {
-                start: START,
-                end: START,
+                start: Place::START,
+                length: 1,
             },
         };
         tokens.push(token)?;

@@ -4,7 +4,7 @@ use lus_syntax::{Cycle, Refusal, RefusalNumber, lex};
 use std::alloc::{AllocError, Global};
 use std::test::Fail;
 
-fn refused(alloc: Global, text: &str) -> Option<(RefusalNumber, usize, usize)> {
+fn refused(alloc: Global, text: &str) -> Option<(RefusalNumber, u32, u32)> {
     match lex(alloc, text) {
         Ok(_) => None,
         Err(refusal) => Some((refusal.number, refusal.line, refusal.column)),

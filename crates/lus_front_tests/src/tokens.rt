@@ -163,6 +163,7 @@ fn a_span_is_the_slice_of_its_token(rt: HostRuntime) -> Result<(), Fail> {
         line: 2,
         column: 7,
     };
-    assert!(rt; tokens[0].span == Span { start, end });
+    assert!(rt; tokens[0].span == Span { start, length: 2 });
+    assert_eq!(rt; tokens[0].span.end(), end);
     Ok(())
 }

@@ -11,7 +11,7 @@ fn parsed(alloc: Global, text: &str) -> Result<Tree, Refusal> {
 }
 
 /// What a text is refused for, and where; none, if it is read.
-fn refused(alloc: Global, text: &str) -> Option<(RefusalNumber, usize, usize)> {
+fn refused(alloc: Global, text: &str) -> Option<(RefusalNumber, u32, u32)> {
     match parsed(alloc, text) {
         Ok(_) => None,
         Err(refusal) => Some((refusal.number, refusal.line, refusal.column)),
@@ -22,12 +22,12 @@ fn refused(alloc: Global, text: &str) -> Option<(RefusalNumber, usize, usize)> {
 pub fn right_refused(
     alloc: Global,
     right: &str,
-) -> Result<Option<(RefusalNumber, usize, usize)>, Fail> {
+) -> Result<Option<(RefusalNumber, u32, u32)>, Fail> {
     let text = format!(in alloc; "node n() returns (y: int); let y = {right}; tel")?;
     Ok(refused(alloc, &text))
 }
 
-fn is_no_tree(found: Option<(RefusalNumber, usize, usize)>) -> bool {
+fn is_no_tree(found: Option<(RefusalNumber, u32, u32)>) -> bool {
     match found {
         Some((number, _, _)) => number == RefusalNumber::Syntax,
         None => false,

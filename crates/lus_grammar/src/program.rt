@@ -111,12 +111,8 @@ fn place(left: usize, tokens: &[Token]) -> Place {
     let index = tokens.len().saturating_sub(left);
     match (tokens.get(index), tokens.last()) {
         (Some(token), _) => token.span.start,
-        (None, Some(last)) => last.span.end,
-        (None, None) => Place {
-            byte: 0,
-            line: 1,
-            column: 1,
-        },
+        (None, Some(last)) => last.span.end(),
+        (None, None) => Place::START,
     }
 }
 

@@ -26,7 +26,7 @@ abbrev start : Place
 start = record { byte = 0; line = 1; column = 1 }
 
 abbrev here : Span
-here = record { start = start; end = start }
+here = record { start = start; length = 1 }
 
 -- a name of one letter
 abbrev n : ℕ → tree.Named

@@ -35,7 +35,7 @@ pub fn explain(alloc: Global, bytes: &[u8]) -> Result<Program, Explanation<'_>>
     match compile(alloc, text) {
         Ok(program) => Ok(program),
         Err(refusal) => {
-            let line = line_at(text, refusal.line);
+            let line = line_at(text, refusal.line as usize);
             Err(Explanation { refusal, line })
         }
     }

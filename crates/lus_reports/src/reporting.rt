@@ -42,7 +42,7 @@ fn push_line(
     let Some(line) = line else {
         return Ok(());
     };
-    let blanks = blanks(alloc, line, refusal.column)?;
+    let blanks = blanks(alloc, line, refusal.column as usize)?;
     write!(report, "{line}\n{blanks}^\n")
 }
 

@@ -46,7 +46,7 @@ no_tree ts n refused t spells =
 -- ---- tokens, all in one place
 
 here : Span
-here = record { start = start; end = start }
+here = record { start = start; length = 1 }
 
 abbrev a : Named
 a = named (codes "a") here

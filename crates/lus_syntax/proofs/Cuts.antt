@@ -6,7 +6,7 @@ use Rattle.std.proofs.lemmas.Bool.Decides.{nat_tests}
 use Rattle.std.proofs.lemmas.List.{take_at, drop_at}
 use Rattle.std.proofs.lemmas.Str.{IsUtf8-nil, IsUtf8-take, IsUtf8-drop, IsUtf8-past_char, IsCharBoundary-before_ascii, IsCharBoundary-at_seam, encode_ascii}
 use Rattle.lus_syntax.specs.declared.token.Place.{Place}
-use Rattle.lus_syntax.specs.Places.{past}
+use Rattle.lus_syntax.specs.Places.{past, end_of}
 use Rattle.lus_syntax.specs.Lexemes.{Lexeme}
 use Rattle.lus_syntax.specs.Gaps.{is_blank, Piece, blank, line, slash, round, Gap}
 use Rattle.lus_syntax.specs.Tokens.{Here, Reads, Run}
@@ -67,4 +67,4 @@ reads_rest at text t rest r u = here_rest r.here t rest r.token (gap_rest r.gap.
 
 pub run_rest : (ts : List Lexeme) (at : Place) (text : List ℕ) (to : Place) (rest : List ℕ) → Run ts at text to rest → IsUtf8 text → IsUtf8 rest
 run_rest [] at text to rest r u = subst (λ (x : List ℕ). IsUtf8 x) r.1 u
-run_rest (t ∷ ts) at text to rest r u = run_rest ts t.span.«end» r.0 to rest r.2 (reads_rest at text t r.0 r.1 u)
+run_rest (t ∷ ts) at text to rest r u = run_rest ts (end_of t.span) r.0 to rest r.2 (reads_rest at text t r.0 r.1 u)

@@ -1,6 +1,6 @@
 -- What a text stands for.
 use Rattle.std.proofs.Common.{Option, is_some, ◌≡◌, ℕ, zero, suc, ◌<◌, ◌≤◌, ◌^◌, Bool, true, false, leb, List, [], ◌∷◌, length, get_or, Some, None, Result, Ok, Err, refl, sym, ap, ◌∙◌, arith, inl, inr, ◌⊎◌}
-use Rattle.std.specs.Prelude.{ℤ, pos, nat_lt, option_map, MatchResult, IsOk, IsUtf8}
+use Rattle.std.specs.Prelude.{ℤ, pos, nat_lt, not, option_map, MatchResult, IsOk, IsUtf8}
 use Rattle.std.specs.Int.{w64}
 use Rattle.std.specs.Result.{OkIff, result_ok}
 use Rattle.std.specs.List.{list_all}
@@ -15,6 +15,8 @@ use Rattle.lus_syntax.specs.declared.refusal.RefusalNumber.{RefusalNumber}
 use Rattle.lus_syntax.specs.declared.refusal.RefusalNumber.TheVariants.{Unsupported, Limit}
 use Rattle.lus_syntax.specs.declared.token.Word.{Word}
 use Rattle.lus_syntax.specs.declared.token.Symbol.{Symbol}
+use Rattle.lus_syntax.specs.Gaps.{IsLine}
+use Rattle.lus_syntax.specs.Places.{is_feed}
 use Rattle.lus_syntax.specs.Texts.{begins_name, continues_name, is_number, is_symbol, is_text, symbols, words, look_up, limit, number_within, of_name, of_number, of_symbol, meaning}
 use Rattle.lus_syntax.proofs.Longest.{of_first, found_passes, digit_no_name}
 
@@ -72,15 +74,33 @@ name_ascii b h = grind (arith, nat_tests)
 digit_ascii : (b : ℕ) → is_ascii_digit b ≡ true → nat_lt b 128 ≡ true
 digit_ascii b h = grind (arith, nat_tests)
 
-pub text_ascii : (xs : List ℕ) → is_text xs ≡ true → ascii xs ≡ true
+-- each byte of a text is a letter, a digit, an underscore or a symbol's
+text_passes : (p : ℕ → Bool) → ((b : ℕ) → continues_name b ≡ true → p b ≡ true) → ((b : ℕ) → is_ascii_digit b ≡ true → p b ≡ true)
+    → list_all (λ e. list_all p e.0) symbols ≡ true → (xs : List ℕ) → is_text xs ≡ true → list_all p xs ≡ true
 unfolding is_symbol
-text_ascii [] t = refl
-text_ascii (b ∷ bs) t =
+text_passes p in_name in_number in_symbol [] t = refl
+text_passes p in_name in_number in_symbol (b ∷ bs) t =
     elim (of_first (b ∷ bs) t) [
-      | inl name ↦ weaker continues_name (λ c. nat_lt c 128) name_ascii (b ∷ bs) name.1
-      | inr (inl number) ↦ weaker is_ascii_digit (λ c. nat_lt c 128) digit_ascii (b ∷ bs) number.1
-      | inr (inr symbol) ↦ found_passes ascii (b ∷ bs) symbols symbols_ascii symbol.2
+      | inl name ↦ weaker continues_name p in_name (b ∷ bs) name.1
+      | inr (inl number) ↦ weaker is_ascii_digit p in_number (b ∷ bs) number.1
+      | inr (inr symbol) ↦ found_passes (list_all p) (b ∷ bs) symbols in_symbol symbol.2
     ]
+
+pub text_ascii : (xs : List ℕ) → is_text xs ≡ true → ascii xs ≡ true
+text_ascii = text_passes (λ b. nat_lt b 128) name_ascii digit_ascii symbols_ascii
+
+symbols_on_line : list_all (λ e. list_all (λ b. not (is_feed b)) e.0) symbols ≡ true
+unfolding symbols
+symbols_on_line = refl
+
+name_on_line : (b : ℕ) → continues_name b ≡ true → not (is_feed b) ≡ true
+name_on_line b h = grind (arith, nat_tests)
+
+digit_on_line : (b : ℕ) → is_ascii_digit b ≡ true → not (is_feed b) ≡ true
+digit_on_line b h = grind (arith, nat_tests)
+
+pub text_on_line : (xs : List ℕ) → is_text xs ≡ true → IsLine xs
+text_on_line = text_passes (λ b. not (is_feed b)) name_on_line digit_on_line symbols_on_line
 
 is_ascii : (xs : List ℕ) → ascii xs ≡ true → IsAscii xs
 is_ascii [] h i = omega arith

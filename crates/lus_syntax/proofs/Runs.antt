@@ -1,18 +1,19 @@
 -- Gaps and tokens, one after the other.
 use Rattle.std.proofs.Common.{◌≡◌, ℕ, ◌<◌, ◌≤◌, List, [], ◌∷◌, ◌++◌, length, take, drop, Result, Ok, Err, refl, sym, ap, subst, ◌∙◌, arith, length-append, take-append-drop}
 use Rattle.std.specs.Prelude.{MatchResult, IsErrAnd}
-use Rattle.std.proofs.lemmas.List.{nil_from_length}
+use Rattle.std.proofs.lemmas.List.{nil_from_length, length-take-le}
 use Rattle.lus_syntax.specs.declared.token.Place.{Place}
 use Rattle.lus_syntax.specs.declared.refusal.RefusalNumber.TheVariants.{Lexical}
 use Rattle.lus_syntax.specs.declared.fault.LexError.{LexError}
 use Rattle.lus_syntax.specs.declared.fault.LexError.TheVariants as errors
-use Rattle.lus_syntax.specs.Places.{past}
+use Rattle.lus_syntax.specs.Places.{past, end_of}
 use Rattle.lus_syntax.specs.Reading.{HasRoom, Skips, Gives, IsWrong, IsOpen}
 use Rattle.lus_syntax.specs.Texts.{LongestText, NoText, meaning}
 use Rattle.lus_syntax.specs.Gaps.{Piece, Gap, IsGap, IsPlain}
-use Rattle.lus_syntax.specs.Lexemes.{Lexeme}
+use Rattle.lus_syntax.specs.Lexemes.{Kind, Lexeme, tok}
 use Rattle.lus_syntax.specs.Tokens.{Here, Reads, Run, Ends, Wrong, open_comment, no_token, no_meaning, Breaks}
 use Rattle.lus_syntax.proofs.Places.{room_after}
+use Rattle.lus_syntax.proofs.Spans.{past_text}
 use Rattle.lus_syntax.proofs.Meanings.{text_nonempty}
 
 -- ---- gaps
@@ -37,10 +38,10 @@ gap_length (p ∷ pieces) at text to here g = omega (arith, gap_length pieces (p
 
 -- ---- tokens
 
-here_room : (here : List ℕ) (t : Lexeme) (rest : List ℕ) → Here here t rest → HasRoom t.span.start here → HasRoom t.span.«end» rest
+here_room : (here : List ℕ) (t : Lexeme) (rest : List ℕ) → Here here t rest → HasRoom t.span.start here → HasRoom (end_of t.span) rest
 here_room here t rest h room = subst (λ (x : Place). HasRoom x rest) (sym h.ends) (room_after t.span.start h.text rest (subst (λ (x : List ℕ). HasRoom t.span.start x) h.longest.parts room))
 
-pub reads_room : (at : Place) (text : List ℕ) (t : Lexeme) (rest : List ℕ) → Reads at text t rest → HasRoom at text → HasRoom t.span.«end» rest
+pub reads_room : (at : Place) (text : List ℕ) (t : Lexeme) (rest : List ℕ) → Reads at text t rest → HasRoom at text → HasRoom (end_of t.span) rest
 reads_room at text t rest r room = here_room r.here t rest r.token (is_gap_room at text t.span.start r.here r.gap room)
 
 pub reads_length : (at : Place) (text : List ℕ) (t : Lexeme) (rest : List ℕ) → Reads at text t rest → length rest < length text
@@ -48,9 +49,9 @@ reads_length at text t rest r =
     let l = r.token.longest in
     omega (arith, gap_length r.gap.0 at text t.span.start r.here r.gap.1, ap length l.parts, length-append r.token.text rest, text_nonempty r.token.text l.is_one)
 
-pub run_push : (ts : List Lexeme) (at : Place) (text : List ℕ) (mid : Place) (here : List ℕ) (t : Lexeme) (rest : List ℕ) → Run ts at text mid here → Reads mid here t rest → Run (ts ++ t ∷ []) at text t.span.«end» rest
+pub run_push : (ts : List Lexeme) (at : Place) (text : List ℕ) (mid : Place) (here : List ℕ) (t : Lexeme) (rest : List ℕ) → Run ts at text mid here → Reads mid here t rest → Run (ts ++ t ∷ []) at text (end_of t.span) rest
 run_push [] at text mid here t rest r is = (rest, subst (λ (x : Place). Reads x text t rest) (sym r.0) (subst (λ (x : List ℕ). Reads mid x t rest) (sym r.1) is), (refl, refl))
-run_push (u ∷ ts) at text mid here t rest r is = (r.0, r.1, run_push ts u.span.«end» r.0 mid here t rest r.2 is)
+run_push (u ∷ ts) at text mid here t rest r is = (r.0, r.1, run_push ts (end_of u.span) r.0 mid here t rest r.2 is)
 
 -- ---- as the code has it
 
@@ -76,6 +77,15 @@ pub kind_refused : {X : Type 0} (A : X → Type 0) (here text rest : List ℕ) (
     → IsErrAnd r (λ f. f ≡ e) → MatchResult r A (λ f. IsWrong begin here f)
 kind_refused A here text rest begin e (Ok x) plain longest gives is = absurd is
 kind_refused A here text rest begin e (Err f) plain longest gives is = rw is (kind_wrong here text rest begin e plain longest gives)
+
+-- a token's span has the length of its text
+pub token_here : (here : List ℕ) (begin : Place) (n : ℕ) (kind : Kind) (text rest : List ℕ) → n ≤ length here → LongestText here (take n here) (drop n here) → text ≡ take n here → rest ≡ drop n here
+    → meaning text ≡ Ok kind → Here here (tok kind (record { start = begin; length = n })) rest
+token_here here begin n kind text rest within longest front back means =
+    let long : length text ≡ n = ap length front ∙ length-take-le n here within in
+    let cut : LongestText here text rest = rw (front, back) longest in
+    let behind : past begin text ≡ end_of (record { start = begin; length = n }) = past_text begin text cut.is_one ∙ ap (λ (k : ℕ). end_of (record { start = begin; length = k })) long in
+    record { text = text; longest = cut; means = means; ends = sym behind }
 
 pub text_wrong : (here : List ℕ) → IsPlain here → 0 < length here → NoText here → Wrong here Lexical
 text_wrong here plain some none = no_token plain (λ e. absurd (omega (arith, ap length e, some))) none

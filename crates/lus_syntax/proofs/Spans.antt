@@ -1,20 +1,21 @@
 -- Where the tokens of a text stand.
 use Rattle.std.proofs.Common.{◌≡◌, ℕ, ◌+◌, ◌<◌, ◌≤◌, Bool, true, false, cond, List, [], ◌∷◌, ◌++◌, length, reverse, refl, sym, ap, subst, ◌∙◌, arith, append_assoc}
-use Rattle.std.specs.Prelude.{not, IsUtf8}
-use Rattle.std.specs.List.{count_by, take_while, AllByRecursion}
+use Rattle.std.specs.Prelude.{not, nat_lt, nat_le, IsUtf8}
+use Rattle.std.specs.List.{count_by, take_while, list_all, AllByRecursion}
 use Rattle.std.proofs.lemmas.List.{reverse-append, reverse-reverse, length-reverse}
-use Rattle.std.proofs.lemmas.Bool.{cond-true, cond-false}
+use Rattle.std.proofs.lemmas.Bool.{and_parts, or_left, not-true, cond-true, cond-false}
 use Rattle.std.proofs.lemmas.List.Sums.{sum_by-cons, sum_by-append, take_while-cons}
 use Rattle.lus_syntax.specs.declared.token.Place.{Place}
 use Rattle.lus_syntax.specs.declared.refusal.RefusalNumber.{RefusalNumber}
-use Rattle.lus_syntax.specs.Places.{is_feed, is_first, past_one, past, start, place_behind}
-use Rattle.lus_syntax.specs.Gaps.{Gap}
+use Rattle.lus_syntax.specs.Places.{is_feed, is_first, past_one, past, start, place_behind, end_of}
+use Rattle.lus_syntax.specs.Gaps.{Gap, IsLine}
 use Rattle.lus_syntax.specs.Lexemes.{Lexeme}
+use Rattle.lus_syntax.specs.Texts.{is_text}
 use Rattle.lus_syntax.specs.Tokens.{Reads, Run, Tokens, Faulty}
 use Rattle.lus_syntax.specs.Spans.{StandsIn, InOrder, StandsAt}
 use Rattle.lus_syntax.proofs.Places.{past_push, past_append, past_byte}
 use Rattle.lus_syntax.proofs.Cuts.{valid_front, gap_rest, reads_rest, run_rest}
-use Rattle.lus_syntax.proofs.Meanings.{text_nonempty}
+use Rattle.lus_syntax.proofs.Meanings.{ascii, text_ascii, text_on_line, text_nonempty}
 
 -- ---- places in words
 
@@ -36,6 +37,21 @@ new_line at b e = cond-true (is_feed b) _ _ e
 
 pub on_line : (at : Place) (b : ℕ) (g : Bool) → is_feed b ≡ false → is_first b ≡ g → past_one at b ≡ record { byte = at.byte + 1; line = at.line; column = cond g (at.column + 1) at.column }
 on_line at b g e h = cond-false (is_feed b) _ _ e ∙ ap (λ (t : Bool). record { byte = at.byte + 1; line = at.line; column = cond t (at.column + 1) at.column }) h
+
+-- bytes that are characters on one line
+along : (at : Place) (xs : List ℕ) → IsLine xs → ascii xs ≡ true → past at xs ≡ end_of (record { start = at; length = length xs })
+along at [] lines low = same_place at.byte (at.byte + 0) at.line at.line at.column (at.column + 0) (omega arith) refl (omega arith)
+along at (x ∷ xs) lines low =
+    let l = and_parts (not (is_feed x)) (list_all same_line xs) lines in
+    let a = and_parts (nat_lt x 128) (ascii xs) low in
+    let first : is_first x ≡ true = or_left (nat_lt x 128) (nat_le 192 x) a.0 in
+    let one : past_one at x ≡ record { byte = at.byte + 1; line = at.line; column = at.column + 1 } = on_line at x true (not-true (is_feed x) l.0) first in
+    ap (λ (p : Place). past p xs) one ∙ along (record { byte = at.byte + 1; line = at.line; column = at.column + 1 }) xs l.1 a.1
+    ∙ same_place (at.byte + 1 + length xs) (at.byte + length (x ∷ xs)) at.line at.line (at.column + 1 + length xs) (at.column + length (x ∷ xs)) (omega arith) refl (omega arith)
+
+-- behind a token's text stands what its span tells
+pub past_text : (at : Place) (xs : List ℕ) → is_text xs ≡ true → past at xs ≡ end_of (record { start = at; length = length xs })
+past_text at xs t = along at xs (text_on_line xs t) (text_ascii xs t)
 
 one_before : (b : ℕ) (bs : List ℕ) → past_one (place_before bs) b ≡ place_before (b ∷ bs)
 one_before b bs = go (is_feed b) (is_first b) refl refl
@@ -86,10 +102,10 @@ gap_front (p ∷ pieces) at text to here g =
 record Stands (whole front : List ℕ) (at : Place) (text : List ℕ) (t : Lexeme) (rest : List ℕ) : Type 0 where
   next : List ℕ
   parts : whole ≡ next ++ rest
-  ends : t.span.«end» ≡ past start next
+  ends : end_of t.span ≡ past start next
   stands : StandsIn whole t
   order : at.byte ≤ t.span.start.byte
-  some : t.span.start.byte < t.span.«end».byte
+  some : t.span.start.byte < (end_of t.span).byte
 
 reads_stands : (whole front : List ℕ) (at : Place) (text : List ℕ) (t : Lexeme) (rest : List ℕ) → whole ≡ front ++ text → at ≡ past start front → (IsUtf8 whole → IsUtf8 text) → Reads at text t rest → Stands whole front at text t rest
 reads_stands whole front at text t rest e place valid r =
@@ -99,7 +115,7 @@ reads_stands whole front at text t rest e place valid r =
     let before : List ℕ = front ++ g.0 in
     let parts : whole ≡ before ++ (s ++ rest) = e ∙ ap (λ (x : List ℕ). front ++ x) (g.1 ∙ ap (λ (x : List ℕ). g.0 ++ x) l.parts) ∙ sym (append_assoc front g.0 (s ++ rest)) in
     let starts : t.span.start ≡ past start before = g.2 ∙ ap (λ (x : Place). past x g.0) place ∙ sym (past_append start front g.0) in
-    let ends : t.span.«end» ≡ past start (before ++ s) = r.token.ends ∙ ap (λ (x : Place). past x s) starts ∙ sym (past_append start before s) in
+    let ends : end_of t.span ≡ past start (before ++ s) = r.token.ends ∙ ap (λ (x : Place). past x s) starts ∙ sym (past_append start before s) in
     let heres : IsUtf8 whole → IsUtf8 (s ++ rest) = λ w. subst (λ (x : List ℕ). IsUtf8 x) l.parts (gap_rest r.gap.0 at text t.span.start r.here r.gap.1 (valid w)) in
     let fronts : IsUtf8 whole → IsUtf8 before = λ w. valid_front whole before (s ++ rest) parts w (heres w) in
     record {
@@ -116,7 +132,7 @@ run_stands : (ts : List Lexeme) (whole front : List ℕ) (at : Place) (text : Li
 run_stands [] whole front at text to rest e place valid r = (tt, tt)
 run_stands (t ∷ ts) whole front at text to rest e place valid r =
     let s = reads_stands whole front at text t r.0 e place valid r.1 in
-    let ih = run_stands ts whole s.next t.span.«end» r.0 to rest s.parts s.ends (λ w. reads_rest at text t r.0 r.1 (valid w)) r.2 in
+    let ih = run_stands ts whole s.next (end_of t.span) r.0 to rest s.parts s.ends (λ w. reads_rest at text t r.0 r.1 (valid w)) r.2 in
     ((s.stands, ih.0), (s.order, s.some, ih.1))
 
 pub tokens_stand : (text : List ℕ) (ts : List Lexeme) → Tokens text ts → AllByRecursion (StandsIn text) ts × InOrder 0 ts
@@ -129,7 +145,7 @@ run_front [] at text to rest r = ([], r.1, sym r.0)
 run_front (t ∷ ts) at text to rest r =
     let g = gap_front r.1.gap.0 at text t.span.start r.1.here r.1.gap.1 in
     let s = r.1.token.text in
-    let next = run_front ts t.span.«end» r.0 to rest r.2 in
+    let next = run_front ts (end_of t.span) r.0 to rest r.2 in
     let whole : text ≡ g.0 ++ (s ++ (next.0 ++ rest)) = g.1 ∙ ap (λ (x : List ℕ). g.0 ++ x) (r.1.token.longest.parts ∙ ap (λ (x : List ℕ). s ++ x) next.1) in
     let parts : g.0 ++ (s ++ (next.0 ++ rest)) ≡ (g.0 ++ (s ++ next.0)) ++ rest = simp append_assoc in
     let behind : past t.span.start s ≡ past at (g.0 ++ s) = ap (λ (x : Place). past x s) g.2 ∙ sym (past_append at g.0 s) in

@@ -7,7 +7,7 @@ use Rattle.std.proofs.lemmas.List.{take_at, drop_at}
 use Rattle.lus_syntax.specs.declared.token.Place.{Place}
 use Rattle.lus_syntax.specs.declared.refusal.RefusalNumber.{RefusalNumber}
 use Rattle.lus_syntax.specs.declared.refusal.RefusalNumber.TheVariants.{Lexical, Unsupported, Limit}
-use Rattle.lus_syntax.specs.Places.{is_feed, past, start}
+use Rattle.lus_syntax.specs.Places.{is_feed, past, start, end_of}
 use Rattle.lus_syntax.specs.Lexemes.{Kind, Lexeme}
 use Rattle.lus_syntax.specs.Texts.{LongestText, meaning, is_text}
 use Rattle.lus_syntax.specs.Gaps.{is_blank, IsLine, EndsLine, Lacks, Piece, blank, line, slash, round, Unclosed, slash_open, round_open, opens, IsPlain, Gap}
@@ -119,8 +119,10 @@ gap_unique (p ∷ ps) (q ∷ qs) at text to here to' here' g n h m =
 text_unique : (here s r s' r' : List ℕ) → LongestText here s r → LongestText here s' r' → (s ≡ s') × (r ≡ r')
 text_unique here s r s' r' l m = same_front s s' r r' (sym l.parts ∙ m.parts) (omega (arith, l.longest s' r' m.parts m.is_one, m.longest s r l.parts l.is_one))
 
-lexeme_same : (t u : Lexeme) → t.kind ≡ u.kind → t.span.start ≡ u.span.start → t.span.«end» ≡ u.span.«end» → t ≡ u
-lexeme_same t u e f g = λ i. record { kind = e i; span = record { start = f i; «end» = g i } }
+lexeme_same : (t u : Lexeme) → t.kind ≡ u.kind → t.span.start ≡ u.span.start → end_of t.span ≡ end_of u.span → t ≡ u
+lexeme_same t u e f g =
+    let lengths : t.span.length ≡ u.span.length = omega (arith, ap (λ (x : Place). x.byte) f, ap (λ (x : Place). x.byte) g) in
+    λ i. record { kind = e i; span = record { start = f i; length = lengths i } }
 
 ok_same : (r : Result Kind RefusalNumber) (k l : Kind) → r ≡ Ok k → r ≡ Ok l → k ≡ l
 ok_same r k l e f = cc
@@ -137,7 +139,7 @@ reads_unique at text t u a b r s =
     let l : LongestText r.here s.token.text b = subst (λ (x : List ℕ). LongestText x s.token.text b) (sym g.1) s.token.longest in
     let w = text_unique r.here r.token.text a s.token.text b r.token.longest l in
     let kinds : t.kind ≡ u.kind = ok_same (meaning r.token.text) t.kind u.kind r.token.means (ap meaning w.0 ∙ s.token.means) in
-    let ends : t.span.«end» ≡ u.span.«end» = r.token.ends ∙ ap (past t.span.start) w.0 ∙ ap (λ (x : Place). past x s.token.text) g.0 ∙ sym s.token.ends in
+    let ends : end_of t.span ≡ end_of u.span = r.token.ends ∙ ap (past t.span.start) w.0 ∙ ap (λ (x : Place). past x s.token.text) g.0 ∙ sym s.token.ends in
     (lexeme_same t u kinds g.0 ends, w.1)
 
 some_text : (here s r : List ℕ) → LongestText here s r → here ≢ []
@@ -214,8 +216,8 @@ run_unique [] (u ∷ us) at text to rest to' rest' r s q p = absurd (s u q.0 (mo
 run_unique (t ∷ ts) [] at text to rest to' rest' r s q p = absurd (p t r.0 (moved at to' text rest' t r.0 q.0 q.1 r.1))
 run_unique (t ∷ ts) (u ∷ us) at text to rest to' rest' r s q p =
     let same = reads_unique at text t u r.0 q.0 r.1 q.1 in
-    let other : Run us t.span.«end» r.0 to' rest' = subst (λ (x : Lexeme). Run us x.span.«end» r.0 to' rest') (sym same.0) (subst (λ (x : List ℕ). Run us u.span.«end» x to' rest') (sym same.1) q.2) in
-    let ih = run_unique ts us t.span.«end» r.0 to rest to' rest' r.2 s other p in
+    let other : Run us (end_of t.span) r.0 to' rest' = subst (λ (x : Lexeme). Run us (end_of x.span) r.0 to' rest') (sym same.0) (subst (λ (x : List ℕ). Run us (end_of u.span) x to' rest') (sym same.1) q.2) in
+    let ih = run_unique ts us (end_of t.span) r.0 to rest to' rest' r.2 s other p in
     ((λ i. same.0 i ∷ ih.0 i), ih.1, ih.2)
 
 pub one_reading : (text : List ℕ) (ts us : List Lexeme) → Tokens text ts → Tokens text us → ts ≡ us

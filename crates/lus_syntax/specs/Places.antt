@@ -2,6 +2,7 @@
 use Rattle.std.specs.Prelude.{◌≡◌, ℕ, ◌+◌, not, Bool, ◌||◌, ◌==◌, nat_lt, nat_le, List, [], ◌∷◌, length, reverse, if◌then◌else◌}
 use Rattle.std.specs.List.{count_by, take_while}
 use Rattle.lus_syntax.specs.declared.token.Place.{Place}
+use Rattle.lus_syntax.specs.declared.token.Span.{Span}
 
 -- a line feed, which ends a line
 abbrev pub is_feed : ℕ → Bool
@@ -25,6 +26,10 @@ past_one at b =
 abbrev pub past : Place → List ℕ → Place
 past at [] = at
 past at (b ∷ bs) = past (past_one at b) bs
+
+-- the place behind a token: its bytes are as many characters, on one line
+abbrev pub end_of : Span → Place
+end_of span = record { byte = span.start.byte + span.length; line = span.start.line; column = span.start.column + span.length }
 
 -- the last bytes or characters that no line feed is among, the last of them first
 abbrev pub last_line : List ℕ → List ℕ

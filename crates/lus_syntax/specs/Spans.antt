@@ -2,7 +2,7 @@
 use Rattle.std.specs.Prelude.{◌≡◌, ℕ, ◌<◌, ◌≤◌, List, [], ◌∷◌, ◌++◌, Ok, IsUtf8}
 use Rattle.lus_syntax.specs.declared.token.Place.{Place}
 use Rattle.lus_syntax.specs.Lexemes.{Lexeme}
-use Rattle.lus_syntax.specs.Places.{place_behind}
+use Rattle.lus_syntax.specs.Places.{place_behind, end_of}
 use Rattle.lus_syntax.specs.Texts.{meaning}
 
 -- the text's slice at the token's span spells the token
@@ -12,7 +12,7 @@ pub record StandsIn (whole : List ℕ) (t : Lexeme) : Type 0 where
   pub rest : List ℕ
   pub parts : whole ≡ front ++ (text ++ rest)
   pub start : t.span.start ≡ place_behind front
-  pub ends : t.span.«end» ≡ place_behind (front ++ text)
+  pub ends : end_of t.span ≡ place_behind (front ++ text)
   pub means : meaning text ≡ Ok t.kind
   -- of valid UTF-8 the front is whole characters
   pub valid : IsUtf8 whole → IsUtf8 front
@@ -20,7 +20,7 @@ pub record StandsIn (whole : List ℕ) (t : Lexeme) : Type 0 where
 -- each token is some text, and begins where the one before it ends or later
 abbrev pub InOrder : ℕ → List Lexeme → Type 0
 InOrder from [] = Unit {0}
-InOrder from (t ∷ ts) = (from ≤ t.span.start.byte) × (t.span.start.byte < t.span.«end».byte) × InOrder t.span.«end».byte ts
+InOrder from (t ∷ ts) = (from ≤ t.span.start.byte) × (t.span.start.byte < (end_of t.span).byte) × InOrder (end_of t.span).byte ts
 
 -- the place is that behind a front of the text
 pub record StandsAt (whole : List ℕ) (place : Place) : Type 0 where

@@ -5,7 +5,7 @@ use Rattle.lus_syntax.specs.declared.refusal.RefusalNumber.{RefusalNumber}
 use Rattle.lus_syntax.specs.declared.refusal.RefusalNumber.TheVariants.{Lexical}
 use Rattle.lus_syntax.specs.declared.refusal.Refusal.{Refusal}
 use Rattle.lus_syntax.specs.Lexemes.{Lexeme}
-use Rattle.lus_syntax.specs.Places.{past, start}
+use Rattle.lus_syntax.specs.Places.{past, start, end_of}
 use Rattle.lus_syntax.specs.Texts.{meaning, LongestText, NoText}
 use Rattle.lus_syntax.specs.Gaps.{IsPlain, Unclosed, IsGap}
 
@@ -14,7 +14,7 @@ pub record Here (here : List ℕ) (t : Lexeme) (rest : List ℕ) : Type 0 where
   pub text : List ℕ
   pub longest : LongestText here text rest
   pub means : meaning text ≡ Ok t.kind
-  pub ends : t.span.«end» ≡ past t.span.start text
+  pub ends : end_of t.span ≡ past t.span.start text
 
 -- a gap, and the token behind it
 pub record Reads (at : Place) (text : List ℕ) (t : Lexeme) (rest : List ℕ) : Type 0 where
@@ -26,7 +26,7 @@ pub record Reads (at : Place) (text : List ℕ) (t : Lexeme) (rest : List ℕ) :
 -- these tokens, each behind a gap, lead from text at one place to rest at another
 abbrev pub Run : List Lexeme → Place → List ℕ → Place → List ℕ → Type 0
 Run [] at text to rest = (at ≡ to) × (text ≡ rest)
-Run (t ∷ ts) at text to rest = (after : List ℕ) × Reads at text t after × Run ts t.span.«end» after to rest
+Run (t ∷ ts) at text to rest = (after : List ℕ) × Reads at text t after × Run ts (end_of t.span) after to rest
 
 -- a gap, and the text's end
 pub record Ends (at : Place) (text : List ℕ) : Type 0 where

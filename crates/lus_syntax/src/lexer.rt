@@ -53,9 +53,14 @@ fn token_at(alloc: Global, bytes: &[u8], start: Place) -> Result<(Token, &[u8]),
     };
     let (text, rest) = bytes.split_at(n);
     let kind = kind_of(alloc, text, start)?;
-    let end = past(start, text);
-    let span = Span { start, end };
-    Ok((Token { kind, span }, rest))
+    let token = Token {
+        kind,
+        span: Span {
+            start,
+            length: n as u32,
+        },
+    };
+    Ok((token, rest))
 }
 
 /// The next token, and what stands behind it.
@@ -79,15 +84,15 @@ fn tokens_of(alloc: Global, text: &str) -> Result<Vec<Token>, LexError>
     ensures found { IfOk result (λ v. Tokens text.now (tokens_seen v.items)) }
     ensures fault { IfErr result (λ e. IsFault text.now e) }
 {
+    // A place of a longer text may have a number that doesn't fit.
+    if text.len() >= u32::MAX as usize {
+        return Err(LexError::Memory);
+    }
     let mut tokens = Vec::new(alloc);
     let mut rest = text.as_bytes();
-    let mut at = Place {
-        byte: 0,
-        line: 1,
-        column: 1,
-    };
+    let mut at = Place::START;
     while let Some((token, after)) = next_token(alloc, rest, at)? {
-        at = token.span.end;
+        at = token.span.end();
         rest = after;
         tokens.push(token)?;
     }
@@ -95,7 +100,7 @@ fn tokens_of(alloc: Global, text: &str) -> Result<Vec<Token>, LexError>
 }
 
 /// The tokens of a source. A refusal is `Lexical`, `Unsupported` or `Limit`, whichever stands leftmost, at the line and
-/// column where its text begins, or `Memory`.
+/// column where its text begins, or `Memory`, also for a text of 4,294,967,295 bytes or more: places have 32 bits.
 pub fn lex(alloc: Global, text: &str) -> Result<Vec<Token>, Refusal>
     // What is read is the text's tokens.
     ensures found { IfOk result (λ v. Tokens text.now (tokens_seen v.items)) }

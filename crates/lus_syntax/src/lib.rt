@@ -20,7 +20,7 @@ pub use limits::{
     MOST_BYTES, MOST_CALLS_DEEP, MOST_CELLS, MOST_CONSTRUCTORS, MOST_DECLARATIONS, MOST_DEPTH,
     MOST_FIELDS, MOST_LEAVES, MOST_NESTING, MOST_PARTS, MOST_VARIABLES,
 };
-pub use place::past_one;
+pub use place::place_behind;
 pub use refusal::{Cycle, Refusal, RefusalNumber};
 pub use token::{Place, Span, Symbol, Token, TokenKind, Word};
 pub use tree::{

@@ -1,16 +1,16 @@
 //! The place behind some bytes.
 
-ghost use Rattle.std.specs.Prelude.{◌≡◌, ◌<◌, ◌-◌, ◌^◌};
-ghost use Rattle.lus_syntax.specs.Places.{past_one, past};
+ghost use Rattle.std.specs.Prelude.{◌≡◌, ◌<◌, ◌+◌, ◌-◌, ◌^◌, length};
+ghost use Rattle.lus_syntax.specs.Places.{past_one, past, place_behind};
 ghost use Rattle.lus_syntax.specs.Reading.{HasRoom};
 
 use crate::token::Place;
 
 /// The place behind one byte. Only the first byte of a character is counted as one.
-pub fn past_one(at: Place, b: u8) -> Place
-    requires byte { at.byte < 2 ^ 64 - 1 }
-    requires line { at.line < 2 ^ 64 - 1 }
-    requires column { at.column < 2 ^ 64 - 1 }
+fn past_one(at: Place, b: u8) -> Place
+    requires byte { at.byte < 2 ^ 32 - 1 }
+    requires line { at.line < 2 ^ 32 - 1 }
+    requires column { at.column < 2 ^ 32 - 1 }
     ensures { result ≡ past_one at b }
 {
     let byte = at.byte + 1;
@@ -41,4 +41,12 @@ pub(crate) fn past(at: Place, bytes: &[u8]) -> Place
         place = past_one(place, *b);
     }
     place
+}
+
+/// The place behind the first bytes of a text.
+pub fn place_behind(bytes: &[u8]) -> Place
+    requires { length bytes.now + 1 < 2 ^ 32 }
+    ensures { result ≡ place_behind bytes.now }
+{
+    past(Place::START, bytes)
 }

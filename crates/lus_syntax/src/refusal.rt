@@ -129,14 +129,14 @@ impl fmt::Display for Cycle {
 #[derive(Debug, Drop)]
 pub struct Refusal {
     pub number: RefusalNumber,
-    pub line: usize,
-    pub column: usize,
+    pub line: u32,
+    pub column: u32,
     pub cycle: Cycle,
 }
 
 impl Refusal {
     /// A refusal at a place, with no cycle.
-    pub fn new(number: RefusalNumber, line: usize, column: usize) -> Refusal
+    pub fn new(number: RefusalNumber, line: u32, column: u32) -> Refusal
         ensures number { result.number ≡ number }
         ensures line { result.line ≡ line }
         ensures column { result.column ≡ column }
@@ -151,7 +151,7 @@ impl Refusal {
     }
 
     /// A refusal at a place for a causal cycle of these variables.
-    pub fn with_cycle(line: usize, column: usize, names: Vec<String>) -> Refusal
+    pub fn with_cycle(line: u32, column: u32, names: Vec<String>) -> Refusal
         ensures number { result.number ≡ RefusalNumber.Cycle }
         ensures line { result.line ≡ line }
         ensures column { result.column ≡ column }

@@ -1,6 +1,6 @@
-use Rattle.std.proofs.Common.{◌≡◌, ◌++◌, ◌∷◌, [], ap, ◌∙◌}
+use Rattle.std.proofs.Common.{◌≡◌, ◌++◌, ◌∷◌, [], ap, ◌∙◌, arith}
 use Rattle.std.proofs.lemmas.List.{map_push}
-use Rattle.lus_syntax.specs.Places.{start}
+use Rattle.lus_syntax.specs.Places.{start, end_of}
 use Rattle.lus_syntax.specs.Tokens.{Reads}
 use Rattle.lus_syntax.specs.View.{token_seen, tokens_seen}
 use Rattle.lus_syntax.proofs.Runs.{reads_length, reads_room, run_push}
@@ -17,7 +17,9 @@ pub loop-tokens-preserved : goal.loop-tokens-preserved
 loop-tokens-preserved c =
     let t = token_seen c.in-Some.token in
     let e : tokens_seen c.push.new.self.items ≡ tokens_seen c.loop-tokens.tokens.items ++ t ∷ [] = ap tokens_seen c.in_ok-push.ensures.items ∙ map_push token_seen c.loop-tokens.tokens.items c.in-Some.token in
+    let room = reads_room c.loop-tokens.at c.loop-tokens.rest.now t c.in-Some.after.now (next c) c.loop-tokens.invariant.room in
+    let behind : c.end-at.result ≡ end_of t.span = c.end-at.ensures (omega (arith, room.byte)) (omega (arith, room.column)) in
     record {
-      so_far = rw e (run_push (tokens_seen c.loop-tokens.tokens.items) start c.args.text.now c.loop-tokens.at c.loop-tokens.rest.now t c.in-Some.after.now c.loop-tokens.invariant.so_far (next c));
-      room = reads_room c.loop-tokens.at c.loop-tokens.rest.now t c.in-Some.after.now (next c) c.loop-tokens.invariant.room;
+      so_far = rw (e, behind) (run_push (tokens_seen c.loop-tokens.tokens.items) start c.args.text.now c.loop-tokens.at c.loop-tokens.rest.now t c.in-Some.after.now c.loop-tokens.invariant.so_far (next c));
+      room = rw behind room;
     }
