@@ -56,11 +56,11 @@ operation_gives ops.Or = both_gives kinds.Bool kinds.Bool
 operation_gives ops.Xor = both_gives kinds.Bool kinds.Bool
 operation_gives ops.Implies = both_gives kinds.Bool kinds.Bool
 operation_gives ops.Equal = compared_gives
-operation_gives ops.Different = compared_gives
+operation_gives ops.NotEqual = compared_gives
 operation_gives ops.Less = both_gives kinds.Int kinds.Bool
-operation_gives ops.LessEqual = both_gives kinds.Int kinds.Bool
+operation_gives ops.AtMost = both_gives kinds.Int kinds.Bool
 operation_gives ops.Greater = both_gives kinds.Int kinds.Bool
-operation_gives ops.GreaterEqual = both_gives kinds.Int kinds.Bool
+operation_gives ops.AtLeast = both_gives kinds.Int kinds.Bool
 
 -- a choice gives what its last operand is
 if_gives : (ks : List Kind) (k : Kind) → if_kind ks ≡ Some k → last_of kinds.Bool ks ≡ k

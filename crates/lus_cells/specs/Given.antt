@@ -26,11 +26,11 @@ result_kind ops.Or = kinds.Bool
 result_kind ops.Xor = kinds.Bool
 result_kind ops.Implies = kinds.Bool
 result_kind ops.Equal = kinds.Bool
-result_kind ops.Different = kinds.Bool
+result_kind ops.NotEqual = kinds.Bool
 result_kind ops.Less = kinds.Bool
-result_kind ops.LessEqual = kinds.Bool
+result_kind ops.AtMost = kinds.Bool
 result_kind ops.Greater = kinds.Bool
-result_kind ops.GreaterEqual = kinds.Bool
+result_kind ops.AtLeast = kinds.Bool
 
 abbrev pub variable_given : Node → ℕ → Kind
 variable_given f x = (item no_variable f.variables x).kind

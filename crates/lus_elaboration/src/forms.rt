@@ -152,16 +152,16 @@ fn joined(
         Infix::Xor => compute(alloc, place, Op::Xor, left, right),
         Infix::And => compute(alloc, place, Op::And, left, right),
         Infix::Equal => compute(alloc, place, Op::Equal, left, right),
-        Infix::NotEqual => compute(alloc, place, Op::Different, left, right),
+        Infix::NotEqual => compute(alloc, place, Op::NotEqual, left, right),
         Infix::Less => compute(alloc, place, Op::Less, left, right),
-        Infix::AtMost => compute(alloc, place, Op::LessEqual, left, right),
+        Infix::AtMost => compute(alloc, place, Op::AtMost, left, right),
         Infix::Greater => compute(alloc, place, Op::Greater, left, right),
-        Infix::AtLeast => compute(alloc, place, Op::GreaterEqual, left, right),
+        Infix::AtLeast => compute(alloc, place, Op::AtLeast, left, right),
         Infix::Add => compute(alloc, place, Op::Add, left, right),
         Infix::Subtract => compute(alloc, place, Op::Subtract, left, right),
         Infix::Multiply => compute(alloc, place, Op::Multiply, left, right),
         Infix::Divide => compute(alloc, place, Op::Divide, left, right),
-        Infix::Modulo => compute(alloc, place, Op::Remainder, left, right),
+        Infix::Remainder => compute(alloc, place, Op::Remainder, left, right),
     }
 }
 

@@ -87,7 +87,7 @@ pub fn infix_kind(op: Infix, left: Kind, right: Kind) -> Option<Kind>
         Infix::Less | Infix::AtMost | Infix::Greater | Infix::AtLeast => {
             both(Kind::Int, Kind::Bool, left, right)
         }
-        Infix::Add | Infix::Subtract | Infix::Multiply | Infix::Divide | Infix::Modulo => {
+        Infix::Add | Infix::Subtract | Infix::Multiply | Infix::Divide | Infix::Remainder => {
             both(Kind::Int, Kind::Int, left, right)
         }
     }

@@ -28,7 +28,7 @@ fn recalls(op: Infix) -> bool
         Infix::Implies | Infix::Or | Infix::Xor | Infix::And => false,
         Infix::Equal | Infix::NotEqual => false,
         Infix::Less | Infix::AtMost | Infix::Greater | Infix::AtLeast => false,
-        Infix::Add | Infix::Subtract | Infix::Multiply | Infix::Divide | Infix::Modulo => false,
+        Infix::Add | Infix::Subtract | Infix::Multiply | Infix::Divide | Infix::Remainder => false,
     }
 }
 

@@ -76,14 +76,14 @@ fn comparisons_hold_at_the_ends(rt: HostRuntime) {
     for (op, a, b, want) in [
         (Op::Less, i64::MIN, i64::MAX, true),
         (Op::Less, 1, 1, false),
-        (Op::LessEqual, 1, 1, true),
-        (Op::LessEqual, i64::MAX, i64::MIN, false),
+        (Op::AtMost, 1, 1, true),
+        (Op::AtMost, i64::MAX, i64::MIN, false),
         (Op::Greater, i64::MAX, i64::MIN, true),
         (Op::Greater, -1, -1, false),
-        (Op::GreaterEqual, -1, -1, true),
-        (Op::GreaterEqual, i64::MIN, i64::MAX, false),
+        (Op::AtLeast, -1, -1, true),
+        (Op::AtLeast, i64::MIN, i64::MAX, false),
         (Op::Equal, -1, 1, false),
-        (Op::Different, -1, 1, true),
+        (Op::NotEqual, -1, 1, true),
     ] {
         assert_eq!(rt;
             truth(op, Value::Int(a), Value::Int(b)),

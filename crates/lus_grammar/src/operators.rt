@@ -96,7 +96,7 @@ fn infix_word(chain: Chain, word: Word) -> Option<Infix>
         (Chain::Disjunction, Word::Xor) => Some(Infix::Xor),
         (Chain::Conjunction, Word::And) => Some(Infix::And),
         (Chain::Term, Word::Div) => Some(Infix::Divide),
-        (Chain::Term, Word::Mod) => Some(Infix::Modulo),
+        (Chain::Term, Word::Mod) => Some(Infix::Remainder),
         _ => None,
     }
 }

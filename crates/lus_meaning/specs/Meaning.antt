@@ -41,16 +41,16 @@ infix_meant infixes.Or = compute ops.Or
 infix_meant infixes.Xor = compute ops.Xor
 infix_meant infixes.And = compute ops.And
 infix_meant infixes.Equal = compute ops.Equal
-infix_meant infixes.NotEqual = compute ops.Different
+infix_meant infixes.NotEqual = compute ops.NotEqual
 infix_meant infixes.Less = compute ops.Less
-infix_meant infixes.AtMost = compute ops.LessEqual
+infix_meant infixes.AtMost = compute ops.AtMost
 infix_meant infixes.Greater = compute ops.Greater
-infix_meant infixes.AtLeast = compute ops.GreaterEqual
+infix_meant infixes.AtLeast = compute ops.AtLeast
 infix_meant infixes.Add = compute ops.Add
 infix_meant infixes.Subtract = compute ops.Subtract
 infix_meant infixes.Multiply = compute ops.Multiply
 infix_meant infixes.Divide = compute ops.Divide
-infix_meant infixes.Modulo = compute ops.Remainder
+infix_meant infixes.Remainder = compute ops.Remainder
 
 -- the operand beside the number c
 abbrev pub beside : ℕ → List ℕ → Operands → Expression

@@ -36,11 +36,11 @@ op_kind ops.Or = of_two (both kinds.Bool kinds.Bool)
 op_kind ops.Xor = of_two (both kinds.Bool kinds.Bool)
 op_kind ops.Implies = of_two (both kinds.Bool kinds.Bool)
 op_kind ops.Equal = of_two compared
-op_kind ops.Different = of_two compared
+op_kind ops.NotEqual = of_two compared
 op_kind ops.Less = of_two (both kinds.Int kinds.Bool)
-op_kind ops.LessEqual = of_two (both kinds.Int kinds.Bool)
+op_kind ops.AtMost = of_two (both kinds.Int kinds.Bool)
 op_kind ops.Greater = of_two (both kinds.Int kinds.Bool)
-op_kind ops.GreaterEqual = of_two (both kinds.Int kinds.Bool)
+op_kind ops.AtLeast = of_two (both kinds.Int kinds.Bool)
 
 abbrev pub if_kind : List Kind → Option Kind
 if_kind (c ∷ k ∷ l ∷ []) = choice_kind c k l

@@ -69,7 +69,7 @@ infix_kind infixes.Add = both kinds.Int kinds.Int
 infix_kind infixes.Subtract = both kinds.Int kinds.Int
 infix_kind infixes.Multiply = both kinds.Int kinds.Int
 infix_kind infixes.Divide = both kinds.Int kinds.Int
-infix_kind infixes.Modulo = both kinds.Int kinds.Int
+infix_kind infixes.Remainder = both kinds.Int kinds.Int
 
 -- `if`
 abbrev pub choice_kind : Kind → Kind → Kind → Option Kind

@@ -64,4 +64,4 @@ module _ (P : ℕ → Type 0) where
   infix_called infixes.Subtract a b h k = (h, (k, tt))
   infix_called infixes.Multiply a b h k = (h, (k, tt))
   infix_called infixes.Divide a b h k = (h, (k, tt))
-  infix_called infixes.Modulo a b h k = (h, (k, tt))
+  infix_called infixes.Remainder a b h k = (h, (k, tt))

@@ -46,7 +46,7 @@ infix_no_call infixes.Add a b = tt
 infix_no_call infixes.Subtract a b = tt
 infix_no_call infixes.Multiply a b = tt
 infix_no_call infixes.Divide a b = tt
-infix_no_call infixes.Modulo a b = tt
+infix_no_call infixes.Remainder a b = tt
 
 pub one_given : (p : Program) (f : Node) (e : Expression) → IsNoCall e → kinds_given_in p f e ≡ option_map (λ k. k ∷ []) (kind_in p f e)
 one_given p f (call g c es) h = absurd h

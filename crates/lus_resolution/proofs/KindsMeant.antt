@@ -171,16 +171,16 @@ module _ (s : Scope) (p : Program) (f : Node) (agrees : Agrees s p f) where
   infix_is infixes.Xor a b k l m h g e = of_both (operators.Compute ops.Xor) a b k l h g ∙ e
   infix_is infixes.And a b k l m h g e = of_both (operators.Compute ops.And) a b k l h g ∙ e
   infix_is infixes.Equal a b k l m h g e = of_both (operators.Compute ops.Equal) a b k l h g ∙ e
-  infix_is infixes.NotEqual a b k l m h g e = of_both (operators.Compute ops.Different) a b k l h g ∙ e
+  infix_is infixes.NotEqual a b k l m h g e = of_both (operators.Compute ops.NotEqual) a b k l h g ∙ e
   infix_is infixes.Less a b k l m h g e = of_both (operators.Compute ops.Less) a b k l h g ∙ e
-  infix_is infixes.AtMost a b k l m h g e = of_both (operators.Compute ops.LessEqual) a b k l h g ∙ e
+  infix_is infixes.AtMost a b k l m h g e = of_both (operators.Compute ops.AtMost) a b k l h g ∙ e
   infix_is infixes.Greater a b k l m h g e = of_both (operators.Compute ops.Greater) a b k l h g ∙ e
-  infix_is infixes.AtLeast a b k l m h g e = of_both (operators.Compute ops.GreaterEqual) a b k l h g ∙ e
+  infix_is infixes.AtLeast a b k l m h g e = of_both (operators.Compute ops.AtLeast) a b k l h g ∙ e
   infix_is infixes.Add a b k l m h g e = of_both (operators.Compute ops.Add) a b k l h g ∙ e
   infix_is infixes.Subtract a b k l m h g e = of_both (operators.Compute ops.Subtract) a b k l h g ∙ e
   infix_is infixes.Multiply a b k l m h g e = of_both (operators.Compute ops.Multiply) a b k l h g ∙ e
   infix_is infixes.Divide a b k l m h g e = of_both (operators.Compute ops.Divide) a b k l h g ∙ e
-  infix_is infixes.Modulo a b k l m h g e = of_both (operators.Compute ops.Remainder) a b k l h g ∙ e
+  infix_is infixes.Remainder a b k l m h g e = of_both (operators.Compute ops.Remainder) a b k l h g ∙ e
 
   -- fields of a value
   field_form : (o : Option Placed) (x : Placed) (a : Expression) → o ≡ Some x

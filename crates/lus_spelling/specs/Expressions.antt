@@ -83,7 +83,7 @@ infix_of Sum (Sign symbols.Minus) = Some operators.Subtract
 infix_of Term (Sign symbols.Star) = Some operators.Multiply
 infix_of Term (Sign symbols.Slash) = Some operators.Divide
 infix_of Term (Keyword words.Div) = Some operators.Divide
-infix_of Term (Keyword words.Mod) = Some operators.Modulo
+infix_of Term (Keyword words.Mod) = Some operators.Remainder
 infix_of _ _ = None
 
 -- how operators mix

@@ -1,7 +1,7 @@
 -- Operators give no nil on operands without nil.
 use Rattle.std.proofs.Common.{◌≡◌, ℕ, zero, suc, Bool, true, false, not, cond, ◌&&◌, ◌||◌, ℤ, List, [], ◌∷◌, Option, Some, None, refl, sym, ap, ◌∙◌, subst, IsTrue, if◌then◌else◌}
 use Rattle.lus_values.specs.declared.operator.Op.{Op}
-use Rattle.lus_values.specs.declared.operator.Op.TheVariants.{Negate, Add, Subtract, Multiply, Divide, Remainder, Not, And, Or, Xor, Implies, Equal, Different, Less, LessEqual, Greater, GreaterEqual}
+use Rattle.lus_values.specs.declared.operator.Op.TheVariants.{Negate, Add, Subtract, Multiply, Divide, Remainder, Not, And, Or, Xor, Implies, Equal, NotEqual, Less, AtMost, Greater, AtLeast}
 use Rattle.lus_values.specs.declared.operator.Operator.{Operator}
 use Rattle.lus_values.specs.declared.operator.Operator.TheVariants.{Compute, If, Structure, Field}
 use Rattle.lus_values.specs.Values.{Value, bool, int, struct, nil, Fields, end, field, fields_of}
@@ -56,11 +56,11 @@ compute_nil_free Or vs = on_bools_nil_free _ vs
 compute_nil_free Xor vs = on_bools_nil_free _ vs
 compute_nil_free Implies vs = on_bools_nil_free _ vs
 compute_nil_free Equal vs = compare_nil_free _ vs
-compute_nil_free Different vs = compare_nil_free _ vs
+compute_nil_free NotEqual vs = compare_nil_free _ vs
 compute_nil_free Less vs = compare_ints_nil_free _ vs
-compute_nil_free LessEqual vs = compare_ints_nil_free _ vs
+compute_nil_free AtMost vs = compare_ints_nil_free _ vs
 compute_nil_free Greater vs = compare_ints_nil_free _ vs
-compute_nil_free GreaterEqual vs = compare_ints_nil_free _ vs
+compute_nil_free AtLeast vs = compare_ints_nil_free _ vs
 
 if_nil_free : (c : Bool) (a b : Value) → IsTrue (nil_free a) → IsTrue (nil_free b) → IsTrue (nil_free (if c then a else b))
 if_nil_free true a b h k = h

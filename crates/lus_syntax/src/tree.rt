@@ -108,7 +108,8 @@ pub enum Infix {
     Subtract,
     Multiply,
     Divide,
-    Modulo,
+    /// The word `mod`: what `Divide`, which rounds toward zero, leaves.
+    Remainder,
 }
 
 /// What stands before the value of a part.

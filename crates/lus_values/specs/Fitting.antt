@@ -1,7 +1,7 @@
 -- Which operands an operator takes. Lustre V6 reference manual, "Predefined operators".
 use Rattle.std.specs.Prelude.{Bool, true, false, ◌&&◌, ◌||◌, nat_eq, List, [], ◌∷◌}
 use Rattle.lus_values.specs.declared.operator.Op.{Op}
-use Rattle.lus_values.specs.declared.operator.Op.TheVariants.{Negate, Add, Subtract, Multiply, Divide, Remainder, Not, And, Or, Xor, Implies, Equal, Different, Less, LessEqual, Greater, GreaterEqual}
+use Rattle.lus_values.specs.declared.operator.Op.TheVariants.{Negate, Add, Subtract, Multiply, Divide, Remainder, Not, And, Or, Xor, Implies, Equal, NotEqual, Less, AtMost, Greater, AtLeast}
 use Rattle.lus_values.specs.Values.{Value, bool, int, enum, struct, Fields, end, field}
 use Rattle.lus_values.specs.Operators.{is_nil}
 
@@ -59,8 +59,8 @@ fits_op Or = two_bools
 fits_op Xor = two_bools
 fits_op Implies = two_bools
 fits_op Equal = two fit_equality
-fits_op Different = two fit_equality
+fits_op NotEqual = two fit_equality
 fits_op Less = two_ints
-fits_op LessEqual = two_ints
+fits_op AtMost = two_ints
 fits_op Greater = two_ints
-fits_op GreaterEqual = two_ints
+fits_op AtLeast = two_ints

@@ -3,7 +3,7 @@
 use Rattle.std.specs.Prelude.{ℕ, zero, suc, Bool, true, false, not, ◌&&◌, ◌||◌, ℤ, ◌+ℤ◌, ◌-ℤ◌, ◌*ℤ◌, neg_ℤ, int_lt, int_le, List, [], ◌∷◌, Option, Some, None, if◌then◌else◌}
 use Rattle.std.specs.Option.{option_and_then, option_map}
 use Rattle.lus_values.specs.declared.operator.Op.{Op}
-use Rattle.lus_values.specs.declared.operator.Op.TheVariants.{Negate, Add, Subtract, Multiply, Divide, Remainder, Not, And, Or, Xor, Implies, Equal, Different, Less, LessEqual, Greater, GreaterEqual}
+use Rattle.lus_values.specs.declared.operator.Op.TheVariants.{Negate, Add, Subtract, Multiply, Divide, Remainder, Not, And, Or, Xor, Implies, Equal, NotEqual, Less, AtMost, Greater, AtLeast}
 use Rattle.lus_values.specs.declared.operator.Operator.{Operator}
 use Rattle.lus_values.specs.declared.operator.Operator.TheVariants.{Compute, If, Structure, Field}
 use Rattle.lus_values.specs.Values.{Value, bool, int, struct, nil, Fields, end, field, fields_of}
@@ -64,11 +64,11 @@ compute Or = on_bools (λ a b. a || b)
 compute Xor = on_bools (λ a b. not (bool_equal a b))
 compute Implies = on_bools (λ a b. not a || b)
 compute Equal = compare same
-compute Different = compare (λ a b. not (same a b))
+compute NotEqual = compare (λ a b. not (same a b))
 compute Less = compare_ints int_lt
-compute LessEqual = compare_ints int_le
+compute AtMost = compare_ints int_le
 compute Greater = compare_ints (λ a b. int_lt b a)
-compute GreaterEqual = compare_ints (λ a b. int_le b a)
+compute AtLeast = compare_ints (λ a b. int_le b a)
 
 -- `if c then a else b`
 abbrev pub choose : List Value → Option Value

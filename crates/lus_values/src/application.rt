@@ -74,11 +74,11 @@ fn compute(op: Op, operands: &[Value]) -> Option<Value>
         Op::Xor => two_bools(operands).map(|(a, b)| Value::Bool(a != b)),
         Op::Implies => two_bools(operands).map(|(a, b)| Value::Bool(!a || b)),
         Op::Equal => equality(operands).map(Value::Bool),
-        Op::Different => equality(operands).map(|equal| Value::Bool(!equal)),
+        Op::NotEqual => equality(operands).map(|equal| Value::Bool(!equal)),
         Op::Less => two_ints(operands).map(|(a, b)| Value::Bool(a < b)),
-        Op::LessEqual => two_ints(operands).map(|(a, b)| Value::Bool(a <= b)),
+        Op::AtMost => two_ints(operands).map(|(a, b)| Value::Bool(a <= b)),
         Op::Greater => two_ints(operands).map(|(a, b)| Value::Bool(a > b)),
-        Op::GreaterEqual => two_ints(operands).map(|(a, b)| Value::Bool(a >= b)),
+        Op::AtLeast => two_ints(operands).map(|(a, b)| Value::Bool(a >= b)),
     }
 }
 

@@ -21,14 +21,14 @@ pub fn fits_op(op: Op, operands: &[Value]) -> bool
         | Op::Divide
         | Op::Remainder
         | Op::Less
-        | Op::LessEqual
+        | Op::AtMost
         | Op::Greater
-        | Op::GreaterEqual => matches!(operands, [a, b] if fits_int(a) && fits_int(b)),
+        | Op::AtLeast => matches!(operands, [a, b] if fits_int(a) && fits_int(b)),
         Op::Not => matches!(operands, [a] if fits_bool(a)),
         Op::And | Op::Or | Op::Xor | Op::Implies => {
             matches!(operands, [a, b] if fits_bool(a) && fits_bool(b))
         }
-        Op::Equal | Op::Different => matches!(operands, [a, b] if fit_equality(a, b)),
+        Op::Equal | Op::NotEqual => matches!(operands, [a, b] if fit_equality(a, b)),
     }
 }
 

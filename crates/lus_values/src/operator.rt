@@ -9,7 +9,7 @@ pub enum Op {
     Multiply,
     /// Rounds toward zero.
     Divide,
-    /// What `Divide` leaves.
+    /// The language's `mod`: what `Divide` leaves, so never of another sign than the first operand.
     Remainder,
     Not,
     And,
@@ -17,11 +17,11 @@ pub enum Op {
     Xor,
     Implies,
     Equal,
-    Different,
+    NotEqual,
     Less,
-    LessEqual,
+    AtMost,
     Greater,
-    GreaterEqual,
+    AtLeast,
 }
 
 /// An operator of the language, whatever its result.
