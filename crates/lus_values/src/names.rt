@@ -1,10 +1,9 @@
 //! Names of constructors.
 
-ghost use Rattle.std.specs.Prelude.{◌≡◌, ◌^◌, ◌<◌, ◌≤◌, ◌++◌, ◌∷◌, [], Some, None, IfOk, OnOk, length, map, string_bytes, if◌then◌else◌};
+ghost use Rattle.std.specs.Prelude.{◌≡◌, ◌^◌, ◌<◌, ◌≤◌, ◌++◌, ◌∷◌, [], IfOk, OnOk, length, map, string_bytes};
 ghost use Rattle.std.specs.Option.{option_map, option_or};
-ghost use Rattle.std.specs.Str.{bytes_eq};
 ghost use Rattle.indexmap.specs.IndexMap.{get_by_text};
-ghost use Rattle.lus_values.specs.Names.{Text, name_of, numbers_of};
+ghost use Rattle.lus_values.specs.Names.{Text, name_of, numbers_by, numbers_of};
 
 use crate::memory::Memory;
 use indexmap::IndexMap;
@@ -19,15 +18,15 @@ pub struct Names {
 }
 
 impl Model for Names {
-    ghost use Rattle.std.specs.Prelude.{◌≡◌, List, ℕ, map, string_bytes};
+    ghost use Rattle.std.specs.Prelude.{◌≡◌, List, ℕ};
     ghost use Rattle.indexmap.specs.IndexMap.{get_by_text};
-    ghost use Rattle.lus_values.specs.Names.{Text, numbers_of};
+    ghost use Rattle.lus_values.specs.Names.{Text, names_in, numbers_of};
 
     ghost Value = { List (List (List ℕ)) };
 
-    ghost view = { λ n. map (λ names. map string_bytes names.items) n.types.items };
+    ghost view = { λ n. names_in n.types.items };
 
-    ghost invariant = { λ n. (text : Text) → get_by_text n.numbers text ≡ numbers_of (map (λ names. map string_bytes names.items) n.types.items) text };
+    ghost invariant = { λ n. (text : Text) → get_by_text n.numbers text ≡ numbers_of (names_in n.types.items) text };
 }
 
 impl Names {
@@ -84,7 +83,8 @@ fn declare(
     name: &String,
     place: (u32, u32),
 ) -> Result<(), Memory>
-    ensures { OnOk result ((text : Text) → get_by_text numbers.new text ≡ option_or (get_by_text numbers.old text) (if bytes_eq text (string_bytes name.now) then Some place else None)) }
+    ensures { let said = numbers_by (string_bytes name.now) place in
+        OnOk result ((text : Text) → get_by_text numbers.new text ≡ option_or (get_by_text numbers.old text) (said text)) }
 {
     if !numbers.contains_key(name) {
         numbers.insert(name.clone()?, place)?;
