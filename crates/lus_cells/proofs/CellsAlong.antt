@@ -20,7 +20,7 @@ use Rattle.lus_cells.specs.Calls.{nodes_used}
 use Rattle.lus_cells.specs.Cells.{leaves_given, kind_leaves, node_cells, AreLeaves, AreCells, AreStateCells, FitsCells}
 use Rattle.lus_cells.specs.Given.{given_leaves, counted}
 use Rattle.lus_cells.specs.Uses.{AreCappedLeaves}
-use Rattle.lus_cells.proofs.AlongOrders.{IsLocal, GivesNothing, IsFilled, uses_before, solution, solves, filled_more, filled_all}
+use Rattle.lus_meaning.proofs.AlongOrders.{IsLocal, GivesNothing, IsFilled, uses_before, solution, solves, filled_more, filled_all}
 use Rattle.lus_cells.proofs.KindsGiven.{given_is}
 use Rattle.lus_cells.proofs.LeavesAlong.{IsAlike, alike_sum, capped_alike}
 use Rattle.lus_cells.proofs.Numbering.{cells_stored}
@@ -74,7 +74,7 @@ module _ (p : Program) (resolved : Resolved p) where
     pub some_cells : (leaves : ℕ → ℕ) → AreLeaves p leaves → (cells : List ℕ) × AreCells p cells
     some_cells leaves are =
         let n = length p.nodes in
-        let at = solution (program_uses p) 0 (cells_by leaves) (cells_local leaves) (cells_past leaves) in
+        let at = solution (program_uses p) 0 (cells_by leaves) in
         let cells = map at (range_with_len 0 n) in
         let long : length cells ≡ n = length-map-range_with_len at 0 n in
         let solved = solves (program_uses p) 0 (cells_by leaves) (cells_local leaves) (cells_past leaves) order o in

@@ -14,7 +14,7 @@ use Rattle.lus_meaning.specs.Resolved.{Resolved, program_uses}
 use Rattle.lus_cells.specs.Cells.{AreCells, FitsCells, NamesTooMany}
 use Rattle.lus_cells.specs.Given.{counted}
 use Rattle.lus_cells.specs.Uses.{AreCappedLeaves}
-use Rattle.lus_cells.proofs.AlongOrders.{IsFilled}
+use Rattle.lus_meaning.proofs.AlongOrders.{IsFilled}
 use Rattle.lus_cells.proofs.CellsAlong.{cells_more, count_right, node_fits, node_is, over_most, some_cells, too_many}
 
 module _ (p : StoredProgram) where

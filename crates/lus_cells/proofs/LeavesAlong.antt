@@ -14,7 +14,7 @@ use Rattle.lus_meaning.specs.Resolved.{declared_in}
 use Rattle.lus_cells.specs.Cells.{declared_leaves, AreLeaves}
 use Rattle.lus_meaning.specs.Sound.{declared_uses, type_uses}
 use Rattle.lus_cells.specs.Uses.{AreCappedLeaves}
-use Rattle.lus_cells.proofs.AlongOrders.{IsLocal, GivesNothing, IsFilled, uses_before, solution, solves, filled_more, filled_all}
+use Rattle.lus_meaning.proofs.AlongOrders.{IsLocal, GivesNothing, IsFilled, uses_before, solution, solves, filled_more, filled_all}
 use Rattle.lus_cells.proofs.Related.{declared_related}
 
 -- two numbers are alike up to m
@@ -52,7 +52,7 @@ module _ (p : Program) where
 
   module _ (order : List ℕ) (o : IsOrder (type_uses p) order) where
     some_leaves : (at : ℕ → ℕ) × AreLeaves p at
-    some_leaves = (solution (type_uses p) 1 leaves_by leaves_local leaves_past, solves (type_uses p) 1 leaves_by leaves_local leaves_past order o)
+    some_leaves = (solution (type_uses p) 1 leaves_by, solves (type_uses p) 1 leaves_by leaves_local leaves_past order o)
 
     -- a place of the order is that of a type
     pub type_fits : (i : ℕ) → i < length order → get_or order i 0 < length p.types

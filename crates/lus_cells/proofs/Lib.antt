@@ -1,5 +1,4 @@
 pub mod Fields
-pub mod AlongOrders
 pub mod Numbering
 pub mod KindsGiven
 pub mod Related

@@ -14,7 +14,8 @@ use Rattle.lus_graph.proofs.Steps.{used_at}
 use Rattle.lus_meaning.specs.Loopless.{called, called_in, calls_of, node_names, node_uses, place_in}
 use Rattle.lus_meaning.specs.Sized.{call_depth_at, greatest}
 use Rattle.lus_limits.proofs.NamePlaces.{places_inside}
-use Rattle.lus_limits.proofs.AlongOrders.{IsFilled, IsInside, IsLocal, all_within, one_more, one_past}
+use Rattle.lus_meaning.proofs.AlongOrders.{IsFilled, IsInside, IsLocal}
+use Rattle.lus_limits.proofs.AgainstLimits.{all_within, one_more, one_past}
 use Rattle.lus_limits.proofs.Greatest.{greatest-same}
 
 module _ (nodes : List Text) where

@@ -1,7 +1,7 @@
 pub mod NamePlaces
 pub mod Looping
 pub mod Counting
-pub mod AlongOrders
+pub mod AgainstLimits
 pub mod TypesByUses
 pub mod TypeTables
 pub mod Greatest

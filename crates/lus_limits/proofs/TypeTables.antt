@@ -17,7 +17,8 @@ use Rattle.lus_meaning.specs.Loopless.{definition_uses, type_names, type_uses}
 use Rattle.lus_meaning.specs.Tables.{definition_at, definition_kind, kind_at, no_definition, AreKinds}
 use Rattle.lus_meaning.specs.Sized.{definition_leaves, definition_nesting, leaves_at, nesting_at}
 use Rattle.lus_limits.specs.ByNames.{kind_of, leaves_of, nesting_of}
-use Rattle.lus_limits.proofs.AlongOrders.{IsFilled, filled_more, filled_at, one_more, one_past, all_within}
+use Rattle.lus_meaning.proofs.AlongOrders.{IsFilled, filled_all}
+use Rattle.lus_limits.proofs.AgainstLimits.{filled_next, one_more, one_past, all_within}
 use Rattle.lus_limits.proofs.TypesByUses.{kind_is, kind_step_local, leaves_are, leaves_step_local, nesting_is, nesting_step_local, types_inside}
 
 -- the place of the order at i
@@ -61,13 +62,13 @@ module _ (t : StoredTree) where
         let right : v ≡ definition_kind p (item kind_names.Bool table) x (definition_at p x) =
         is ∙ rw (here, named) (sym (kind_is p (item kind_names.Bool table) x (definition_seen d))) in
         let room : x < length table = omega (arith, size, type_fits i lt) in
-        filled_more (type_uses p) kind_names.Bool (λ at k. definition_kind p at k (definition_at p k)) (kind_step_local p) (types_inside p) order kind_names.Bool table (length p.types) i x v o.ordered size_fits lt refl room filled right
+        filled_next (type_uses p) kind_names.Bool (λ at k. definition_kind p at k (definition_at p k)) (kind_step_local p) (types_inside p) order kind_names.Bool table (length p.types) i x v o.ordered size_fits lt refl room filled right
 
     -- all types
     pub kinds_whole : (i : ℕ) (table : List Kind) → length order ≤ i → length table ≡ length t.types.items → IsFilled kind_names.Bool (kind_at (tree_seen t)) (take i order) table → AreKinds (tree_seen t) table
     kinds_whole i table le size filled = record {
       size = size ∙ sym types_length;
-      each = below_all (λ k. item kind_names.Bool table k ≡ kind_at (tree_seen t) k) (length (map type_seen t.types.items)) (λ k lt. filled_at (type_uses (tree_seen t)) order kind_names.Bool (kind_at (tree_seen t)) table i k o le filled (omega (arith, uses_length, types_length)));
+      each = below_all (λ k. item kind_names.Bool table k ≡ kind_at (tree_seen t) k) (length (map type_seen t.types.items)) (λ k lt. filled_all (type_uses (tree_seen t)) order o kind_names.Bool (kind_at (tree_seen t)) table i k le filled (omega (arith, uses_length, types_length)));
     }
 
     count : length (map type_seen t.types.items) ≡ length (type_uses (tree_seen t))

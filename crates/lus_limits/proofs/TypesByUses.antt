@@ -17,7 +17,7 @@ use Rattle.lus_meaning.specs.Tables.{numbered_from, type_places, of_type, defini
 use Rattle.lus_meaning.specs.Sized.{greatest, definition_leaves, definition_nesting}
 use Rattle.lus_limits.specs.ByNames.{of_name, leaves_of, nesting_of, kind_of}
 use Rattle.lus_limits.proofs.NamePlaces.{places_inside}
-use Rattle.lus_limits.proofs.AlongOrders.{IsLocal, IsInside}
+use Rattle.lus_meaning.proofs.AlongOrders.{IsLocal, IsInside}
 
 -- by places and by names
 

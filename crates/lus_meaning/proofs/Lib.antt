@@ -3,4 +3,5 @@ pub mod Lookups
 pub mod Declarations
 pub mod AppendedNames
 pub mod Faults
+pub mod AlongOrders
 mod Rows

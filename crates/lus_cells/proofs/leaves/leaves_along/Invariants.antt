@@ -4,7 +4,7 @@ use Rattle.lus_program.specs.View.{program_seen}
 use Rattle.lus_meaning.specs.Sound.{HaveFields}
 use Rattle.lus_cells.specs.Cells.{AreLeaves}
 use Rattle.lus_cells.specs.Uses.{ArePositive}
-use Rattle.lus_cells.proofs.AlongOrders.{IsFilled}
+use Rattle.lus_meaning.proofs.AlongOrders.{IsFilled}
 use Rattle.lus_cells.proofs.leaves.leaves_along.Given as goal
 
 abbrev pub invariant-loop-place : goal.invariant-loop-place

@@ -2,7 +2,7 @@ use Rattle.std.proofs.Common.{◌≡◌, length, take}
 use Rattle.lus_syntax.specs.View.{tree_seen}
 use Rattle.lus_program.specs.declared.types.Kind.TheVariants as kind_names
 use Rattle.lus_meaning.specs.Tables.{kind_at}
-use Rattle.lus_limits.proofs.AlongOrders.{IsFilled}
+use Rattle.lus_meaning.proofs.AlongOrders.{IsFilled}
 use Rattle.lus_limits.proofs.declared_kinds.kinds_of_types.Given as goal
 
 abbrev pub invariant-loop-place : goal.invariant-loop-place

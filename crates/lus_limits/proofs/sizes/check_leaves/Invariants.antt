@@ -1,7 +1,7 @@
 use Rattle.std.proofs.Common.{◌≡◌, ◌≤◌, length, take, All}
 use Rattle.lus_syntax.specs.View.{tree_seen}
 use Rattle.lus_meaning.specs.Sized.{leaves_at}
-use Rattle.lus_limits.proofs.AlongOrders.{IsFilled}
+use Rattle.lus_meaning.proofs.AlongOrders.{IsFilled}
 use Rattle.lus_limits.proofs.sizes.check_leaves.Given as goal
 
 abbrev pub invariant-loop-place : goal.invariant-loop-place
