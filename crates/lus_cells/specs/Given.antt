@@ -1,7 +1,5 @@
 -- The type of an expression that has one, found without its tests: bool where nothing says which.
 use Rattle.std.specs.Prelude.{ℕ, List, unwrap_or}
-use Rattle.lus_values.specs.declared.operator.Op.{Op}
-use Rattle.lus_values.specs.declared.operator.Op.TheVariants as ops
 use Rattle.lus_values.specs.declared.operator.Operator.{Operator}
 use Rattle.lus_values.specs.declared.operator.Operator.TheVariants as operators
 use Rattle.lus_values.specs.Lists.{item}
@@ -9,28 +7,8 @@ use Rattle.lus_program.specs.declared.types.Kind.{Kind}
 use Rattle.lus_program.specs.declared.types.Kind.TheVariants as kinds
 use Rattle.lus_program.specs.Programs.{Expression, literal, variable, operate, pre, arrow, fby, when, merge, call, Operands, none, more, Node, Program, no_variable, node_at}
 use Rattle.lus_meaning.specs.Types.{value_kind}
-use Rattle.lus_meaning.specs.Resolved.{field_kinds}
+use Rattle.lus_meaning.specs.Resolved.{field_kinds, operation_kind}
 use Rattle.lus_cells.specs.Cells.{kind_leaves, expression_cells, operand_cells}
-
--- what an operation gives
-abbrev pub result_kind : Op → Kind
-result_kind ops.Negate = kinds.Int
-result_kind ops.Add = kinds.Int
-result_kind ops.Subtract = kinds.Int
-result_kind ops.Multiply = kinds.Int
-result_kind ops.Divide = kinds.Int
-result_kind ops.Remainder = kinds.Int
-result_kind ops.Not = kinds.Bool
-result_kind ops.And = kinds.Bool
-result_kind ops.Or = kinds.Bool
-result_kind ops.Xor = kinds.Bool
-result_kind ops.Implies = kinds.Bool
-result_kind ops.Equal = kinds.Bool
-result_kind ops.NotEqual = kinds.Bool
-result_kind ops.Less = kinds.Bool
-result_kind ops.AtMost = kinds.Bool
-result_kind ops.Greater = kinds.Bool
-result_kind ops.AtLeast = kinds.Bool
 
 abbrev pub variable_given : Node → ℕ → Kind
 variable_given f x = (item no_variable f.variables x).kind
@@ -41,7 +19,7 @@ output_given p g = variable_given (node_at p g) (node_at p g).inputs
 
 -- what an operator gives whose last operand is of this type
 abbrev pub operator_given : Program → Operator → Kind → Kind
-operator_given p (operators.Compute op) k = result_kind op
+operator_given p (operators.Compute op) k = operation_kind op
 operator_given p operators.If k = k
 operator_given p (operators.Structure t) k = kinds.Struct t
 operator_given p (operators.Field n) k = item kinds.Bool (field_kinds p k) n

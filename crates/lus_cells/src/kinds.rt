@@ -1,16 +1,17 @@
 //! The types of variables, operations, fields and outputs; bool where nothing says which.
 
-ghost use Rattle.std.specs.Prelude.{◌≡◌, unwrap_or, map};
+ghost use Rattle.std.specs.Prelude.{◌≡◌, unwrap_or};
 ghost use Rattle.lus_values.specs.Lists.{item};
 ghost use Rattle.lus_values.specs.View.{value_of};
 ghost use Rattle.lus_program.specs.declared.types.Kind.TheVariants.{Bool as OfBool};
-ghost use Rattle.lus_program.specs.View.{field_of, node_of, program_seen};
-ghost use Rattle.lus_meaning.specs.Types.{fields_in, value_kind as kind_of_value};
-ghost use Rattle.lus_meaning.specs.Resolved.{declared_in, field_kinds};
-ghost use Rattle.lus_cells.specs.Given.{operator_given, output_given, result_kind, variable_given};
+ghost use Rattle.lus_program.specs.View.{node_of, program_seen};
+ghost use Rattle.lus_meaning.specs.Types.{value_kind as kind_of_value};
+ghost use Rattle.lus_meaning.specs.Resolved.{field_kinds};
+ghost use Rattle.lus_cells.specs.Given.{operator_given, output_given, variable_given};
 
-use lus_program::{Declared, Field, Kind, Node, Program};
-use lus_values::{Op, Operator, Value};
+use lus_meaning::{fields_at, operation_kind};
+use lus_program::{Kind, Node, Program};
+use lus_values::{Operator, Value};
 
 /// The type of a value.
 pub fn value_kind(value: &Value) -> Kind
@@ -42,31 +43,6 @@ pub fn output_kind(program: &Program, called: u32) -> Kind
     match program.nodes.get(called as usize) {
         Some(node) => variable_kind(node, node.inputs),
         None => Kind::Bool,
-    }
-}
-
-/// What an operation gives.
-fn operation_kind(operation: Op) -> Kind
-    ensures { result ≡ result_kind operation }
-{
-    match operation {
-        Op::Negate => Kind::Int,
-        Op::Add => Kind::Int,
-        Op::Subtract => Kind::Int,
-        Op::Multiply => Kind::Int,
-        Op::Divide => Kind::Int,
-        Op::Remainder => Kind::Int,
-        _ => Kind::Bool,
-    }
-}
-
-/// The fields of a declared type, none where it is no structure.
-fn fields_at(program: &Program, number: u32) -> &[Field]
-    ensures { map field_of result.now ≡ fields_in (declared_in (program_seen program.now) number) }
-{
-    match program.types.get(number as usize) {
-        Some(Declared::Structure(fields)) => fields.as_slice(),
-        _ => &[],
     }
 }
 

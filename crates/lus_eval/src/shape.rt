@@ -2,12 +2,13 @@
 
 ghost use Rattle.std.specs.Prelude.{◌≡◌, map};
 ghost use Rattle.lus_values.specs.View.{entry_of, value_of};
-ghost use Rattle.lus_program.specs.View.{field_of, program_seen};
-ghost use Rattle.lus_meaning.specs.Types.{constructors_in, fields_in};
+ghost use Rattle.lus_program.specs.View.{program_seen};
+ghost use Rattle.lus_meaning.specs.Types.{constructors_in};
 ghost use Rattle.lus_meaning.specs.Resolved.{declared_in};
 ghost use Rattle.lus_simulation.specs.Fitting.{entry_fits, is_of};
 ghost use Rattle.lus_eval.specs.TypedRows.{entries_fit, values_fit};
 
+use lus_meaning::fields_at;
 use lus_program::{Declared, Field, Kind, Program, Variable};
 use lus_values::Value;
 
@@ -20,18 +21,6 @@ fn constructors_at(program: &Program, number: u32) -> usize
         Some(Declared::Alias(_)) => 0,
         Some(Declared::Structure(_)) => 0,
         None => 0,
-    }
-}
-
-/// The fields of a declared type, none where it is no structure.
-fn fields_at(program: &Program, number: u32) -> &[Field]
-    ensures { map field_of result.now ≡ fields_in (declared_in (program_seen program.now) number) }
-{
-    match program.types.get(number as usize) {
-        Some(Declared::Structure(fields)) => fields.as_slice(),
-        Some(Declared::Alias(_)) => &[],
-        Some(Declared::Enumeration(_)) => &[],
-        None => &[],
     }
 }
 

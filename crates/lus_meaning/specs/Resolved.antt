@@ -23,6 +23,7 @@ abbrev pub of_two : (Kind → Kind → Option Kind) → List Kind → Option Kin
 of_two f (k ∷ l ∷ []) = f k l
 of_two f ks = None
 
+-- what an operation gives for operands of these types
 abbrev pub op_kind : Op → List Kind → Option Kind
 op_kind ops.Negate = only kinds.Int kinds.Int
 op_kind ops.Add = of_two (both kinds.Int kinds.Int)
@@ -41,6 +42,26 @@ op_kind ops.Less = of_two (both kinds.Int kinds.Bool)
 op_kind ops.AtMost = of_two (both kinds.Int kinds.Bool)
 op_kind ops.Greater = of_two (both kinds.Int kinds.Bool)
 op_kind ops.AtLeast = of_two (both kinds.Int kinds.Bool)
+
+-- what an operation gives, whatever its operands
+abbrev pub operation_kind : Op → Kind
+operation_kind ops.Negate = kinds.Int
+operation_kind ops.Add = kinds.Int
+operation_kind ops.Subtract = kinds.Int
+operation_kind ops.Multiply = kinds.Int
+operation_kind ops.Divide = kinds.Int
+operation_kind ops.Remainder = kinds.Int
+operation_kind ops.Not = kinds.Bool
+operation_kind ops.And = kinds.Bool
+operation_kind ops.Or = kinds.Bool
+operation_kind ops.Xor = kinds.Bool
+operation_kind ops.Implies = kinds.Bool
+operation_kind ops.Equal = kinds.Bool
+operation_kind ops.NotEqual = kinds.Bool
+operation_kind ops.Less = kinds.Bool
+operation_kind ops.AtMost = kinds.Bool
+operation_kind ops.Greater = kinds.Bool
+operation_kind ops.AtLeast = kinds.Bool
 
 abbrev pub if_kind : List Kind → Option Kind
 if_kind (c ∷ k ∷ l ∷ []) = choice_kind c k l

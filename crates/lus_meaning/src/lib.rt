@@ -3,10 +3,12 @@
 
 mod entries;
 mod fault;
+mod kinds;
 mod scope;
 mod typed;
 
 pub use entries::{Constructor, Placed, Signature};
 pub use fault::Fault;
+pub use kinds::{fields_at, operation_kind};
 pub use scope::{Scope, field};
 pub use typed::Typed;
