@@ -1,12 +1,13 @@
 //! Recursion: a type or a node that leads back to itself.
 
-ghost use Rattle.std.specs.Prelude.{◌≡◌, ◌≢◌, ◌≤◌, IfOk, IfErr, OnOk, length, map, string_bytes};
+ghost use Rattle.std.specs.Prelude.{◌≡◌, ◌≤◌, IfOk, IfErr, OnOk, length, map, string_bytes};
 ghost use Rattle.lus_graph.specs.Ways.{HasNoWayBack, IsOrder};
 ghost use Rattle.lus_syntax.specs.Limits.{most_declarations};
 ghost use Rattle.lus_syntax.specs.declared.refusal.RefusalNumber.TheVariants as numbers;
 ghost use Rattle.lus_syntax.specs.Refusals.{HasShape};
 ghost use Rattle.lus_syntax.specs.View.{tree_seen};
 ghost use Rattle.lus_limits.specs.GraphErrors.{number_of};
+ghost use Rattle.lus_meaning.specs.Refusals.{RefusesFor};
 ghost use Rattle.lus_meaning.specs.Loopless.{Loopless, node_names, node_uses as calls_of_nodes, type_names, type_uses as uses_of_types};
 
 use crate::uses::{node_uses, type_uses};
@@ -36,7 +37,7 @@ pub fn check_recursion(
     ensures types { IfOk result (λ orders. IsOrder (uses_of_types (tree_seen tree.now)) orders.types.items) }
     ensures nodes { IfOk result (λ orders. IsOrder (calls_of_nodes (tree_seen tree.now)) orders.nodes.items) }
     ensures loopless { OnOk result (Loopless (tree_seen tree.now)) }
-    ensures refused { IfErr result (λ e. e.number ≢ numbers.Memory → (Loopless (tree_seen tree.now) → ⊥) × (e.number ≡ numbers.Recursion)) }
+    ensures refused { IfErr result (RefusesFor numbers.Recursion (Loopless (tree_seen tree.now))) }
     ensures shaped { IfErr result HasShape }
 {
     let types = order_of_types(alloc, tree, types)?;
@@ -52,7 +53,7 @@ fn order_of_types(
     requires few { length types.now.keys ≤ most_declarations }
     requires names { map string_bytes types.now.keys ≡ type_names (tree_seen tree.now) }
     ensures order { IfOk result (λ order. IsOrder (uses_of_types (tree_seen tree.now)) order.items) }
-    ensures refused { IfErr result (λ e. e.number ≢ numbers.Memory → (HasNoWayBack (uses_of_types (tree_seen tree.now)) → ⊥) × (e.number ≡ numbers.Recursion)) }
+    ensures refused { IfErr result (RefusesFor numbers.Recursion (HasNoWayBack (uses_of_types (tree_seen tree.now)))) }
     ensures shaped { IfErr result HasShape }
 {
     let uses = type_uses(alloc, types, tree)?;
@@ -70,7 +71,7 @@ fn order_of_nodes(
     requires few { length nodes.now.keys ≤ most_declarations }
     requires names { map string_bytes nodes.now.keys ≡ node_names (tree_seen tree.now) }
     ensures order { IfOk result (λ order. IsOrder (calls_of_nodes (tree_seen tree.now)) order.items) }
-    ensures refused { IfErr result (λ e. e.number ≢ numbers.Memory → (HasNoWayBack (calls_of_nodes (tree_seen tree.now)) → ⊥) × (e.number ≡ numbers.Recursion)) }
+    ensures refused { IfErr result (RefusesFor numbers.Recursion (HasNoWayBack (calls_of_nodes (tree_seen tree.now)))) }
     ensures shaped { IfErr result HasShape }
 {
     let uses = node_uses(alloc, nodes, tree)?;

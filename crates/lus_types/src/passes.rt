@@ -14,6 +14,7 @@ ghost use Rattle.lus_meaning.specs.Loopless.{Loopless, node_uses as calls_of_nod
 ghost use Rattle.lus_meaning.specs.Sized.{Bounded, Counted};
 ghost use Rattle.lus_meaning.specs.Tables.{AreKinds, declared_as, tables as tables_of};
 ghost use Rattle.lus_meaning.specs.Meaning.{node_meant, program_of};
+ghost use Rattle.lus_meaning.specs.Refusals.{RefusesFor};
 ghost use Rattle.lus_meaning.specs.WellTyped.{IsTyped, NodeTyped};
 ghost use Rattle.lus_meaning.specs.ScopeView.{Faulty, scope_of};
 ghost use Rattle.lus_names.specs.NameView.{known_seen};
@@ -44,7 +45,7 @@ fn refusal(number: RefusalNumber, fault: Fault) -> Refusal
 /// Checks the counts of declarations.
 pub fn counts(tree: &Tree) -> Result<(), Refusal>
     ensures ok { OnOk result (Counted (tree_seen tree.now)) }
-    ensures refused { IfErr result (λ e. e.number ≢ numbers.Memory → (Counted (tree_seen tree.now) → ⊥) × (e.number ≡ numbers.Limit)) }
+    ensures refused { IfErr result (RefusesFor numbers.Limit (Counted (tree_seen tree.now))) }
     ensures shaped { IfErr result HasShape }
 {
     match check_counts(tree) {
@@ -57,7 +58,7 @@ pub fn counts(tree: &Tree) -> Result<(), Refusal>
 pub fn names(alloc: Global, tree: &Tree) -> Result<Names, Refusal>
     ensures ok { OnOk result (Named (tree_seen tree.now)) }
     ensures known { IfOk result (λ names. known_seen names ≡ known (tree_seen tree.now) []) }
-    ensures refused { IfErr result (λ e. e.number ≢ numbers.Memory → (Named (tree_seen tree.now) → ⊥) × (e.number ≡ numbers.Name)) }
+    ensures refused { IfErr result (RefusesFor numbers.Name (Named (tree_seen tree.now))) }
     ensures shaped { IfErr result HasShape }
 {
     match check_names(alloc, tree) {
@@ -73,7 +74,7 @@ pub fn recursion(alloc: Global, tree: &Tree, names: &Names) -> Result<Orders, Re
     ensures ok { OnOk result (Loopless (tree_seen tree.now)) }
     ensures types { IfOk result (λ orders. IsOrder (uses_of_types (tree_seen tree.now)) orders.types.items) }
     ensures nodes { IfOk result (λ orders. IsOrder (calls_of_nodes (tree_seen tree.now)) orders.nodes.items) }
-    ensures refused { IfErr result (λ e. e.number ≢ numbers.Memory → (Loopless (tree_seen tree.now) → ⊥) × (e.number ≡ numbers.Recursion)) }
+    ensures refused { IfErr result (RefusesFor numbers.Recursion (Loopless (tree_seen tree.now))) }
     ensures shaped { IfErr result HasShape }
 {
     check_recursion(alloc, tree, &names.types, &names.nodes)
@@ -86,7 +87,7 @@ pub fn sizes(alloc: Global, tree: &Tree, names: &Names, orders: &Orders) -> Resu
     requires types { IsOrder (uses_of_types (tree_seen tree.now)) orders.now.types.items }
     requires nodes { IsOrder (calls_of_nodes (tree_seen tree.now)) orders.now.nodes.items }
     ensures ok { OnOk result (Bounded (tree_seen tree.now)) }
-    ensures refused { IfErr result (λ e. e.number ≢ numbers.Memory → (Bounded (tree_seen tree.now) → ⊥) × (e.number ≡ numbers.Limit)) }
+    ensures refused { IfErr result (RefusesFor numbers.Limit (Bounded (tree_seen tree.now))) }
     ensures shaped { IfErr result HasShape }
 {
     match check_sizes(alloc, tree, &names.types, &names.nodes, orders) {
@@ -103,7 +104,7 @@ pub fn types(alloc: Global, tree: &Tree, names: &Names, orders: &Orders) -> Resu
     requires types { IsOrder (uses_of_types (tree_seen tree.now)) orders.now.types.items }
     ensures ok { OnOk result (IsTyped (tree_seen tree.now)) }
     ensures means { IfOk result (λ q. program_seen q ≡ program_of (tree_seen tree.now)) }
-    ensures refused { IfErr result (λ e. e.number ≢ numbers.Memory → (IsTyped (tree_seen tree.now) → ⊥) × (e.number ≡ numbers.Type)) }
+    ensures refused { IfErr result (RefusesFor numbers.Type (IsTyped (tree_seen tree.now))) }
     ensures shaped { IfErr result HasShape }
 {
     match program(alloc, tree, names, &orders.types) {
