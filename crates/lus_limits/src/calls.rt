@@ -1,13 +1,14 @@
 //! How deep calls go.
 
 ghost use Rattle.std.specs.Prelude.{◌≡◌, ◌≤◌, IfErr, OnOk, length, map, string_bytes};
-ghost use Rattle.lus_values.specs.Lists.{Below, item};
+ghost use Rattle.lus_values.specs.Lists.{item};
 ghost use Rattle.lus_graph.specs.Ways.{IsOrder};
-ghost use Rattle.lus_syntax.specs.Limits.{most_calls_deep, most_declarations};
+ghost use Rattle.lus_syntax.specs.Limits.{most_declarations};
 ghost use Rattle.lus_syntax.specs.View.{tree_seen};
 ghost use Rattle.lus_meaning.specs.Loopless.{node_names, node_uses as calls_of_nodes};
 ghost use Rattle.lus_meaning.specs.ScopeView.{Faulty};
-ghost use Rattle.lus_meaning.specs.Sized.{call_depth_at, greatest};
+ghost use Rattle.lus_meaning.specs.Sized.{greatest};
+ghost use Rattle.lus_limits.specs.Limits.{CallsBounded};
 
 use crate::uses::node_uses;
 use indexmap::IndexSet;
@@ -25,8 +26,8 @@ pub fn check_calls(
     requires few_nodes { length nodes.now.keys ≤ most_declarations }
     requires node_names { map string_bytes nodes.now.keys ≡ node_names (tree_seen tree.now) }
     requires order { IsOrder (calls_of_nodes (tree_seen tree.now)) order.now }
-    ensures ok { OnOk result (Below (length (tree_seen tree.now).nodes) (λ f. call_depth_at (tree_seen tree.now) f ≤ most_calls_deep)) }
-    ensures err { IfErr result (Faulty (Below (length (tree_seen tree.now).nodes) (λ f. call_depth_at (tree_seen tree.now) f ≤ most_calls_deep) → ⊥)) }
+    ensures ok { OnOk result (CallsBounded (tree_seen tree.now)) }
+    ensures err { IfErr result (Faulty (CallsBounded (tree_seen tree.now) → ⊥)) }
 {
     let uses = node_uses(alloc, nodes, tree)?;
     let mut depths = vec![in alloc; 0usize; tree.nodes.len()]?;

@@ -1,11 +1,12 @@
 //! Counts of declarations, against the limits of the language.
 
-ghost use Rattle.std.specs.Prelude.{◌≡◌, ◌+◌, ◌<◌, ◌≤◌, OnOk, OnErr, MatchOption, map};
+ghost use Rattle.std.specs.Prelude.{◌≤◌, OnOk, OnErr, map};
 ghost use Rattle.std.specs.Bool.{Decides};
 ghost use Rattle.lus_syntax.specs.Limits.{most_variables};
 ghost use Rattle.lus_syntax.specs.View.{definition_seen, fields_seen, group_seen, node_seen, tree_seen};
 ghost use Rattle.lus_meaning.specs.Sized.{Counted, DefinitionCounted, field_count, variable_count};
 ghost use Rattle.lus_meaning.specs.Tables.{groups};
+ghost use Rattle.lus_limits.specs.Limits.{AreLeft};
 
 use lus_syntax::{
     Definition, Fields, Group, MOST_CONSTRUCTORS, MOST_DECLARATIONS, MOST_FIELDS, MOST_VARIABLES,
@@ -69,7 +70,7 @@ fn has_few_variables(node: &Node) -> bool
 
 /// How many of so many more fields there may be behind these.
 fn fields_left(groups: &[Fields], most: usize) -> Option<usize>
-    ensures { MatchOption result (most < field_count (map fields_seen groups.now)) (λ left. left + field_count (map fields_seen groups.now) ≡ most) }
+    ensures { AreLeft most (field_count (map fields_seen groups.now)) result }
 {
     let mut left = most;
     for group in groups {
@@ -80,7 +81,7 @@ fn fields_left(groups: &[Fields], most: usize) -> Option<usize>
 
 /// How many of so many more variables there may be behind these.
 fn variables_left(groups: &[Group], most: usize) -> Option<usize>
-    ensures { MatchOption result (most < variable_count (map group_seen groups.now)) (λ left. left + variable_count (map group_seen groups.now) ≡ most) }
+    ensures { AreLeft most (variable_count (map group_seen groups.now)) result }
 {
     let mut left = most;
     for group in groups {

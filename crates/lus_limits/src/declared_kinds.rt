@@ -40,7 +40,8 @@ pub fn kinds_of_types(
 /// The type that a type's declaration declares, by those of the types that it names.
 fn kind_of(types: &IndexSet<String>, place: usize, definition: &Definition, kinds: &[Kind]) -> Kind
     requires few { place < most_declarations }
-    ensures { result ≡ kind_by_names (map string_bytes types.now.keys) (item kind_names.Bool kinds.now) place (definition_seen definition.now) }
+    ensures { let at = item kind_names.Bool kinds.now in
+        result ≡ kind_by_names (map string_bytes types.now.keys) at place (definition_seen definition.now) }
 {
     match definition {
         Definition::Alias(name) => of_name(types, name, Kind::Bool, Kind::Int, kinds),

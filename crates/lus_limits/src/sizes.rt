@@ -1,15 +1,15 @@
 //! How large types are, and how deep calls go, against the limits of the language.
 
-ghost use Rattle.std.specs.Prelude.{◌≡◌, ◌≤◌, ◌*◌, suc, IfErr, OnOk, length, map, string_bytes, sum_by};
-ghost use Rattle.lus_values.specs.Lists.{Below, item};
+ghost use Rattle.std.specs.Prelude.{◌≡◌, ◌≤◌, suc, IfErr, OnOk, length, map, string_bytes, sum_by};
+ghost use Rattle.lus_values.specs.Lists.{item};
 ghost use Rattle.lus_graph.specs.Ways.{IsOrder};
 ghost use Rattle.lus_syntax.specs.Limits.{most_declarations, most_leaves, most_nesting};
 ghost use Rattle.lus_syntax.specs.View.{definition_seen, fields_seen, tree_seen};
 ghost use Rattle.lus_meaning.specs.Loopless.{node_names, node_uses as calls_of_nodes, type_names, type_uses as uses_of_types};
 ghost use Rattle.lus_meaning.specs.ScopeView.{Faulty};
-ghost use Rattle.lus_meaning.specs.Sized.{Bounded, greatest, leaves_at, nesting_at};
-ghost use Rattle.lus_limits.specs.Limits.{IsLimited};
-ghost use Rattle.lus_limits.specs.ByNames.{leaves_of as leaves_by_names, nesting_of as nesting_by_names, of_name as by_name};
+ghost use Rattle.lus_meaning.specs.Sized.{Bounded, greatest};
+ghost use Rattle.lus_limits.specs.Limits.{IsLimited, TypesBounded};
+ghost use Rattle.lus_limits.specs.ByNames.{group_leaves, group_nesting, leaves_of as leaves_by_names, nesting_of as nesting_by_names};
 
 use crate::calls::check_calls;
 use crate::named::of_name;
@@ -35,12 +35,12 @@ pub fn check_sizes(
     ensures ok { OnOk result (Bounded (tree_seen tree.now)) }
     ensures err { IfErr result (Faulty (Bounded (tree_seen tree.now) → ⊥)) }
 {
-    check_leaves(alloc, tree, types, &orders.types)?;
-    check_nesting(alloc, tree, types, &orders.types)?;
+    check_types(alloc, tree, types, &orders.types)?;
     check_calls(alloc, tree, nodes, &orders.nodes)
 }
 
-fn check_leaves(
+/// Checks leaves and nesting of types, by an order in which what a type uses stands before it.
+fn check_types(
     alloc: Global,
     tree: &Tree,
     types: &IndexSet<String>,
@@ -48,23 +48,29 @@ fn check_leaves(
 ) -> Result<(), Fault>
     requires type_names { map string_bytes types.now.keys ≡ type_names (tree_seen tree.now) }
     requires order { IsOrder (uses_of_types (tree_seen tree.now)) order.now }
-    ensures ok { OnOk result (Below (length (tree_seen tree.now).types) (λ t. leaves_at (tree_seen tree.now) t ≤ most_leaves)) }
-    ensures err { IfErr result (Faulty (Below (length (tree_seen tree.now).types) (λ t. leaves_at (tree_seen tree.now) t ≤ most_leaves) → ⊥)) }
+    ensures ok { OnOk result (TypesBounded (tree_seen tree.now)) }
+    ensures err { IfErr result (Faulty (TypesBounded (tree_seen tree.now) → ⊥)) }
 {
     let mut leaves = vec![in alloc; 0usize; tree.types.len()]?;
+    let mut nesting = vec![in alloc; 0usize; tree.types.len()]?;
     for place in order {
         let declaration = &tree.types[*place];
         let Some(count) = leaves_of(types, &declaration.definition, &leaves) else {
             return Err(Fault::At(declaration.name.span.start));
         };
+        let Some(depth) = nesting_of(types, &declaration.definition, &nesting) else {
+            return Err(Fault::At(declaration.name.span.start));
+        };
         leaves[*place] = count;
+        nesting[*place] = depth;
     }
     Ok(())
 }
 
 /// The leaves of a type, if they are within the limit, by those of the types that its declaration names.
 fn leaves_of(types: &IndexSet<String>, definition: &Definition, leaves: &[usize]) -> Option<usize>
-    ensures { IsLimited most_leaves (leaves_by_names (map string_bytes types.now.keys) (item 1 leaves.now) (definition_seen definition.now)) result }
+    ensures { let count = leaves_by_names (map string_bytes types.now.keys) (item 1 leaves.now) (definition_seen definition.now) in
+        IsLimited most_leaves count result }
 {
     match definition {
         Definition::Alias(name) => at_most(of_name(types, name, 1, 1, leaves), MOST_LEAVES),
@@ -75,7 +81,8 @@ fn leaves_of(types: &IndexSet<String>, definition: &Definition, leaves: &[usize]
 
 /// The leaves of all fields, if they are within the limit.
 fn leaves_of_fields(types: &IndexSet<String>, groups: &[Fields], leaves: &[usize]) -> Option<usize>
-    ensures { IsLimited most_leaves (sum_by (λ g. length g.names * by_name (map string_bytes types.now.keys) 1 1 (item 1 leaves.now) g.type_name) (map fields_seen groups.now)) result }
+    ensures { let each = group_leaves (map string_bytes types.now.keys) (item 1 leaves.now) in
+        IsLimited most_leaves (sum_by each (map fields_seen groups.now)) result }
 {
     let mut left = MOST_LEAVES;
     for group in groups {
@@ -86,31 +93,10 @@ fn leaves_of_fields(types: &IndexSet<String>, groups: &[Fields], leaves: &[usize
     Some(MOST_LEAVES - left)
 }
 
-fn check_nesting(
-    alloc: Global,
-    tree: &Tree,
-    types: &IndexSet<String>,
-    order: &[usize],
-) -> Result<(), Fault>
-    requires type_names { map string_bytes types.now.keys ≡ type_names (tree_seen tree.now) }
-    requires order { IsOrder (uses_of_types (tree_seen tree.now)) order.now }
-    ensures ok { OnOk result (Below (length (tree_seen tree.now).types) (λ t. nesting_at (tree_seen tree.now) t ≤ most_nesting)) }
-    ensures err { IfErr result (Faulty (Below (length (tree_seen tree.now).types) (λ t. nesting_at (tree_seen tree.now) t ≤ most_nesting) → ⊥)) }
-{
-    let mut nesting = vec![in alloc; 0usize; tree.types.len()]?;
-    for place in order {
-        let declaration = &tree.types[*place];
-        let Some(depth) = nesting_of(types, &declaration.definition, &nesting) else {
-            return Err(Fault::At(declaration.name.span.start));
-        };
-        nesting[*place] = depth;
-    }
-    Ok(())
-}
-
 /// How deep structures stand in a type, if that is within the limit, by the types that its declaration names.
 fn nesting_of(types: &IndexSet<String>, definition: &Definition, nesting: &[usize]) -> Option<usize>
-    ensures { IsLimited most_nesting (nesting_by_names (map string_bytes types.now.keys) (item 0 nesting.now) (definition_seen definition.now)) result }
+    ensures { let depth = nesting_by_names (map string_bytes types.now.keys) (item 0 nesting.now) (definition_seen definition.now) in
+        IsLimited most_nesting depth result }
 {
     match definition {
         Definition::Alias(name) => at_most(of_name(types, name, 0, 0, nesting), MOST_NESTING),
@@ -120,7 +106,8 @@ fn nesting_of(types: &IndexSet<String>, definition: &Definition, nesting: &[usiz
 }
 
 fn deepest_field(types: &IndexSet<String>, groups: &[Fields], nesting: &[usize]) -> usize
-    ensures { result ≡ greatest (λ g. by_name (map string_bytes types.now.keys) 0 0 (item 0 nesting.now) g.type_name) (map fields_seen groups.now) }
+    ensures { let each = group_nesting (map string_bytes types.now.keys) (item 0 nesting.now) in
+        result ≡ greatest each (map fields_seen groups.now) }
 {
     let mut deepest = 0;
     for group in groups {

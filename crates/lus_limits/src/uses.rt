@@ -121,7 +121,8 @@ fn push_called_in(
     found: &mut Vec<u32>,
 ) -> Result<(), Memory>
     requires few { length nodes.now.keys ≤ most_declarations }
-    ensures { OnOk result (found.new.items ≡ found.old.items ++ called_in (map string_bytes nodes.now.keys) (parts_of (map part_seen parts.now))) }
+    ensures { let more = called_in (map string_bytes nodes.now.keys) (parts_of (map part_seen parts.now)) in
+        OnOk result (found.new.items ≡ found.old.items ++ more) }
 {
     for part in parts {
         push_called(nodes, &part.value, found)?;

@@ -2,12 +2,12 @@ use Rattle.std.proofs.Common.{rules, ◌≡◌, ◌∙◌, sym, map, max}
 use Rattle.std.specs.Prelude.{string_bytes}
 use Rattle.lus_values.specs.Lists.{item}
 use Rattle.lus_syntax.specs.View.{fields_seen}
-use Rattle.lus_limits.specs.ByNames.{of_name}
+use Rattle.lus_limits.specs.ByNames.{group_nesting}
 use Rattle.lus_limits.proofs.Greatest.{greatest-more_map}
 use Rattle.lus_limits.proofs.sizes.deepest_field.Goals as goal
 
 pub loop-group-preserved : goal.loop-group-preserved
 loop-group-preserved c =
-    let more = greatest-more_map (λ g. of_name (map string_bytes c.args.types.now.keys) 0 0 (item 0 c.args.nesting.now) g.type_name) fields_seen c.args.groups.now c.loop-group.group-index c.group-item.result c.loop-group-test.true c.group-item.is in
+    let more = greatest-more_map (group_nesting (map string_bytes c.args.types.now.keys) (item 0 c.args.nesting.now)) fields_seen c.args.groups.now c.loop-group.group-index c.group-item.result c.loop-group-test.true c.group-item.is in
     let larger : c.max-deepest.result ≡ max c.loop-group.deepest c.of_name.result = search rules in
     larger ∙ rw (c.of_name.ensures, c.loop-group.invariant) (sym more)
