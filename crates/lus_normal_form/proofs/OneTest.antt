@@ -11,7 +11,8 @@ use Rattle.lus_streams.specs.OnClock.{IsDeclared, test_of, PartOnClock, RightOnC
 use Rattle.lus_streams.proofs.Lists.{each_left, each_right, each_append, each_implies, each_item, below_at, item_past}
 use Rattle.lus_normal_form.specs.Laws.{IsChain, IsOnChain, OneTestSuffices}
 
-chain_drop : (f : Node) (n : ℕ) (k : Clock) → IsChain f k → IsChain f (drop n k)
+-- what is left of a chain is one
+pub chain_drop : (f : Node) (n : ℕ) (k : Clock) → IsChain f k → IsChain f (drop n k)
 chain_drop f zero k h = h
 chain_drop f (suc n) [] h = tt
 chain_drop f (suc n) (t ∷ k) h = chain_drop f n k h.1
@@ -44,6 +45,18 @@ module _ (f : Node) (declared : Below (length f.variables) (λ x. IsDeclared f x
   pub clock_is_chain : (x : ℕ) → IsChain f (clock_of f x)
   clock_is_chain x = bounded (length (clock_of f x)) x (omega arith)
 
+-- a formal's clock, renamed after the arguments, is a chain behind the base
+module _ (f : Node) where
+  one_renamed_is_chain : (e : Expression) (c : ℕ) (k base : Clock) → IsChain f (k ++ base) → ((x : ℕ) → e ≡ variable x → clock_of f x ≡ k ++ base) → IsChain f (renamed_test e c k ++ base)
+  one_renamed_is_chain (variable x) c k base h on = (on x refl, h)
+  one_renamed_is_chain _ c k base h on = h
+
+  pub renamed_is_chain : (g : Node) (args : Operands) (base kg : Clock) → IsChain g kg → IsChain f base → ((m x : ℕ) → operand args m ≡ variable x → clock_of f x ≡ formal_clock g args base m) → IsChain f (renamed_clock args kg ++ base)
+  renamed_is_chain g args base [] tests h on = h
+  renamed_is_chain g args base (t ∷ kg) tests h on =
+      one_renamed_is_chain (operand args t.variable) t.constructor (renamed_clock args kg) base (renamed_is_chain g args base kg tests.1 h on)
+      (λ x e. on t.variable x e ∙ ap (λ z. renamed_clock args z ++ base) tests.0)
+
 module _ (p : Program) (f : Node) where
   -- a named argument is on its formal's clock
   argument_clock : (es : Operands) (g : Node) (args : Operands) (base : Clock) (m n x : ℕ) → Each (PartOnClock p f) (argument_parts p es g args base m) → operand es n ≡ variable x → clock_of f x ≡ formal_clock g args base (m + n)
@@ -60,16 +73,6 @@ module _ (p : Program) (f : Node) where
 
   pub call_clock : (g : Node) (args : Operands) (base : Clock) → Each (PartOnClock p f) (argument_parts p args g args base 0) → (m x : ℕ) → operand args m ≡ variable x → clock_of f x ≡ formal_clock g args base m
   call_clock g args base h m x e = let place : 0 + m ≡ m = omega arith in argument_clock args g args base 0 m x h e ∙ ap (formal_clock g args base) place
-
-  one_renamed_is_chain : (e : Expression) (c : ℕ) (k base : Clock) → IsChain f (k ++ base) → ((x : ℕ) → e ≡ variable x → clock_of f x ≡ k ++ base) → IsChain f (renamed_test e c k ++ base)
-  one_renamed_is_chain (variable x) c k base h on = (on x refl, h)
-  one_renamed_is_chain _ c k base h on = h
-
-  renamed_is_chain : (g : Node) (args : Operands) (base kg : Clock) → IsChain g kg → IsChain f base → ((m x : ℕ) → operand args m ≡ variable x → clock_of f x ≡ formal_clock g args base m) → IsChain f (renamed_clock args kg ++ base)
-  renamed_is_chain g args base [] tests h on = h
-  renamed_is_chain g args base (t ∷ kg) tests h on =
-      one_renamed_is_chain (operand args t.variable) t.constructor (renamed_clock args kg) base (renamed_is_chain g args base kg tests.1 h on)
-      (λ x e. on t.variable x e ∙ ap (λ z. renamed_clock args z ++ base) tests.0)
 
   module _ (formals : (g m : ℕ) → IsChain (node_at p g) (clock_of (node_at p g) m)) where
     abbrev OnChain : Part → Type 0
@@ -109,7 +112,7 @@ module _ (p : Program) (f : Node) where
           let k = formal_clock (node_at p g) args base m in
           let rest = argument_parts p es (node_at p g) args base (suc m) in
           each_append OnChain (parts p e k) rest
-          (parts_on_chains e k (renamed_is_chain (node_at p g) args base (clock_of (node_at p g) m) (formals g m) h on) (each_left OnClock (parts p e k) rest o))
+          (parts_on_chains e k (renamed_is_chain f (node_at p g) args base (clock_of (node_at p g) m) (formals g m) h on) (each_left OnClock (parts p e k) rest o))
           (arguments_on_chains es g args base (suc m) h on (each_right OnClock (parts p e k) rest o))
 
     -- whole right sides

@@ -10,7 +10,7 @@ use Rattle.lus_streams.specs.OnClock.{PartOnClock}
 use Rattle.lus_streams.proofs.Lists.{each_left, each_right, each_append}
 use Rattle.lus_classes.specs.Classes.{Memory, Argument, Call}
 use Rattle.lus_normal_form.specs.Laws.{IsChain}
-use Rattle.lus_normal_form.proofs.OneTest.{call_clock, clock_is_chain}
+use Rattle.lus_normal_form.proofs.OneTest.{call_clock, chain_drop, clock_is_chain, renamed_is_chain}
 use Rattle.lus_translation.specs.Forms.{Turn, all_cells, all_firsts, arguments_form, call_first, call_form, calls_form, cells_at, equation_cells, equation_firsts, firsts_at, given_cells, given_firsts, turn_cells, turn_firsts, kept_cells, all_kept_cells, branch_cells, cell_for, kept_firsts, all_kept_firsts, branch_firsts}
 use Rattle.lus_translation.specs.Laws.{IsFittingCall, IsFittingRight}
 
@@ -26,26 +26,11 @@ module _ (f : Node) where
     pub base : IsChain f q.base
     pub arguments : Each ArgumentChained q.arguments
 
-  older_chained : (n : ℕ) (k : Clock) → IsChain f k → IsChain f (drop n k)
-  older_chained zero k h = h
-  older_chained (suc n) [] h = tt
-  older_chained (suc n) (t ∷ k) h = older_chained n k h.1
-
-  one_renamed : (e : Expression) (c : ℕ) (k base : Clock) → IsChain f (k ++ base) → ((x : ℕ) → e ≡ variable x → clock_of f x ≡ k ++ base) → IsChain f (renamed_test e c k ++ base)
-  one_renamed (variable x) c k base h on = (on x refl, h)
-  one_renamed _ c k base h on = h
-
-  renamed_chained : (g : Node) (args : Operands) (base k : Clock) → IsChain g k → IsChain f base → ((m x : ℕ) → operand args m ≡ variable x → clock_of f x ≡ formal_clock g args base m) → IsChain f (renamed_clock args k ++ base)
-  renamed_chained g args base [] tests h on = h
-  renamed_chained g args base (t ∷ k) tests h on =
-      one_renamed (operand args t.variable) t.constructor (renamed_clock args k) base (renamed_chained g args base k tests.1 h on)
-      (λ x e. on t.variable x e ∙ ap (λ z. renamed_clock args z ++ base) tests.0)
-
   arguments_chained : (es : Operands) (g : Node) (args : Operands) (base : Clock) (m : ℕ) → ((y : ℕ) → IsChain g (clock_of g y)) → IsChain f base
       → ((m x : ℕ) → operand args m ≡ variable x → clock_of f x ≡ formal_clock g args base m) → Each ArgumentChained (arguments_form es g args base m)
   arguments_chained none g args base m formals h on = tt
   arguments_chained (more e es) g args base m formals h on =
-      (renamed_chained g args base (clock_of g m) (formals m) h on, arguments_chained es g args base (suc m) formals h on)
+      (renamed_is_chain f g args base (clock_of g m) (formals m) h on, arguments_chained es g args base (suc m) formals h on)
 
 module _ (p : Program) (f : Node) where
   abbrev OnClock : Part → Type 0
@@ -123,7 +108,7 @@ module _ (p : Program) (f : Node) where
     call_chained g args k h fit =
         let callee = node_at p g in
         let base = base_of callee k in
-        let below = older_chained f _ k h in
+        let below = chain_drop f _ k h in
         record { base = below; arguments = arguments_chained f args callee args base 0 (clock_is_chain callee fit.declared) below (call_clock p f callee args base fit.on_clock) }
 
     calls_first : (e : Expression) (k : Clock) → IsChain f k → IsFittingRight p f e k → (rest : List Call) → Each (CallChained f) rest → Each (CallChained f) (call_first p e k rest)
