@@ -5,7 +5,7 @@ use Rattle.std.proofs.Math.Logic.{inl, inr}
 use Rattle.std.proofs.lemmas.Bool.{ltb-true, ltb-false, le-ltb, MatchBool-at_false}
 use Rattle.lus_values.specs.Lists.{item, Each}
 use Rattle.lus_values.specs.Values.{Value, Row}
-use Rattle.lus_values.proofs.Lists.{below_all}
+use Rattle.lus_values.proofs.Lists.{below_all, each_found}
 use Rattle.lus_program.specs.Programs.{Expression, literal, variable, operate, pre, arrow, fby, when, merge, call, Operands, none, more, Equation, Node, Program, node_at}
 use Rattle.lus_streams.specs.Clocks.{Clock, clock_of, Part, formal_clock, base_of, parts, argument_parts}
 use Rattle.lus_streams.specs.Equations.{Definition, given_by, place_in, equation_clock, definition_in, definition_of, equation_parts}
@@ -17,7 +17,7 @@ use Rattle.lus_classes.specs.Steps.{is_on_row, answered, Ask, silent, run, guard
 use Rattle.lus_classes.specs.ClassesOf.{IsCode, IsAnswer, IsSource, IsStep, AreArguments, IsCovered, IsTarget, IsClassOf}
 use Rattle.lus_classes.specs.StandsFor.{CellsStand, FlagsStand}
 use Rattle.lus_classes.proofs.Options.{guarded_where, guarded_some, guarded_present, where_guarded, where_same, where_some}
-use Rattle.lus_classes.proofs.Rows.{PresentOnClocks, InputsOnClocks, each_drop, each_at, is_on_row_is, is_on_back}
+use Rattle.lus_classes.proofs.Rows.{PresentOnClocks, InputsOnClocks, each_drop, is_on_row_is, is_on_back}
 use Rattle.lus_classes.proofs.Codes.{same, atom_fine, sound}
 
 -- a step for a target, of which P holds
@@ -140,8 +140,8 @@ module _ (p : Program) (f : Node) (c : Class) (ok : IsClassOf p f c) (cells : Li
 
       equation_fine : (q : Equation) → IsCovered p f c q → Each Fine (parts p q.right (equation_clock f q))
       equation_fine q is =
-          let st = each_at (IsStep p f c) c.steps is.place is.step ok.steps is.here in
-          let g = each_at GivesAt c.steps is.place is.step gives is.here in
+          let st = each_found (IsStep p f c) c.steps is.place is.step ok.steps is.here in
+          let g = each_found GivesAt c.steps is.place is.step gives is.here in
           source_fine is.step q.right q.targets (equation_clock f q)
           (subst (λ z. IsSource p f c is.step.target z is.step.code) is.defined st.source)
           is.clock g

@@ -15,11 +15,6 @@ each_drop P zero xs h = h
 each_drop P (suc n) [] h = tt
 each_drop P (suc n) (x ∷ xs) h = each_drop P n xs h.1
 
-pub each_at : {X : Type 0} (P : X → Type 0) (xs : List X) (j : ℕ) (x : X) → Each P xs → slice_get xs j ≡ Some x → P x
-each_at P [] j x h e = absurd (cc)
-each_at P (y ∷ xs) zero x h e = let s : y ≡ x = cc in subst P s h.0
-each_at P (y ∷ xs) (suc j) x h e = each_at P xs j x h.1 e
-
 -- two rows agree at a variable
 abbrev pub Agree : Row → Row → ℕ → Type 0
 Agree r s x = item None r x ≡ item None s x
