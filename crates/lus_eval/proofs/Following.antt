@@ -1,10 +1,10 @@
 -- Steps of an instance against the streams of its source.
-use Rattle.std.proofs.Common.{◌≡◌, ◌↔◌, ◌∙◌, ℕ, zero, suc, ◌+◌, ◌<◌, ◌≤◌, Bool, true, false, IsTrue, List, length, take, drop, Some, None, Ok, Err, is_some, refl, sym, ap, subst, arith, ⊎_elim}
+use Rattle.std.proofs.Common.{◌≡◌, ◌↔◌, ◌∙◌, ℕ, zero, suc, ◌+◌, ◌<◌, ◌≤◌, Bool, true, false, IsTrue, List, length, take, drop, Some, None, Ok, Err, is_some, refl, sym, ap, subst, arith}
 use Rattle.std.specs.Prelude.{slice_get}
 use Rattle.std.proofs.lemmas.List.{length-map}
-use Rattle.std.proofs.lemmas.Bool.{and_parts, cases_lt}
-use Rattle.lus_values.specs.Lists.{item, Below}
+use Rattle.lus_values.specs.Lists.{item}
 use Rattle.lus_values.specs.Values.{Row}
+use Rattle.lus_values.proofs.Lists.{below_at}
 use Rattle.lus_program.specs.Programs.{Program, node_at}
 use Rattle.lus_streams.specs.Clocks.{clock_of}
 use Rattle.lus_classes.specs.Classes.{clock_in}
@@ -18,7 +18,7 @@ use Rattle.lus_simulation.specs.Fitting.{has_shape, has_presence, all_below, sam
 use Rattle.lus_simulation.specs.LineageLaws.{StepsTo, Faults}
 use Rattle.lus_simulation.specs.Lineages.{outputs_of}
 use Rattle.lus_simulation.specs.Nesting.{depth_of}
-use Rattle.lus_simulation.proofs.FittingRows.{rows_that_fit}
+use Rattle.lus_simulation.proofs.FittingRows.{below_true, one_truth, rows_that_fit}
 use Rattle.lus_simulation.proofs.Lived.{formals_at, steps_follow, faults_follow}
 use Rattle.lus_simulation.proofs.Nested.{calls_nested}
 use Rattle.lus_code.specs.Codes.{IsCodeOf}
@@ -28,10 +28,6 @@ use Rattle.lus_running.specs.Fits.{FitsPresence}
 use Rattle.lus_running.specs.Instances.{HasFormals, TakesStep}
 use Rattle.lus_running.specs.Instances.{state_of as instance_state}
 use Rattle.lus_running.proofs.Placed.{class_found}
-
-below_at : (P : ℕ → Type 0) (n : ℕ) → Below n P → (x : ℕ) → x < n → P x
-below_at P zero h x lt = absurd (omega arith)
-below_at P (suc n) h x lt = ⊎_elim (λ less. below_at P n h.1 x less) (λ ge. let e : n ≡ x = omega arith in subst P e h.0) (cases_lt x n)
 
 module _ (p : Program) (classes : List Class) (checked : IsChecked p) (code : IsCodeOf p (classes_of classes)) where
   pub nested : (f : ℕ) → WithinDepth (classes_of classes) (depth_of p) f
@@ -79,20 +75,9 @@ module _ (p : Program) (classes : List Class) (checked : IsChecked p) (code : Is
         subst (λ d. Faults p (classes_of classes) (instance_state classes d before) before.node i) deep
         ((faults_follow p (classes_of classes) checked).only (instance_state classes (suc depth) before) before.node i (takes k found))
 
-below_true : (n : ℕ) (t : ℕ → Bool) → all_below n t ≡ true → (x : ℕ) → x < n → t x ≡ true
-below_true zero t h x lt = absurd (omega arith)
-below_true (suc n) t h x lt =
-    let parts = and_parts (t n) (all_below n t) h in
-    ⊎_elim (λ less. below_true n t parts.1 x less) (λ ge. let e : n ≡ x = omega arith in subst (λ y. t y ≡ true) e parts.0) (cases_lt x n)
-
 true_below : (n : ℕ) (t : ℕ → Bool) → ((x : ℕ) → x < n → t x ≡ true) → all_below n t ≡ true
 true_below zero t h = refl
 true_below (suc n) t h = rw (h n (omega arith)) (true_below n t (λ x lt. h x (omega arith)))
-
-same_is : (a b : Bool) → same_truth a b ≡ true → a ≡ b
-same_is true b h = sym h
-same_is false true h = h
-same_is false false h = refl
 
 is_same : (a b : Bool) → a ≡ b → same_truth a b ≡ true
 is_same true b e = sym e
@@ -115,7 +100,7 @@ module _ (p : Program) (classes : List Class) (checked : IsChecked p) (code : Is
       let t = λ (x : ℕ). same_truth (is_some (item None i x)) (is_on_row (clock_of (node_at p f) x) i) in (
         λ yes x lt.
             let within : x < (node_at p f).inputs = subst (λ n. x < n) inputs lt in
-            same_is (is_some (item None i x)) (is_on_row (clock_of (node_at p f) x) i) (below_true (node_at p f).inputs t yes x within) ∙ ap (λ l. is_on_row l i) (sym (clock x within)),
+            one_truth (is_some (item None i x)) (is_on_row (clock_of (node_at p f) x) i) (below_true (node_at p f).inputs t yes x within) ∙ ap (λ l. is_on_row l i) (sym (clock x within)),
         λ h. true_below (node_at p f).inputs t
             (λ x lt. is_same (is_some (item None i x)) (is_on_row (clock_of (node_at p f) x) i) (h x (subst (λ n. x < n) (sym inputs) lt) ∙ ap (λ l. is_on_row l i) (clock x lt))),
       )
