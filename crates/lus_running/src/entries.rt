@@ -7,7 +7,7 @@ ghost use Rattle.lus_classes.specs.Steps.{atom_in};
 ghost use Rattle.lus_flat_classes.specs.View.{atom_of};
 
 use lus_flat_classes::Atom;
-use lus_values::{Memory, Value, copy};
+use lus_values::{Memory, Value, copy, copy_entry};
 use std::alloc::Global;
 
 /// An equal value, as an entry.
@@ -16,16 +16,6 @@ pub fn copy_value(alloc: Global, value: &Value) -> Result<Option<Value>, Memory>
 {
     let value_copy = copy(alloc, value)?;
     Ok(Some(value_copy))
-}
-
-/// An equal entry.
-fn copy_entry(alloc: Global, entry: &Option<Value>) -> Result<Option<Value>, Memory>
-    ensures { IfOk result (λ e. entry_of e ≡ entry_of entry.now) }
-{
-    match entry {
-        Some(value) => copy_value(alloc, value),
-        None => Ok(None),
-    }
 }
 
 /// What a variable holds; past the row it is absent.
