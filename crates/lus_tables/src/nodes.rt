@@ -5,8 +5,8 @@ ghost use Rattle.lus_syntax.specs.Limits.{most_declarations};
 ghost use Rattle.lus_syntax.specs.View.{group_seen, names_seen, node_seen};
 ghost use Rattle.lus_meaning.specs.Named.{Distinct};
 ghost use Rattle.lus_meaning.specs.ScopeView.{entries_of, signature_of};
-ghost use Rattle.lus_meaning.specs.Tables.{each_of, numbered_from};
-ghost use Rattle.lus_tables.specs.ByTable.{kind_in, kinds_by, signature_by};
+ghost use Rattle.lus_meaning.specs.Tables.{each_of};
+ghost use Rattle.lus_tables.specs.ByTable.{kind_told, kinds_by, signature_by, signatures_by};
 
 use crate::table::declare;
 use crate::types::kind_of_name;
@@ -25,7 +25,8 @@ pub fn nodes(
 ) -> Result<IndexMap<String, Signature>, Memory>
     requires few { length nodes.now ≤ most_declarations }
     requires distinct { Distinct (map (λ f. f.name.text) (map node_seen nodes.now)) }
-    ensures { IfOk result (λ table. entries_of signature_of table.entries ≡ map (λ e. (e.0.name.text, signature_by (kind_in (entries_of (λ x. x) types.now.entries)) e.0 e.1)) (numbered_from 0 (map node_seen nodes.now))) }
+    ensures { let signatures = signatures_by (kind_told types.now.entries) (map node_seen nodes.now) in
+        IfOk result (λ table. entries_of signature_of table.entries ≡ signatures) }
 {
     let mut table = IndexMap::new(alloc);
     for (place, node) in nodes.iter().enumerate() {
@@ -41,7 +42,7 @@ fn signature(
     node: &Node,
     place: u32,
 ) -> Result<Signature, Memory>
-    ensures { IfOk result (λ g. signature_of g ≡ signature_by (kind_in (entries_of (λ x. x) types.now.entries)) (node_seen node.now) place) }
+    ensures { IfOk result (λ g. signature_of g ≡ signature_by (kind_told types.now.entries) (node_seen node.now) place) }
 {
     let inputs = kinds_of(alloc, types, &node.inputs)?;
     let outputs = kinds_of(alloc, types, &node.outputs)?;
@@ -59,7 +60,7 @@ fn kinds_of(
     types: &IndexMap<String, Kind>,
     groups: &[Group],
 ) -> Result<Vec<Kind>, Memory>
-    ensures { IfOk result (λ kinds. kinds.items ≡ map (λ e. e.1) (kinds_by (kind_in (entries_of (λ x. x) types.now.entries)) (map group_seen groups.now))) }
+    ensures { IfOk result (λ kinds. kinds.items ≡ map (λ e. e.1) (kinds_by (kind_told types.now.entries) (map group_seen groups.now))) }
 {
     let mut kinds = Vec::new(alloc);
     for group in groups {

@@ -1,6 +1,6 @@
 //! The tables in which the names of a source are looked up.
 
-ghost use Rattle.std.specs.Prelude.{◌≡◌, ◌≤◌, IfOk, OnErr, OnOk, [], flat_map, map};
+ghost use Rattle.std.specs.Prelude.{◌≡◌, ◌≤◌, IfOk, OnErr, OnOk, [], map};
 ghost use Rattle.lus_values.specs.View.{value_of};
 ghost use Rattle.lus_program.specs.View.{declared_of};
 ghost use Rattle.lus_syntax.specs.Limits.{most_variables};
@@ -9,8 +9,8 @@ ghost use Rattle.lus_syntax.specs.Trees.{Tree as PlainTree};
 ghost use Rattle.lus_meaning.specs.Named.{Distinct, Named, names_in};
 ghost use Rattle.lus_meaning.specs.ScopeView.{entries_of, scope_of, signature_of};
 ghost use Rattle.lus_meaning.specs.Sized.{Counted, variable_count};
-ghost use Rattle.lus_meaning.specs.Tables.{AreKinds, constructors_of, groups, numbered_from, placed, scope as scope_in, tables as tables_of};
-ghost use Rattle.lus_tables.specs.ByTable.{declared_by, kind_in, kinds_by, signature_by, value_in};
+ghost use Rattle.lus_meaning.specs.Tables.{AreKinds, groups, placed, scope as scope_in, tables as tables_of};
+ghost use Rattle.lus_tables.specs.ByTable.{all_declared_by, constants_by, constructors_by, HasTables, kind_told, kinds_by, signatures_by, told};
 
 use crate::nodes::nodes;
 use crate::types::{declared, types};
@@ -51,8 +51,10 @@ fn declarations(
 ) -> Result<(Vec<Declared>, IndexMap<String, Signature>), Memory>
     requires counted { Counted (tree_seen tree.now) }
     requires named { Named (tree_seen tree.now) }
-    ensures declared { IfOk result (λ x. map declared_of x.0.items ≡ map (λ d. declared_by (kind_in (entries_of (λ y. y) types.now.entries)) d.definition) (tree_seen tree.now).types) }
-    ensures nodes { IfOk result (λ x. entries_of signature_of x.1.entries ≡ map (λ e. (e.0.name.text, signature_by (kind_in (entries_of (λ y. y) types.now.entries)) e.0 e.1)) (numbered_from 0 (tree_seen tree.now).nodes)) }
+    ensures declared { let declared = all_declared_by (kind_told types.now.entries) (tree_seen tree.now).types in
+        IfOk result (λ x. map declared_of x.0.items ≡ declared) }
+    ensures nodes { let signatures = signatures_by (kind_told types.now.entries) (tree_seen tree.now).nodes in
+        IfOk result (λ x. entries_of signature_of x.1.entries ≡ signatures) }
 {
     let declared = declared(alloc, types, &tree.types)?;
     let nodes = nodes(alloc, types, &tree.nodes)?;
@@ -66,8 +68,9 @@ fn values(
 ) -> Result<(IndexMap<String, Constructor>, IndexMap<String, Value>), Memory>
     requires counted { Counted (tree_seen tree.now) }
     requires named { Named (tree_seen tree.now) }
-    ensures constructors { IfOk result (λ x. entries_of (λ y. y) x.0.entries ≡ flat_map (λ e. constructors_of e.0.definition e.1) (numbered_from 0 (tree_seen tree.now).types)) }
-    ensures constants { IfOk result (λ x. entries_of value_of x.1.entries ≡ map (λ c. (c.name.text, value_in (entries_of (λ y. y) x.0.entries) c.value)) (tree_seen tree.now).constants) }
+    ensures constructors { IfOk result (λ x. told x.0.entries ≡ constructors_by (tree_seen tree.now).types) }
+    ensures constants { IfOk result (λ x. let values = constants_by (told x.0.entries) (tree_seen tree.now).constants in
+        entries_of value_of x.1.entries ≡ values) }
 {
     let constructors = constructors(alloc, &tree.types)?;
     let constants = constants(alloc, &constructors, &tree.constants)?;
@@ -78,7 +81,8 @@ fn values(
 pub fn enter(alloc: Global, scope: &mut Scope, node: &Node) -> Result<(), Memory>
     requires distinct { Distinct (names_in (groups (node_seen node.now))) }
     requires few { variable_count (groups (node_seen node.now)) ≤ most_variables }
-    ensures entered { OnOk result ((p : PlainTree) → record (scope_of scope.old) { variables = [] } ≡ tables_of p → scope_of scope.new ≡ scope_in p (node_seen node.now)) }
+    ensures entered { OnOk result ((p : PlainTree) → HasTables p (scope_of scope.old) →
+        scope_of scope.new ≡ scope_in p (node_seen node.now)) }
     ensures others { OnOk result (record (scope_of scope.new) { variables = [] } ≡ record (scope_of scope.old) { variables = [] }) }
     ensures kept { OnErr result (scope.new ≡ scope.old) }
 {
@@ -94,7 +98,7 @@ fn variables(
 ) -> Result<IndexMap<String, Placed>, Memory>
     requires distinct { Distinct (names_in (groups (node_seen node.now))) }
     requires few { variable_count (groups (node_seen node.now)) ≤ most_variables }
-    ensures { IfOk result (λ table. entries_of (λ x. x) table.entries ≡ placed (kinds_by (kind_in (entries_of (λ x. x) types.now.entries)) (groups (node_seen node.now)))) }
+    ensures { IfOk result (λ table. told table.entries ≡ placed (kinds_by (kind_told types.now.entries) (groups (node_seen node.now)))) }
 {
     let mut table = IndexMap::new(alloc);
     place_groups(&mut table, types, &node.inputs)?;

@@ -1,10 +1,9 @@
 //! Tables of names.
 
-ghost use Rattle.std.specs.Prelude.{◌≡◌, ◌++◌, ◌∷◌, [], OnOk, false, string_bytes};
+ghost use Rattle.std.specs.Prelude.{◌≡◌, ◌∷◌, [], OnOk, false, string_bytes};
 ghost use Rattle.lus_meaning.specs.Named.{is_in};
-ghost use Rattle.lus_meaning.specs.ScopeView.{entries_of};
 ghost use Rattle.lus_meaning.specs.Scopes.{entry};
-ghost use Rattle.lus_tables.specs.ByTable.{names};
+ghost use Rattle.lus_tables.specs.ByTable.{Gains, names, told};
 
 use indexmap::IndexMap;
 use lus_syntax::Name;
@@ -16,8 +15,8 @@ pub fn declare<X: Drop>(
     name: &Name,
     value: X,
 ) -> Result<(), Memory>
-    requires { is_in (names (entries_of (λ x. x) table.old.entries)) (string_bytes name.now.text) ≡ false }
-    ensures { OnOk result (entries_of (λ x. x) table.new.entries ≡ entries_of (λ x. x) table.old.entries ++ (string_bytes name.now.text, value) ∷ []) }
+    requires { is_in (names (told table.old.entries)) (string_bytes name.now.text) ≡ false }
+    ensures { OnOk result (Gains table.old.entries table.new.entries ((string_bytes name.now.text, value) ∷ [])) }
 {
     table.insert(name.text.clone()?, value)?;
     Ok(())
@@ -25,7 +24,7 @@ pub fn declare<X: Drop>(
 
 /// What a name stands for.
 pub fn find<X: Copy>(table: &IndexMap<String, X>, name: &str) -> Option<X>
-    ensures { result ≡ entry (entries_of (λ x. x) table.now.entries) name.now }
+    ensures { result ≡ entry (told table.now.entries) name.now }
 {
     table.get(name).copied()
 }

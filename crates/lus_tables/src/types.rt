@@ -2,13 +2,10 @@
 
 ghost use Rattle.std.specs.Prelude.{◌≡◌, ◌++◌, IfOk, OnOk, length, map, string_bytes};
 ghost use Rattle.lus_syntax.specs.View.{definition_seen, fields_seen, names_seen, type_name_seen, type_seen};
-ghost use Rattle.lus_program.specs.declared.types.Kind.TheVariants.{Bool as BoolKind};
 ghost use Rattle.lus_program.specs.View.{declared_of, field_of};
-ghost use Rattle.lus_values.specs.Lists.{item};
 ghost use Rattle.lus_meaning.specs.Named.{Distinct};
-ghost use Rattle.lus_meaning.specs.ScopeView.{entries_of};
-ghost use Rattle.lus_meaning.specs.Tables.{numbered_from, text_of};
-ghost use Rattle.lus_tables.specs.ByTable.{declared_by, fields_by, fields_of_kind, kind_in};
+ghost use Rattle.lus_meaning.specs.Tables.{text_of};
+ghost use Rattle.lus_tables.specs.ByTable.{all_declared_by, declared_by, fields_by, fields_of_kind, kind_told, told, types_by};
 
 use crate::table::{declare, find};
 use indexmap::IndexMap;
@@ -19,7 +16,7 @@ use std::alloc::Global;
 
 /// The type that a name means; bool for an unknown one.
 pub fn kind_of_name(types: &IndexMap<String, Kind>, name: &TypeName) -> Kind
-    ensures { result ≡ kind_in (entries_of (λ x. x) types.now.entries) (type_name_seen name.now) }
+    ensures { result ≡ kind_told types.now.entries (type_name_seen name.now) }
 {
     match name {
         TypeName::Bool(_) => Kind::Bool,
@@ -39,7 +36,7 @@ pub fn types(
 ) -> Result<IndexMap<String, Kind>, Memory>
     requires alike { length kinds.now ≡ length declarations.now }
     requires distinct { Distinct (map (λ d. d.name.text) (map type_seen declarations.now)) }
-    ensures { IfOk result (λ table. entries_of (λ x. x) table.entries ≡ map (λ e. (e.0.name.text, item BoolKind kinds.now e.1)) (numbered_from 0 (map type_seen declarations.now))) }
+    ensures { IfOk result (λ table. told table.entries ≡ types_by kinds.now (map type_seen declarations.now)) }
 {
     let mut table = IndexMap::new(alloc);
     for (place, declaration) in declarations.iter().enumerate() {
@@ -54,7 +51,8 @@ pub fn declared(
     types: &IndexMap<String, Kind>,
     declarations: &[TypeDeclaration],
 ) -> Result<Vec<Declared>, Memory>
-    ensures { IfOk result (λ all. map declared_of all.items ≡ map (λ d. declared_by (kind_in (entries_of (λ x. x) types.now.entries)) d.definition) (map type_seen declarations.now)) }
+    ensures { let declared = all_declared_by (kind_told types.now.entries) (map type_seen declarations.now) in
+        IfOk result (λ all. map declared_of all.items ≡ declared) }
 {
     let mut all = Vec::new(alloc);
     for declaration in declarations {
@@ -68,7 +66,7 @@ fn definition(
     types: &IndexMap<String, Kind>,
     definition: &Definition,
 ) -> Result<Declared, Memory>
-    ensures { IfOk result (λ d. declared_of d ≡ declared_by (kind_in (entries_of (λ x. x) types.now.entries)) (definition_seen definition.now)) }
+    ensures { IfOk result (λ d. declared_of d ≡ declared_by (kind_told types.now.entries) (definition_seen definition.now)) }
 {
     match definition {
         Definition::Alias(name) => Ok(Declared::Alias(kind_of_name(types, name))),
@@ -95,7 +93,7 @@ fn fields(
     types: &IndexMap<String, Kind>,
     groups: &[Fields],
 ) -> Result<Vec<Field>, Memory>
-    ensures { IfOk result (λ fields. map field_of fields.items ≡ fields_by (kind_in (entries_of (λ x. x) types.now.entries)) (map fields_seen groups.now)) }
+    ensures { IfOk result (λ fields. map field_of fields.items ≡ fields_by (kind_told types.now.entries) (map fields_seen groups.now)) }
 {
     let mut fields = Vec::new(alloc);
     for group in groups {

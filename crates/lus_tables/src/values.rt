@@ -1,6 +1,6 @@
 //! The constructors and the constants of a source.
 
-ghost use Rattle.std.specs.Prelude.{◌≡◌, ◌≤◌, ◌++◌, IfOk, OnOk, flat_map, length, map, true};
+ghost use Rattle.std.specs.Prelude.{◌≡◌, ◌≤◌, IfOk, OnOk, length, map, true};
 ghost use Rattle.lus_syntax.specs.Limits.{most_constructors, most_declarations};
 ghost use Rattle.lus_syntax.specs.View.{constant_seen, definition_seen, literal_seen, names_seen, type_seen};
 ghost use Rattle.lus_values.specs.Lists.{Each};
@@ -8,8 +8,8 @@ ghost use Rattle.lus_values.specs.View.{value_of};
 ghost use Rattle.lus_meaning.specs.Named.{Distinct, all_constructor_names, all_new, constructor_names};
 ghost use Rattle.lus_meaning.specs.ScopeView.{entries_of};
 ghost use Rattle.lus_meaning.specs.Sized.{DefinitionCounted};
-ghost use Rattle.lus_meaning.specs.Tables.{constructors_of, minus, numbered_from, text_of};
-ghost use Rattle.lus_tables.specs.ByTable.{constructors_from, names as names_in, value_in};
+ghost use Rattle.lus_meaning.specs.Tables.{constructors_of, minus, text_of};
+ghost use Rattle.lus_tables.specs.ByTable.{constants_by, constructors_by, constructors_from, Gains, names as names_in, told, value_in};
 
 use crate::table::{declare, find};
 use indexmap::IndexMap;
@@ -26,7 +26,7 @@ pub fn constructors(
     requires few { length declarations.now ≤ most_declarations }
     requires counted { Each (λ d. DefinitionCounted d.definition) (map type_seen declarations.now) }
     requires distinct { Distinct (all_constructor_names (map type_seen declarations.now)) }
-    ensures { IfOk result (λ table. entries_of (λ x. x) table.entries ≡ flat_map (λ e. constructors_of e.0.definition e.1) (numbered_from 0 (map type_seen declarations.now))) }
+    ensures { IfOk result (λ table. told table.entries ≡ constructors_by (map type_seen declarations.now)) }
 {
     let mut table = IndexMap::new(alloc);
     for (place, declaration) in declarations.iter().enumerate() {
@@ -42,8 +42,8 @@ fn declare_constructors(
     definition: &Definition,
 ) -> Result<(), Memory>
     requires counted { DefinitionCounted (definition_seen definition.now) }
-    requires new { all_new (names_in (entries_of (λ x. x) table.old.entries)) (constructor_names (definition_seen definition.now)) ≡ true }
-    ensures { OnOk result (entries_of (λ x. x) table.new.entries ≡ entries_of (λ x. x) table.old.entries ++ constructors_of (definition_seen definition.now) enumeration) }
+    requires new { all_new (names_in (told table.old.entries)) (constructor_names (definition_seen definition.now)) ≡ true }
+    ensures { OnOk result (Gains table.old.entries table.new.entries (constructors_of (definition_seen definition.now) enumeration)) }
 {
     match definition {
         Definition::Alias(_) => Ok(()),
@@ -58,8 +58,8 @@ fn declare_in_order(
     names: &[Name],
 ) -> Result<(), Memory>
     requires few { length names.now ≤ most_constructors }
-    requires new { all_new (names_in (entries_of (λ x. x) table.old.entries)) (map text_of (names_seen names.now)) ≡ true }
-    ensures { OnOk result (entries_of (λ x. x) table.new.entries ≡ entries_of (λ x. x) table.old.entries ++ constructors_from enumeration 0 (names_seen names.now)) }
+    requires new { all_new (names_in (told table.old.entries)) (map text_of (names_seen names.now)) ≡ true }
+    ensures { OnOk result (Gains table.old.entries table.new.entries (constructors_from enumeration 0 (names_seen names.now))) }
 {
     for (number, name) in names.iter().enumerate() {
         let place = number as u32;
@@ -75,7 +75,8 @@ pub fn constants(
     constants: &[Constant],
 ) -> Result<IndexMap<String, Value>, Memory>
     requires distinct { Distinct (map (λ c. c.name.text) (map constant_seen constants.now)) }
-    ensures { IfOk result (λ table. entries_of value_of table.entries ≡ map (λ c. (c.name.text, value_in (entries_of (λ x. x) constructors.now.entries) c.value)) (map constant_seen constants.now)) }
+    ensures { let values = constants_by (told constructors.now.entries) (map constant_seen constants.now) in
+        IfOk result (λ table. entries_of value_of table.entries ≡ values) }
 {
     let mut table = IndexMap::new(alloc);
     for constant in constants {
@@ -87,7 +88,7 @@ pub fn constants(
 
 /// The value of a constant's right side; nil for an unknown constructor.
 pub fn literal(constructors: &IndexMap<String, Constructor>, literal: &Literal) -> Value
-    ensures { value_of result ≡ value_in (entries_of (λ x. x) constructors.now.entries) (literal_seen literal.now) }
+    ensures { value_of result ≡ value_in (told constructors.now.entries) (literal_seen literal.now) }
 {
     match literal {
         Literal::Number(number, _) => Value::Int(*number),

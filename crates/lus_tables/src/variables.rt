@@ -1,13 +1,12 @@
 //! The variables of a node.
 
-ghost use Rattle.std.specs.Prelude.{◌≡◌, ◌+◌, ◌≤◌, ◌++◌, OnOk, length, map, true};
+ghost use Rattle.std.specs.Prelude.{◌≡◌, ◌+◌, ◌≤◌, OnOk, length, map, true};
 ghost use Rattle.lus_syntax.specs.Limits.{most_variables};
 ghost use Rattle.lus_syntax.specs.View.{group_seen, names_seen};
 ghost use Rattle.lus_meaning.specs.Named.{all_new, names_in as names_of_groups};
-ghost use Rattle.lus_meaning.specs.ScopeView.{entries_of};
 ghost use Rattle.lus_meaning.specs.Sized.{variable_count};
 ghost use Rattle.lus_meaning.specs.Tables.{each_of, text_of};
-ghost use Rattle.lus_tables.specs.ByTable.{kind_in, kinds_by, names as names_in, placed_from};
+ghost use Rattle.lus_tables.specs.ByTable.{Gains, kind_told, kinds_by, names as names_in, placed_from, told};
 
 use crate::table::declare;
 use crate::types::kind_of_name;
@@ -24,8 +23,9 @@ pub fn place_groups(
     groups: &[Group],
 ) -> Result<(), Memory>
     requires few { length table.old.entries + variable_count (map group_seen groups.now) ≤ most_variables }
-    requires new { all_new (names_in (entries_of (λ x. x) table.old.entries)) (names_of_groups (map group_seen groups.now)) ≡ true }
-    ensures { OnOk result (entries_of (λ x. x) table.new.entries ≡ entries_of (λ x. x) table.old.entries ++ placed_from (length table.old.entries) (kinds_by (kind_in (entries_of (λ x. x) types.now.entries)) (map group_seen groups.now))) }
+    requires new { all_new (names_in (told table.old.entries)) (names_of_groups (map group_seen groups.now)) ≡ true }
+    ensures { let placed = placed_from (length table.old.entries) (kinds_by (kind_told types.now.entries) (map group_seen groups.now)) in
+        OnOk result (Gains table.old.entries table.new.entries placed) }
 {
     for group in groups {
         let kind = kind_of_name(types, &group.type_name);
@@ -41,8 +41,9 @@ fn place_names(
     kind: Kind,
 ) -> Result<(), Memory>
     requires few { length table.old.entries + length names.now ≤ most_variables }
-    requires new { all_new (names_in (entries_of (λ x. x) table.old.entries)) (map text_of (names_seen names.now)) ≡ true }
-    ensures { OnOk result (entries_of (λ x. x) table.new.entries ≡ entries_of (λ x. x) table.old.entries ++ placed_from (length table.old.entries) (each_of (names_seen names.now) kind)) }
+    requires new { all_new (names_in (told table.old.entries)) (map text_of (names_seen names.now)) ≡ true }
+    ensures { let placed = placed_from (length table.old.entries) (each_of (names_seen names.now) kind) in
+        OnOk result (Gains table.old.entries table.new.entries placed) }
 {
     for name in names {
         let place = table.len() as u32;
