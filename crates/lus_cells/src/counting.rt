@@ -6,6 +6,7 @@ ghost use Rattle.lus_syntax.specs.declared.refusal.RefusalNumber.TheVariants as 
 ghost use Rattle.lus_syntax.specs.Limits.{most_cells};
 ghost use Rattle.lus_syntax.specs.Refusals.{HasShape};
 ghost use Rattle.lus_program.specs.View.{program_seen};
+ghost use Rattle.lus_meaning.specs.Refusals.{RefusesFor};
 ghost use Rattle.lus_meaning.specs.Resolved.{Resolved, program_uses};
 ghost use Rattle.lus_cells.specs.Cells.{AreStateCells, FitsCells, HaveLeaves, NamesTooMany};
 ghost use Rattle.lus_cells.specs.Uses.{AreCappedLeaves};
@@ -23,7 +24,7 @@ use std::alloc::Global;
 pub fn cells_of_nodes(alloc: Global, typed: &Typed) -> Result<Vec<u32>, Refusal>
     ensures ok { IfOk result (λ cells. AreStateCells (program_seen typed.now) cells.items) }
     ensures leaves { OnOk result (HaveLeaves (program_seen typed.now)) }
-    ensures refused { IfErr result (λ e. e.number ≢ numbers.Memory → (e.number ≡ numbers.Limit) × (FitsCells (program_seen typed.now) → ⊥)) }
+    ensures refused { IfErr result (RefusesFor numbers.Limit (FitsCells (program_seen typed.now))) }
     ensures placed { IfErr result (λ e. e.number ≢ numbers.Memory → NamesTooMany typed.now e.line e.column) }
     ensures shaped { IfErr result HasShape }
 {
@@ -45,7 +46,7 @@ fn cells_along(
     requires leaves { AreCappedLeaves (program_seen program.now) leaves.now }
     requires order { IsOrder (program_uses (program_seen program.now)) order.now }
     ensures ok { IfOk result (λ cells. AreStateCells (program_seen program.now) cells.items) }
-    ensures refused { IfErr result (λ e. e.number ≢ numbers.Memory → (e.number ≡ numbers.Limit) × (FitsCells (program_seen program.now) → ⊥)) }
+    ensures refused { IfErr result (RefusesFor numbers.Limit (FitsCells (program_seen program.now))) }
     ensures placed { IfErr result (λ e. e.number ≢ numbers.Memory → NamesTooMany program.now e.line e.column) }
     ensures shaped { IfErr result HasShape }
 {

@@ -1,11 +1,12 @@
 //! The checks as passes over a typed program. Contracts see what they give as the program.
 
-ghost use Rattle.std.specs.Prelude.{◌≡◌, ◌≢◌, IfOk, IfErr, OnOk};
+ghost use Rattle.std.specs.Prelude.{◌≡◌, IfOk, IfErr, OnOk};
 ghost use Rattle.lus_syntax.specs.declared.refusal.RefusalNumber.TheVariants as numbers;
 ghost use Rattle.lus_syntax.specs.Refusals.{HasShape};
 ghost use Rattle.lus_program.specs.View.{program_seen};
 ghost use Rattle.lus_streams.specs.OnClock.{ProgramOnClocks};
 ghost use Rattle.lus_streams.specs.Flags.{IsFlagged};
+ghost use Rattle.lus_meaning.specs.Refusals.{RefusesFor};
 ghost use Rattle.lus_meaning.specs.Resolved.{Resolved};
 
 use crate::checking::clocks_fit;
@@ -118,8 +119,7 @@ impl Initialised {
 pub fn check_nil(alloc: Global, clocked: Clocked) -> Result<Initialised, Refusal>
     ensures same { IfOk result (λ initialised. initialised ≡ clocked) }
     ensures ok { OnOk result (IsFlagged (program_seen clocked)) }
-    ensures refused { IfErr result (λ e. e.number ≢ numbers.Memory →
-        (IsFlagged (program_seen clocked) → ⊥) × (e.number ≡ numbers.Nil)) }
+    ensures refused { IfErr result (RefusesFor numbers.Nil (IsFlagged (program_seen clocked))) }
     ensures shaped { IfErr result HasShape }
 {
     match flags_fit(alloc, clocked.program()) {

@@ -5,6 +5,7 @@ ghost use Rattle.lus_values.specs.Lists.{item};
 ghost use Rattle.lus_syntax.specs.declared.refusal.RefusalNumber.TheVariants as numbers;
 ghost use Rattle.lus_syntax.specs.Refusals.{HasShape};
 ghost use Rattle.lus_program.specs.View.{program_seen};
+ghost use Rattle.lus_meaning.specs.Refusals.{RefusesFor};
 ghost use Rattle.lus_meaning.specs.Sound.{IsLimited};
 ghost use Rattle.lus_flat_classes.specs.Turns.{AreReady};
 ghost use Rattle.lus_flat_classes.specs.View.{classes_of};
@@ -112,7 +113,7 @@ fn typed_of(normal: &Normal) -> &Typed
 pub fn translate(alloc: Global, normal: Normal) -> Result<Code, Refusal>
     ensures same { IfOk result (λ c. c.source ≡ normal.source) }
     ensures ok { OnOk result (FitsCells (program_seen normal.source.program)) }
-    ensures refused { IfErr result (λ e. e.number ≢ numbers.Memory → (e.number ≡ numbers.Limit) × (FitsCells (program_seen normal.source.program) → ⊥)) }
+    ensures refused { IfErr result (RefusesFor numbers.Limit (FitsCells (program_seen normal.source.program))) }
     ensures placed { IfErr result (λ e. e.number ≢ numbers.Memory → NamesTooMany normal.source.program e.line e.column) }
     ensures shaped { IfErr result HasShape }
 {

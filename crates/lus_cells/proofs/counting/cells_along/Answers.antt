@@ -4,6 +4,7 @@ use Rattle.std.proofs.lemmas.List.Elements.{All-set}
 use Rattle.lus_program.specs.View.{expression_of, node_of, program_seen}
 use Rattle.lus_syntax.specs.Limits.{most_cells}
 use Rattle.lus_syntax.specs.declared.refusal.RefusalNumber.TheVariants as numbers
+use Rattle.lus_meaning.specs.Refusals.{RefusesFor}
 use Rattle.lus_cells.specs.Cells.{FitsCells, NamesTooMany}
 use Rattle.lus_cells.specs.Given.{counted}
 use Rattle.lus_cells.proofs.CellsAlong.{cells_whole}
@@ -54,7 +55,7 @@ returns-in_err-count-clause-refused c =
     let refusal = c.in_err-count.field-0.0 in
     let past = c.in_err-count.ensures.refused.0 in
     let is : c.node_cells.result ≡ min (sum_by (λ q. counted (program_seen p) (node_of node) leaves table (expression_of q.right)) node.equations.items) 4294967295 = rw c.deref.ensures.value at c.node_cells.ensures in
-    let refused : refusal.number ≢ numbers.Memory → (refusal.number ≡ numbers.Limit) × (FitsCells (program_seen p) → ⊥) = λ other. (c.in_err-count.ensures.refused.1, none_fits p c.requires.resolved order c.requires.order leaves c.requires.leaves i table c.loop-place-test.true c.loop-place.invariant.size c.loop-place.invariant.filled node c.index-node.ensures c.node_cells.result is past) in
+    let refused : RefusesFor numbers.Limit (FitsCells (program_seen p)) refusal = λ other. (none_fits p c.requires.resolved order c.requires.order leaves c.requires.leaves i table c.loop-place-test.true c.loop-place.invariant.size c.loop-place.invariant.filled node c.index-node.ensures c.node_cells.result is past, c.in_err-count.ensures.refused.1) in
     search rules
 
 pub returns-in_err-count-clause-placed : goal.returns-in_err-count-clause-placed

@@ -68,5 +68,5 @@ returns-clause-first c =
     let causal = subst (λ (q : StoredProgram). IsCausal (program_seen q)) initialised c.in_ok-ordered.ensures.ok in
     IfErr-weaker c.translate.result _ _
     (λ e r h. too_many_cells (program_seen c.in_ok-typed.typed) is c.in_ok-clocked.ensures.ok flagged causal
-    (λ fits. (r h).1 (subst (λ (q : StoredProgram). FitsCells (program_seen q)) (sym normal) fits)) (r h).0)
+    (λ fits. (r h).0 (subst (λ (q : StoredProgram). FitsCells (program_seen q)) (sym normal) fits)) (r h).1)
     c.translate.ensures.refused
