@@ -5,7 +5,7 @@ use Rattle.lus_values.specs.Lists.{Each}
 use Rattle.lus_syntax.specs.Lexemes.{Text}
 use Rattle.lus_syntax.specs.Trees.{Equation, Group, Node, Tree}
 use Rattle.lus_meaning.specs.Tables.{text_of, groups}
-use Rattle.lus_meaning.specs.Named.{DefinitionNamed, Distinct, Known, NodeNamed, constant_known, defined_names, has_left, is_in, known, left_names, names_in, test_known, type_known}
+use Rattle.lus_meaning.specs.Named.{DefinitionNamed, Distinct, Known, NodeNamed, constant_known, defined_names, has_left, is_in, known, knows, left_names, names_in, test_known, type_known}
 
 -- no names
 abbrev pub nothing : Known
@@ -22,6 +22,10 @@ outside k = record k { variables = [] }
 -- the type and the clock of a declaration
 abbrev pub group_known : Known → Group → Bool
 group_known k g = type_known k.types g.type_name && test_known k g.test
+
+-- the declarations and the right sides of a node
+abbrev pub node_known : Known → Node → Bool
+node_known k f = list_all (group_known k) (groups f) && list_all (λ q. knows k q.right) f.equations
 
 abbrev pub names_left : List Equation → List Text
 names_left qs = flat_map (λ q. map text_of q.left) qs

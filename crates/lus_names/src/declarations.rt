@@ -38,8 +38,10 @@ fn declare_values(
     requires no_constructors { texts constructors.old.keys ≡ [] }
     ensures constants { OnOk result (texts constants.new.keys ≡ (known (tree_seen tree.now) []).constants) }
     ensures constructors { OnOk result (texts constructors.new.keys ≡ (known (tree_seen tree.now) []).constructors) }
-    ensures distinct { OnOk result (Distinct ((known (tree_seen tree.now) []).constants ++ (known (tree_seen tree.now) []).constructors)) }
-    ensures doubled { IfErr result (Faulty (Distinct ((known (tree_seen tree.now) []).constants ++ (known (tree_seen tree.now) []).constructors) → ⊥)) }
+    ensures distinct { let names = known (tree_seen tree.now) [] in
+        OnOk result (Distinct (names.constants ++ names.constructors)) }
+    ensures doubled { let names = known (tree_seen tree.now) [] in
+        IfErr result (Faulty (Distinct (names.constants ++ names.constructors) → ⊥)) }
 {
     declare_constants(constants, &tree.constants)?;
     declare_constructors(constructors, &tree.types)?;
@@ -60,7 +62,8 @@ fn declare_types(table: &mut IndexSet<String>, types: &[TypeDeclaration]) -> Res
 fn declare_constants(table: &mut IndexSet<String>, constants: &[Constant]) -> Result<(), Fault>
     ensures kept { OnOk result (texts table.new.keys ≡ texts table.old.keys ++ map (λ c. c.name.text) (map constant_seen constants.now)) }
     ensures new { OnOk result (all_new (texts table.old.keys) (map (λ c. c.name.text) (map constant_seen constants.now)) ≡ true) }
-    ensures doubled { IfErr result (Faulty (all_new (texts table.old.keys) (map (λ c. c.name.text) (map constant_seen constants.now)) ≡ false)) }
+    ensures doubled { let names = map (λ c. c.name.text) (map constant_seen constants.now) in
+        IfErr result (Faulty (all_new (texts table.old.keys) names ≡ false)) }
 {
     for constant in constants {
         declare(table, slice::from_ref(&constant.name))?;

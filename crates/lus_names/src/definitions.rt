@@ -22,7 +22,8 @@ pub fn check_definitions(
     declarations: &[TypeDeclaration],
 ) -> Result<(), Fault>
     ensures named { OnOk result (Each (λ d. DefinitionNamed (texts types.now.keys) d.definition) (map type_seen declarations.now)) }
-    ensures refused { IfErr result (Faulty (Each (λ d. DefinitionNamed (texts types.now.keys) d.definition) (map type_seen declarations.now) → ⊥)) }
+    ensures refused { let all = Each (λ d. DefinitionNamed (texts types.now.keys) d.definition) (map type_seen declarations.now) in
+        IfErr result (Faulty (all → ⊥)) }
 {
     for declaration in declarations {
         check_definition(alloc, types, &declaration.definition)?;

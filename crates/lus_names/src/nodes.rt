@@ -1,6 +1,6 @@
 //! The names of a node.
 
-ghost use Rattle.std.specs.Prelude.{◌≡◌, ◌++◌, ◌&&◌, map, is_none, OnOk, IfErr, true, false};
+ghost use Rattle.std.specs.Prelude.{◌≡◌, ◌++◌, map, is_none, OnOk, IfErr, true, false};
 ghost use Rattle.std.specs.List.{list_all};
 ghost use Rattle.lus_values.specs.Lists.{Each};
 ghost use Rattle.lus_syntax.specs.View.{equation_seen, group_seen, node_seen};
@@ -8,7 +8,7 @@ ghost use Rattle.lus_meaning.specs.Tables.{groups};
 ghost use Rattle.lus_meaning.specs.Named.{NodeNamed, all_new, knows, names_in, test_known};
 ghost use Rattle.lus_meaning.specs.ScopeView.{Faulty};
 ghost use Rattle.lus_names.specs.NameView.{known_seen, texts};
-ghost use Rattle.lus_names.specs.Parts.{group_known, in_node, outside};
+ghost use Rattle.lus_names.specs.Parts.{group_known, in_node, node_known, outside};
 
 use crate::definitions::unknown_type;
 use crate::left::{check_lefts, declare_groups};
@@ -55,7 +55,7 @@ fn declare_variables(table: &mut IndexSet<String>, node: &Node) -> Result<(), Fa
 
 /// The first unknown name in the declarations and on the right sides of a node.
 fn unknown_in_node(names: &Names, node: &Node) -> Option<Place>
-    ensures { is_none result ≡ (list_all (group_known (known_seen names.now)) (groups (node_seen node.now)) && list_all (λ q. knows (known_seen names.now) q.right) (node_seen node.now).equations) }
+    ensures { is_none result ≡ node_known (known_seen names.now) (node_seen node.now) }
 {
     match unknown_in_declared(names, node) {
         Some(place) => Some(place),
