@@ -1,7 +1,7 @@
 -- What a call passes: the inputs that its called instant is given, and entries that fit the called node.
-use Rattle.std.proofs.Common.{◌≡◌, ℕ, zero, suc, ◌+◌, ◌<◌, ◌++◌, true, false, List, [], ◌∷◌, length, Some, None, is_some, slice_get, refl, sym, ap, ap₂, ◌∙◌, subst, arith, le_of_suc-le-suc, not-suc-le-zero}
+use Rattle.std.proofs.Common.{◌≡◌, ℕ, zero, suc, ◌+◌, ◌<◌, ◌++◌, true, false, List, [], ◌∷◌, length, Bool, Option, Some, None, is_some, slice_get, refl, sym, ap, ap₂, ◌∙◌, subst, arith, le_of_suc-le-suc, not-suc-le-zero}
 use Rattle.lus_values.specs.Lists.{item, Each}
-use Rattle.lus_values.specs.Values.{Row}
+use Rattle.lus_values.specs.Values.{Value, Row}
 use Rattle.lus_program.specs.Programs.{Expression, variable, Operands, none, more, Node, Program, node_at}
 use Rattle.lus_streams.specs.Clocks.{Clock, clock_of, operand, renamed_clock, renamed_test, formal_clock}
 use Rattle.lus_streams.specs.Equations.{Site}
@@ -13,7 +13,7 @@ use Rattle.lus_classes.specs.Classes.{Atom, constant, named, Argument, Call, Cla
 use Rattle.lus_classes.specs.Steps.{at_row, is_on_row, atom_in, passed}
 use Rattle.lus_classes.specs.ClassesOf.{atom_expression, AtomOn, AreArguments, Linked, IsCall}
 use Rattle.lus_classes.specs.Laws.{Fits}
-use Rattle.lus_classes.proofs.Options.{where_present}
+use Rattle.lus_classes.proofs.Options.{never, where_present}
 use Rattle.lus_classes.proofs.Rows.{PresentOnClocks, Agree, is_on_row_same, is_on_row_is, off, off_front, test_same, absent}
 use Rattle.lus_classes.proofs.Codes.{atom_value, atom_some}
 
@@ -39,6 +39,11 @@ passed_same (a ∷ given) r t h =
     ap₂ ◌∷◌
     (ap₂ where_on (is_on_row_same a.clock r t (each_left (Agree r t) (clock_variables a.clock) (atom_reads a.atom ++ argument_reads given) h)) (atom_same a.atom r t (each_left (Agree r t) (atom_reads a.atom) (argument_reads given) rest)))
     (passed_same given r t (each_right (Agree r t) (atom_reads a.atom) (argument_reads given) rest))
+
+-- what has a value only where a clock is present
+some_where : (b : Bool) (o : Option Value) → is_some (where_on b o) ≡ true → b ≡ true
+some_where true o h = refl
+some_where false o h = absurd (never h)
 
 module _ (p : Program) (f : Node) (c : Class) (r : Row) where
   -- the inputs given to a called instant are those that are passed
@@ -102,8 +107,8 @@ module _ (p : Program) (f : Node) (c : Class) (r : Row) where
   named_is e (constant v) same h = absurd (subst IsName same h)
   named_is e (named x) same h = (x, same, refl)
 
-  -- where the base of a call is present, what it passes fits the called node
-  module _ (presence : PresentOnClocks f (at_row r)) (s : Site) (q : Call) (n : ℕ) (call : IsCall p f c s q n) (base_on : is_on_row s.base r ≡ true) where
+  -- where the base of a call is present, what it passes is on the clocks of the called node, and fits them
+  module _ (s : Site) (q : Call) (n : ℕ) (call : IsCall p f c s q n) (base_on : is_on_row s.base r ≡ true) where
     abbrev g : Node
     g = node_at p s.node
 
@@ -128,8 +133,14 @@ module _ (p : Program) (f : Node) (c : Class) (r : Row) where
         ∙ test_same t.constructor (is_on (renamed_clock s.args l ++ s.base) (at_row r)) (is_on l (at_row i)) (is_on_row k r) (item None r y.0) (item None i t.variable) (renamed_is l h.3) same_clock
         (a.entry_is ∙ ap (where_on (is_on_row k r)) y.2)
 
-    site_fits : Fits g i
-    site_fits = record {
+    site_on_clocks : (x : ℕ) → x < g.inputs → is_some (item None i x) ≡ true → is_on_row (clock_of g x) i ≡ true
+    site_on_clocks x lt some =
+        let a = formal x lt in
+        sym (renamed_is (clock_of g x) (call.linked x lt))
+        ∙ some_where (is_on_row (formal_clock g s.args s.base x) r) (atom_in a.atom r) (sym (ap is_some a.entry_is) ∙ some)
+
+    site_fits : PresentOnClocks f (at_row r) → Fits g i
+    site_fits presence = record {
       long = passed_length q.arguments r ∙ call.arity;
       presence = λ x lt.
           let a = formal x lt in
@@ -138,8 +149,15 @@ module _ (p : Program) (f : Node) (c : Class) (r : Row) where
           ∙ renamed_is (clock_of g x) (call.linked x lt);
     }
 
+  -- in any row of the caller
+  pub arguments_on_clocks : (s : Site) (q : Call) (n : ℕ) → IsCall p f c s q n → is_on_row q.base r ≡ true
+      → (x : ℕ) → x < (node_at p q.node).inputs → is_some (item None (passed q.arguments r) x) ≡ true → is_on_row (clock_of (node_at p q.node) x) (passed q.arguments r) ≡ true
+  arguments_on_clocks s q n call t =
+      subst (λ m. (x : ℕ) → x < (node_at p m).inputs → is_some (item None (passed q.arguments r) x) ≡ true → is_on_row (clock_of (node_at p m) x) (passed q.arguments r) ≡ true) (sym call.node)
+      (site_on_clocks s q n call (ap (λ l. is_on_row l r) (sym call.base) ∙ t))
+
   pub arguments_fit : PresentOnClocks f (at_row r) → (s : Site) (q : Call) (n : ℕ) → IsCall p f c s q n → is_on_row q.base r ≡ true
       → Fits (node_at p q.node) (passed q.arguments r)
   arguments_fit presence s q n call t =
       subst (λ m. Fits (node_at p m) (passed q.arguments r)) (sym call.node)
-      (site_fits presence s q n call (ap (λ l. is_on_row l r) (sym call.base) ∙ t))
+      (site_fits s q n call (ap (λ l. is_on_row l r) (sym call.base) ∙ t) presence)
