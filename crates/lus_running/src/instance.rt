@@ -4,8 +4,9 @@ ghost use Rattle.std.specs.Prelude.{◌≡◌, ◌↔◌, ◌<◌, IsTrue, suc, 
 ghost use Rattle.lus_classes.specs.States.{WithinDepth};
 ghost use Rattle.lus_flat_classes.specs.Turns.{AreReady};
 ghost use Rattle.lus_flat_classes.specs.View.{classes_of};
-ghost use Rattle.lus_running.specs.Fits.{OfClass};
+ghost use Rattle.lus_running.specs.Fits.{FitsPresence, OfClass};
 ghost use Rattle.lus_running.specs.Instances.{HasFormals, IsCopy, IsFresh, IsLong, IsReset, IsShaped, KeepsSame, TakesStep};
+ghost use Rattle.lus_running.specs.OnClocks.{PassOnClocks};
 
 use crate::error::StepError;
 use crate::resetting::{absent, copy_cells, copy_flags, empty_all, nils, set_all, set_flags};
@@ -115,6 +116,8 @@ impl Instance {
         requires shaped { IsShaped classes.now self.old }
         requires depth { WithinDepth (classes_of classes.now) (suc depth) self.old.node }
         requires formals { OfClass classes.now self.old.node (HasFormals outputs inputs.now) }
+        requires presence { OfClass classes.now self.old.node (λ c. FitsPresence c inputs.now) }
+        requires passing { PassOnClocks classes.now }
         ensures step { TakesStep classes.now depth outputs self.old inputs.now result self.new }
         ensures node { self.new.node ≡ self.old.node }
         ensures shaped { IsShaped classes.now self.new }

@@ -2,28 +2,15 @@
 
 ghost use Rattle.std.specs.Prelude.{◌≡◌, map, slice_set};
 ghost use Rattle.lus_values.specs.View.{entry_of};
-ghost use Rattle.lus_classes.specs.Classes.{clock_in};
-ghost use Rattle.lus_classes.specs.Steps.{is_on_row};
-ghost use Rattle.lus_flat_classes.specs.View.{class_of};
 ghost use Rattle.lus_running.specs.Gifts.{GivesTo, ReceivesAll, ReceivesOne};
 
 use crate::entries::entry_at;
 use crate::error::StepError;
-use crate::presence::is_on;
+use crate::presence::is_present;
 use crate::value::value_of;
 use lus_flat_classes::{Class, Formula, Target};
 use lus_values::Value;
 use std::alloc::Global;
-
-/// Whether a variable's clock is present.
-pub fn is_present(class: &Class, row: &[Option<Value>], variable: usize) -> bool
-    ensures { result ≡ is_on_row (clock_in (class_of class.now) variable) (map entry_of row.now) }
-{
-    match class.tests.get(variable) {
-        Some(test) => is_on(&class.tests, *test, row),
-        None => true,
-    }
-}
 
 /// A row with one entry put in place; past the row nothing is.
 pub fn put(row: &mut [Option<Value>], variable: usize, entry: Option<Value>)

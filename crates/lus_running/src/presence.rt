@@ -1,12 +1,15 @@
-//! Which clocks are present.
+//! Which clocks are present, by one look at the newest test: where the entries of a row stand on their clocks, the older tests
+//! hold wherever it does.
 
-ghost use Rattle.std.specs.Prelude.{◌≡◌, None, length, map};
+ghost use Rattle.std.specs.Prelude.{◌≡◌, None, map};
 ghost use Rattle.lus_values.specs.Lists.{item};
 ghost use Rattle.lus_values.specs.View.{entry_of};
+ghost use Rattle.lus_classes.specs.Classes.{clock_in};
 ghost use Rattle.lus_classes.specs.Steps.{is_on_row};
-ghost use Rattle.lus_flat_classes.specs.View.{chain_in, clock_from};
 ghost use Rattle.lus_running.specs.Constructors.{constructor_in, holds};
+ghost use Rattle.lus_running.specs.Looks.{newest, short_of};
 
+use lus_flat_classes::Class;
 use lus_program::Test;
 use lus_values::Value;
 
@@ -22,47 +25,28 @@ pub fn constructor_at(row: &[Option<Value>], variable: usize) -> Option<u32>
 }
 
 /// Whether a test holds.
-fn holds(test: &Test, row: &[Option<Value>]) -> bool
+pub fn holds(test: &Test, row: &[Option<Value>]) -> bool
     ensures { result ≡ holds test.now (map entry_of row.now) }
 {
     constructor_at(row, test.variable as usize) == Some(test.constructor)
 }
 
-/// The newest test of a variable's clock; past the last variable there is none.
-fn test_at(tests: &[Option<Test>], variable: u32) -> Option<Test>
-    ensures { result ≡ item None tests.now variable }
-{
-    match tests.get(variable as usize) {
-        Some(test) => *test,
-        None => None,
-    }
-}
-
-/// Whether the clock of a variable is present, where variables have these newest tests.
-fn is_chain_on(tests: &[Option<Test>], variable: u32, row: &[Option<Value>]) -> bool
-    ensures { result ≡ is_on_row (chain_in (length tests.now) tests.now variable) (map entry_of row.now) }
-{
-    let mut current = variable;
-    for _older in 0..tests.len() {
-        match test_at(tests, current) {
-            Some(test) => {
-                if !holds(&test, row) {
-                    return false;
-                }
-                current = test.variable;
-            }
-            None => return true,
-        }
-    }
-    true
-}
-
-/// Whether the clock with a newest test is present, where variables have these.
-pub fn is_on(tests: &[Option<Test>], test: Option<Test>, row: &[Option<Value>]) -> bool
-    ensures { result ≡ is_on_row (clock_from tests.now test) (map entry_of row.now) }
+/// Whether the newest test of a clock holds, if it has one.
+pub fn is_on(test: Option<Test>, row: &[Option<Value>]) -> bool
+    ensures { result ≡ is_on_row (newest test) (map entry_of row.now) }
 {
     match test {
-        Some(newest) => holds(&newest, row) && is_chain_on(tests, newest.variable, row),
+        Some(newest) => holds(&newest, row),
+        None => true,
+    }
+}
+
+/// Whether the newest test of a variable's clock holds, if it has one.
+pub fn is_present(class: &Class, row: &[Option<Value>], variable: usize) -> bool
+    ensures { result ≡ is_on_row (clock_in (short_of class.now) variable) (map entry_of row.now) }
+{
+    match class.tests.get(variable) {
+        Some(test) => is_on(*test, row),
         None => true,
     }
 }

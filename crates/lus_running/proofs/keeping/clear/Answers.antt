@@ -2,7 +2,7 @@ use Rattle.std.proofs.Common.{◌≡◌, ◌∙◌, sym, ap, map, ◌++◌, ◌<
 use Rattle.std.proofs.lemmas.List.{length-map, get_or-map}
 use Rattle.lus_values.specs.View.{entry_of}
 use Rattle.lus_classes.specs.Steps.{flags_after}
-use Rattle.lus_flat_classes.specs.View.{clock_from}
+use Rattle.lus_running.specs.Looks.{newest}
 use Rattle.lus_running.specs.Kept.{flag_after}
 use Rattle.lus_running.proofs.KeptPlaces.{next_flag}
 use Rattle.lus_running.proofs.keeping.clear.Goals as goal
@@ -10,18 +10,17 @@ use Rattle.lus_running.proofs.keeping.clear.Goals as goal
 pub loop-place-preserved : goal.loop-place-preserved
 loop-place-preserved c =
     let i = c.loop-place.place in
-    let ts = c.args.tests.now in
-    let ks = map (clock_from ts) c.args.firsts.now in
+    let ks = map newest c.args.firsts.now in
     let bs = c.args.before.now in
     let ns = c.args.after.now in
     let r = map entry_of c.args.row.now in
     let k = slice_index_or c.args.firsts.now i None in
     let b = slice_index_or bs i false in
     let lt : i < length c.args.firsts.now = c.loop-place-test.true in
-    let lk : i < length ks = rw (length-map c.args.firsts.now (clock_from ts)) lt in
-    let ek : clock_from ts k ≡ slice_index_or ks i (clock_from ts k) = sym (get_or-map (clock_from ts) c.args.firsts.now i None (clock_from ts k) lt) in
-    let here : c.is_first.result ≡ flag_after (clock_from ts k) b r = c.is_first.ensures in
+    let lk : i < length ks = rw (length-map c.args.firsts.now newest) lt in
+    let ek : newest k ≡ slice_index_or ks i (newest k) = sym (get_or-map newest c.args.firsts.now i None (newest k) lt) in
+    let here : c.is_first.result ≡ flag_after (newest k) b r = c.is_first.ensures in
     rw add-one
     (ap (λ l. slice_set l i c.is_first.result) c.loop-place.invariant
     ∙ ap (slice_set (flags_after (take i ks) bs r ++ drop i ns) i) here
-    ∙ next_flag ks bs ns r i (clock_from ts k) b lk (omega (arith, c.requires.before)) (omega (arith, c.requires.after)) ek refl)
+    ∙ next_flag ks bs ns r i (newest k) b lk (omega (arith, c.requires.before)) (omega (arith, c.requires.after)) ek refl)

@@ -2,7 +2,7 @@ use Rattle.std.proofs.Common.{◌≡◌, ◌∙◌, sym, ap, map, ◌++◌, ◌<
 use Rattle.std.proofs.lemmas.List.{map-set, length-map, get_or-map}
 use Rattle.lus_values.specs.View.{entry_of}
 use Rattle.lus_classes.specs.Steps.{passed}
-use Rattle.lus_flat_classes.specs.View.{argument_of}
+use Rattle.lus_running.specs.Looks.{short_argument}
 use Rattle.lus_running.specs.Kept.{argument_after}
 use Rattle.lus_running.proofs.KeptPlaces.{next_argument}
 use Rattle.lus_running.proofs.keeping.pass.Goals as goal
@@ -10,19 +10,18 @@ use Rattle.lus_running.proofs.keeping.pass.Goals as goal
 pub loop-place-preserved : goal.loop-place-preserved
 loop-place-preserved c =
     let i = c.loop-place.place in
-    let ts = c.args.tests.now in
-    let qs = map (argument_of ts) c.args.arguments.now in
+    let qs = map short_argument c.args.arguments.now in
     let ns = map entry_of c.args.called.now in
     let r = map entry_of c.args.row.now in
     let a = c.index-arguments-place.result in
     let u = c.in_ok-value.value in
     let lt : i < length c.args.arguments.now = c.loop-place-test.true in
-    let lq : i < length qs = rw (length-map c.args.arguments.now (argument_of ts)) lt in
+    let lq : i < length qs = rw (length-map c.args.arguments.now short_argument) lt in
     let ln : i < length ns = rw (length-map c.args.called.now entry_of) (omega (arith, c.requires)) in
-    let e : argument_of ts a ≡ slice_index_or qs i (argument_of ts a) = sym (get_or-map (argument_of ts) c.args.arguments.now i a (argument_of ts a) lt ∙ ap (argument_of ts) (sym c.index-arguments-place.is)) in
-    let here : entry_of u ≡ argument_after (argument_of ts a) r = c.in_ok-value.ensures in
+    let e : short_argument a ≡ slice_index_or qs i (short_argument a) = sym (get_or-map short_argument c.args.arguments.now i a (short_argument a) lt ∙ ap short_argument (sym c.index-arguments-place.is)) in
+    let here : entry_of u ≡ argument_after (short_argument a) r = c.in_ok-value.ensures in
     rw add-one
     (map-set entry_of c.loop-place.called i u
     ∙ ap (λ l. slice_set l i (entry_of u)) c.loop-place.invariant
     ∙ ap (slice_set (passed (take i qs) r ++ drop i ns) i) here
-    ∙ next_argument qs ns r i (argument_of ts a) lq ln e)
+    ∙ next_argument qs ns r i (short_argument a) lq ln e)

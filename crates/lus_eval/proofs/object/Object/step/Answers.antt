@@ -13,9 +13,10 @@ use Rattle.lus_running.specs.declared.error.StepError.TheVariants as running
 use Rattle.lus_running.specs.Instances.{HasFormals, TakesStep}
 use Rattle.lus_running.specs.Instances.{state_of as instance_state}
 use Rattle.lus_eval.specs.Objects.{Kept, kept_by, IsShaped, state_of}
-use Rattle.lus_eval.proofs.Following.{nested, has_formals, step_follows, fault_follows}
+use Rattle.lus_eval.proofs.Following.{nested, has_formals, presence_told, step_follows, fault_follows}
 use Rattle.lus_eval.proofs.KeptRows.{instance_shaped, shaped_in_code, source_checked, source_node}
 use Rattle.lus_eval.proofs.PassedErrors.{fault_passed}
+use Rattle.lus_eval.proofs.Passing.{pass_on_clocks}
 use Rattle.lus_eval.proofs.object.Object.step.Goals as goal
 
 pub step-requires-clause-shaped : goal.step-requires-clause-shaped
@@ -46,6 +47,20 @@ step-requires-clause-formals c k found =
     let presence = subst (λ (k : Kept). IsTrue (has_presence p k.node i)) (sym c.self.view_is) c.requires.presence in
     let node = source_node code o shaped classes c.classes-classes.ensures.same c.classes-classes.ensures.size c.program.result.now c.program.ensures.same c.index-node.result.now c.index-node.ensures in
     subst (λ (n : Node). HasFormals n.outputs i k) node (has_formals p classes checked c.classes-classes.ensures.code o.node k found i shape presence)
+
+pub step-requires-clause-presence : goal.step-requires-clause-presence
+step-requires-clause-presence c k found =
+    let code = c.args.code.now in
+    let p = program_of code in
+    let i = c.args.inputs.now in
+    let o = kept_by c.self.inside.instance in
+    let classes = c.classes-classes.result.now in
+    let checked = source_checked code c.program.result.now c.program.ensures.same c.program.ensures.checked in
+    let presence = subst (λ (k : Kept). IsTrue (has_presence p k.node i)) (sym c.self.view_is) c.requires.presence in
+    (presence_told p classes checked c.classes-classes.ensures.code o.node k found i).0 presence
+
+pub step-requires-clause-passing : goal.step-requires-clause-passing
+step-requires-clause-passing c = pass_on_clocks (program_of c.args.code.now) c.classes-classes.result.now c.classes-classes.ensures.code
 
 pub returns-in_err-outputs-clause-fault : goal.returns-in_err-outputs-clause-fault
 returns-in_err-outputs-clause-fault c =

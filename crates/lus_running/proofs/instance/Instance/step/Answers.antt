@@ -17,6 +17,7 @@ use Rattle.lus_running.specs.Instants.{placed, Parts}
 use Rattle.lus_running.specs.Instances.{Answers}
 use Rattle.lus_running.proofs.InstanceSteps.{answers_ok, answers_err}
 use Rattle.lus_running.proofs.Placed.{class_found}
+use Rattle.lus_running.proofs.ShortSteps.{fits_on_clocks, step_same}
 use Rattle.lus_running.proofs.instance.Instance.step.Goals as goal
 
 pub returns-in_err-place-clause-shaped : goal.returns-in_err-place-clause-shaped
@@ -221,7 +222,8 @@ returns-in_err-run-clause-step c =
     let e = c.in_err-run.field-0.0 in
     let failed : c.from_residual-in_err-run.result ≡ Err e = search rules in
     let state = state_in classes (suc d) g (map value_of o.cells.items) o.firsts.items in
-    let answers = answers_err classes d g k c.args.outputs (map value_of c.deref.result.now) c.deref-2.result.now i before (map entry_of c.deref_mut-4.result.now) found narrow enough put c.from_residual-in_err-run.result e _ _ state failed c.in_err-run.ensures in
+    let looks = step_same classes c.requires.all c.requires.passing (state_in classes (suc d) g (map value_of c.deref.result.now) c.deref-2.result.now) g k i found narrow (fits_on_clocks k i narrow (c.requires.presence k found)) in
+    let answers = answers_err classes d g k c.args.outputs (map value_of c.deref.result.now) c.deref-2.result.now i before (map entry_of c.deref_mut-4.result.now) found narrow enough put looks c.from_residual-in_err-run.result e _ _ state failed c.in_err-run.ensures in
     let here = subst (λ (p : Parts). Answers k c.args.outputs c.from_residual-in_err-run.result (step (classes_of classes) (state_in classes (suc d) g p.0 p.1) g i) state) (λ j. (map value_of (c.deref.ensures.value j), c.deref-2.ensures.value j)) answers in
     λ z fz. subst (λ (j : Class). Answers j c.args.outputs c.from_residual-in_err-run.result (step (classes_of classes) state g i) state) (same_Some k z (sym found ∙ fz)) here
 
@@ -257,7 +259,8 @@ returns-clause-step c =
     let out = c.new.ensures ∙ c.in_ok-answer.ensures ∙ ap (λ l. take c.args.outputs (drop k.inputs (map entry_of l))) (c.deref-3.ensures.value ∙ all) in
     let state = state_in classes (suc d) g (map value_of o.cells.items) o.firsts.items in
     let next = state_in classes (suc d) g (map value_of c.swap.new.x.items) c.swap-2.new.x.items in
-    let answers = answers_ok classes d g k c.args.outputs (map value_of c.deref.result.now) c.deref-2.result.now i before (map entry_of c.deref_mut-4.result.now) found narrow enough put
+    let looks = step_same classes c.requires.all c.requires.passing (state_in classes (suc d) g (map value_of c.deref.result.now) c.deref-2.result.now) g k i found narrow (fits_on_clocks k i narrow (c.requires.presence k found)) in
+    let answers = answers_ok classes d g k c.args.outputs (map value_of c.deref.result.now) c.deref-2.result.now i before (map entry_of c.deref_mut-4.result.now) found narrow enough put looks
     (map value_of c.run.new.next_cells) (map value_of c.swap.new.x.items) c.run.new.next_firsts c.swap-2.new.x.items (map entry_of c.run.new.variables) c.new.result outputs c.in_ok-run.ensures cells firsts out in
     let here = subst (λ (p : Parts). Answers k c.args.outputs (Ok c.new.result) (step (classes_of classes) (state_in classes (suc d) g p.0 p.1) g i) next) (λ j. (map value_of (c.deref.ensures.value j), c.deref-2.ensures.value j)) answers in
     λ z fz. subst (λ (j : Class). Answers j c.args.outputs (Ok c.new.result) (step (classes_of classes) state g i) next) (same_Some k z (sym found ∙ fz)) here

@@ -5,7 +5,7 @@ use Rattle.lus_classes.specs.Steps.{is_on_row}
 use Rattle.lus_flat_classes.specs.View.{chain_in}
 use Rattle.lus_running.specs.Constructors.{holds}
 use Rattle.lus_running.proofs.Chains.{chain_on, chain_off, chain_ends}
-use Rattle.lus_running.proofs.presence.is_chain_on.Goals as goal
+use Rattle.lus_running.proofs.fits.is_chain_on.Goals as goal
 
 pub loop-older-preserved : goal.loop-older-preserved
 loop-older-preserved c =

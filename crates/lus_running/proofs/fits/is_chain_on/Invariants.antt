@@ -2,7 +2,7 @@ use Rattle.std.proofs.Common.{◌≡◌, ◌-◌, length, map}
 use Rattle.lus_values.specs.View.{entry_of}
 use Rattle.lus_classes.specs.Steps.{is_on_row}
 use Rattle.lus_flat_classes.specs.View.{chain_in}
-use Rattle.lus_running.proofs.presence.is_chain_on.Given as goal
+use Rattle.lus_running.proofs.fits.is_chain_on.Given as goal
 
 abbrev pub invariant-loop-older : goal.invariant-loop-older
 invariant-loop-older l =
