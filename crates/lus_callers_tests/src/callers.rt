@@ -1,10 +1,12 @@
 //! What is entered where: callers on two instances, many steps at once, and nobody.
 
 use crate::runs::{
-    TWO, a_program, has_entries, has_share, is_save, locked, saving, seated, stepping,
-    wants_nothing,
+    TWO, a_program, a_step, a_step_with, counts, has_entries, has_share, is_save, locked, saving,
+    seated, stepping, wants_nothing,
 };
-use lus_callers::{Journals, OpenGate};
+use lus_callers::{Call, Caller, Journals, OpenGate};
+use lus_values::Memory;
+use std::alloc::Global;
 use std::test::Fail;
 
 // One caller's calls on two instances, and no calls of another.
@@ -31,6 +33,35 @@ fn instances_are_told_apart(rt: HostRuntime) -> Result<(), Fail> {
     Ok(())
 }
 
+// One caller's steps on both instances in turn.
+fn alternating(alloc: Global) -> Result<Caller, Memory> {
+    let mut calls = Vec::new(alloc);
+    for input in [true, false] {
+        let request = a_step(alloc);
+        calls.push(Call { on: 0, request })?;
+        let request = a_step_with(alloc, input)?;
+        calls.push(Call { on: 1, request })?;
+    }
+    Ok(Caller { calls })
+}
+
+// Each instance counted its own steps, the second one those with a true input.
+fn is_counted(done: &Journals) -> bool {
+    counts(done, 0, &[Some(0), Some(1)]) && counts(done, 1, &[Some(0), None])
+}
+
+#[test]
+fn nodes_are_told_apart(rt: HostRuntime) -> Result<(), Fail> {
+    let alloc = rt.alloc();
+    let program = a_program(alloc)?;
+    let callers = [alternating(alloc)?];
+    let done = seated(&rt, alloc, &program, &TWO, &callers, &OpenGate)?;
+    assert!(&rt; is_counted(&done));
+    let done = locked(&rt, alloc, &program, &TWO, &callers, &OpenGate)?;
+    assert!(&rt; is_counted(&done));
+    Ok(())
+}
+
 // Two callers' thousand steps each on one instance, and none on the other.
 fn is_shared(done: &Journals) -> bool {
     let first = has_entries(done, 0, 2_000) && has_entries(done, 1, 0);
@@ -43,8 +74,8 @@ fn callers_share_an_instance(rt: HostRuntime) -> Result<(), Fail> {
     let alloc = rt.alloc();
     let program = a_program(alloc)?;
     let mut callers = Vec::new(alloc);
-    callers.push(stepping(alloc, 1_000)?)?;
-    callers.push(stepping(alloc, 1_000)?)?;
+    callers.push(stepping(alloc, 0, 1_000)?)?;
+    callers.push(stepping(alloc, 0, 1_000)?)?;
     let done = seated(&rt, alloc, &program, &TWO, callers.as_slice(), &OpenGate)?;
     assert!(&rt; is_shared(&done));
     let done = locked(&rt, alloc, &program, &TWO, callers.as_slice(), &OpenGate)?;

@@ -1,68 +1,80 @@
 //! What gates are told, and that no caller waits for another's gate.
 
-use crate::runs::{TWO, a_program, is_save, locked, saving, seated, stepping};
-use lus_callers::Gate;
+use crate::meeting::Meeting;
+use crate::runs::{TWO, a_program, counts, is_by, locked, seated, stepping};
+use lus_callers::{Gate, Journals};
+use lus_program::NodeId;
 use std::sync::atomic::{AtomicU64, Ordering};
 use std::test::Fail;
-use std::thread;
 
-// Each caller waits for the other before its call, and then caller 0 waits until caller 1 is answered.
-#[derive(Drop)]
-struct Meeting {
-    signs: AtomicU64,
-    answered: AtomicU64,
-    late: AtomicU64,
-}
+/// Two instances of the node that counts its steps.
+const TWINS: [NodeId; 2] = [NodeId(0), NodeId(0)];
 
-fn wait_for(word: &AtomicU64, wanted: u64, late: &AtomicU64) {
-    for _ in 0..1_000_000u32 {
-        if word.load(Ordering::SeqCst) >= wanted {
-            return;
-        }
-        thread::yield_now();
-    }
-    late.store(1, Ordering::SeqCst);
-}
-
-impl Gate for Meeting {
-    fn before(&self, caller: u32, _call: u32) {
-        self.signs.fetch_add(1, Ordering::SeqCst);
-        wait_for(&self.signs, 2, &self.late);
-        if caller == 0 {
-            wait_for(&self.answered, 1, &self.late);
-        }
-    }
-
-    fn answered(&self, caller: u32, _call: u32) {
-        if caller == 1 {
-            self.answered.store(1, Ordering::SeqCst);
-        }
-    }
-}
-
-fn new_meeting() -> Meeting {
-    Meeting {
-        signs: AtomicU64::new(0),
-        answered: AtomicU64::new(0),
-        late: AtomicU64::new(0),
-    }
+// Each caller stepped an instance of its own, which was at its start.
+fn is_apart(done: &Journals) -> bool {
+    let first = counts(done, 0, &[Some(0)]) && is_by(done, 0, 0, 0);
+    let second = counts(done, 1, &[Some(0)]) && is_by(done, 1, 0, 1);
+    first && second
 }
 
 #[test]
-fn callers_overlap(rt: HostRuntime) -> Result<(), Fail> {
+fn callers_overlap_apart(rt: HostRuntime) -> Result<(), Fail> {
     let alloc = rt.alloc();
     let program = a_program(alloc)?;
     let mut callers = Vec::new(alloc);
-    callers.push(saving(alloc, &[(0, 5)])?)?;
-    callers.push(saving(alloc, &[(0, 6)])?)?;
-    let gate = new_meeting();
+    callers.push(stepping(alloc, 0, 1)?)?;
+    callers.push(stepping(alloc, 1, 1)?)?;
+    let gate = Meeting::of(2);
+    let done = seated(&rt, alloc, &program, &TWINS, callers.as_slice(), &gate)?;
+    assert!(&rt; !gate.was_late() && is_apart(&done));
+    let gate = Meeting::of(2);
+    let done = locked(&rt, alloc, &program, &TWINS, callers.as_slice(), &gate)?;
+    assert!(&rt; !gate.was_late() && is_apart(&done));
+    Ok(())
+}
+
+// Caller 1 was answered before caller 0.
+fn is_turned(done: &Journals) -> bool {
+    let both = counts(done, 0, &[Some(0), Some(1)]);
+    both && is_by(done, 0, 0, 1) && is_by(done, 0, 1, 0)
+}
+
+#[test]
+fn callers_overlap_at_one(rt: HostRuntime) -> Result<(), Fail> {
+    let alloc = rt.alloc();
+    let program = a_program(alloc)?;
+    let mut callers = Vec::new(alloc);
+    callers.push(stepping(alloc, 0, 1)?)?;
+    callers.push(stepping(alloc, 0, 1)?)?;
+    let gate = Meeting::of(2);
     let done = seated(&rt, alloc, &program, &TWO, callers.as_slice(), &gate)?;
-    assert!(&rt; gate.late.load(Ordering::SeqCst) == 0);
-    assert!(&rt; is_save(&done, 0, 0, 1, 6) && is_save(&done, 0, 1, 0, 5));
-    let gate = new_meeting();
+    assert!(&rt; !gate.was_late() && is_turned(&done));
+    let gate = Meeting::of(2);
     let done = locked(&rt, alloc, &program, &TWO, callers.as_slice(), &gate)?;
-    assert!(&rt; gate.late.load(Ordering::SeqCst) == 0);
-    assert!(&rt; is_save(&done, 0, 0, 1, 6) && is_save(&done, 0, 1, 0, 5));
+    assert!(&rt; !gate.was_late() && is_turned(&done));
+    Ok(())
+}
+
+// Caller 3 was answered first, and the others then, in some order.
+fn is_last_first(done: &Journals) -> bool {
+    let all = counts(done, 0, &[Some(0), Some(1), Some(2), Some(3)]);
+    all && is_by(done, 0, 0, 3)
+}
+
+#[test]
+fn four_callers_overlap(rt: HostRuntime) -> Result<(), Fail> {
+    let alloc = rt.alloc();
+    let program = a_program(alloc)?;
+    let mut callers = Vec::new(alloc);
+    for _ in 0..4u32 {
+        callers.push(stepping(alloc, 0, 1)?)?;
+    }
+    let gate = Meeting::of(4);
+    let done = seated(&rt, alloc, &program, &TWO, callers.as_slice(), &gate)?;
+    assert!(&rt; !gate.was_late() && is_last_first(&done));
+    let gate = Meeting::of(4);
+    let done = locked(&rt, alloc, &program, &TWO, callers.as_slice(), &gate)?;
+    assert!(&rt; !gate.was_late() && is_last_first(&done));
     Ok(())
 }
 
@@ -115,8 +127,8 @@ fn gates_are_told_in_turn(rt: HostRuntime) -> Result<(), Fail> {
     let alloc = rt.alloc();
     let program = a_program(alloc)?;
     let mut callers = Vec::new(alloc);
-    callers.push(stepping(alloc, 3)?)?;
-    callers.push(stepping(alloc, 5)?)?;
+    callers.push(stepping(alloc, 0, 3)?)?;
+    callers.push(stepping(alloc, 0, 5)?)?;
     let gate = new_record();
     let _ = seated(&rt, alloc, &program, &TWO, callers.as_slice(), &gate)?;
     assert!(&rt; is_recorded(&gate));

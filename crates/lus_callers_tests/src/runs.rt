@@ -4,19 +4,20 @@ use lus_callers::{Call, Caller, Gate, HostError, Journals, fit, run_callers, run
 use lus_machine::{Program, compile};
 use lus_program::NodeId;
 use lus_requests::{Reply, Request};
-use lus_shared::LockedNode;
+use lus_shared::{Journal, LockedNode};
 use lus_values::{Memory, Row, Value};
 use std::alloc::Global;
 use std::sync::{Arc, Wait};
 use std::thread::Threads;
 
 const TEXT: &str =
-    "node same(x: bool) returns (y: bool); let y = x; tel\nnode other(x: bool) returns (y: bool); let y = not x; tel\n";
+    "node t() returns (n: int); let n = 0 -> pre n + 1; tel\nnode o(c: bool) returns (y: int when c); let y = t(); tel\n";
 
-/// The nodes of the program.
+/// Both nodes of the program.
 pub(crate) const TWO: [NodeId; 2] = [NodeId(0), NodeId(1)];
 
-/// A program with two nodes, of which the second negates its input. The text is right, so a refusal is a want of memory.
+/// A program of a node that counts its steps, and one that counts those of its steps at which its input is true. The text is
+/// right, so a refusal is a want of memory.
 pub(crate) fn a_program(alloc: Global) -> Result<Arc<Program>, Memory> {
     let Ok(program) = compile(alloc, TEXT) else {
         return Err(Memory);
@@ -24,8 +25,13 @@ pub(crate) fn a_program(alloc: Global) -> Result<Arc<Program>, Memory> {
     Ok(Arc::new(alloc, program)?)
 }
 
-/// The next instant, with this input.
-pub(crate) fn a_step(alloc: Global, input: bool) -> Result<Request, Memory> {
+/// The next instant of the node that counts its steps.
+pub(crate) fn a_step(alloc: Global) -> Request {
+    Request::Step(Row::new(Vec::new(alloc)))
+}
+
+/// The next instant of the other node, with this input.
+pub(crate) fn a_step_with(alloc: Global, input: bool) -> Result<Request, Memory> {
     let mut items = Vec::new(alloc);
     items.push(Some(Value::Bool(input)))?;
     Ok(Request::Step(Row::new(items)))
@@ -43,12 +49,12 @@ pub(crate) fn saving(alloc: Global, slots: &[(usize, u64)]) -> Result<Caller, Me
     Ok(Caller { calls })
 }
 
-/// A caller that makes so many steps on the first instance.
-pub(crate) fn stepping(alloc: Global, count: u64) -> Result<Caller, Memory> {
+/// A caller that makes so many steps on an instance.
+pub(crate) fn stepping(alloc: Global, on: usize, count: u64) -> Result<Caller, Memory> {
     let mut calls = Vec::new(alloc);
     for _ in 0..count {
-        let request = a_step(alloc, true)?;
-        calls.push(Call { on: 0, request })?;
+        let request = a_step(alloc);
+        calls.push(Call { on, request })?;
     }
     Ok(Caller { calls })
 }
@@ -81,6 +87,44 @@ pub(crate) fn locked<G: Gate + Sync, R: Threads + Wait + Sync>(
         return Err(HostError::Seats);
     }
     run_callers::<LockedNode, G, R>(rt, alloc, program, instances, callers, gate)
+}
+
+/// Whether a reply is this one output: a number, or none where the output is absent.
+pub(crate) fn gives(reply: &Reply, output: Option<i64>) -> bool {
+    match reply {
+        Reply::Outputs(row) => match (row.items(), output) {
+            ([Some(Value::Int(found))], Some(number)) => *found == number,
+            ([None], None) => true,
+            _ => false,
+        },
+        _ => false,
+    }
+}
+
+/// Whether the entries are one output each, these in order.
+pub(crate) fn is_journal(journal: &Journal, outputs: &[Option<i64>]) -> bool {
+    let mut pairs = journal.entries.iter().zip(outputs);
+    journal.entries.len() == outputs.len()
+        && pairs.all(|(entry, output)| gives(&entry.reply, *output))
+}
+
+/// Whether an instance has one output an entry, these in order.
+pub(crate) fn counts(done: &Journals, instance: usize, outputs: &[Option<i64>]) -> bool {
+    match done.journals.get(instance) {
+        Some(journal) => is_journal(journal, outputs),
+        None => false,
+    }
+}
+
+/// Whether an instance's entry is one of this caller.
+pub(crate) fn is_by(done: &Journals, instance: usize, place: usize, caller: u32) -> bool {
+    match done.journals.get(instance) {
+        Some(journal) => match journal.entries.get(place) {
+            Some(entry) => entry.caller == caller,
+            None => false,
+        },
+        None => false,
+    }
 }
 
 /// Whether an instance's entry is this caller's save in this slot, and was done.

@@ -1,8 +1,8 @@
-//! A node that is closed without all of its seats.
+//! Nodes of both kinds that are closed, with all of their seats and without one.
 
 ghost use Rattle.std.specs.Prelude.{◌≡◌, [], IfOk};
 
-use crate::runs::{TWO, a_program, a_step};
+use crate::runs::{TWO, a_program, a_step, gives, is_journal};
 use lus_machine::Machine;
 use lus_shared::{LockedNode, SeatNode, Shared, Strangers};
 use lus_values::Memory;
@@ -20,27 +20,40 @@ fn a_machine(alloc: Global) -> Result<Machine, Memory>
     Machine::new(alloc, program, TWO[0])
 }
 
-// Whether a refused close gives all back, which then goes on, and a close with all leaves both calls.
-fn locked_comes_back<R: Wait>(rt: &R, alloc: Global) -> Result<bool, Memory> {
-    let (node, mut seats) = LockedNode::open(alloc, a_machine(alloc)?, 2)?;
-    let Some(mut last) = seats.pop() else {
-        return Ok(false);
-    };
-    let step = a_step(alloc, true)?;
-    if node.call(rt, &mut last, &step).is_err() {
-        return Ok(false);
+// Whether this seat's next step gives this number.
+fn steps<N: Shared, R: Wait>(
+    rt: &R,
+    alloc: Global,
+    node: &N,
+    seat: &mut N::Seat,
+    number: i64,
+) -> bool
+    requires { N.belongs node.now seat.old }
+    ensures { N.belongs node.now seat.new }
+{
+    match node.call(rt, seat, &a_step(alloc)) {
+        Ok(reply) => gives(&reply, Some(number)),
+        Err(_) => false,
     }
-    let Err(strangers) = node.close(seats) else {
-        return Ok(false);
-    };
-    let Strangers { node, mut seats } = strangers;
-    if node.call(rt, &mut last, &step).is_err() {
-        return Ok(false);
-    }
-    let shared = LockedNode::share(&last) == 2;
-    seats.push(last)?;
+}
+
+// Whether a close with these seats leaves two steps.
+fn leaves_two<N: Shared + Drop>(
+    alloc: Global,
+    node: N,
+    first: N::Seat,
+    second: N::Seat,
+) -> Result<bool, Memory>
+where
+    N::Seat: Drop,
+    requires first { N.belongs node first }
+    requires second { N.belongs node second }
+{
+    let mut seats = Vec::new(alloc);
+    seats.push(first)?;
+    seats.push(second)?;
     match node.close(seats) {
-        Ok(journal) => Ok(shared && journal.entries.len() == 2),
+        Ok(journal) => Ok(is_journal(&journal, &[Some(0), Some(1)])),
         Err(strangers) => {
             let Strangers { node: _, seats: _ } = strangers;
             Ok(false)
@@ -48,28 +61,46 @@ fn locked_comes_back<R: Wait>(rt: &R, alloc: Global) -> Result<bool, Memory> {
     }
 }
 
-// Whether a refused close gives all back, and a seat that was kept goes on.
-fn seated_comes_back<R: Wait>(rt: &R, alloc: Global) -> Result<bool, Memory> {
-    let (node, mut seats) = SeatNode::open(alloc, a_machine(alloc)?, 2)?;
+// Whether a close without the last seat gives all back, the seat that came back is answered, and a close with both, in their
+// order or turned, leaves the calls of both.
+fn comes_back<N: Shared + Drop, R: Wait>(
+    rt: &R,
+    alloc: Global,
+    is_turned: bool,
+) -> Result<bool, Memory>
+where
+    N::Seat: Drop,
+{
+    let (node, mut seats) = N::open(alloc, a_machine(alloc)?, 2)?;
     let Some(mut last) = seats.pop() else {
         return Ok(false);
     };
-    let step = a_step(alloc, true)?;
-    if node.call(rt, &mut last, &step).is_err() {
+    if !steps(rt, alloc, &node, &mut last, 0) {
         return Ok(false);
     }
     let Err(strangers) = node.close(seats) else {
         return Ok(false);
     };
-    let Strangers { node, seats } = strangers;
-    let answered = node.call(rt, &mut last, &step).is_ok();
-    Ok(answered && last.share() == 2 && seats.len() == 1)
+    let Strangers { node, mut seats } = strangers;
+    let Some(mut first) = seats.pop() else {
+        return Ok(false);
+    };
+    if !steps(rt, alloc, &node, &mut first, 1) {
+        return Ok(false);
+    }
+    if is_turned {
+        leaves_two(alloc, node, last, first)
+    } else {
+        leaves_two(alloc, node, first, last)
+    }
 }
 
 #[test]
 fn strangers_come_back(rt: HostRuntime) -> Result<(), Fail> {
     let alloc = rt.alloc();
-    assert!(&rt; locked_comes_back(&rt, alloc)?);
-    assert!(&rt; seated_comes_back(&rt, alloc)?);
+    for is_turned in [false, true] {
+        assert!(&rt; comes_back::<LockedNode, HostRuntime>(&rt, alloc, is_turned)?);
+        assert!(&rt; comes_back::<SeatNode, HostRuntime>(&rt, alloc, is_turned)?);
+    }
     Ok(())
 }
