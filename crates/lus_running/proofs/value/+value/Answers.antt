@@ -7,14 +7,16 @@ use Rattle.lus_values.specs.Lists.{item}
 use Rattle.lus_values.specs.Operators.{apply}
 use Rattle.lus_values.specs.Values.{Value}
 use Rattle.lus_values.specs.View.{value_of, entry_of}
-use Rattle.lus_streams.specs.Streams.{with_operand, with_operands}
+use Rattle.lus_streams.specs.Streams.{with_operands}
 use Rattle.lus_classes.specs.Classes.{compute, choose, select}
 use Rattle.lus_classes.specs.Steps.{chosen, run, runs}
 use Rattle.lus_flat_classes.specs.View.{code_of, codes_of}
 use Rattle.lus_flat_classes.proofs.FormulaViews.{seen_compute, seen_choose, seen_select}
 use Rattle.lus_running.specs.Constructors.{constructor_in}
 use Rattle.lus_running.proofs.Branches.{selected_none, selected_at}
-use Rattle.lus_running.proofs.Operands.{values_more, two_items}
+use Rattle.lus_running.specs.Computed.{applied}
+use Rattle.lus_flat_classes.specs.declared.formula.Formula.{Formula}
+use Rattle.lus_running.proofs.Operands.{computed_is, values_more, one_item, two_items, three_items}
 use Rattle.lus_running.proofs.value.+value.Goals as goal
 
 pub values_of-loop-operand-preserved : goal.values_of-loop-operand-preserved
@@ -35,36 +37,77 @@ values_of-loop-operand-preserved t c =
     ∙ values_more cells flags r vs (value_of c.in-Some.value) (code_of c.operand-item.result) (codes_of (drop (suc i) ds)) given
     ∙ ap (λ us. option_map (λ ws. us ++ ws) (runs cells flags [] (codes_of (drop (suc i) ds)) r)) (sym pushed))
 
-pub value_of-returns-in_ok-right-in-Compute : goal.value_of-returns-in_ok-right-in-Compute
-value_of-returns-in_ok-right-in-Compute t c =
+pub value_of-returns-in_ok-operand-in-Compute : goal.value_of-returns-in_ok-operand-in-Compute
+value_of-returns-in_ok-operand-in-Compute t c =
     let cells = map value_of c.args.cells.now in
     let flags = c.args.firsts.now in
     let r = map entry_of c.args.row.now in
     let arm = c.in-Compute in
     let ds = arm.operands.items in
-    let o = arm.operator in
+    let value : Formula → Option Value = λ d. run cells flags [] (code_of d) r in
     let a = c.index.result.now in
-    let b = c.index-in-Compute.result.now in
-    let e : code_of c.args.formula.now ≡ compute o (codes_of ds) = ap code_of arm.is ∙ seen_compute o arm.operands in
+    let long : length ds ≡ 1 = search rules in
+    let at-0 : a ≡ slice_index_or ds 0 a = search rules in
+    let items : ds ≡ a ∷ [] = one_item ds a long at-0 in
+    let operand : entry_of c.in_ok-operand-in-Compute.operand ≡ value a = search rules in
+    let whole : applied arm.operator (entry_of c.in_ok-operand-in-Compute.operand ∷ []) ≡ run cells flags [] (code_of c.args.formula.now) r =
+    (λ i. applied arm.operator (operand i ∷ []))
+    ∙ sym (ap (λ x. run cells flags [] x r) (ap code_of arm.is ∙ seen_compute arm.operator arm.operands) ∙ computed_is cells flags r arm.operator ds ∙ ap (λ l. applied arm.operator (map value l)) items) in
+    subst (λ (v : Option Value). IfOk c.of_one.result (λ u. entry_of u ≡ v)) whole c.of_one.ensures
+
+pub value_of-returns-in_ok-right-in-Compute-2 : goal.value_of-returns-in_ok-right-in-Compute-2
+value_of-returns-in_ok-right-in-Compute-2 t c =
+    let cells = map value_of c.args.cells.now in
+    let flags = c.args.firsts.now in
+    let r = map entry_of c.args.row.now in
+    let arm = c.in-Compute-2 in
+    let ds = arm.operands.items in
+    let value : Formula → Option Value = λ d. run cells flags [] (code_of d) r in
+    let a = c.index-in-Compute-2.result.now in
+    let b = c.index-in-Compute-2-2.result.now in
     let long : length ds ≡ 2 = search rules in
-    let first : a ≡ slice_index_or ds 0 a = search rules in
-    let second : b ≡ slice_index_or ds 1 b = search rules in
-    let both : ds ≡ a ∷ b ∷ [] = two_items ds a b long first second in
-    let left : entry_of c.in_ok-left-in-Compute.left ≡ run cells flags [] (code_of a) r = search rules in
-    let right : entry_of c.in_ok-right-in-Compute.right ≡ run cells flags [] (code_of b) r = search rules in
-    let whole : with_operands (apply o) (with_operand (entry_of c.in_ok-left-in-Compute.left) (with_operand (entry_of c.in_ok-right-in-Compute.right) (Some []))) ≡ run cells flags [] (code_of c.args.formula.now) r =
-    ap₂ (λ u v. with_operands (apply o) (with_operand u (with_operand v (Some [])))) left right
-    ∙ sym (ap (λ d. run cells flags [] d r) e ∙ ap (λ l. with_operands (apply o) (runs cells flags [] (codes_of l) r)) both) in
-    subst (λ (v : Option Value). IfOk c.combined.result (λ u. entry_of u ≡ v)) whole c.combined.ensures
+    let at-0 : a ≡ slice_index_or ds 0 a = search rules in
+    let at-1 : b ≡ slice_index_or ds 1 b = search rules in
+    let items : ds ≡ a ∷ b ∷ [] = two_items ds a b long at-0 at-1 in
+    let left : entry_of c.in_ok-left-in-Compute-2.left ≡ value a = search rules in
+    let right : entry_of c.in_ok-right-in-Compute-2.right ≡ value b = search rules in
+    let whole : applied arm.operator (entry_of c.in_ok-left-in-Compute-2.left ∷ entry_of c.in_ok-right-in-Compute-2.right ∷ []) ≡ run cells flags [] (code_of c.args.formula.now) r =
+    (λ i. applied arm.operator (left i ∷ right i ∷ []))
+    ∙ sym (ap (λ x. run cells flags [] x r) (ap code_of arm.is ∙ seen_compute arm.operator arm.operands) ∙ computed_is cells flags r arm.operator ds ∙ ap (λ l. applied arm.operator (map value l)) items) in
+    subst (λ (v : Option Value). IfOk c.of_two.result (λ u. entry_of u ≡ v)) whole c.of_two.ensures
+
+pub value_of-returns-in_ok-third-in-Compute-3 : goal.value_of-returns-in_ok-third-in-Compute-3
+value_of-returns-in_ok-third-in-Compute-3 t c =
+    let cells = map value_of c.args.cells.now in
+    let flags = c.args.firsts.now in
+    let r = map entry_of c.args.row.now in
+    let arm = c.in-Compute-3 in
+    let ds = arm.operands.items in
+    let value : Formula → Option Value = λ d. run cells flags [] (code_of d) r in
+    let a = c.index-in-Compute-3.result.now in
+    let b = c.index-in-Compute-3-2.result.now in
+    let d = c.index-in-Compute-3-3.result.now in
+    let long : length ds ≡ 3 = search rules in
+    let at-0 : a ≡ slice_index_or ds 0 a = search rules in
+    let at-1 : b ≡ slice_index_or ds 1 b = search rules in
+    let at-2 : d ≡ slice_index_or ds 2 d = search rules in
+    let items : ds ≡ a ∷ b ∷ d ∷ [] = three_items ds a b d long at-0 at-1 at-2 in
+    let first : entry_of c.in_ok-first-in-Compute-3.first ≡ value a = search rules in
+    let second : entry_of c.in_ok-second-in-Compute-3.second ≡ value b = search rules in
+    let third : entry_of c.in_ok-third-in-Compute-3.third ≡ value d = search rules in
+    let whole : applied arm.operator (entry_of c.in_ok-first-in-Compute-3.first ∷ entry_of c.in_ok-second-in-Compute-3.second ∷ entry_of c.in_ok-third-in-Compute-3.third ∷ []) ≡ run cells flags [] (code_of c.args.formula.now) r =
+    (λ i. applied arm.operator (first i ∷ second i ∷ third i ∷ []))
+    ∙ sym (ap (λ x. run cells flags [] x r) (ap code_of arm.is ∙ seen_compute arm.operator arm.operands) ∙ computed_is cells flags r arm.operator ds ∙ ap (λ l. applied arm.operator (map value l)) items) in
+    subst (λ (v : Option Value). IfOk c.of_three.result (λ u. entry_of u ≡ v)) whole c.of_three.ensures
 
 pub value_of-returns-in-Some : goal.value_of-returns-in-Some
 value_of-returns-in-Some t c =
     let cells = map value_of c.args.cells.now in
     let flags = c.args.firsts.now in
     let r = map entry_of c.args.row.now in
-    let o = c.in-Compute-2.operator in
-    let e : code_of c.args.formula.now ≡ compute o (codes_of c.in-Compute-2.operands.items) = ap code_of c.in-Compute-2.is ∙ seen_compute o c.in-Compute-2.operands in
-    let given : Some (map value_of c.in-Some.values.items) ≡ runs cells flags [] (codes_of c.in-Compute-2.operands.items) r = search rules in
+    let o = c.in-Compute-4.operator in
+    let e : code_of c.args.formula.now ≡ compute o (codes_of c.in-Compute-4.operands.items) = ap code_of c.in-Compute-4.is ∙ seen_compute o c.in-Compute-4.operands in
+    let given : Some (map value_of c.in-Some.values.items) ≡ runs cells flags [] (codes_of c.in-Compute-4.operands.items) r = search rules in
     let whole : apply o (map value_of c.in-Some.values.items) ≡ run cells flags [] (code_of c.args.formula.now) r = ap (with_operands (apply o)) given ∙ sym (ap (λ d. run cells flags [] d r) e) in
     subst (λ (v : Option Value). IfOk c.operate.result (λ u. entry_of u ≡ v)) whole c.operate.ensures
 
@@ -73,9 +116,9 @@ value_of-returns-in-None t c =
     let cells = map value_of c.args.cells.now in
     let flags = c.args.firsts.now in
     let r = map entry_of c.args.row.now in
-    let o = c.in-Compute-2.operator in
-    let e : code_of c.args.formula.now ≡ compute o (codes_of c.in-Compute-2.operands.items) = ap code_of c.in-Compute-2.is ∙ seen_compute o c.in-Compute-2.operands in
-    let given : None ≡ runs cells flags [] (codes_of c.in-Compute-2.operands.items) r = search rules in
+    let o = c.in-Compute-4.operator in
+    let e : code_of c.args.formula.now ≡ compute o (codes_of c.in-Compute-4.operands.items) = ap code_of c.in-Compute-4.is ∙ seen_compute o c.in-Compute-4.operands in
+    let given : None ≡ runs cells flags [] (codes_of c.in-Compute-4.operands.items) r = search rules in
     ap (with_operands (apply o)) given ∙ sym (ap (λ d. run cells flags [] d r) e)
 
 pub value_of-returns-in_ok-then-in-Choose : goal.value_of-returns-in_ok-then-in-Choose
