@@ -12,3 +12,4 @@ pub mod Shapes
 pub mod ShapeView
 pub mod Pictures
 pub mod Documents
+pub mod Printed

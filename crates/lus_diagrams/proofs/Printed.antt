@@ -1,0 +1,276 @@
+-- What is read of a text has that text.
+use Rattle.std.proofs.Common.{◌≡◌, ◌+◌, ◌<◌, ◌==◌, ◌&&◌, ℕ, List, [], ◌∷◌, ◌++◌, ap, sym, refl, ◌∙◌, length, get_or, arith, Bool, true, false, Result, Ok, Err, Option, Some, None, append_assoc, append-nil}
+use Rattle.std.specs.Prelude.{if◌then◌else◌, codes, nat_lt, not, is_none, option_map}
+use Rattle.std.specs.Fmt.{decimal}
+use Rattle.std.specs.List.{position_or_len, join_with_byte, slice_split}
+use Rattle.std.specs.Option.{option_map_or}
+use Rattle.std.specs.Str.{bytes_eq}
+use Rattle.std.proofs.lemmas.Bool.{and_parts, ne_eqb, false≢true, ltb-true, eqb-true, not-false}
+use Rattle.std.proofs.lemmas.Grind.{flat_map-append}
+use Rattle.std.proofs.lemmas.List.Splits.{join_with_byte-slice_split}
+use Rattle.std.proofs.lemmas.List.Sums.{split_at_first, prefix_len_stops}
+use Rattle.std.proofs.lemmas.Option.{none-some, same_Some, cond_some, option_and_then_some}
+use Rattle.std.proofs.lemmas.Slice.Eq.{bytes_eq-Decides}
+use Rattle.lus_diagrams.specs.Texts.{Text, cut}
+use Rattle.lus_diagrams.specs.Words.{is_decimal, is_name, is_number}
+use Rattle.lus_diagrams.specs.Items.{is_row}
+use Rattle.lus_diagrams.specs.Entries.{Entry, Request, Reply, step, reset, save, restore, outputs, done, refused, agree, step_request, slot_request, worded_request, other_request, request_at, request_of, is_refusal, outputs_reply, plain_reply, other_reply, reply_at, reply_of, call_of, entry_of}
+use Rattle.lus_diagrams.specs.Journals as journals
+use Rattle.lus_diagrams.specs.Journals.{Journal, Reading, head_of, is_count, is_count_at, arity_of, arity_with, begun, with_entry, opened, step_within, step_at, ended, run, nothing_read, journals_of}
+use Rattle.lus_diagrams.specs.Printed.{in_row, request_text, reply_text, entry_line, entries_text, head_line, opening_text, journal_text, journals_text}
+
+-- ---- tests
+
+same_text : (t u : Text) → bytes_eq t u ≡ true → t ≡ u
+same_text t u h = (bytes_eq-Decides t u).0 h
+
+if_cases : {A P : Type 0} (b : Bool) (x z y : A) → (if b then x else z) ≡ y → (b ≡ true → x ≡ y → P) → (b ≡ false → z ≡ y → P) → P
+if_cases true x z y h f g = f refl h
+if_cases false x z y h f g = g refl h
+
+no_text : (t : Text) → (length t == 0) ≡ true → t ≡ []
+no_text [] h = refl
+no_text (b ∷ bs) h = absurd (omega (arith, eqb-true (length (b ∷ bs)) 0 h))
+
+-- a text is what stands before its mark, the mark, and what stands behind it
+cut_text : (mark : ℕ) (t : Text) (p : Text × Text) → cut mark t ≡ Some p → t ≡ p.0 ++ mark ∷ p.1
+cut_text mark t p h =
+    let within = cond_some (nat_lt (position_or_len (λ b. b == mark) t) (length t)) _ p h in
+    let lt : position_or_len (λ b. b == mark) t < length t = ltb-true _ _ within.0 in
+    let stops : not (get_or t (position_or_len (λ b. b == mark) t) 0 == mark) ≡ false = prefix_len_stops (λ b. not (b == mark)) t 0 lt in
+    let is : get_or t (position_or_len (λ b. b == mark) t) 0 ≡ mark = eqb-true _ _ (not-false _ stops) in
+    split_at_first (λ b. b == mark) t 0 lt ∙ (λ i. (within.1 i).0 ++ is i ∷ (within.1 i).1)
+
+-- ---- what was asked and replied
+
+step_text : (word rest : Text) (r : Request) → step_request word rest ≡ Some r → word ++ 40 ∷ rest ≡ request_text r ++ codes " -"
+step_text word rest r h =
+    option_and_then_some _ (cut 41 rest) r h (λ p e g.
+    let within = cond_some (bytes_eq word (codes "step") && (bytes_eq p.1 (codes " -") && is_row p.0)) (step p.0) r g in
+    let both = and_parts _ _ within.0 in
+    let name : word ≡ codes "step" = same_text _ _ both.0 in
+    let tail : p.1 ≡ codes " -" = same_text _ _ (and_parts _ _ both.1).0 in
+    (λ i. name i ++ 40 ∷ cut_text 41 rest p e i)
+    ∙ ap (λ t. codes "step(" ++ (p.0 ++ 41 ∷ t)) tail
+    ∙ ap (λ t. codes "step(" ++ t) (sym (append_assoc p.0 (codes ")") (codes " -")))
+    ∙ ap (λ q. request_text q ++ codes " -") within.1)
+
+slot_text : (word slot : Text) (r : Request) → slot_request word slot ≡ Some r → word ++ 32 ∷ slot ≡ request_text r
+slot_text word slot r h =
+    if_cases (is_number slot) _ None (Some r) h
+    (λ n g. if_cases (bytes_eq word (codes "save")) (Some (save slot)) _ (Some r) g
+    (λ w e. ap (λ t. t ++ 32 ∷ slot) (same_text _ _ w) ∙ ap request_text (same_Some _ _ e))
+    (λ w g2. if_cases (bytes_eq word (codes "restore")) (Some (restore slot)) None (Some r) g2
+    (λ v e. ap (λ t. t ++ 32 ∷ slot) (same_text _ _ v) ∙ ap request_text (same_Some _ _ e))
+    (λ v e. absurd (none-some r e))))
+    (λ n e. absurd (none-some r e))
+
+worded_text : (asked : Text) (r : Request) → worded_request asked ≡ Some r → asked ≡ request_text r ++ codes " -"
+worded_text asked r h =
+    option_and_then_some _ (cut 32 asked) r h (λ p e g.
+    option_and_then_some _ (cut 32 p.1) r g (λ q e2 g2.
+    if_cases (bytes_eq q.1 (codes "-")) (slot_request p.0 q.0) None (Some r) g2
+    (λ dash g3.
+    cut_text 32 asked p e
+    ∙ ap (λ t. p.0 ++ 32 ∷ t) (cut_text 32 p.1 q e2 ∙ ap (λ t. q.0 ++ 32 ∷ t) (same_text _ _ dash))
+    ∙ sym (append_assoc p.0 (32 ∷ q.0) (codes " -"))
+    ∙ ap (λ t. t ++ codes " -") (slot_text p.0 q.0 r g3))
+    (λ dash e3. absurd (none-some r e3))))
+
+other_request_text : (asked : Text) (r : Request) → other_request asked ≡ Some r → asked ≡ request_text r ++ codes " -"
+other_request_text asked r h =
+    if_cases (bytes_eq asked (codes "reset -")) (Some reset) _ (Some r) h
+    (λ same e. same_text _ _ same ∙ ap (λ q. request_text q ++ codes " -") (same_Some _ _ e))
+    (λ other g. worded_text asked r g)
+
+asked_text : (asked : Text) (o : Option (Text × Text)) (r : Request) → cut 40 asked ≡ o → request_at asked o ≡ Some r → asked ≡ request_text r ++ codes " -"
+asked_text asked None r e h = other_request_text asked r h
+asked_text asked (Some p) r e h = cut_text 40 asked p e ∙ step_text p.0 p.1 r h
+
+outputs_text : (front rest : Text) (r : Reply) → outputs_reply front rest ≡ Some r → front ++ 40 ∷ rest ≡ 32 ∷ reply_text r
+outputs_text front rest r h =
+    option_and_then_some _ (cut 41 rest) r h (λ p e g.
+    let within = cond_some (bytes_eq front (codes " ") && (length p.1 == 0 && is_row p.0)) (outputs p.0) r g in
+    let both = and_parts _ _ within.0 in
+    let tail : p.1 ≡ [] = no_text p.1 (and_parts _ _ both.1).0 in
+    (λ i. same_text front (codes " ") both.0 i ++ 40 ∷ cut_text 41 rest p e i)
+    ∙ ap (λ t. codes " (" ++ (p.0 ++ 41 ∷ t)) tail
+    ∙ ap (λ q. 32 ∷ reply_text q) within.1)
+
+plain_text : (t : Text) (r : Reply) → plain_reply t ≡ Some r → t ≡ reply_text r
+plain_text t r h =
+    if_cases (bytes_eq t (codes "done")) (Some done) _ (Some r) h
+    (λ same e. same_text _ _ same ∙ ap reply_text (same_Some _ _ e))
+    (λ other g. if_cases (is_refusal t) (Some (refused t)) None (Some r) g
+    (λ is e. ap reply_text (same_Some _ _ e))
+    (λ is e. absurd (none-some r e)))
+
+other_reply_text : (told : Text) (r : Reply) → other_reply told ≡ Some r → told ≡ 32 ∷ reply_text r
+other_reply_text told r h =
+    option_and_then_some _ (cut 32 told) r h (λ p e g.
+    if_cases (length p.0 == 0) (plain_reply p.1) None (Some r) g
+    (λ empty g2. cut_text 32 told p e ∙ (λ i. no_text p.0 empty i ++ 32 ∷ plain_text p.1 r g2 i))
+    (λ empty e2. absurd (none-some r e2)))
+
+told_text : (told : Text) (o : Option (Text × Text)) (r : Reply) → cut 40 told ≡ o → reply_at told o ≡ Some r → told ≡ 32 ∷ reply_text r
+told_text told None r e h = other_reply_text told r h
+told_text told (Some p) r e h = cut_text 40 told p e ∙ outputs_text p.0 p.1 r h
+
+-- ---- lines
+
+-- what a line has of an entry, behind its number
+record HasEntry (line caller call : Text) (e : Entry) : Type 0 where
+  by : e.caller ≡ caller
+  says : call ≡ in_row (request_text e.request ∷ codes " -> " ∷ reply_text e.reply ∷ [])
+
+call_text : (line caller call : Text) (e : Entry) → call_of line caller call ≡ Some e → HasEntry line caller call e
+call_text line caller call e h =
+    option_and_then_some _ (cut 62 call) e h (λ p cut_is g.
+    option_and_then_some _ (request_of p.0) e g (λ q asked g2.
+    option_and_then_some _ (reply_of p.1) e g2 (λ r told g3.
+    let within = cond_some (agree q r) (record { line = line; caller = caller; request = q; reply = r }) e g3 in
+    record {
+      by = ap (λ x. x.caller) (sym within.1);
+      says =
+          cut_text 62 call p cut_is
+          ∙ (λ i. asked_text p.0 (cut 40 p.0) q refl asked i ++ 62 ∷ told_text p.1 (cut 40 p.1) r refl told i)
+          ∙ append_assoc (request_text q) (codes " -") (62 ∷ 32 ∷ reply_text r)
+          ∙ ap (λ t. request_text q ++ (codes " -> " ++ t)) (sym (append-nil (reply_text r)))
+          ∙ ap (λ x. in_row (request_text x.request ∷ codes " -> " ∷ reply_text x.reply ∷ [])) within.1;
+    })))
+
+line_text : (n : ℕ) (line : Text) (e : Entry) → entry_of n line ≡ Some e → line ≡ entry_line n e
+line_text n line e h =
+    option_and_then_some _ (cut 32 line) e h (λ p number g.
+    option_and_then_some _ (cut 32 p.1) e g (λ q name g2.
+    if_cases (is_decimal n p.0 && is_name q.0) (call_of line q.0 q.1) None (Some e) g2
+    (λ named g3.
+    let has = call_text line q.0 q.1 e g3 in
+    cut_text 32 line p number
+    ∙ (λ i. same_text p.0 (decimal n) (and_parts _ _ named).0 i ++ 32 ∷ cut_text 32 p.1 q name i)
+    ∙ (λ i. decimal n ++ 32 ∷ (sym has.by i ++ 32 ∷ has.says i)))
+    (λ named e2. absurd (none-some e e2))))
+
+head_text : (line : Text) (p : Text × Text) → head_of line ≡ Some p → line ≡ in_row (codes "instance " ∷ p.0 ∷ codes " " ∷ p.1 ∷ [])
+head_text line p h =
+    option_and_then_some _ (cut 32 line) p h (λ a first g.
+    option_and_then_some _ (cut 32 a.1) p g (λ b second g2.
+    let within = cond_some (bytes_eq a.0 (codes "instance") && (is_name b.0 && is_name b.1)) (b.0, b.1) p g2 in
+    cut_text 32 line a first
+    ∙ (λ i. same_text a.0 (codes "instance") (and_parts _ _ within.0).0 i ++ 32 ∷ cut_text 32 a.1 b second i)
+    ∙ ap (λ t. codes "instance " ++ (b.0 ++ 32 ∷ t)) (sym (append-nil b.1))
+    ∙ (λ i. codes "instance " ++ ((within.1 i).0 ++ 32 ∷ ((within.1 i).1 ++ [])))))
+
+count_at_text : (n : ℕ) (line : Text) (o : Option (Text × Text)) → cut 32 line ≡ o → is_count_at n o ≡ true → line ≡ codes "entries " ++ decimal n
+count_at_text n line None e h = absurd (false≢true h)
+count_at_text n line (Some p) e h =
+    let both = and_parts _ _ h in
+    cut_text 32 line p e ∙ (λ i. same_text p.0 (codes "entries") both.0 i ++ 32 ∷ same_text p.1 (decimal n) both.1 i)
+
+-- ---- journals
+
+option_map_some : {A B P : Type 0} (f : A → B) (o : Option A) (y : B) → option_map f o ≡ Some y → ((x : A) → o ≡ Some x → f x ≡ y → P) → P
+option_map_some f None y h goes = absurd (none-some y h)
+option_map_some f (Some x) y h goes = goes x refl (same_Some _ _ h)
+
+abbrev value_in : {A E : Type 0} → Result A E → Option A
+value_in (Ok x) = Some x
+value_in (Err e) = None
+
+same_Ok : {A E : Type 0} (x y : A) → ◌≡◌ {A = Result A E} (Ok x) (Ok y) → x ≡ y
+same_Ok x y h = same_Some x y (ap value_in h)
+
+err-ok : {A E : Type 0} (e : E) (y : A) → ◌≡◌ {A = Result A E} (Err e) (Ok y) → ⊥
+err-ok e y h = none-some y (ap value_in h)
+
+entries_more : (n : ℕ) (es : List Entry) (e : Entry) → entries_text n (es ++ e ∷ []) ≡ entries_text n es ++ (entry_line (n + length es) e ++ 10 ∷ [])
+entries_more n [] e = ap (λ k. entry_line k e ++ 10 ∷ []) (omega arith)
+entries_more n (x ∷ es) e =
+    (λ i. entry_line n x ++ 10 ∷ (entries_more (n + 1) es e i ++ []))
+    ∙ ap (λ t. entry_line n x ++ 10 ∷ t) (append-nil _)
+    ∙ ap (λ k. entry_line n x ++ 10 ∷ (entries_text (n + 1) es ++ (entry_line k e ++ 10 ∷ []))) (omega arith)
+    ∙ ap (λ t. entry_line n x ++ 10 ∷ (t ++ (entry_line (n + length (x ∷ es)) e ++ 10 ∷ []))) (sym (append-nil _))
+    ∙ sym (append_assoc (entry_line n x) (10 ∷ (entries_text (n + 1) es ++ [])) (entry_line (n + length (x ∷ es)) e ++ 10 ∷ []))
+
+abbrev opening_part : Option Journal → Text
+opening_part None = []
+opening_part (Some j) = opening_text j
+
+-- the text of what was read so far
+abbrev reading_text : Reading → Text
+reading_text r = journals_text r.whole ++ opening_part r.open_one
+
+begun_text : (n : ℕ) (line : Text) (j : Journal) → begun n line ≡ Some j → opening_text j ≡ line ++ 10 ∷ []
+begun_text n line j h =
+    option_map_some _ (head_of line) j h (λ p head is. ap opening_text (sym is) ∙ ap (λ t. t ++ 10 ∷ []) (sym (head_text line p head)))
+
+longer_text : (j k : Journal) (line : Text) → with_entry j line ≡ Some k → opening_text k ≡ opening_text j ++ (line ++ 10 ∷ [])
+longer_text j k line h =
+    option_and_then_some _ (entry_of (length j.entries + 1) line) k h (λ e read g.
+    option_and_then_some _ (arity_with j.arity (arity_of e)) k g (λ a fits is.
+    let says : entry_line (1 + length j.entries) e ≡ line = ap (λ m. entry_line m e) (omega arith) ∙ sym (line_text (length j.entries + 1) line e read) in
+    ap opening_text (sym (same_Some _ _ is))
+    ∙ ap (λ t. head_line j ++ 10 ∷ (t ++ [])) (entries_more 1 j.entries e)
+    ∙ ap (λ t. head_line j ++ 10 ∷ t) (append-nil _)
+    ∙ ap (λ l. head_line j ++ 10 ∷ (entries_text 1 j.entries ++ (l ++ 10 ∷ []))) says
+    ∙ ap (λ t. head_line j ++ 10 ∷ (t ++ (line ++ 10 ∷ []))) (sym (append-nil (entries_text 1 j.entries)))
+    ∙ sym (append_assoc (head_line j) (10 ∷ (entries_text 1 j.entries ++ [])) (line ++ 10 ∷ []))))
+
+opened_text : (js : List Journal) (o : Option Journal) (s : Reading) (t : Text) → opened js o ≡ Some s
+    → ((j : Journal) → o ≡ Some j → opening_text j ≡ t) → reading_text s ≡ journals_text js ++ t
+opened_text js o s t h goes = option_map_some _ o s h (λ j is made. ap reading_text (sym made) ∙ ap (λ u. journals_text js ++ u) (goes j is))
+
+ends_text : (js : List Journal) (j : Journal) (line : Text) → line ≡ codes "entries " ++ decimal (length j.entries)
+    → journals_text (js ++ j ∷ []) ≡ (journals_text js ++ opening_text j) ++ (line ++ 10 ∷ [])
+ends_text js j line h =
+    flat_map-append journal_text js (j ∷ [])
+    ∙ ap (λ t. journals_text js ++ t) (append-nil (journal_text j))
+    ∙ ap (λ t. journals_text js ++ (opening_text j ++ t)) (sym (append_assoc (codes "entries ") (decimal (length j.entries)) (10 ∷ [])))
+    ∙ ap (λ l. journals_text js ++ (opening_text j ++ (l ++ 10 ∷ []))) (sym h)
+    ∙ sym (append_assoc (journals_text js) (opening_text j) (line ++ 10 ∷ []))
+
+step_text_at : (n : ℕ) (js : List Journal) (o : Option Journal) (line : Text) (s : Reading) → step_at n js o line ≡ Some s
+    → reading_text s ≡ (journals_text js ++ opening_part o) ++ (line ++ 10 ∷ [])
+step_text_at n js None line s h =
+    opened_text js (begun n line) s (line ++ 10 ∷ []) h (λ j is. begun_text n line j is) ∙ ap (λ t. t ++ (line ++ 10 ∷ [])) (sym (append-nil _))
+step_text_at n js (Some j) line s h =
+    if_cases (is_count (length j.entries) line) (Some (record { whole = js ++ j ∷ []; open_one = None })) (opened js (with_entry j line)) (Some s) h
+    (λ count is.
+    ap reading_text (sym (same_Some _ _ is)) ∙ append-nil _ ∙ ends_text js j line (count_at_text (length j.entries) line (cut 32 line) refl count))
+    (λ other more.
+    opened_text js (with_entry j line) s (opening_text j ++ (line ++ 10 ∷ [])) more (λ k is. longer_text j k line is)
+    ∙ sym (append_assoc (journals_text js) (opening_text j) (line ++ 10 ∷ [])))
+
+nothing_open : (o : Option Journal) → is_none o ≡ true → opening_part o ≡ []
+nothing_open None h = refl
+nothing_open (Some j) h = absurd (false≢true h)
+
+ended_text : (n : ℕ) (r : Reading) (line : Text) (js : List Journal) → ended n r line ≡ Ok js → reading_text r ++ line ≡ journals_text js
+ended_text n r line js h =
+    if_cases (is_none r.open_one && length line == 0) (Ok r.whole) (Err n) (Ok js) h
+    (λ over is.
+    let both = and_parts _ _ over in
+    (λ i. (journals_text r.whole ++ nothing_open r.open_one both.0 i) ++ no_text line both.1 i)
+    ∙ append-nil _ ∙ append-nil _ ∙ ap journals_text (same_Ok _ _ is))
+    (λ over is. absurd (err-ok _ _ is))
+
+map_or_cases : {A B P : Type 0} (f : A → B) (o : Option A) (d y : B) → option_map_or f o d ≡ y → (d ≡ y → P) → ((x : A) → o ≡ Some x → f x ≡ y → P) → P
+map_or_cases f None d y h nothing goes = nothing h
+map_or_cases f (Some x) d y h nothing goes = goes x refl h
+
+run_text : (n : ℕ) (r : Reading) (ls : List Text) (js : List Journal) → run n r ls ≡ Ok js → reading_text r ++ join_with_byte 10 ls ≡ journals_text js
+run_text n r [] js h = absurd (err-ok n js h)
+run_text n r (l ∷ []) js h = ended_text n r l js h
+run_text n r (l ∷ m ∷ ls) js h =
+    let others : (length (m ∷ ls) == 0) ≡ false = ne_eqb (length (m ∷ ls)) 0 (λ e. absurd (omega (arith, e))) in
+    let goes = ap (λ b. if b then ended n r l else option_map_or (λ s. run (n + 1) s (m ∷ ls)) (journals.step n r l) (Err n)) (sym others) ∙ h in
+    map_or_cases (λ s. run (n + 1) s (m ∷ ls)) (journals.step n r l) (Err n) (Ok js) goes
+    (λ e. absurd (err-ok n js e))
+    (λ s read rest.
+    ap (λ t. reading_text r ++ t) (sym (append_assoc l (10 ∷ []) (join_with_byte 10 (m ∷ ls))))
+    ∙ sym (append_assoc (reading_text r) (l ++ 10 ∷ []) (join_with_byte 10 (m ∷ ls)))
+    ∙ ap (λ t. t ++ join_with_byte 10 (m ∷ ls)) (sym (step_text_at n r.whole r.open_one l s read))
+    ∙ run_text (n + 1) s (m ∷ ls) js rest)
+
+pub read_text : (text : Text) (js : List Journal) → journals_of text ≡ Ok js → journals_text js ≡ text
+read_text text js h = sym (run_text 1 nothing_read (slice_split (λ b. b == 10) text) js h) ∙ join_with_byte-slice_split 10 text
