@@ -1,5 +1,7 @@
-//! Tests of devices, scripts and the text of journals, in a crate of their own since those take long to prove.
+//! Tests of devices, scripts, the text of journals and runs, in a crate of their own since those take long to prove.
 #![tactic(auto)]
 
+#[cfg(test)]
+mod overlap;
 #[cfg(test)]
 mod tests;
