@@ -39,7 +39,8 @@ pub fn follows_base(
     clock: Option<NewestTest>,
 ) -> bool
     ensures { let vs = map variable_of formals.now in
-        result ≡ leads_to (node_of node.now) (names_in (actuals (operands_of arguments.now) targets.now)) (chain (length vs) vs output) (clock_in base) (clock_in clock) }
+        let names = names_in (actuals (operands_of arguments.now) targets.now) in
+        result ≡ leads_to (node_of node.now) names (chain (length vs) vs output) (clock_in base) (clock_in clock) }
 {
     let mut rest = clock;
     let mut formal = output;

@@ -10,7 +10,7 @@ ghost use Rattle.lus_meaning.specs.Sized.{variable_count};
 ghost use Rattle.lus_meaning.specs.Meaning.{equations_meant, node_meant, test_meant};
 ghost use Rattle.lus_meaning.specs.WellTyped.{NodeTyped, equation_typed, is_pure, memory_fits, test_typed};
 ghost use Rattle.lus_meaning.specs.ScopeView.{scope_of, Faulty};
-ghost use Rattle.lus_types.specs.GroupVariables.{variables_in};
+ghost use Rattle.lus_types.specs.GroupVariables.{tests_typed, variables_in};
 
 use lus_elaboration::{clock_variable, equation, memory, test_placed};
 use lus_meaning::{Fault, Scope};
@@ -39,7 +39,8 @@ fn group_test(scope: &Scope, test: &Option<SourceTest>) -> Result<Option<Test>, 
 
 /// Appends the variables that a group declares.
 fn push_group(scope: &Scope, group: &Group, variables: &mut Vec<Variable>) -> Result<(), Fault>
-    ensures meant { OnOk result (map variable_of variables.new.items ≡ map variable_of variables.old.items ++ variables_in (scope_of scope.now) (group_seen group.now)) }
+    ensures meant { let more = variables_in (scope_of scope.now) (group_seen group.now) in
+        OnOk result (map variable_of variables.new.items ≡ map variable_of variables.old.items ++ more) }
     ensures typed { OnOk result (test_typed (scope_of scope.now) (group_seen group.now).test ≡ true) }
     ensures refused { IfErr result (Faulty (test_typed (scope_of scope.now) (group_seen group.now).test ≡ false)) }
 {
@@ -58,10 +59,11 @@ fn push_group(scope: &Scope, group: &Group, variables: &mut Vec<Variable>) -> Re
 
 /// Appends the variables that groups declare.
 fn push_groups(scope: &Scope, groups: &[Group], variables: &mut Vec<Variable>) -> Result<(), Fault>
-    ensures meant { OnOk result (map variable_of variables.new.items ≡ map variable_of variables.old.items ++ flat_map (variables_in (scope_of scope.now)) (map group_seen groups.now)) }
+    ensures meant { let more = flat_map (variables_in (scope_of scope.now)) (map group_seen groups.now) in
+        OnOk result (map variable_of variables.new.items ≡ map variable_of variables.old.items ++ more) }
     ensures counted { OnOk result (length variables.new.items ≡ length variables.old.items + variable_count (map group_seen groups.now)) }
-    ensures typed { OnOk result (list_all (λ g. test_typed (scope_of scope.now) g.test) (map group_seen groups.now) ≡ true) }
-    ensures refused { IfErr result (Faulty (list_all (λ g. test_typed (scope_of scope.now) g.test) (map group_seen groups.now) ≡ false)) }
+    ensures typed { OnOk result (tests_typed (scope_of scope.now) (map group_seen groups.now) ≡ true) }
+    ensures refused { IfErr result (Faulty (tests_typed (scope_of scope.now) (map group_seen groups.now) ≡ false)) }
 {
     for group in groups {
         push_group(scope, group, variables)?;
@@ -80,11 +82,12 @@ struct Variables {
 /// The variables of a node.
 fn node_variables(alloc: Global, scope: &Scope, source: &SourceNode) -> Result<Variables, Fault>
     requires { variable_count (groups (node_seen source.now)) ≤ most_variables }
-    ensures meant { IfOk result (λ v. map variable_of v.all.items ≡ flat_map (variables_in (scope_of scope.now)) (groups (node_seen source.now))) }
+    ensures meant { let meant = flat_map (variables_in (scope_of scope.now)) (groups (node_seen source.now)) in
+        IfOk result (λ v. map variable_of v.all.items ≡ meant) }
     ensures inputs { IfOk result (λ v. v.inputs ≡ variable_count (node_seen source.now).inputs) }
     ensures outputs { IfOk result (λ v. v.outputs ≡ variable_count (node_seen source.now).outputs) }
-    ensures typed { OnOk result (list_all (λ g. test_typed (scope_of scope.now) g.test) (groups (node_seen source.now)) ≡ true) }
-    ensures refused { IfErr result (Faulty (list_all (λ g. test_typed (scope_of scope.now) g.test) (groups (node_seen source.now)) ≡ false)) }
+    ensures typed { OnOk result (tests_typed (scope_of scope.now) (groups (node_seen source.now)) ≡ true) }
+    ensures refused { IfErr result (Faulty (tests_typed (scope_of scope.now) (groups (node_seen source.now)) ≡ false)) }
 {
     let mut all = Vec::new(alloc);
     push_groups(scope, &source.inputs, &mut all)?;

@@ -1,7 +1,8 @@
 //! The parts of a program, against the limit of them.
 
-ghost use Rattle.std.specs.Prelude.{◌≡◌, ◌+◌, ◌<◌, ◌≤◌, OnOk, OnErr, MatchOption};
+ghost use Rattle.std.specs.Prelude.{◌<◌, ◌≤◌, OnOk, OnErr};
 ghost use Rattle.lus_syntax.specs.Limits.{most_parts};
+ghost use Rattle.lus_limits.specs.Limits.{AreLeft};
 ghost use Rattle.lus_program.specs.Parts.{node_parts, parts, parts_all, program_parts};
 ghost use Rattle.lus_program.specs.View.{expression_of, node_of, operands_of, program_seen};
 
@@ -25,7 +26,7 @@ pub fn check_parts(program: &Program) -> Result<(), Place>
 
 /// How many of so many more parts there may be behind a node.
 fn node_parts_left(node: &Node, most: usize) -> Option<usize>
-    ensures { MatchOption result (most < node_parts (node_of node.now)) (λ left. left + node_parts (node_of node.now) ≡ most) }
+    ensures { AreLeft most (node_parts (node_of node.now)) result }
 {
     let mut left = most;
     for equation in &node.equations {
@@ -37,7 +38,7 @@ fn node_parts_left(node: &Node, most: usize) -> Option<usize>
 /// How many of so many more parts there may be behind an expression.
 #[cycle(parts)]
 fn parts_left(expr: &Expr, most: usize) -> Option<usize>
-    ensures { MatchOption result (most < parts (expression_of expr.now)) (λ left. left + parts (expression_of expr.now) ≡ most) }
+    ensures { AreLeft most (parts (expression_of expr.now)) result }
 {
     let left = most.checked_sub(1)?;
     match expr {
@@ -56,7 +57,7 @@ fn parts_left(expr: &Expr, most: usize) -> Option<usize>
 /// How many of so many more parts there may be behind operands.
 #[cycle(parts)]
 fn all_parts_left(operands: &[Expr], most: usize) -> Option<usize>
-    ensures { MatchOption result (most < parts_all (operands_of operands.now)) (λ left. left + parts_all (operands_of operands.now) ≡ most) }
+    ensures { AreLeft most (parts_all (operands_of operands.now)) result }
 {
     let mut left = most;
     for operand in operands {

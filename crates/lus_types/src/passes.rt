@@ -12,7 +12,7 @@ ghost use Rattle.lus_program.specs.View.{node_of, program_seen};
 ghost use Rattle.lus_meaning.specs.Named.{Named, known};
 ghost use Rattle.lus_meaning.specs.Loopless.{Loopless, node_uses as calls_of_nodes, type_uses as uses_of_types};
 ghost use Rattle.lus_meaning.specs.Sized.{Bounded, Counted};
-ghost use Rattle.lus_meaning.specs.Tables.{AreKinds, declared_as, tables as tables_of};
+ghost use Rattle.lus_meaning.specs.Tables.{AreKinds, tables as tables_of};
 ghost use Rattle.lus_meaning.specs.Meaning.{node_meant, program_of};
 ghost use Rattle.lus_meaning.specs.Refusals.{RefusesFor};
 ghost use Rattle.lus_meaning.specs.WellTyped.{IsTyped, NodeTyped};
@@ -163,7 +163,7 @@ fn typed(alloc: Global, tree: &Tree, scope: &mut Scope) -> Result<Vec<Node>, Fau
     requires scoped { scope_of scope.old ≡ tables_of (tree_seen tree.now) }
     ensures ok { OnOk result (IsTyped (tree_seen tree.now)) }
     ensures meant { IfOk result (λ ns. map node_of ns.items ≡ map (node_meant (tree_seen tree.now)) (tree_seen tree.now).nodes) }
-    ensures declared { OnOk result ((scope_of scope.new).declared ≡ map (λ d. declared_as (tree_seen tree.now) d.definition) (tree_seen tree.now).types) }
+    ensures declared { OnOk result ((scope_of scope.new).declared ≡ (tables_of (tree_seen tree.now)).declared) }
     ensures refused { IfErr result (Faulty (IsTyped (tree_seen tree.now) → ⊥)) }
 {
     check_constants(tree, scope)?;
@@ -177,7 +177,7 @@ fn nodes(alloc: Global, tree: &Tree, scope: &mut Scope) -> Result<Vec<Node>, Fau
     requires scoped { scope_of scope.old ≡ tables_of (tree_seen tree.now) }
     ensures ok { OnOk result (Each (NodeTyped (tree_seen tree.now)) (tree_seen tree.now).nodes) }
     ensures meant { IfOk result (λ ns. map node_of ns.items ≡ map (node_meant (tree_seen tree.now)) (tree_seen tree.now).nodes) }
-    ensures declared { OnOk result ((scope_of scope.new).declared ≡ map (λ d. declared_as (tree_seen tree.now) d.definition) (tree_seen tree.now).types) }
+    ensures declared { OnOk result ((scope_of scope.new).declared ≡ (tables_of (tree_seen tree.now)).declared) }
     ensures refused { IfErr result (Faulty (Each (NodeTyped (tree_seen tree.now)) (tree_seen tree.now).nodes → ⊥)) }
 {
     let mut nodes = Vec::with_capacity(alloc, tree.nodes.len())?;
