@@ -10,7 +10,7 @@ ghost use Rattle.lus_meaning.specs.Sound.{type_uses as uses_of_types};
 
 use crate::leaves::type_uses;
 use lus_graph::{GraphError, order_of};
-use lus_program::{Expr, Node, Program};
+use lus_program::{Expr, Form, Node, Program};
 use lus_values::Memory;
 use std::alloc::Global;
 
@@ -19,22 +19,22 @@ use std::alloc::Global;
 fn push_called(expr: &Expr, found: &mut Vec<u32>) -> Result<(), Memory>
     ensures { OnOk result (found.new.items ≡ found.old.items ++ nodes_called (expression_of expr.now)) }
 {
-    match expr {
-        Expr::Literal(_, _) => Ok(()),
-        Expr::Variable(_, _) => Ok(()),
-        Expr::Operate(_, _, operands) => push_all_called(operands, found),
-        Expr::Pre(_, operand) => push_called(operand, found),
-        Expr::Arrow(_, first, later) => {
+    match &expr.form {
+        Form::Literal(_) => Ok(()),
+        Form::Variable(_) => Ok(()),
+        Form::Operate(_, operands) => push_all_called(operands, found),
+        Form::Pre(operand) => push_called(operand, found),
+        Form::Arrow(first, later) => {
             push_called(first, found)?;
             push_called(later, found)
         }
-        Expr::Fby(_, first, later) => {
+        Form::Fby(first, later) => {
             push_called(first, found)?;
             push_called(later, found)
         }
-        Expr::When(_, _, operand) => push_called(operand, found),
-        Expr::Merge(_, _, branches) => push_all_called(branches, found),
-        Expr::Call(_, called, arguments) => {
+        Form::When(_, operand) => push_called(operand, found),
+        Form::Merge(_, branches) => push_all_called(branches, found),
+        Form::Call(called, arguments) => {
             found.push(*called)?;
             push_all_called(arguments, found)
         }

@@ -9,7 +9,7 @@ ghost use Rattle.lus_cells.specs.Uses.{most};
 
 use crate::kinds::{operator_kind, output_kind, value_kind, variable_kind};
 use crate::leaves::kind_leaves;
-use lus_program::{Expr, Kind, Node, Program};
+use lus_program::{Expr, Form, Kind, Node, Program};
 
 /// What an expression gives, and its cells, or the greatest `u32` where it has more.
 #[derive(Clone, Copy)]
@@ -53,31 +53,31 @@ fn weigh(program: &Program, node: &Node, leaves: &[u32], cells: &[u32], expr: &E
     ensures cells { let count = counted (program_seen program.now) (node_of node.now) leaves.now cells.now in
         result.cells ≡ min (count (expression_of expr.now)) most }
 {
-    match expr {
-        Expr::Literal(_, value) => Weight::new(value_kind(value)),
-        Expr::Variable(_, variable) => Weight::new(variable_kind(node, *variable)),
-        Expr::Operate(_, operator, operands) => {
+    match &expr.form {
+        Form::Literal(value) => Weight::new(value_kind(value)),
+        Form::Variable(variable) => Weight::new(variable_kind(node, *variable)),
+        Form::Operate(operator, operands) => {
             let all = weigh_all(program, node, leaves, cells, operands);
             Weight::new(operator_kind(program, *operator, all.kind)).with(all.cells)
         }
-        Expr::Pre(_, operand) => {
+        Form::Pre(operand) => {
             let kept = weigh(program, node, leaves, cells, operand);
             kept.with(kind_leaves(leaves, kept.kind))
         }
-        Expr::Arrow(_, first, later) => {
+        Form::Arrow(first, later) => {
             let first = weigh(program, node, leaves, cells, first);
             let later = weigh(program, node, leaves, cells, later);
             first.with(later.cells).with(1)
         }
-        Expr::Fby(_, first, later) => {
+        Form::Fby(first, later) => {
             let first = weigh(program, node, leaves, cells, first);
             let later = weigh(program, node, leaves, cells, later);
             let kept = kind_leaves(leaves, first.kind);
             first.with(later.cells).with(1).with(kept)
         }
-        Expr::When(_, _, operand) => weigh(program, node, leaves, cells, operand),
-        Expr::Merge(_, _, branches) => weigh_all(program, node, leaves, cells, branches),
-        Expr::Call(_, called, arguments) => {
+        Form::When(_, operand) => weigh(program, node, leaves, cells, operand),
+        Form::Merge(_, branches) => weigh_all(program, node, leaves, cells, branches),
+        Form::Call(called, arguments) => {
             let all = weigh_all(program, node, leaves, cells, arguments);
             let called_cells = call_cells(cells, *called);
             Weight::new(output_kind(program, *called))

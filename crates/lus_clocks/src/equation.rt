@@ -10,9 +10,9 @@ ghost use Rattle.lus_clocks.specs.View.{clock_in};
 
 use crate::call::{base_of, follows_base, names_tested};
 use crate::clock::{NewestTest, clock_at, same_clock};
-use crate::expression::{check_arguments, check_expression, place_of, require};
+use crate::expression::{check_arguments, check_expression, require};
 use crate::formals::{formals_at, inputs_at, variables_at};
-use lus_program::{Equation, Expr, Node, Program};
+use lus_program::{Equation, Expr, Form, Node, Program};
 use lus_syntax::Place;
 
 /// The variables on the left are on the clock of the right side, which is no call.
@@ -78,20 +78,18 @@ fn check_equation(program: &Program, node: &Node, equation: &Equation) -> Result
         is_ok result ≡ equation_fits (program_seen program.now) f xs (expression_of equation.now.right) (test_of f (item 0 xs 0)) }
 {
     let clock = clock_of_first(node, &equation.targets);
-    match &equation.right {
-        Expr::Call(place, called, arguments) => {
+    let right = &equation.right;
+    match &right.form {
+        Form::Call(called, arguments) => {
             let base = base_of(program, node, *called, clock);
             require(
                 outputs_are_on(program, node, *called, arguments, &equation.targets, base),
-                *place,
+                right.place,
             )?;
             check_arguments(program, node, *called, arguments, base)
         }
-        right => {
-            require(
-                lefts_are_on(node, &equation.targets, clock),
-                place_of(right),
-            )?;
+        _ => {
+            require(lefts_are_on(node, &equation.targets, clock), right.place)?;
             check_expression(program, node, right, clock)
         }
     }

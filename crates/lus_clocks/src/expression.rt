@@ -10,7 +10,7 @@ ghost use Rattle.lus_clocks.specs.View.{clock_in};
 use crate::call::{argument_clock, base_of, follows_base, names_tested};
 use crate::clock::{NewestTest, clock_at, clock_on, same_clock};
 use crate::formals::{formals_at, inputs_at, variables_at};
-use lus_program::{Expr, Node, Program};
+use lus_program::{Expr, Form, Node, Program};
 use lus_syntax::Place;
 
 /// Fails at a place where a clock isn't as it has to be.
@@ -18,21 +18,6 @@ pub fn require(holds: bool, place: Place) -> Result<(), Place>
     ensures { is_ok result ≡ holds }
 {
     if holds { Ok(()) } else { Err(place) }
-}
-
-/// Where the first token of an expression stands.
-pub fn place_of(expr: &Expr) -> Place {
-    match expr {
-        Expr::Literal(place, _) => *place,
-        Expr::Variable(place, _) => *place,
-        Expr::Operate(place, _, _) => *place,
-        Expr::Pre(place, _) => *place,
-        Expr::Arrow(place, _, _) => *place,
-        Expr::Fby(place, _, _) => *place,
-        Expr::When(place, _, _) => *place,
-        Expr::Merge(place, _, _) => *place,
-        Expr::Call(place, _, _) => *place,
-    }
 }
 
 /// Fails at the first token of a part that isn't on its clock, where the expression is on this one.
@@ -45,26 +30,26 @@ pub fn check_expression(
 ) -> Result<(), Place>
     ensures { is_ok result ≡ fits (program_seen program.now) (node_of node.now) (expression_of expr.now) (clock_in clock) }
 {
-    match expr {
-        Expr::Literal(_, _) => Ok(()),
-        Expr::Variable(place, variable) => {
+    match &expr.form {
+        Form::Literal(_) => Ok(()),
+        Form::Variable(variable) => {
             require(
                 same_clock(clock_at(&node.variables, *variable as usize), clock),
-                *place,
+                expr.place,
             )
         }
-        Expr::Operate(_, _, operands) => check_operands(program, node, operands, clock),
-        Expr::Pre(_, operand) => check_expression(program, node, operand, clock),
-        Expr::Arrow(_, first, later) => {
+        Form::Operate(_, operands) => check_operands(program, node, operands, clock),
+        Form::Pre(operand) => check_expression(program, node, operand, clock),
+        Form::Arrow(first, later) => {
             check_expression(program, node, first, clock)?;
             check_expression(program, node, later, clock)
         }
-        Expr::Fby(_, first, later) => {
+        Form::Fby(first, later) => {
             check_expression(program, node, first, clock)?;
             check_expression(program, node, later, clock)
         }
-        Expr::When(place, test, operand) => {
-            require(same_clock(clock_on(*test), clock), *place)?;
+        Form::When(test, operand) => {
+            require(same_clock(clock_on(*test), clock), expr.place)?;
             check_expression(
                 program,
                 node,
@@ -72,18 +57,18 @@ pub fn check_expression(
                 clock_at(&node.variables, test.variable as usize),
             )
         }
-        Expr::Merge(place, variable, branches) => {
+        Form::Merge(variable, branches) => {
             require(
                 same_clock(clock_at(&node.variables, *variable as usize), clock),
-                *place,
+                expr.place,
             )?;
             check_branches(program, node, *variable, branches)
         }
-        Expr::Call(place, called, arguments) => {
+        Form::Call(called, arguments) => {
             let base = base_of(program, node, *called, clock);
             require(
                 is_output(program, node, *called, arguments, base, clock),
-                *place,
+                expr.place,
             )?;
             check_arguments(program, node, *called, arguments, base)
         }

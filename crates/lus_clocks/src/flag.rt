@@ -5,7 +5,7 @@ ghost use Rattle.lus_program.specs.View.{expression_of, operands_of};
 ghost use Rattle.lus_streams.specs.Flags.{flag as flag_by, greatest};
 ghost use Rattle.lus_clocks.specs.Raising.{flags_in};
 
-use lus_program::Expr;
+use lus_program::{Expr, Form};
 
 /// The flag of a variable; past the table it is false.
 pub fn flag_at(flags: &[bool], variable: usize) -> bool
@@ -22,16 +22,16 @@ pub fn flag_at(flags: &[bool], variable: usize) -> bool
 pub fn flag_of(flags: &[bool], expr: &Expr) -> bool
     ensures { result ≡ flag_by (flags_in flags.now) (expression_of expr.now) }
 {
-    match expr {
-        Expr::Literal(_, _) => false,
-        Expr::Variable(_, variable) => flag_at(flags, *variable as usize),
-        Expr::Operate(_, _, operands) => greatest_flag(flags, operands),
-        Expr::Pre(_, _) => true,
-        Expr::Arrow(_, first, _) => flag_of(flags, first),
-        Expr::Fby(_, first, _) => flag_of(flags, first),
-        Expr::When(_, _, operand) => flag_of(flags, operand),
-        Expr::Merge(_, _, _) => false,
-        Expr::Call(_, _, _) => false,
+    match &expr.form {
+        Form::Literal(_) => false,
+        Form::Variable(variable) => flag_at(flags, *variable as usize),
+        Form::Operate(_, operands) => greatest_flag(flags, operands),
+        Form::Pre(_) => true,
+        Form::Arrow(first, _) => flag_of(flags, first),
+        Form::Fby(first, _) => flag_of(flags, first),
+        Form::When(_, operand) => flag_of(flags, operand),
+        Form::Merge(_, _) => false,
+        Form::Call(_, _) => false,
     }
 }
 

@@ -6,7 +6,7 @@ ghost use Rattle.lus_program.specs.View.{expression_of, variable_of, operands_of
 ghost use Rattle.lus_streams.specs.OnClock.{actuals};
 ghost use Rattle.lus_clocks.specs.Fitting.{name_of as name_in, names_in, formals_of};
 
-use lus_program::{Expr, Program, Variable};
+use lus_program::{Expr, Form, Program, Variable};
 
 /// The variables of a node; past the last node there are none.
 pub fn variables_at(program: &Program, node: u32) -> &[Variable]
@@ -55,8 +55,8 @@ pub fn formals_at(program: &Program, node: u32) -> &[Variable]
 fn name_of(expr: &Expr) -> Option<u32>
     ensures { result ≡ name_in (expression_of expr.now) }
 {
-    match expr {
-        Expr::Variable(_, name) => Some(*name),
+    match &expr.form {
+        Form::Variable(name) => Some(*name),
         _ => None,
     }
 }

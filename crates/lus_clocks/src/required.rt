@@ -5,10 +5,10 @@ ghost use Rattle.lus_program.specs.View.{expression_of, operands_of, variable_of
 ghost use Rattle.lus_streams.specs.Flags.{greatest};
 ghost use Rattle.lus_clocks.specs.Raising.{flags_in, meets, all_meet, rights_meet, tests_meet, none_raised, all_required};
 
-use crate::expression::{place_of, require};
+use crate::expression::require;
 use crate::flag::{flag_at, flag_of};
 use crate::values::is_nil_free;
-use lus_program::{Expr, Node};
+use lus_program::{Expr, Form, Node};
 use lus_syntax::Place;
 
 /// Fails at the first token of an operand that may be nil, where an expression or a part of it requires that it isn't.
@@ -16,31 +16,31 @@ use lus_syntax::Place;
 fn check_meets(node: &Node, flags: &[bool], expr: &Expr) -> Result<(), Place>
     ensures { is_ok result ≡ meets (flags_in flags.now) (expression_of expr.now) }
 {
-    match expr {
-        Expr::Literal(place, value) => require(is_nil_free(value), *place),
-        Expr::Variable(_, _) => Ok(()),
-        Expr::Operate(_, _, operands) => check_all_meet(node, flags, operands),
-        Expr::Pre(_, operand) => {
-            require(!flag_of(flags, operand), place_of(operand))?;
+    match &expr.form {
+        Form::Literal(value) => require(is_nil_free(value), expr.place),
+        Form::Variable(_) => Ok(()),
+        Form::Operate(_, operands) => check_all_meet(node, flags, operands),
+        Form::Pre(operand) => {
+            require(!flag_of(flags, operand), operand.place)?;
             check_meets(node, flags, operand)
         }
-        Expr::Arrow(_, first, later) => {
+        Form::Arrow(first, later) => {
             check_meets(node, flags, first)?;
             check_meets(node, flags, later)
         }
-        Expr::Fby(_, first, later) => {
-            require(!flag_of(flags, later), place_of(later))?;
+        Form::Fby(first, later) => {
+            require(!flag_of(flags, later), later.place)?;
             check_meets(node, flags, first)?;
             check_meets(node, flags, later)
         }
-        Expr::When(_, test, operand) => {
+        Form::When(test, operand) => {
             require(
                 !flag_at(flags, test.variable as usize),
                 node.place_of(test.variable as usize),
             )?;
             check_meets(node, flags, operand)
         }
-        Expr::Merge(_, variable, branches) => {
+        Form::Merge(variable, branches) => {
             require(
                 !flag_at(flags, *variable as usize),
                 node.place_of(*variable as usize),
@@ -48,7 +48,7 @@ fn check_meets(node: &Node, flags: &[bool], expr: &Expr) -> Result<(), Place>
             check_flagless(flags, branches)?;
             check_all_meet(node, flags, branches)
         }
-        Expr::Call(_, _, arguments) => {
+        Form::Call(_, arguments) => {
             check_flagless(flags, arguments)?;
             check_all_meet(node, flags, arguments)
         }
@@ -70,7 +70,7 @@ fn check_flagless(flags: &[bool], operands: &[Expr]) -> Result<(), Place>
     ensures { is_ok result ≡ not (greatest (flags_in flags.now) (operands_of operands.now)) }
 {
     for operand in operands {
-        require(!flag_of(flags, operand), place_of(operand))?;
+        require(!flag_of(flags, operand), operand.place)?;
     }
     Ok(())
 }

@@ -8,10 +8,10 @@ ghost use Rattle.lus_meaning.specs.Types.{kind_of, kinds_of};
 ghost use Rattle.lus_meaning.specs.Meaning.{meant, all_meant};
 ghost use Rattle.lus_meaning.specs.ScopeView.{scope_of, Faulty};
 
-use crate::forms::{Elaborated, begin_at, binary, choice, field, named, place_of, sampled, unary};
+use crate::forms::{Elaborated, binary, boxed, choice, field, named, place_of, sampled, unary};
 use crate::parts::{call, merge, structure};
 use lus_meaning::{Fault, Scope};
-use lus_program::{Expr, Kind};
+use lus_program::{Expr, Form, Kind};
 use lus_syntax::{Expr as Source, Part};
 use lus_values::Value;
 use std::alloc::Global;
@@ -26,11 +26,11 @@ pub fn elaborate(alloc: Global, scope: &Scope, source: &Source) -> Result<Elabor
     let place = place_of(source);
     match source {
         Source::Number(number, _) => Ok(Elaborated {
-            expr: Box::new(alloc, Expr::Literal(place, Value::Int(*number)))?,
+            expr: boxed(alloc, place, Form::Literal(Value::Int(*number)))?,
             kind: Kind::Int,
         }),
         Source::Truth(truth, _) => Ok(Elaborated {
-            expr: Box::new(alloc, Expr::Literal(place, Value::Bool(*truth)))?,
+            expr: boxed(alloc, place, Form::Literal(Value::Bool(*truth)))?,
             kind: Kind::Bool,
         }),
         Source::Name(name) => named(alloc, scope, name),
@@ -52,7 +52,7 @@ pub fn elaborate(alloc: Global, scope: &Scope, source: &Source) -> Result<Elabor
         }
         Source::Parentheses(span, inner) => {
             let mut inner = elaborate(alloc, scope, inner)?;
-            begin_at(&mut inner.expr, span.start);
+            inner.expr.place = span.start;
             Ok(inner)
         }
         Source::When(operand, test) => {

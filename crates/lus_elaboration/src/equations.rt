@@ -10,11 +10,11 @@ ghost use Rattle.lus_meaning.specs.WellTyped.{kinds_given, left_kinds as kinds_o
 ghost use Rattle.lus_meaning.specs.ScopeView.{scope_of, Faulty};
 
 use crate::elaboration::{elaborate, elaborate_all};
-use crate::forms::{begin_at, place_of};
+use crate::forms::{boxed, place_of};
 use crate::kinds::all_same;
 use crate::parts::callee;
 use lus_meaning::{Fault, Scope};
-use lus_program::{Equation, Expr, Kind};
+use lus_program::{Equation, Expr, Form, Kind};
 use lus_syntax::{Equation as SourceEquation, Expr as Source, Name, Place};
 use std::alloc::{AllocError, Global};
 
@@ -34,14 +34,14 @@ pub fn right_side(alloc: Global, scope: &Scope, source: &Source) -> Result<Given
     match source {
         Source::Parentheses(span, inner) => {
             let mut inner = right_side(alloc, scope, inner)?;
-            begin_at(&mut inner.expr, span.start);
+            inner.expr.place = span.start;
             Ok(inner)
         }
         Source::Call(name, arguments) => {
             let (operands, kinds) = elaborate_all(alloc, scope, arguments)?;
             let node = callee(scope, name, arguments, &kinds)?;
             Ok(Given {
-                expr: Box::new(alloc, Expr::Call(name.span.start, node.place, operands))?,
+                expr: boxed(alloc, name.span.start, Form::Call(node.place, operands))?,
                 kinds: copied(alloc, &node.outputs)?,
             })
         }

@@ -4,14 +4,14 @@ ghost use Rattle.std.specs.Prelude.{◌≡◌, Some, None, IfOk, IfErr, option_m
 ghost use Rattle.lus_syntax.specs.View.{name_seen, test_seen, label_seen};
 ghost use Rattle.lus_values.specs.declared.operator.Operator.TheVariants.{If as IfOperator};
 ghost use Rattle.lus_program.specs.Programs.{more, when as when_meant, operate};
-ghost use Rattle.lus_program.specs.View.{expression_of};
+ghost use Rattle.lus_program.specs.View.{expression_in, expression_of};
 ghost use Rattle.lus_meaning.specs.Types.{name_kind, prefix_kind as kind_of_prefix, infix_kind as kind_of_infix, choice_kind as kind_of_choice, field_kind, test_placed as placed_test, truth_place as place_of_truth, label_place as place_of_label, asked_place as place_asked, test_variable as variable_of_test};
 ghost use Rattle.lus_meaning.specs.Meaning.{name_meant, prefix_meant, infix_meant, compute as computed, one, two, test_meant, field_meant};
 ghost use Rattle.lus_meaning.specs.ScopeView.{scope_of, Faulty};
 
 use crate::kinds::{choice_kind, infix_kind, prefix_kind, same, value_kind};
 use lus_meaning::{Fault, Scope, field as field_named};
-use lus_program::{Expr, Kind, Test};
+use lus_program::{Expr, Form, Kind, Test};
 use lus_syntax::{Expr as Source, Infix, Label, Name, Place, Prefix, Test as SourceTest};
 use lus_values::{Op, Operator};
 use std::alloc::{AllocError, Global};
@@ -41,21 +41,11 @@ pub fn place_of(source: &Source) -> Place {
     }
 }
 
-/// Tells that an expression begins at the parenthesis before it.
-pub fn begin_at(expr: &mut Expr, parenthesis: Place)
-    ensures { expression_of expr.new ≡ expression_of expr.old }
+/// An expression of this form, whose first token stands at this place.
+pub fn boxed(alloc: Global, place: Place, form: Form) -> Result<Box<Expr>, AllocError>
+    ensures { IfOk result (λ x. expression_of x.value ≡ expression_in form) }
 {
-    match expr {
-        Expr::Literal(place, _) => *place = parenthesis,
-        Expr::Variable(place, _) => *place = parenthesis,
-        Expr::Operate(place, _, _) => *place = parenthesis,
-        Expr::Pre(place, _) => *place = parenthesis,
-        Expr::Arrow(place, _, _) => *place = parenthesis,
-        Expr::Fby(place, _, _) => *place = parenthesis,
-        Expr::When(place, _, _) => *place = parenthesis,
-        Expr::Merge(place, _, _) => *place = parenthesis,
-        Expr::Call(place, _, _) => *place = parenthesis,
-    }
+    Ok(Box::new(alloc, Expr { place, form })?)
 }
 
 /// A name: a variable hides a constant or a constructor.
@@ -67,7 +57,7 @@ pub fn named(alloc: Global, scope: &Scope, name: &Name) -> Result<Elaborated, Fa
     let place = name.span.start;
     if let Some(variable) = scope.variable(&name.text) {
         return Ok(Elaborated {
-            expr: Box::new(alloc, Expr::Variable(place, variable.place))?,
+            expr: boxed(alloc, place, Form::Variable(variable.place))?,
             kind: variable.kind,
         });
     }
@@ -78,7 +68,7 @@ pub fn named(alloc: Global, scope: &Scope, name: &Name) -> Result<Elaborated, Fa
         return Err(Fault::At(place));
     };
     Ok(Elaborated {
-        expr: Box::new(alloc, Expr::Literal(place, value))?,
+        expr: boxed(alloc, place, Form::Literal(value))?,
         kind,
     })
 }
@@ -112,7 +102,7 @@ fn prefixed(
     match op {
         Prefix::Not => operate_one(alloc, place, Operator::Compute(Op::Not), operand),
         Prefix::Negate => operate_one(alloc, place, Operator::Compute(Op::Negate), operand),
-        Prefix::Pre => Ok(Box::new(alloc, Expr::Pre(place, operand))?),
+        Prefix::Pre => boxed(alloc, place, Form::Pre(operand)),
     }
 }
 
@@ -145,8 +135,8 @@ fn joined(
     ensures { IfOk result (λ x. expression_of x.value ≡ infix_meant op (expression_of left.value) (expression_of right.value)) }
 {
     match op {
-        Infix::Fby => Ok(Box::new(alloc, Expr::Fby(place, left, right))?),
-        Infix::Arrow => Ok(Box::new(alloc, Expr::Arrow(place, left, right))?),
+        Infix::Fby => boxed(alloc, place, Form::Fby(left, right)),
+        Infix::Arrow => boxed(alloc, place, Form::Arrow(left, right)),
         Infix::Implies => compute(alloc, place, Op::Implies, left, right),
         Infix::Or => compute(alloc, place, Op::Or, left, right),
         Infix::Xor => compute(alloc, place, Op::Xor, left, right),
@@ -174,7 +164,7 @@ fn operate_one(
     ensures { IfOk result (λ x. expression_of x.value ≡ operate operator (one (expression_of operand.value))) }
 {
     let operands = vec![in alloc; Box::into_inner(operand)]?;
-    Ok(Box::new(alloc, Expr::Operate(place, operator, operands))?)
+    boxed(alloc, place, Form::Operate(operator, operands))
 }
 
 fn compute(
@@ -187,7 +177,7 @@ fn compute(
     ensures { IfOk result (λ x. expression_of x.value ≡ computed op (expression_of left.value) (expression_of right.value)) }
 {
     let operands = vec![in alloc; Box::into_inner(left), Box::into_inner(right)]?;
-    Ok(Box::new(alloc, Expr::Operate(place, Operator::Compute(op), operands))?)
+    boxed(alloc, place, Form::Operate(Operator::Compute(op), operands))
 }
 
 /// `if`
@@ -211,7 +201,7 @@ pub fn choice(
         Box::into_inner(right.expr),
     ]?;
     Ok(Elaborated {
-        expr: Box::new(alloc, Expr::Operate(place, Operator::If, operands))?,
+        expr: boxed(alloc, place, Form::Operate(Operator::If, operands))?,
         kind,
     })
 }
@@ -320,7 +310,7 @@ pub fn sampled(
         return Err(Fault::At(clock_variable(test).span.start));
     };
     Ok(Elaborated {
-        expr: Box::new(alloc, Expr::When(place, found, operand.expr))?,
+        expr: boxed(alloc, place, Form::When(found, operand.expr))?,
         kind: operand.kind,
     })
 }

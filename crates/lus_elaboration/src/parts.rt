@@ -13,10 +13,10 @@ ghost use Rattle.lus_meaning.specs.Meaning.{node_place, branches_meant, structur
 ghost use Rattle.lus_meaning.specs.ScopeView.{scope_of, Faulty};
 
 use crate::arrangement::arranged;
-use crate::forms::{Elaborated, label_place, place_of};
+use crate::forms::{Elaborated, boxed, label_place, place_of};
 use crate::kinds::{all_same, common_kind, same, the_one};
 use lus_meaning::{Fault, Placed, Scope, Signature, field as field_named};
-use lus_program::{Expr, Kind};
+use lus_program::{Expr, Form, Kind};
 use lus_syntax::{Label, Lead, Name, Part, Place};
 use lus_values::Operator;
 use std::alloc::{AllocError, Global};
@@ -74,7 +74,7 @@ pub fn call(
         return Err(Fault::At(place));
     };
     Ok(Elaborated {
-        expr: Box::new(alloc, Expr::Call(place, node.place, operands))?,
+        expr: boxed(alloc, place, Form::Call(node.place, operands))?,
         kind,
     })
 }
@@ -137,7 +137,7 @@ pub fn merge(
         return Err(Fault::At(place));
     };
     Ok(Elaborated {
-        expr: Box::new(alloc, Expr::Merge(place, clock.place, operands))?,
+        expr: boxed(alloc, place, Form::Merge(clock.place, operands))?,
         kind,
     })
 }
@@ -233,9 +233,10 @@ pub fn structure(
         return Err(Fault::At(place));
     };
     Ok(Elaborated {
-        expr: Box::new(
+        expr: boxed(
             alloc,
-            Expr::Operate(place, Operator::Structure(declaration), operands),
+            place,
+            Form::Operate(Operator::Structure(declaration), operands),
         )?,
         kind,
     })

@@ -5,7 +5,7 @@ use Rattle.std.proofs.Crossing.{crosses}
 use Rattle.std.proofs.string.String.TheSendSync as string
 use Rattle.lus_values.proofs.value.Value.TheLaws.TheKnot as value
 use Rattle.lus_values.proofs.names.Names.TheSendSync as names
-use Rattle.lus_program.proofs.expr.Expr.TheLaws.TheKnot as expr
+use Rattle.lus_program.proofs.expr.Form.TheLaws.TheKnot as form
 use Rattle.lus_program.proofs.node.Variable.TheSendSync as variable
 use Rattle.lus_program.proofs.types.Declared.TheSendSync as declared
 use Rattle.lus_program.specs.contracts.expr.Expr as Expr
@@ -33,10 +33,10 @@ use Rattle.lus_machine.specs.contracts.machine.Machine as Machine
 -- ---- programs
 
 expr_send : IsSend (Expr.the_field).row
-expr_send = search (crosses, expr.crosses, value.crosses, sendable) depth 60 fits 20000
+expr_send = search (crosses, form.crosses, value.crosses, sendable) depth 60 fits 20000
 
 expr_sync : IsSync (Expr.the_field).row
-expr_sync = search (crosses, expr.crosses, value.crosses, sendable) depth 60 fits 20000
+expr_sync = search (crosses, form.crosses, value.crosses, sendable) depth 60 fits 20000
 
 equation_send : IsSend Equation.the_row
 equation_send = search (crosses, expr_send, sendable) depth 20

@@ -4,7 +4,7 @@ use crate::{Counts, check_flags, check_on_clocks, counts_of, order_variables};
 use lus_clocks::{check_clocks, check_nil};
 use lus_grammar::parse;
 use lus_normal::{Normal, normalise};
-use lus_program::{Expr, Node, NodeId};
+use lus_program::{Expr, Form, Node, NodeId};
 use lus_syntax::{Refusal, lex};
 use lus_types::check_types;
 use lus_values::{Op, Operator, Value};
@@ -64,10 +64,10 @@ fn memories_and_marks_are_counted(rt: HostRuntime) -> Result<(), Fail> {
 
 /// The variable that a sampled expression was taken out to, and what defines that.
 fn sampled(node: &Node) -> Option<(u32, &Expr)> {
-    let Expr::When(_, _, operand) = &node.equations.get(0)?.right else {
+    let Form::When(_, operand) = &node.equations.get(0)?.right.form else {
         return None;
     };
-    let Expr::Variable(_, variable) = &**operand else {
+    let Form::Variable(variable) = &operand.form else {
         return None;
     };
     let added = node.equations.get(1)?;
@@ -94,13 +94,19 @@ fn an_operand_of_when_is_taken_out_on_the_base_clock(rt: HostRuntime) -> Result<
 
 /// The expression is 10 divided by a variable.
 fn is_ten_by(expr: &Expr, divisor: u32) -> bool {
-    let Expr::Operate(_, Operator::Compute(Op::Divide), operands) = expr else {
+    let Form::Operate(Operator::Compute(Op::Divide), operands) = &expr.form else {
         return false;
     };
     match operands.as_slice() {
         [
-            Expr::Literal(_, Value::Int(dividend)),
-            Expr::Variable(_, variable),
+            Expr {
+                form: Form::Literal(Value::Int(dividend)),
+                ..
+            },
+            Expr {
+                form: Form::Variable(variable),
+                ..
+            },
         ] => { *dividend == 10 && *variable == divisor }
         _ => false,
     }

@@ -7,7 +7,7 @@ ghost use Rattle.lus_classes.specs.ClassesOf.{atom_code};
 ghost use Rattle.lus_translation.specs.Forms.{atom_form};
 
 use lus_flat_classes::{Atom, Formula};
-use lus_program::Expr;
+use lus_program::{Expr, Form};
 use lus_values::{Memory, Value, copy};
 use std::alloc::Global;
 
@@ -15,9 +15,9 @@ use std::alloc::Global;
 pub fn atom_of(alloc: Global, operand: &Expr) -> Result<Atom, Memory>
     ensures { IfOk result (λ a. atom_in a ≡ atom_form (expression_of operand.now)) }
 {
-    match operand {
-        Expr::Literal(_, value) => Ok(Atom::Constant(copy(alloc, value)?)),
-        Expr::Variable(_, variable) => Ok(Atom::Variable(*variable)),
+    match &operand.form {
+        Form::Literal(value) => Ok(Atom::Constant(copy(alloc, value)?)),
+        Form::Variable(variable) => Ok(Atom::Variable(*variable)),
         _ => Ok(Atom::Constant(Value::Nil)),
     }
 }

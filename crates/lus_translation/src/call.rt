@@ -14,7 +14,7 @@ use crate::formals::inputs_at;
 use crate::kept::number_of;
 use lus_clocks::variables_at;
 use lus_flat_classes::{Argument, Call, Extent};
-use lus_program::{Expr, Program, Test, Variable};
+use lus_program::{Expr, Form, Program, Test, Variable};
 use lus_values::Memory;
 use std::alloc::Global;
 
@@ -22,8 +22,8 @@ use std::alloc::Global;
 fn test_on(expr: &Expr, constructor: u32) -> Option<Test>
     ensures { result ≡ renamed_one (expression_of expr.now) constructor }
 {
-    match expr {
-        Expr::Variable(_, variable) => Some(Test {
+    match &expr.form {
+        Form::Variable(variable) => Some(Test {
             variable: *variable,
             constructor,
         }),

@@ -12,7 +12,7 @@ use crate::call::call_of;
 use crate::clock::clock_at;
 use crate::kept::number_of;
 use lus_flat_classes::Call;
-use lus_program::{Equation, Expr, Node, Program, Test};
+use lus_program::{Equation, Form, Node, Program, Test};
 use lus_values::Memory;
 use std::alloc::Global;
 
@@ -40,8 +40,8 @@ fn add_call(
 ) -> Result<(), Memory>
     ensures { OnOk result (AddsCall program.now node.now equation.now calls.old.items calls.new.items) }
 {
-    match &equation.right {
-        Expr::Call(_, called, arguments) => {
+    match &equation.right.form {
+        Form::Call(called, arguments) => {
             let clock = clock_of_equation(alloc, node, equation)?;
             let call = call_of(alloc, program, *called, arguments, &clock)?;
             calls.push(call)?;
@@ -71,7 +71,7 @@ pub fn numbers_of(alloc: Global, node: &Node) -> Result<Vec<u32>, Memory>
     let mut calls: usize = 0;
     for equation in &node.equations {
         numbers.push(number_of(calls)?)?;
-        if let Expr::Call(_, _, _) = &equation.right {
+        if let Form::Call(_, _) = &equation.right.form {
             calls = match calls.checked_add(1) {
                 Some(more) => more,
                 None => return Err(Memory),

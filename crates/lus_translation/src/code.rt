@@ -9,7 +9,7 @@ use crate::atom::{atom_of, formula_of_atom};
 use crate::clock::{newest, with_test};
 use crate::kept::{Kept, keep_cell, keep_first, number_of};
 use lus_flat_classes::Formula;
-use lus_program::{Expr, Test};
+use lus_program::{Expr, Form, Test};
 use lus_values::{Memory, Value, copy};
 use std::alloc::Global;
 
@@ -45,33 +45,33 @@ pub fn code_of(
     ensures cells { OnOk result (KeepsCells kept.old kept.new (kept_cells (expression_of expr.now) clock.now)) }
     ensures firsts { OnOk result (KeepsFirsts kept.old kept.new (kept_firsts (expression_of expr.now) clock.now)) }
 {
-    match expr {
-        Expr::Literal(_, value) => Ok(Formula::Fixed(copy(alloc, value)?)),
-        Expr::Variable(_, variable) => Ok(Formula::Fetch(*variable)),
-        Expr::Operate(_, operator, operands) => {
+    match &expr.form {
+        Form::Literal(value) => Ok(Formula::Fixed(copy(alloc, value)?)),
+        Form::Variable(variable) => Ok(Formula::Fetch(*variable)),
+        Form::Operate(operator, operands) => {
             let codes = codes_of(alloc, operands, clock, kept)?;
             Ok(Formula::Compute(*operator, codes))
         }
-        Expr::Pre(_, operand) => Ok(Formula::Recall(cell_of(alloc, operand, clock, kept)?)),
-        Expr::Arrow(_, first, later) => {
+        Form::Pre(operand) => Ok(Formula::Recall(cell_of(alloc, operand, clock, kept)?)),
+        Form::Arrow(first, later) => {
             let flag = first_of(clock, kept)?;
             let first = Box::new(alloc, code_of(alloc, first, clock, kept)?)?;
             let later = Box::new(alloc, code_of(alloc, later, clock, kept)?)?;
             Ok(Formula::Choose(flag, first, later))
         }
-        Expr::Fby(_, first, later) => {
+        Form::Fby(first, later) => {
             let flag = first_of(clock, kept)?;
             let first = Box::new(alloc, code_of(alloc, first, clock, kept)?)?;
             let cell = cell_of(alloc, later, clock, kept)?;
             let later = Box::new(alloc, Formula::Recall(cell))?;
             Ok(Formula::Choose(flag, first, later))
         }
-        Expr::When(_, _, operand) => Ok(formula_of_atom(atom_of(alloc, operand)?)),
-        Expr::Merge(_, variable, branches) => {
+        Form::When(_, operand) => Ok(formula_of_atom(atom_of(alloc, operand)?)),
+        Form::Merge(variable, branches) => {
             let codes = branch_codes_of(alloc, *variable, branches, clock, kept)?;
             Ok(Formula::Select(*variable, codes))
         }
-        Expr::Call(_, _, _) => Ok(Formula::Fixed(Value::Nil)),
+        Form::Call(_, _) => Ok(Formula::Fixed(Value::Nil)),
     }
 }
 

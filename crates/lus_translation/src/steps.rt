@@ -13,7 +13,7 @@ use crate::code::code_of;
 use crate::formals::inputs_at;
 use crate::kept::{Kept, number_of};
 use lus_flat_classes::{Step, Target};
-use lus_program::{Equation, Expr, Program, Test};
+use lus_program::{Equation, Expr, Form, Program, Test};
 use lus_values::Memory;
 use std::alloc::Global;
 
@@ -96,8 +96,8 @@ pub fn give_turn(
     ensures firsts { OnOk result (AddsFirsts built.old built.new (turn_firsts (expression_of equation.now.right) clock.now variables.now)) }
     ensures given { OnOk result (Each GivesAny built.old.steps.items → Each GivesAny built.new.steps.items) }
 {
-    match &equation.right {
-        Expr::Call(_, called, _) => {
+    match &equation.right.form {
+        Form::Call(called, _) => {
             let inputs = inputs_at(program, *called);
             let targets = targets_of(alloc, &equation.targets, inputs, variables)?;
             if targets.is_empty() {
@@ -106,6 +106,6 @@ pub fn give_turn(
             built.steps.push(Step::Call(number, targets))?;
             Ok(())
         }
-        right => give_right(alloc, right, clock, variables, built),
+        _ => give_right(alloc, &equation.right, clock, variables, built),
     }
 }

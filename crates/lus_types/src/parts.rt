@@ -6,7 +6,7 @@ ghost use Rattle.lus_limits.specs.Limits.{AreLeft};
 ghost use Rattle.lus_program.specs.Parts.{node_parts, parts, parts_all, program_parts};
 ghost use Rattle.lus_program.specs.View.{expression_of, node_of, operands_of, program_seen};
 
-use lus_program::{Expr, Node, Program};
+use lus_program::{Expr, Form, Node, Program};
 use lus_syntax::{MOST_PARTS, Place};
 
 /// Tells whether a program has no more parts than the limit admits. The place is that of the node with the first past it.
@@ -41,16 +41,16 @@ fn parts_left(expr: &Expr, most: usize) -> Option<usize>
     ensures { AreLeft most (parts (expression_of expr.now)) result }
 {
     let left = most.checked_sub(1)?;
-    match expr {
-        Expr::Literal(_, _) => Some(left),
-        Expr::Variable(_, _) => Some(left),
-        Expr::Operate(_, _, operands) => all_parts_left(operands, left),
-        Expr::Pre(_, operand) => parts_left(operand, left),
-        Expr::Arrow(_, first, later) => parts_left(later, parts_left(first, left)?),
-        Expr::Fby(_, first, later) => parts_left(later, parts_left(first, left)?),
-        Expr::When(_, _, operand) => parts_left(operand, left),
-        Expr::Merge(_, _, branches) => all_parts_left(branches, left),
-        Expr::Call(_, _, arguments) => all_parts_left(arguments, left),
+    match &expr.form {
+        Form::Literal(_) => Some(left),
+        Form::Variable(_) => Some(left),
+        Form::Operate(_, operands) => all_parts_left(operands, left),
+        Form::Pre(operand) => parts_left(operand, left),
+        Form::Arrow(first, later) => parts_left(later, parts_left(first, left)?),
+        Form::Fby(first, later) => parts_left(later, parts_left(first, left)?),
+        Form::When(_, operand) => parts_left(operand, left),
+        Form::Merge(_, branches) => all_parts_left(branches, left),
+        Form::Call(_, arguments) => all_parts_left(arguments, left),
     }
 }
 

@@ -4,7 +4,7 @@ use Rattle.lus_syntax.specs.Trees.{Call, parts_of}
 use Rattle.lus_syntax.specs.View.{expression_seen, part_seen, name_seen}
 use Rattle.lus_syntax.proofs.TreeViews.{seen_call}
 use Rattle.lus_program.specs.Programs.{call}
-use Rattle.lus_program.specs.View.{expression_of, operands_of}
+use Rattle.lus_program.specs.View.{operands_of}
 use Rattle.lus_program.proofs.OperandViews as program
 use Rattle.lus_meaning.specs.Types.{kinds_of, outputs_of}
 use Rattle.lus_meaning.specs.Meaning.{meant, all_meant, node_place}
@@ -52,6 +52,6 @@ returns-in_ok-copied-in-Call-clause-meant t c =
     let e : expression_seen c.args.source.now ≡ Call n parts = ap expression_seen c.in-Call.is ∙ seen_call c.in-Call.name c.in-Call.arguments in
     let out = operands_of c.in_ok-operands-in-Call.operands.items in
     let same : out ≡ all_meant s parts = rw c.deref-in-Call.ensures.value at c.in_ok-operands-in-Call.ensures.meant in
-    ap expression_of c.in_ok-new-in-Call.ensures.ok
-    ∙ program.seen_call c.deref-in-Call-5.result.now.span.start c.in_ok-node-in-Call.node.now.place c.in_ok-operands-in-Call.operands
+    c.in_ok-boxed-in-Call.ensures
+    ∙ program.seen_call c.in_ok-node-in-Call.node.now.place c.in_ok-operands-in-Call.operands
     ∙ ap (λ g. call g 0 out) (rw c.deref-in-Call-2.ensures at c.in_ok-node-in-Call.ensures.placed) ∙ ap (call (node_place s n.text) 0) same ∙ sym (ap (meant s) e)

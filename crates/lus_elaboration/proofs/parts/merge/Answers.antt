@@ -1,7 +1,7 @@
-use Rattle.std.proofs.Common.{ap, ◌≡◌, ◌∙◌, rules, map, Some}
+use Rattle.std.proofs.Common.{◌≡◌, ◌∙◌, rules, map, Some}
 use Rattle.lus_syntax.specs.View.{part_seen, name_seen}
 use Rattle.lus_syntax.specs.Trees.{parts_of}
-use Rattle.lus_program.specs.View.{expression_of, operands_of}
+use Rattle.lus_program.specs.View.{operands_of}
 use Rattle.lus_program.proofs.OperandViews.{seen_merge}
 use Rattle.lus_meaning.specs.Scopes.{entry}
 use Rattle.lus_meaning.specs.Meaning.{in_order}
@@ -17,6 +17,6 @@ returns-clause-meant c =
     let out = operands_of c.in-Some-2.operands.items in
     let named : entry s.variables n ≡ Some clock = search rules in
     let ordered : out ≡ in_order c.size_of-size.result c.in_ok-places.places.items (operands_of c.args.operands.items) = rw c.in-Some-2.is at c.in_ok-operands.ensures.order in
-    ap expression_of c.in_ok-new.ensures.ok
-    ∙ seen_merge c.args.place clock.place c.in-Some-2.operands
+    c.in_ok-boxed.ensures
+    ∙ seen_merge clock.place c.in-Some-2.operands
     ∙ merge_is s n clock (parts_of (map part_seen c.args.branches.now)) c.in_ok-places.places.items c.size_of-size.result out (operands_of c.args.operands.items) named c.in_ok-places.ensures.places c.size_of-size.ensures ordered

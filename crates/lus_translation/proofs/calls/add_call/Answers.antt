@@ -1,5 +1,5 @@
 use Rattle.std.proofs.Common.{◌≡◌, ◌∙◌, ◌++◌, ◌∷◌, [], map, ap}
-use Rattle.lus_program.specs.View.{expression_of, operands_of, node_of, program_seen}
+use Rattle.lus_program.specs.View.{expression_of, expression_in, operands_of, node_of, program_seen}
 use Rattle.lus_program.proofs.OperandViews.{seen_call}
 use Rattle.lus_translation.specs.Forms.{call_form}
 use Rattle.lus_translation.specs.Newest.{call_seen, tested_call}
@@ -8,7 +8,7 @@ use Rattle.lus_translation.proofs.calls.add_call.Goals as goal
 
 pub returns-in_ok-push-in-Call : goal.returns-in_ok-push-in-Call
 returns-in_ok-push-in-Call c =
-    let e : expression_of c.args.equation.now.right ≡ _ = ap expression_of c.in-Call.is ∙ seen_call c.in-Call.field-0 c.in-Call.called c.in-Call.arguments in
+    let e : expression_of c.args.equation.now.right ≡ _ = ap expression_in c.in-Call.is ∙ seen_call c.in-Call.called c.in-Call.arguments in
     let p = program_seen c.args.program.now in
     let f = node_of c.args.node.now in
     let args = operands_of c.in-Call.arguments.items in

@@ -1,5 +1,5 @@
 use Rattle.std.proofs.Common.{◌≡◌, ◌∙◌, ap}
-use Rattle.lus_program.specs.View.{expression_of}
+use Rattle.lus_program.specs.View.{expression_of, expression_in}
 use Rattle.lus_program.proofs.OperandViews.{seen_operate, seen_merge}
 use Rattle.lus_classes.specs.Classes.{compute, select}
 use Rattle.lus_flat_classes.proofs.FormulaViews.{seen_compute, seen_select}
@@ -9,36 +9,36 @@ use Rattle.lus_translation.proofs.code.+codes.Goals as goal
 
 pub code_of-returns-in_ok-codes-in-Operate-clause-code : goal.code_of-returns-in_ok-codes-in-Operate-clause-code
 code_of-returns-in_ok-codes-in-Operate-clause-code t c =
-    let e : expression_of c.args.expr.now ≡ _ = ap expression_of c.in-Operate.is ∙ seen_operate c.in-Operate.field-0 c.in-Operate.operator c.in-Operate.operands in
+    let e : expression_of c.args.expr.now ≡ _ = ap expression_in c.in-Operate.is ∙ seen_operate c.in-Operate.operator c.in-Operate.operands in
     let given = rw c.deref.ensures.value at c.in_ok-codes-in-Operate.ensures.code in
     rw e (seen_compute c.in-Operate.operator c.in_ok-codes-in-Operate.codes ∙ ap (compute c.in-Operate.operator) (codes_listed c.in_ok-codes-in-Operate.codes.items ∙ ap code_list given))
 
 pub code_of-returns-in_ok-codes-in-Operate-clause-cells : goal.code_of-returns-in_ok-codes-in-Operate-clause-cells
 code_of-returns-in_ok-codes-in-Operate-clause-cells t c =
-    let e : expression_of c.args.expr.now ≡ _ = ap expression_of c.in-Operate.is ∙ seen_operate c.in-Operate.field-0 c.in-Operate.operator c.in-Operate.operands in
+    let e : expression_of c.args.expr.now ≡ _ = ap expression_in c.in-Operate.is ∙ seen_operate c.in-Operate.operator c.in-Operate.operands in
     let given = rw c.deref.ensures.value at c.in_ok-codes-in-Operate.ensures.cells in
     rw e given
 
 pub code_of-returns-in_ok-codes-in-Operate-clause-firsts : goal.code_of-returns-in_ok-codes-in-Operate-clause-firsts
 code_of-returns-in_ok-codes-in-Operate-clause-firsts t c =
-    let e : expression_of c.args.expr.now ≡ _ = ap expression_of c.in-Operate.is ∙ seen_operate c.in-Operate.field-0 c.in-Operate.operator c.in-Operate.operands in
+    let e : expression_of c.args.expr.now ≡ _ = ap expression_in c.in-Operate.is ∙ seen_operate c.in-Operate.operator c.in-Operate.operands in
     let given = rw c.deref.ensures.value at c.in_ok-codes-in-Operate.ensures.firsts in
     rw e given
 
 pub code_of-returns-in_ok-codes-in-Merge-clause-code : goal.code_of-returns-in_ok-codes-in-Merge-clause-code
 code_of-returns-in_ok-codes-in-Merge-clause-code t c =
-    let e : expression_of c.args.expr.now ≡ _ = ap expression_of c.in-Merge.is ∙ seen_merge c.in-Merge.field-0 c.in-Merge.variable c.in-Merge.branches in
+    let e : expression_of c.args.expr.now ≡ _ = ap expression_in c.in-Merge.is ∙ seen_merge c.in-Merge.variable c.in-Merge.branches in
     let given = rw c.deref-in-Merge.ensures.value at c.in_ok-codes-in-Merge.ensures.code in
     rw e (seen_select c.in-Merge.variable c.in_ok-codes-in-Merge.codes ∙ ap (select c.in-Merge.variable) (codes_listed c.in_ok-codes-in-Merge.codes.items ∙ ap code_list given))
 
 pub code_of-returns-in_ok-codes-in-Merge-clause-cells : goal.code_of-returns-in_ok-codes-in-Merge-clause-cells
 code_of-returns-in_ok-codes-in-Merge-clause-cells t c =
-    let e : expression_of c.args.expr.now ≡ _ = ap expression_of c.in-Merge.is ∙ seen_merge c.in-Merge.field-0 c.in-Merge.variable c.in-Merge.branches in
+    let e : expression_of c.args.expr.now ≡ _ = ap expression_in c.in-Merge.is ∙ seen_merge c.in-Merge.variable c.in-Merge.branches in
     let given = rw c.deref-in-Merge.ensures.value at c.in_ok-codes-in-Merge.ensures.cells in
     rw e given
 
 pub code_of-returns-in_ok-codes-in-Merge-clause-firsts : goal.code_of-returns-in_ok-codes-in-Merge-clause-firsts
 code_of-returns-in_ok-codes-in-Merge-clause-firsts t c =
-    let e : expression_of c.args.expr.now ≡ _ = ap expression_of c.in-Merge.is ∙ seen_merge c.in-Merge.field-0 c.in-Merge.variable c.in-Merge.branches in
+    let e : expression_of c.args.expr.now ≡ _ = ap expression_in c.in-Merge.is ∙ seen_merge c.in-Merge.variable c.in-Merge.branches in
     let given = rw c.deref-in-Merge.ensures.value at c.in_ok-codes-in-Merge.ensures.firsts in
     rw e given

@@ -1,5 +1,5 @@
 use Rattle.std.proofs.Common.{◌≡◌, ◌∙◌, ◌++◌, ap}
-use Rattle.lus_program.specs.View.{expression_of}
+use Rattle.lus_program.specs.View.{expression_of, expression_in}
 use Rattle.lus_program.proofs.OperandViews.{seen_call}
 use Rattle.lus_flat_classes.specs.View.{steps_of}
 use Rattle.lus_flat_classes.specs.declared.class.Step.TheVariants as variants
@@ -9,7 +9,7 @@ use Rattle.lus_translation.proofs.steps.give_turn.Goals as goal
 
 pub returns-in_ok-push-in-Call-clause-steps : goal.returns-in_ok-push-in-Call-clause-steps
 returns-in_ok-push-in-Call-clause-steps c =
-    let e : expression_of c.args.equation.now.right ≡ _ = ap expression_of c.in-Call.is ∙ seen_call c.in-Call.field-0 c.in-Call.called c.in-Call.field-2 in
+    let e : expression_of c.args.equation.now.right ≡ _ = ap expression_in c.in-Call.is ∙ seen_call c.in-Call.called c.in-Call.field-1 in
     let ss = c.args.built.now.steps.items in
     let given = rw c.deref.ensures.value at (c.in_ok-targets-in-Call.ensures c.args.number) in
     let pushed = ap steps_of c.in_ok-push-in-Call.ensures.items ∙ steps_pushed ss (variants.Call c.args.number c.in_ok-targets-in-Call.targets) in

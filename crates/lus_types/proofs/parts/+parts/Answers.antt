@@ -1,7 +1,7 @@
 use Rattle.std.proofs.Common.{rules, arith, ◌≡◌, ◌∙◌, ◌<◌, ap}
 use Rattle.std.proofs.lemmas.Grind.{common_steps}
 use Rattle.lus_program.specs.Parts.{parts, parts_all}
-use Rattle.lus_program.specs.View.{expression_of, operands_of}
+use Rattle.lus_program.specs.View.{expression_of, expression_in, operands_of}
 use Rattle.lus_program.proofs.OperandViews.{seen_operate, seen_merge, seen_call}
 use Rattle.lus_types.proofs.PartSums.{parts_some, operand_parts, past_sum, whole_sum}
 use Rattle.lus_types.proofs.parts.+parts.Goals as goal
@@ -11,17 +11,17 @@ parts_left-returns-in_err-left t c = let some = parts_some (expression_of c.args
 
 pub parts_left-returns-in-Operate : goal.parts_left-returns-in-Operate
 parts_left-returns-in-Operate t c =
-    let e : expression_of c.args.expr.now ≡ _ = ap expression_of c.in-Operate.is ∙ seen_operate c.in-Operate.field-0 c.in-Operate.field-1 c.in-Operate.operands in
+    let e : expression_of c.args.expr.now ≡ _ = ap expression_in c.in-Operate.is ∙ seen_operate c.in-Operate.field-0 c.in-Operate.operands in
     rw e (search rules)
 
 pub parts_left-returns-in-Merge : goal.parts_left-returns-in-Merge
 parts_left-returns-in-Merge t c =
-    let e : expression_of c.args.expr.now ≡ _ = ap expression_of c.in-Merge.is ∙ seen_merge c.in-Merge.field-0 c.in-Merge.field-1 c.in-Merge.branches in
+    let e : expression_of c.args.expr.now ≡ _ = ap expression_in c.in-Merge.is ∙ seen_merge c.in-Merge.field-0 c.in-Merge.branches in
     rw e (search rules)
 
 pub parts_left-returns-in-Call : goal.parts_left-returns-in-Call
 parts_left-returns-in-Call t c =
-    let e : expression_of c.args.expr.now ≡ _ = ap expression_of c.in-Call.is ∙ seen_call c.in-Call.field-0 c.in-Call.field-1 c.in-Call.arguments in
+    let e : expression_of c.args.expr.now ≡ _ = ap expression_in c.in-Call.is ∙ seen_call c.in-Call.field-0 c.in-Call.arguments in
     rw e (search rules)
 
 pub all_parts_left-returns-in_err-left : goal.all_parts_left-returns-in_err-left
