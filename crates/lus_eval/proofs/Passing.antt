@@ -1,4 +1,4 @@
--- The calls of a program's code pass inputs on the clocks of the called nodes.
+-- In a program's code the clocks of inputs test inputs alone, and calls pass inputs on the clocks of the called nodes.
 use Rattle.std.proofs.Common.{◌≡◌, ◌∙◌, ℕ, suc, ◌<◌, ◌≤◌, ◌⊎◌, true, List, [], ◌∷◌, map, length, Some, None, is_some, slice_get, sym, ap, subst, true≢false}
 use Rattle.std.proofs.Math.Logic.{inl, inr}
 use Rattle.std.proofs.lemmas.Bool.{cases_lt}
@@ -6,6 +6,7 @@ use Rattle.lus_values.specs.Lists.{item, Each}
 use Rattle.lus_values.specs.Values.{Row}
 use Rattle.lus_program.specs.Programs.{Node, Program, node_at}
 use Rattle.lus_streams.specs.Equations.{Site, sites}
+use Rattle.lus_streams.specs.Order.{clock_variables}
 use Rattle.lus_classes.specs.Steps.{is_on_row, passed}
 use Rattle.lus_classes.specs.ClassesOf.{IsCall, AreCalls, IsClassOf}
 use Rattle.lus_classes.proofs.Passing.{arguments_on_clocks}
@@ -13,7 +14,7 @@ use Rattle.lus_flat_classes.specs.declared.class.Call.{Call}
 use Rattle.lus_flat_classes.specs.declared.class.Class.{Class}
 use Rattle.lus_flat_classes.specs.View.{argument_of, call_of, clock_from, class_of, classes_of}
 use Rattle.lus_code.specs.Codes.{IsCodeOf}
-use Rattle.lus_running.specs.Fits.{OfClass}
+use Rattle.lus_running.specs.Fits.{InputsTestInputs, OfClass}
 use Rattle.lus_running.specs.OnClocks.{PassesOnClock, PassOnClocks}
 use Rattle.lus_running.proofs.Asking.{passed_length}
 use Rattle.lus_running.proofs.Placed.{class_found}
@@ -23,6 +24,14 @@ use Rattle.lus_running.proofs.ShortTurns.{whole_clock_at}
 module _ (p : Program) (classes : List Class) (code : IsCodeOf p (classes_of classes)) where
   belongs : (g : ℕ) (c : Class) → slice_get classes g ≡ Some c → IsClassOf code.0 (node_at code.0 g) (class_of c)
   belongs g c found = subst (IsClassOf code.0 (node_at code.0 g)) (class_found classes g c found) (code.1.belong g)
+
+  pub inputs_test_inputs : (g : ℕ) (c : Class) → slice_get classes g ≡ Some c → InputsTestInputs c
+  inputs_test_inputs g c found x t lt e =
+      let own = belongs g c found in
+      let inputs = own.inputs in
+      let clock = sym (own.clocks x) ∙ whole_clock_at c x ∙ ap (clock_from c.tests.items) e in
+      let tests = subst (λ k. Each (λ y. y < (node_at code.0 g).inputs) (clock_variables k)) clock (own.input_clocks x (subst (λ n. x < n) inputs lt)) in
+      subst (λ n. t.variable < n) (sym inputs) tests.0
 
   module _ (f : Node) (c : Class) where
     call_passes : (s : Site) (q : Call) (n : ℕ) → IsCall code.0 f (class_of c) s (call_of c.tests.items q) n → OfClass classes q.node (PassesOnClock c.tests.items q)

@@ -9,7 +9,19 @@ use Rattle.lus_running.specs.Fits.{FitsPresence}
 use Rattle.lus_eval.specs.Objects.{Kept}
 use Rattle.lus_eval.proofs.Following.{one_test, presence_told}
 use Rattle.lus_eval.proofs.KeptRows.{source_checked, node_within}
+use Rattle.lus_eval.proofs.Passing.{inputs_test_inputs}
 use Rattle.lus_eval.proofs.object.Object.fits_presence.Goals as goal
+
+pub fits_presence-requires : goal.fits_presence-requires
+fits_presence-requires c =
+    let code = c.args.code.now in
+    let classes = c.classes.result.now in
+    let g = c.self.inside.instance.node in
+    let k = c.index-classes-self.result in
+    let inside : c.args.self.now.node < length classes = subst (λ (l : List Class). c.args.self.now.node < length l) (sym c.classes.ensures.same) (node_within code c.args.self.now c.requires) in
+    let within : g < length classes = subst (λ (o : Kept). o.node < length classes) (sym c.self.view_is) inside in
+    let found : slice_get classes g ≡ Some k = slice_get_read classes (length classes) g k refl within c.index-classes-self.is in
+    inputs_test_inputs (program_of code) classes c.classes.ensures.code g k found
 
 pub returns : goal.returns
 returns c =
