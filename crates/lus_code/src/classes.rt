@@ -49,7 +49,8 @@ pub fn classes_of_nodes(
     ensures belong { IfOk result (λ classes. AreClassesOf (program_seen program.now) (classes_of classes.items)) }
     ensures size { IfOk result (λ classes. length classes.items ≡ length (program_seen program.now).nodes) }
     ensures ready { IfOk result (λ classes. AreReady classes.items) }
-    ensures long { IfOk result (λ classes. (counts : List ℕ) → NodesKeepTo counts (program_seen program.now) → AreAsLong counts classes.items) }
+    ensures long { IfOk result (λ classes.
+        (counts : List ℕ) → NodesKeepTo counts (program_seen program.now) → AreAsLong counts classes.items) }
 {
     let mut classes = classes_without_places(alloc, program, orders)?;
     place_classes(alloc, &mut classes)?;
