@@ -1,5 +1,5 @@
 -- The lines of a source, and what stands under them.
-use Rattle.std.specs.Prelude.{◌==◌, ◌||◌, ◌-◌, ℕ, List, [], ◌∷◌, take, flat_map, nat_le, nat_lt, Option, slice_get, if◌then◌else◌}
+use Rattle.std.specs.Prelude.{◌==◌, ◌||◌, ◌-◌, ℕ, [], ◌∷◌, take, flat_map, nat_le, nat_lt, Option, slice_get, if◌then◌else◌}
 use Rattle.std.specs.Str.Lines.{lines}
 use Rattle.lus_syntax.specs.Lexemes.{Text}
 

@@ -7,6 +7,8 @@ pub enum Check {
     Size,
     /// The bytes are JSON.
     Json,
+    /// The bytes are whole JSON.
+    End,
     /// Scripts have the keys that they should.
     Scripts,
     /// There is a list.
@@ -47,6 +49,7 @@ impl Check {
         match self {
             Check::Size => "scripts have at most 1048576 bytes",
             Check::Json => "here the bytes are no JSON, or no text",
+            Check::End => "the bytes end before the JSON does",
             Check::Scripts =>
                 "scripts are an object with exactly the keys `instances` and `callers`",
             Check::List => "a list belongs here",
@@ -60,7 +63,7 @@ impl Check {
             }
             Check::Text => "a string belongs here",
             Check::Reset => "`reset` is `true`",
-            Check::Slot => "a slot is a whole number from 0 to 18446744073709551615",
+            Check::Slot => "a slot is a whole number, from 0 to 7",
             Check::Instances => "there are at most 256 instances",
             Check::Callers => "there are at most 64 callers",
             Check::Calls => "a caller has at most 10000 calls",

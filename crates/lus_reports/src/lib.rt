@@ -5,6 +5,7 @@ mod check;
 mod explanation;
 mod finding;
 mod form;
+mod json;
 mod known;
 mod lines;
 mod nodes;

@@ -39,24 +39,18 @@ fn push_blank(blanks: &mut String, byte: u8) -> Result<(), AllocError>
     }
 }
 
-/// How many characters begin in the first bytes of a line, which counts from 1.
-pub(crate) fn column_of(bytes: &[u8], line: usize, most: usize) -> usize {
-    let mut at = 1usize;
-    let mut seen = 0usize;
-    let mut column = 0usize;
+/// The line and the column behind the first bytes of a text, from 1: a line more than the line feeds among them, and a column
+/// more than the characters since the last of them.
+pub(crate) fn place_behind(bytes: &[u8]) -> (usize, usize) {
+    let mut line = 1usize;
+    let mut column = 1usize;
     for byte in bytes {
-        if at == line {
-            if seen == most {
-                return column;
-            }
-            seen = seen.saturating_add(1);
-            if *byte < 128 || *byte >= 192 {
-                column = column.saturating_add(1);
-            }
-        }
         if *byte == b'\n' {
-            at = at.saturating_add(1);
+            line = line.saturating_add(1);
+            column = 1;
+        } else if *byte < 128 || *byte >= 192 {
+            column = column.saturating_add(1);
         }
     }
-    column
+    (line, column)
 }

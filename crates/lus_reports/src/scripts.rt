@@ -8,8 +8,9 @@ ghost use Rattle.lus_scripts.specs.View.{scripts_seen};
 use crate::check::Check;
 use crate::finding::{Finding, Found};
 use crate::form::wrong_form;
+use crate::json::fault_at;
 use crate::known::{doubled_name, too_many, unknown_name};
-use crate::lines::column_of;
+use crate::lines::place_behind;
 use crate::value::wrong_value;
 use lus_machine::Program;
 use lus_scripts::{ScriptRefusal, Scripts, read_scripts};
@@ -49,19 +50,23 @@ fn find(alloc: Global, program: &Program, bytes: &[u8], refusal: ScriptRefusal) 
     match Value::from_slice(alloc, bytes) {
         Ok(json) => find_in(program, &json, refusal),
         Err(error) if error.is_memory() => None,
-        Err(error) => Some(no_json(bytes, error.line(), error.column())),
+        Err(error) => no_json(alloc, bytes, error.line(), error.column()),
     }
 }
 
-/// The bytes stop being JSON at a line and a column, which counts bytes.
-fn no_json(bytes: &[u8], line: usize, column: usize) -> Finding {
-    Finding {
-        found: Some(Found::Bytes {
-            line,
-            column: column_of(bytes, line, column),
-        }),
-        check: Check::Json,
-    }
+/// Where bytes stop being JSON, whose reader stopped at this line and column.
+fn no_json(alloc: Global, bytes: &[u8], line: usize, column: usize) -> Option<Finding> {
+    let offset = fault_at(alloc, bytes, line, column)?;
+    let check = if offset == bytes.len() {
+        Check::End
+    } else {
+        Check::Json
+    };
+    let (line, column) = place_behind(&bytes[..offset]);
+    Some(Finding {
+        found: Some(Found::Bytes { line, column }),
+        check,
+    })
 }
 
 /// Where the JSON of scripts is refused so.

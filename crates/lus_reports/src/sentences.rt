@@ -40,7 +40,7 @@ pub(crate) fn sentence_of(number: RefusalNumber) -> &'static str
         RefusalNumber::Type =>
             "Make the types, the count of arguments, the labels or the fields those that are declared.",
         RefusalNumber::Clock =>
-            "Bring both sides to one clock: sample the faster one by `when`, or complete the slower one by `merge`.",
+            "Bring both sides to one clock: sample the faster one by `when`, or complete the slower one by `merge`; the clock of an input tests an input.",
         RefusalNumber::Cycle =>
             "Each variable of the cycle needs the next one at the same instant, and the last needs the first: put a `pre` or a `fby` into the cycle.",
         RefusalNumber::Nil =>

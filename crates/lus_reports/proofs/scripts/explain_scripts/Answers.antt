@@ -3,7 +3,6 @@ use Rattle.std.proofs.Common.{◌≡◌, ◌∙◌, ap, sym, subst, Result, Err}
 use Rattle.lus_program.specs.View.{program_seen}
 use Rattle.lus_machine.specs.Constructors.{names_of}
 use Rattle.lus_host.specs.ScriptRefusals.{AreRefused}
-use Rattle.lus_scripts.specs.View.{scripts_seen}
 use Rattle.lus_scripts.specs.declared.refusal.ScriptRefusal.{ScriptRefusal}
 use Rattle.lus_scripts.specs.declared.scripts.Scripts.{Scripts}
 use Rattle.lus_host.proofs.ScriptErrors.{read_refused}

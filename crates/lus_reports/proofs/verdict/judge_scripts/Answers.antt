@@ -1,5 +1,5 @@
 -- Scripts are accepted, or refused for another cause than memory.
-use Rattle.std.proofs.Common.{◌≡◌, ◌≢◌, ℕ, sym, subst, Result, Ok, Err, IfOk, OnOk}
+use Rattle.std.proofs.Common.{◌≢◌}
 use Rattle.lus_code.specs.Codes.{program_of}
 use Rattle.lus_scripts.specs.View.{scripts_seen}
 use Rattle.lus_scripts.specs.declared.refusal.ScriptRefusal.TheVariants.{Memory}
