@@ -211,7 +211,8 @@ fn push_columns<'d, 'a>(
     start: usize,
     top: usize,
 ) -> Result<Extent, AllocError>
-    ensures { OnOk result (seen_words shapes.new.items ≡ seen_words shapes.old.items ++ flat_map (λ c. column_texts (column_seen c)) diagram.now.columns.items) }
+    ensures { let texts = flat_map (λ c. column_texts (column_seen c)) diagram.now.columns.items in
+        OnOk result (seen_words shapes.new.items ≡ seen_words shapes.old.items ++ texts) }
 {
     let rows = diagram.labels.len();
     let mut x = start;
@@ -296,7 +297,8 @@ fn push_diagram<'d, 'a>(
     diagram: &'d Diagram<'a>,
     top: usize,
 ) -> Result<Extent, AllocError>
-    ensures { OnOk result (seen_words shapes.new.items ≡ seen_words shapes.old.items ++ flat_map (λ c. column_texts (column_seen c)) diagram.now.columns.items) }
+    ensures { let texts = flat_map (λ c. column_texts (column_seen c)) diagram.now.columns.items in
+        OnOk result (seen_words shapes.new.items ≡ seen_words shapes.old.items ++ texts) }
 {
     push_heading(shapes, diagram, top.saturating_add(24))?;
     let labels = diagram.label_width().saturating_mul(CHARACTER);
