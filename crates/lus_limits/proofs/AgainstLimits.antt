@@ -5,7 +5,7 @@ use Rattle.std.proofs.lemmas.Grind.{get_or_default_zero}
 use Rattle.std.proofs.lemmas.List.Elements.{All-get_or}
 use Rattle.lus_values.specs.Lists.{item, Below}
 use Rattle.lus_values.proofs.Lists.{below_all, below_at}
-use Rattle.lus_graph.specs.Ways.{Uses, used, IsOrdered, IsOrder}
+use Rattle.lus_graph.specs.Ways.{Uses, IsOrdered, IsOrder}
 use Rattle.lus_meaning.specs.Tables.{within}
 use Rattle.lus_meaning.proofs.AlongOrders.{IsLocal, IsInside, IsFilled, uses_before, inside_steady, fixed, filled_more, filled_all}
 
