@@ -10,7 +10,8 @@ use Rattle.atomic_table.specs.Table.{State, Final, Seen}
 use Rattle.lus_requests.specs.declared.request.Entry.{Entry}
 use Rattle.lus_machine.specs.Machines.{Told}
 use Rattle.lus_shared.specs.Knowledge.{Origin, machine_at, Facts, Sight, Instance, Standing, kept}
-use Rattle.lus_shared.specs.Rule.{Each, takers, times, FitsOne, Sound}
+use Rattle.lus_values.specs.Lists.{Each}
+use Rattle.lus_shared.specs.Rule.{takers, times, FitsOne, Sound}
 use Rattle.lus_shared.specs.Closing.{IsPartOf, Closed, facts_from, all_facts}
 use Rattle.lus_shared.proofs.Lists.{sum_at, sum_two, is_number, same_number}
 use Rattle.lus_shared.proofs.Keeps.{bit, number_below, at_most_once}

@@ -14,7 +14,8 @@ use Rattle.atomic_table.proofs.Lists.{at_set, set_here, set_else, at_snoc}
 use Rattle.lus_requests.specs.declared.request.Entry.{Entry}
 use Rattle.lus_machine.specs.Machines.{Told, full}
 use Rattle.lus_shared.specs.Knowledge.{Origin, IsLegal, machine_at, Facts, Sight, kept}
-use Rattle.lus_shared.specs.Rule.{Each, takers, times, holders, FitsOne, Fits, Sound, fresh, opening_sight}
+use Rattle.lus_values.specs.Lists.{Each}
+use Rattle.lus_shared.specs.Rule.{takers, times, holders, FitsOne, Fits, Sound, fresh, opening_sight}
 use Rattle.lus_shared.specs.Views.{facts_of}
 use Rattle.lus_shared.specs.Plays.{seeing, looking, Shown, looked, took, after_giving, gave, joined, nobody, first_of, others_of, cut_first, cut_others}
 use Rattle.lus_shared.proofs.Lists.{sum_set, sum_at, sum_two, sum_map, each_append, each_map, prefix_self, prefix_trans, kept-append, kept_none, callers_of_one, is_number, same_number}

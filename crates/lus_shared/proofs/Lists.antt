@@ -10,7 +10,8 @@ use lib.ListN.{get_elem?, length-map}
 use Rattle.lus_requests.specs.declared.request.Entry.{Entry}
 use Rattle.lus_shared.specs.Knowledge.{call_of, kept, Facts, Origin, Instance, Standing}
 use Rattle.lus_shared.specs.Views.{fresh_standing, fresh_seats}
-use Rattle.lus_shared.specs.Rule.{Each, fresh}
+use Rattle.lus_values.specs.Lists.{Each}
+use Rattle.lus_shared.specs.Rule.{fresh}
 
 module _ {A : Type 0} (f : A → ℕ) where
   pub sum_set : (l : List A) (i : ℕ) (v w : A) → get_elem? l i ≡ some v → sum_by f (set l i w) + f v ≡ sum_by f l + f w

@@ -4,7 +4,7 @@ use Rattle.std.specs.List.{sum_by, count_by}
 use mathlib.Core.List.{IsPrefix}
 use Rattle.lus_requests.specs.declared.request.Entry.{Entry}
 use Rattle.lus_shared.specs.Knowledge.{IsLegal, Facts, Instance, Standing, kept}
-use Rattle.lus_shared.specs.Rule.{Each}
+use Rattle.lus_values.specs.Lists.{Each}
 
 -- each number below n is one seat's
 pub record HaveEach (n : ℕ) (seats : List Standing) : Type 0 where

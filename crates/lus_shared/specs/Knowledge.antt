@@ -26,6 +26,10 @@ pub record Origin : Type 0 where
   pub node : ℕ
   pub callers : ℕ
 
+-- the origin of a node that this machine is given to, with so many seats
+abbrev pub origin_with : Told → ℕ → Origin
+origin_with machine callers = record { program = machine.program; node = machine.node; callers = callers }
+
 -- the machine of this origin, after these entries
 abbrev pub machine_at : Origin → List Entry → Told
 machine_at o h = record { program = o.program; node = o.node; history = h }

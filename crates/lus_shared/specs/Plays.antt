@@ -4,7 +4,8 @@ use Rattle.atomic_table.specs.Table.{Me, Step}
 use Rattle.lus_requests.specs.declared.request.Entry.{Entry}
 use Rattle.lus_machine.specs.Machines.{Told, full}
 use Rattle.lus_shared.specs.Knowledge.{Origin, IsLegal, machine_at, Facts, Sight, kept}
-use Rattle.lus_shared.specs.Rule.{Each, FitsOne}
+use Rattle.lus_values.specs.Lists.{Each}
+use Rattle.lus_shared.specs.Rule.{FitsOne}
 
 abbrev pub Sat : Type 0
 Sat = Me Told Sight

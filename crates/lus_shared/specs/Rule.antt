@@ -6,12 +6,9 @@ use mathlib.Core.List.{IsPrefix}
 use lib.ListN.{get_elem?}
 use Rattle.atomic_table.specs.Table.{State}
 use Rattle.lus_requests.specs.declared.request.Entry.{Entry}
+use Rattle.lus_values.specs.Lists.{Each}
 use Rattle.lus_machine.specs.Machines.{Told, full}
 use Rattle.lus_shared.specs.Knowledge.{Origin, IsLegal, machine_at, Facts, Sight, kept}
-
-abbrev pub Each : {X : Type 0} → (X → Type 0) → List X → Type 0
-Each P [] = Unit {0}
-Each P (x ∷ xs) = P x × Each P xs
 
 -- how many seats are takers
 abbrev pub takers : List Sight → ℕ

@@ -5,11 +5,15 @@ use Rattle.atomic_table.specs.Table.{Me}
 use Rattle.lus_requests.specs.declared.request.Entry.{Entry}
 use Rattle.lus_machine.specs.Machines.{Told, full}
 use Rattle.lus_shared.specs.Knowledge.{IsLegal, machine_at, Facts, Sight, kept}
-use Rattle.lus_shared.specs.Rule.{Each}
+use Rattle.lus_values.specs.Lists.{Each}
 use Rattle.lus_shared.specs.Views.{facts_of}
 
 abbrev pub Sat : Type 0
 Sat = Me Told Sight
+
+-- seats that are joined, none of them the taker
+abbrev pub seats_at : List Facts → Sat
+seats_at fs = (record { taker = false; seats = fs }, [])
 
 abbrev pub seat_at : Facts → Sat
 seat_at f = (record { taker = false; seats = f ∷ [] }, [])

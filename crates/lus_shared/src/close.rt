@@ -2,9 +2,10 @@
 ghost use Rattle.std.specs.Prelude.{◌≡◌, ◌==◌, ◌<◌, ℕ, false, [], IfOk, IfErr, IsTrue, MatchOption};
 ghost use Rattle.std.specs.List.{count_by};
 ghost use mathlib.Core.Logic.{◌↔◌};
-ghost use Rattle.lus_shared.specs.Rule.{Each};
+ghost use Rattle.lus_values.specs.Lists.{Each};
 ghost use Rattle.std.specs.List.{All};
 ghost use Rattle.lus_shared.specs.Closing.{HaveEach, Closed, all_facts};
+ghost use Rattle.lus_shared.specs.Told.{seats_at};
 
 use crate::rule::{Board, Both, Place};
 use crate::seat::{Seat, SeatNode};
@@ -31,7 +32,8 @@ fn has_all(seats: &[Seat], callers: u32) -> bool
 pub(crate) fn gather(board: &Board, mut seats: Vec<Seat>) -> Option<Place>
     requires words { board.now.shared.table_id.words ≡ 1 }
     requires seats { All (λ s. s.instance.table ≡ board.now.shared.table_id) seats.items }
-    ensures { MatchOption result (seats.items ≡ []) (λ p. (p.table_id ≡ board.now.shared.table_id) × (p.me ≡ (record { taker = false; seats = all_facts seats.items }, []))) }
+    ensures { MatchOption result (seats.items ≡ []) (λ p.
+        (p.table_id ≡ board.now.shared.table_id) × (p.me ≡ seats_at (all_facts seats.items))) }
 {
     let mut all = seats.pop()?.into_place();
     while let Some(seat) = seats.pop() {

@@ -13,7 +13,7 @@ pub(crate) fn take(board: &Board, place: &mut Place) -> Result<u64, u64>
     requires table { (place.old.table_id ≡ board.now.shared.table_id) × (board.now.shared.table_id.words ≡ 1) }
     requires alone { IsAlone place.old.me }
     ensures same { (place.new.table_id ≡ place.old.table_id) × (place.new.id ≡ place.old.id) }
-    ensures told { MatchResult result (λ n. Took (its_facts place.old.me) place.new.me n) (λ n. Looked (its_facts place.old.me) place.new.me n) }
+    ensures told { MatchResult result (Took (its_facts place.old.me) place.new.me) (Looked (its_facts place.old.me) place.new.me) }
 {
     let shared = &board.shared;
     let word = shared.load::<Look>(place, 0);
@@ -34,7 +34,8 @@ pub(crate) fn call_at(
     requires table { (place.old.table_id ≡ board.now.shared.table_id) × (board.now.shared.table_id.words ≡ 1) }
     requires alone { IsAlone place.old.me × ((its_facts place.old.me).number ≡ number) }
     ensures same { (place.new.table_id ≡ place.old.table_id) × (place.new.id ≡ place.old.id) }
-    ensures told { MatchResult result (λ a. Called (its_facts place.old.me) place.new.me request.now a) (λ e. Missed (its_facts place.old.me) place.new.me e) }
+    ensures told { let facts = its_facts place.old.me in
+        MatchResult result (Called facts place.new.me request.now) (Missed facts place.new.me) }
 {
     match take(board, place) {
         Ok(found) => {

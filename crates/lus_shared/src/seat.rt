@@ -1,6 +1,7 @@
 //! Seats at a table with one machine.
 ghost use Rattle.std.specs.Prelude.{◌≡◌, ◌==◌, ◌<◌, ℕ, [], length, map, IfOk, IfErr};
 ghost use Rattle.lus_shared.specs.Views.{Sees, Adds, fresh_seats};
+ghost use Rattle.lus_shared.specs.Knowledge.{origin_with};
 ghost use Rattle.lus_shared.specs.Told.{seat_at};
 ghost use Rattle.lus_shared.specs.Closing.{Closed, facts_from};
 ghost use Rattle.std.specs.List.{count_by};
@@ -43,7 +44,8 @@ impl Model for SeatNode {
 
     ghost view = { λ n. record { table = n.table.shared.table_id; origin = origin_of n.table.shared.key } };
 
-    ghost invariant = { λ n. (n.table.shared.table_id.words ≡ 1) × (n.table.shared.table_id.slots ≡ 1) × (n.callers ≡ n.table.shared.key.callers) };
+    ghost invariant = { λ n. (n.table.shared.table_id.words ≡ 1) × (n.table.shared.table_id.slots ≡ 1)
+        × (n.callers ≡ n.table.shared.key.callers) };
 }
 
 /// A caller's place at one node.
@@ -105,7 +107,7 @@ impl SeatNode {
         callers: u32,
     ) -> Result<(SeatNode, Vec<Seat>), Memory>
         requires { machine.history ≡ [] }
-        ensures origin { IfOk result (λ r. r.0.origin ≡ record { program = machine.program; node = machine.node; callers = callers }) }
+        ensures origin { IfOk result (λ r. r.0.origin ≡ origin_with machine callers) }
         ensures seats { IfOk result (λ r. r.1.items ≡ fresh_seats r.0 0 callers) }
         ensures belong { IfOk result (λ r. All (λ s. s.instance ≡ r.0) r.1.items) }
         ensures numbers { IfOk result (λ r. map (λ s. s.number) r.1.items ≡ range_with_len 0 callers) }
@@ -272,7 +274,8 @@ impl SeatNode {
     ) -> Result<Reply, CallError>
         requires { seat.old.instance ≡ self.now }
         ensures ok { IfOk result (λ a. Adds seat.old seat.new request.now a) }
-        ensures err { IfErr result (λ e. Sees seat.old seat.new (length seat.new.seen) × (e ≡ CallError.Full → length seat.new.seen ≡ full)) }
+        ensures err { let seen = length seat.new.seen in
+            IfErr result (λ e. Sees seat.old seat.new seen × (e ≡ CallError.Full → seen ≡ full)) }
     {
         for _ in rt.forever() {
             match self.try_call(seat, request) {

@@ -27,7 +27,7 @@ pub struct Strangers<N: Shared> {
 /// A machine that several callers share.
 pub trait Shared {
     ghost use Rattle.std.specs.Prelude.{ℕ, Bool};
-    ghost use Rattle.lus_shared.specs.Knowledge.{Instance, Standing};
+    ghost use Rattle.lus_shared.specs.Knowledge.{Instance, Standing, origin_with};
 
     /// A caller's place at a node. Its number is the caller's.
     type Seat;
@@ -62,7 +62,7 @@ pub trait Shared {
         ensures numbers { IfOk result (λ r. map number r.1.items ≡ range_with_len 0 callers) }
         ensures none_made { IfOk result (λ r. All (λ s. made s ≡ 0) r.1.items) }
         ensures belong { IfOk result (λ r. All (belongs r.0) r.1.items) }
-        ensures origin { tells ≡ true → IfOk result (λ r. (instance r.0).origin ≡ record { program = machine.program; node = machine.node; callers = callers }) }
+        ensures origin { tells ≡ true → IfOk result (λ r. (instance r.0).origin ≡ origin_with machine callers) }
         ensures seats { tells ≡ true → IfOk result (λ r. map standing r.1.items ≡ fresh_seats (instance r.0) 0 callers) };
 
     /// The reply to a request, which the machine has entered with it. With an error nothing was entered. It may wait for others.
