@@ -1,7 +1,7 @@
 -- What the words of the command line ask for, by the meaning that clap's own specification gives to the command.
 use Rattle.std.specs.Prelude.{◌==◌, ℕ, Bool, true, false, List, length, Option, Some, None, codes, if◌then◌else◌}
 use Rattle.std.specs.Str.{bytes_eq}
-use Rattle.clap.specs.Words.{App, Rule, new_app, new_rule, with_rule, first_of, matches_of, fault_of}
+use Rattle.clap.specs.Words.{App, Row, Rule, new_app, new_rule, with_rule, first_of, matches_of, fault_of}
 use Rattle.clap.specs.declared.builder.ArgAction.TheVariants.{SetTrue}
 use Rattle.lus_cli.specs.declared.words.Task.{Task}
 use Rattle.lus_cli.specs.declared.words.Task.TheVariants as tasks
@@ -49,14 +49,13 @@ abbrev pub is_true : Option Text → Bool
 is_true None = false
 is_true (Some t) = bytes_eq t (codes "true")
 
+-- what words ask of a command, by what they give its arguments: nothing where they don't fit it
+unfoldable pub asked_of : {X : Type 0} → App → (List Row → Option X) → List Text → Option X
+asked_of app said ws = if length (fault_of app ws) == 0 then said (matches_of app ws) else None
+
 -- what the words after the program's own name ask for, where they are well formed
 unfoldable pub asked : List Text → Option Asked
-asked ws =
-    if length (fault_of lus ws) == 0
-    then chosen (is_true (first_of (codes "check") (matches_of lus ws)))
-    (first_of (codes "PROGRAM") (matches_of lus ws))
-    (first_of (codes "SCRIPTS") (matches_of lus ws))
-    else None
+asked = asked_of lus (λ m. chosen (is_true (first_of (codes "check") m)) (first_of (codes "PROGRAM") m) (first_of (codes "SCRIPTS") m))
 
 -- a task as plain data
 abbrev pub task_seen : Task → Asked

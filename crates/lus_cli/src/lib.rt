@@ -7,4 +7,4 @@ mod words;
 
 pub use fault::Fault;
 pub use shell::{command, tell};
-pub use words::{Task, WordsError, read_words};
+pub use words::{Task, WordsError, matches, read_words};

@@ -1,12 +1,12 @@
 //! The words of the command line.
 
-ghost use Rattle.std.specs.Prelude.{◌≡◌, IfOk, Some, None, Err, map, option_map, string_bytes};
-ghost use Rattle.clap.specs.Words.{app_of};
+ghost use Rattle.std.specs.Prelude.{◌≡◌, ◌≢◌, IfOk, OnOk, Some, None, Err, [], map, option_map, string_bytes, true};
+ghost use Rattle.clap.specs.Words.{app_of, fault_of, found_of, is_simple, is_simple_and_free, matches_of, rows_of};
 ghost use Rattle.lus_cli.specs.CommandLine.{asked, chosen, is_true, lus, task_seen};
 ghost use Rattle.lus_cli.specs.declared.words.WordsError.TheVariants.{Memory};
 
 use clap::error::ErrorKind;
-use clap::{Arg, ArgAction, Command};
+use clap::{Arg, ArgAction, ArgMatches, Command};
 use std::alloc::{AllocError, Global};
 use thiserror::Error;
 
@@ -51,21 +51,29 @@ fn command<'a>(alloc: Global) -> Result<Command<'a>, AllocError>
         .arg(scripts)
 }
 
+/// What the words say to a command's arguments. Words that the command doesn't take are mistaken.
+pub fn matches<'a>(command: Command<'a>, words: &'a [String]) -> Result<ArgMatches<'a>, WordsError>
+    requires simple { is_simple (app_of command) ≡ true }
+    requires free { is_simple_and_free (app_of command) ≡ true }
+    ensures right { OnOk result (fault_of (app_of command.entry) (map string_bytes words.now) ≡ []) }
+    ensures rows { IfOk result (λ m. rows_of (found_of m) ≡ matches_of (app_of command.entry) (map string_bytes words.now)) }
+    ensures mistaken { result ≡ Err WordsError.Mistaken → fault_of (app_of command.entry) (map string_bytes words.now) ≢ [] }
+{
+    match command.try_get_matches_from(words) {
+        Ok(matches) => Ok(matches),
+        Err(error) => Err(match error.kind() {
+            ErrorKind::OutOfMemory => WordsError::Memory,
+            _ => WordsError::Mistaken,
+        }),
+    }
+}
+
 /// What the words after the program's own name ask for.
 pub fn read_words<'a>(alloc: Global, words: &'a [String]) -> Result<Task<'a>, WordsError>
     ensures ok { IfOk result (λ task. asked (map string_bytes words.now) ≡ Some (task_seen task)) }
     ensures mistaken { result ≡ Err WordsError.Mistaken → asked (map string_bytes words.now) ≡ None }
 {
-    let command = command(alloc)?;
-    let matches = match command.try_get_matches_from(words) {
-        Ok(matches) => matches,
-        Err(error) => {
-            return Err(match error.kind() {
-                ErrorKind::OutOfMemory => WordsError::Memory,
-                _ => WordsError::Mistaken,
-            });
-        }
-    };
+    let matches = matches(command(alloc)?, words)?;
     choose(
         matches.get_str("check"),
         matches.get_str("PROGRAM"),

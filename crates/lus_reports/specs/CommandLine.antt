@@ -1,8 +1,8 @@
 -- What the words of the command line ask for, by the meaning that clap's own specification gives to the command.
-use Rattle.std.specs.Prelude.{◌==◌, List, length, Option, Some, None, option_map, codes, true, if◌then◌else◌}
-use Rattle.clap.specs.Words.{App, new_app, new_rule, with_rule, first_of, matches_of, fault_of}
+use Rattle.std.specs.Prelude.{List, Option, Some, None, option_map, codes, true}
+use Rattle.clap.specs.Words.{App, new_app, new_rule, with_rule, first_of}
 use Rattle.lus_syntax.specs.Lexemes.{Text}
-use Rattle.lus_cli.specs.CommandLine.{program_rule}
+use Rattle.lus_cli.specs.CommandLine.{asked_of, program_rule}
 use Rattle.lus_reports.specs.declared.words.Task.{Task}
 
 -- the command before its arguments: no name of the program among the words, no help, no version
@@ -30,10 +30,7 @@ chosen (Some program) scripts = Some (record { program = program; scripts = scri
 
 -- what the words after the program's own name ask for, where they are well formed
 unfoldable pub asked : List Text → Option Asked
-asked ws =
-    if length (fault_of the_command ws) == 0
-    then chosen (first_of (codes "PROGRAM") (matches_of the_command ws)) (first_of (codes "SCRIPTS") (matches_of the_command ws))
-    else None
+asked = asked_of the_command (λ m. chosen (first_of (codes "PROGRAM") m) (first_of (codes "SCRIPTS") m))
 
 -- a task as plain data
 abbrev pub task_seen : Task → Asked

@@ -5,9 +5,8 @@ ghost use Rattle.clap.specs.Words.{app_of};
 ghost use Rattle.lus_cli.specs.declared.words.WordsError.TheVariants.{Mistaken};
 ghost use Rattle.lus_reports.specs.CommandLine.{asked, chosen, task_seen, the_command};
 
-use clap::error::ErrorKind;
 use clap::{Arg, Command};
-use lus_cli::WordsError;
+use lus_cli::{WordsError, matches};
 use std::alloc::{AllocError, Global};
 
 /// What the words ask to explain: a program, and perhaps scripts for it, by the names of their files.
@@ -35,16 +34,7 @@ pub fn read_words<'a>(alloc: Global, words: &'a [String]) -> Result<Task<'a>, Wo
     ensures ok { IfOk result (λ task. asked (map string_bytes words.now) ≡ Some (task_seen task)) }
     ensures mistaken { result ≡ Err Mistaken → asked (map string_bytes words.now) ≡ None }
 {
-    let command = command(alloc)?;
-    let matches = match command.try_get_matches_from(words) {
-        Ok(matches) => matches,
-        Err(error) => {
-            return Err(match error.kind() {
-                ErrorKind::OutOfMemory => WordsError::Memory,
-                _ => WordsError::Mistaken,
-            });
-        }
-    };
+    let matches = matches(command(alloc)?, words)?;
     choose(matches.get_str("PROGRAM"), matches.get_str("SCRIPTS")).ok_or(WordsError::Mistaken)
 }
 
