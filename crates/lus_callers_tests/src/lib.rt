@@ -1,4 +1,4 @@
-//! Tests of callers on threads, over both kinds of instances, and a gate at which callers meet.
+//! Tests of callers on threads, over both kinds of instances, a gate at which callers meet, and what a host relies on.
 #![tactic(auto)]
 
 #[cfg(test)]
@@ -6,9 +6,11 @@ mod callers;
 #[cfg(test)]
 mod gates;
 mod meeting;
+mod relied;
 #[cfg(test)]
 mod runs;
 #[cfg(test)]
 mod seats;
 
 pub use meeting::Meeting;
+pub use relied::run_served;

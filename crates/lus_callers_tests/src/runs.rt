@@ -1,6 +1,7 @@
 //! Programs, callers, and what their runs leave.
 
-use lus_callers::{Call, Caller, Gate, HostError, Journals, fit, run_callers, run_seated};
+use crate::relied::run_served;
+use lus_callers::{Call, Caller, Gate, HostError, Journals, fit, run_callers};
 use lus_machine::{Program, compile};
 use lus_program::NodeId;
 use lus_requests::{Reply, Request};
@@ -71,7 +72,7 @@ pub(crate) fn seated<G: Gate + Sync, R: Threads + Wait + Sync>(
     if !fit(program, instances, callers) {
         return Err(HostError::Seats);
     }
-    run_seated(rt, alloc, program, instances, callers, gate)
+    run_served(rt, alloc, program, instances, callers, gate)
 }
 
 /// A run over locks.
