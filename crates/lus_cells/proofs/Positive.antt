@@ -1,5 +1,5 @@
 -- Where structures have fields, each type has a leaf.
-use Rattle.std.proofs.Common.{◌≡◌, ℕ, zero, suc, ◌<◌, ◌≤◌, List, [], ◌∷◌, set, Result, Ok, Err, OnOk, arith}
+use Rattle.std.proofs.Common.{◌≡◌, ℕ, zero, suc, ◌≤◌, List, [], ◌∷◌, set, Result, Ok, Err, OnOk, arith}
 use Rattle.std.specs.Prelude.{min}
 use Rattle.std.proofs.lemmas.List.Sums.{sum_by-cons}
 use Rattle.lus_values.specs.Lists.{item}
@@ -7,7 +7,7 @@ use Rattle.lus_program.specs.declared.types.Kind.{Kind}
 use Rattle.lus_program.specs.declared.types.Kind.TheVariants as kinds
 use Rattle.lus_program.specs.Programs.{Declared, alias, enumeration, structure, Field, Program}
 use Rattle.lus_meaning.specs.Sound.{HasFields}
-use Rattle.lus_cells.specs.Cells.{declared_leaves, kind_leaves, AreLeaves, HaveLeaves}
+use Rattle.lus_cells.specs.Cells.{declared_leaves, kind_leaves, HaveLeaves}
 use Rattle.lus_cells.specs.Uses.{AreCappedLeaves, ArePositive}
 
 kind_positive : (at : ℕ → ℕ) → ((t : ℕ) → 1 ≤ at t) → (k : Kind) → 1 ≤ kind_leaves at k

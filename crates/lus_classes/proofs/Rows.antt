@@ -1,5 +1,5 @@
 -- Clocks in rows, at instants, and at instants whose base is absent.
-use Rattle.std.proofs.Common.{◌≡◌, ℕ, zero, suc, ◌<◌, ◌&&◌, ◌++◌, Bool, true, false, List, [], ◌∷◌, length, drop, replicate, Option, Some, None, is_some, slice_get, refl, sym, ap, ap₂, ◌∙◌, subst, le_of_suc-le-suc, not-suc-le-zero}
+use Rattle.std.proofs.Common.{◌≡◌, ℕ, zero, suc, ◌<◌, ◌&&◌, ◌++◌, Bool, true, false, List, [], ◌∷◌, length, drop, replicate, Option, None, is_some, refl, sym, ap, ap₂, ◌∙◌, le_of_suc-le-suc, not-suc-le-zero}
 use Rattle.std.proofs.lemmas.Bool.{and_parts, and_right}
 use Rattle.lus_values.specs.Lists.{item, Each}
 use Rattle.lus_values.specs.Values.{Value, Row}

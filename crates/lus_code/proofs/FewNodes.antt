@@ -1,16 +1,15 @@
 -- The nodes of a normal form are few, with few variables, and each right side that is no call gives one variable.
-use Rattle.std.proofs.Common.{◌≡◌, ◌∙◌, ℕ, zero, suc, ◌+◌, ◌<◌, ◌≤◌, List, [], ◌∷◌, ◌++◌, length, length-append, map, sum_by, Some, refl, sym, ap, subst, arith}
+use Rattle.std.proofs.Common.{◌≡◌, ℕ, suc, ◌+◌, ◌≤◌, List, [], ◌∷◌, ◌++◌, length, length-append, map, sum_by, Some, refl, sym, ap, subst, arith}
 use Rattle.std.specs.Prelude.{option_map}
-use Rattle.std.proofs.lemmas.List.{length-map}
 use Rattle.std.proofs.lemmas.List.Sums.{sum_by-cons}
-use Rattle.lus_values.specs.Lists.{item, Each}
-use Rattle.lus_syntax.specs.Limits.{most_declarations, most_parts, most_variables}
+use Rattle.lus_values.specs.Lists.{Each}
+use Rattle.lus_syntax.specs.Limits.{most_parts, most_variables}
 use Rattle.lus_program.specs.declared.types.Kind.{Kind}
 use Rattle.lus_program.specs.declared.node.Equation.{Equation as StoredEquation}
 use Rattle.lus_program.specs.declared.node.Node.{Node as StoredNode}
 use Rattle.lus_program.specs.declared.node.Program.{Program as StoredProgram}
 use Rattle.lus_program.specs.Parts.{node_parts}
-use Rattle.lus_program.specs.Programs.{Expression, literal, variable, operate, pre, arrow, fby, when, merge, call, Operands, calls, numbered, Equation, Node, Program, node_at, empty_node}
+use Rattle.lus_program.specs.Programs.{Expression, call, calls, numbered, Equation, Node, Program, node_at, empty_node}
 use Rattle.lus_program.specs.View.{expression_of, equations_from, node_of, program_seen}
 use Rattle.lus_streams.specs.Equations.{equation_clock}
 use Rattle.lus_streams.proofs.Lists.{each_item}
@@ -18,7 +17,6 @@ use Rattle.lus_meaning.specs.Resolved.{EquationFits, NodeResolved, Resolved, kin
 use Rattle.lus_meaning.specs.Sound.{IsLimited}
 use Rattle.lus_resolution.proofs.Options.{map_gives}
 use Rattle.lus_resolution.proofs.Typed.{fits_given}
-use Rattle.lus_normal_form.specs.NormalNodes.{IsNormalNode}
 use Rattle.lus_normal_nodes.specs.Forms.{added_equations, equations_count, normal_equations, right_count, right_form, right_out}
 use Rattle.lus_normal_nodes.specs.Parts.{equations_taken, node_taken, right_taken}
 use Rattle.lus_normal_nodes.proofs.Counted.{taken_length}

@@ -1,10 +1,9 @@
 -- What a node of the source wants to keep is within its count of state cells, and so is what the class of its normal form keeps.
-use Rattle.std.proofs.Common.{◌≡◌, ◌∙◌, ℕ, zero, suc, ◌+◌, ◌<◌, ◌≤◌, List, [], ◌∷◌, ◌++◌, length, map, max, sum_by, Option, Some, slice_get, refl, sym, ap, subst, arith, ⊎_elim}
-use Rattle.std.specs.Prelude.{option_map}
+use Rattle.std.proofs.Common.{◌≡◌, ℕ, suc, ◌+◌, ◌<◌, ◌≤◌, List, [], ◌∷◌, ◌++◌, length, map, sum_by, Option, Some, refl, sym, ap, subst, arith, ⊎_elim}
 use Rattle.std.proofs.lemmas.Bool.{cases_lt}
 use Rattle.std.proofs.lemmas.List.{get_or_past, length-map}
-use Rattle.std.proofs.lemmas.List.Sums.{sum_by-append, sum_by-cons}
-use Rattle.lus_values.specs.Lists.{item, Each, Below}
+use Rattle.std.proofs.lemmas.List.Sums.{sum_by-cons}
+use Rattle.lus_values.specs.Lists.{item, Each}
 use Rattle.lus_values.proofs.Lists.{below_at, each_at}
 use Rattle.lus_program.specs.declared.types.Kind.{Kind}
 use Rattle.lus_program.specs.declared.types.Kind.TheVariants as kinds
@@ -12,18 +11,15 @@ use Rattle.lus_program.specs.declared.expr.Test.{Test}
 use Rattle.lus_program.specs.Programs.{Expression, literal, variable, operate, pre, arrow, fby, when, merge, call, Operands, none, more, Equation, Node, Program, node_at, empty_node}
 use Rattle.lus_streams.specs.Clocks.{Clock, Part, at, parts, operand_parts, branch_parts, argument_parts, base_of, formal_clock}
 use Rattle.lus_streams.specs.Equations.{Site, sites, sites_in, site_first, node_parts, equation_parts, equation_clock}
-use Rattle.lus_streams.proofs.Lists.{each_item}
 use Rattle.lus_meaning.specs.Resolved.{EquationFits, NodeResolved, Resolved, kind_in, kinds_given_in}
 use Rattle.lus_resolution.proofs.Typed.{HasKind, HaveKinds, operate_typed, both_typed, when_typed, merge_typed, call_typed, more_typed, whole_call, whole_typed, fits_given}
-use Rattle.lus_classes.specs.Classes.{Call as PlainCall}
 use Rattle.lus_classes.specs.ClassesOf.{AreCalls}
 use Rattle.lus_normal_form.specs.NormalForm.{StandsFor}
 use Rattle.lus_normal_form.specs.NormalNodes.{AreSites, IsNormalOf, memories, all_memories, firsts, all_firsts, count_rights, node_memories, node_firsts}
 use Rattle.lus_flat_classes.specs.declared.class.Call.{Call}
 use Rattle.lus_flat_classes.specs.declared.class.Class.{Class}
 use Rattle.lus_flat_classes.specs.View.{call_of, class_of, clock_from}
-use Rattle.lus_syntax.specs.Limits.{most_cells}
-use Rattle.lus_cells.specs.Cells.{AreLeaves, AreStateCells, HaveLeaves, expression_cells, operand_cells, kind_leaves, leaves_given, node_cells}
+use Rattle.lus_cells.specs.Cells.{AreStateCells, HaveLeaves, expression_cells, operand_cells, kind_leaves, leaves_given, node_cells}
 use Rattle.lus_places.specs.Few.{AreFew, KeepTo}
 use Rattle.lus_turns.specs.Turned.{HaveOneLeft}
 use Rattle.lus_code.specs.Made.{AreSmall, AreTurned, NodesKeepTo}

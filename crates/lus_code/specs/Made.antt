@@ -1,6 +1,6 @@
 -- The classes of a program in normal form, as they are made.
 use Rattle.std.specs.Prelude.{◌≡◌, ℕ, ◌+◌, ◌≤◌, List, length, sum_by, Some, slice_get}
-use Rattle.lus_values.specs.Lists.{item, Each}
+use Rattle.lus_values.specs.Lists.{item}
 use Rattle.lus_syntax.specs.Limits.{most_cells, most_declarations, most_parts, most_variables}
 use Rattle.lus_program.specs.Programs.{Program, node_at}
 use Rattle.lus_streams.specs.Clocks.{Part}

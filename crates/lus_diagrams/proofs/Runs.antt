@@ -1,7 +1,6 @@
 -- A run over lines, one line at a time.
-use Rattle.std.proofs.Common.{◌≡◌, ◌+◌, ◌<◌, ◌==◌, ℕ, List, [], ◌∷◌, ap, sym, refl, ◌∙◌, map, length, drop, get_or, arith, false, Result, Err, Some, Bor}
+use Rattle.std.proofs.Common.{◌≡◌, ◌+◌, ◌<◌, ◌==◌, ℕ, List, ◌∷◌, ap, refl, ◌∙◌, map, length, drop, get_or, arith, false, Result, Err, Some, Bor}
 use Rattle.std.specs.Option.{option_map_or}
-use Rattle.std.specs.Prelude.{if◌then◌else◌}
 use Rattle.std.proofs.lemmas.List.{drop_more, length-drop, length-map}
 use Rattle.std.proofs.lemmas.Bool.Decides.{nat_tests}
 use Rattle.lus_diagrams.specs.Texts.{Text}

@@ -1,5 +1,5 @@
 -- The columns of a journal's table: one for each accepted instant, and one for each reset, save and restore between them.
-use Rattle.std.specs.Prelude.{◌==◌, ◌&&◌, ◌+◌, ◌-◌, ◌≤◌, ℕ, List, [], ◌∷◌, ◌++◌, replicate, nat_le, slice_index, slice_set}
+use Rattle.std.specs.Prelude.{◌&&◌, ◌+◌, ◌-◌, ◌≤◌, ℕ, List, [], ◌∷◌, ◌++◌, replicate, nat_le, slice_index, slice_set}
 use Rattle.std.specs.Prelude.{Option, Some, None, if◌then◌else◌, codes}
 use Rattle.std.specs.Fmt.{decimal}
 use Rattle.lus_diagrams.specs.Texts.{Text}

@@ -1,5 +1,5 @@
 -- The words that a picture has of tables: a title and cells from each column.
-use Rattle.std.specs.Prelude.{ℕ, Bool, true, false, List, [], ◌∷◌, flat_map, map, if◌then◌else◌}
+use Rattle.std.specs.Prelude.{Bool, true, false, List, [], ◌∷◌, flat_map, if◌then◌else◌}
 use Rattle.lus_diagrams.specs.Texts.{Text}
 use Rattle.lus_diagrams.specs.Columns.{Column}
 use Rattle.lus_diagrams.specs.ColumnView.{column_seen}

@@ -1,5 +1,5 @@
 -- What a picture is made of, and its text in SVG: each shape is an element that has no others in it, and no text in it is read as markup.
-use Rattle.std.specs.Prelude.{◌==◌, ℕ, List, ◌++◌, flat_map, codes, encode_utf8, if◌then◌else◌}
+use Rattle.std.specs.Prelude.{◌==◌, ℕ, ◌++◌, flat_map, codes, encode_utf8, if◌then◌else◌}
 use Rattle.std.specs.Fmt.{decimal}
 use Rattle.lus_diagrams.specs.Texts.{Text}
 use Rattle.lus_diagrams.specs.declared.shape.Ink.{Ink}

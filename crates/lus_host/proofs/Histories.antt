@@ -1,5 +1,5 @@
 -- What a run over seats tells of journals and callers, in the words of scripts.
-use Rattle.std.proofs.Common.{◌≡◌, ◌∙◌, refl, sym, ap, subst, ℕ, ◌<◌, ◌≤◌, ◌^◌, List, [], ◌∷◌, length, map, get_or, Bool, true, false, not, nat_le, nat_lt, Option, Some, None, is_some, Result, Ok, Err, IfOk, arith}
+use Rattle.std.proofs.Common.{◌≡◌, ◌∙◌, refl, sym, ℕ, ◌<◌, ◌≤◌, ◌^◌, List, [], ◌∷◌, length, map, Bool, true, not, nat_le, nat_lt, Option, Some, None, is_some, Result, Ok, Err, IfOk, arith}
 use Rattle.std.specs.List.{All, AllZip, list_all}
 use Rattle.std.proofs.lemmas.Grind.{common_steps}
 use Rattle.std.proofs.lemmas.List.{get_or-map, length-map}
@@ -18,7 +18,7 @@ use Rattle.lus_requests.specs.declared.call.Caller.{Caller}
 use Rattle.lus_host.specs.Runs.{AreHistories, IsServed}
 use Rattle.lus_scripts.specs.Limits.{most_calls}
 use Rattle.lus_scripts.specs.Scripts.{Scripts, are_on, have_few_calls}
-use Rattle.lus_scripts.specs.View.{calls_kept, instance_kept}
+use Rattle.lus_scripts.specs.View.{instance_kept}
 use Rattle.lus_scripts.specs.declared.scripts.Instance.{Instance}
 use Rattle.lus_scripts.proofs.ReadScripts.{parts}
 

@@ -1,5 +1,5 @@
 -- What a run of scripts is: histories of its instances, in which callers made their calls in order, and the text of the journals.
-use Rattle.std.specs.Prelude.{◌≡◌, ◌↔◌, ◌<◌, ◌≤◌, ℕ, Bool, true, List, [], ◌∷◌, length, map, take, Option}
+use Rattle.std.specs.Prelude.{◌≡◌, ◌↔◌, ◌<◌, ◌≤◌, ℕ, Bool, true, List, [], ◌∷◌, length, take, Option}
 use Rattle.std.specs.List.{AllZip, list_all, sum_by}
 use Rattle.lus_values.specs.Lists.{item}
 use Rattle.lus_program.specs.Programs.{Program}

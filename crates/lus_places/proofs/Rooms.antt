@@ -1,5 +1,5 @@
 -- The extents of nodes keep to what the classes keep to, and can be stored.
-use Rattle.std.proofs.Common.{◌≡◌, ◌∙◌, ℕ, ◌+◌, ◌*◌, ◌^◌, ◌<◌, ◌≤◌, List, [], ◌∷◌, length, max, sum_by, Some, slice_get, Contains, set, take, get_or-set_same, get_or-set_other, ap, sym, subst, arith, ⊎_elim}
+use Rattle.std.proofs.Common.{◌≡◌, ◌∙◌, ℕ, ◌+◌, ◌*◌, ◌<◌, ◌≤◌, List, [], ◌∷◌, length, sum_by, Some, slice_get, Contains, set, take, get_or-set_same, get_or-set_other, ap, sym, arith, ⊎_elim}
 use Rattle.std.proofs.Math.Nat.{max-le, mul-le-mul_right}
 use Rattle.std.proofs.lemmas.Bool.{cases_eq}
 use Rattle.std.proofs.lemmas.List.Sums.{sum_by-cons}
@@ -11,7 +11,7 @@ use Rattle.lus_flat_classes.specs.declared.class.Call.{Call}
 use Rattle.lus_flat_classes.specs.declared.class.Class.{Class}
 use Rattle.lus_flat_classes.specs.declared.class.Extent.{Extent}
 use Rattle.lus_places.specs.Few.{AreAsLong, AreFew, CanBeStored, KeepTo}
-use Rattle.lus_places.specs.Placing.{no_room, together, parts_end, room_with, IsPlaced}
+use Rattle.lus_places.specs.Placing.{no_room, together, parts_end, room_with}
 use Rattle.lus_places.specs.Shaped.{class_uses, nodes_of}
 use Rattle.lus_places.proofs.CallOrders.{next_at}
 use Rattle.lus_places.proofs.Underway.{IsUnderway}

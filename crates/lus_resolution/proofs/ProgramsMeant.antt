@@ -1,5 +1,4 @@
 -- What a well-formed tree means is sound.
-use Rattle.lus_meaning.specs.Sound.{IsSound}
 use Rattle.lus_resolution.specs.Laws.{MeantProgramsAreSound}
 use Rattle.lus_resolution.proofs.CallsNamed.{meant_loopless}
 use Rattle.lus_resolution.proofs.FieldsMeant.{meant_fields}

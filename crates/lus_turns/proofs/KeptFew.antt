@@ -1,6 +1,6 @@
 -- A class that is made of turns keeps no more than its node wants: each variable has one turn at most, and an equation that is
 -- no call one variable.
-use Rattle.std.proofs.Common.{◌≡◌, ◌≢◌, ◌∙◌, ℕ, zero, suc, ◌+◌, ◌<◌, ◌≤◌, Bool, true, false, cond, ◌||◌, nat_eq, nat_lt, List, [], ◌∷◌, ◌++◌, length, length-append, sum_by, Option, Some, None, slice_get, refl, sym, ap, subst, arith, ⊎_elim, eq-eqb}
+use Rattle.std.proofs.Common.{◌≡◌, ◌≢◌, ◌∙◌, ℕ, zero, suc, ◌+◌, ◌<◌, ◌≤◌, Bool, true, false, cond, ◌||◌, nat_eq, nat_lt, List, [], ◌∷◌, length, length-append, sum_by, Option, Some, None, slice_get, refl, sym, ap, subst, arith, ⊎_elim, eq-eqb}
 use Rattle.std.proofs.lemmas.Bool.{cases_eq, cases_lt, eqb-true}
 use Rattle.std.proofs.lemmas.List.{length-map}
 use Rattle.std.proofs.lemmas.List.Sums.{sum_by-append, sum_by-cons}
@@ -19,7 +19,7 @@ use Rattle.lus_flat_classes.specs.declared.class.Class.{Class as StoredClass}
 use Rattle.lus_flat_classes.specs.View.{class_of, clock_from, memory_of}
 use Rattle.lus_translation.specs.Forms.{class_form}
 use Rattle.lus_turns.specs.Turned.{HasOneLeft, HaveOneLeft, KeepsFew}
-use Rattle.lus_turns.proofs.StoredEquations.{numbered_equation, stored_at}
+use Rattle.lus_turns.proofs.StoredEquations.{stored_at}
 
 -- ---- what right sides keep
 

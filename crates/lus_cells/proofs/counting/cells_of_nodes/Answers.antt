@@ -1,4 +1,4 @@
-use Rattle.std.proofs.Common.{◌≡◌, subst}
+use Rattle.std.proofs.Common.{subst}
 use Rattle.lus_program.specs.View.{program_seen}
 use Rattle.lus_cells.specs.Cells.{HaveLeaves}
 use Rattle.lus_cells.proofs.Positive.{held, positive_leaves}

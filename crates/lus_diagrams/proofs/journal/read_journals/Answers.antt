@@ -1,5 +1,5 @@
 -- Each line is one step of the run.
-use Rattle.std.proofs.Common.{rules, arith, ◌≡◌}
+use Rattle.std.proofs.Common.{rules, arith}
 use Rattle.lus_diagrams.specs.JournalView.{reading}
 use Rattle.lus_diagrams.specs.Journals.{journals_of}
 use Rattle.lus_diagrams.proofs.Runs.{first_left, run_step}

@@ -6,7 +6,7 @@ use Rattle.lus_flat_classes.specs.declared.class.Class.{Class}
 use Rattle.lus_places.specs.Shaped.{class_uses, nodes_of}
 use Rattle.lus_places.proofs.Underway.{IsUnderway, underway_step}
 use Rattle.lus_places.proofs.Ready.{all_ready}
-use Rattle.lus_places.proofs.Rooms.{all_as_long, next_here, next_stored, order_short, rooms_first, rooms_next, whole_room, AreRoomsSoFar}
+use Rattle.lus_places.proofs.Rooms.{all_as_long, next_here, next_stored, order_short, rooms_next, whole_room, AreRoomsSoFar}
 use Rattle.lus_places.specs.Few.{CanBeStored}
 use Rattle.lus_places.specs.Placing.{IsPlaced}
 use Rattle.lus_places.proofs.placing.place_in_order.Goals as goal
