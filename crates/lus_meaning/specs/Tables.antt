@@ -1,7 +1,7 @@
 -- The tables of a source: what its declarations give each name, in the order of the text.
 use Rattle.std.specs.Prelude.{◌≡◌, ◌++◌, ℕ, zero, suc, ℤ, pos, negsuc, neg_ℤ, List, [], ◌∷◌, Some, None, map, flat_map, length}
 use Rattle.lus_syntax.specs.Lexemes.{Text}
-use Rattle.lus_syntax.specs.Trees.{Named, TypeName, BoolName, IntName, DeclaredName, Fields, Definition, Alias, Enumeration, StructureOf, Literal, Positive, Negative, TruthValue, ConstructorName, Group, Node, Tree}
+use Rattle.lus_syntax.specs.Trees.{Named, TypeName, BoolName, IntName, DeclaredName, Fields, Definition, Alias, Enumeration, StructureOf, TypeDeclaration, Literal, Positive, Negative, TruthValue, ConstructorName, Constant, Group, Node, Tree}
 use Rattle.lus_values.specs.Lists.{item, Below}
 use Rattle.lus_values.specs.Values.{Value, bool, int, enum, nil}
 use Rattle.lus_program.specs.declared.types.Kind.{Kind}
@@ -64,58 +64,116 @@ pub record AreKinds (p : Tree) (ks : List Kind) : Type 0 where
 abbrev pub kind_named : Tree → TypeName → Kind
 kind_named p y = of_type p kinds.Bool kinds.Int (kind_at p) y
 
-abbrev pub fields_declared : Tree → List Fields → List Field
-fields_declared p fs = flat_map (λ g. map (λ n. record { name = n.text; kind = kind_named p g.type_name }) g.names) fs
-
-abbrev pub declared_as : Tree → Definition → Declared
-declared_as p (Alias y) = alias (kind_named p y)
-declared_as p (Enumeration cs) = enumeration (map text_of cs)
-declared_as p (StructureOf fs) = structure (fields_declared p fs)
+-- the table of declared types, by the types that their declarations declare
+abbrev pub types_by : (ℕ → Kind) → List TypeDeclaration → List (Text × Kind)
+types_by at ds = map (λ e. (e.0.name.text, at e.1)) (numbered_from 0 ds)
 
 -- values: constructors and constants
 
+-- constructors of one type, placed from n on
+abbrev pub constructors_from : ℕ → ℕ → List Named → List (Text × Constructor)
+constructors_from t n cs = map (λ e. (e.0.text, record { enumeration = t; place = e.1 })) (numbered_from n cs)
+
 abbrev pub constructors_of : Definition → ℕ → List (Text × Constructor)
-constructors_of (Enumeration cs) t = map (λ e. (e.0.text, record { enumeration = t; place = e.1 })) (numbered_from 0 cs)
+constructors_of (Enumeration cs) t = constructors_from t 0 cs
 constructors_of d t = []
 
+-- the table of constructors
+abbrev pub constructors_by : List TypeDeclaration → List (Text × Constructor)
+constructors_by ds = flat_map (λ e. constructors_of e.0.definition e.1) (numbered_from 0 ds)
+
 abbrev pub all_constructors : Tree → List (Text × Constructor)
-all_constructors p = flat_map (λ e. constructors_of e.0.definition e.1) (numbered_from 0 p.types)
+all_constructors p = constructors_by p.types
 
 -- a number after a minus; no token is a number below 0
 abbrev pub minus : ℤ → ℤ
 minus (pos n) = neg_ℤ (pos n)
 minus (negsuc n) = negsuc n
 
-abbrev pub literal_value : Tree → Literal → Value
-literal_value p (Positive z s) = int z
-literal_value p (Negative m z s) = int (minus z)
-literal_value p (TruthValue b s) = bool b
-literal_value p (ConstructorName c) = elim (entry (all_constructors p) c.text) [ Some k ↦ enum k.enumeration k.place | None ↦ nil ]
+-- the value of a constant's right side; nil for an unknown constructor
+abbrev pub value_in : List (Text × Constructor) → Literal → Value
+value_in constructors (Positive z s) = int z
+value_in constructors (Negative m z s) = int (minus z)
+value_in constructors (TruthValue b s) = bool b
+value_in constructors (ConstructorName c) = elim (entry constructors c.text) [ Some k ↦ enum k.enumeration k.place | None ↦ nil ]
 
--- nodes and their variables
+abbrev pub literal_value : Tree → Literal → Value
+literal_value p = value_in (all_constructors p)
+
+-- the table of constants
+abbrev pub constants_by : List (Text × Constructor) → List Constant → List (Text × Value)
+constants_by constructors cs = map (λ c. (c.name.text, value_in constructors c.value)) cs
+
+-- declarations: fields, variables and nodes
+
+-- fields of one type
+abbrev pub fields_of_kind : List Named → Kind → List Field
+fields_of_kind ns k = map (λ n. record { name = n.text; kind = k }) ns
+
+-- variables, placed from n on
+abbrev pub placed_from : ℕ → List (Text × Kind) → List (Text × Placed)
+placed_from n xs = map (λ e. (e.0.0, record { place = e.1; kind = e.0.1 })) (numbered_from n xs)
+
+abbrev pub placed : List (Text × Kind) → List (Text × Placed)
+placed = placed_from 0
 
 -- the declarations of a node's variables: inputs, outputs, locals
 abbrev pub groups : Node → List Group
 groups f = f.inputs ++ (f.outputs ++ f.locals)
 
-abbrev pub group_kinds : Tree → List Group → List (Text × Kind)
-group_kinds p gs = flat_map (λ g. each_of g.names (kind_named p g.type_name)) gs
+-- by the type that each type's name means
+module _ (kind : TypeName → Kind) where
+  abbrev pub fields_by : List Fields → List Field
+  fields_by fs = flat_map (λ g. fields_of_kind g.names (kind g.type_name)) fs
 
-abbrev pub placed : List (Text × Kind) → List (Text × Placed)
-placed xs = map (λ e. (e.0.0, record { place = e.1; kind = e.0.1 })) (numbered_from 0 xs)
+  abbrev pub declared_by : Definition → Declared
+  declared_by (Alias y) = alias (kind y)
+  declared_by (Enumeration cs) = enumeration (map text_of cs)
+  declared_by (StructureOf fs) = structure (fields_by fs)
+
+  -- what type declarations declare, one by one
+  abbrev pub all_declared_by : List TypeDeclaration → List Declared
+  all_declared_by ds = map (λ d. declared_by d.definition) ds
+
+  -- variables with their types
+  abbrev pub kinds_by : List Group → List (Text × Kind)
+  kinds_by gs = flat_map (λ g. each_of g.names (kind g.type_name)) gs
+
+  abbrev pub signature_by : Node → ℕ → Signature
+  signature_by f n = record {
+    place = n;
+    kind = f.kind;
+    inputs = map (λ e. e.1) (kinds_by f.inputs);
+    outputs = map (λ e. e.1) (kinds_by f.outputs);
+  }
+
+  -- the table of nodes
+  abbrev pub signatures_by : List Node → List (Text × Signature)
+  signatures_by fs = map (λ e. (e.0.name.text, signature_by e.0 e.1)) (numbered_from 0 fs)
+
+-- by the types of the source
+
+abbrev pub fields_declared : Tree → List Fields → List Field
+fields_declared p = fields_by (kind_named p)
+
+abbrev pub declared_as : Tree → Definition → Declared
+declared_as p = declared_by (kind_named p)
+
+abbrev pub group_kinds : Tree → List Group → List (Text × Kind)
+group_kinds p = kinds_by (kind_named p)
 
 abbrev pub signature : Tree → Node → ℕ → Signature
-signature p f n = record { place = n; kind = f.kind; inputs = map (λ e. e.1) (group_kinds p f.inputs); outputs = map (λ e. e.1) (group_kinds p f.outputs) }
+signature p = signature_by (kind_named p)
 
 -- what the names of a source stand for, its nodes' variables aside
 abbrev pub tables : Tree → Scope
 tables p = record {
   variables = [];
-  constants = map (λ c. (c.name.text, literal_value p c.value)) p.constants;
+  constants = constants_by (all_constructors p) p.constants;
   constructors = all_constructors p;
-  types = map (λ e. (e.0.name.text, kind_at p e.1)) (numbered_from 0 p.types);
-  declared = map (λ d. declared_as p d.definition) p.types;
-  nodes = map (λ e. (e.0.name.text, signature p e.0 e.1)) (numbered_from 0 p.nodes);
+  types = types_by (kind_at p) p.types;
+  declared = all_declared_by (kind_named p) p.types;
+  nodes = signatures_by (kind_named p) p.nodes;
 }
 
 -- what the names in a node's text stand for

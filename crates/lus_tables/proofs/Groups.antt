@@ -10,8 +10,8 @@ use Rattle.lus_meaning.specs.declared.entries.Placed.{Placed}
 use Rattle.lus_meaning.specs.Named.{Distinct, all_new, names_in}
 use Rattle.lus_meaning.specs.ScopeView.{entries_of}
 use Rattle.lus_meaning.specs.Sized.{variable_count}
-use Rattle.lus_meaning.specs.Tables.{each_of, placed, text_of}
-use Rattle.lus_tables.specs.ByTable.{kinds_by, names, placed_from}
+use Rattle.lus_meaning.specs.Tables.{each_of, kinds_by, placed, placed_from, text_of}
+use Rattle.lus_tables.specs.ByTable.{names}
 use Rattle.lus_tables.proofs.Appending.{front_new, new_after}
 use Rattle.lus_tables.proofs.Placing.{length_after, names-each_of, names-placed_from, placed_after}
 

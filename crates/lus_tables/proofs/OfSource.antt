@@ -6,19 +6,18 @@ use Rattle.std.proofs.lemmas.Bool.{le-leb}
 use Rattle.std.proofs.lemmas.List.{length-map}
 use Rattle.std.proofs.lemmas.List.Concat.{length-flat_map}
 use Rattle.lus_syntax.specs.Lexemes.{Text}
-use Rattle.lus_syntax.specs.Trees.{TypeName, BoolName, IntName, DeclaredName, Fields, Definition, Alias, Enumeration, StructureOf, TypeDeclaration, Node, Literal, Positive, Negative, TruthValue, ConstructorName, Tree}
+use Rattle.lus_syntax.specs.Trees.{TypeName, BoolName, IntName, DeclaredName, Fields, Definition, Alias, Enumeration, StructureOf, TypeDeclaration, Node, Tree}
 use Rattle.lus_values.specs.Lists.{Below, Each, item}
 use Rattle.lus_values.proofs.Lists.{below_at}
-use Rattle.lus_values.specs.Values.{Value}
 use Rattle.lus_program.specs.declared.types.Kind.{Kind}
 use Rattle.lus_program.specs.declared.types.Kind.TheVariants as kinds
-use Rattle.lus_program.specs.Programs.{Declared, Field}
+use Rattle.lus_program.specs.Programs.{Field}
 use Rattle.lus_meaning.specs.declared.entries.Placed.{Placed}
 use Rattle.lus_meaning.specs.Scopes.{Scope, entry}
 use Rattle.lus_meaning.specs.Sized.{DefinitionCounted, field_count}
-use Rattle.lus_meaning.specs.Tables.{AreKinds, all_constructors, declared_as, kind_at, group_kinds, groups, kind_named, literal_value, numbered_from, placed, scope, tables, type_places}
+use Rattle.lus_meaning.specs.Tables.{AreKinds, all_constructors, all_declared_by, constants_by, declared_by, fields_by, fields_of_kind, group_kinds, groups, kind_at, kind_named, kinds_by, numbered_from, placed, scope, signatures_by, tables, type_places, types_by}
 use Rattle.lus_meaning.specs.Types.{has_few_fields}
-use Rattle.lus_tables.specs.ByTable.{declared_by, fields_by, fields_of_kind, kind_in, kinds_by, signature_by, value_in}
+use Rattle.lus_tables.specs.ByTable.{kind_in}
 
 -- ---- types
 
@@ -57,37 +56,24 @@ rows_agree f g (d ∷ ds) n m within same =
     ap (λ x. (d.name.text, x) ∷ map (row_with f) (numbered_from (suc n) ds)) (below_at (λ t. f t ≡ g t) m same n (omega arith))
     ∙ ap (λ l. (d.name.text, g n) ∷ l) (rows_agree f g ds (suc n) m (omega arith) same)
 
--- ---- declarations
-
-declared_by-named : (p : Tree) (d : Definition) → declared_by (kind_named p) d ≡ declared_as p d
-declared_by-named p (Alias y) = refl
-declared_by-named p (Enumeration cs) = refl
-declared_by-named p (StructureOf fs) = refl
-
--- the values of the table are those of the literals
-pub value_in-all : (p : Tree) (l : Literal) → value_in (all_constructors p) l ≡ literal_value p l
-value_in-all p (Positive z s) = refl
-value_in-all p (Negative m z s) = refl
-value_in-all p (TruthValue b s) = refl
-value_in-all p (ConstructorName c) = refl
+-- ---- tables
 
 -- what each table is made of
 pub record IsMade (p : Tree) (ks : List Kind) (s : Scope) : Type 0 where
   pub variables : s.variables ≡ []
-  pub types : s.types ≡ map (λ e. (e.0.name.text, item kinds.Bool ks e.1)) (numbered_from 0 p.types)
-  pub declared : s.declared ≡ map (λ d. declared_by (kind_in s.types) d.definition) p.types
+  pub types : s.types ≡ types_by (item kinds.Bool ks) p.types
+  pub declared : s.declared ≡ all_declared_by (kind_in s.types) p.types
   pub constructors : s.constructors ≡ all_constructors p
-  pub constants : s.constants ≡ map (λ c. (c.name.text, value_in s.constructors c.value)) p.constants
-  pub nodes : s.nodes ≡ map (λ e. (e.0.name.text, signature_by (kind_in s.types) e.0 e.1)) (numbered_from 0 p.nodes)
+  pub constants : s.constants ≡ constants_by s.constructors p.constants
+  pub nodes : s.nodes ≡ signatures_by (kind_in s.types) p.nodes
 
 pub made_of_source : (p : Tree) (ks : List Kind) (s : Scope) → AreKinds p ks → IsMade p ks s → s ≡ tables p
 made_of_source p ks s are made =
     let types : s.types ≡ (tables p).types = made.types ∙ rows_agree (item kinds.Bool ks) (kind_at p) p.types 0 (length p.types) (omega arith) are.each in
     let kind : kind_in s.types ≡ kind_named p = ap kind_in types ∙ kind_in-tables p in
-    let declared : s.declared ≡ (tables p).declared = made.declared ∙ ap (λ k. map (λ d. declared_by k d.definition) p.types) kind ∙ ap (λ (f : Definition → Declared). map (λ d. f d.definition) p.types) (λ i d. declared_by-named p d i) in
-    let value : value_in s.constructors ≡ literal_value p = ap value_in made.constructors ∙ (λ i l. value_in-all p l i) in
-    let constants : s.constants ≡ (tables p).constants = made.constants ∙ ap (λ (f : Literal → Value). map (λ c. (c.name.text, f c.value)) p.constants) value in
-    let nodes : s.nodes ≡ (tables p).nodes = made.nodes ∙ ap (λ k. map (λ e. (e.0.name.text, signature_by k e.0 e.1)) (numbered_from 0 p.nodes)) kind in
+    let declared : s.declared ≡ (tables p).declared = made.declared ∙ ap (λ k. all_declared_by k p.types) kind in
+    let constants : s.constants ≡ (tables p).constants = made.constants ∙ ap (λ cs. constants_by cs p.constants) made.constructors in
+    let nodes : s.nodes ≡ (tables p).nodes = made.nodes ∙ ap (λ k. signatures_by k p.nodes) kind in
     λ i. record { variables = made.variables i; constants = constants i; constructors = made.constructors i; types = types i; declared = declared i; nodes = nodes i }
 
 -- ---- few fields
@@ -105,7 +91,7 @@ module _ (kind : TypeName → Kind) where
   and_is true b p q = q
   and_is false b p q = p
 
-  pub all_have_few : (ds : List TypeDeclaration) → Each (λ d. DefinitionCounted d.definition) ds → IsTrue (list_all has_few_fields (map (λ d. declared_by kind d.definition) ds))
+  pub all_have_few : (ds : List TypeDeclaration) → Each (λ d. DefinitionCounted d.definition) ds → IsTrue (list_all has_few_fields (all_declared_by kind ds))
   all_have_few [] each = refl
   all_have_few (d ∷ ds) each = and_is (has_few_fields (declared_by kind d.definition)) _ (has_few d.definition each.0) (all_have_few ds each.1)
 

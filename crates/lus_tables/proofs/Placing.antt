@@ -7,8 +7,8 @@ use Rattle.lus_meaning.specs.declared.entries.Placed.{Placed}
 use Rattle.lus_meaning.specs.Named.{constructor_names}
 use Rattle.lus_meaning.specs.ScopeView.{entries_of}
 use Rattle.lus_meaning.proofs.Steps.{drop_step}
-use Rattle.lus_meaning.specs.Tables.{constructors_of, each_of, numbered_from, text_of}
-use Rattle.lus_tables.specs.ByTable.{constructors_from, names, placed_from}
+use Rattle.lus_meaning.specs.Tables.{constructors_from, constructors_of, each_of, numbered_from, placed_from, text_of}
+use Rattle.lus_tables.specs.ByTable.{names}
 
 -- the names of tables
 

@@ -5,8 +5,8 @@ ghost use Rattle.lus_syntax.specs.Limits.{most_declarations};
 ghost use Rattle.lus_syntax.specs.View.{group_seen, names_seen, node_seen};
 ghost use Rattle.lus_meaning.specs.Named.{Distinct};
 ghost use Rattle.lus_meaning.specs.ScopeView.{entries_of, signature_of};
-ghost use Rattle.lus_meaning.specs.Tables.{each_of};
-ghost use Rattle.lus_tables.specs.ByTable.{kind_told, kinds_by, signature_by, signatures_by};
+ghost use Rattle.lus_meaning.specs.Tables.{each_of, kinds_by, signature_by, signatures_by};
+ghost use Rattle.lus_tables.specs.ByTable.{kind_told};
 
 use crate::table::declare;
 use crate::types::kind_of_name;

@@ -9,8 +9,8 @@ ghost use Rattle.lus_syntax.specs.Trees.{Tree as PlainTree};
 ghost use Rattle.lus_meaning.specs.Named.{Distinct, Named, names_in};
 ghost use Rattle.lus_meaning.specs.ScopeView.{entries_of, scope_of, signature_of};
 ghost use Rattle.lus_meaning.specs.Sized.{Counted, variable_count};
-ghost use Rattle.lus_meaning.specs.Tables.{AreKinds, groups, placed, scope as scope_in, tables as tables_of};
-ghost use Rattle.lus_tables.specs.ByTable.{all_declared_by, constants_by, constructors_by, HasTables, kind_told, kinds_by, signatures_by, told};
+ghost use Rattle.lus_meaning.specs.Tables.{all_declared_by, AreKinds, constants_by, constructors_by, groups, kinds_by, placed, scope as scope_in, signatures_by, tables as tables_of};
+ghost use Rattle.lus_tables.specs.ByTable.{HasTables, kind_told, told};
 
 use crate::nodes::nodes;
 use crate::types::{declared, types};

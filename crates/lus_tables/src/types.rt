@@ -2,10 +2,12 @@
 
 ghost use Rattle.std.specs.Prelude.{◌≡◌, ◌++◌, IfOk, OnOk, length, map, string_bytes};
 ghost use Rattle.lus_syntax.specs.View.{definition_seen, fields_seen, names_seen, type_name_seen, type_seen};
+ghost use Rattle.lus_values.specs.Lists.{item};
+ghost use Rattle.lus_program.specs.declared.types.Kind.TheVariants.{Bool as BoolKind};
 ghost use Rattle.lus_program.specs.View.{declared_of, field_of};
 ghost use Rattle.lus_meaning.specs.Named.{Distinct};
-ghost use Rattle.lus_meaning.specs.Tables.{text_of};
-ghost use Rattle.lus_tables.specs.ByTable.{all_declared_by, declared_by, fields_by, fields_of_kind, kind_told, told, types_by};
+ghost use Rattle.lus_meaning.specs.Tables.{all_declared_by, declared_by, fields_by, fields_of_kind, text_of, types_by};
+ghost use Rattle.lus_tables.specs.ByTable.{kind_told, told};
 
 use crate::table::{declare, find};
 use indexmap::IndexMap;
@@ -36,7 +38,7 @@ pub fn types(
 ) -> Result<IndexMap<String, Kind>, Memory>
     requires alike { length kinds.now ≡ length declarations.now }
     requires distinct { Distinct (map (λ d. d.name.text) (map type_seen declarations.now)) }
-    ensures { IfOk result (λ table. told table.entries ≡ types_by kinds.now (map type_seen declarations.now)) }
+    ensures { IfOk result (λ table. told table.entries ≡ types_by (item BoolKind kinds.now) (map type_seen declarations.now)) }
 {
     let mut table = IndexMap::new(alloc);
     for (place, declaration) in declarations.iter().enumerate() {

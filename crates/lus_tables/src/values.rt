@@ -8,8 +8,8 @@ ghost use Rattle.lus_values.specs.View.{value_of};
 ghost use Rattle.lus_meaning.specs.Named.{Distinct, all_constructor_names, all_new, constructor_names};
 ghost use Rattle.lus_meaning.specs.ScopeView.{entries_of};
 ghost use Rattle.lus_meaning.specs.Sized.{DefinitionCounted};
-ghost use Rattle.lus_meaning.specs.Tables.{constructors_of, minus, text_of};
-ghost use Rattle.lus_tables.specs.ByTable.{constants_by, constructors_by, constructors_from, Gains, names as names_in, told, value_in};
+ghost use Rattle.lus_meaning.specs.Tables.{constants_by, constructors_by, constructors_from, constructors_of, minus, text_of, value_in};
+ghost use Rattle.lus_tables.specs.ByTable.{Gains, names as names_in, told};
 
 use crate::table::{declare, find};
 use indexmap::IndexMap;

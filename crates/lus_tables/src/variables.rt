@@ -5,8 +5,8 @@ ghost use Rattle.lus_syntax.specs.Limits.{most_variables};
 ghost use Rattle.lus_syntax.specs.View.{group_seen, names_seen};
 ghost use Rattle.lus_meaning.specs.Named.{all_new, names_in as names_of_groups};
 ghost use Rattle.lus_meaning.specs.Sized.{variable_count};
-ghost use Rattle.lus_meaning.specs.Tables.{each_of, text_of};
-ghost use Rattle.lus_tables.specs.ByTable.{Gains, kind_told, kinds_by, names as names_in, placed_from, told};
+ghost use Rattle.lus_meaning.specs.Tables.{each_of, kinds_by, placed_from, text_of};
+ghost use Rattle.lus_tables.specs.ByTable.{Gains, kind_told, names as names_in, told};
 
 use crate::table::declare;
 use crate::types::kind_of_name;

@@ -1,7 +1,8 @@
 use Rattle.std.proofs.Common.{◌≡◌, map, take}
 use Rattle.lus_syntax.specs.View.{group_seen}
 use Rattle.lus_meaning.specs.ScopeView.{entries_of}
-use Rattle.lus_tables.specs.ByTable.{kind_in, kinds_by}
+use Rattle.lus_meaning.specs.Tables.{kinds_by}
+use Rattle.lus_tables.specs.ByTable.{kind_in}
 use Rattle.lus_tables.proofs.nodes.kinds_of.Given as goal
 
 abbrev pub invariant-loop-group : goal.invariant-loop-group

@@ -7,9 +7,9 @@ use Rattle.lus_syntax.specs.Lexemes.{Text}
 use Rattle.lus_meaning.specs.Scopes.{Signature}
 use Rattle.lus_meaning.specs.Named.{all_new}
 use Rattle.lus_meaning.specs.ScopeView.{entries_of, signature_of}
-use Rattle.lus_meaning.specs.Tables.{numbered_from}
+use Rattle.lus_meaning.specs.Tables.{numbered_from, signature_by}
 use Rattle.lus_meaning.proofs.Steps.{drop_step}
-use Rattle.lus_tables.specs.ByTable.{kind_in, names, signature_by}
+use Rattle.lus_tables.specs.ByTable.{kind_in, names}
 use Rattle.lus_tables.proofs.Appending.{new_after, rows_after, seen_after}
 use Rattle.lus_tables.proofs.Placing.{numbered_step}
 use Rattle.lus_tables.proofs.nodes.nodes.Goals as goal

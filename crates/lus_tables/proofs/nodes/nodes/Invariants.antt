@@ -1,9 +1,9 @@
 use Rattle.std.proofs.Common.{◌≡◌, ◌++◌, map, drop, true}
 use Rattle.lus_syntax.specs.View.{node_seen}
-use Rattle.lus_meaning.specs.Tables.{numbered_from}
+use Rattle.lus_meaning.specs.Tables.{numbered_from, signature_by}
 use Rattle.lus_meaning.specs.ScopeView.{entries_of, signature_of}
 use Rattle.lus_meaning.specs.Named.{all_new}
-use Rattle.lus_tables.specs.ByTable.{kind_in, names, signature_by}
+use Rattle.lus_tables.specs.ByTable.{kind_in, names}
 use Rattle.lus_tables.proofs.nodes.nodes.Given as goal
 
 abbrev pub invariant-loop-place : goal.invariant-loop-place

@@ -5,8 +5,8 @@ use Rattle.lus_syntax.specs.Lexemes.{Text}
 use Rattle.lus_syntax.specs.View.{node_seen, type_seen}
 use Rattle.lus_meaning.specs.Scopes.{Signature}
 use Rattle.lus_meaning.specs.ScopeView.{entries_of}
-use Rattle.lus_meaning.specs.Tables.{numbered_from}
-use Rattle.lus_tables.specs.ByTable.{declared_by, kind_in, signature_by}
+use Rattle.lus_meaning.specs.Tables.{declared_by, numbered_from, signature_by}
+use Rattle.lus_tables.specs.ByTable.{kind_in}
 use Rattle.lus_tables.proofs.scopes.declarations.Goals as goal
 
 pub returns-clause-declared : goal.returns-clause-declared

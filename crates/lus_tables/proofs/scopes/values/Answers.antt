@@ -6,8 +6,7 @@ use Rattle.lus_syntax.specs.View.{constant_seen, tree_seen, type_seen}
 use Rattle.lus_values.specs.Values.{Value}
 use Rattle.lus_meaning.specs.Named.{known}
 use Rattle.lus_meaning.specs.ScopeView.{entries_of}
-use Rattle.lus_meaning.specs.Tables.{constructors_of, numbered_from}
-use Rattle.lus_tables.specs.ByTable.{value_in}
+use Rattle.lus_meaning.specs.Tables.{constructors_of, numbered_from, value_in}
 use Rattle.lus_tables.proofs.Appending.{back_new, front_new, new_to_fewer}
 use Rattle.lus_tables.proofs.scopes.values.Goals as goal
 

@@ -5,8 +5,8 @@ use Rattle.lus_program.specs.declared.types.Kind.{Kind}
 use Rattle.lus_meaning.specs.declared.entries.Placed.{Placed}
 use Rattle.lus_meaning.specs.Named.{Distinct, names_in}
 use Rattle.lus_meaning.specs.Sized.{variable_count}
-use Rattle.lus_meaning.specs.Tables.{groups}
-use Rattle.lus_tables.specs.ByTable.{Gains, kind_told, kinds_by, placed_from}
+use Rattle.lus_meaning.specs.Tables.{groups, kinds_by, placed_from}
+use Rattle.lus_tables.specs.ByTable.{Gains, kind_told}
 use Rattle.lus_tables.proofs.Groups.{HasRoom, room_after, room_at_first, room_in_front, three_placed}
 use Rattle.lus_tables.proofs.scopes.variables.Goals as goal
 

@@ -1,7 +1,8 @@
 use Rattle.std.proofs.Common.{◌≡◌, map, take}
 use Rattle.lus_syntax.specs.View.{type_seen}
 use Rattle.lus_meaning.specs.ScopeView.{entries_of}
-use Rattle.lus_tables.specs.ByTable.{declared_by, kind_in}
+use Rattle.lus_meaning.specs.Tables.{declared_by}
+use Rattle.lus_tables.specs.ByTable.{kind_in}
 use Rattle.lus_program.specs.View.{declared_of}
 use Rattle.lus_tables.proofs.types.declared.Given as goal
 

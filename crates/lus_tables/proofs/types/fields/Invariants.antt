@@ -1,7 +1,8 @@
 use Rattle.std.proofs.Common.{◌≡◌, map, take}
 use Rattle.lus_syntax.specs.View.{fields_seen}
 use Rattle.lus_meaning.specs.ScopeView.{entries_of}
-use Rattle.lus_tables.specs.ByTable.{fields_by, kind_in}
+use Rattle.lus_meaning.specs.Tables.{fields_by}
+use Rattle.lus_tables.specs.ByTable.{kind_in}
 use Rattle.lus_program.specs.View.{field_of}
 use Rattle.lus_tables.proofs.types.fields.Given as goal
 

@@ -1,6 +1,6 @@
 use Rattle.std.proofs.Common.{◌≡◌, ◌++◌, map, take}
 use Rattle.lus_syntax.specs.View.{names_seen}
-use Rattle.lus_tables.specs.ByTable.{fields_of_kind}
+use Rattle.lus_meaning.specs.Tables.{fields_of_kind}
 use Rattle.lus_program.specs.View.{field_of}
 use Rattle.lus_tables.proofs.types.push_fields.Given as goal
 

@@ -9,7 +9,8 @@ use Rattle.lus_values.specs.Values.{Value}
 use Rattle.lus_meaning.specs.Named.{all_new}
 use Rattle.lus_meaning.specs.ScopeView.{entries_of}
 use Rattle.lus_meaning.proofs.Steps.{drop_step}
-use Rattle.lus_tables.specs.ByTable.{names, value_in}
+use Rattle.lus_meaning.specs.Tables.{value_in}
+use Rattle.lus_tables.specs.ByTable.{names}
 use Rattle.lus_tables.proofs.Appending.{new_after, rows_after, seen_after}
 use Rattle.lus_tables.proofs.values.constants.Goals as goal
 

@@ -2,7 +2,8 @@ use Rattle.std.proofs.Common.{◌≡◌, ◌++◌, map, drop, true}
 use Rattle.lus_syntax.specs.View.{constant_seen}
 use Rattle.lus_meaning.specs.ScopeView.{entries_of}
 use Rattle.lus_meaning.specs.Named.{all_new}
-use Rattle.lus_tables.specs.ByTable.{names, value_in}
+use Rattle.lus_meaning.specs.Tables.{value_in}
+use Rattle.lus_tables.specs.ByTable.{names}
 use Rattle.lus_values.specs.View.{value_of}
 use Rattle.lus_tables.proofs.values.constants.Given as goal
 

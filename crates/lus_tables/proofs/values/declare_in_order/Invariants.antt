@@ -1,9 +1,9 @@
 use Rattle.std.proofs.Common.{◌≡◌, ◌++◌, map, drop, true}
 use Rattle.lus_syntax.specs.View.{names_seen}
-use Rattle.lus_meaning.specs.Tables.{text_of}
+use Rattle.lus_meaning.specs.Tables.{constructors_from, text_of}
 use Rattle.lus_meaning.specs.ScopeView.{entries_of}
 use Rattle.lus_meaning.specs.Named.{all_new}
-use Rattle.lus_tables.specs.ByTable.{constructors_from, names}
+use Rattle.lus_tables.specs.ByTable.{names}
 use Rattle.lus_tables.proofs.values.declare_in_order.Given as goal
 
 abbrev pub invariant-loop-number : goal.invariant-loop-number

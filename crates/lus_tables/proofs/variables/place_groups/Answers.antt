@@ -6,9 +6,9 @@ use Rattle.lus_syntax.specs.View.{group_seen, names_seen, type_name_seen}
 use Rattle.lus_meaning.specs.Named.{all_new, names_in}
 use Rattle.lus_meaning.specs.ScopeView.{entries_of}
 use Rattle.lus_meaning.specs.Sized.{variable_count}
-use Rattle.lus_meaning.specs.Tables.{each_of, text_of}
+use Rattle.lus_meaning.specs.Tables.{each_of, kinds_by, placed_from, text_of}
 use Rattle.lus_meaning.proofs.Steps.{drop_step}
-use Rattle.lus_tables.specs.ByTable.{kind_in, kinds_by, names, placed_from}
+use Rattle.lus_tables.specs.ByTable.{kind_in, names}
 use Rattle.lus_tables.proofs.Appending.{front_new, new_after}
 use Rattle.lus_tables.proofs.Placing.{length_after, names-each_of, names-placed_from, placed_after}
 use Rattle.lus_tables.proofs.Groups.{variable_count-cons}

@@ -2,7 +2,8 @@ use Rattle.std.proofs.Common.{◌≡◌, ◌++◌, ◌+◌, ◌≤◌, map, drop
 use Rattle.lus_syntax.specs.View.{group_seen}
 use Rattle.lus_meaning.specs.ScopeView.{entries_of}
 use Rattle.lus_meaning.specs.Named.{all_new, names_in}
-use Rattle.lus_tables.specs.ByTable.{kind_in, kinds_by, names, placed_from}
+use Rattle.lus_meaning.specs.Tables.{kinds_by, placed_from}
+use Rattle.lus_tables.specs.ByTable.{kind_in, names}
 use Rattle.lus_meaning.specs.Sized.{variable_count}
 use Rattle.lus_tables.proofs.variables.place_groups.Given as goal
 

@@ -1,9 +1,9 @@
 use Rattle.std.proofs.Common.{◌≡◌, ◌++◌, ◌+◌, map, drop, length, true}
 use Rattle.lus_syntax.specs.View.{names_seen}
-use Rattle.lus_meaning.specs.Tables.{each_of, text_of}
+use Rattle.lus_meaning.specs.Tables.{each_of, placed_from, text_of}
 use Rattle.lus_meaning.specs.ScopeView.{entries_of}
 use Rattle.lus_meaning.specs.Named.{all_new}
-use Rattle.lus_tables.specs.ByTable.{names, placed_from}
+use Rattle.lus_tables.specs.ByTable.{names}
 use Rattle.lus_tables.proofs.variables.place_names.Given as goal
 
 abbrev pub invariant-loop-name : goal.invariant-loop-name
