@@ -7,8 +7,7 @@ ghost use Rattle.lus_syntax.specs.Limits.{most_declarations};
 ghost use Rattle.lus_syntax.specs.View.{tree_seen};
 ghost use Rattle.lus_meaning.specs.Loopless.{node_names, node_uses as calls_of_nodes};
 ghost use Rattle.lus_meaning.specs.ScopeView.{Faulty};
-ghost use Rattle.lus_meaning.specs.Sized.{greatest};
-ghost use Rattle.lus_limits.specs.Limits.{CallsBounded};
+ghost use Rattle.lus_meaning.specs.Sized.{CallsBounded, greatest};
 
 use crate::uses::node_uses;
 use indexmap::IndexSet;

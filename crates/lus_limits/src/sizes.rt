@@ -7,8 +7,8 @@ ghost use Rattle.lus_syntax.specs.Limits.{most_declarations, most_leaves, most_n
 ghost use Rattle.lus_syntax.specs.View.{definition_seen, fields_seen, tree_seen};
 ghost use Rattle.lus_meaning.specs.Loopless.{node_names, node_uses as calls_of_nodes, type_names, type_uses as uses_of_types};
 ghost use Rattle.lus_meaning.specs.ScopeView.{Faulty};
-ghost use Rattle.lus_meaning.specs.Sized.{Bounded, greatest};
-ghost use Rattle.lus_limits.specs.Limits.{IsLimited, TypesBounded};
+ghost use Rattle.lus_meaning.specs.Sized.{Bounded, greatest, TypesBounded};
+ghost use Rattle.lus_limits.specs.Limits.{IsLimited};
 ghost use Rattle.lus_limits.specs.ByNames.{group_leaves, group_nesting, leaves_of as leaves_by_names, nesting_of as nesting_by_names};
 
 use crate::calls::check_calls;

@@ -56,7 +56,15 @@ nesting_at p = within (length p.types) 0 (λ at t. definition_nesting p at (defi
 abbrev pub call_depth_at : Tree → ℕ → ℕ
 call_depth_at p = within (length p.nodes) 0 (λ at f. suc (greatest at (used (node_uses p) f)))
 
-pub record Bounded (p : Tree) : Type 0 where
+-- no type has too many leaves, or structures too deep in it
+pub record TypesBounded (p : Tree) : Type 0 where
   pub leaves : Below (length p.types) (λ t. leaves_at p t ≤ most_leaves)
   pub nesting : Below (length p.types) (λ t. nesting_at p t ≤ most_nesting)
-  pub calls : Below (length p.nodes) (λ f. call_depth_at p f ≤ most_calls_deep)
+
+-- no node's calls go too deep
+abbrev pub CallsBounded : Tree → Type 0
+CallsBounded p = Below (length p.nodes) (λ f. call_depth_at p f ≤ most_calls_deep)
+
+pub record Bounded (p : Tree) : Type 0 where
+  pub types : TypesBounded p
+  pub calls : CallsBounded p
