@@ -134,7 +134,9 @@ module _ (p : Program) (f : Node) where
 module _ (f : Node) where
   -- an input is tested by an input, an output by an input or an output
   abbrev pub may_test : ℕ → ℕ → Bool
-  may_test x y = (not (nat_lt x f.inputs) || nat_lt y f.inputs) && (not (nat_lt x (f.inputs + f.outputs)) || nat_lt y (f.inputs + f.outputs))
+  may_test x y =
+      (not (nat_lt x f.inputs) || nat_lt y f.inputs)
+      && (not (nat_lt x (f.inputs + f.outputs)) || nat_lt y (f.inputs + f.outputs))
 
   -- the clock of x has one test more than that of its test's variable
   abbrev pub is_declared : ℕ → Option Test → Bool

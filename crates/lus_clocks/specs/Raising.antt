@@ -60,7 +60,9 @@ none_raised (b ∷ bs) = not b && none_raised bs
 
 -- what else is required of flags that meet the equations: 0 of inputs, outputs, tested variables, and in the text
 abbrev pub all_required : Node → List StoredEquation → List Bool → Bool
-all_required f qs bs = none_raised (take (f.inputs + f.outputs) bs) && (tests_meet (flags_in bs) f.variables && rights_meet (flags_in bs) qs)
+all_required f qs bs =
+    none_raised (take (f.inputs + f.outputs) bs)
+    && (tests_meet (flags_in bs) f.variables && rights_meet (flags_in bs) qs)
 
 -- so many flags, all false
 pub record AreFalse (n : ℕ) (bs : List Bool) : Type 0 where
@@ -77,11 +79,15 @@ pub record IsNext (qs : List StoredEquation) (bs next : List Bool) : Type 0 wher
   pub size : length next ≡ length bs
   pub given : (x : ℕ) → x < length bs → flags_in next x ≡ raised (flags_in bs) qs x
 
+-- each variable has at least the flag that its equation gives it
+abbrev pub AreAtLeast : Node → List StoredEquation → (ℕ → Bool) → Type 0
+AreAtLeast f qs flags = (x : ℕ) → x < length f.variables → raised flags qs x ≡ true → flags x ≡ true
+
 -- of these flags, each is its equation's, and any others that are at least their equations' are at least these
 pub record AreLeast (f : Node) (qs : List StoredEquation) (bs : List Bool) : Type 0 where
   pub size : length bs ≡ length f.variables
   pub fixed : (x : ℕ) → x < length bs → flags_in bs x ≡ raised (flags_in bs) qs x
-  pub least : (flags : ℕ → Bool) → ((x : ℕ) → x < length f.variables → raised flags qs x ≡ true → flags x ≡ true) → (x : ℕ) → flags_in bs x ≡ true → flags x ≡ true
+  pub least : (flags : ℕ → Bool) → AreAtLeast f qs flags → (x : ℕ) → flags_in bs x ≡ true → flags x ≡ true
 
 -- some flags meet all that is required of a node
 abbrev pub HasFlags : Program → Node → Type 0

@@ -6,7 +6,7 @@ use Rattle.lus_syntax.specs.declared.tree.Prefix.TheVariants as prefixes
 use Rattle.lus_syntax.specs.declared.tree.Infix.{Infix}
 use Rattle.lus_syntax.specs.declared.tree.Infix.TheVariants as infixes
 use Rattle.lus_syntax.specs.Trees as tree
-use Rattle.lus_syntax.specs.Trees.{Numeral, Truth, Name, Call, Structure, Merge, Field, Parentheses, When, Unary, Binary, If, Parts, End, More, Group, Tree}
+use Rattle.lus_syntax.specs.Trees.{Named, Numeral, Truth, Name, Call, Structure, Merge, Field, Parentheses, When, Unary, Binary, If, Parts, End, More, Group, Tree}
 use Rattle.lus_values.specs.declared.operator.Op.{Op}
 use Rattle.lus_values.specs.declared.operator.Op.TheVariants as ops
 use Rattle.lus_values.specs.declared.operator.Operator.TheVariants as operators
@@ -92,15 +92,21 @@ module _ (s : Scope) where
 
   -- a field by its place
   abbrev pub field_meant : Option Kind → Text → Expression → Expression
-  field_meant k x a = elim (field_named (fields_of s (unwrap_or k kinds.Bool)) x) [ Some f ↦ operate (operators.Field f.place) (one a) | None ↦ operate (operators.Field 0) (one a) ]
+  field_meant k x a = elim (field_named (fields_of s (unwrap_or k kinds.Bool)) x) [
+    | Some f ↦ operate (operators.Field f.place) (one a)
+    | None ↦ operate (operators.Field 0) (one a)
+  ]
 
   -- branches in the order of the constructors
   abbrev pub branches_meant : Kind → Parts → Operands → Operands
   branches_meant k bs es = in_order (size_of s k) (unwrap_or (branch_places s k bs) []) es
 
   -- fields in the order of their declaration
+  abbrev pub fields_meant : Kind → Parts → Operands → Operands
+  fields_meant k fs es = in_order (length (fields_of s k)) (map (λ x. x.place) (unwrap_or (fields_asked s k fs) [])) es
+
   abbrev pub structure_meant : Kind → Parts → Operands → Expression
-  structure_meant k fs es = operate (operators.Structure (type_number k)) (in_order (length (fields_of s k)) (map (λ x. x.place) (unwrap_or (fields_asked s k fs) [])) es)
+  structure_meant k fs es = operate (operators.Structure (type_number k)) (fields_meant k fs es)
 
   abbrev mutual
     pub meant : tree.Expression → Expression
@@ -126,10 +132,18 @@ module _ (s : Scope) where
 abbrev pub variables_of : Tree → Scope → Group → List Variable
 variables_of p s g = map (λ n. record { name = n.text; kind = kind_named p g.type_name; test = option_map (test_meant s) g.test }) g.names
 
+-- the variables of a left side
+abbrev pub targets_meant : Scope → List Named → List ℕ
+targets_meant s ns = map (λ x. variable_place s x.text) ns
+
+-- an equation with its calls numbered from n on
+abbrev pub equation_meant : Scope → ℕ → tree.Equation → Equation
+equation_meant s n q = record { targets = targets_meant s q.left; right = numbered n (meant s q.right) }
+
 -- equations with their calls numbered from n on
 abbrev pub equations_meant : Scope → ℕ → List tree.Equation → List Equation
 equations_meant s n [] = []
-equations_meant s n (q ∷ qs) = record { targets = map (λ x. variable_place s x.text) q.left; right = numbered n (meant s q.right) } ∷ equations_meant s (n + calls (meant s q.right)) qs
+equations_meant s n (q ∷ qs) = equation_meant s n q ∷ equations_meant s (n + calls (meant s q.right)) qs
 
 abbrev pub node_meant : Tree → tree.Node → Node
 node_meant p f = record {

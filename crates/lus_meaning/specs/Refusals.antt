@@ -27,7 +27,10 @@ pub record WellFormed (p : Tree) : Type 0 where
 
 -- the passes before it hold, and it doesn't; other numbers are no answers of these passes
 abbrev pub FirstFails : Tree → RefusalNumber → Type 0
-FirstFails p numbers.Limit = (Counted p → ⊥) ⊎ ((Counted p × Named p × Loopless p × (Bounded p → ⊥)) ⊎ (Counted p × Named p × Loopless p × Bounded p × IsTyped p × (HasFewParts p → ⊥)))
+FirstFails p numbers.Limit =
+    (Counted p → ⊥)
+    ⊎ ((Counted p × Named p × Loopless p × (Bounded p → ⊥))
+    ⊎ (Counted p × Named p × Loopless p × Bounded p × IsTyped p × (HasFewParts p → ⊥)))
 FirstFails p numbers.Name = Counted p × (Named p → ⊥)
 FirstFails p numbers.Recursion = Counted p × Named p × (Loopless p → ⊥)
 FirstFails p numbers.Type = Counted p × Named p × Loopless p × Bounded p × (IsTyped p → ⊥)

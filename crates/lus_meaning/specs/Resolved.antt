@@ -23,7 +23,7 @@ abbrev pub of_two : (Kind → Kind → Option Kind) → List Kind → Option Kin
 of_two f (k ∷ l ∷ []) = f k l
 of_two f ks = None
 
--- what an operation gives for operands of these types
+-- what an operation gives for operands of these types (Lustre V6 reference manual, "Predefined operators")
 abbrev pub op_kind : Op → List Kind → Option Kind
 op_kind ops.Negate = only kinds.Int kinds.Int
 op_kind ops.Add = of_two (both kinds.Int kinds.Int)
@@ -43,7 +43,7 @@ op_kind ops.AtMost = of_two (both kinds.Int kinds.Bool)
 op_kind ops.Greater = of_two (both kinds.Int kinds.Bool)
 op_kind ops.AtLeast = of_two (both kinds.Int kinds.Bool)
 
--- what an operation gives, whatever its operands
+-- what an operation gives, whatever its operands (Lustre V6 reference manual, "Predefined operators")
 abbrev pub operation_kind : Op → Kind
 operation_kind ops.Negate = kinds.Int
 operation_kind ops.Add = kinds.Int

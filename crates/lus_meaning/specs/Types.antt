@@ -169,7 +169,10 @@ module _ (s : Scope) where
 
   -- the value that a constant or a constructor stands for
   abbrev pub name_value : Text → Option Value
-  name_value n = elim (entry s.constants n) [ Some v ↦ Some v | None ↦ option_map (λ c. enum c.enumeration c.place) (entry s.constructors n) ]
+  name_value n = elim (entry s.constants n) [
+    | Some v ↦ Some v
+    | None ↦ option_map (λ c. enum c.enumeration c.place) (entry s.constructors n)
+  ]
 
   -- a variable hides a value of its name
   abbrev pub name_kind : Text → Option Kind
@@ -194,7 +197,8 @@ module _ (s : Scope) where
   -- the place of a label among the constructors of a type
   abbrev pub label_place : Kind → Label → Option ℕ
   label_place k (Boolean b p) = truth_place k b
-  label_place k (Constructor n) = option_and_then (λ c. where_true (same k (kinds.Enum c.enumeration)) (Some c.place)) (entry s.constructors n.text)
+  label_place k (Constructor n) =
+      option_and_then (λ c. where_true (same k (kinds.Enum c.enumeration)) (Some c.place)) (entry s.constructors n.text)
 
   -- `c` asks for true, `not c` for false
   abbrev pub asked_place : Kind → Test → Option ℕ
@@ -233,9 +237,12 @@ module _ (s : Scope) where
   abbrev pub merge_kind : Kind → Parts → List Kind → Option Kind
   merge_kind k bs ks = option_and_then (λ cs. where_true (each_once (size_of k) cs) (common_kind ks)) (branch_places k bs)
 
-  -- the fields stand each exactly once, with values of their types
+  -- the fields of a type stand each exactly once, with values of their types
+  abbrev pub fields_fit : Kind → List Kind → List Placed → Bool
+  fields_fit k ks xs = all_same (map (λ x. x.kind) xs) ks && each_once (length (fields_of k)) (map (λ x. x.place) xs)
+
   abbrev pub fields_kind : Kind → Parts → List Kind → Option Kind
-  fields_kind k fs ks = option_and_then (λ xs. where_true (all_same (map (λ x. x.kind) xs) ks && each_once (length (fields_of k)) (map (λ x. x.place) xs)) (Some k)) (fields_asked k fs)
+  fields_kind k fs ks = option_and_then (λ xs. where_true (fields_fit k ks xs) (Some k)) (fields_asked k fs)
 
   -- only a structure's type has fields
   abbrev pub structure_kind : Kind → Parts → List Kind → Option Kind
@@ -261,7 +268,8 @@ module _ (s : Scope) where
     kind_of (When a t) = option_and_then (λ k. option_map (λ c. k) (test_placed t)) (kind_of a)
     kind_of (Unary op p a) = option_and_then (prefix_kind op) (kind_of a)
     kind_of (Binary op a b) = option_and_then (λ k. option_and_then (infix_kind op k) (kind_of b)) (kind_of a)
-    kind_of (If p c a b) = option_and_then (λ m. option_and_then (λ k. option_and_then (choice_kind m k) (kind_of b)) (kind_of a)) (kind_of c)
+    kind_of (If p c a b) =
+        option_and_then (λ m. option_and_then (λ k. option_and_then (choice_kind m k) (kind_of b)) (kind_of a)) (kind_of c)
 
     -- the types of the values of parts
     pub kinds_of : Parts → Option (List Kind)

@@ -9,4 +9,10 @@ abbrev pub texts : List (String Global) → List Text
 texts keys = map string_bytes keys
 
 abbrev pub known_seen : Names → Known
-known_seen n = record { variables = texts n.variables.keys; constants = texts n.constants.keys; constructors = texts n.constructors.keys; types = texts n.types.keys; nodes = texts n.nodes.keys }
+known_seen n = record {
+  variables = texts n.variables.keys;
+  constants = texts n.constants.keys;
+  constructors = texts n.constructors.keys;
+  types = texts n.types.keys;
+  nodes = texts n.nodes.keys;
+}

@@ -99,7 +99,9 @@ module _ (old new : Taking) where
 
     -- what is taken out of an equation, on the clock of its first variable
     abbrev pub TakesEquation : StoredEquation → Type 0
-    TakesEquation q = Takes (right_takes (program_seen p) (node_of f) (expression_of q.right) (test_of (node_of f) (item 0 q.targets.items 0)))
+    TakesEquation q =
+        let test = test_of (node_of f) (item 0 q.targets.items 0) in
+        Takes (right_takes (program_seen p) (node_of f) (expression_of q.right) test)
 
   -- the equations of what is taken out of a whole right side
   abbrev pub AddsRight : Expr → Type 0
