@@ -1,12 +1,12 @@
 //! The program's expression for an expression of the source, and its type.
 
-ghost use Rattle.std.specs.Prelude.{◌≡◌, Some, None, IfOk, IfErr, length, map};
-ghost use Rattle.lus_syntax.specs.View.{expression_seen, part_seen};
-ghost use Rattle.lus_syntax.specs.Trees.{parts_of};
-ghost use Rattle.lus_program.specs.View.{expression_of, operands_of};
+ghost use Rattle.std.specs.Prelude.{◌≡◌, Some, None, IfOk, IfErr, length};
+ghost use Rattle.lus_syntax.specs.View.{expression_seen};
+ghost use Rattle.lus_program.specs.View.{operands_of};
 ghost use Rattle.lus_meaning.specs.Types.{kind_of, kinds_of};
 ghost use Rattle.lus_meaning.specs.Meaning.{meant, all_meant};
 ghost use Rattle.lus_meaning.specs.ScopeView.{scope_of, Faulty};
+ghost use Rattle.lus_elaboration.specs.Wholes.{meaning, parts_seen};
 
 use crate::forms::{Elaborated, binary, boxed, choice, field, named, place_of, sampled, unary};
 use crate::parts::{call, merge, structure};
@@ -20,7 +20,7 @@ use std::alloc::Global;
 #[cycle(elaborate)]
 pub fn elaborate(alloc: Global, scope: &Scope, source: &Source) -> Result<Elaborated, Fault>
     ensures typed { IfOk result (λ x. kind_of (scope_of scope.now) (expression_seen source.now) ≡ Some x.kind) }
-    ensures meant { IfOk result (λ x. expression_of x.expr.value ≡ meant (scope_of scope.now) (expression_seen source.now)) }
+    ensures meant { IfOk result (λ x. meaning x ≡ meant (scope_of scope.now) (expression_seen source.now)) }
     ensures refused { IfErr result (Faulty (kind_of (scope_of scope.now) (expression_seen source.now) ≡ None)) }
 {
     let place = place_of(source);
@@ -84,10 +84,10 @@ pub fn elaborate_all(
     scope: &Scope,
     parts: &[Part],
 ) -> Result<(Vec<Expr>, Vec<Kind>), Fault>
-    ensures typed { IfOk result (λ x. kinds_of (scope_of scope.now) (parts_of (map part_seen parts.now)) ≡ Some x.1.items) }
-    ensures meant { IfOk result (λ x. operands_of x.0.items ≡ all_meant (scope_of scope.now) (parts_of (map part_seen parts.now))) }
+    ensures typed { IfOk result (λ x. kinds_of (scope_of scope.now) (parts_seen parts.now) ≡ Some x.1.items) }
+    ensures meant { IfOk result (λ x. operands_of x.0.items ≡ all_meant (scope_of scope.now) (parts_seen parts.now)) }
     ensures alike { IfOk result (λ x. length x.0.items ≡ length parts.now) }
-    ensures refused { IfErr result (Faulty (kinds_of (scope_of scope.now) (parts_of (map part_seen parts.now)) ≡ None)) }
+    ensures refused { IfErr result (Faulty (kinds_of (scope_of scope.now) (parts_seen parts.now) ≡ None)) }
 {
     let mut operands = Vec::with_capacity(alloc, parts.len())?;
     let mut kinds = Vec::with_capacity(alloc, parts.len())?;

@@ -1,11 +1,11 @@
 //! Equations: what a whole right side gives, and what the left side takes.
 
-ghost use Rattle.std.specs.Prelude.{◌≡◌, IfOk, IfErr, Some, None, map, unwrap_or, true, false};
+ghost use Rattle.std.specs.Prelude.{◌≡◌, IfOk, IfErr, Some, None, unwrap_or, true, false};
 ghost use Rattle.lus_syntax.specs.View.{expression_seen, equation_seen, name_seen, names_seen};
 ghost use Rattle.lus_program.specs.View.{expression_of};
 ghost use Rattle.lus_program.specs.declared.types.Kind.TheVariants.{Bool as BoolKind};
 ghost use Rattle.lus_meaning.specs.Types.{variable_kind};
-ghost use Rattle.lus_meaning.specs.Meaning.{meant, variable_place};
+ghost use Rattle.lus_meaning.specs.Meaning.{meant, targets_meant, variable_place};
 ghost use Rattle.lus_meaning.specs.WellTyped.{kinds_given, left_kinds as kinds_of_left, equation_typed};
 ghost use Rattle.lus_meaning.specs.ScopeView.{scope_of, Faulty};
 
@@ -103,7 +103,7 @@ fn target(scope: &Scope, name: &Name) -> u32
 }
 
 fn targets(alloc: Global, scope: &Scope, names: &[Name]) -> Result<Vec<u32>, AllocError>
-    ensures { IfOk result (λ ts. ts.items ≡ map (λ x. variable_place (scope_of scope.now) x.text) (names_seen names.now)) }
+    ensures { IfOk result (λ ts. ts.items ≡ targets_meant (scope_of scope.now) (names_seen names.now)) }
 {
     let mut targets = Vec::with_capacity(alloc, names.len())?;
     for name in names {
@@ -123,7 +123,7 @@ fn places(alloc: Global, names: &[Name]) -> Result<Vec<Place>, AllocError> {
 /// An equation of the program: the right side gives what the left side has.
 pub fn equation(alloc: Global, scope: &Scope, source: &SourceEquation) -> Result<Equation, Fault>
     ensures typed { IfOk result (λ q. equation_typed (scope_of scope.now) (equation_seen source.now) ≡ true) }
-    ensures targets { IfOk result (λ q. q.targets.items ≡ map (λ x. variable_place (scope_of scope.now) x.text) (names_seen source.now.left.items)) }
+    ensures targets { IfOk result (λ q. q.targets.items ≡ targets_meant (scope_of scope.now) (names_seen source.now.left.items)) }
     ensures meant { IfOk result (λ q. expression_of q.right ≡ meant (scope_of scope.now) (expression_seen source.now.right)) }
     ensures refused { IfErr result (Faulty (equation_typed (scope_of scope.now) (equation_seen source.now) ≡ false)) }
 {

@@ -1,13 +1,13 @@
 //! What each form of expression means, its parts being elaborated already, and its type.
 
-ghost use Rattle.std.specs.Prelude.{◌≡◌, Some, None, IfOk, IfErr, option_map};
+ghost use Rattle.std.specs.Prelude.{◌≡◌, Some, None, IfOk, IfErr};
 ghost use Rattle.lus_syntax.specs.View.{name_seen, test_seen, label_seen};
-ghost use Rattle.lus_values.specs.declared.operator.Operator.TheVariants.{If as IfOperator};
-ghost use Rattle.lus_program.specs.Programs.{more, when as when_meant, operate};
+ghost use Rattle.lus_program.specs.Programs.{operate};
 ghost use Rattle.lus_program.specs.View.{expression_in, expression_of};
 ghost use Rattle.lus_meaning.specs.Types.{name_kind, prefix_kind as kind_of_prefix, infix_kind as kind_of_infix, choice_kind as kind_of_choice, field_kind, test_placed as placed_test, truth_place as place_of_truth, label_place as place_of_label, asked_place as place_asked, test_variable as variable_of_test};
-ghost use Rattle.lus_meaning.specs.Meaning.{name_meant, prefix_meant, infix_meant, compute as computed, one, two, test_meant, field_meant};
+ghost use Rattle.lus_meaning.specs.Meaning.{name_meant, prefix_meant, infix_meant, compute as computed, one, field_meant};
 ghost use Rattle.lus_meaning.specs.ScopeView.{scope_of, Faulty};
+ghost use Rattle.lus_elaboration.specs.Wholes.{choice_meant, meaning, sampled_kind, sampled_meant};
 
 use crate::kinds::{choice_kind, infix_kind, prefix_kind, same, value_kind};
 use lus_meaning::{Fault, Scope, field as field_named};
@@ -51,7 +51,7 @@ pub fn boxed(alloc: Global, place: Place, form: Form) -> Result<Box<Expr>, Alloc
 /// A name: a variable hides a constant or a constructor.
 pub fn named(alloc: Global, scope: &Scope, name: &Name) -> Result<Elaborated, Fault>
     ensures typed { IfOk result (λ x. name_kind (scope_of scope.now) (name_seen name.now).text ≡ Some x.kind) }
-    ensures meant { IfOk result (λ x. expression_of x.expr.value ≡ name_meant (scope_of scope.now) (name_seen name.now).text) }
+    ensures meant { IfOk result (λ x. meaning x ≡ name_meant (scope_of scope.now) (name_seen name.now).text) }
     ensures refused { IfErr result (Faulty (name_kind (scope_of scope.now) (name_seen name.now).text ≡ None)) }
 {
     let place = name.span.start;
@@ -81,7 +81,7 @@ pub fn unary(
     operand: Elaborated,
 ) -> Result<Elaborated, Fault>
     ensures typed { IfOk result (λ x. kind_of_prefix op operand.kind ≡ Some x.kind) }
-    ensures meant { IfOk result (λ x. expression_of x.expr.value ≡ prefix_meant op (expression_of operand.expr.value)) }
+    ensures meant { IfOk result (λ x. meaning x ≡ prefix_meant op (meaning operand)) }
     ensures refused { IfErr result (Faulty (kind_of_prefix op operand.kind ≡ None)) }
 {
     let Some(kind) = prefix_kind(op, operand.kind) else {
@@ -115,7 +115,7 @@ pub fn binary(
     right: Elaborated,
 ) -> Result<Elaborated, Fault>
     ensures typed { IfOk result (λ x. kind_of_infix op left.kind right.kind ≡ Some x.kind) }
-    ensures meant { IfOk result (λ x. expression_of x.expr.value ≡ infix_meant op (expression_of left.expr.value) (expression_of right.expr.value)) }
+    ensures meant { IfOk result (λ x. meaning x ≡ infix_meant op (meaning left) (meaning right)) }
     ensures refused { IfErr result (Faulty (kind_of_infix op left.kind right.kind ≡ None)) }
 {
     let Some(kind) = infix_kind(op, left.kind, right.kind) else {
@@ -189,7 +189,7 @@ pub fn choice(
     right: Elaborated,
 ) -> Result<Elaborated, Fault>
     ensures typed { IfOk result (λ x. kind_of_choice condition.kind left.kind right.kind ≡ Some x.kind) }
-    ensures meant { IfOk result (λ x. expression_of x.expr.value ≡ operate IfOperator (more (expression_of condition.expr.value) (two (expression_of left.expr.value) (expression_of right.expr.value)))) }
+    ensures meant { IfOk result (λ x. meaning x ≡ choice_meant (meaning condition) (meaning left) (meaning right)) }
     ensures refused { IfErr result (Faulty (kind_of_choice condition.kind left.kind right.kind ≡ None)) }
 {
     let Some(kind) = choice_kind(condition.kind, left.kind, right.kind) else {
@@ -215,7 +215,8 @@ pub fn field(
     name: &Name,
 ) -> Result<Elaborated, Fault>
     ensures typed { IfOk result (λ x. field_kind (scope_of scope.now) operand.kind (name_seen name.now).text ≡ Some x.kind) }
-    ensures meant { IfOk result (λ x. expression_of x.expr.value ≡ field_meant (scope_of scope.now) (Some operand.kind) (name_seen name.now).text (expression_of operand.expr.value)) }
+    ensures meant { let field = field_meant (scope_of scope.now) (Some operand.kind) (name_seen name.now).text in
+        IfOk result (λ x. meaning x ≡ field (meaning operand)) }
     ensures refused { IfErr result (Faulty (field_kind (scope_of scope.now) operand.kind (name_seen name.now).text ≡ None)) }
 {
     let fields = scope.fields_of(operand.kind);
@@ -302,9 +303,9 @@ pub fn sampled(
     operand: Elaborated,
     test: &SourceTest,
 ) -> Result<Elaborated, Fault>
-    ensures typed { IfOk result (λ x. option_map (λ t. operand.kind) (placed_test (scope_of scope.now) (test_seen test.now)) ≡ Some x.kind) }
-    ensures meant { IfOk result (λ x. expression_of x.expr.value ≡ when_meant (test_meant (scope_of scope.now) (test_seen test.now)) (expression_of operand.expr.value)) }
-    ensures refused { IfErr result (Faulty (option_map (λ t. operand.kind) (placed_test (scope_of scope.now) (test_seen test.now)) ≡ None)) }
+    ensures typed { IfOk result (λ x. sampled_kind (scope_of scope.now) (test_seen test.now) operand.kind ≡ Some x.kind) }
+    ensures meant { IfOk result (λ x. meaning x ≡ sampled_meant (scope_of scope.now) (test_seen test.now) (meaning operand)) }
+    ensures refused { IfErr result (Faulty (sampled_kind (scope_of scope.now) (test_seen test.now) operand.kind ≡ None)) }
 {
     let Some(found) = test_placed(scope, test) else {
         return Err(Fault::At(clock_variable(test).span.start));

@@ -1,16 +1,13 @@
 //! Forms with parts: calls, structures and merges, their parts being elaborated already.
 
-ghost use Rattle.std.specs.Prelude.{◌≡◌, Some, None, IfOk, IfErr, length, map, unwrap_or};
-ghost use Rattle.std.specs.Option.{option_and_then};
-ghost use Rattle.lus_syntax.specs.View.{name_seen, part_seen, lead_seen};
-ghost use Rattle.lus_syntax.specs.Trees.{parts_of};
-ghost use Rattle.lus_program.specs.declared.types.Kind.TheVariants.{Bool as BoolKind};
-ghost use Rattle.lus_program.specs.Programs.{merge as merge_meant, call as call_meant};
-ghost use Rattle.lus_program.specs.View.{expression_of, operands_of};
-ghost use Rattle.lus_meaning.specs.Scopes.{entry};
-ghost use Rattle.lus_meaning.specs.Types.{all_same as all_same_kinds, are_arguments as arguments_alone, branch_place as place_of_branch, branch_places as places_of_branches, field_asked as asked_field, fields_asked as asked_fields, outputs_of, the_one as one_kind, merge_kind, structure_kind, variable_kind};
-ghost use Rattle.lus_meaning.specs.Meaning.{node_place, branches_meant, structure_meant, variable_place};
+ghost use Rattle.std.specs.Prelude.{◌≡◌, Some, None, IfOk, IfErr, length, map};
+ghost use Rattle.lus_syntax.specs.View.{name_seen, lead_seen};
+ghost use Rattle.lus_program.specs.Programs.{call as call_meant};
+ghost use Rattle.lus_program.specs.View.{operands_of};
+ghost use Rattle.lus_meaning.specs.Types.{all_same as all_same_kinds, are_arguments as arguments_alone, branch_place as place_of_branch, branch_places as places_of_branches, field_asked as asked_field, fields_asked as asked_fields, outputs_of};
+ghost use Rattle.lus_meaning.specs.Meaning.{node_place};
 ghost use Rattle.lus_meaning.specs.ScopeView.{scope_of, Faulty};
+ghost use Rattle.lus_elaboration.specs.Wholes.{call_kind, meaning, merge_over, merge_over_kind, parts_seen, structure_of, structure_of_kind};
 
 use crate::arrangement::arranged;
 use crate::forms::{Elaborated, boxed, label_place, place_of};
@@ -22,7 +19,7 @@ use lus_values::Operator;
 use std::alloc::{AllocError, Global};
 
 fn are_arguments(parts: &[Part]) -> bool
-    ensures { result ≡ arguments_alone (parts_of (map part_seen parts.now)) }
+    ensures { result ≡ arguments_alone (parts_seen parts.now) }
 {
     for part in parts {
         match &part.lead {
@@ -41,9 +38,11 @@ pub fn callee<'a>(
     arguments: &[Part],
     kinds: &[Kind],
 ) -> Result<&'a Signature, Fault>
-    ensures typed { IfOk result (λ g. outputs_of (scope_of scope.now) (name_seen name.now).text (parts_of (map part_seen arguments.now)) kinds.now ≡ Some g.now.outputs.items) }
+    ensures typed { let given = outputs_of (scope_of scope.now) (name_seen name.now).text (parts_seen arguments.now) kinds.now in
+        IfOk result (λ g. given ≡ Some g.now.outputs.items) }
     ensures placed { IfOk result (λ g. g.now.place ≡ node_place (scope_of scope.now) (name_seen name.now).text) }
-    ensures refused { IfErr result (Faulty (outputs_of (scope_of scope.now) (name_seen name.now).text (parts_of (map part_seen arguments.now)) kinds.now ≡ None)) }
+    ensures refused { let given = outputs_of (scope_of scope.now) (name_seen name.now).text (parts_seen arguments.now) kinds.now in
+        IfErr result (Faulty (given ≡ None)) }
 {
     let Some(node) = scope.node(&name.text) else {
         return Err(Fault::At(name.span.start));
@@ -64,9 +63,12 @@ pub fn call(
     operands: Vec<Expr>,
     kinds: &[Kind],
 ) -> Result<Elaborated, Fault>
-    ensures typed { IfOk result (λ x. option_and_then one_kind (outputs_of (scope_of scope.now) (name_seen name.now).text (parts_of (map part_seen arguments.now)) kinds.now) ≡ Some x.kind) }
-    ensures meant { IfOk result (λ x. expression_of x.expr.value ≡ call_meant (node_place (scope_of scope.now) (name_seen name.now).text) 0 (operands_of operands.items)) }
-    ensures refused { IfErr result (Faulty (option_and_then one_kind (outputs_of (scope_of scope.now) (name_seen name.now).text (parts_of (map part_seen arguments.now)) kinds.now) ≡ None)) }
+    ensures typed { let given = call_kind (scope_of scope.now) (name_seen name.now).text (parts_seen arguments.now) kinds.now in
+        IfOk result (λ x. given ≡ Some x.kind) }
+    ensures meant { let node = node_place (scope_of scope.now) (name_seen name.now).text in
+        IfOk result (λ x. meaning x ≡ call_meant node 0 (operands_of operands.items)) }
+    ensures refused { let given = call_kind (scope_of scope.now) (name_seen name.now).text (parts_seen arguments.now) kinds.now in
+        IfErr result (Faulty (given ≡ None)) }
 {
     let place = name.span.start;
     let node = callee(scope, name, arguments, kinds)?;
@@ -96,9 +98,9 @@ fn branch_places(
     kind: Kind,
     branches: &[Part],
 ) -> Result<Vec<u32>, Fault>
-    ensures places { IfOk result (λ cs. places_of_branches (scope_of scope.now) kind (parts_of (map part_seen branches.now)) ≡ Some cs.items) }
+    ensures places { IfOk result (λ cs. places_of_branches (scope_of scope.now) kind (parts_seen branches.now) ≡ Some cs.items) }
     ensures alike { IfOk result (λ cs. length cs.items ≡ length branches.now) }
-    ensures refused { IfErr result (Faulty (places_of_branches (scope_of scope.now) kind (parts_of (map part_seen branches.now)) ≡ None)) }
+    ensures refused { IfErr result (Faulty (places_of_branches (scope_of scope.now) kind (parts_seen branches.now) ≡ None)) }
 {
     let mut places = Vec::new(alloc);
     for branch in branches {
@@ -121,9 +123,12 @@ pub fn merge(
     kinds: &[Kind],
 ) -> Result<Elaborated, Fault>
     requires { length operands.items ≡ length branches.now }
-    ensures typed { IfOk result (λ x. option_and_then (λ k. merge_kind (scope_of scope.now) k (parts_of (map part_seen branches.now)) kinds.now) (variable_kind (scope_of scope.now) (name_seen variable.now).text) ≡ Some x.kind) }
-    ensures meant { IfOk result (λ x. expression_of x.expr.value ≡ merge_meant (variable_place (scope_of scope.now) (name_seen variable.now).text) (branches_meant (scope_of scope.now) (unwrap_or (variable_kind (scope_of scope.now) (name_seen variable.now).text) BoolKind) (parts_of (map part_seen branches.now)) (operands_of operands.items))) }
-    ensures refused { IfErr result (Faulty (option_and_then (λ k. merge_kind (scope_of scope.now) k (parts_of (map part_seen branches.now)) kinds.now) (variable_kind (scope_of scope.now) (name_seen variable.now).text) ≡ None)) }
+    ensures typed { let given = merge_over_kind (scope_of scope.now) (name_seen variable.now).text (parts_seen branches.now) kinds.now in
+        IfOk result (λ x. given ≡ Some x.kind) }
+    ensures meant { let merged = merge_over (scope_of scope.now) (name_seen variable.now).text (parts_seen branches.now) in
+        IfOk result (λ x. meaning x ≡ merged (operands_of operands.items)) }
+    ensures refused { let given = merge_over_kind (scope_of scope.now) (name_seen variable.now).text (parts_seen branches.now) kinds.now in
+        IfErr result (Faulty (given ≡ None)) }
 {
     let Some(clock) = scope.variable(&variable.text) else {
         return Err(Fault::At(variable.span.start));
@@ -159,9 +164,9 @@ fn fields_asked(
     kind: Kind,
     fields: &[Part],
 ) -> Result<Vec<Placed>, Fault>
-    ensures fields { IfOk result (λ xs. asked_fields (scope_of scope.now) kind (parts_of (map part_seen fields.now)) ≡ Some xs.items) }
+    ensures fields { IfOk result (λ xs. asked_fields (scope_of scope.now) kind (parts_seen fields.now) ≡ Some xs.items) }
     ensures alike { IfOk result (λ xs. length xs.items ≡ length fields.now) }
-    ensures refused { IfErr result (Faulty (asked_fields (scope_of scope.now) kind (parts_of (map part_seen fields.now)) ≡ None)) }
+    ensures refused { IfErr result (Faulty (asked_fields (scope_of scope.now) kind (parts_seen fields.now) ≡ None)) }
 {
     let mut asked = Vec::new(alloc);
     for part in fields {
@@ -212,9 +217,12 @@ pub fn structure(
     kinds: &[Kind],
 ) -> Result<Elaborated, Fault>
     requires { length operands.items ≡ length fields.now }
-    ensures typed { IfOk result (λ x. option_and_then (λ k. structure_kind (scope_of scope.now) k (parts_of (map part_seen fields.now)) kinds.now) (entry (scope_of scope.now).types (name_seen name.now).text) ≡ Some x.kind) }
-    ensures meant { IfOk result (λ x. expression_of x.expr.value ≡ structure_meant (scope_of scope.now) (unwrap_or (entry (scope_of scope.now).types (name_seen name.now).text) BoolKind) (parts_of (map part_seen fields.now)) (operands_of operands.items)) }
-    ensures refused { IfErr result (Faulty (option_and_then (λ k. structure_kind (scope_of scope.now) k (parts_of (map part_seen fields.now)) kinds.now) (entry (scope_of scope.now).types (name_seen name.now).text) ≡ None)) }
+    ensures typed { let given = structure_of_kind (scope_of scope.now) (name_seen name.now).text (parts_seen fields.now) kinds.now in
+        IfOk result (λ x. given ≡ Some x.kind) }
+    ensures meant { let structure = structure_of (scope_of scope.now) (name_seen name.now).text (parts_seen fields.now) in
+        IfOk result (λ x. meaning x ≡ structure (operands_of operands.items)) }
+    ensures refused { let given = structure_of_kind (scope_of scope.now) (name_seen name.now).text (parts_seen fields.now) kinds.now in
+        IfErr result (Faulty (given ≡ None)) }
 {
     let place = name.span.start;
     let Some(kind) = scope.kind(&name.text) else {

@@ -1,10 +1,10 @@
 //! Functions, which keep no memory.
 
-ghost use Rattle.std.specs.Prelude.{◌≡◌, is_none, map};
-ghost use Rattle.lus_syntax.specs.View.{expression_seen, part_seen};
-ghost use Rattle.lus_syntax.specs.Trees.{parts_of};
+ghost use Rattle.std.specs.Prelude.{◌≡◌, is_none};
+ghost use Rattle.lus_syntax.specs.View.{expression_seen};
 ghost use Rattle.lus_meaning.specs.WellTyped.{calls_function as function_called, is_pure, are_pure, recalls as recalls_past, remembers as remembers_past};
 ghost use Rattle.lus_meaning.specs.ScopeView.{scope_of};
+ghost use Rattle.lus_elaboration.specs.Wholes.{parts_seen};
 
 use crate::forms::place_of;
 use lus_meaning::Scope;
@@ -93,7 +93,7 @@ pub fn memory(scope: &Scope, source: &Expr) -> Option<Place>
 
 #[cycle(memory)]
 fn memory_in(scope: &Scope, parts: &[Part]) -> Option<Place>
-    ensures { is_none result ≡ are_pure (scope_of scope.now) (parts_of (map part_seen parts.now)) }
+    ensures { is_none result ≡ are_pure (scope_of scope.now) (parts_seen parts.now) }
 {
     for part in parts {
         if let Some(place) = memory(scope, &part.value) {

@@ -3,9 +3,9 @@ use Rattle.std.proofs.lemmas.Grind.{common_steps}
 use Rattle.lus_syntax.specs.Trees.{parts_of}
 use Rattle.lus_syntax.specs.View.{expression_seen, part_seen, name_seen}
 use Rattle.lus_syntax.proofs.TreeViews.{seen_call, seen_structure, seen_merge}
-use Rattle.lus_program.specs.View.{expression_of}
+use Rattle.lus_program.specs.View.{expression_of, operands_of}
 use Rattle.lus_meaning.specs.Types.{kind_of, kinds_of}
-use Rattle.lus_meaning.specs.Meaning.{meant}
+use Rattle.lus_meaning.specs.Meaning.{all_meant, meant}
 use Rattle.lus_meaning.specs.ScopeView.{scope_of}
 use Rattle.lus_elaboration.proofs.Meant.{all_meant_is, kind_of-call, kind_of-structure, kind_of-merge}
 use Rattle.lus_elaboration.proofs.elaboration.+elaborate.Goals as goal
@@ -44,12 +44,23 @@ elaborate-returns-in_err-operands-in-Structure-clause-refused t c =
 pub elaborate-returns-in_ok-operands-in-Structure-clause-typed : goal.elaborate-returns-in_ok-operands-in-Structure-clause-typed
 elaborate-returns-in_ok-operands-in-Structure-clause-typed t c =
     let e : expression_seen c.args.source.now ≡ _ = ap expression_seen c.in-Structure.is ∙ seen_structure c.in-Structure.name c.in-Structure.fields in
-    rw e (search rules)
+    let s = scope_of c.args.scope.now in
+    let parts = parts_of (map part_seen c.in-Structure.fields.items) in
+    let kinds = c.in_ok-operands-in-Structure.kinds.items in
+    let given : kinds_of s parts ≡ Some kinds = rw c.deref-in-Structure.ensures.value at c.in_ok-operands-in-Structure.ensures.typed in
+    let kind : kind_of s (expression_seen c.args.source.now) ≡ _ = ap (kind_of s) e ∙ kind_of-structure s (name_seen c.in-Structure.name.value) parts kinds given in
+    let typed = rw (c.deref-in-Structure-2.ensures, c.deref-in-Structure-3.ensures.value, c.deref-in-Structure-4.ensures.value) at c.structure.ensures.typed in
+    rw kind typed
 
 pub elaborate-returns-in_ok-operands-in-Structure-clause-meant : goal.elaborate-returns-in_ok-operands-in-Structure-clause-meant
 elaborate-returns-in_ok-operands-in-Structure-clause-meant t c =
     let e : expression_seen c.args.source.now ≡ _ = ap expression_seen c.in-Structure.is ∙ seen_structure c.in-Structure.name c.in-Structure.fields in
-    rw e (search rules)
+    let s = scope_of c.args.scope.now in
+    let parts = parts_of (map part_seen c.in-Structure.fields.items) in
+    let out = operands_of c.in_ok-operands-in-Structure.operands.items in
+    let given : out ≡ all_meant s parts = rw c.deref-in-Structure.ensures.value at c.in_ok-operands-in-Structure.ensures.meant in
+    let built = rw (c.deref-in-Structure-2.ensures, c.deref-in-Structure-3.ensures.value, given) at c.structure.ensures.meant in
+    rw e built
 
 pub elaborate-returns-in_ok-operands-in-Structure-clause-refused : goal.elaborate-returns-in_ok-operands-in-Structure-clause-refused
 elaborate-returns-in_ok-operands-in-Structure-clause-refused t c =
@@ -70,12 +81,23 @@ elaborate-returns-in_err-operands-in-Merge-clause-refused t c =
 pub elaborate-returns-in_ok-operands-in-Merge-clause-typed : goal.elaborate-returns-in_ok-operands-in-Merge-clause-typed
 elaborate-returns-in_ok-operands-in-Merge-clause-typed t c =
     let e : expression_seen c.args.source.now ≡ _ = ap expression_seen c.in-Merge.is ∙ seen_merge c.in-Merge.field-0 c.in-Merge.variable c.in-Merge.branches in
-    rw e (search rules)
+    let s = scope_of c.args.scope.now in
+    let parts = parts_of (map part_seen c.in-Merge.branches.items) in
+    let kinds = c.in_ok-operands-in-Merge.kinds.items in
+    let given : kinds_of s parts ≡ Some kinds = rw c.deref-in-Merge.ensures.value at c.in_ok-operands-in-Merge.ensures.typed in
+    let kind : kind_of s (expression_seen c.args.source.now) ≡ _ = ap (kind_of s) e ∙ kind_of-merge s c.in-Merge.field-0 (name_seen c.in-Merge.variable.value) parts kinds given in
+    let typed = rw (c.deref-in-Merge-2.ensures, c.deref-in-Merge-3.ensures.value, c.deref-in-Merge-4.ensures.value) at c.merge.ensures.typed in
+    rw kind typed
 
 pub elaborate-returns-in_ok-operands-in-Merge-clause-meant : goal.elaborate-returns-in_ok-operands-in-Merge-clause-meant
 elaborate-returns-in_ok-operands-in-Merge-clause-meant t c =
     let e : expression_seen c.args.source.now ≡ _ = ap expression_seen c.in-Merge.is ∙ seen_merge c.in-Merge.field-0 c.in-Merge.variable c.in-Merge.branches in
-    rw e (search rules)
+    let s = scope_of c.args.scope.now in
+    let parts = parts_of (map part_seen c.in-Merge.branches.items) in
+    let out = operands_of c.in_ok-operands-in-Merge.operands.items in
+    let given : out ≡ all_meant s parts = rw c.deref-in-Merge.ensures.value at c.in_ok-operands-in-Merge.ensures.meant in
+    let built = rw (c.deref-in-Merge-2.ensures, c.deref-in-Merge-3.ensures.value, given) at c.merge.ensures.meant in
+    rw e built
 
 pub elaborate-returns-in_ok-operands-in-Merge-clause-refused : goal.elaborate-returns-in_ok-operands-in-Merge-clause-refused
 elaborate-returns-in_ok-operands-in-Merge-clause-refused t c =
