@@ -21,7 +21,7 @@ use Rattle.lus_cells.specs.Cells.{leaves_given, kind_leaves, node_cells, AreLeav
 use Rattle.lus_cells.specs.Given.{given_leaves, counted}
 use Rattle.lus_cells.specs.Uses.{AreCappedLeaves}
 use Rattle.lus_meaning.proofs.AlongOrders.{IsLocal, GivesNothing, IsFilled, uses_before, solution, solves, filled_more, filled_all}
-use Rattle.lus_cells.proofs.KindsGiven.{given_is}
+use Rattle.lus_resolution.proofs.KindsGiven.{given_is}
 use Rattle.lus_cells.proofs.LeavesAlong.{IsAlike, alike_sum, capped_alike}
 use Rattle.lus_cells.proofs.Numbering.{cells_stored}
 use Rattle.lus_cells.proofs.Related.{kind_related, equations_related}

@@ -1,6 +1,4 @@
-pub mod Fields
 pub mod Numbering
-pub mod KindsGiven
 pub mod Related
 pub mod LeavesAlong
 pub mod Positive

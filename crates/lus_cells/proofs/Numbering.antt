@@ -8,7 +8,8 @@ use Rattle.lus_program.specs.Programs.{Expression, literal, variable, operate, p
 use Rattle.lus_program.specs.View.{expression_of, equations_from}
 use Rattle.lus_meaning.specs.Resolved.{nodes_called, all_nodes_called}
 use Rattle.lus_cells.specs.Cells.{expression_cells, operand_cells, kind_leaves}
-use Rattle.lus_cells.specs.Given.{operator_given, given, last_given, given_leaves}
+use Rattle.lus_meaning.specs.Given.{operator_given, given, last_given}
+use Rattle.lus_cells.specs.Given.{given_leaves}
 
 mutual
   called_numbered : (n : ℕ) (e : Expression) → nodes_called (numbered n e) ≡ nodes_called e

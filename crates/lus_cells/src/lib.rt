@@ -2,7 +2,6 @@
 #![tactic(auto)]
 
 mod counting;
-mod kinds;
 mod leaves;
 mod orders;
 mod weights;

@@ -9,4 +9,5 @@ pub mod WellTyped
 pub mod Refusals
 pub mod ScopeView
 pub mod Resolved
+pub mod Given
 pub mod Sound

@@ -9,6 +9,6 @@ mod typed;
 
 pub use entries::{Constructor, Placed, Signature};
 pub use fault::Fault;
-pub use kinds::{fields_at, operation_kind};
+pub use kinds::{fields_at, operation_kind, operator_kind, output_kind, value_kind, variable_kind};
 pub use scope::{Scope, field};
 pub use typed::Typed;

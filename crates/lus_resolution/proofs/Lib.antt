@@ -1,4 +1,5 @@
 pub mod Options
+pub mod KindsGiven
 pub mod Entries
 pub mod Calls
 pub mod CallsMeant
