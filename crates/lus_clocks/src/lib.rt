@@ -19,5 +19,5 @@ pub use call::{argument_clock, base_of};
 pub use checking::clocks_fit;
 pub use clock::{NewestTest, clock_on};
 pub use flagging::flags_fit;
-pub use formals::variables_at;
+pub use formals::{inputs_at, variables_at};
 pub use passes::{Clocked, Initialised, check_clocks, check_nil};
