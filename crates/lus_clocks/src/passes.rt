@@ -8,6 +8,7 @@ ghost use Rattle.lus_streams.specs.OnClock.{ProgramOnClocks};
 ghost use Rattle.lus_streams.specs.Flags.{IsFlagged};
 ghost use Rattle.lus_meaning.specs.Refusals.{RefusesFor};
 ghost use Rattle.lus_meaning.specs.Resolved.{Resolved};
+ghost use Rattle.lus_meaning.specs.Sound.{IsLimited};
 
 use crate::checking::clocks_fit;
 use crate::flagging::flags_fit;
@@ -52,6 +53,7 @@ impl Clocked {
     pub fn program(&self) -> &Program
         ensures same { result.now ≡ self.now }
         ensures resolved { Resolved (program_seen result.now) }
+        ensures limited { IsLimited (program_seen result.now) }
         ensures on_clocks { ProgramOnClocks (program_seen result.now) }
     {
         self.typed.program()
@@ -107,6 +109,7 @@ impl Initialised {
     pub fn program(&self) -> &Program
         ensures same { result.now ≡ self.now }
         ensures resolved { Resolved (program_seen result.now) }
+        ensures limited { IsLimited (program_seen result.now) }
         ensures on_clocks { ProgramOnClocks (program_seen result.now) }
         ensures flagged { IsFlagged (program_seen result.now) }
     {

@@ -25,7 +25,8 @@ counts_seen : (n : ℕ) (qs : List StoredEquation) → equations_count (equation
 counts_seen n [] = refl
 counts_seen n (q ∷ qs) = λ i. right_count_numbered n (expression_of q.right) i + counts_seen (n + calls (expression_of q.right)) qs i
 
-each_within_sum : {X : Type 0} (f : X → ℕ) (xs : List X) (most : ℕ) → sum_by f xs ≤ most → Each (λ x. f x ≤ most) xs
+-- what is no more in all is no more in each
+pub each_within_sum : {X : Type 0} (f : X → ℕ) (xs : List X) (most : ℕ) → sum_by f xs ≤ most → Each (λ x. f x ≤ most) xs
 each_within_sum f [] most h = tt
 each_within_sum f (x ∷ xs) most h = let sum = sum_by-cons f x xs in (omega (arith, sum, h), each_within_sum f xs most (omega (arith, sum, h)))
 
