@@ -16,10 +16,9 @@ use Rattle.lus_graph.specs.Ways.{IsOrder}
 use Rattle.lus_meaning.specs.Loopless.{definition_uses, type_names, type_uses}
 use Rattle.lus_meaning.specs.Tables.{definition_at, definition_kind, kind_at, no_definition, AreKinds}
 use Rattle.lus_meaning.specs.Sized.{definition_leaves, definition_nesting, leaves_at, nesting_at}
-use Rattle.lus_limits.specs.ByNames.{kind_of, leaves_of, nesting_of}
 use Rattle.lus_meaning.proofs.AlongOrders.{IsFilled, filled_all}
 use Rattle.lus_limits.proofs.AgainstLimits.{filled_next, one_more, one_past, all_within}
-use Rattle.lus_limits.proofs.TypesByUses.{kind_is, kind_step_local, leaves_are, leaves_step_local, nesting_is, nesting_step_local, types_inside}
+use Rattle.lus_limits.proofs.TypesByUses.{kind_step_local, leaves_step_local, nesting_step_local, types_inside}
 
 -- the place of the order at i
 pub at_place : (order : List ℕ) (i : ℕ) → i < length order → Contains order (get_or order i 0)
@@ -54,15 +53,15 @@ module _ (t : StoredTree) where
 
     -- one type more
     pub kind_more : (i : ℕ) (names : List Text) (table : List Kind) (v : Kind) (d : StoredDefinition) → i < length order → names ≡ type_names (tree_seen t) → length table ≡ length t.types.items
-        → definition_at (tree_seen t) (get_or order i 0) ≡ definition_seen d → v ≡ kind_of names (item kind_names.Bool table) (get_or order i 0) (definition_seen d)
+        → definition_at (tree_seen t) (get_or order i 0) ≡ definition_seen d → v ≡ definition_kind names (item kind_names.Bool table) (get_or order i 0) (definition_seen d)
         → IsFilled kind_names.Bool (kind_at (tree_seen t)) (take i order) table → IsFilled kind_names.Bool (kind_at (tree_seen t)) (take (i + 1) order) (set table (get_or order i 0) v)
     kind_more i names table v d lt named size here is filled =
         let p = tree_seen t in
         let x = get_or order i 0 in
-        let right : v ≡ definition_kind p (item kind_names.Bool table) x (definition_at p x) =
-        is ∙ rw (here, named) (sym (kind_is p (item kind_names.Bool table) x (definition_seen d))) in
+        let right : v ≡ definition_kind (type_names p) (item kind_names.Bool table) x (definition_at p x) =
+        is ∙ rw (here, named) refl in
         let room : x < length table = omega (arith, size, type_fits i lt) in
-        filled_next (type_uses p) kind_names.Bool (λ at k. definition_kind p at k (definition_at p k)) (kind_step_local p) (types_inside p) order kind_names.Bool table (length p.types) i x v o.ordered size_fits lt refl room filled right
+        filled_next (type_uses p) kind_names.Bool (λ at k. definition_kind (type_names p) at k (definition_at p k)) (kind_step_local p) (types_inside p) order kind_names.Bool table (length p.types) i x v o.ordered size_fits lt refl room filled right
 
     -- all types
     pub kinds_whole : (i : ℕ) (table : List Kind) → length order ≤ i → length table ≡ length t.types.items → IsFilled kind_names.Bool (kind_at (tree_seen t)) (take i order) table → AreKinds (tree_seen t) table
@@ -75,42 +74,42 @@ module _ (t : StoredTree) where
     count = types_length ∙ sym uses_length
 
     module _ (i : ℕ) (names : List Text) (table : List ℕ) (v : ℕ) (d : StoredDefinition) (lt : i < length order) (named : names ≡ type_names (tree_seen t)) (here : definition_at (tree_seen t) (get_or order i 0) ≡ definition_seen d) where
-      leaves_right : v ≡ leaves_of names (item 1 table) (definition_seen d) → v ≡ definition_leaves (tree_seen t) (item 1 table) (definition_at (tree_seen t) (get_or order i 0))
-      leaves_right is = is ∙ rw (here, named) (sym (leaves_are (tree_seen t) (item 1 table) (definition_seen d)))
+      leaves_right : v ≡ definition_leaves names (item 1 table) (definition_seen d) → v ≡ definition_leaves (type_names (tree_seen t)) (item 1 table) (definition_at (tree_seen t) (get_or order i 0))
+      leaves_right is = is ∙ rw (here, named) refl
 
-      pub leaves_more : length table ≡ length t.types.items → IsFilled 1 (leaves_at (tree_seen t)) (take i order) table → v ≡ leaves_of names (item 1 table) (definition_seen d)
+      pub leaves_more : length table ≡ length t.types.items → IsFilled 1 (leaves_at (tree_seen t)) (take i order) table → v ≡ definition_leaves names (item 1 table) (definition_seen d)
           → IsFilled 1 (leaves_at (tree_seen t)) (take (i + 1) order) (set table (get_or order i 0) v)
       leaves_more size filled is =
           let p = tree_seen t in
-          one_more (type_uses p) order o (types_inside p) (length p.types) 0 1 1024 (λ at k. definition_leaves p at (definition_at p k)) (leaves_step_local p) count i table v lt (size ∙ sym types_length) filled (leaves_right is)
+          one_more (type_uses p) order o (types_inside p) (length p.types) 0 1 1024 (λ at k. definition_leaves (type_names p) at (definition_at p k)) (leaves_step_local p) count i table v lt (size ∙ sym types_length) filled (leaves_right is)
 
-      pub leaves_past : IsFilled 1 (leaves_at (tree_seen t)) (take i order) table → v ≡ leaves_of names (item 1 table) (definition_seen d) → 1024 < v → Below (length (map type_seen t.types.items)) (λ k. leaves_at (tree_seen t) k ≤ 1024) → ⊥
+      pub leaves_past : IsFilled 1 (leaves_at (tree_seen t)) (take i order) table → v ≡ definition_leaves names (item 1 table) (definition_seen d) → 1024 < v → Below (length (map type_seen t.types.items)) (λ k. leaves_at (tree_seen t) k ≤ 1024) → ⊥
       leaves_past filled is past =
           let p = tree_seen t in
-          one_past (type_uses p) order o (types_inside p) (length p.types) 0 1 1024 (λ at k. definition_leaves p at (definition_at p k)) (leaves_step_local p) count i table v lt filled (leaves_right is) past
+          one_past (type_uses p) order o (types_inside p) (length p.types) 0 1 1024 (λ at k. definition_leaves (type_names p) at (definition_at p k)) (leaves_step_local p) count i table v lt filled (leaves_right is) past
 
-      nesting_right : v ≡ nesting_of names (item 0 table) (definition_seen d) → v ≡ definition_nesting (tree_seen t) (item 0 table) (definition_at (tree_seen t) (get_or order i 0))
-      nesting_right is = is ∙ rw (here, named) (sym (nesting_is (tree_seen t) (item 0 table) (definition_seen d)))
+      nesting_right : v ≡ definition_nesting names (item 0 table) (definition_seen d) → v ≡ definition_nesting (type_names (tree_seen t)) (item 0 table) (definition_at (tree_seen t) (get_or order i 0))
+      nesting_right is = is ∙ rw (here, named) refl
 
-      pub nesting_more : length table ≡ length t.types.items → IsFilled 0 (nesting_at (tree_seen t)) (take i order) table → v ≡ nesting_of names (item 0 table) (definition_seen d)
+      pub nesting_more : length table ≡ length t.types.items → IsFilled 0 (nesting_at (tree_seen t)) (take i order) table → v ≡ definition_nesting names (item 0 table) (definition_seen d)
           → IsFilled 0 (nesting_at (tree_seen t)) (take (i + 1) order) (set table (get_or order i 0) v)
       nesting_more size filled is =
           let p = tree_seen t in
-          one_more (type_uses p) order o (types_inside p) (length p.types) 0 0 64 (λ at k. definition_nesting p at (definition_at p k)) (nesting_step_local p) count i table v lt (size ∙ sym types_length) filled (nesting_right is)
+          one_more (type_uses p) order o (types_inside p) (length p.types) 0 0 64 (λ at k. definition_nesting (type_names p) at (definition_at p k)) (nesting_step_local p) count i table v lt (size ∙ sym types_length) filled (nesting_right is)
 
-      pub nesting_past : IsFilled 0 (nesting_at (tree_seen t)) (take i order) table → v ≡ nesting_of names (item 0 table) (definition_seen d) → 64 < v → Below (length (map type_seen t.types.items)) (λ k. nesting_at (tree_seen t) k ≤ 64) → ⊥
+      pub nesting_past : IsFilled 0 (nesting_at (tree_seen t)) (take i order) table → v ≡ definition_nesting names (item 0 table) (definition_seen d) → 64 < v → Below (length (map type_seen t.types.items)) (λ k. nesting_at (tree_seen t) k ≤ 64) → ⊥
       nesting_past filled is past =
           let p = tree_seen t in
-          one_past (type_uses p) order o (types_inside p) (length p.types) 0 0 64 (λ at k. definition_nesting p at (definition_at p k)) (nesting_step_local p) count i table v lt filled (nesting_right is) past
+          one_past (type_uses p) order o (types_inside p) (length p.types) 0 0 64 (λ at k. definition_nesting (type_names p) at (definition_at p k)) (nesting_step_local p) count i table v lt filled (nesting_right is) past
 
     pub leaves_whole : (i : ℕ) (table : List ℕ) → length order ≤ i → length table ≡ length t.types.items → IsFilled 1 (leaves_at (tree_seen t)) (take i order) table → All (λ k. k ≤ 1024) table
         → Below (length (map type_seen t.types.items)) (λ k. leaves_at (tree_seen t) k ≤ 1024)
     leaves_whole i table le size filled small =
         let p = tree_seen t in
-        all_within (type_uses p) order o (types_inside p) (length p.types) 0 1 1024 (λ at k. definition_leaves p at (definition_at p k)) (leaves_step_local p) count i table le (size ∙ sym types_length) filled small
+        all_within (type_uses p) order o (types_inside p) (length p.types) 0 1 1024 (λ at k. definition_leaves (type_names p) at (definition_at p k)) (leaves_step_local p) count i table le (size ∙ sym types_length) filled small
 
     pub nesting_whole : (i : ℕ) (table : List ℕ) → length order ≤ i → length table ≡ length t.types.items → IsFilled 0 (nesting_at (tree_seen t)) (take i order) table → All (λ k. k ≤ 64) table
         → Below (length (map type_seen t.types.items)) (λ k. nesting_at (tree_seen t) k ≤ 64)
     nesting_whole i table le size filled small =
         let p = tree_seen t in
-        all_within (type_uses p) order o (types_inside p) (length p.types) 0 0 64 (λ at k. definition_nesting p at (definition_at p k)) (nesting_step_local p) count i table le (size ∙ sym types_length) filled small
+        all_within (type_uses p) order o (types_inside p) (length p.types) 0 0 64 (λ at k. definition_nesting (type_names p) at (definition_at p k)) (nesting_step_local p) count i table le (size ∙ sym types_length) filled small

@@ -1,8 +1,6 @@
 -- What a declared type has comes from what the types have that its declaration names.
-use Rattle.std.proofs.Common.{arith, ◌≡◌, ◌∙◌, refl, sym, ap, ℕ, zero, suc, ◌*◌, ◌<◌, List, [], ◌∷◌, Option, Some, None, cond, length, get_or, map, flat_map, sum_by, Contains, All, add-one}
+use Rattle.std.proofs.Common.{arith, ◌≡◌, refl, ap, ℕ, zero, suc, ◌*◌, ◌<◌, List, [], ◌∷◌, Option, Some, None, length, get_or, map, flat_map, sum_by, Contains, All}
 use Rattle.std.specs.Option.{option_to_list}
-use Rattle.std.specs.List.{position_from}
-use Rattle.std.specs.Str.{bytes_eq}
 use Rattle.std.proofs.lemmas.List.{length-map}
 use Rattle.std.proofs.lemmas.List.Elements.{Contains-append_left, Contains-append_right, All-nil, All-append, All-contains}
 use Rattle.std.proofs.lemmas.List.Sums.{sum_by-cons}
@@ -11,77 +9,38 @@ use Rattle.lus_syntax.specs.Trees.{TypeName, BoolName, IntName, DeclaredName, Fi
 use Rattle.lus_program.specs.declared.types.Kind.{Kind}
 use Rattle.lus_program.specs.declared.types.Kind.TheVariants as kinds
 use Rattle.lus_graph.specs.Ways.{used}
-use Rattle.lus_meaning.specs.Scopes.{entry}
 use Rattle.lus_meaning.specs.Loopless.{place_in, type_names, named_type, definition_uses, type_uses}
-use Rattle.lus_meaning.specs.Tables.{numbered_from, type_places, of_type, definition_at, no_definition, definition_kind}
+use Rattle.lus_meaning.specs.Tables.{of_type, definition_at, no_definition, definition_kind}
 use Rattle.lus_meaning.specs.Sized.{greatest, definition_leaves, definition_nesting}
-use Rattle.lus_limits.specs.ByNames.{of_name, leaves_of, nesting_of, kind_of}
 use Rattle.lus_limits.proofs.NamePlaces.{places_inside}
 use Rattle.lus_meaning.proofs.AlongOrders.{IsLocal, IsInside}
 
--- by places and by names
-
-entry_from : (n : Text) (k : ℕ) (ds : List TypeDeclaration) → entry (map (λ e. (e.0.name.text, e.1)) (numbered_from k ds)) n ≡ position_from (λ m. bytes_eq n m) k (map (λ d. d.name.text) ds)
-entry_from n k [] = refl
-entry_from n k (d ∷ ds) = ap (cond (bytes_eq n d.name.text) (Some k)) (entry_from n (suc k) ds ∙ rw (add-one k) refl)
-
-pub entry_is_place : (p : Tree) (n : Text) → entry (type_places p) n ≡ place_in (type_names p) n
-entry_is_place p n = entry_from n 0 p.types
-
-pub of_type_is : {X : Type 0} (p : Tree) (x y : X) (at : ℕ → X) (n : TypeName) → of_type p x y at n ≡ of_name (type_names p) x y at n
-of_type_is p x y at (BoolName s) = refl
-of_type_is p x y at (IntName s) = refl
-of_type_is p x y at (DeclaredName n) = ap (λ o. elim o [ Some t ↦ at t | None ↦ x ]) (entry_is_place p n.text)
+-- locality
 
 sums_same : {X : Type 0} (f g : X → ℕ) (x : X) (xs : List X) → f x ≡ g x → sum_by f xs ≡ sum_by g xs → sum_by f (x ∷ xs) ≡ sum_by g (x ∷ xs)
 sums_same f g x xs first rest = omega (arith, sum_by-cons f x xs, sum_by-cons g x xs)
-
-sums_are : (p : Tree) (at : ℕ → ℕ) (fs : List Fields) → sum_by (λ g. length g.names * of_type p 1 1 at g.type_name) fs ≡ sum_by (λ g. length g.names * of_name (type_names p) 1 1 at g.type_name) fs
-sums_are p at [] = refl
-sums_are p at (g ∷ fs) = sums_same (λ h. length h.names * of_type p 1 1 at h.type_name) (λ h. length h.names * of_name (type_names p) 1 1 at h.type_name) g fs (ap (λ n. length g.names * n) (of_type_is p 1 1 at g.type_name)) (sums_are p at fs)
-
-greatest_are : (p : Tree) (at : ℕ → ℕ) (fs : List Fields) → greatest (λ g. of_type p 0 0 at g.type_name) fs ≡ greatest (λ g. of_name (type_names p) 0 0 at g.type_name) fs
-greatest_are p at [] = refl
-greatest_are p at (g ∷ fs) = rw (of_type_is p 0 0 at g.type_name, greatest_are p at fs) refl
-
-pub leaves_are : (p : Tree) (at : ℕ → ℕ) (d : Definition) → definition_leaves p at d ≡ leaves_of (type_names p) at d
-leaves_are p at (Alias y) = of_type_is p 1 1 at y
-leaves_are p at (Enumeration cs) = refl
-leaves_are p at (StructureOf fs) = sums_are p at fs
-
-pub nesting_is : (p : Tree) (at : ℕ → ℕ) (d : Definition) → definition_nesting p at d ≡ nesting_of (type_names p) at d
-nesting_is p at (Alias y) = of_type_is p 0 0 at y
-nesting_is p at (Enumeration cs) = refl
-nesting_is p at (StructureOf fs) = ap suc (greatest_are p at fs)
-
-pub kind_is : (p : Tree) (at : ℕ → Kind) (t : ℕ) (d : Definition) → definition_kind p at t d ≡ kind_of (type_names p) at t d
-kind_is p at t (Alias y) = of_type_is p kinds.Bool kinds.Int at y
-kind_is p at t (Enumeration cs) = refl
-kind_is p at t (StructureOf fs) = refl
-
--- locality
 
 place_local : {X : Type 0} (x : X) (at at' : ℕ → X) (o : Option ℕ) → ((t : ℕ) → Contains (option_to_list o) t → at t ≡ at' t) → ◌≡◌ {A = X} (elim o [ Some t ↦ at t | None ↦ x ]) (elim o [ Some t ↦ at' t | None ↦ x ])
 place_local x at at' None agree = refl
 place_local x at at' (Some t) agree = agree t (0, omega arith, refl)
 
 module _ (types : List Text) where
-  name_local : {X : Type 0} (x y : X) (at at' : ℕ → X) (n : TypeName) → ((t : ℕ) → Contains (named_type types n) t → at t ≡ at' t) → of_name types x y at n ≡ of_name types x y at' n
+  name_local : {X : Type 0} (x y : X) (at at' : ℕ → X) (n : TypeName) → ((t : ℕ) → Contains (named_type types n) t → at t ≡ at' t) → of_type types x y at n ≡ of_type types x y at' n
   name_local x y at at' (BoolName s) agree = refl
   name_local x y at at' (IntName s) agree = refl
   name_local x y at at' (DeclaredName n) agree = place_local x at at' (place_in types n.text) agree
 
   sums_local : (at at' : ℕ → ℕ) (fs : List Fields) → ((t : ℕ) → Contains (flat_map (λ g. named_type types g.type_name) fs) t → at t ≡ at' t)
-      → sum_by (λ g. length g.names * of_name types 1 1 at g.type_name) fs ≡ sum_by (λ g. length g.names * of_name types 1 1 at' g.type_name) fs
+      → sum_by (λ g. length g.names * of_type types 1 1 at g.type_name) fs ≡ sum_by (λ g. length g.names * of_type types 1 1 at' g.type_name) fs
   sums_local at at' [] agree = refl
   sums_local at at' (g ∷ fs) agree =
       let us = flat_map (λ h. named_type types h.type_name) fs in
       let first = name_local 1 1 at at' g.type_name (λ t among. agree t (Contains-append_left (named_type types g.type_name) us t among)) in
       let rest = sums_local at at' fs (λ t among. agree t (Contains-append_right (named_type types g.type_name) us t among)) in
-      sums_same (λ h. length h.names * of_name types 1 1 at h.type_name) (λ h. length h.names * of_name types 1 1 at' h.type_name) g fs (ap (λ n. length g.names * n) first) rest
+      sums_same (λ h. length h.names * of_type types 1 1 at h.type_name) (λ h. length h.names * of_type types 1 1 at' h.type_name) g fs (ap (λ n. length g.names * n) first) rest
 
   greatest_local : (at at' : ℕ → ℕ) (fs : List Fields) → ((t : ℕ) → Contains (flat_map (λ g. named_type types g.type_name) fs) t → at t ≡ at' t)
-      → greatest (λ g. of_name types 0 0 at g.type_name) fs ≡ greatest (λ g. of_name types 0 0 at' g.type_name) fs
+      → greatest (λ g. of_type types 0 0 at g.type_name) fs ≡ greatest (λ g. of_type types 0 0 at' g.type_name) fs
   greatest_local at at' [] agree = refl
   greatest_local at at' (g ∷ fs) agree =
       let us = flat_map (λ h. named_type types h.type_name) fs in
@@ -89,17 +48,17 @@ module _ (types : List Text) where
       let rest = greatest_local at at' fs (λ t among. agree t (Contains-append_right (named_type types g.type_name) us t among)) in
       rw (first, rest) refl
 
-  leaves_local : (at at' : ℕ → ℕ) (d : Definition) → ((t : ℕ) → Contains (definition_uses types d) t → at t ≡ at' t) → leaves_of types at d ≡ leaves_of types at' d
+  leaves_local : (at at' : ℕ → ℕ) (d : Definition) → ((t : ℕ) → Contains (definition_uses types d) t → at t ≡ at' t) → definition_leaves types at d ≡ definition_leaves types at' d
   leaves_local at at' (Alias y) agree = name_local 1 1 at at' y agree
   leaves_local at at' (Enumeration cs) agree = refl
   leaves_local at at' (StructureOf fs) agree = sums_local at at' fs agree
 
-  nesting_local : (at at' : ℕ → ℕ) (d : Definition) → ((t : ℕ) → Contains (definition_uses types d) t → at t ≡ at' t) → nesting_of types at d ≡ nesting_of types at' d
+  nesting_local : (at at' : ℕ → ℕ) (d : Definition) → ((t : ℕ) → Contains (definition_uses types d) t → at t ≡ at' t) → definition_nesting types at d ≡ definition_nesting types at' d
   nesting_local at at' (Alias y) agree = name_local 0 0 at at' y agree
   nesting_local at at' (Enumeration cs) agree = refl
   nesting_local at at' (StructureOf fs) agree = ap suc (greatest_local at at' fs agree)
 
-  kind_local : (at at' : ℕ → Kind) (k : ℕ) (d : Definition) → ((t : ℕ) → Contains (definition_uses types d) t → at t ≡ at' t) → kind_of types at k d ≡ kind_of types at' k d
+  kind_local : (at at' : ℕ → Kind) (k : ℕ) (d : Definition) → ((t : ℕ) → Contains (definition_uses types d) t → at t ≡ at' t) → definition_kind types at k d ≡ definition_kind types at' k d
   kind_local at at' k (Alias y) agree = name_local kinds.Bool kinds.Int at at' y agree
   kind_local at at' k (Enumeration cs) agree = refl
   kind_local at at' k (StructureOf fs) agree = refl
@@ -135,17 +94,11 @@ types_inside p t y among =
     let lt : y < length (type_names p) = All-contains (λ k. k < length (type_names p)) (definition_uses (type_names p) (definition_at p t)) y (definition_inside (type_names p) (definition_at p t)) here in
     omega (arith, length-map p.types (λ d. d.name.text), length-map p.types (λ d. definition_uses (type_names p) d.definition))
 
-pub leaves_step_local : (p : Tree) → IsLocal (type_uses p) (λ at t. definition_leaves p at (definition_at p t))
-leaves_step_local p at at' t agree =
-    let d = definition_at p t in
-    leaves_are p at d ∙ leaves_local (type_names p) at at' d (λ y among. agree y (rw (used_is p t) among)) ∙ sym (leaves_are p at' d)
+pub leaves_step_local : (p : Tree) → IsLocal (type_uses p) (λ at t. definition_leaves (type_names p) at (definition_at p t))
+leaves_step_local p at at' t agree = leaves_local (type_names p) at at' (definition_at p t) (λ y among. agree y (rw (used_is p t) among))
 
-pub nesting_step_local : (p : Tree) → IsLocal (type_uses p) (λ at t. definition_nesting p at (definition_at p t))
-nesting_step_local p at at' t agree =
-    let d = definition_at p t in
-    nesting_is p at d ∙ nesting_local (type_names p) at at' d (λ y among. agree y (rw (used_is p t) among)) ∙ sym (nesting_is p at' d)
+pub nesting_step_local : (p : Tree) → IsLocal (type_uses p) (λ at t. definition_nesting (type_names p) at (definition_at p t))
+nesting_step_local p at at' t agree = nesting_local (type_names p) at at' (definition_at p t) (λ y among. agree y (rw (used_is p t) among))
 
-pub kind_step_local : (p : Tree) → IsLocal (type_uses p) (λ at t. definition_kind p at t (definition_at p t))
-kind_step_local p at at' t agree =
-    let d = definition_at p t in
-    kind_is p at t d ∙ kind_local (type_names p) at at' t d (λ y among. agree y (rw (used_is p t) among)) ∙ sym (kind_is p at' t d)
+pub kind_step_local : (p : Tree) → IsLocal (type_uses p) (λ at t. definition_kind (type_names p) at t (definition_at p t))
+kind_step_local p at at' t agree = kind_local (type_names p) at at' t (definition_at p t) (λ y among. agree y (rw (used_is p t) among))

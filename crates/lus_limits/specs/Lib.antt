@@ -1,3 +1,2 @@
-pub mod ByNames
 pub mod GraphErrors
 pub mod Limits

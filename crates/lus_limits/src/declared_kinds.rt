@@ -7,8 +7,7 @@ ghost use Rattle.lus_graph.specs.Ways.{IsOrder};
 ghost use Rattle.lus_syntax.specs.Limits.{most_declarations};
 ghost use Rattle.lus_syntax.specs.View.{definition_seen, tree_seen};
 ghost use Rattle.lus_meaning.specs.Loopless.{type_names, type_uses as uses_of_types};
-ghost use Rattle.lus_meaning.specs.Tables.{AreKinds};
-ghost use Rattle.lus_limits.specs.ByNames.{kind_of as kind_by_names};
+ghost use Rattle.lus_meaning.specs.Tables.{AreKinds, definition_kind};
 
 use crate::named::of_name;
 use indexmap::IndexSet;
@@ -41,7 +40,7 @@ pub fn kinds_of_types(
 fn kind_of(types: &IndexSet<String>, place: usize, definition: &Definition, kinds: &[Kind]) -> Kind
     requires few { place < most_declarations }
     ensures { let at = item kind_names.Bool kinds.now in
-        result ≡ kind_by_names (map string_bytes types.now.keys) at place (definition_seen definition.now) }
+        result ≡ definition_kind (map string_bytes types.now.keys) at place (definition_seen definition.now) }
 {
     match definition {
         Definition::Alias(name) => of_name(types, name, Kind::Bool, Kind::Int, kinds),

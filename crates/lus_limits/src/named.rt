@@ -3,7 +3,7 @@
 ghost use Rattle.std.specs.Prelude.{◌≡◌, map, string_bytes};
 ghost use Rattle.lus_values.specs.Lists.{item};
 ghost use Rattle.lus_syntax.specs.View.{type_name_seen};
-ghost use Rattle.lus_limits.specs.ByNames.{of_name as by_name};
+ghost use Rattle.lus_meaning.specs.Tables.{of_type};
 
 use indexmap::IndexSet;
 use lus_syntax::TypeName;
@@ -16,7 +16,7 @@ pub fn of_name<T: Copy>(
     of_int: T,
     table: &[T],
 ) -> T
-    ensures { result ≡ by_name (map string_bytes types.now.keys) of_bool of_int (item of_bool table.now) (type_name_seen name.now) }
+    ensures { result ≡ of_type (map string_bytes types.now.keys) of_bool of_int (item of_bool table.now) (type_name_seen name.now) }
 {
     match name {
         TypeName::Bool(_) => of_bool,

@@ -7,9 +7,8 @@ ghost use Rattle.lus_syntax.specs.Limits.{most_declarations, most_leaves, most_n
 ghost use Rattle.lus_syntax.specs.View.{definition_seen, fields_seen, tree_seen};
 ghost use Rattle.lus_meaning.specs.Loopless.{node_names, node_uses as calls_of_nodes, type_names, type_uses as uses_of_types};
 ghost use Rattle.lus_meaning.specs.ScopeView.{Faulty};
-ghost use Rattle.lus_meaning.specs.Sized.{Bounded, greatest, TypesBounded};
+ghost use Rattle.lus_meaning.specs.Sized.{Bounded, definition_leaves, definition_nesting, greatest, group_leaves, group_nesting, TypesBounded};
 ghost use Rattle.lus_limits.specs.Limits.{IsLimited};
-ghost use Rattle.lus_limits.specs.ByNames.{group_leaves, group_nesting, leaves_of as leaves_by_names, nesting_of as nesting_by_names};
 
 use crate::calls::check_calls;
 use crate::named::of_name;
@@ -69,7 +68,7 @@ fn check_types(
 
 /// The leaves of a type, if they are within the limit, by those of the types that its declaration names.
 fn leaves_of(types: &IndexSet<String>, definition: &Definition, leaves: &[usize]) -> Option<usize>
-    ensures { let count = leaves_by_names (map string_bytes types.now.keys) (item 1 leaves.now) (definition_seen definition.now) in
+    ensures { let count = definition_leaves (map string_bytes types.now.keys) (item 1 leaves.now) (definition_seen definition.now) in
         IsLimited most_leaves count result }
 {
     match definition {
@@ -95,7 +94,7 @@ fn leaves_of_fields(types: &IndexSet<String>, groups: &[Fields], leaves: &[usize
 
 /// How deep structures stand in a type, if that is within the limit, by the types that its declaration names.
 fn nesting_of(types: &IndexSet<String>, definition: &Definition, nesting: &[usize]) -> Option<usize>
-    ensures { let depth = nesting_by_names (map string_bytes types.now.keys) (item 0 nesting.now) (definition_seen definition.now) in
+    ensures { let depth = definition_nesting (map string_bytes types.now.keys) (item 0 nesting.now) (definition_seen definition.now) in
         IsLimited most_nesting depth result }
 {
     match definition {

@@ -1,7 +1,7 @@
 pub mod Scopes
+pub mod Loopless
 pub mod Tables
 pub mod Named
-pub mod Loopless
 pub mod Sized
 pub mod Types
 pub mod Meaning

@@ -1,11 +1,12 @@
 -- The limits of a source: counts, and what counts only where nothing leads back to itself.
 use Rattle.std.specs.Prelude.{◌*◌, ◌<◌, ◌≤◌, ℕ, suc, true, false, List, [], ◌∷◌, length, sum_by, nat_lt}
 use Rattle.lus_syntax.specs.Limits.{most_calls_deep, most_constructors, most_declarations, most_fields, most_leaves, most_nesting, most_variables}
+use Rattle.lus_syntax.specs.Lexemes.{Text}
 use Rattle.lus_syntax.specs.Trees.{Fields, Definition, Alias, Enumeration, StructureOf, Group, Tree}
 use Rattle.lus_values.specs.Lists.{Each, Below}
 use Rattle.lus_meaning.specs.Tables.{groups, of_type, definition_at, within}
 use Rattle.lus_graph.specs.Ways.{used}
-use Rattle.lus_meaning.specs.Loopless.{node_uses}
+use Rattle.lus_meaning.specs.Loopless.{node_uses, type_names}
 
 abbrev pub field_count : List Fields → ℕ
 field_count fs = sum_by (λ g. length g.names) fs
@@ -34,23 +35,31 @@ abbrev pub greatest : {X : Type 0} → (X → ℕ) → List X → ℕ
 greatest f [] = 0
 greatest f (x ∷ xs) = greater (f x) (greatest f xs)
 
-abbrev pub definition_leaves : Tree → (ℕ → ℕ) → Definition → ℕ
-definition_leaves p at (Alias y) = of_type p 1 1 at y
-definition_leaves p at (Enumeration cs) = 1
-definition_leaves p at (StructureOf fs) = sum_by (λ g. length g.names * of_type p 1 1 at g.type_name) fs
+-- the leaves of fields that are declared together
+abbrev pub group_leaves : List Text → (ℕ → ℕ) → Fields → ℕ
+group_leaves types at g = length g.names * of_type types 1 1 at g.type_name
+
+abbrev pub definition_leaves : List Text → (ℕ → ℕ) → Definition → ℕ
+definition_leaves types at (Alias y) = of_type types 1 1 at y
+definition_leaves types at (Enumeration cs) = 1
+definition_leaves types at (StructureOf fs) = sum_by (group_leaves types at) fs
 
 -- the leaves of each type: bool, int and an enumeration have 1, a structure has those of its fields
 abbrev pub leaves_at : Tree → ℕ → ℕ
-leaves_at p = within (length p.types) 0 (λ at t. definition_leaves p at (definition_at p t))
+leaves_at p = within (length p.types) 0 (λ at t. definition_leaves (type_names p) at (definition_at p t))
 
-abbrev pub definition_nesting : Tree → (ℕ → ℕ) → Definition → ℕ
-definition_nesting p at (Alias y) = of_type p 0 0 at y
-definition_nesting p at (Enumeration cs) = 0
-definition_nesting p at (StructureOf fs) = suc (greatest (λ g. of_type p 0 0 at g.type_name) fs)
+-- how deep structures stand in fields that are declared together
+abbrev pub group_nesting : List Text → (ℕ → ℕ) → Fields → ℕ
+group_nesting types at g = of_type types 0 0 at g.type_name
+
+abbrev pub definition_nesting : List Text → (ℕ → ℕ) → Definition → ℕ
+definition_nesting types at (Alias y) = of_type types 0 0 at y
+definition_nesting types at (Enumeration cs) = 0
+definition_nesting types at (StructureOf fs) = suc (greatest (group_nesting types at) fs)
 
 -- how deep structures stand in each type: a structure is one deeper than its deepest field
 abbrev pub nesting_at : Tree → ℕ → ℕ
-nesting_at p = within (length p.types) 0 (λ at t. definition_nesting p at (definition_at p t))
+nesting_at p = within (length p.types) 0 (λ at t. definition_nesting (type_names p) at (definition_at p t))
 
 -- how deep each node's calls go: a node without calls has 1
 abbrev pub call_depth_at : Tree → ℕ → ℕ

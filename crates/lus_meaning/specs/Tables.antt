@@ -10,6 +10,7 @@ use Rattle.lus_program.specs.Programs.{Field, Declared, alias, enumeration, stru
 use Rattle.lus_meaning.specs.declared.entries.Placed.{Placed}
 use Rattle.lus_meaning.specs.declared.entries.Constructor.{Constructor}
 use Rattle.lus_meaning.specs.Scopes.{Scope, Signature, entry}
+use Rattle.lus_meaning.specs.Loopless.{place_in, type_names}
 
 -- each thing beside its number, from n on
 abbrev pub numbered_from : {X : Type 0} → ℕ → List X → List (X × ℕ)
@@ -31,29 +32,27 @@ within (suc n) d step x = step (within n d step) x
 
 -- types: a declared type is the place of its declaration among the source's types
 
-abbrev pub type_places : Tree → List (Text × ℕ)
-type_places p = map (λ e. (e.0.name.text, e.1)) (numbered_from 0 p.types)
-
 abbrev pub no_definition : Definition
 no_definition = Enumeration []
 
 abbrev pub definition_at : Tree → ℕ → Definition
 definition_at p t = item no_definition (map (λ d. d.definition) p.types) t
 
--- what a type's name has: x where it is bool's, y where it is int's, else what `at` gives its declaration
-abbrev pub of_type : {X : Type 0} → Tree → X → X → (ℕ → X) → TypeName → X
-of_type p x y at (BoolName s) = x
-of_type p x y at (IntName s) = y
-of_type p x y at (DeclaredName n) = elim (entry (type_places p) n.text) [ Some t ↦ at t | None ↦ x ]
+-- what a type's name has, these being the declared types: x where it is bool's, y where it is int's, else what `at` gives
+-- its declaration
+abbrev pub of_type : {X : Type 0} → List Text → X → X → (ℕ → X) → TypeName → X
+of_type types x y at (BoolName s) = x
+of_type types x y at (IntName s) = y
+of_type types x y at (DeclaredName n) = elim (place_in types n.text) [ Some t ↦ at t | None ↦ x ]
 
 -- an alias is the type it names
-abbrev pub definition_kind : Tree → (ℕ → Kind) → ℕ → Definition → Kind
-definition_kind p at t (Alias y) = of_type p kinds.Bool kinds.Int at y
-definition_kind p at t (Enumeration cs) = kinds.Enum t
-definition_kind p at t (StructureOf fs) = kinds.Struct t
+abbrev pub definition_kind : List Text → (ℕ → Kind) → ℕ → Definition → Kind
+definition_kind types at t (Alias y) = of_type types kinds.Bool kinds.Int at y
+definition_kind types at t (Enumeration cs) = kinds.Enum t
+definition_kind types at t (StructureOf fs) = kinds.Struct t
 
 abbrev pub kind_at : Tree → ℕ → Kind
-kind_at p = within (length p.types) kinds.Bool (λ at t. definition_kind p at t (definition_at p t))
+kind_at p = within (length p.types) kinds.Bool (λ at t. definition_kind (type_names p) at t (definition_at p t))
 
 -- the types that the declarations of a source declare, one by one
 pub record AreKinds (p : Tree) (ks : List Kind) : Type 0 where
@@ -62,7 +61,7 @@ pub record AreKinds (p : Tree) (ks : List Kind) : Type 0 where
 
 -- the type that a name means; bool for an unknown one
 abbrev pub kind_named : Tree → TypeName → Kind
-kind_named p y = of_type p kinds.Bool kinds.Int (kind_at p) y
+kind_named p = of_type (type_names p) kinds.Bool kinds.Int (kind_at p)
 
 -- the table of declared types, by the types that their declarations declare
 abbrev pub types_by : (ℕ → Kind) → List TypeDeclaration → List (Text × Kind)

@@ -1,21 +1,17 @@
 -- The types of a program lead where the declarations of its tree lead, so nowhere back.
-use Rattle.std.proofs.Common.{arith, ◌≡◌, ◌∙◌, sym, ap, refl, subst, ℕ, zero, suc, ◌⊎◌, inl, inr, List, [], ◌∷◌, Option, Some, None, cond, map, flat_map, Contains, ⊎_elim, add-one}
+use Rattle.std.proofs.Common.{arith, ◌≡◌, sym, ap, refl, subst, ℕ, zero, suc, ◌⊎◌, inl, inr, List, [], ◌∷◌, Option, Some, None, map, flat_map, Contains, ⊎_elim}
 use Rattle.std.specs.Option.{option_to_list}
-use Rattle.std.specs.List.{position_from}
-use Rattle.std.specs.Str.{bytes_eq}
 use Rattle.std.proofs.lemmas.Grind.{flat_map-append}
 use Rattle.std.proofs.lemmas.List.Elements.{Contains-append_cases, Contains-append_left, Contains-append_right}
 use Rattle.lus_values.specs.Lists.{item}
 use Rattle.lus_graph.specs.Ways.{Uses, used, Leads, step, then, HasNoWayBack}
 use Rattle.lus_graph.proofs.Steps.{no_item, one_item}
-use Rattle.lus_syntax.specs.Lexemes.{Text}
 use Rattle.lus_syntax.specs.Trees.{Named, TypeName, BoolName, IntName, DeclaredName, Fields, Definition, Alias, Enumeration, StructureOf, TypeDeclaration, Tree}
 use Rattle.lus_program.specs.declared.types.Kind.{Kind}
 use Rattle.lus_program.specs.declared.types.Kind.TheVariants as kinds
 use Rattle.lus_program.specs.Programs.{Field}
-use Rattle.lus_meaning.specs.Scopes.{entry}
 use Rattle.lus_meaning.specs.Loopless.{place_in, type_names, named_type, definition_uses, type_uses as tree_uses}
-use Rattle.lus_meaning.specs.Tables.{numbered_from, type_places, of_type, definition_at, no_definition, definition_kind, within, kind_named, fields_declared, declared_as}
+use Rattle.lus_meaning.specs.Tables.{of_type, definition_at, no_definition, definition_kind, within, kind_named, fields_declared, declared_as}
 use Rattle.lus_meaning.specs.Meaning.{program_of}
 use Rattle.lus_meaning.specs.Sound.{structures_in, declared_uses, type_uses}
 
@@ -42,10 +38,6 @@ group_is : (k : Kind) (ns : List Named) (u : ℕ) → Contains (flat_map (λ (g 
 group_is k [] u among = elim (no_item among.0 among.1) [ ]
 group_is k (n ∷ ns) u among = ⊎_elim (structure_is k u) (group_is k ns u) (Contains-append_cases (structures_in k) (flat_map (λ (g : Field). structures_in g.kind) (map (λ (n : Named). record { name = n.text; kind = k }) ns)) u among)
 
-entry_from : (n : Text) (k : ℕ) (ds : List TypeDeclaration) → entry (map (λ e. (e.0.name.text, e.1)) (numbered_from k ds)) n ≡ position_from (λ m. bytes_eq n m) k (map (λ d. d.name.text) ds)
-entry_from n k [] = refl
-entry_from n k (d ∷ ds) = ap (cond (bytes_eq n d.name.text) (Some k)) (entry_from n (suc k) ds ∙ rw (add-one k) refl)
-
 module _ (p : Tree) where
   -- what the declaration of a type names is what the type uses
   named_uses : (ds : List TypeDeclaration) (t : ℕ) → item [] (map (λ d. definition_uses (type_names p) d.definition) ds) t ≡ definition_uses (type_names p) (item no_definition (map (λ d. d.definition) ds) t)
@@ -60,7 +52,7 @@ module _ (p : Tree) where
 
   -- the type of a declaration, its names followed n times
   abbrev followed : ℕ → ℕ → Kind
-  followed n = within n kinds.Bool (λ at t. definition_kind p at t (definition_at p t))
+  followed n = within n kinds.Bool (λ at t. definition_kind (type_names p) at t (definition_at p t))
 
   -- where a structure is found by following names
   abbrev Reaches : ℕ → Type 0
@@ -74,14 +66,12 @@ module _ (p : Tree) where
   place_leads n t u reaches (Some s) uses is = reached t s u (uses s (0, omega arith, refl)) (reaches s u is)
 
   -- a type that a declaration of t names
-  name_leads : (n t u : ℕ) → Reaches n → (y : TypeName) → ((s : ℕ) → Contains (named_type (type_names p) y) s → Contains (used (tree_uses p) t) s) → of_type p kinds.Bool kinds.Int (followed n) y ≡ kinds.Struct u → Leads (tree_uses p) t u
+  name_leads : (n t u : ℕ) → Reaches n → (y : TypeName) → ((s : ℕ) → Contains (named_type (type_names p) y) s → Contains (used (tree_uses p) t) s) → of_type (type_names p) kinds.Bool kinds.Int (followed n) y ≡ kinds.Struct u → Leads (tree_uses p) t u
   name_leads n t u reaches (BoolName s) uses is = cc
   name_leads n t u reaches (IntName s) uses is = cc
-  name_leads n t u reaches (DeclaredName m) uses is =
-      let placed : entry (type_places p) m.text ≡ place_in (type_names p) m.text = entry_from m.text 0 p.types in
-      place_leads n t u reaches (place_in (type_names p) m.text) uses (ap (λ o. elim o [ Some s ↦ followed n s | None ↦ kinds.Bool ]) (sym placed) ∙ is)
+  name_leads n t u reaches (DeclaredName m) uses is = place_leads n t u reaches (place_in (type_names p) m.text) uses is
 
-  definition_reaches : (n s u : ℕ) → Reaches n → (d : Definition) → ((v : ℕ) → Contains (definition_uses (type_names p) d) v → Contains (used (tree_uses p) s) v) → definition_kind p (followed n) s d ≡ kinds.Struct u → (u ≡ s) ⊎ Leads (tree_uses p) s u
+  definition_reaches : (n s u : ℕ) → Reaches n → (d : Definition) → ((v : ℕ) → Contains (definition_uses (type_names p) d) v → Contains (used (tree_uses p) s) v) → definition_kind (type_names p) (followed n) s d ≡ kinds.Struct u → (u ≡ s) ⊎ Leads (tree_uses p) s u
   definition_reaches n s u reaches (Alias y) uses is = inr (name_leads n s u reaches y uses is)
   definition_reaches n s u reaches (Enumeration cs) uses is = cc
   definition_reaches n s u reaches (StructureOf fs) uses is = inl (cc)

@@ -1,6 +1,6 @@
 -- The tables that the code makes are those of the source.
-use Rattle.std.proofs.Common.{arith, ◌≡◌, ◌∙◌, refl, sym, ap, subst, ℕ, suc, ◌+◌, ◌≤◌, ◌&&◌, List, [], ◌∷◌, Option, Some, None, Bool, true, false, cond, IsTrue, map, length, sum_by, option_map}
-use Rattle.std.specs.List.{list_all}
+use Rattle.std.proofs.Common.{add-one, arith, ◌≡◌, ◌∙◌, refl, sym, ap, subst, ℕ, suc, ◌+◌, ◌≤◌, ◌&&◌, List, [], ◌∷◌, Option, Some, None, Bool, true, false, cond, IsTrue, map, length, sum_by, option_map}
+use Rattle.std.specs.List.{list_all, position_from}
 use Rattle.std.specs.Str.{bytes_eq}
 use Rattle.std.proofs.lemmas.Bool.{le-leb}
 use Rattle.std.proofs.lemmas.List.{length-map}
@@ -14,19 +14,21 @@ use Rattle.lus_program.specs.declared.types.Kind.TheVariants as kinds
 use Rattle.lus_program.specs.Programs.{Field}
 use Rattle.lus_meaning.specs.declared.entries.Placed.{Placed}
 use Rattle.lus_meaning.specs.Scopes.{Scope, entry}
+use Rattle.lus_meaning.specs.Loopless.{place_in, type_names}
 use Rattle.lus_meaning.specs.Sized.{DefinitionCounted, field_count}
-use Rattle.lus_meaning.specs.Tables.{AreKinds, all_constructors, all_declared_by, constants_by, declared_by, fields_by, fields_of_kind, group_kinds, groups, kind_at, kind_named, kinds_by, numbered_from, placed, scope, signatures_by, tables, type_places, types_by}
+use Rattle.lus_meaning.specs.Tables.{AreKinds, all_constructors, all_declared_by, constants_by, declared_by, fields_by, fields_of_kind, group_kinds, groups, kind_at, kind_named, kinds_by, numbered_from, placed, scope, signatures_by, tables, types_by}
 use Rattle.lus_meaning.specs.Types.{has_few_fields}
 use Rattle.lus_tables.specs.ByTable.{kind_in}
 
 -- ---- types
 
-entry-of_places : {X : Type 0} (f : ℕ → X) (es : List (TypeDeclaration × ℕ)) (n : Text) → entry (map (λ e. (e.0.name.text, f e.1)) es) n ≡ option_map f (entry (map (λ e. (e.0.name.text, e.1)) es) n)
-entry-of_places f [] n = refl
-entry-of_places f (e ∷ es) n =
-    ap (cond (bytes_eq n e.0.name.text) (Some (f e.1))) (entry-of_places f es n) ∙ cond_map (bytes_eq n e.0.name.text) (entry (map (λ e. (e.0.name.text, e.1)) es) n)
+entry-of_places : {X : Type 0} (f : ℕ → X) (k : ℕ) (ds : List TypeDeclaration) (n : Text)
+    → entry (map (λ e. (e.0.name.text, f e.1)) (numbered_from k ds)) n ≡ option_map f (position_from (λ m. bytes_eq n m) k (map (λ d. d.name.text) ds))
+entry-of_places f k [] n = refl
+entry-of_places f k (d ∷ ds) n =
+    ap (cond (bytes_eq n d.name.text) (Some (f k))) (entry-of_places f (suc k) ds n ∙ rw (add-one k) refl) ∙ cond_map (bytes_eq n d.name.text) (position_from (λ m. bytes_eq n m) (k + 1) (map (λ e. e.name.text) ds))
   where
-    cond_map : (b : Bool) (r : Option ℕ) → cond b (Some (f e.1)) (option_map f r) ≡ option_map f (cond b (Some e.1) r)
+    cond_map : (b : Bool) (r : Option ℕ) → cond b (Some (f k)) (option_map f r) ≡ option_map f (cond b (Some k) r)
     cond_map true r = refl
     cond_map false r = refl
 
@@ -39,8 +41,8 @@ module _ (p : Tree) where
   kind_in-table (BoolName s) = refl
   kind_in-table (IntName s) = refl
   kind_in-table (DeclaredName n) =
-      ap (λ (o : Option Kind). elim o as (λ _. Kind) [ Some k ↦ k | None ↦ kinds.Bool ]) (entry-of_places (kind_at p) (numbered_from 0 p.types) n.text)
-      ∙ kind_of_place (kind_at p) (entry (type_places p) n.text)
+      ap (λ (o : Option Kind). elim o as (λ _. Kind) [ Some k ↦ k | None ↦ kinds.Bool ]) (entry-of_places (kind_at p) 0 p.types n.text)
+      ∙ kind_of_place (kind_at p) (place_in (type_names p) n.text)
 
   -- the types of the table are those that the names mean
   pub kind_in-tables : kind_in (tables p).types ≡ kind_named p

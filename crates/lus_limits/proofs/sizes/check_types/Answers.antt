@@ -5,7 +5,7 @@ use Rattle.lus_syntax.specs.declared.tree.TypeDeclaration.{TypeDeclaration}
 use Rattle.lus_syntax.specs.View.{definition_seen, tree_seen}
 use Rattle.lus_meaning.specs.Tables.{definition_at}
 use Rattle.lus_values.specs.Lists.{item}
-use Rattle.lus_limits.specs.ByNames.{leaves_of, nesting_of}
+use Rattle.lus_meaning.specs.Sized.{definition_leaves, definition_nesting}
 use Rattle.lus_limits.proofs.TypeTables.{type_fits, leaves_more, leaves_past, leaves_whole, nesting_more, nesting_past, nesting_whole, definition_here}
 use Rattle.lus_limits.proofs.sizes.check_types.Goals as goal
 
@@ -65,7 +65,7 @@ returns-in_default-clause-err c bounded =
     let here : definition_at (tree_seen t) x ≡ definition_seen d =
     definition_here t x c.index-declaration.result.now fits ∙ ap (λ (d : TypeDeclaration). definition_seen d.definition) (sym c.index-declaration.ensures) in
     let past = rw c.deref.ensures.value at c.in_default.ensures in
-    leaves_past t c.args.order.now c.requires.order i names c.loop-place.leaves.items (leaves_of names (item 1 c.loop-place.leaves.items) (definition_seen d)) d c.loop-place-test.true c.requires.type_names here c.loop-place.invariant.leaves_filled refl past bounded.leaves
+    leaves_past t c.args.order.now c.requires.order i names c.loop-place.leaves.items (definition_leaves names (item 1 c.loop-place.leaves.items) (definition_seen d)) d c.loop-place-test.true c.requires.type_names here c.loop-place.invariant.leaves_filled refl past bounded.leaves
 
 pub returns-in_default-nesting_of-clause-err : goal.returns-in_default-nesting_of-clause-err
 returns-in_default-nesting_of-clause-err c bounded =
@@ -78,7 +78,7 @@ returns-in_default-nesting_of-clause-err c bounded =
     let here : definition_at (tree_seen t) x ≡ definition_seen d =
     definition_here t x c.index-declaration.result.now fits ∙ ap (λ (d : TypeDeclaration). definition_seen d.definition) (sym c.index-declaration.ensures) in
     let past = rw c.deref-in-loop-place.ensures.value at c.in_default-nesting_of.ensures in
-    nesting_past t c.args.order.now c.requires.order i names c.loop-place.nesting.items (nesting_of names (item 0 c.loop-place.nesting.items) (definition_seen d)) d c.loop-place-test.true c.requires.type_names here c.loop-place.invariant.nesting_filled refl past bounded.nesting
+    nesting_past t c.args.order.now c.requires.order i names c.loop-place.nesting.items (definition_nesting names (item 0 c.loop-place.nesting.items) (definition_seen d)) d c.loop-place-test.true c.requires.type_names here c.loop-place.invariant.nesting_filled refl past bounded.nesting
 
 pub returns-clause-ok : goal.returns-clause-ok
 returns-clause-ok c =

@@ -2,7 +2,7 @@ use Rattle.std.proofs.Common.{rules, ◌≡◌, ◌∙◌, sym, map, max}
 use Rattle.std.specs.Prelude.{string_bytes}
 use Rattle.lus_values.specs.Lists.{item}
 use Rattle.lus_syntax.specs.View.{fields_seen}
-use Rattle.lus_limits.specs.ByNames.{group_nesting}
+use Rattle.lus_meaning.specs.Sized.{group_nesting}
 use Rattle.lus_limits.proofs.Greatest.{greatest-more_map}
 use Rattle.lus_limits.proofs.sizes.deepest_field.Goals as goal
 

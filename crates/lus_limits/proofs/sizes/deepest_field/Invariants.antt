@@ -3,7 +3,7 @@ use Rattle.std.specs.Prelude.{string_bytes}
 use Rattle.lus_values.specs.Lists.{item}
 use Rattle.lus_syntax.specs.View.{fields_seen}
 use Rattle.lus_meaning.specs.Sized.{greatest}
-use Rattle.lus_limits.specs.ByNames.{group_nesting}
+use Rattle.lus_meaning.specs.Sized.{group_nesting}
 use Rattle.lus_limits.proofs.sizes.deepest_field.Given as goal
 
 abbrev pub invariant-loop-group : goal.invariant-loop-group

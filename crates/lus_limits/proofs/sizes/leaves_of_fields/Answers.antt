@@ -4,7 +4,8 @@ use Rattle.std.proofs.lemmas.List.{length-map}
 use Rattle.std.proofs.lemmas.Grind.{common_steps}
 use Rattle.lus_values.specs.Lists.{item}
 use Rattle.lus_syntax.specs.View.{fields_seen, name_seen, type_name_seen}
-use Rattle.lus_limits.specs.ByNames.{group_leaves, of_name}
+use Rattle.lus_meaning.specs.Tables.{of_type}
+use Rattle.lus_meaning.specs.Sized.{group_leaves}
 use Rattle.lus_limits.proofs.Counting.{past_most}
 use Rattle.lus_limits.proofs.sizes.leaves_of_fields.Goals as goal
 
@@ -13,7 +14,7 @@ returns-in_err-together c =
     let group = c.group-item.result in
     let together = c.len.result * c.of_name-each.result in
     let big : together < 2 ^ 64 → ⊥ = c.in_err-together.ensures in
-    let size : length (map name_seen group.names.items) * of_name (map string_bytes c.args.types.now.keys) 1 1 (item 1 c.args.leaves.now) (type_name_seen group.type_name) ≡ together =
+    let size : length (map name_seen group.names.items) * of_type (map string_bytes c.args.types.now.keys) 1 1 (item 1 c.args.leaves.now) (type_name_seen group.type_name) ≡ together =
     rw (length-map group.names.items name_seen, ← c.of_name-each.ensures) (grind (arith, common_steps)) in
     let less : c.loop-group.left < together = omega (arith, big) in
     let past = past_most fields_seen (group_leaves (map string_bytes c.args.types.now.keys) (item 1 c.args.leaves.now)) c.args.groups.now c.loop-group.group-index c.loop-group.left 1024 together group c.loop-group-test.true c.group-item.is size c.loop-group.invariant less in
@@ -23,7 +24,7 @@ pub returns-in_err-left : goal.returns-in_err-left
 returns-in_err-left c =
     let group = c.group-item.result in
     let together = c.in_ok-together.together in
-    let size : length (map name_seen group.names.items) * of_name (map string_bytes c.args.types.now.keys) 1 1 (item 1 c.args.leaves.now) (type_name_seen group.type_name) ≡ together =
+    let size : length (map name_seen group.names.items) * of_type (map string_bytes c.args.types.now.keys) 1 1 (item 1 c.args.leaves.now) (type_name_seen group.type_name) ≡ together =
     rw (length-map group.names.items name_seen, ← c.of_name-each.ensures) (grind (arith, common_steps)) in
     let less : c.loop-group.left < together = grind (arith, common_steps) in
     let past = past_most fields_seen (group_leaves (map string_bytes c.args.types.now.keys) (item 1 c.args.leaves.now)) c.args.groups.now c.loop-group.group-index c.loop-group.left 1024 together group c.loop-group-test.true c.group-item.is size c.loop-group.invariant less in

@@ -2,7 +2,7 @@ use Rattle.std.proofs.Common.{◌≡◌, ◌+◌, take, map, sum_by}
 use Rattle.std.specs.Prelude.{string_bytes}
 use Rattle.lus_values.specs.Lists.{item}
 use Rattle.lus_syntax.specs.View.{fields_seen}
-use Rattle.lus_limits.specs.ByNames.{group_leaves}
+use Rattle.lus_meaning.specs.Sized.{group_leaves}
 use Rattle.lus_limits.proofs.sizes.leaves_of_fields.Given as goal
 
 abbrev pub invariant-loop-group : goal.invariant-loop-group

@@ -29,6 +29,9 @@ few_at p nodes i f same lt is counted =
 pub enter-requires-clause-few : goal.enter-requires-clause-few
 enter-requires-clause-few c = few_at c.args.tree.now c.deref-source-items.result.now c.loop-source.source-index c.source-item.result c.deref-source-items.ensures.value c.loop-source-test.true c.source-item.is c.requires.counted
 
+pub node-requires-clause-scoped : goal.node-requires-clause-scoped
+node-requires-clause-scoped c = c.in_ok-enter.ensures.entered (tree_seen c.args.tree.now) c.loop-source.invariant.scoped
+
 pub node-requires-clause-few : goal.node-requires-clause-few
 node-requires-clause-few c = few_at c.args.tree.now c.deref-source-items.result.now c.loop-source.source-index c.source-item.result c.deref-source-items.ensures.value c.loop-source-test.true c.source-item.is c.requires.counted
 
