@@ -21,7 +21,7 @@ fn is_symbol(token: &Token, wanted: Symbol) -> bool {
 /// Whether a token is this name, or the number that is written so.
 fn is_plain(token: &Token, wanted: &str) -> bool {
     match &token.kind {
-        TokenKind::Identifier(name) => name.as_str() == wanted,
+        TokenKind::Identifier(name) => *name == wanted,
         TokenKind::Number(number) => wanted.parse::<i64>() == Ok(*number),
         _ => false,
     }

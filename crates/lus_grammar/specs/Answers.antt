@@ -82,4 +82,5 @@ RefusedRightly limit ts _ = ⊥
 
 -- a tree within the limit that the tokens spell is the answer, unless memory ran out
 abbrev pub ReadsAll : ℕ → List Lexeme → Result Parsed Refusal → Type 0
-ReadsAll limit ts result = (t : Tree) → SpellsProgram t ts → tree_depth t ≤ limit → MatchResult result (λ parsed. tree_seen parsed ≡ t) (λ e. e.number ≡ numbers.Memory)
+ReadsAll limit ts result = (t : Tree) → SpellsProgram t ts → tree_depth t ≤ limit
+    → MatchResult result (λ parsed. tree_seen parsed ≡ t) (λ e. e.number ≡ numbers.Memory)

@@ -5,7 +5,7 @@ ghost use Rattle.lus_syntax.specs.View.{tokens_seen, type_name_seen, literal_see
 ghost use Rattle.lus_grammar.specs.Answers.{Gives, read_as, all_read_as};
 ghost use Rattle.lus_spelling.specs.ReadingDeclarations.{several_at, at_name, negative_at, literal_at, type_of_at, constant_at};
 
-use crate::fault::{ParseError, Parsed};
+use crate::fault::{ParseError, Parsed, Tokens};
 use crate::front::{begins_name, expect_symbol, identifier, symbol};
 use crate::types::type_name;
 use lus_syntax::{Constant, Literal, Name, Span, Symbol, Token, TokenKind, TypeName, Word};
@@ -13,65 +13,65 @@ use std::alloc::Global;
 
 /// The number after a minus.
 #[tactic(auto, unfolding(lus_spelling::specs::ReadingDeclarations::negative_at))]
-fn negative(minus: Span, tokens: &[Token]) -> Parsed<'_, Literal>
+fn negative(minus: Span, tokens: Tokens<'_>) -> Parsed<'_, Literal>
     ensures { Gives (read_as literal_seen) result (negative_at minus (tokens_seen tokens.now)) }
 {
-    match tokens {
+    match *tokens {
         [
             Token {
                 kind: TokenKind::Number(number),
                 span,
             },
-            rest @ ..,
-        ] => Ok((Literal::Negative(minus, *number, *span), rest)),
+            ref rest @ ..,
+        ] => Ok((Literal::Negative(minus, number, span), rest)),
         _ => Err(ParseError::Syntax(tokens.len())),
     }
 }
 
 /// A constant's value.
 #[tactic(auto, unfolding(lus_spelling::specs::ReadingDeclarations::literal_at))]
-fn literal(alloc: Global, tokens: &[Token]) -> Parsed<'_, Literal>
+fn literal(alloc: Global, tokens: Tokens<'_>) -> Parsed<'_, Literal>
     ensures { Gives (read_as literal_seen) result (literal_at (tokens_seen tokens.now)) }
 {
-    match tokens {
+    match *tokens {
         [
             Token {
                 kind: TokenKind::Number(number),
                 span,
             },
-            rest @ ..,
-        ] => Ok((Literal::Number(*number, *span), rest)),
+            ref rest @ ..,
+        ] => Ok((Literal::Number(number, span), rest)),
         [
             Token {
                 kind: TokenKind::Punctuation(Symbol::Minus),
                 span,
             },
-            rest @ ..,
-        ] => negative(*span, rest),
+            ref rest @ ..,
+        ] => negative(span, rest),
         [
             Token {
                 kind: TokenKind::Keyword(Word::True),
                 span,
             },
-            rest @ ..,
-        ] => Ok((Literal::Truth(true, *span), rest)),
+            ref rest @ ..,
+        ] => Ok((Literal::Truth(true, span), rest)),
         [
             Token {
                 kind: TokenKind::Keyword(Word::False),
                 span,
             },
-            rest @ ..,
-        ] => Ok((Literal::Truth(false, *span), rest)),
+            ref rest @ ..,
+        ] => Ok((Literal::Truth(false, span), rest)),
         [
             Token {
                 kind: TokenKind::Identifier(text),
                 span,
             },
-            rest @ ..,
+            ref rest @ ..,
         ] => {
             let name = Name {
-                text: text.clone()?,
-                span: *span,
+                text: String::from_str(alloc, text)?,
+                span: span,
             };
             Ok((Literal::Constructor(name), rest))
         }
@@ -81,7 +81,7 @@ fn literal(alloc: Global, tokens: &[Token]) -> Parsed<'_, Literal>
 
 /// A type that may be written.
 #[tactic(auto, unfolding(lus_spelling::specs::ReadingDeclarations::type_of_at))]
-fn type_of(alloc: Global, tokens: &[Token]) -> Parsed<'_, Option<TypeName>>
+fn type_of(alloc: Global, tokens: Tokens<'_>) -> Parsed<'_, Option<TypeName>>
     ensures { Gives (λ x. (option_map type_name_seen x.0, tokens_seen x.1.now)) result (type_of_at (tokens_seen tokens.now)) }
 {
     match symbol(Symbol::Colon, tokens) {
@@ -94,7 +94,7 @@ fn type_of(alloc: Global, tokens: &[Token]) -> Parsed<'_, Option<TypeName>>
 }
 
 #[tactic(auto, unfolding(lus_spelling::specs::ReadingDeclarations::constant_at))]
-fn constant(alloc: Global, tokens: &[Token]) -> Parsed<'_, Constant>
+fn constant(alloc: Global, tokens: Tokens<'_>) -> Parsed<'_, Constant>
     ensures { Gives (read_as constant_seen) result (constant_at (tokens_seen tokens.now)) }
 {
     let (name, rest) = identifier(alloc, tokens)?;
@@ -114,9 +114,10 @@ fn constant(alloc: Global, tokens: &[Token]) -> Parsed<'_, Constant>
 pub fn constants(
     alloc: Global,
     mut found: Vec<Constant>,
-    tokens: &[Token],
+    tokens: Tokens<'_>,
 ) -> Parsed<'_, Vec<Constant>>
-    ensures { Gives (all_read_as constant_seen) result (several_at at_name constant_at (map constant_seen found.items) (tokens_seen tokens.now)) }
+    ensures { let before = map constant_seen found.items in
+        Gives (all_read_as constant_seen) result (several_at at_name constant_at before (tokens_seen tokens.now)) }
 {
     let (first, mut rest) = constant(alloc, tokens)?;
     found.push(first)?;

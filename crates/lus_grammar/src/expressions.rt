@@ -9,8 +9,8 @@ ghost use Rattle.lus_spelling.specs.Reading.{part_at, parts_at, name_at, parenth
 ghost use Rattle.lus_grammar.specs.Rules.{level_of, operand_of, head_level, head_other};
 ghost use Rattle.lus_grammar.specs.Answers.{Gives, tree_read, part_read, parts_read};
 
-use crate::fault::{ParseError, Read};
-use crate::front::{expect_symbol, expect_word, identifier, symbol, word};
+use crate::fault::{ParseError, Read, Tokens};
+use crate::front::{begun, expect_symbol, expect_word, identifier, symbol, word};
 use crate::openings::{Entry, nothing_left};
 use crate::operators::{Chain, Head, after_prefix, head_entry, infix, operand_entry, prefix};
 use crate::parts::{lead, tail, turn};
@@ -21,11 +21,11 @@ use lus_syntax::{Expr, Infix, Name, Part, Span, Symbol, Token, TokenKind, Word};
 use std::alloc::Global;
 
 /// Parts, the greatest depth among them, and the tokens after what closes them.
-type Parts<'a> = Result<(Vec<Part>, u32, &'a [Token]), ParseError>;
+type Parts<'a> = Result<(Vec<Part>, u32, Tokens<'a>), ParseError>;
 
 #[cycle(parser)]
 #[tactic(auto, unfolding(lus_spelling::specs::Reading::read, lus_spelling::specs::Reading::read_whole, lus_spelling::specs::Reading::whole_at))]
-fn whole(alloc: Global, limit: u32, tokens: &[Token]) -> Read<'_>
+fn whole(alloc: Global, limit: u32, tokens: Tokens<'_>) -> Read<'_>
     requires { limit ≤ most_depth }
     ensures within { IfOk result (λ x. x.1 ≤ limit + 1) }
     ensures exact { Gives tree_read result (read (suc limit) Whole (tokens_seen tokens.now)) }
@@ -54,7 +54,7 @@ fn whole(alloc: Global, limit: u32, tokens: &[Token]) -> Read<'_>
 /// A whole as a part, which may have the depth `limit`.
 #[cycle(parser)]
 #[tactic(auto, unfolding(lus_spelling::specs::Reading::read))]
-pub fn inside(alloc: Global, limit: u32, tokens: &[Token]) -> Read<'_>
+pub fn inside(alloc: Global, limit: u32, tokens: Tokens<'_>) -> Read<'_>
     requires { limit ≤ most_depth }
     ensures within { IfOk result (λ x. x.1 ≤ limit) }
     ensures exact { Gives tree_read result (read limit Whole (tokens_seen tokens.now)) }
@@ -68,7 +68,7 @@ pub fn inside(alloc: Global, limit: u32, tokens: &[Token]) -> Read<'_>
 /// A primary as a part.
 #[cycle(parser)]
 #[tactic(auto, unfolding(lus_spelling::specs::Reading::read))]
-fn primary_inside(alloc: Global, limit: u32, tokens: &[Token]) -> Read<'_>
+fn primary_inside(alloc: Global, limit: u32, tokens: Tokens<'_>) -> Read<'_>
     requires { limit ≤ most_depth }
     ensures within { IfOk result (λ x. x.1 ≤ limit) }
     ensures exact { Gives tree_read result (read limit Primary (tokens_seen tokens.now)) }
@@ -81,7 +81,7 @@ fn primary_inside(alloc: Global, limit: u32, tokens: &[Token]) -> Read<'_>
 
 #[cycle(parser)]
 #[tactic(auto, unfolding(lus_spelling::specs::Reading::read, lus_spelling::specs::Reading::read_arrow, lus_spelling::specs::Reading::choice_at, lus_spelling::specs::Reading::arrow_at))]
-fn arrow(alloc: Global, limit: u32, tokens: &[Token]) -> Read<'_>
+fn arrow(alloc: Global, limit: u32, tokens: Tokens<'_>) -> Read<'_>
     requires { limit ≤ most_depth }
     ensures within { IfOk result (λ x. x.1 ≤ limit + 1) }
     ensures exact { Gives tree_read result (read (suc limit) Arrow (tokens_seen tokens.now)) }
@@ -106,7 +106,7 @@ fn arrow(alloc: Global, limit: u32, tokens: &[Token]) -> Read<'_>
 /// What stands after `->`, as a part.
 #[cycle(parser)]
 #[tactic(auto, unfolding(lus_spelling::specs::Reading::read))]
-fn arrow_inside(alloc: Global, limit: u32, tokens: &[Token]) -> Read<'_>
+fn arrow_inside(alloc: Global, limit: u32, tokens: Tokens<'_>) -> Read<'_>
     requires { limit ≤ most_depth }
     ensures within { IfOk result (λ x. x.1 ≤ limit) }
     ensures exact { Gives tree_read result (read limit Arrow (tokens_seen tokens.now)) }
@@ -120,7 +120,7 @@ fn arrow_inside(alloc: Global, limit: u32, tokens: &[Token]) -> Read<'_>
 /// What stands after `else`, as a part.
 #[cycle(parser)]
 #[tactic(auto, unfolding(lus_spelling::specs::Reading::read, lus_spelling::specs::Reading::read_else, lus_spelling::specs::Reading::choice_at))]
-fn otherwise(alloc: Global, limit: u32, tokens: &[Token]) -> Read<'_>
+fn otherwise(alloc: Global, limit: u32, tokens: Tokens<'_>) -> Read<'_>
     requires { limit ≤ most_depth }
     ensures within { IfOk result (λ x. x.1 ≤ limit) }
     ensures exact { Gives tree_read result (read limit Else (tokens_seen tokens.now)) }
@@ -137,7 +137,7 @@ fn otherwise(alloc: Global, limit: u32, tokens: &[Token]) -> Read<'_>
 /// What stands after an `if`.
 #[cycle(parser)]
 #[tactic(auto, unfolding(lus_spelling::specs::Reading::branches_at))]
-fn branches(alloc: Global, limit: u32, span: Span, tokens: &[Token]) -> Read<'_>
+fn branches(alloc: Global, limit: u32, span: Span, tokens: Tokens<'_>) -> Read<'_>
     requires { limit ≤ most_depth }
     ensures within { IfOk result (λ x. x.1 ≤ limit + 1) }
     ensures exact { Gives tree_read result (branches_at (read limit Whole) (read limit Else) span (tokens_seen tokens.now)) }
@@ -152,7 +152,7 @@ fn branches(alloc: Global, limit: u32, span: Span, tokens: &[Token]) -> Read<'_>
 }
 
 #[cycle(parser)]
-fn joined(alloc: Global, chain: Chain, limit: u32, tokens: &[Token]) -> Read<'_>
+fn joined(alloc: Global, chain: Chain, limit: u32, tokens: Tokens<'_>) -> Read<'_>
     requires { limit ≤ most_depth }
     ensures within { IfOk result (λ x. x.1 ≤ limit + 1) }
     ensures exact { Gives tree_read result (read (suc limit) (level_of chain) (tokens_seen tokens.now)) }
@@ -171,7 +171,7 @@ fn joined(alloc: Global, chain: Chain, limit: u32, tokens: &[Token]) -> Read<'_>
 }
 
 #[cycle(parser)]
-fn operand(alloc: Global, chain: Chain, limit: u32, tokens: &[Token]) -> Read<'_>
+fn operand(alloc: Global, chain: Chain, limit: u32, tokens: Tokens<'_>) -> Read<'_>
     requires { limit ≤ most_depth }
     ensures within { IfOk result (λ x. x.1 ≤ limit + 1) }
     ensures exact { Gives tree_read result (read (suc limit) (operand_of chain) (tokens_seen tokens.now)) }
@@ -188,7 +188,7 @@ fn operand(alloc: Global, chain: Chain, limit: u32, tokens: &[Token]) -> Read<'_
 
 /// An operand behind an operator, as a part.
 #[cycle(parser)]
-fn operand_inside(alloc: Global, chain: Chain, limit: u32, tokens: &[Token]) -> Read<'_>
+fn operand_inside(alloc: Global, chain: Chain, limit: u32, tokens: Tokens<'_>) -> Read<'_>
     requires { limit ≤ most_depth }
     ensures within { IfOk result (λ x. x.1 ≤ limit) }
     ensures exact { Gives tree_read result (read limit (operand_of chain) (tokens_seen tokens.now)) }
@@ -200,7 +200,7 @@ fn operand_inside(alloc: Global, chain: Chain, limit: u32, tokens: &[Token]) -> 
 }
 
 #[cycle(parser)]
-fn prefixed(alloc: Global, head: Head, limit: u32, tokens: &[Token]) -> Read<'_>
+fn prefixed(alloc: Global, head: Head, limit: u32, tokens: Tokens<'_>) -> Read<'_>
     requires { limit ≤ most_depth }
     ensures within { IfOk result (λ x. x.1 ≤ limit + 1) }
     ensures exact { Gives tree_read result (read (suc limit) (head_level head) (tokens_seen tokens.now)) }
@@ -216,7 +216,7 @@ fn prefixed(alloc: Global, head: Head, limit: u32, tokens: &[Token]) -> Read<'_>
 
 /// The operand of an operator before it, as a part.
 #[cycle(parser)]
-fn prefixed_inside(alloc: Global, head: Head, limit: u32, tokens: &[Token]) -> Read<'_>
+fn prefixed_inside(alloc: Global, head: Head, limit: u32, tokens: Tokens<'_>) -> Read<'_>
     requires { limit ≤ most_depth }
     ensures within { IfOk result (λ x. x.1 ≤ limit) }
     ensures exact { Gives tree_read result (read limit (head_level head) (tokens_seen tokens.now)) }
@@ -229,7 +229,7 @@ fn prefixed_inside(alloc: Global, head: Head, limit: u32, tokens: &[Token]) -> R
 
 /// What stands where no operator does.
 #[cycle(parser)]
-fn bare(alloc: Global, head: Head, limit: u32, tokens: &[Token]) -> Read<'_>
+fn bare(alloc: Global, head: Head, limit: u32, tokens: Tokens<'_>) -> Read<'_>
     requires { limit ≤ most_depth }
     ensures within { IfOk result (λ x. x.1 ≤ limit + 1) }
     ensures exact { Gives tree_read result (read (suc limit) (head_other head) (tokens_seen tokens.now)) }
@@ -243,7 +243,7 @@ fn bare(alloc: Global, head: Head, limit: u32, tokens: &[Token]) -> Read<'_>
 
 #[cycle(parser)]
 #[tactic(auto, unfolding(lus_spelling::specs::Reading::read, lus_spelling::specs::Reading::read_primary, lus_spelling::specs::Reading::primary_at, lus_spelling::specs::Reading::listed_at))]
-fn primary(alloc: Global, limit: u32, tokens: &[Token]) -> Read<'_>
+fn primary(alloc: Global, limit: u32, tokens: Tokens<'_>) -> Read<'_>
     requires { limit ≤ most_depth }
     ensures within { IfOk result (λ x. x.1 ≤ limit + 1) }
     ensures exact { Gives tree_read result (read (suc limit) Primary (tokens_seen tokens.now)) }
@@ -260,7 +260,7 @@ fn primary(alloc: Global, limit: u32, tokens: &[Token]) -> Read<'_>
 
 #[cycle(parser)]
 #[tactic(auto, unfolding(lus_spelling::specs::Reading::read, lus_spelling::specs::Reading::read_dotted, lus_spelling::specs::Reading::dotted_at))]
-fn dotted(alloc: Global, limit: u32, tokens: &[Token]) -> Read<'_>
+fn dotted(alloc: Global, limit: u32, tokens: Tokens<'_>) -> Read<'_>
     requires { limit ≤ most_depth }
     ensures within { IfOk result (λ x. x.1 ≤ limit + 1) }
     ensures exact { Gives tree_read result (read (suc limit) Dotted (tokens_seen tokens.now)) }
@@ -271,30 +271,30 @@ fn dotted(alloc: Global, limit: u32, tokens: &[Token]) -> Read<'_>
 
 #[cycle(parser)]
 #[tactic(auto, unfolding(lus_spelling::specs::Reading::read, lus_spelling::specs::Reading::read_atom, lus_spelling::specs::Reading::atom_at))]
-fn atom(alloc: Global, limit: u32, tokens: &[Token]) -> Read<'_>
+fn atom(alloc: Global, limit: u32, tokens: Tokens<'_>) -> Read<'_>
     requires { limit ≤ most_depth }
     ensures within { IfOk result (λ x. x.1 ≤ limit + 1) }
     ensures exact { Gives tree_read result (read (suc limit) Atom (tokens_seen tokens.now)) }
 {
-    match tokens {
+    match *tokens {
         [] => Err(ParseError::Syntax(0)),
         [
             Token {
                 kind: TokenKind::Number(number),
                 span,
             },
-            rest @ ..,
-        ] => Ok((Box::new(alloc, Expr::Number(*number, *span))?, 1, rest)),
+            ref rest @ ..,
+        ] => Ok((Box::new(alloc, Expr::Number(number, span))?, 1, rest)),
         [
             Token {
                 kind: TokenKind::Identifier(text),
                 span,
             },
-            rest @ ..,
+            ref rest @ ..,
         ] => {
             let name = Name {
-                text: text.clone()?,
-                span: *span,
+                text: String::from_str(alloc, text)?,
+                span: span,
             };
             named(alloc, limit, name, rest)
         }
@@ -303,8 +303,8 @@ fn atom(alloc: Global, limit: u32, tokens: &[Token]) -> Read<'_>
                 kind: TokenKind::Keyword(word),
                 span,
             },
-            rest @ ..,
-        ] => truth(alloc, *word, *span, tokens.len(), rest),
+            ref rest @ ..,
+        ] => truth(alloc, word, span, tokens.len(), rest),
         [
             Token {
                 kind: TokenKind::Punctuation(_),
@@ -318,7 +318,7 @@ fn atom(alloc: Global, limit: u32, tokens: &[Token]) -> Read<'_>
 /// A name, and what belongs to it.
 #[cycle(parser)]
 #[tactic(auto, unfolding(lus_spelling::specs::Reading::name_at, lus_spelling::specs::Reading::listed_at))]
-fn named(alloc: Global, limit: u32, name: Name, tokens: &[Token]) -> Read<'_>
+fn named(alloc: Global, limit: u32, name: Name, tokens: Tokens<'_>) -> Read<'_>
     requires { limit ≤ most_depth }
     ensures within { IfOk result (λ x. x.1 ≤ limit + 1) }
     ensures exact { Gives tree_read result (name_at (read limit Whole) (name_seen name) (tokens_seen tokens.now)) }
@@ -339,14 +339,13 @@ fn named(alloc: Global, limit: u32, name: Name, tokens: &[Token]) -> Read<'_>
 
 /// The parts of a call, a structure or a merge.
 #[cycle(parser)]
-fn parts(alloc: Global, form: Form, limit: u32, tokens: &[Token]) -> Parts<'_>
+fn parts(alloc: Global, form: Form, limit: u32, tokens: Tokens<'_>) -> Parts<'_>
     requires { limit ≤ most_depth }
     ensures within { IfOk result (λ x. x.1 ≤ limit) }
     ensures exact { Gives parts_read result (parts_at (length tokens.now + 1) form (read limit Whole) [] 0 (tokens_seen tokens.now)) }
 {
     let mut found = Vec::with_capacity(alloc, 1)?;
-    let mut deepest: u32 = 0;
-    let mut rest = tokens;
+    let (mut deepest, mut rest) = begun(0u32, tokens);
     let count = tokens.len() + 1;
     for _ in 0..count {
         let (item, depth, after) = part(alloc, form, limit, rest)?;
@@ -367,8 +366,8 @@ fn part(
     alloc: Global,
     form: Form,
     limit: u32,
-    tokens: &[Token],
-) -> Result<(Part, u32, &[Token]), ParseError>
+    tokens: Tokens<'_>,
+) -> Result<(Part, u32, Tokens<'_>), ParseError>
     requires { limit ≤ most_depth }
     ensures within { IfOk result (λ x. x.1 ≤ limit) }
     ensures exact { Gives part_read result (part_at form (read limit Whole) (tokens_seen tokens.now)) }
@@ -382,7 +381,7 @@ fn part(
 
 #[cycle(parser)]
 #[tactic(auto, unfolding(lus_spelling::specs::Reading::parentheses_at))]
-fn parentheses(alloc: Global, limit: u32, tokens: &[Token]) -> Read<'_>
+fn parentheses(alloc: Global, limit: u32, tokens: Tokens<'_>) -> Read<'_>
     requires { limit ≤ most_depth }
     ensures within { IfOk result (λ x. x.1 ≤ limit + 1) }
     ensures exact { Gives tree_read result (parentheses_at (read limit Whole) (tokens_seen tokens.now)) }

@@ -6,11 +6,14 @@ ghost use Rattle.lus_grammar.specs.declared.fault.ParseError.TheVariants.{Memory
 use lus_syntax::{Expr, Token};
 use std::alloc::{AllocError, AllocFailed};
 
+/// Tokens that are still to be read.
+pub type Tokens<'a> = &'a [Token<'a>];
+
 /// What is read, and the tokens after it.
-pub type Parsed<'a, T> = Result<(T, &'a [Token]), ParseError>;
+pub type Parsed<'a, T> = Result<(T, Tokens<'a>), ParseError>;
 
 /// An expression, its depth, and the tokens after it.
-pub type Read<'a> = Result<(Box<Expr>, u32, &'a [Token]), ParseError>;
+pub type Read<'a> = Result<(Box<Expr>, u32, Tokens<'a>), ParseError>;
 
 /// A fault, with how many tokens were left where it was met.
 #[derive(Debug, Drop)]

@@ -7,44 +7,56 @@ ghost use Rattle.lus_spelling.specs.Reading.{front, expect, identifier_at, label
 ghost use Rattle.lus_spelling.specs.ReadingDeclarations.{skip, further, begins_named, begins_equation};
 ghost use Rattle.lus_grammar.specs.Answers.{Gives};
 
-use crate::fault::ParseError;
+use crate::fault::{ParseError, Tokens};
 use lus_syntax::{Label, Name, Span, Symbol, Test, Token, TokenKind, Word};
 use std::alloc::Global;
 
 /// A symbol at the front: its span, and the tokens after it.
-pub fn symbol(wanted: Symbol, tokens: &[Token]) -> Option<(Span, &[Token])>
+pub fn symbol(wanted: Symbol, tokens: Tokens<'_>) -> Option<(Span, Tokens<'_>)>
     ensures { option_map (λ x. (x.0, tokens_seen x.1.now)) result ≡ front (Sign wanted) (tokens_seen tokens.now) }
 {
-    match tokens {
+    match *tokens {
         [
             Token {
                 kind: TokenKind::Punctuation(found),
                 span,
             },
-            rest @ ..,
-        ] if *found == wanted => { Some((*span, rest)) }
+            ref rest @ ..,
+        ] => {
+            if found == wanted {
+                Some((span, rest))
+            } else {
+                None
+            }
+        }
         _ => None,
     }
 }
 
 /// A word at the front: its span, and the tokens after it.
-pub fn word(wanted: Word, tokens: &[Token]) -> Option<(Span, &[Token])>
+pub fn word(wanted: Word, tokens: Tokens<'_>) -> Option<(Span, Tokens<'_>)>
     ensures { option_map (λ x. (x.0, tokens_seen x.1.now)) result ≡ front (Keyword wanted) (tokens_seen tokens.now) }
 {
-    match tokens {
+    match *tokens {
         [
             Token {
                 kind: TokenKind::Keyword(found),
                 span,
             },
-            rest @ ..,
-        ] if *found == wanted => { Some((*span, rest)) }
+            ref rest @ ..,
+        ] => {
+            if found == wanted {
+                Some((span, rest))
+            } else {
+                None
+            }
+        }
         _ => None,
     }
 }
 
 /// The tokens after a symbol that has to stand.
-pub fn expect_symbol(wanted: Symbol, tokens: &[Token]) -> Result<&[Token], ParseError>
+pub fn expect_symbol(wanted: Symbol, tokens: Tokens<'_>) -> Result<Tokens<'_>, ParseError>
     ensures { Gives (λ x. tokens_seen x.now) result (expect (Sign wanted) (tokens_seen tokens.now)) }
 {
     match symbol(wanted, tokens) {
@@ -54,7 +66,7 @@ pub fn expect_symbol(wanted: Symbol, tokens: &[Token]) -> Result<&[Token], Parse
 }
 
 /// The tokens after a word that has to stand.
-pub fn expect_word(wanted: Word, tokens: &[Token]) -> Result<&[Token], ParseError>
+pub fn expect_word(wanted: Word, tokens: Tokens<'_>) -> Result<Tokens<'_>, ParseError>
     ensures { Gives (λ x. tokens_seen x.now) result (expect (Keyword wanted) (tokens_seen tokens.now)) }
 {
     match word(wanted, tokens) {
@@ -64,17 +76,17 @@ pub fn expect_word(wanted: Word, tokens: &[Token]) -> Result<&[Token], ParseErro
 }
 
 /// The tokens after a symbol that may stand.
-pub fn skip_symbol(wanted: Symbol, tokens: &[Token]) -> &[Token]
+pub fn skip_symbol(wanted: Symbol, tokens: Tokens<'_>) -> Tokens<'_>
     ensures { tokens_seen result.now ≡ skip (Sign wanted) (tokens_seen tokens.now) }
 {
-    match symbol(wanted, tokens) {
-        None => tokens,
-        Some((_, rest)) => rest,
+    if let Some((_, rest)) = symbol(wanted, tokens) {
+        return rest;
     }
+    tokens
 }
 
 /// The tokens after a semicolon that isn't the last before `close`.
-pub fn further(close: Symbol, tokens: &[Token]) -> Option<&[Token]>
+pub fn further(close: Symbol, tokens: Tokens<'_>) -> Option<Tokens<'_>>
     ensures { option_map (λ x. tokens_seen x.now) result ≡ further close (tokens_seen tokens.now) }
 {
     let (_, rest) = symbol(Symbol::Semicolon, tokens)?;
@@ -84,8 +96,15 @@ pub fn further(close: Symbol, tokens: &[Token]) -> Option<&[Token]>
     }
 }
 
+/// What is found before any token is read, and the tokens: a loop begins with such a pair as each of its turns ends with.
+pub fn begun<T>(found: T, tokens: Tokens<'_>) -> (T, Tokens<'_>)
+    ensures { result ≡ (found, tokens.entry) }
+{
+    (found, tokens)
+}
+
 /// Whether a name stands at the front.
-pub fn begins_name(tokens: &[Token]) -> bool
+pub fn begins_name(tokens: Tokens<'_>) -> bool
     ensures { result ≡ begins_named (tokens_seen tokens.now) }
 {
     matches!(
@@ -101,7 +120,7 @@ pub fn begins_name(tokens: &[Token]) -> bool
 }
 
 /// Whether an equation may stand at the front.
-pub fn begins_equation(tokens: &[Token]) -> bool
+pub fn begins_equation(tokens: Tokens<'_>) -> bool
     ensures { result ≡ begins_equation (tokens_seen tokens.now) }
 {
     matches!(
@@ -118,20 +137,20 @@ pub fn begins_equation(tokens: &[Token]) -> bool
 
 /// A name at the front.
 #[tactic(auto, unfolding(lus_spelling::specs::Reading::identifier_at))]
-pub fn identifier(alloc: Global, tokens: &[Token]) -> Result<(Name, &[Token]), ParseError>
+pub fn identifier(alloc: Global, tokens: Tokens<'_>) -> Result<(Name, Tokens<'_>), ParseError>
     ensures { Gives (λ x. (name_seen x.0, tokens_seen x.1.now)) result (identifier_at (tokens_seen tokens.now)) }
 {
-    match tokens {
+    match *tokens {
         [
             Token {
                 kind: TokenKind::Identifier(text),
                 span,
             },
-            rest @ ..,
+            ref rest @ ..,
         ] => {
             let name = Name {
-                text: text.clone()?,
-                span: *span,
+                text: String::from_str(alloc, text)?,
+                span: span,
             };
             Ok((name, rest))
         }
@@ -141,20 +160,20 @@ pub fn identifier(alloc: Global, tokens: &[Token]) -> Result<(Name, &[Token]), P
 
 /// A constructor or a truth value at the front.
 #[tactic(auto, unfolding(lus_spelling::specs::Reading::label_at))]
-pub fn label(alloc: Global, tokens: &[Token]) -> Result<(Label, &[Token]), ParseError>
+pub fn label(alloc: Global, tokens: Tokens<'_>) -> Result<(Label, Tokens<'_>), ParseError>
     ensures { Gives (λ x. (label_seen x.0, tokens_seen x.1.now)) result (label_at (tokens_seen tokens.now)) }
 {
-    match tokens {
+    match *tokens {
         [
             Token {
                 kind: TokenKind::Identifier(text),
                 span,
             },
-            rest @ ..,
+            ref rest @ ..,
         ] => {
             let name = Name {
-                text: text.clone()?,
-                span: *span,
+                text: String::from_str(alloc, text)?,
+                span: span,
             };
             Ok((Label::Constructor(name), rest))
         }
@@ -163,22 +182,22 @@ pub fn label(alloc: Global, tokens: &[Token]) -> Result<(Label, &[Token]), Parse
                 kind: TokenKind::Keyword(Word::True),
                 span,
             },
-            rest @ ..,
-        ] => Ok((Label::Truth(true, *span), rest)),
+            ref rest @ ..,
+        ] => Ok((Label::Truth(true, span), rest)),
         [
             Token {
                 kind: TokenKind::Keyword(Word::False),
                 span,
             },
-            rest @ ..,
-        ] => Ok((Label::Truth(false, *span), rest)),
+            ref rest @ ..,
+        ] => Ok((Label::Truth(false, span), rest)),
         _ => Err(ParseError::Syntax(tokens.len())),
     }
 }
 
 /// A name and a closing parenthesis.
 #[tactic(auto, unfolding(lus_spelling::specs::Reading::closed_name_at))]
-pub fn closed_name(alloc: Global, tokens: &[Token]) -> Result<(Name, &[Token]), ParseError>
+pub fn closed_name(alloc: Global, tokens: Tokens<'_>) -> Result<(Name, Tokens<'_>), ParseError>
     ensures { Gives (λ x. (name_seen x.0, tokens_seen x.1.now)) result (closed_name_at (tokens_seen tokens.now)) }
 {
     let (name, rest) = identifier(alloc, tokens)?;
@@ -188,7 +207,7 @@ pub fn closed_name(alloc: Global, tokens: &[Token]) -> Result<(Name, &[Token]), 
 
 /// The test after `when`.
 #[tactic(auto, unfolding(lus_spelling::specs::Reading::test_at))]
-pub fn test(alloc: Global, tokens: &[Token]) -> Result<(Test, &[Token]), ParseError>
+pub fn test(alloc: Global, tokens: Tokens<'_>) -> Result<(Test, Tokens<'_>), ParseError>
     ensures { Gives (λ x. (test_seen x.0, tokens_seen x.1.now)) result (test_at (tokens_seen tokens.now)) }
 {
     if let Some((span, rest)) = word(Word::Not, tokens) {

@@ -7,16 +7,18 @@ ghost use Rattle.lus_grammar.specs.Answers.{Gives, read_as, all_read_as};
 ghost use Rattle.lus_spelling.specs.ReadingDeclarations.{others_at, at_equation, left_at, ended, equation_at, body_at, node_at};
 
 use crate::expressions::inside;
-use crate::fault::Parsed;
-use crate::front::{begins_equation, expect_symbol, expect_word, identifier, skip_symbol, symbol};
+use crate::fault::{Parsed, Tokens};
+use crate::front::{
+    begins_equation, begun, expect_symbol, expect_word, identifier, skip_symbol, symbol,
+};
 use crate::types::names;
 use crate::variables::{inputs, locals, outputs};
-use lus_syntax::{Equation, MOST_DEPTH, Name, Node, NodeKind, Symbol, Token, Word};
+use lus_syntax::{Equation, MOST_DEPTH, Name, Node, NodeKind, Symbol, Word};
 use std::alloc::Global;
 
 /// The variables on the left, in parentheses or not.
 #[tactic(auto, unfolding(lus_spelling::specs::ReadingDeclarations::left_at))]
-fn left(alloc: Global, tokens: &[Token]) -> Parsed<'_, Vec<Name>>
+fn left(alloc: Global, tokens: Tokens<'_>) -> Parsed<'_, Vec<Name>>
     ensures { Gives (λ x. (names_seen x.0.items, tokens_seen x.1.now)) result (left_at (tokens_seen tokens.now)) }
 {
     match symbol(Symbol::Open, tokens) {
@@ -30,7 +32,7 @@ fn left(alloc: Global, tokens: &[Token]) -> Parsed<'_, Vec<Name>>
 }
 
 #[tactic(auto, unfolding(lus_spelling::specs::ReadingDeclarations::equation_at))]
-fn equation(alloc: Global, tokens: &[Token]) -> Parsed<'_, Equation>
+fn equation(alloc: Global, tokens: Tokens<'_>) -> Parsed<'_, Equation>
     ensures { Gives (read_as equation_seen) result (equation_at most_depth (tokens_seen tokens.now)) }
 {
     let (left, rest) = left(alloc, tokens)?;
@@ -41,11 +43,10 @@ fn equation(alloc: Global, tokens: &[Token]) -> Parsed<'_, Equation>
     Ok((Equation { left, right }, rest))
 }
 
-fn equations(alloc: Global, tokens: &[Token]) -> Parsed<'_, Vec<Equation>>
+fn equations(alloc: Global, tokens: Tokens<'_>) -> Parsed<'_, Vec<Equation>>
     ensures { Gives (all_read_as equation_seen) result (others_at at_equation (equation_at most_depth) [] (tokens_seen tokens.now)) }
 {
-    let mut found = Vec::new(alloc);
-    let mut rest = tokens;
+    let (mut found, mut rest) = begun(Vec::new(alloc), tokens);
     while begins_equation(rest) {
         let (next, after) = equation(alloc, rest)?;
         found.push(next)?;
@@ -55,18 +56,18 @@ fn equations(alloc: Global, tokens: &[Token]) -> Parsed<'_, Vec<Equation>>
 }
 
 /// The tokens after what may follow `tel`.
-fn after_end(tokens: &[Token]) -> &[Token]
+fn after_end(tokens: Tokens<'_>) -> Tokens<'_>
     ensures { tokens_seen result.now ≡ ended (tokens_seen tokens.now) }
 {
-    match symbol(Symbol::Semicolon, tokens) {
-        Some((_, rest)) => rest,
-        None => skip_symbol(Symbol::Dot, tokens),
+    if let Some((_, rest)) = symbol(Symbol::Semicolon, tokens) {
+        return rest;
     }
+    skip_symbol(Symbol::Dot, tokens)
 }
 
 /// The equations of a node, from `let` to its end.
 #[tactic(auto, unfolding(lus_spelling::specs::ReadingDeclarations::body_at))]
-fn body(alloc: Global, tokens: &[Token]) -> Parsed<'_, Vec<Equation>>
+fn body(alloc: Global, tokens: Tokens<'_>) -> Parsed<'_, Vec<Equation>>
     ensures { Gives (all_read_as equation_seen) result (body_at most_depth (tokens_seen tokens.now)) }
 {
     let rest = expect_word(Word::Let, tokens)?;
@@ -77,7 +78,7 @@ fn body(alloc: Global, tokens: &[Token]) -> Parsed<'_, Vec<Equation>>
 
 /// What stands after `node` or `function`.
 #[tactic(auto, unfolding(lus_spelling::specs::ReadingDeclarations::node_at))]
-pub fn node(alloc: Global, kind: NodeKind, tokens: &[Token]) -> Parsed<'_, Node>
+pub fn node(alloc: Global, kind: NodeKind, tokens: Tokens<'_>) -> Parsed<'_, Node>
     ensures { Gives (read_as node_seen) result (node_at most_depth kind (tokens_seen tokens.now)) }
 {
     let (name, rest) = identifier(alloc, tokens)?;

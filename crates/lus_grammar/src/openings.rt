@@ -6,8 +6,8 @@ ghost use Rattle.lus_spelling.specs.Reading.{opening_of, deep_at};
 ghost use Rattle.lus_grammar.specs.Rules.{entry_of};
 ghost use Rattle.lus_grammar.specs.Answers.{Fails};
 
-use crate::fault::ParseError;
-use lus_syntax::{Symbol, Token, TokenKind, Word};
+use crate::fault::{ParseError, Tokens};
+use lus_syntax::{Symbol, TokenKind, Word};
 
 /// The loosest rule that may begin where an expression is read; each tighter one may as well.
 #[derive(Clone, Copy, Debug, PartialEq, Eq)]
@@ -36,7 +36,7 @@ fn begins(entry: Entry, kind: &TokenKind) -> bool
 }
 
 /// The fault where no depth is left: what begins an expression there is too deep.
-pub fn nothing_left(entry: Entry, tokens: &[Token]) -> ParseError
+pub fn nothing_left(entry: Entry, tokens: Tokens<'_>) -> ParseError
     ensures { Fails result (deep_at (entry_of entry) (tokens_seen tokens.now)) }
 {
     match tokens {

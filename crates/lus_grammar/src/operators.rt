@@ -7,6 +7,7 @@ ghost use Rattle.lus_spelling.specs.Expressions.{infix_of, mixing_of, mixes, may
 ghost use Rattle.lus_spelling.specs.Reading.{entry, infix_at, prefix_at};
 ghost use Rattle.lus_grammar.specs.Rules.{entry_of, level_of, operand_of, head_level, head_operand};
 
+use crate::fault::Tokens;
 use crate::openings::Entry;
 use lus_spelling::Mixing;
 use lus_syntax::{Expr, Infix, Prefix, Span, Symbol, Token, TokenKind, Word};
@@ -102,25 +103,26 @@ fn infix_word(chain: Chain, word: Word) -> Option<Infix>
 }
 
 /// An operator of the rule at the front that may stand after `left`, and the tokens after it.
-pub fn infix<'a>(chain: Chain, left: &Expr, tokens: &'a [Token]) -> Option<(Infix, &'a [Token])>
-    ensures { option_map (λ x. (x.0, tokens_seen x.1.now)) result ≡ infix_at (level_of chain) (expression_seen left.now) (tokens_seen tokens.now) }
+pub fn infix<'a>(chain: Chain, left: &Expr, tokens: Tokens<'a>) -> Option<(Infix, Tokens<'a>)>
+    ensures { option_map (λ x. (x.0, tokens_seen x.1.now)) result
+        ≡ infix_at (level_of chain) (expression_seen left.now) (tokens_seen tokens.now) }
 {
-    let (operator, rest) = match tokens {
+    let (operator, rest) = match *tokens {
         [] => return None,
         [
             Token {
                 kind: TokenKind::Punctuation(symbol),
                 ..
             },
-            rest @ ..,
-        ] => (infix_symbol(chain, *symbol)?, rest),
+            ref rest @ ..,
+        ] => (infix_symbol(chain, symbol)?, rest),
         [
             Token {
                 kind: TokenKind::Keyword(word),
                 ..
             },
-            rest @ ..,
-        ] => (infix_word(chain, *word)?, rest),
+            ref rest @ ..,
+        ] => (infix_word(chain, word)?, rest),
         [
             Token {
                 kind: TokenKind::Identifier(_) | TokenKind::Number(_),
@@ -137,7 +139,7 @@ pub fn infix<'a>(chain: Chain, left: &Expr, tokens: &'a [Token]) -> Option<(Infi
 }
 
 /// An operator before an operand, its span, and the tokens after it.
-pub fn prefix(head: Head, tokens: &[Token]) -> Option<(Prefix, Span, &[Token])>
+pub fn prefix(head: Head, tokens: Tokens<'_>) -> Option<(Prefix, Span, Tokens<'_>)>
     ensures { option_map (λ x. (x.0, x.1, tokens_seen x.2.now)) result ≡ prefix_at (head_level head) (tokens_seen tokens.now) }
 {
     match (head, tokens) {

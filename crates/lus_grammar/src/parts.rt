@@ -4,14 +4,14 @@ ghost use Rattle.lus_syntax.specs.View.{tokens_seen, lead_seen};
 ghost use Rattle.lus_spelling.specs.Reading.{turn_at, lead_at, tail_at};
 ghost use Rattle.lus_grammar.specs.Answers.{Gives};
 
-use crate::fault::ParseError;
+use crate::fault::{ParseError, Tokens};
 use crate::front::{expect_symbol, identifier, label, symbol};
 use lus_spelling::Form;
-use lus_syntax::{Lead, Symbol, Token};
+use lus_syntax::{Lead, Symbol};
 use std::alloc::Global;
 
 /// Whether another part follows, and the tokens where it begins; or the tokens after the parts.
-pub fn turn(form: Form, tokens: &[Token]) -> Result<(bool, &[Token]), ParseError>
+pub fn turn(form: Form, tokens: Tokens<'_>) -> Result<(bool, Tokens<'_>), ParseError>
     ensures { Gives (λ x. (x.0, tokens_seen x.1.now)) result (turn_at form (tokens_seen tokens.now)) }
 {
     match form {
@@ -41,7 +41,7 @@ pub fn turn(form: Form, tokens: &[Token]) -> Result<(bool, &[Token]), ParseError
 
 /// What stands before the value of a part.
 #[tactic(auto, unfolding(lus_spelling::specs::Reading::lead_at))]
-pub fn lead(alloc: Global, form: Form, tokens: &[Token]) -> Result<(Lead, &[Token]), ParseError>
+pub fn lead(alloc: Global, form: Form, tokens: Tokens<'_>) -> Result<(Lead, Tokens<'_>), ParseError>
     ensures { Gives (λ x. (lead_seen x.0, tokens_seen x.1.now)) result (lead_at form (tokens_seen tokens.now)) }
 {
     match form {
@@ -64,7 +64,7 @@ pub fn lead(alloc: Global, form: Form, tokens: &[Token]) -> Result<(Lead, &[Toke
 }
 
 /// What stands after the value of a part.
-pub fn tail(form: Form, tokens: &[Token]) -> Result<&[Token], ParseError>
+pub fn tail(form: Form, tokens: Tokens<'_>) -> Result<Tokens<'_>, ParseError>
     ensures { Gives (λ x. tokens_seen x.now) result (tail_at form (tokens_seen tokens.now)) }
 {
     match form {

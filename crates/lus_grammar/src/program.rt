@@ -9,14 +9,15 @@ ghost use Rattle.lus_grammar.specs.Answers.{Gives, read_as, Numbered, Answers, R
 ghost use Rattle.lus_spelling.specs.ReadingDeclarations.{more_node, declaration_at, program_at};
 
 use crate::constants::constants;
-use crate::fault::{ParseError, Parsed};
+use crate::fault::{ParseError, Parsed, Tokens};
+use crate::front::begun;
 use crate::nodes::node;
 use crate::types::type_declarations;
 use lus_syntax::{NodeKind, Place, Refusal, RefusalNumber, Token, TokenKind, Tree, Word};
 use std::alloc::Global;
 
 /// A node behind the declarations that were found before.
-fn with_node(alloc: Global, kind: NodeKind, found: Tree, tokens: &[Token]) -> Parsed<'_, Tree>
+fn with_node(alloc: Global, kind: NodeKind, found: Tree, tokens: Tokens<'_>) -> Parsed<'_, Tree>
     ensures { Gives (read_as tree_seen) result (more_node most_depth kind (tree_seen found) (tokens_seen tokens.now)) }
 {
     let Tree {
@@ -36,7 +37,7 @@ fn with_node(alloc: Global, kind: NodeKind, found: Tree, tokens: &[Token]) -> Pa
 
 /// One declaration behind those that were found before.
 #[tactic(auto, unfolding(lus_spelling::specs::ReadingDeclarations::declaration_at))]
-fn declaration(alloc: Global, found: Tree, tokens: &[Token]) -> Parsed<'_, Tree>
+fn declaration(alloc: Global, found: Tree, tokens: Tokens<'_>) -> Parsed<'_, Tree>
     ensures { Gives (read_as tree_seen) result (declaration_at most_depth (tree_seen found) (tokens_seen tokens.now)) }
 {
     match tokens {
@@ -89,15 +90,15 @@ fn declaration(alloc: Global, found: Tree, tokens: &[Token]) -> Parsed<'_, Tree>
 }
 
 /// The declarations of a whole source.
-fn program(alloc: Global, tokens: &[Token]) -> Result<Tree, ParseError>
+fn program(alloc: Global, tokens: Tokens<'_>) -> Result<Tree, ParseError>
     ensures { Gives tree_seen result (program_at most_depth (tokens_seen tokens.now)) }
 {
-    let mut tree = Tree {
+    let empty = Tree {
         types: Vec::new(alloc),
         constants: Vec::new(alloc),
         nodes: Vec::new(alloc),
     };
-    let mut rest = tokens;
+    let (mut tree, mut rest) = begun(empty, tokens);
     while !rest.is_empty() {
         let (more, after) = declaration(alloc, tree, rest)?;
         tree = more;
@@ -142,7 +143,8 @@ fn refusal(error: ParseError, tokens: &[Token]) -> Refusal
 /// too deep.
 pub fn parse(alloc: Global, tokens: &[Token]) -> Result<Tree, Refusal>
     ensures exact { Answers tree_seen result (program_at most_depth (tokens_seen tokens.now)) }
-    ensures spelled { IfOk result (λ t. SpellsProgram (tree_seen t) (tokens_seen tokens.now) × (tree_depth (tree_seen t) ≤ most_depth)) }
+    ensures spelled { IfOk result (λ t. SpellsProgram (tree_seen t) (tokens_seen tokens.now)
+        × (tree_depth (tree_seen t) ≤ most_depth)) }
     ensures refused { IfErr result (λ e. RefusedRightly most_depth (tokens_seen tokens.now) e.number) }
     ensures shaped { IfErr result HasShape }
     ensures parsed { ReadsAll most_depth (tokens_seen tokens.now) result }

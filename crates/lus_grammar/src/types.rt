@@ -6,7 +6,7 @@ ghost use Rattle.lus_syntax.specs.View.{tokens_seen, names_seen, type_name_seen,
 ghost use Rattle.lus_grammar.specs.Answers.{Gives, read_as, all_read_as};
 ghost use Rattle.lus_spelling.specs.ReadingDeclarations.{several_at, further, at_name, names_at, type_name_at, fields_at, enumeration_at, structure_at, definition_at, type_at};
 
-use crate::fault::{ParseError, Parsed};
+use crate::fault::{ParseError, Parsed, Tokens};
 use crate::front::{begins_name, expect_symbol, further, identifier, skip_symbol, symbol, word};
 use lus_syntax::{
     Definition, Fields, Name, Symbol, Token, TokenKind, TypeDeclaration, TypeName, Word,
@@ -14,7 +14,7 @@ use lus_syntax::{
 use std::alloc::Global;
 
 /// Names with commas between.
-pub fn names(alloc: Global, tokens: &[Token]) -> Parsed<'_, Vec<Name>>
+pub fn names(alloc: Global, tokens: Tokens<'_>) -> Parsed<'_, Vec<Name>>
     ensures { Gives (λ x. (names_seen x.0.items, tokens_seen x.1.now)) result (names_at (tokens_seen tokens.now)) }
 {
     let mut names = Vec::with_capacity(alloc, 1)?;
@@ -30,34 +30,34 @@ pub fn names(alloc: Global, tokens: &[Token]) -> Parsed<'_, Vec<Name>>
 
 /// `bool`, `int` or a name.
 #[tactic(auto, unfolding(lus_spelling::specs::ReadingDeclarations::type_name_at))]
-pub fn type_name(alloc: Global, tokens: &[Token]) -> Parsed<'_, TypeName>
+pub fn type_name(alloc: Global, tokens: Tokens<'_>) -> Parsed<'_, TypeName>
     ensures { Gives (read_as type_name_seen) result (type_name_at (tokens_seen tokens.now)) }
 {
-    match tokens {
+    match *tokens {
         [
             Token {
                 kind: TokenKind::Keyword(Word::Bool),
                 span,
             },
-            rest @ ..,
-        ] => Ok((TypeName::Bool(*span), rest)),
+            ref rest @ ..,
+        ] => Ok((TypeName::Bool(span), rest)),
         [
             Token {
                 kind: TokenKind::Keyword(Word::Int),
                 span,
             },
-            rest @ ..,
-        ] => Ok((TypeName::Int(*span), rest)),
+            ref rest @ ..,
+        ] => Ok((TypeName::Int(span), rest)),
         [
             Token {
                 kind: TokenKind::Identifier(text),
                 span,
             },
-            rest @ ..,
+            ref rest @ ..,
         ] => {
             let name = Name {
-                text: text.clone()?,
-                span: *span,
+                text: String::from_str(alloc, text)?,
+                span: span,
             };
             Ok((TypeName::Declared(name), rest))
         }
@@ -67,7 +67,7 @@ pub fn type_name(alloc: Global, tokens: &[Token]) -> Parsed<'_, TypeName>
 
 /// Names and their type.
 #[tactic(auto, unfolding(lus_spelling::specs::ReadingDeclarations::fields_at))]
-pub fn fields(alloc: Global, tokens: &[Token]) -> Parsed<'_, Fields>
+pub fn fields(alloc: Global, tokens: Tokens<'_>) -> Parsed<'_, Fields>
     ensures { Gives (read_as fields_seen) result (fields_at (tokens_seen tokens.now)) }
 {
     let (names, rest) = names(alloc, tokens)?;
@@ -77,7 +77,7 @@ pub fn fields(alloc: Global, tokens: &[Token]) -> Parsed<'_, Fields>
 }
 
 /// Fields with semicolons between.
-fn all_fields(alloc: Global, tokens: &[Token]) -> Parsed<'_, Vec<Fields>>
+fn all_fields(alloc: Global, tokens: Tokens<'_>) -> Parsed<'_, Vec<Fields>>
     ensures { Gives (all_read_as fields_seen) result (several_at (further CloseBrace) fields_at [] (tokens_seen tokens.now)) }
 {
     let mut found = Vec::new(alloc);
@@ -93,7 +93,7 @@ fn all_fields(alloc: Global, tokens: &[Token]) -> Parsed<'_, Vec<Fields>>
 
 /// What stands after `enum`.
 #[tactic(auto, unfolding(lus_spelling::specs::ReadingDeclarations::enumeration_at))]
-fn enumeration(alloc: Global, tokens: &[Token]) -> Parsed<'_, Definition>
+fn enumeration(alloc: Global, tokens: Tokens<'_>) -> Parsed<'_, Definition>
     ensures { Gives (read_as definition_seen) result (enumeration_at (tokens_seen tokens.now)) }
 {
     let rest = expect_symbol(Symbol::OpenBrace, tokens)?;
@@ -104,7 +104,7 @@ fn enumeration(alloc: Global, tokens: &[Token]) -> Parsed<'_, Definition>
 
 /// What may stand after `struct`.
 #[tactic(auto, unfolding(lus_spelling::specs::ReadingDeclarations::structure_at))]
-fn structure(alloc: Global, tokens: &[Token]) -> Parsed<'_, Definition>
+fn structure(alloc: Global, tokens: Tokens<'_>) -> Parsed<'_, Definition>
     ensures { Gives (read_as definition_seen) result (structure_at (tokens_seen tokens.now)) }
 {
     let rest = expect_symbol(Symbol::OpenBrace, tokens)?;
@@ -115,7 +115,7 @@ fn structure(alloc: Global, tokens: &[Token]) -> Parsed<'_, Definition>
 
 /// What a type's name stands for.
 #[tactic(auto, unfolding(lus_spelling::specs::ReadingDeclarations::definition_at))]
-fn definition(alloc: Global, tokens: &[Token]) -> Parsed<'_, Definition>
+fn definition(alloc: Global, tokens: Tokens<'_>) -> Parsed<'_, Definition>
     ensures { Gives (read_as definition_seen) result (definition_at (tokens_seen tokens.now)) }
 {
     if let Some((_, rest)) = word(Word::Enum, tokens) {
@@ -132,7 +132,7 @@ fn definition(alloc: Global, tokens: &[Token]) -> Parsed<'_, Definition>
 }
 
 #[tactic(auto, unfolding(lus_spelling::specs::ReadingDeclarations::type_at))]
-fn type_declaration(alloc: Global, tokens: &[Token]) -> Parsed<'_, TypeDeclaration>
+fn type_declaration(alloc: Global, tokens: Tokens<'_>) -> Parsed<'_, TypeDeclaration>
     ensures { Gives (read_as type_seen) result (type_at (tokens_seen tokens.now)) }
 {
     let (name, rest) = identifier(alloc, tokens)?;
@@ -146,7 +146,7 @@ fn type_declaration(alloc: Global, tokens: &[Token]) -> Parsed<'_, TypeDeclarati
 pub fn type_declarations(
     alloc: Global,
     mut found: Vec<TypeDeclaration>,
-    tokens: &[Token],
+    tokens: Tokens<'_>,
 ) -> Parsed<'_, Vec<TypeDeclaration>>
     ensures { Gives (all_read_as type_seen) result (several_at at_name type_at (map type_seen found.items) (tokens_seen tokens.now)) }
 {

@@ -6,17 +6,17 @@ ghost use Rattle.lus_syntax.specs.View.{tokens_seen, test_seen, group_seen};
 ghost use Rattle.lus_grammar.specs.Answers.{Gives, read_as, all_read_as};
 ghost use Rattle.lus_spelling.specs.ReadingDeclarations.{several_at, further, at_name, clock_at, group_at, variables_at, inputs_at, outputs_at, local_at, locals_at};
 
-use crate::fault::Parsed;
+use crate::fault::{Parsed, Tokens};
 use crate::front::{
-    begins_name, expect_symbol, expect_word, further, skip_symbol, symbol, test, word,
+    begins_name, begun, expect_symbol, expect_word, further, skip_symbol, symbol, test, word,
 };
 use crate::types::fields;
-use lus_syntax::{Fields, Group, Symbol, Test, Token, Word};
+use lus_syntax::{Fields, Group, Symbol, Test, Word};
 use std::alloc::Global;
 
 /// A clock that may be written.
 #[tactic(auto, unfolding(lus_spelling::specs::ReadingDeclarations::clock_at))]
-fn clock(alloc: Global, tokens: &[Token]) -> Parsed<'_, Option<Test>>
+fn clock(alloc: Global, tokens: Tokens<'_>) -> Parsed<'_, Option<Test>>
     ensures { Gives (λ x. (option_map test_seen x.0, tokens_seen x.1.now)) result (clock_at (tokens_seen tokens.now)) }
 {
     match word(Word::When, tokens) {
@@ -30,7 +30,7 @@ fn clock(alloc: Global, tokens: &[Token]) -> Parsed<'_, Option<Test>>
 
 /// Variables of one type on one clock.
 #[tactic(auto, unfolding(lus_spelling::specs::ReadingDeclarations::group_at))]
-fn group(alloc: Global, tokens: &[Token]) -> Parsed<'_, Group>
+fn group(alloc: Global, tokens: Tokens<'_>) -> Parsed<'_, Group>
     ensures { Gives (read_as group_seen) result (group_at (tokens_seen tokens.now)) }
 {
     let (Fields { names, type_name }, rest) = fields(alloc, tokens)?;
@@ -44,7 +44,7 @@ fn group(alloc: Global, tokens: &[Token]) -> Parsed<'_, Group>
 }
 
 /// Groups with semicolons between.
-fn groups(alloc: Global, tokens: &[Token]) -> Parsed<'_, Vec<Group>>
+fn groups(alloc: Global, tokens: Tokens<'_>) -> Parsed<'_, Vec<Group>>
     ensures { Gives (all_read_as group_seen) result (several_at (further Close) group_at [] (tokens_seen tokens.now)) }
 {
     let mut found = Vec::new(alloc);
@@ -60,7 +60,7 @@ fn groups(alloc: Global, tokens: &[Token]) -> Parsed<'_, Vec<Group>>
 
 /// Groups, and a last semicolon that may stand.
 #[tactic(auto, unfolding(lus_spelling::specs::ReadingDeclarations::variables_at))]
-fn variables(alloc: Global, tokens: &[Token]) -> Parsed<'_, Vec<Group>>
+fn variables(alloc: Global, tokens: Tokens<'_>) -> Parsed<'_, Vec<Group>>
     ensures { Gives (all_read_as group_seen) result (variables_at (tokens_seen tokens.now)) }
 {
     let (groups, rest) = groups(alloc, tokens)?;
@@ -69,7 +69,7 @@ fn variables(alloc: Global, tokens: &[Token]) -> Parsed<'_, Vec<Group>>
 
 /// The inputs of a node, in parentheses.
 #[tactic(auto, unfolding(lus_spelling::specs::ReadingDeclarations::inputs_at))]
-pub fn inputs(alloc: Global, tokens: &[Token]) -> Parsed<'_, Vec<Group>>
+pub fn inputs(alloc: Global, tokens: Tokens<'_>) -> Parsed<'_, Vec<Group>>
     ensures { Gives (all_read_as group_seen) result (inputs_at (tokens_seen tokens.now)) }
 {
     let rest = expect_symbol(Symbol::Open, tokens)?;
@@ -83,7 +83,7 @@ pub fn inputs(alloc: Global, tokens: &[Token]) -> Parsed<'_, Vec<Group>>
 
 /// `returns`, the outputs of a node in parentheses, and a semicolon that may stand.
 #[tactic(auto, unfolding(lus_spelling::specs::ReadingDeclarations::outputs_at))]
-pub fn outputs(alloc: Global, tokens: &[Token]) -> Parsed<'_, Vec<Group>>
+pub fn outputs(alloc: Global, tokens: Tokens<'_>) -> Parsed<'_, Vec<Group>>
     ensures { Gives (all_read_as group_seen) result (outputs_at (tokens_seen tokens.now)) }
 {
     let rest = expect_word(Word::Returns, tokens)?;
@@ -95,7 +95,7 @@ pub fn outputs(alloc: Global, tokens: &[Token]) -> Parsed<'_, Vec<Group>>
 
 /// A group and its semicolon.
 #[tactic(auto, unfolding(lus_spelling::specs::ReadingDeclarations::local_at))]
-fn local(alloc: Global, tokens: &[Token]) -> Parsed<'_, Group>
+fn local(alloc: Global, tokens: Tokens<'_>) -> Parsed<'_, Group>
     ensures { Gives (read_as group_seen) result (local_at (tokens_seen tokens.now)) }
 {
     let (group, rest) = group(alloc, tokens)?;
@@ -104,7 +104,7 @@ fn local(alloc: Global, tokens: &[Token]) -> Parsed<'_, Group>
 }
 
 /// What stands after `var`, behind the groups that were found before.
-fn section(alloc: Global, mut found: Vec<Group>, tokens: &[Token]) -> Parsed<'_, Vec<Group>>
+fn section(alloc: Global, mut found: Vec<Group>, tokens: Tokens<'_>) -> Parsed<'_, Vec<Group>>
     ensures { Gives (all_read_as group_seen) result (several_at at_name local_at (map group_seen found.items) (tokens_seen tokens.now)) }
 {
     let (first, mut rest) = local(alloc, tokens)?;
@@ -118,11 +118,10 @@ fn section(alloc: Global, mut found: Vec<Group>, tokens: &[Token]) -> Parsed<'_,
 }
 
 /// The locals of a node, in any number of sections.
-pub fn locals(alloc: Global, tokens: &[Token]) -> Parsed<'_, Vec<Group>>
+pub fn locals(alloc: Global, tokens: Tokens<'_>) -> Parsed<'_, Vec<Group>>
     ensures { Gives (all_read_as group_seen) result (locals_at (tokens_seen tokens.now)) }
 {
-    let mut found = Vec::new(alloc);
-    let mut rest = tokens;
+    let (mut found, mut rest) = begun(Vec::new(alloc), tokens);
     while let Some((_, after)) = word(Word::Var, rest) {
         let (more, after) = section(alloc, found, after)?;
         found = more;

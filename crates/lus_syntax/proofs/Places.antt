@@ -1,7 +1,7 @@
 -- The place behind some bytes.
-use Rattle.std.proofs.Common.{◌≡◌, ℕ, ◌+◌, ◌≤◌, Bool, true, false, cond, List, [], ◌∷◌, ◌++◌, length, refl, arith, length-append}
+use Rattle.std.proofs.Common.{◌≡◌, ℕ, ◌+◌, ◌-◌, ◌^◌, ◌<◌, ◌≤◌, min, Bool, true, false, cond, List, [], ◌∷◌, ◌++◌, length, refl, arith, length-append}
 use Rattle.lus_syntax.specs.declared.token.Place.{Place}
-use Rattle.lus_syntax.specs.Places.{is_feed, is_first, past_one, past}
+use Rattle.lus_syntax.specs.Places.{is_feed, is_first, past_one, past, within_words}
 use Rattle.lus_syntax.specs.Reading.{HasRoom}
 
 pub past_push : (at : Place) (xs : List ℕ) (b : ℕ) → past at (xs ++ b ∷ []) ≡ past_one (past at xs) b
@@ -62,3 +62,10 @@ room_after at xs ys room = record {
   line = omega (arith, room.line, length-append xs ys, past_line at xs);
   column = omega (arith, room.column, length-append xs ys, past_column at xs);
 }
+
+-- a place whose numbers fit is itself
+pub fits : (at : Place) → at.byte < 2 ^ 32 → at.column < 2 ^ 32 → within_words at ≡ at
+fits at byte column =
+    let same_byte : min at.byte (2 ^ 32 - 1) ≡ at.byte = omega (arith, byte) in
+    let same_column : min at.column (2 ^ 32 - 1) ≡ at.column = omega (arith, column) in
+    rw (same_byte, same_column) refl

@@ -1,13 +1,12 @@
 -- Gaps and tokens, one after the other.
 use Rattle.std.proofs.Common.{◌≡◌, ℕ, ◌<◌, ◌≤◌, List, [], ◌∷◌, ◌++◌, length, take, drop, Result, Ok, Err, refl, sym, ap, subst, ◌∙◌, arith, length-append, take-append-drop}
-use Rattle.std.specs.Prelude.{MatchResult, IsErrAnd}
+use Rattle.std.specs.Prelude.{IsErrAnd, IfErr}
 use Rattle.std.proofs.lemmas.List.{nil_from_length, length-take-le}
 use Rattle.lus_syntax.specs.declared.token.Place.{Place}
+use Rattle.lus_syntax.specs.declared.refusal.RefusalNumber.{RefusalNumber}
 use Rattle.lus_syntax.specs.declared.refusal.RefusalNumber.TheVariants.{Lexical}
-use Rattle.lus_syntax.specs.declared.fault.LexError.{LexError}
-use Rattle.lus_syntax.specs.declared.fault.LexError.TheVariants as errors
 use Rattle.lus_syntax.specs.Places.{past, end_of}
-use Rattle.lus_syntax.specs.Reading.{HasRoom, Skips, Gives, IsWrong, IsOpen}
+use Rattle.lus_syntax.specs.Reading.{HasRoom, Skips, IsOpen}
 use Rattle.lus_syntax.specs.Texts.{LongestText, NoText, meaning}
 use Rattle.lus_syntax.specs.Gaps.{Piece, Gap, IsGap, IsPlain}
 use Rattle.lus_syntax.specs.Lexemes.{Kind, Lexeme, tok}
@@ -69,14 +68,10 @@ gap_step begin text at here n to piece after gap room skips front back is =
     } in
     subst (λ (x : Place). Step begin text x after) (sym place) (subst (λ (x : List ℕ). Step begin text (past at (take n here)) x) (sym back) next)
 
-kind_wrong : (here text rest : List ℕ) (begin : Place) (e : LexError) → IsPlain here → LongestText here text rest → Gives begin (Err e) (meaning text) → IsWrong begin here e
-kind_wrong here text rest begin errors.Memory plain longest gives = tt
-kind_wrong here text rest begin (errors.Fault number place) plain longest gives = (no_meaning plain longest gives.0, gives.1)
-
-pub kind_refused : {X : Type 0} (A : X → Type 0) (here text rest : List ℕ) (begin : Place) (e : LexError) (r : Result X LexError) → IsPlain here → LongestText here text rest → Gives begin (Err e) (meaning text)
-    → IsErrAnd r (λ f. f ≡ e) → MatchResult r A (λ f. IsWrong begin here f)
-kind_refused A here text rest begin e (Ok x) plain longest gives is = absurd is
-kind_refused A here text rest begin e (Err f) plain longest gives is = rw is (kind_wrong here text rest begin e plain longest gives)
+pub kind_refused : {X : Type 0} (here text rest : List ℕ) (number : RefusalNumber) (r : Result X RefusalNumber) → IsPlain here → LongestText here text rest → meaning text ≡ Err number
+    → IsErrAnd r (λ m. m ≡ number) → IfErr r (λ m. Wrong here m)
+kind_refused here text rest number (Ok x) plain longest means is = absurd is
+kind_refused here text rest number (Err m) plain longest means is = rw is (no_meaning plain longest means)
 
 -- a token's span has the length of its text
 pub token_here : (here : List ℕ) (begin : Place) (n : ℕ) (kind : Kind) (text rest : List ℕ) → n ≤ length here → LongestText here (take n here) (drop n here) → text ≡ take n here → rest ≡ drop n here

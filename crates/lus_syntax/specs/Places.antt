@@ -1,5 +1,6 @@
 -- Places in a text: lines and columns count from 1, and columns count characters.
-use Rattle.std.specs.Prelude.{◌≡◌, ℕ, ◌+◌, not, Bool, ◌||◌, ◌==◌, nat_lt, nat_le, List, [], ◌∷◌, length, reverse, if◌then◌else◌}
+use Rattle.std.specs.Prelude.{◌≡◌, ℕ, ◌+◌, ◌-◌, ◌^◌, min, not, Bool, ◌||◌, ◌==◌, nat_lt, nat_le, List, [], ◌∷◌, length, reverse}
+use Rattle.std.specs.Prelude.{if◌then◌else◌}
 use Rattle.std.specs.List.{count_by, take_while}
 use Rattle.lus_syntax.specs.declared.token.Place.{Place}
 use Rattle.lus_syntax.specs.declared.token.Span.{Span}
@@ -30,6 +31,10 @@ past at (b ∷ bs) = past (past_one at b) bs
 -- the place behind a token: its bytes are as many characters, on one line
 abbrev pub end_of : Span → Place
 end_of span = record { byte = span.start.byte + span.length; line = span.start.line; column = span.start.column + span.length }
+
+-- the place in numbers of 32 bits: past the greatest, the greatest
+abbrev pub within_words : Place → Place
+within_words at = record { byte = min at.byte (2 ^ 32 - 1); line = at.line; column = min at.column (2 ^ 32 - 1) }
 
 -- the last bytes or characters that no line feed is among, the last of them first
 abbrev pub last_line : List ℕ → List ℕ

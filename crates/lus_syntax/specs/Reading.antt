@@ -1,5 +1,6 @@
 -- What the lexer's own functions take and answer.
-use Rattle.std.specs.Prelude.{◌≡◌, ℕ, ◌+◌, ◌^◌, ◌<◌, ◌≤◌, Bool, ◌&&◌, ◌==◌, List, [], ◌∷◌, length, map, take, drop, Option, Some, None, option_map, Result, Ok, Err, if◌then◌else◌}
+use Rattle.std.specs.Prelude.{◌≡◌, ℕ, ◌+◌, ◌^◌, ◌<◌, ◌≤◌, Bool, ◌&&◌, ◌==◌, List, [], ◌∷◌, length}
+use Rattle.std.specs.Prelude.{map, take, drop, Option, Some, None, option_map, Result, Ok, Err, if◌then◌else◌}
 use Rattle.std.specs.Borrow.{Bor}
 use Rattle.std.specs.Str.{bytes_eq}
 use Rattle.lus_syntax.specs.declared.fault.LexError.{LexError}
@@ -15,7 +16,7 @@ use Rattle.lus_syntax.specs.declared.token.TokenKind.{TokenKind}
 use Rattle.lus_syntax.specs.Lexemes.{Kind}
 use Rattle.lus_syntax.specs.Texts.{symbols}
 use Rattle.lus_syntax.specs.Gaps.{Piece, Unclosed, IsPlain, IsGap}
-use Rattle.lus_syntax.specs.Tokens.{Reads, Ends, Wrong, Breaks, Faulty}
+use Rattle.lus_syntax.specs.Tokens.{Reads, Ends, Breaks, Faulty}
 use Rattle.lus_syntax.specs.View.{kind_seen, token_seen}
 
 -- ---- places
@@ -71,20 +72,14 @@ IsOpen at text to = (here : List ℕ) × IsGap at text to here × Unclosed here
 
 -- ---- tokens
 
--- a kind, or its fault here, unless memory ran out
-abbrev pub Gives : Place → Result TokenKind LexError → Result Kind RefusalNumber → Type 0
-Gives at (Ok kind) is = is ≡ Ok (kind_seen kind)
-Gives at (Err errors.Memory) is = Unit {0}
-Gives at (Err (errors.Fault number place)) is = (is ≡ Err number) × (place ≡ at)
-
--- something is wrong here, unless memory ran out
-abbrev pub IsWrong : Place → List ℕ → LexError → Type 0
-IsWrong at here errors.Memory = Unit {0}
-IsWrong at here (errors.Fault number place) = Wrong here number × (place ≡ at)
+-- a kind, or what is wrong with its text
+abbrev pub Gives : Result TokenKind RefusalNumber → Result Kind RefusalNumber → Type 0
+Gives (Ok kind) is = is ≡ Ok (kind_seen kind)
+Gives (Err number) is = is ≡ Err number
 
 -- something is wrong behind a gap
 abbrev pub IsBreak : Place → List ℕ → LexError → Type 0
-IsBreak at text errors.Memory = Unit {0}
+IsBreak at text errors.Memory = ⊥
 IsBreak at text (errors.Fault number place) = Breaks at text number place
 
 -- a fault of the text

@@ -40,7 +40,8 @@ cycle_behind (name ∷ names) = 32 ∷ cycle_text (name ∷ names)
 
 abbrev pub place_text : RefusalNumber → ℕ → ℕ → List (List ℕ) → List ℕ
 place_text numbers.Memory line column cycle = number_text numbers.Memory
-place_text number line column cycle = number_text number ++ codes " line " ++ decimal line ++ codes " column " ++ decimal column ++ cycle_behind cycle
+place_text number line column cycle =
+    number_text number ++ codes " line " ++ decimal line ++ codes " column " ++ decimal column ++ cycle_behind cycle
 
 -- the number, the place and the cycle; want of memory has no place
 abbrev pub refusal_text : Refusal → List ℕ

@@ -33,8 +33,8 @@ symbols =
     (codes "<>", Some s.NotEqual) ∷ (codes "<=", Some s.AtMost) ∷ (codes ">=", Some s.AtLeast) ∷ (codes "->", Some s.Arrow)
     ∷ (codes "=>", Some s.Implies) ∷ (codes "(", Some s.Open) ∷ (codes ")", Some s.Close) ∷ (codes "{", Some s.OpenBrace)
     ∷ (codes "}", Some s.CloseBrace) ∷ (codes ",", Some s.Comma) ∷ (codes ";", Some s.Semicolon) ∷ (codes ":", Some s.Colon)
-    ∷ (codes ".", Some s.Dot) ∷ (codes "=", Some s.Equal) ∷ (codes "<", Some s.Less) ∷ (codes ">", Some s.Greater) ∷ (codes "+", Some s.Plus)
-    ∷ (codes "-", Some s.Minus) ∷ (codes "*", Some s.Star) ∷ (codes "/", Some s.Slash)
+    ∷ (codes ".", Some s.Dot) ∷ (codes "=", Some s.Equal) ∷ (codes "<", Some s.Less) ∷ (codes ">", Some s.Greater)
+    ∷ (codes "+", Some s.Plus) ∷ (codes "-", Some s.Minus) ∷ (codes "*", Some s.Star) ∷ (codes "/", Some s.Slash)
     -- kept back
     ∷ (codes "#", None) ∷ []
 

@@ -30,7 +30,7 @@ use Rattle.lus_syntax.specs.Lexemes.{Kind, Identifier, Number, Sign, Keyword, Le
 use Rattle.lus_syntax.specs.Trees as plain
 
 abbrev pub kind_seen : TokenKind → Kind
-kind_seen (kinds.Identifier s) = Identifier (string_bytes s)
+kind_seen (kinds.Identifier s) = Identifier s.now
 kind_seen (kinds.Number n) = Number n
 kind_seen (kinds.Punctuation c) = Sign c
 kind_seen (kinds.Keyword w) = Keyword w
@@ -115,7 +115,18 @@ abbrev pub equation_seen : Equation → plain.Equation
 equation_seen q = record { left = names_seen q.left.items; right = expression_seen q.right }
 
 abbrev pub node_seen : Node → plain.Node
-node_seen f = record { kind = f.kind; name = name_seen f.name; inputs = map group_seen f.inputs.items; outputs = map group_seen f.outputs.items; locals = map group_seen f.locals.items; equations = map equation_seen f.equations.items }
+node_seen f = record {
+  kind = f.kind;
+  name = name_seen f.name;
+  inputs = map group_seen f.inputs.items;
+  outputs = map group_seen f.outputs.items;
+  locals = map group_seen f.locals.items;
+  equations = map equation_seen f.equations.items;
+}
 
 abbrev pub tree_seen : Tree → plain.Tree
-tree_seen t = record { types = map type_seen t.types.items; constants = map constant_seen t.constants.items; nodes = map node_seen t.nodes.items }
+tree_seen t = record {
+  types = map type_seen t.types.items;
+  constants = map constant_seen t.constants.items;
+  nodes = map node_seen t.nodes.items;
+}

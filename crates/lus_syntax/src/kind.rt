@@ -4,12 +4,10 @@ ghost use Rattle.std.specs.Prelude.{◌≡◌, true, pos, option_map};
 ghost use Rattle.lus_syntax.specs.Texts.{words, symbols, look_up, is_text, is_number, number_within, meaning};
 ghost use Rattle.lus_syntax.specs.Reading.{Gives};
 
-use crate::fault::LexError;
 use crate::refusal::RefusalNumber;
 use crate::table::look_up;
 use crate::text::begins_name;
-use crate::token::{Place, Symbol, TokenKind, Word};
-use std::alloc::Global;
+use crate::token::{Symbol, TokenKind, Word};
 use std::str;
 
 // The words, and those that are kept back.
@@ -102,35 +100,35 @@ fn number_of(text: &str) -> Option<i64>
     text.parse::<i64>().ok()
 }
 
-/// What the text of a token stands for, at the place where it begins.
-pub(crate) fn kind_of(alloc: Global, bytes: &[u8], at: Place) -> Result<TokenKind, LexError>
+/// What the text of a token stands for.
+pub(crate) fn kind_of(bytes: &[u8]) -> Result<TokenKind<'_>, RefusalNumber>
     requires { is_text bytes.now ≡ true }
-    ensures { Gives at result (meaning bytes.now) }
+    ensures { Gives result (meaning bytes.now) }
 {
-    kind_of_text(alloc, str::from_utf8(bytes).unwrap(), at)
+    kind_of_text(str::from_utf8(bytes).unwrap())
 }
 
 #[tactic(auto, unfolding(crate::specs::Texts::meaning))]
-fn kind_of_text(alloc: Global, text: &str, at: Place) -> Result<TokenKind, LexError>
+fn kind_of_text(text: &str) -> Result<TokenKind<'_>, RefusalNumber>
     requires { is_text text.now ≡ true }
-    ensures { Gives at result (meaning text.now) }
+    ensures { Gives result (meaning text.now) }
 {
     let first = text.as_bytes()[0];
     if begins_name(first) {
         match word_of(text) {
-            None => Ok(TokenKind::Identifier(String::from_str(alloc, text)?)),
-            Some(None) => Err(LexError::Fault(RefusalNumber::Unsupported, at)),
+            None => Ok(TokenKind::Identifier(text)),
+            Some(None) => Err(RefusalNumber::Unsupported),
             Some(Some(word)) => Ok(TokenKind::Keyword(word)),
         }
     } else if first.is_ascii_digit() {
         match number_of(text) {
-            None => Err(LexError::Fault(RefusalNumber::Limit, at)),
+            None => Err(RefusalNumber::Limit),
             Some(number) => Ok(TokenKind::Number(number)),
         }
     } else {
         match symbol_of(text) {
-            None => Err(LexError::Fault(RefusalNumber::Lexical, at)),
-            Some(None) => Err(LexError::Fault(RefusalNumber::Unsupported, at)),
+            None => Err(RefusalNumber::Lexical),
+            Some(None) => Err(RefusalNumber::Unsupported),
             Some(Some(symbol)) => Ok(TokenKind::Punctuation(symbol)),
         }
     }

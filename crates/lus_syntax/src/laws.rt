@@ -13,7 +13,8 @@ ghost use Rattle.lus_syntax.specs.Tokens.{Tokens, Faulty};
 /// A text has one list of tokens at most, one leftmost fault at most, and never both.
 pub fn one_reading()
     ensures tokens { (text : List ℕ) (ts us : List Lexeme) → Tokens text ts → Tokens text us → ts ≡ us }
-    ensures faults { (text : List ℕ) (m n : RefusalNumber) (p q : Place) → Faulty text m p → Faulty text n q → (m ≡ n) × (p ≡ q) }
+    ensures faults { (text : List ℕ) (m n : RefusalNumber) (p q : Place) → Faulty text m p → Faulty text n q
+        → (m ≡ n) × (p ≡ q) }
     ensures apart { (text : List ℕ) (ts : List Lexeme) (n : RefusalNumber) (p : Place) → Tokens text ts → Faulty text n p → ⊥ }
 
     // A fault is one of three, and stands behind a front of the text.

@@ -6,10 +6,10 @@ ghost use Rattle.lus_syntax.specs.declared.refusal.RefusalNumber.{RefusalNumber}
 ghost use Rattle.lus_syntax.specs.declared.token.Place.{Place};
 ghost use Rattle.lus_syntax.specs.Gaps.{IsPlain, IsGap};
 ghost use Rattle.lus_syntax.specs.Lexemes.{Lexeme};
-ghost use Rattle.lus_syntax.specs.Reading.{HasRoom, IsFault, IsBreak, IsWrong, IsOpen, IsNext};
+ghost use Rattle.lus_syntax.specs.Reading.{HasRoom, IsFault, IsBreak, IsOpen, IsNext};
 ghost use Rattle.lus_syntax.specs.Refusals.{HasShape};
 ghost use Rattle.lus_syntax.specs.Spans.{StandsIn, InOrder};
-ghost use Rattle.lus_syntax.specs.Tokens.{Tokens, Faulty, Here, IsAt, TellsFault};
+ghost use Rattle.lus_syntax.specs.Tokens.{Tokens, Faulty, Here, Wrong, IsAt, TellsFault};
 ghost use Rattle.lus_syntax.specs.View.{token_seen, tokens_seen};
 
 use crate::fault::LexError;
@@ -42,17 +42,18 @@ fn skip_gap(bytes: &[u8], start: Place) -> Result<(&[u8], Place), Place>
 }
 
 /// The token that stands here, and what stands behind it.
-fn token_at(alloc: Global, bytes: &[u8], start: Place) -> Result<(Token, &[u8]), LexError>
+fn token_at(bytes: &[u8], start: Place) -> Result<(Token<'_>, &[u8]), RefusalNumber>
     requires room { HasRoom start bytes.now }
     requires plain { IsPlain bytes.now }
     requires some { 0 < length bytes.now }
-    ensures { MatchResult result (λ x. Here bytes.now (token_seen x.0) x.1.now × (x.0.span.start ≡ start)) (λ e. IsWrong start bytes.now e) }
+    ensures found { IfOk result (λ x. Here bytes.now (token_seen x.0) x.1.now × (x.0.span.start ≡ start)) }
+    ensures wrong { IfErr result (λ number. Wrong bytes.now number) }
 {
     let Some(n) = text_len(bytes) else {
-        return Err(LexError::Fault(RefusalNumber::Lexical, start));
+        return Err(RefusalNumber::Lexical);
     };
     let (text, rest) = bytes.split_at(n);
-    let kind = kind_of(alloc, text, start)?;
+    let kind = kind_of(text)?;
     let token = Token {
         kind,
         span: Span {
@@ -64,7 +65,7 @@ fn token_at(alloc: Global, bytes: &[u8], start: Place) -> Result<(Token, &[u8]),
 }
 
 /// The next token, and what stands behind it.
-fn next_token(alloc: Global, bytes: &[u8], at: Place) -> Result<Option<(Token, &[u8])>, LexError>
+fn next_token(bytes: &[u8], at: Place) -> Result<Option<(Token<'_>, &[u8])>, LexError>
     requires { HasRoom at bytes.now }
     ensures { MatchResult result (λ o. IsNext at bytes.now o) (λ e. IsBreak at bytes.now e) }
 {
@@ -74,13 +75,15 @@ fn next_token(alloc: Global, bytes: &[u8], at: Place) -> Result<Option<(Token, &
             if here.is_empty() {
                 return Ok(None);
             }
-            let found = token_at(alloc, here, start)?;
-            Ok(Some(found))
+            match token_at(here, start) {
+                Ok(found) => Ok(Some(found)),
+                Err(number) => Err(LexError::Fault(number, start)),
+            }
         }
     }
 }
 
-fn tokens_of(alloc: Global, text: &str) -> Result<Vec<Token>, LexError>
+fn tokens_of(alloc: Global, text: &str) -> Result<Vec<Token<'_>>, LexError>
     ensures found { IfOk result (λ v. Tokens text.now (tokens_seen v.items)) }
     ensures fault { IfErr result (λ e. IsFault text.now e) }
 {
@@ -91,7 +94,7 @@ fn tokens_of(alloc: Global, text: &str) -> Result<Vec<Token>, LexError>
     let mut tokens = Vec::new(alloc);
     let mut rest = text.as_bytes();
     let mut at = Place::START;
-    while let Some((token, after)) = next_token(alloc, rest, at)? {
+    while let Some((token, after)) = next_token(rest, at)? {
         at = token.span.end();
         rest = after;
         tokens.push(token)?;
@@ -101,11 +104,12 @@ fn tokens_of(alloc: Global, text: &str) -> Result<Vec<Token>, LexError>
 
 /// The tokens of a source. A refusal is `Lexical`, `Unsupported` or `Limit`, whichever stands leftmost, at the line and
 /// column where its text begins, or `Memory`, also for a text of 4,294,967,295 bytes or more: places have 32 bits.
-pub fn lex(alloc: Global, text: &str) -> Result<Vec<Token>, Refusal>
+pub fn lex(alloc: Global, text: &str) -> Result<Vec<Token<'_>>, Refusal>
     // What is read is the text's tokens.
     ensures found { IfOk result (λ v. Tokens text.now (tokens_seen v.items)) }
     // A text's tokens are read, unless memory runs out.
-    ensures only { (ts : List Lexeme) → Tokens text.now ts → MatchResult result (λ v. tokens_seen v.items ≡ ts) (λ e. e.number ≡ RefusalNumber.Memory) }
+    ensures only { (ts : List Lexeme) → Tokens text.now ts
+        → MatchResult result (λ v. tokens_seen v.items ≡ ts) (λ e. e.number ≡ RefusalNumber.Memory) }
 
     // A refusal tells the text's leftmost fault.
     ensures fault { IfErr result (λ e. e.number ≢ RefusalNumber.Memory → TellsFault text.now e) }

@@ -15,7 +15,7 @@ fn is_same(key: &str, text: &str) -> bool
     }
 }
 
-// Likewise.
+// The first bytes are compared before all of the key, since they tell most keys apart.
 fn begins_with(bytes: &[u8], key: &[u8]) -> bool
     ensures { result ≡ begins_with bytes.now key.now }
 {

@@ -1,7 +1,7 @@
 //! Tokens, and where they stand.
 
-ghost use Rattle.std.specs.Prelude.{◌≡◌, ◌<◌, ◌^◌};
-ghost use Rattle.lus_syntax.specs.Places.{end_of};
+ghost use Rattle.std.specs.Prelude.{◌≡◌};
+ghost use Rattle.lus_syntax.specs.Places.{end_of, within_words};
 
 /// A place between two characters: how many bytes stand before it, its line and its column, both counted from 1 and
 /// columns in characters.
@@ -29,9 +29,9 @@ pub struct Span {
 }
 
 impl Span {
-    /// The place behind the token, if its numbers fit.
+    /// The place behind the token. A number past the greatest that fits is the greatest.
     pub fn end(self) -> Place
-        ensures { (end_of self).byte < 2 ^ 32 → (end_of self).column < 2 ^ 32 → result ≡ end_of self }
+        ensures { result ≡ within_words (end_of self) }
     {
         Place {
             byte: self.start.byte.saturating_add(self.length),
@@ -98,18 +98,18 @@ pub enum Word {
     Merge,
 }
 
-/// What a token is.
-#[derive(Drop)]
-pub enum TokenKind {
-    Identifier(String),
+/// What a token is. A name is the slice of the source that spells it.
+#[derive(Clone, Copy)]
+pub enum TokenKind<'a> {
+    Identifier(&'a str),
     Number(i64),
     Punctuation(Symbol),
     Keyword(Word),
 }
 
 /// A token of a source.
-#[derive(Drop)]
-pub struct Token {
-    pub kind: TokenKind,
+#[derive(Clone, Copy)]
+pub struct Token<'a> {
+    pub kind: TokenKind<'a>,
     pub span: Span,
 }

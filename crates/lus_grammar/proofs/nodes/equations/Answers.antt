@@ -9,7 +9,7 @@ use Rattle.lus_grammar.proofs.Shorter.{equation_shorter}
 use Rattle.lus_grammar.proofs.nodes.equations.Goals as goal
 
 pub loop-alloc-init : goal.loop-alloc-init
-loop-alloc-init c = begun at_equation (push_at at_equation (equation_at most_depth)) [] _ (tokens_seen c.args.tokens.now) (ap (map equation_seen) c.new-found.ensures.items)
+loop-alloc-init c = rw c.begun-found.ensures (begun at_equation (push_at at_equation (equation_at most_depth)) [] _ (tokens_seen c.args.tokens.now) (ap (map equation_seen) c.new.ensures.items))
 
 pub returns-in_err-next : goal.returns-in_err-next
 returns-in_err-next c =

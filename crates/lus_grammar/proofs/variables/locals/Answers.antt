@@ -10,7 +10,7 @@ use Rattle.lus_grammar.proofs.Shorter.{section_shorter}
 use Rattle.lus_grammar.proofs.variables.locals.Goals as goal
 
 pub loop-after-init : goal.loop-after-init
-loop-after-init c = begun (after (Keyword words.Var)) (several_at at_name local_at) [] _ (tokens_seen c.args.tokens.now) (ap (map group_seen) c.new-found.ensures.items)
+loop-after-init c = rw c.begun-found.ensures (begun (after (Keyword words.Var)) (several_at at_name local_at) [] _ (tokens_seen c.args.tokens.now) (ap (map group_seen) c.new.ensures.items))
 
 pub returns-in_err-more : goal.returns-in_err-more
 returns-in_err-more c =

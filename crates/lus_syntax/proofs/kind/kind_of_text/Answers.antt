@@ -1,4 +1,4 @@
-use Rattle.std.proofs.Common.{◌≡◌, Some, None, refl, sym, ap, ◌∙◌, length, arith}
+use Rattle.std.proofs.Common.{◌≡◌, Some, None, sym, ap, ◌∙◌, length, arith}
 use Rattle.lus_syntax.specs.Texts.{symbols, look_up, of_symbol}
 use Rattle.lus_syntax.proofs.Meanings.{text_nonempty, number_first, symbol_meaning}
 use Rattle.lus_syntax.proofs.kind.kind_of_text.Goals as goal
@@ -13,13 +13,11 @@ number_of-requires c = number_first c.args.text.now c.requires
 
 pub returns-in-Some-None-symbol_of : goal.returns-in-Some-None-symbol_of
 returns-in-Some-None-symbol_of c =
-    let e : look_up c.args.text.now symbols ≡ Some None = cc in (
-      symbol_meaning c.args.text.now c.requires
-          (rw c.as_bytes.ensures.value at (sym c.begins_name.ensures ∙ c.if-begins_name.false))
-          (rw c.as_bytes.ensures.value at (sym c.is_ascii_digit.ensures.value ∙ c.if-is_ascii_digit.false))
-          ∙ ap of_symbol e,
-      refl,
-    )
+    let e : look_up c.args.text.now symbols ≡ Some None = cc in
+    symbol_meaning c.args.text.now c.requires
+    (rw c.as_bytes.ensures.value at (sym c.begins_name.ensures ∙ c.if-begins_name.false))
+    (rw c.as_bytes.ensures.value at (sym c.is_ascii_digit.ensures.value ∙ c.if-is_ascii_digit.false))
+    ∙ ap of_symbol e
 
 pub returns-in-Some-Some-symbol_of : goal.returns-in-Some-Some-symbol_of
 returns-in-Some-Some-symbol_of c =
