@@ -48,7 +48,7 @@ refused_scripts : (p : Program) (bytes : Bytes) (e : ScriptRefusal) → e ≢ re
 refused_scripts p bytes refusals.Memory other refused = absurd (other refl)
 refused_scripts p bytes e other refused = refused
 
-module _ (read_fails : Type 0) (program scripts : Known) (text bytes : Option Bytes) (output : Change)
+module _ (read_fails : Known → Type 0) (program scripts : Known) (text bytes : Option Bytes) (output : Change)
     (has_program : Holds program text) (has_scripts : Holds scripts bytes) where
   by_files : (P : Bytes → Bytes → Type 0) → IfSome text (λ t. IfSome bytes (λ b. P t b)) → WithFiles program scripts P
   by_files P p = by_file program text (λ t. WithFile scripts (λ b. P t b)) has_program
@@ -70,7 +70,7 @@ module _ (read_fails : Type 0) (program scripts : Known) (text bytes : Option By
       → (r ≡ Err runs.Memory → (output.new ≡ output.old) ⊎ IfSome text (λ t. IfSome bytes (λ b. BeginsRun t b output.old output.new)))
       → ((r ≡ Err runs.Write → ⊥) → IsSound output)
       → (r ≡ Err runs.Write → HasFailed output)
-      → (r ≡ Err runs.Read → read_fails)
+      → (r ≡ Err runs.Read → read_fails program ⊎ read_fails scripts)
       → RunEnds read_fails program scripts (run_outcome r) output
   run_ended (Ok true) ok cause begins kept cut sound failed read =
       (by_files (λ t b. WritesRun t b true output.old output.new) ok, sound (λ same. cc))
@@ -87,7 +87,7 @@ module _ (read_fails : Type 0) (program scripts : Known) (text bytes : Option By
       by_script (λ f. RunEnds read_fails program scripts (Err f) output) e (inl same, sound)
       (λ other. (by_scripts e other cause, (same, sound)))
   run_ended (Err runs.Read) ok cause begins kept cut sound failed read =
-      (inr (inr (read refl)), (kept (λ same. cc) (λ same. cc), sound (λ same. cc)))
+      (elim (read refl) [ inl failed ↦ inl (inr failed) | inr failed ↦ inr (inr failed) ], (kept (λ same. cc) (λ same. cc), sound (λ same. cc)))
   run_ended (Err runs.Write) ok cause begins kept cut sound failed read =
       (by_files (λ t b. BeginsRun t b output.old output.new) (begins refl), failed refl)
   run_ended (Err (runs.Host hosts.Memory)) ok cause begins kept cut sound failed read = (inl (kept (λ same. cc) (λ same. cc)), sound (λ same. cc))

@@ -1,2 +1,3 @@
 pub mod EndLemmas
 pub mod Lines
+pub mod Pieces

@@ -1,5 +1,6 @@
 -- How a command ends short: the status of the process, and the line on standard error.
 use Rattle.std.specs.Prelude.{◌≡◌, ◌⊎◌, ℕ, ◌++◌, codes, Bool, true, false, Result, Ok, Err}
+use Rattle.std.specs.Fmt.{decimal}
 use Rattle.lus_devices.specs.Devices.{WritesBeginning, with_text}
 use Rattle.lus_callers.specs.declared.threads.HostError.{HostError}
 use Rattle.lus_callers.specs.declared.threads.HostError.TheVariants as hosts
@@ -48,6 +49,7 @@ run_fault runs.Memory = faults.Memory
 abbrev pub fault_status : Fault → ℕ
 fault_status (faults.Program r) = 1
 fault_status (faults.Scripts r) = 2
+fault_status (faults.Journal n) = 2
 fault_status faults.Words = 2
 fault_status faults.File = 3
 fault_status faults.Output = 3
@@ -65,6 +67,7 @@ script_text scripts.Memory = codes "S6"
 abbrev pub fault_text : Fault → Text
 fault_text (faults.Program r) = refusal_text r
 fault_text (faults.Scripts r) = script_text r
+fault_text (faults.Journal n) = codes "journal line " ++ decimal n
 fault_text faults.Words = codes "words"
 fault_text faults.File = codes "file"
 fault_text faults.Output = codes "output"
@@ -78,11 +81,11 @@ fault_line f = codes "error " ++ fault_text f ++ codes "\n"
 abbrev pub Told : Text → Change → Type 0
 Told line c = ((c.new ≡ with_text c.old line) × IsSound c) ⊎ (WritesBeginning c.old c.new line × HasFailed c)
 
--- the status and the line are the fault's, or those of want of memory
+-- the status and the line are the fault's
 abbrev pub IsToldBy : ℕ → Fault → Change → Type 0
-IsToldBy status f c = ((status ≡ fault_status f) × Told (fault_line f) c) ⊎ ((status ≡ 4) × Told (codes "error memory\n") c)
+IsToldBy status f c = (status ≡ fault_status f) × Told (fault_line f) c
 
--- what became of a task: it is done, or a fault ended it
+-- what became of a check or a run: it is done, or a fault ended it
 abbrev pub Outcome : Type 0
 Outcome = Result (Unit {0}) Fault
 

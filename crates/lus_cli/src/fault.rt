@@ -1,16 +1,14 @@
-//! Why a command ends short: the status of the process, and the fault's line.
+//! Why a command ends short, and the status of the process.
 
-ghost use Rattle.std.specs.Prelude.{◌≡◌, Some};
-ghost use Rattle.lus_cli.specs.Faults.{fault_status, fault_text, host_fault, program_fault, run_fault, script_text, words_fault};
+ghost use Rattle.std.specs.Prelude.{◌≡◌};
+ghost use Rattle.lus_cli.specs.Faults.{fault_status, host_fault, program_fault, run_fault, script_text, words_fault};
 
 use crate::words::WordsError;
 use lus_host::{HostError, RunError, ScriptRefusal};
 use lus_syntax::{Refusal, RefusalNumber};
-use std::error::Error;
-use std::fmt;
 
 /// Why a command ended short.
-#[derive(Debug, Drop)]
+#[derive(Drop)]
 pub enum Fault {
     /// The words ask for nothing that there is.
     Words,
@@ -26,17 +24,19 @@ pub enum Fault {
     Program(Refusal),
     /// The scripts were refused.
     Scripts(ScriptRefusal),
+    /// This line, from 1, is none of a journal, or begins one of a node that the program doesn't have.
+    Journal(u64),
 }
 
 impl Fault {
-    /// The status of the process: 1 for a refused program, 2 for refused scripts or words, 3 for a device that failed, and
-    /// 4 for want of memory or of a thread.
+    /// The status of the process: 1 for a refused program, 2 for refused scripts, journals or words, 3 for a device that failed,
+    /// and 4 for want of memory or of a thread.
     pub fn status(&self) -> u8
         ensures { result ≡ fault_status self.now }
     {
         match self {
             Fault::Program(_) => 1,
-            Fault::Scripts(_) | Fault::Words => 2,
+            Fault::Scripts(_) | Fault::Journal(_) | Fault::Words => 2,
             Fault::File | Fault::Output => 3,
             Fault::Memory | Fault::Start => 4,
         }
@@ -44,7 +44,7 @@ impl Fault {
 }
 
 /// How a refusal of scripts is printed.
-fn script_text(refusal: ScriptRefusal) -> &'static str
+pub fn script_text(refusal: ScriptRefusal) -> &'static str
     ensures { result.now ≡ script_text refusal }
 {
     match refusal {
@@ -56,25 +56,6 @@ fn script_text(refusal: ScriptRefusal) -> &'static str
         ScriptRefusal::Memory => "S6",
     }
 }
-
-/// Writes what stands in the fault's line behind `error `, as `words` or `E2 line 2 column 12`.
-impl fmt::Display for Fault {
-    ghost output = { λ fault. Some (fault_text fault) };
-
-    fn fmt<W: fmt::Write>(&self, f: &mut fmt::Formatter<W>) -> fmt::Result {
-        match self {
-            Fault::Words => f.write_str("words"),
-            Fault::File => f.write_str("file"),
-            Fault::Output => f.write_str("output"),
-            Fault::Memory => f.write_str("memory"),
-            Fault::Start => f.write_str("start"),
-            Fault::Program(refusal) => write!(f, "{refusal}"),
-            Fault::Scripts(refusal) => f.write_str(script_text(*refusal)),
-        }
-    }
-}
-
-impl Error for Fault {}
 
 impl From<WordsError> for Fault {
     ghost from_gives = { λ e f. f ≡ words_fault e };

@@ -1,34 +1,35 @@
 //! The command line over a folder.
 
 ghost use Rattle.std.specs.Prelude.{◌≡◌, ◌⊎◌, map, string_bytes};
-ghost use Rattle.lus_cli.specs.Changes.{IsUntouched, change};
+ghost use Rattle.lus_cli.specs.Changes.{Writes, change};
 ghost use Rattle.lus_cli.specs.CommandLine.{asked};
-ghost use Rattle.lus_cli.specs.Ends.{CheckEnds, Ends, ReadFails, RunEnds, TaskEnds};
-ghost use Rattle.lus_cli.specs.Faults.{IsToldBy, run_outcome};
+ghost use Rattle.lus_cli.specs.Ends.{AskedEnds, CheckEnds, Ends, ReadFails, RunEnds, TaskEnds};
+ghost use Rattle.lus_cli.specs.Faults.{IsToldBy, fault_line, run_outcome};
 
 use crate::fault::Fault;
+use crate::line::write_fault;
 use crate::words::{Task, read_words};
-use lus_devices::Folder;
-use lus_host::{OpenGate, RunError, Sink, check, run, write_all};
+use lus_devices::{Failure, Folder, Sink, write_all};
+use lus_host::{OpenGate, RunError, check, run};
 use std::alloc::Global;
 use std::sync::Wait;
 use std::thread::Threads;
 
-/// Writes the fault's line and gives its status. A line that can't be written changes no status; one for which there is no
-/// memory is want of memory.
-pub fn tell<F: Sink>(alloc: Global, faults: &mut F, fault: Fault) -> u8
+fn write_line<F: Sink>(faults: &mut F, fault: &Fault) -> Result<(), Failure>
+    ensures { Writes result (fault_line fault.now)
+        (change (F.written faults.old) (F.written faults.new) (F.failures faults.old) (F.failures faults.new)) }
+{
+    write_all(faults, b"error ")?;
+    write_fault(faults, fault)?;
+    write_all(faults, b"\n")
+}
+
+/// Writes the fault's line and gives its status. A line that can't be written changes no status.
+pub fn tell<F: Sink>(faults: &mut F, fault: Fault) -> u8
     ensures { IsToldBy result fault (change (F.written faults.old) (F.written faults.new) (F.failures faults.old) (F.failures faults.new)) }
 {
-    match format!(in alloc; "error {fault}\n") {
-        Ok(line) => {
-            let _ = write_all(faults, line.as_bytes());
-            fault.status()
-        }
-        Err(_) => {
-            let _ = write_all(faults, b"error memory\n");
-            4
-        }
-    }
+    let _ = write_line(faults, &fault);
+    fault.status()
 }
 
 fn check_file<D: Folder, O: Sink>(
@@ -37,7 +38,7 @@ fn check_file<D: Folder, O: Sink>(
     program: &str,
     output: &mut O,
 ) -> Result<(), Fault>
-    ensures { CheckEnds (ReadFails D.File D.File.failures) (D.known folder.now program.now) result
+    ensures { CheckEnds (ReadFails D.File D.File.left D.File.failures) (D.known folder.now program.now) result
         (change (O.written output.old) (O.written output.new) (O.failures output.old) (O.failures output.new)) }
 {
     let Ok(mut program) = folder.open(program) else {
@@ -66,7 +67,7 @@ fn run_files<D: Folder, O: Sink, R: AllocGlobal + Threads + Wait + Sync>(
     scripts: &str,
     output: &mut O,
 ) -> Result<(), Fault>
-    ensures { RunEnds (ReadFails D.File D.File.failures) (D.known folder.now program.now) (D.known folder.now scripts.now) result
+    ensures { RunEnds (ReadFails D.File D.File.left D.File.failures) (D.known folder.now program.now) (D.known folder.now scripts.now) result
         (change (O.written output.old) (O.written output.new) (O.failures output.old) (O.failures output.new)) }
 {
     let Ok(mut program) = folder.open(program) else {
@@ -91,7 +92,7 @@ fn perform<D: Folder, O: Sink, R: AllocGlobal + Threads + Wait + Sync>(
     words: &[String],
     output: &mut O,
 ) -> Result<(), Fault>
-    ensures { TaskEnds (ReadFails D.File D.File.failures) (D.known folder.now) (asked (map string_bytes words.now)) result
+    ensures { AskedEnds (TaskEnds (ReadFails D.File D.File.left D.File.failures) (D.known folder.now)) (asked (map string_bytes words.now)) result
         (change (O.written output.old) (O.written output.new) (O.failures output.old) (O.failures output.new)) }
 {
     match read_words(rt.alloc(), words)? {
@@ -109,7 +110,7 @@ pub fn command<D: Folder, O: Sink, F: Sink, R: AllocGlobal + Threads + Wait + Sy
     output: &mut O,
     faults: &mut F,
 ) -> u8
-    ensures ends { Ends (ReadFails D.File D.File.failures) (D.known folder.now) (asked (map string_bytes words.now))
+    ensures ends { Ends (λ done. 0) (TaskEnds (ReadFails D.File D.File.left D.File.failures) (D.known folder.now)) (asked (map string_bytes words.now))
         (change (O.written output.old) (O.written output.new) (O.failures output.old) (O.failures output.new))
         (change (F.written faults.old) (F.written faults.new) (F.failures faults.old) (F.failures faults.new)) result }
     ensures kept { (result ≡ 1) ⊎ (result ≡ 2) → O.written output.new ≡ O.written output.old }
@@ -117,6 +118,6 @@ pub fn command<D: Folder, O: Sink, F: Sink, R: AllocGlobal + Threads + Wait + Sy
 {
     match perform(rt, folder, words, output) {
         Ok(()) => 0,
-        Err(fault) => tell(rt.alloc(), faults, fault),
+        Err(fault) => tell(faults, fault),
     }
 }

@@ -27,7 +27,7 @@ fn main(rt: HostRuntime) -> ExitCode {
     let mut faults = Output(rt.stderr());
     let status = match words(&rt) {
         Ok(words) => command(rt.alloc(), &Disk(&rt), &words, &mut output, &mut faults),
-        Err(fault) => tell(rt.alloc(), &mut faults, fault),
+        Err(fault) => tell(&mut faults, fault),
     };
     ExitCode::from(status)
 }
