@@ -1,2 +1,3 @@
 pub mod Blanks
+pub mod Left
 pub mod Statuses

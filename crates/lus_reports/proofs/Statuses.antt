@@ -1,11 +1,10 @@
--- What holds of a status holds of the status of what is answered.
-use Rattle.std.proofs.Common.{◌≡◌, ℕ, sym, subst, Result, Ok, Err, IfOk, OnOk}
+-- What follows of an answer from what its clauses say of it.
+use Rattle.std.proofs.Common.{Result, Ok, Err, IfOk, OnOk}
 
-pub status_is : {X E : Type 0} (r : Result X E) (status : X → ℕ) (n : ℕ) (P : ℕ → Type 0) → IfOk r (λ v. status v ≡ n) → P n → IfOk r (λ v. P (status v))
-status_is (Ok v) status n P is p = subst P (sym is) p
-status_is (Err e) status n P is p = tt
+pub by_two : {X E : Type 0} (r : Result X E) (P Q R : X → Type 0) → IfOk r P → IfOk r Q → ((x : X) → P x → Q x → R x) → IfOk r R
+by_two (Ok x) P Q R p q f = f x p q
+by_two (Err e) P Q R p q f = tt
 
-pub both_ok : {X E : Type 0} (r : Result X E) (status : X → ℕ) (n : ℕ) (P : ℕ → Type 0) (Q : Type 0)
-    → IfOk r (λ v. status v ≡ n) → OnOk r Q → (Q → P n) → IfOk r (λ v. P (status v))
-both_ok (Ok v) status n P Q is q f = subst P (sym is) (f q)
-both_ok (Err e) status n P Q is q f = tt
+pub by_three : {X E : Type 0} (r : Result X E) (P Q R : X → Type 0) (S : Type 0) → IfOk r P → IfOk r Q → OnOk r S → ((x : X) → P x → Q x → S → R x) → IfOk r R
+by_three (Ok x) P Q R S p q s f = f x p q s
+by_three (Err e) P Q R S p q s f = tt

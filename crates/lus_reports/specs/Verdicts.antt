@@ -1,5 +1,5 @@
--- What a status says of the bytes of a program, and of those of scripts for it.
-use Rattle.std.specs.Prelude.{◌≢◌, ℕ, Option, Some, None}
+-- What is said of the bytes of a program, and of those of scripts for it, and the status that goes with it.
+use Rattle.std.specs.Prelude.{◌≡◌, ◌≢◌, ℕ, Option, Some, None, string_bytes}
 use Rattle.lus_syntax.specs.Lexemes.{Text}
 use Rattle.lus_syntax.specs.declared.refusal.Refusal.{Refusal}
 use Rattle.lus_syntax.specs.declared.refusal.RefusalNumber.TheVariants as numbers
@@ -9,15 +9,42 @@ use Rattle.lus_scripts.specs.declared.refusal.ScriptRefusal.{ScriptRefusal}
 use Rattle.lus_scripts.specs.declared.refusal.ScriptRefusal.TheVariants as refusals
 use Rattle.lus_machine.specs.Acceptance.{Accepted}
 use Rattle.lus_host.specs.ScriptRefusals.{AreRefused, AreScripts}
-use Rattle.lus_host.specs.Sources.{ProgramRefused}
+use Rattle.lus_reports.specs.Complaints.{SaysRefusal, counts_text}
+use Rattle.lus_reports.specs.Explanations.{IsExplained, report_text}
+use Rattle.lus_reports.specs.declared.verdict.File.{File}
+use Rattle.lus_reports.specs.declared.verdict.Verdict.{Verdict}
 
--- scripts of a program are accepted, or refused
-pub data AreJudged (p : Program) (bytes : Text) : ℕ → Type 0 where
-  are_scripts : (s : Scripts) → AreScripts p bytes s → AreJudged p bytes 0
-  are_refused : (e : ScriptRefusal) → e ≢ refusals.Memory → AreRefused p bytes e → AreJudged p bytes 2
+-- a file's name and its bytes
+pub record Named : Type 0 where
+  pub name : Text
+  pub bytes : Text
 
--- a program is refused; or it is accepted, and the scripts are judged, if there are any
-pub data IsVerdict (program : Text) : Option Text → ℕ → Type 0 where
-  is_refused : {scripts : Option Text} → (r : Refusal) → r.number ≢ numbers.Memory → ProgramRefused program r → IsVerdict program scripts 1
-  is_accepted : (p : Program) → Accepted program p → IsVerdict program None 0
-  are_judged : {scripts : Text} {status : ℕ} → (p : Program) → Accepted program p → AreJudged p scripts status → IsVerdict program (Some scripts) status
+abbrev pub named : Text → Text → Named
+named name bytes = record { name = name; bytes = bytes }
+
+-- what is said, and the status
+pub record Said : Type 0 where
+  pub text : Text
+  pub status : ℕ
+
+-- scripts of a program are accepted, or refused, which is said
+pub data AreJudged (p : Program) (scripts : Named) (said : Said) : Type 0 where
+  are_scripts : (s : Scripts) → AreScripts p scripts.bytes s → said.status ≡ 0 → said.text ≡ counts_text scripts.name s
+      → AreJudged p scripts said
+  are_refused : (e : ScriptRefusal) → e ≢ refusals.Memory → AreRefused p scripts.bytes e → said.status ≡ 2 → SaysRefusal scripts.name e said.text
+      → AreJudged p scripts said
+
+-- a program is refused, and its refusal is said, with the line of the source that it names; or it is accepted, and the scripts are
+-- judged, if there are any
+pub data IsVerdict (program : Named) (said : Said) : Option Named → Type 0 where
+  is_refused : {scripts : Option Named} (r : Refusal) (line : Option Text) → r.number ≢ numbers.Memory → IsExplained program.bytes r line
+      → said.status ≡ 1 → said.text ≡ report_text program.name r line → IsVerdict program said scripts
+  is_accepted : (p : Program) → Accepted program.bytes p → said.status ≡ 0 → IsVerdict program said None
+  are_judged : {scripts : Named} (p : Program) → Accepted program.bytes p → AreJudged p scripts said → IsVerdict program said (Some scripts)
+
+-- files and verdicts as plain data
+abbrev pub file_seen : File → Named
+file_seen f = named f.name.now f.bytes.now
+
+abbrev pub verdict_seen : Verdict → Said
+verdict_seen v = record { text = string_bytes v.text; status = v.status }

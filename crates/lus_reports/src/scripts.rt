@@ -1,6 +1,8 @@
 //! Why scripts are refused, and where it shows.
 
-ghost use Rattle.std.specs.Prelude.{◌≡◌, IfErr, IfOk, OnOk};
+ghost use Rattle.std.specs.Prelude.{◌≡◌, ◌++◌, IfErr, IfOk, OnOk, codes, option_map, string_bytes};
+ghost use Rattle.lus_cli.specs.Faults.{script_text};
+ghost use Rattle.lus_reports.specs.Complaints.{SaysRefusal, complaint_text, found_text, meaning_of, wanted_text};
 ghost use Rattle.lus_code.specs.Codes.{program_of};
 ghost use Rattle.lus_host.specs.ScriptRefusals.{AreRefused, AreScripts};
 ghost use Rattle.lus_scripts.specs.View.{scripts_seen};
@@ -12,6 +14,7 @@ use crate::json::fault_at;
 use crate::known::{doubled_name, too_many, unknown_name};
 use crate::lines::place_behind;
 use crate::value::wrong_value;
+use lus_cli::script_text;
 use lus_machine::Program;
 use lus_scripts::{ScriptRefusal, Scripts, read_scripts};
 use lus_syntax::MOST_BYTES;
@@ -83,20 +86,10 @@ fn find_in(program: &Program, scripts: &Value, refusal: ScriptRefusal) -> Option
     }
 }
 
-/// How a refusal of scripts is numbered.
-fn number_of(refusal: ScriptRefusal) -> &'static str {
-    match refusal {
-        ScriptRefusal::Json => "S1",
-        ScriptRefusal::Form => "S2",
-        ScriptRefusal::Unknown => "S3",
-        ScriptRefusal::Double => "S4",
-        ScriptRefusal::Limit => "S5",
-        ScriptRefusal::Memory => "S6",
-    }
-}
-
 /// What a refusal of scripts means.
-fn meaning_of(refusal: ScriptRefusal) -> &'static str {
+fn meaning_of(refusal: ScriptRefusal) -> &'static str
+    ensures { result.now ≡ meaning_of refusal }
+{
     match refusal {
         ScriptRefusal::Json => "no JSON",
         ScriptRefusal::Form => "not the form of scripts",
@@ -108,7 +101,9 @@ fn meaning_of(refusal: ScriptRefusal) -> &'static str {
 }
 
 /// Appends the name of the file, and the place in it where it is found.
-fn push_place(report: &mut String, name: &str, found: Option<Found>) -> Result<(), AllocError> {
+fn push_place(report: &mut String, name: &str, found: Option<Found>) -> Result<(), AllocError>
+    ensures { OnOk result (string_bytes report.new ≡ string_bytes report.old ++ name.now ++ found_text found) }
+{
     match found {
         Some(Found::Bytes { line, column }) => write!(report, "{name}:{line}:{column}: "),
         Some(Found::Json(spot)) => write!(report, "{name}: {spot}: "),
@@ -116,21 +111,50 @@ fn push_place(report: &mut String, name: &str, found: Option<Found>) -> Result<(
     }
 }
 
-/// All that is said of a refusal of the scripts of this name: where and what, and the check that failed.
-pub fn report_scripts(
+/// Appends the number, what it means, and what is wanted.
+fn push_fault(
+    report: &mut String,
+    refusal: ScriptRefusal,
+    wanted: Option<&str>,
+) -> Result<(), AllocError>
+    ensures { OnOk result (string_bytes report.new ≡ string_bytes report.old ++ codes "error " ++ script_text refusal ++ codes ": "
+        ++ meaning_of refusal ++ wanted_text (option_map (λ t. t.now) wanted.entry) ++ codes "\n") }
+{
+    let number = script_text(refusal);
+    let meaning = meaning_of(refusal);
+    match wanted {
+        Some(sentence) => write!(report, "error {number}: {meaning}: {sentence}\n"),
+        None => write!(report, "error {number}: {meaning}\n"),
+    }
+}
+
+/// The name of the file and a place in it, the number and what it means, and what is wanted.
+fn complaint_text(
     alloc: Global,
     name: &str,
-    complaint: Complaint,
-) -> Result<String, AllocError> {
-    let number = number_of(complaint.refusal);
-    let meaning = meaning_of(complaint.refusal);
+    refusal: ScriptRefusal,
+    found: Option<Found>,
+    wanted: Option<&str>,
+) -> Result<String, AllocError>
+    ensures { IfOk result (λ text. string_bytes text
+        ≡ complaint_text name.now refusal found (option_map (λ t. t.now) wanted.entry)) }
+{
     let mut report = String::new(alloc);
-    let Some(finding) = complaint.finding else {
-        write!(report, "{name}: error {number}: {meaning}\n")?;
-        return Ok(report);
-    };
-    push_place(&mut report, name, finding.found)?;
-    let sentence = finding.check.sentence();
-    write!(report, "error {number}: {meaning}: {sentence}\n")?;
+    push_place(&mut report, name, found)?;
+    push_fault(&mut report, refusal, wanted)?;
     Ok(report)
+}
+
+/// All that is said of a refusal of the scripts of this name: where and what, and the check that failed.
+pub fn report_scripts(alloc: Global, name: &str, complaint: Complaint) -> Result<String, AllocError>
+    ensures { IfOk result (λ text. SaysRefusal name.now complaint.refusal (string_bytes text)) }
+{
+    let refusal = complaint.refusal;
+    match complaint.finding {
+        Some(finding) => {
+            let wanted = finding.check.sentence();
+            complaint_text(alloc, name, refusal, finding.found, Some(wanted))
+        }
+        None => complaint_text(alloc, name, refusal, None, None),
+    }
 }

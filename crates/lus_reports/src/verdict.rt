@@ -1,10 +1,14 @@
 //! What is said of a program and of scripts for it, and the status that tells which of them is accepted.
 
-ghost use Rattle.std.specs.Prelude.{◌≡◌, ◌≢◌, IfOk, OnOk, option_map};
+ghost use Rattle.std.specs.Prelude.{◌≡◌, ◌≢◌, IfErr, IfOk, OnOk, option_map, string_bytes};
 ghost use Rattle.lus_syntax.specs.declared.refusal.RefusalNumber.TheVariants as numbers;
 ghost use Rattle.lus_scripts.specs.declared.refusal.ScriptRefusal.TheVariants as refusals;
 ghost use Rattle.lus_code.specs.Codes.{program_of};
-ghost use Rattle.lus_reports.specs.Verdicts.{AreJudged, IsVerdict};
+ghost use Rattle.lus_scripts.specs.View.{scripts_seen};
+ghost use Rattle.lus_cli.specs.declared.fault.Fault.TheVariants as faults;
+ghost use Rattle.lus_reports.specs.Complaints.{SaysRefusal, counts_text};
+ghost use Rattle.lus_reports.specs.Explanations.{report_text};
+ghost use Rattle.lus_reports.specs.Verdicts.{AreJudged, IsVerdict, file_seen, verdict_seen};
 
 use crate::explanation::{Explanation, explain};
 use crate::outlining::outline;
@@ -14,7 +18,7 @@ use lus_cli::Fault;
 use lus_machine::Program;
 use lus_scripts::{ScriptRefusal, Scripts};
 use lus_syntax::RefusalNumber;
-use std::alloc::{AllocError, Global};
+use std::alloc::Global;
 
 /// A file that was read, with its name.
 #[derive(Clone, Copy)]
@@ -38,7 +42,10 @@ fn refused_program(
     explanation: &Explanation<'_>,
 ) -> Result<Verdict, Fault>
     ensures status { IfOk result (λ v. v.status ≡ 1) }
+    ensures text { IfOk result (λ v. string_bytes v.text
+        ≡ report_text name.now explanation.now.refusal (option_map (λ line. line.now) explanation.now.line)) }
     ensures number { OnOk result (explanation.now.refusal.number ≢ numbers.Memory) }
+    ensures memory { IfErr result (λ f. f ≡ faults.Memory) }
 {
     if explanation.refusal.number == RefusalNumber::Memory {
         return Err(Fault::Memory);
@@ -52,7 +59,9 @@ fn refused_program(
 /// Of refused scripts.
 fn refused_scripts(alloc: Global, name: &str, complaint: Complaint) -> Result<Verdict, Fault>
     ensures status { IfOk result (λ v. v.status ≡ 2) }
+    ensures text { IfOk result (λ v. SaysRefusal name.now complaint.refusal (string_bytes v.text)) }
     ensures refusal { OnOk result (complaint.refusal ≢ refusals.Memory) }
+    ensures memory { IfErr result (λ f. f ≡ faults.Memory) }
 {
     if complaint.refusal == ScriptRefusal::Memory {
         return Err(Fault::Memory);
@@ -63,34 +72,26 @@ fn refused_scripts(alloc: Global, name: &str, complaint: Complaint) -> Result<Ve
     }
 }
 
-/// The nodes of an accepted program: it was read before, so only memory can be wanting.
-fn nodes_of(alloc: Global, program: File<'_>) -> Result<String, Fault> {
+/// Of an accepted program, which was read before, so only memory can be wanting.
+fn accepted_program(alloc: Global, program: File<'_>) -> Result<Verdict, Fault>
+    ensures status { IfOk result (λ v. v.status ≡ 0) }
+    ensures memory { IfErr result (λ f. f ≡ faults.Memory) }
+{
     match outline(alloc, program.bytes) {
-        Ok(nodes) => Ok(nodes),
+        Ok(text) => Ok(Verdict { text, status: 0 }),
         Err(_) => Err(Fault::Memory),
     }
 }
 
-/// Of an accepted program.
-fn accepted_program(alloc: Global, program: File<'_>) -> Result<Verdict, Fault>
-    ensures { IfOk result (λ v. v.status ≡ 0) }
+/// Of accepted scripts: how many instances and callers they have.
+fn accepted_scripts(alloc: Global, name: &str, scripts: &Scripts) -> Result<Verdict, Fault>
+    ensures status { IfOk result (λ v. v.status ≡ 0) }
+    ensures text { IfOk result (λ v. string_bytes v.text ≡ counts_text name.now (scripts_seen scripts.now)) }
+    ensures memory { IfErr result (λ f. f ≡ faults.Memory) }
 {
-    let text = nodes_of(alloc, program)?;
-    Ok(Verdict { text, status: 0 })
-}
-
-/// How many instances and callers accepted scripts have.
-fn counts_text(alloc: Global, name: &str, scripts: &Scripts) -> Result<String, AllocError> {
     let instances = scripts.instances.len();
     let callers = scripts.callers.len();
-    format!(in alloc; "{name}: instances {instances}, callers {callers}\n")
-}
-
-/// Of accepted scripts.
-fn accepted_scripts(alloc: Global, name: &str, scripts: &Scripts) -> Result<Verdict, Fault>
-    ensures { IfOk result (λ v. v.status ≡ 0) }
-{
-    match counts_text(alloc, name, scripts) {
+    match format!(in alloc; "{name}: instances {instances}, callers {callers}\n") {
         Ok(text) => Ok(Verdict { text, status: 0 }),
         Err(_) => Err(Fault::Memory),
     }
@@ -98,7 +99,8 @@ fn accepted_scripts(alloc: Global, name: &str, scripts: &Scripts) -> Result<Verd
 
 /// Of scripts for an accepted program.
 fn judge_scripts(alloc: Global, program: &Program, scripts: File<'_>) -> Result<Verdict, Fault>
-    ensures { IfOk result (λ v. AreJudged (program_of program.now) scripts.entry.bytes.now v.status) }
+    ensures judged { IfOk result (λ v. AreJudged (program_of program.now) (file_seen scripts.entry) (verdict_seen v)) }
+    ensures memory { IfErr result (λ f. f ≡ faults.Memory) }
 {
     match explain_scripts(alloc, program, scripts.bytes) {
         Ok(accepted) => accepted_scripts(alloc, scripts.name, &accepted),
@@ -109,7 +111,8 @@ fn judge_scripts(alloc: Global, program: &Program, scripts: File<'_>) -> Result<
 /// Of a program, and of scripts for it if there are any. A program that is accepted is told by its nodes, scripts that are
 /// accepted by their counts.
 pub fn judge(alloc: Global, program: File<'_>, scripts: Option<File<'_>>) -> Result<Verdict, Fault>
-    ensures { IfOk result (λ v. IsVerdict program.entry.bytes.now (option_map (λ f. f.bytes.now) scripts.entry) v.status) }
+    ensures verdict { IfOk result (λ v. IsVerdict (file_seen program.entry) (verdict_seen v) (option_map file_seen scripts.entry)) }
+    ensures memory { IfErr result (λ f. f ≡ faults.Memory) }
 {
     match explain(alloc, program.bytes) {
         Ok(accepted) => match scripts {

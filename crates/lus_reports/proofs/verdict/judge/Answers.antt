@@ -1,39 +1,29 @@
 -- A program is refused for another cause than memory; or it is accepted, and so are the scripts judged, if there are any.
-use Rattle.std.proofs.Common.{◌≢◌, ℕ, sym, subst, List, Option, None, IfOk, option_map}
+use Rattle.std.proofs.Common.{◌≡◌, ◌≢◌, sym, subst, IfOk, option_map, string_bytes}
 use Rattle.std.proofs.lemmas.Result.{IfOk-weaker}
-use Rattle.lus_syntax.specs.declared.refusal.Refusal.{Refusal}
 use Rattle.lus_syntax.specs.declared.refusal.RefusalNumber.TheVariants.{Memory}
 use Rattle.lus_code.specs.Codes.{program_of}
-use Rattle.lus_host.specs.Sources as sources
-use Rattle.lus_reports.specs.Explanations as explanations
-use Rattle.lus_reports.specs.Explanations.{IsExplained}
-use Rattle.lus_reports.specs.Verdicts.{IsVerdict, are_judged, is_accepted, is_refused}
-use Rattle.lus_reports.specs.declared.verdict.File.{File}
-use Rattle.lus_reports.proofs.Statuses.{both_ok, status_is}
+use Rattle.lus_reports.specs.Explanations.{report_text}
+use Rattle.lus_reports.specs.Verdicts.{IsVerdict, are_judged, file_seen, is_accepted, is_refused, verdict_seen}
+use Rattle.lus_reports.proofs.Statuses.{by_three}
 use Rattle.lus_reports.proofs.verdict.judge.Goals as goal
 
--- the bytes of a file
-abbrev bytes_of : File → List ℕ
-bytes_of f = f.bytes.now
+pub returns-in-Some-clause-verdict : goal.returns-in-Some-clause-verdict
+returns-in-Some-clause-verdict c =
+    subst (λ o. IfOk c.judge_scripts.result (λ v. IsVerdict (file_seen c.args.program) (verdict_seen v) (option_map file_seen o))) (sym c.in-Some.is)
+    (IfOk-weaker c.judge_scripts.result _ _ (λ v judged. are_judged (program_of c.in-Ok.accepted) c.in-Ok.ensures.accepted judged) c.judge_scripts.ensures.judged)
 
-right : {bytes : List ℕ} (r : Refusal) {line : Option (List ℕ)} → r.number ≢ Memory → IsExplained bytes r line → sources.ProgramRefused bytes r
-right r other (explanations.is_no_text no_text) = sources.is_no_text no_text
-right r other (explanations.is_refused short refused) = sources.is_refused short (refused other)
+pub returns-in-Ok-clause-verdict : goal.returns-in-Ok-clause-verdict
+returns-in-Ok-clause-verdict c =
+    subst (λ o. IfOk c.accepted_program.result (λ v. IsVerdict (file_seen c.args.program) (verdict_seen v) (option_map file_seen o))) (sym c.in-None.is)
+    (IfOk-weaker c.accepted_program.result _ _ (λ v status. is_accepted (program_of c.in-Ok.accepted) c.in-Ok.ensures.accepted status)
+    c.accepted_program.ensures.status)
 
-pub returns-in-Some : goal.returns-in-Some
-returns-in-Some c =
-    subst (λ o. IfOk c.judge_scripts.result (λ v. IsVerdict c.args.program.bytes.now (option_map bytes_of o) v.status)) (sym c.in-Some.is)
-    (IfOk-weaker c.judge_scripts.result _ _ (λ v judged. are_judged (program_of c.in-Ok.accepted) c.in-Ok.ensures.accepted judged) c.judge_scripts.ensures)
-
-pub returns-in-Ok : goal.returns-in-Ok
-returns-in-Ok c =
-    subst (λ o. IfOk c.accepted_program.result (λ v. IsVerdict c.args.program.bytes.now (option_map bytes_of o) v.status)) (sym c.in-None.is)
-    (status_is c.accepted_program.result (λ v. v.status) 0 (IsVerdict c.args.program.bytes.now None) c.accepted_program.ensures
-    (is_accepted (program_of c.in-Ok.accepted) c.in-Ok.ensures.accepted))
-
-pub returns : goal.returns
-returns c =
+pub returns-clause-verdict : goal.returns-clause-verdict
+returns-clause-verdict c =
     let r = c.in-Err.explanation.refusal in
-    both_ok c.refused_program.result (λ v. v.status) 1 (IsVerdict c.args.program.bytes.now (option_map bytes_of c.args.scripts)) (r.number ≢ Memory)
-    c.refused_program.ensures.status c.refused_program.ensures.number
-    (λ other. is_refused r other (right r other c.in-Err.ensures.explained))
+    let line = option_map (λ line. line.now) c.in-Err.explanation.line in
+    by_three c.refused_program.result (λ v. v.status ≡ 1) (λ v. string_bytes v.text ≡ report_text c.args.program.name.now r line)
+    (λ v. IsVerdict (file_seen c.args.program) (verdict_seen v) (option_map file_seen c.args.scripts)) (r.number ≢ Memory)
+    c.refused_program.ensures.status c.refused_program.ensures.text c.refused_program.ensures.number
+    (λ v status text other. is_refused r line other c.in-Err.ensures.explained status text)

@@ -1,0 +1,55 @@
+-- What is said of bytes that were read up to one more than there may be holds of those left.
+use Rattle.std.proofs.Common.{◌≡◌, subst, ℕ, ◌+◌, ◌<◌, ◌≤◌, length, take, arith, Option, Some, None}
+use Rattle.lus_syntax.specs.Limits.{most_bytes}
+use Rattle.lus_syntax.specs.declared.refusal.Refusal.{Refusal}
+use Rattle.lus_syntax.specs.Lexemes.{Text}
+use Rattle.lus_program.specs.Programs.{Program}
+use Rattle.lus_machine.specs.Acceptance.{Accepted}
+use Rattle.lus_devices.specs.Devices.{Bytes}
+use Rattle.lus_devices.specs.Folders.{Known, WithFile}
+use Rattle.lus_host.specs.Sources.{no_utf8, too_long}
+use Rattle.lus_host.proofs.Sources.{accepted_left, read_part, read_whole}
+use Rattle.lus_host.proofs.ScriptErrors.{error_left, scripts_left}
+use Rattle.lus_cli.specs.Ends.{WithFiles}
+use Rattle.lus_reports.specs.Explanations.{IsExplained, is_no_text, is_refused}
+use Rattle.lus_reports.specs.Verdicts as verdicts
+use Rattle.lus_reports.specs.Verdicts.{AreJudged, IsVerdict, Named, Said, are_judged, are_refused, are_scripts, is_accepted, named}
+
+module _ (m n : ℕ) (is : m ≡ most_bytes) (next : n ≡ m + 1) (bytes left : Bytes) (read : bytes ≡ take n left) where
+  whole : length bytes ≤ most_bytes → bytes ≡ left
+  whole short = let less : length bytes < n = omega arith in read_whole n bytes left read less
+
+  explained_left : (r : Refusal) {line : Option Text} → IsExplained bytes r line → IsExplained left r line
+  explained_left r (is_no_text (too_long long at)) = is_no_text (too_long (omega (arith, read_part n bytes left read)) at)
+  explained_left r (is_no_text (no_utf8 short wrong at)) = subst (λ bs. IsExplained bs r None) (whole short) (is_no_text (no_utf8 short wrong at))
+  explained_left r {line = line} (is_refused short refused) = subst (λ bs. IsExplained bs r line) (whole short) (is_refused short refused)
+
+  accepted_so : (p : Program) → Accepted bytes p → Accepted left p
+  accepted_so p a = let short : length bytes ≤ m = subst (λ k. length bytes ≤ k) is_back a.size in accepted_left m n next bytes left p read short a
+    where
+      is_back : most_bytes ≡ m
+      is_back = omega arith
+
+  pub verdict_left : (name : Text) (said : Said) {scripts : Option Named} → IsVerdict (named name bytes) said scripts → IsVerdict (named name left) said scripts
+  verdict_left name said (verdicts.is_refused r line other explained status text) = verdicts.is_refused r line other (explained_left r explained) status text
+  verdict_left name said (is_accepted p a status) = is_accepted p (accepted_so p a) status
+  verdict_left name said (are_judged p a judged) = are_judged p (accepted_so p a) judged
+
+  judged_left : (p : Program) (name : Text) (said : Said) → AreJudged p (named name bytes) said → AreJudged p (named name left) said
+  judged_left p name said (are_scripts s a status text) = are_scripts s (scripts_left m n is next p bytes left read s a) status text
+  judged_left p name said (are_refused e other r status text) = are_refused e other (error_left m n is next p bytes left read e r) status text
+
+  pub scripts_so : (program : Named) (name : Text) (said : Said) → IsVerdict program said (Some (named name bytes)) → IsVerdict program said (Some (named name left))
+  scripts_so program name said (verdicts.is_refused r line other explained status text) = verdicts.is_refused r line other explained status text
+  scripts_so program name said (are_judged p a judged) = are_judged p a (judged_left p name said judged)
+
+-- what follows of a file's bytes
+pub file_then : (known : Known) (P Q : Bytes → Type 0) → ((bytes : Bytes) → P bytes → Q bytes) → WithFile known P → WithFile known Q
+file_then None P Q f p = tt
+file_then (Some None) P Q f p = absurd p
+file_then (Some (Some bytes)) P Q f p = f bytes p
+
+pub files_then : (program scripts : Known) (P Q : Bytes → Type 0) (R : Bytes → Bytes → Type 0) → ((text bytes : Bytes) → P text → Q bytes → R text bytes)
+    → WithFile program P → WithFile scripts Q → WithFiles program scripts R
+files_then program scripts P Q R f p q =
+    file_then program P (λ text. WithFile scripts (λ bytes. R text bytes)) (λ text h. file_then scripts Q (λ bytes. R text bytes) (λ bytes k. f text bytes h k) q) p
