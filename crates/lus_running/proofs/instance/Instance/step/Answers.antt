@@ -14,8 +14,9 @@ use Rattle.std.specs.Global.{Global}
 use Rattle.lus_values.specs.declared.value.Value.{Value}
 use Rattle.std.specs.Vec.{with_items}
 use Rattle.lus_running.specs.Instants.{placed, Parts}
+use Rattle.lus_running.specs.OnClocks.{PresentOnClock}
 use Rattle.lus_running.specs.Instances.{Answers}
-use Rattle.lus_running.proofs.InstanceSteps.{answers_ok, answers_err}
+use Rattle.lus_running.proofs.InstanceSteps.{answers_ok, answers_err, inputs_placed}
 use Rattle.lus_running.proofs.Placed.{class_found}
 use Rattle.lus_running.proofs.ShortSteps.{fits_on_clocks, step_same}
 use Rattle.lus_running.proofs.instance.Instance.step.Goals as goal
@@ -101,6 +102,28 @@ run-requires-clause-variables c =
     let vars = with_items_is o.variables c.place.new.variables place_long in
     let wide = ap length vars ∙ c.place.auto.variables ∙ ap length c.deref_mut.ensures.value ∙ s.variables in
     ap length c.deref_mut-4.ensures.value ∙ wide ∙ ap (λ (j : Class). j.extent.variables) same
+
+pub run-requires-clause-present : goal.run-requires-clause-present
+run-requires-clause-present c =
+    let s = c.requires.shaped in
+    let classes = c.args.classes.now in
+    let o = c.args.self.now in
+    let g = o.node in
+    let k = c.index-classes-self.result in
+    let found : slice_get classes g ≡ Some k = slice_get_read classes (length classes) g k refl (slice_get_within classes g s.class s.found) c.index-classes-self.is in
+    let same : s.class ≡ k = same_Some s.class k (sym s.found ∙ found) in
+    let place_long : length c.place.new.variables ≡ o.variables.len = omega arith in
+    let vars = with_items_is o.variables c.place.new.variables place_long in
+    let i = c.args.inputs.now in
+    let narrow : length i ≡ k.inputs = (c.requires.formals k found).0 in
+    let room = (c.requires.all g k found).room in
+    let outputs : k.inputs + c.args.outputs ≤ length k.tests.items = (c.requires.formals k found).1 in
+    let within : length k.tests.items ≤ k.extent.variables = room.variables in
+    let long : length o.variables.items ≡ k.extent.variables = s.variables ∙ ap (λ (j : Class). j.extent.variables) same in
+    let before = map entry_of o.variables.items in
+    let enough : k.inputs ≤ length before = rw (length-map o.variables.items entry_of) (omega arith) in
+    let put : map entry_of c.deref_mut-4.result.now ≡ placed i before = ap (map entry_of) (c.deref_mut-4.ensures.value ∙ vars) ∙ c.in_ok-place.ensures ∙ (λ j. placed (c.items.ensures j) (map entry_of (c.deref_mut.ensures.value j))) in
+    subst (PresentOnClock k.tests.items) (sym (ap (take k.inputs) put ∙ inputs_placed k.inputs i before (sym narrow) enough)) (fits_on_clocks k i narrow (c.requires.presence k found))
 
 pub part_of-requires : goal.part_of-requires
 part_of-requires c =
