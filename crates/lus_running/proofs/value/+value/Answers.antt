@@ -9,171 +9,85 @@ use Rattle.lus_values.specs.Values.{Value}
 use Rattle.lus_values.specs.View.{value_of, entry_of}
 use Rattle.lus_streams.specs.Streams.{with_operands}
 use Rattle.lus_classes.specs.Classes.{compute, choose, select}
-use Rattle.lus_classes.specs.Steps.{chosen, run, runs}
+use Rattle.lus_classes.specs.Steps.{chosen, run}
 use Rattle.lus_flat_classes.specs.View.{code_of, codes_of}
 use Rattle.lus_flat_classes.proofs.FormulaViews.{seen_compute, seen_choose, seen_select}
 use Rattle.lus_running.specs.Constructors.{constructor_in}
+use Rattle.lus_running.specs.Computed.{all_operands, applied, branch_in, value_in}
 use Rattle.lus_running.proofs.Branches.{selected_none, selected_at}
-use Rattle.lus_running.specs.Computed.{applied}
 use Rattle.lus_flat_classes.specs.declared.formula.Formula.{Formula}
 use Rattle.lus_running.proofs.Operands.{computed_is, values_more, one_item, two_items, three_items}
 use Rattle.lus_running.proofs.value.+value.Goals as goal
 
 pub values_of-loop-operand-preserved : goal.values_of-loop-operand-preserved
 values_of-loop-operand-preserved t c =
-    let cells = map value_of c.args.cells.now in
-    let flags = c.args.firsts.now in
-    let r = map entry_of c.args.row.now in
+    let value : Formula → Option Value = value_in c.args.cells.now c.args.firsts.now c.args.row.now in
     let i = c.loop-operand.operand-index in
     let ds = c.args.operands.now in
     let lt : i < length ds = c.loop-operand-test.true in
-    let given : run cells flags [] (code_of c.operand-item.result) r ≡ Some (value_of c.in-Some.value) = sym c.in_ok-value.ensures ∙ ap entry_of c.in-Some.is in
+    let given : value c.operand-item.result ≡ Some (value_of c.in-Some.value) = sym c.in_ok-value.ensures ∙ ap entry_of c.in-Some.is in
     let rest : drop i ds ≡ c.operand-item.result ∷ drop (suc i) ds = drop-cons ds i c.operand-item.result lt ∙ ap (λ d. d ∷ drop (suc i) ds) (sym c.operand-item.is) in
     let vs = map value_of c.loop-operand.values.items in
     let pushed : map value_of c.push.new.self.items ≡ vs ++ value_of c.in-Some.value ∷ [] = ap (map value_of) c.in_ok-push-in-Some.ensures.items ∙ map-append value_of c.loop-operand.values.items (c.in-Some.value ∷ []) in
     rw add-one
     (c.loop-operand.invariant
-    ∙ ap (λ l. option_map (λ ws. vs ++ ws) (runs cells flags [] (codes_of l) r)) rest
-    ∙ values_more cells flags r vs (value_of c.in-Some.value) (code_of c.operand-item.result) (codes_of (drop (suc i) ds)) given
-    ∙ ap (λ us. option_map (λ ws. us ++ ws) (runs cells flags [] (codes_of (drop (suc i) ds)) r)) (sym pushed))
+    ∙ ap (λ l. option_map (λ ws. vs ++ ws) (all_operands (map value l))) rest
+    ∙ values_more vs (value_of c.in-Some.value) (value c.operand-item.result) (map value (drop (suc i) ds)) given
+    ∙ ap (λ us. option_map (λ ws. us ++ ws) (all_operands (map value (drop (suc i) ds)))) (sym pushed))
 
-pub value_of-returns-in_ok-operand-in-Compute : goal.value_of-returns-in_ok-operand-in-Compute
-value_of-returns-in_ok-operand-in-Compute t c =
-    let cells = map value_of c.args.cells.now in
-    let flags = c.args.firsts.now in
-    let r = map entry_of c.args.row.now in
+pub value_of-returns-in-Compute : goal.value_of-returns-in-Compute
+value_of-returns-in-Compute t c =
+    let value = value_in c.args.cells.now c.args.firsts.now c.args.row.now in
     let arm = c.in-Compute in
-    let ds = arm.operands.items in
-    let value : Formula → Option Value = λ d. run cells flags [] (code_of d) r in
-    let a = c.index.result.now in
-    let long : length ds ≡ 1 = search rules in
-    let at-0 : a ≡ slice_index_or ds 0 a = search rules in
-    let items : ds ≡ a ∷ [] = one_item ds a long at-0 in
-    let operand : entry_of c.in_ok-operand-in-Compute.operand ≡ value a = search rules in
-    let whole : applied arm.operator (entry_of c.in_ok-operand-in-Compute.operand ∷ []) ≡ run cells flags [] (code_of c.args.formula.now) r =
-    (λ i. applied arm.operator (operand i ∷ []))
-    ∙ sym (ap (λ x. run cells flags [] x r) (ap code_of arm.is ∙ seen_compute arm.operator arm.operands) ∙ computed_is cells flags r arm.operator ds ∙ ap (λ l. applied arm.operator (map value l)) items) in
-    subst (λ (v : Option Value). IfOk c.of_one.result (λ u. entry_of u ≡ v)) whole c.of_one.ensures
+    let seen = ap code_of arm.is ∙ seen_compute arm.operator arm.operands in
+    let whole : applied arm.operator (map value c.deref.result.now) ≡ value c.args.formula.now =
+    ap (λ ds. applied arm.operator (map value ds)) c.deref.ensures.value
+    ∙ sym (ap (λ d. run (map value_of c.args.cells.now) c.args.firsts.now [] d (map entry_of c.args.row.now)) seen
+    ∙ computed_is (map value_of c.args.cells.now) c.args.firsts.now (map entry_of c.args.row.now) arm.operator arm.operands.items) in
+    subst (λ (v : Option Value). IfOk c.value_computed.result (λ u. entry_of u ≡ v)) whole c.value_computed.ensures
 
-pub value_of-returns-in_ok-right-in-Compute-2 : goal.value_of-returns-in_ok-right-in-Compute-2
-value_of-returns-in_ok-right-in-Compute-2 t c =
+pub value_of-returns-in-Select : goal.value_of-returns-in-Select
+value_of-returns-in-Select t c =
+    let branch = branch_in c.args.cells.now c.args.firsts.now c.args.row.now in
+    let arm = c.in-Select in
+    let seen = ap code_of arm.is ∙ seen_select arm.variable arm.branches in
+    let whole : branch arm.variable c.deref-in-Select.result.now ≡ value_in c.args.cells.now c.args.firsts.now c.args.row.now c.args.formula.now =
+    ap (branch arm.variable) c.deref-in-Select.ensures.value
+    ∙ sym (ap (λ d. run (map value_of c.args.cells.now) c.args.firsts.now [] d (map entry_of c.args.row.now)) seen) in
+    subst (λ (v : Option Value). IfOk c.value_selected.result (λ u. entry_of u ≡ v)) whole c.value_selected.ensures
+
+pub value_selected-returns-in-Some-get : goal.value_selected-returns-in-Some-get
+value_selected-returns-in-Some-get t c =
     let cells = map value_of c.args.cells.now in
     let flags = c.args.firsts.now in
     let r = map entry_of c.args.row.now in
-    let arm = c.in-Compute-2 in
-    let ds = arm.operands.items in
-    let value : Formula → Option Value = λ d. run cells flags [] (code_of d) r in
-    let a = c.index-in-Compute-2.result.now in
-    let b = c.index-in-Compute-2-2.result.now in
-    let long : length ds ≡ 2 = search rules in
-    let at-0 : a ≡ slice_index_or ds 0 a = search rules in
-    let at-1 : b ≡ slice_index_or ds 1 b = search rules in
-    let items : ds ≡ a ∷ b ∷ [] = two_items ds a b long at-0 at-1 in
-    let left : entry_of c.in_ok-left-in-Compute-2.left ≡ value a = search rules in
-    let right : entry_of c.in_ok-right-in-Compute-2.right ≡ value b = search rules in
-    let whole : applied arm.operator (entry_of c.in_ok-left-in-Compute-2.left ∷ entry_of c.in_ok-right-in-Compute-2.right ∷ []) ≡ run cells flags [] (code_of c.args.formula.now) r =
-    (λ i. applied arm.operator (left i ∷ right i ∷ []))
-    ∙ sym (ap (λ x. run cells flags [] x r) (ap code_of arm.is ∙ seen_compute arm.operator arm.operands) ∙ computed_is cells flags r arm.operator ds ∙ ap (λ l. applied arm.operator (map value l)) items) in
-    subst (λ (v : Option Value). IfOk c.of_two.result (λ u. entry_of u ≡ v)) whole c.of_two.ensures
-
-pub value_of-returns-in_ok-third-in-Compute-3 : goal.value_of-returns-in_ok-third-in-Compute-3
-value_of-returns-in_ok-third-in-Compute-3 t c =
-    let cells = map value_of c.args.cells.now in
-    let flags = c.args.firsts.now in
-    let r = map entry_of c.args.row.now in
-    let arm = c.in-Compute-3 in
-    let ds = arm.operands.items in
-    let value : Formula → Option Value = λ d. run cells flags [] (code_of d) r in
-    let a = c.index-in-Compute-3.result.now in
-    let b = c.index-in-Compute-3-2.result.now in
-    let d = c.index-in-Compute-3-3.result.now in
-    let long : length ds ≡ 3 = search rules in
-    let at-0 : a ≡ slice_index_or ds 0 a = search rules in
-    let at-1 : b ≡ slice_index_or ds 1 b = search rules in
-    let at-2 : d ≡ slice_index_or ds 2 d = search rules in
-    let items : ds ≡ a ∷ b ∷ d ∷ [] = three_items ds a b d long at-0 at-1 at-2 in
-    let first : entry_of c.in_ok-first-in-Compute-3.first ≡ value a = search rules in
-    let second : entry_of c.in_ok-second-in-Compute-3.second ≡ value b = search rules in
-    let third : entry_of c.in_ok-third-in-Compute-3.third ≡ value d = search rules in
-    let whole : applied arm.operator (entry_of c.in_ok-first-in-Compute-3.first ∷ entry_of c.in_ok-second-in-Compute-3.second ∷ entry_of c.in_ok-third-in-Compute-3.third ∷ []) ≡ run cells flags [] (code_of c.args.formula.now) r =
-    (λ i. applied arm.operator (first i ∷ second i ∷ third i ∷ []))
-    ∙ sym (ap (λ x. run cells flags [] x r) (ap code_of arm.is ∙ seen_compute arm.operator arm.operands) ∙ computed_is cells flags r arm.operator ds ∙ ap (λ l. applied arm.operator (map value l)) items) in
-    subst (λ (v : Option Value). IfOk c.of_three.result (λ u. entry_of u ≡ v)) whole c.of_three.ensures
-
-pub value_of-returns-in-Some : goal.value_of-returns-in-Some
-value_of-returns-in-Some t c =
-    let cells = map value_of c.args.cells.now in
-    let flags = c.args.firsts.now in
-    let r = map entry_of c.args.row.now in
-    let o = c.in-Compute-4.operator in
-    let e : code_of c.args.formula.now ≡ compute o (codes_of c.in-Compute-4.operands.items) = ap code_of c.in-Compute-4.is ∙ seen_compute o c.in-Compute-4.operands in
-    let given : Some (map value_of c.in-Some.values.items) ≡ runs cells flags [] (codes_of c.in-Compute-4.operands.items) r = search rules in
-    let whole : apply o (map value_of c.in-Some.values.items) ≡ run cells flags [] (code_of c.args.formula.now) r = ap (with_operands (apply o)) given ∙ sym (ap (λ d. run cells flags [] d r) e) in
-    subst (λ (v : Option Value). IfOk c.operate.result (λ u. entry_of u ≡ v)) whole c.operate.ensures
-
-pub value_of-returns-in-None : goal.value_of-returns-in-None
-value_of-returns-in-None t c =
-    let cells = map value_of c.args.cells.now in
-    let flags = c.args.firsts.now in
-    let r = map entry_of c.args.row.now in
-    let o = c.in-Compute-4.operator in
-    let e : code_of c.args.formula.now ≡ compute o (codes_of c.in-Compute-4.operands.items) = ap code_of c.in-Compute-4.is ∙ seen_compute o c.in-Compute-4.operands in
-    let given : None ≡ runs cells flags [] (codes_of c.in-Compute-4.operands.items) r = search rules in
-    ap (with_operands (apply o)) given ∙ sym (ap (λ d. run cells flags [] d r) e)
-
-pub value_of-returns-in_ok-then-in-Choose : goal.value_of-returns-in_ok-then-in-Choose
-value_of-returns-in_ok-then-in-Choose t c =
-    let cells = map value_of c.args.cells.now in
-    let flags = c.args.firsts.now in
-    let r = map entry_of c.args.row.now in
-    let arm = c.in-Choose in
-    let j = arm.flag in
-    let e : code_of c.args.formula.now ≡ choose j (code_of arm.first.value) (code_of arm.later.value) = ap code_of arm.is ∙ seen_choose j arm.first arm.later in
-    let now : entry_of c.in_ok-now-in-Choose.now ≡ run cells flags [] (code_of arm.first.value) r = c.in_ok-now-in-Choose.ensures ∙ ap (λ d. run cells flags [] (code_of d) r) c.deref-in-Choose.ensures in
-    let then : entry_of c.in_ok-then-in-Choose.then ≡ run cells flags [] (code_of arm.later.value) r = c.in_ok-then-in-Choose.ensures ∙ ap (λ d. run cells flags [] (code_of d) r) c.deref-in-Choose-2.ensures in
-    c.chosen.ensures
-    ∙ ap (λ f. chosen f (entry_of c.in_ok-now-in-Choose.now) (entry_of c.in_ok-then-in-Choose.then)) c.flag_at.ensures
-    ∙ ap₂ (chosen (slice_get flags j)) now then
-    ∙ sym (ap (λ d. run cells flags [] d r) e)
-
-pub value_of-returns-in-Some-get : goal.value_of-returns-in-Some-get
-value_of-returns-in-Some-get t c =
-    let cells = map value_of c.args.cells.now in
-    let flags = c.args.firsts.now in
-    let r = map entry_of c.args.row.now in
-    let x = c.in-Select.variable in
-    let ds = c.in-Select.branches.items in
-    let n = c.in-Some-constructor_at.place in
+    let x = c.args.variable in
+    let ds = c.args.branches.now in
+    let n = c.in-Some.place in
     let d = c.in-Some-get.branch.now in
-    let e : code_of c.args.formula.now ≡ select x (codes_of ds) = ap code_of c.in-Select.is ∙ seen_select x c.in-Select.branches in
     let held : constructor_in (item None r x) ≡ Some n = search rules in
     let lt : n < length ds = search rules in
     let here : d ≡ slice_index_or ds n d = search rules in
     let found : slice_get ds n ≡ Some d = slice_get_read ds (length ds) n d refl lt here in
-    let whole : run cells flags [] (code_of d) r ≡ run cells flags [] (code_of c.args.formula.now) r =
-    sym (ap (λ b. run cells flags [] b r) e ∙ selected_at cells flags x r ds 0 n n (omega arith) held ∙ ap (option_and_then (λ b. run cells flags [] (code_of b) r)) found) in
-    subst (λ (v : Option Value). IfOk c.value_of-in-Some-get.result (λ u. entry_of u ≡ v)) whole c.value_of-in-Some-get.ensures
+    let whole : run cells flags [] (code_of d) r ≡ branch_in c.args.cells.now flags c.args.row.now x ds =
+    sym (selected_at cells flags x r ds 0 n n (omega arith) held ∙ ap (option_and_then (λ b. run cells flags [] (code_of b) r)) found) in
+    subst (λ (v : Option Value). IfOk c.value_of.result (λ u. entry_of u ≡ v)) whole c.value_of.ensures
 
-pub value_of-returns-in-None-get : goal.value_of-returns-in-None-get
-value_of-returns-in-None-get t c =
+pub value_selected-returns-in-None-get : goal.value_selected-returns-in-None-get
+value_selected-returns-in-None-get t c =
     let cells = map value_of c.args.cells.now in
     let flags = c.args.firsts.now in
     let r = map entry_of c.args.row.now in
-    let x = c.in-Select.variable in
-    let ds = c.in-Select.branches.items in
-    let n = c.in-Some-constructor_at.place in
-    let e : code_of c.args.formula.now ≡ select x (codes_of ds) = ap code_of c.in-Select.is ∙ seen_select x c.in-Select.branches in
+    let x = c.args.variable in
+    let ds = c.args.branches.now in
+    let n = c.in-Some.place in
     let held : constructor_in (item None r x) ≡ Some n = search rules in
     let past : length ds ≤ n = search rules in
     let found : slice_get ds n ≡ None = slice_get_past ds n past in
-    sym (ap (λ b. run cells flags [] b r) e ∙ selected_at cells flags x r ds 0 n n (omega arith) held ∙ ap (option_and_then (λ b. run cells flags [] (code_of b) r)) found)
+    sym (selected_at cells flags x r ds 0 n n (omega arith) held ∙ ap (option_and_then (λ b. run cells flags [] (code_of b) r)) found)
 
-pub value_of-returns-in-None-constructor_at : goal.value_of-returns-in-None-constructor_at
-value_of-returns-in-None-constructor_at t c =
-    let cells = map value_of c.args.cells.now in
-    let flags = c.args.firsts.now in
+pub value_selected-returns-in-None : goal.value_selected-returns-in-None
+value_selected-returns-in-None t c =
     let r = map entry_of c.args.row.now in
-    let x = c.in-Select.variable in
-    let e : code_of c.args.formula.now ≡ select x (codes_of c.in-Select.branches.items) = ap code_of c.in-Select.is ∙ seen_select x c.in-Select.branches in
-    let held : constructor_in (item None r x) ≡ None = search rules in
-    sym (ap (λ b. run cells flags [] b r) e ∙ selected_none cells flags x r c.in-Select.branches.items 0 held)
+    let held : constructor_in (item None r c.args.variable) ≡ None = search rules in
+    sym (selected_none (map value_of c.args.cells.now) c.args.firsts.now c.args.variable r c.args.branches.now 0 held)
