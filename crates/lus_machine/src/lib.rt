@@ -9,7 +9,7 @@ mod machine;
 mod naming;
 mod program;
 
-pub use compiling::compile;
+pub use compiling::{check, compile};
 pub use error::CallError;
 pub use laws::{accepted_programs, machines_are_legal, one_program};
 pub use lus_program::{Field, NodeId, Variable as Formal};
