@@ -33,5 +33,9 @@ module _ (m n : ℕ) (is : m ≡ most_bytes) (next : n ≡ m + 1) (bytes left : 
   refused_left (is_no_text none) = is_no_text (no_text_left none)
   refused_left (is_refused short with) = subst (λ bs. ProgramRefused bs e) (whole short) (is_refused short with)
 
+-- what holds of few enough bytes holds of those left
+pub short_left : (m n : ℕ) → n ≡ m + 1 → (bytes left : Bytes) → bytes ≡ take n left → length bytes ≤ m → (P : Bytes → Type 0) → P bytes → P left
+short_left m n next bytes left e short P a = subst P (read_whole n bytes left e (omega arith)) a
+
 pub accepted_left : (m n : ℕ) → n ≡ m + 1 → (bytes left : Bytes) (p : Program) → bytes ≡ take n left → length bytes ≤ m → Accepted bytes p → Accepted left p
-accepted_left m n next bytes left p e short a = subst (λ bs. Accepted bs p) (read_whole n bytes left e (omega arith)) a
+accepted_left m n next bytes left p e short a = short_left m n next bytes left e short (λ bs. Accepted bs p) a

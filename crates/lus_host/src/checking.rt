@@ -6,7 +6,7 @@ ghost use Rattle.lus_host.specs.Errors.{IsCheckError};
 ghost use Rattle.lus_host.specs.Sources.{BeginsAccepted, WritesAccepted, accepted_text};
 
 use crate::error::RunError;
-use crate::program::read_program;
+use crate::program::count_nodes;
 use lus_devices::{Sink, Source, write_all};
 use std::alloc::Global;
 
@@ -29,7 +29,7 @@ fn write_accepted<O: Sink>(alloc: Global, nodes: usize, output: &mut O) -> Resul
     }
 }
 
-/// Reads a program, compiles it, and writes `accepted N` for its N nodes.
+/// Reads a program, checks it as a compilation does, and writes `accepted N` for its N nodes.
 ///
 /// A refusal is that of the first pass that fails. Where the output fails, a beginning of the line is written, and else
 /// nothing.
@@ -50,8 +50,8 @@ pub fn check<P: Source, O: Sink>(
     ensures reads { (result ≡ Err RunError.Read → ⊥) → P.failures program.new ≡ P.failures program.old }
     ensures fails { result ≡ Err RunError.Read → P.failures program.new ≡ one_more (P.failures program.old) }
 {
-    match read_program(alloc, program) {
-        Ok(program) => write_accepted(alloc, program.source().nodes.len(), output),
+    match count_nodes(alloc, program) {
+        Ok(nodes) => write_accepted(alloc, nodes, output),
         Err(error) => Err(error),
     }
 }
