@@ -71,7 +71,7 @@ fn literal(alloc: Global, tokens: Tokens<'_>) -> Parsed<'_, Literal>
         ] => {
             let name = Name {
                 text: String::from_str(alloc, text)?,
-                span: span,
+                span,
             };
             Ok((Literal::Constructor(name), rest))
         }

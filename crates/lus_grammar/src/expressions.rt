@@ -294,7 +294,7 @@ fn atom(alloc: Global, limit: u32, tokens: Tokens<'_>) -> Read<'_>
         ] => {
             let name = Name {
                 text: String::from_str(alloc, text)?,
-                span: span,
+                span,
             };
             named(alloc, limit, name, rest)
         }

@@ -150,7 +150,7 @@ pub fn identifier(alloc: Global, tokens: Tokens<'_>) -> Result<(Name, Tokens<'_>
         ] => {
             let name = Name {
                 text: String::from_str(alloc, text)?,
-                span: span,
+                span,
             };
             Ok((name, rest))
         }
@@ -173,7 +173,7 @@ pub fn label(alloc: Global, tokens: Tokens<'_>) -> Result<(Label, Tokens<'_>), P
         ] => {
             let name = Name {
                 text: String::from_str(alloc, text)?,
-                span: span,
+                span,
             };
             Ok((Label::Constructor(name), rest))
         }

@@ -57,7 +57,7 @@ pub fn type_name(alloc: Global, tokens: Tokens<'_>) -> Parsed<'_, TypeName>
         ] => {
             let name = Name {
                 text: String::from_str(alloc, text)?,
-                span: span,
+                span,
             };
             Ok((TypeName::Declared(name), rest))
         }
