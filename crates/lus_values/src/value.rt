@@ -1,6 +1,7 @@
 //! Values of streams.
 
-ghost use Rattle.std.specs.Prelude.{◌≡◌, IfOk};
+ghost use Rattle.std.specs.Prelude.{◌≡◌, IfOk, map};
+ghost use Rattle.lus_values.specs.Values.{fields_of, struct};
 ghost use Rattle.lus_values.specs.View.{value_of};
 
 use crate::memory::Memory;
@@ -22,7 +23,8 @@ pub enum Value {
     Nil,
 }
 
-/// An equal value.
+/// An equal value. A structure has a function of its own, so that all other values are copied where they stand.
+#[cycle(copy)]
 pub fn copy(alloc: Global, value: &Value) -> Result<Value, Memory>
     ensures { IfOk result (λ v. value_of v ≡ value_of value.now) }
 {
@@ -30,14 +32,20 @@ pub fn copy(alloc: Global, value: &Value) -> Result<Value, Memory>
         Value::Bool(truth) => Ok(Value::Bool(*truth)),
         Value::Int(number) => Ok(Value::Int(*number)),
         Value::Enum(enumeration, constructor) => Ok(Value::Enum(*enumeration, *constructor)),
-        Value::Struct(fields) => {
-            let mut copies = Vec::new(alloc);
-            for field in fields {
-                let field_copy = copy(alloc, field)?;
-                copies.push(field_copy)?;
-            }
-            Ok(Value::Struct(copies))
-        }
+        Value::Struct(fields) => copy_structure(alloc, fields),
         Value::Nil => Ok(Value::Nil),
     }
+}
+
+/// A structure of equal fields.
+#[cycle(copy)]
+fn copy_structure(alloc: Global, fields: &[Value]) -> Result<Value, Memory>
+    ensures { IfOk result (λ v. value_of v ≡ struct (fields_of (map value_of fields.now))) }
+{
+    let mut copies = Vec::new(alloc);
+    for field in fields {
+        let field_copy = copy(alloc, field)?;
+        copies.push(field_copy)?;
+    }
+    Ok(Value::Struct(copies))
 }
