@@ -5,10 +5,13 @@ ghost use Rattle.lus_syntax.specs.Texts.{look_up};
 ghost use Rattle.std.specs.Str.{bytes_eq};
 ghost use Rattle.lus_syntax.specs.Reading.{begins_with, first_len, rows};
 
-// The first byte tells most texts apart, so it is compared before all the bytes are.
+// Lengths and first bytes tell most texts apart, so they are compared before all the bytes are.
 fn is_same(key: &str, text: &str) -> bool
     ensures { result ≡ bytes_eq key.now text.now }
 {
+    if key.len() != text.len() {
+        return false;
+    }
     match (key.as_bytes(), text.as_bytes()) {
         ([k, ..], [t, ..]) if *k != *t => false,
         _ => key == text,
