@@ -47,7 +47,8 @@ pub data Wrong : List ℕ → RefusalNumber → Type 0 where
   -- no token begins here
   no_token : {here : List ℕ} → IsPlain here → here ≢ [] → NoText here → Wrong here Lexical
   -- the longest text here stands for nothing
-  no_meaning : {here text rest : List ℕ} {number : RefusalNumber} → IsPlain here → LongestText here text rest → meaning text ≡ Err number → Wrong here number
+  no_meaning : {here text rest : List ℕ} {number : RefusalNumber} → IsPlain here → LongestText here text rest
+      → meaning text ≡ Err number → Wrong here number
 
 -- a gap, and a fault behind it
 pub record Breaks (at : Place) (text : List ℕ) (number : RefusalNumber) (to : Place) : Type 0 where
