@@ -10,9 +10,8 @@ ghost use Rattle.lus_translation.specs.Building.{clock_among, arguments_from};
 
 use crate::atom::atom_of;
 use crate::clock::{clock_at, newest, without_tests};
-use crate::formals::inputs_at;
 use crate::kept::number_of;
-use lus_clocks::variables_at;
+use lus_clocks::{inputs_at, variables_at};
 use lus_flat_classes::{Argument, Call, Extent};
 use lus_program::{Expr, Form, Program, Test, Variable};
 use lus_values::Memory;
