@@ -16,7 +16,8 @@ use Rattle.lus_cli.specs.declared.fault.Fault.TheVariants as faults
 
 -- a read failed of a file that had the known bytes when it was opened
 abbrev pub ReadFails : (File : Type 0) → (File → Option Bytes) → (File → Option ℕ) → Known → Type 0
-ReadFails File left failures known = (before : File) × (after : File) × Holds known (left before) × (failures after ≡ one_more (failures before))
+ReadFails File left failures known =
+    (before : File) × (after : File) × Holds known (left before) × (failures after ≡ one_more (failures before))
 
 -- a file can't be opened, or a read of it failed
 abbrev pub IsLost : (Known → Type 0) → Known → Type 0
@@ -99,7 +100,8 @@ IsTold status_of (Ok done) status faults = (status ≡ status_of done) × IsUnto
 IsTold status_of (Err f) status faults = IsToldBy status f faults
 
 -- a command ends with an outcome of what was asked for, which is told
-pub record Ends {X A : Type 0} (status_of : A → ℕ) (ends_so : X → Result A Fault → Change → Type 0) (asked : Option X) (output faults : Change) (status : ℕ) : Type 0 where
+pub record Ends {X A : Type 0} (status_of : A → ℕ) (ends_so : X → Result A Fault → Change → Type 0) (asked : Option X)
+    (output faults : Change) (status : ℕ) : Type 0 where
   pub outcome : Result A Fault
   pub ends : AskedEnds ends_so asked outcome output
   pub told : IsTold status_of outcome status faults

@@ -67,7 +67,8 @@ fn run_files<D: Folder, O: Sink, R: AllocGlobal + Threads + Wait + Sync>(
     scripts: &str,
     output: &mut O,
 ) -> Result<(), Fault>
-    ensures { RunEnds (ReadFails D.File D.File.left D.File.failures) (D.known folder.now program.now) (D.known folder.now scripts.now) result
+    ensures { RunEnds (ReadFails D.File D.File.left D.File.failures)
+        (D.known folder.now program.now) (D.known folder.now scripts.now) result
         (change (O.written output.old) (O.written output.new) (O.failures output.old) (O.failures output.new)) }
 {
     let Ok(mut program) = folder.open(program) else {
@@ -92,7 +93,8 @@ fn perform<D: Folder, O: Sink, R: AllocGlobal + Threads + Wait + Sync>(
     words: &[String],
     output: &mut O,
 ) -> Result<(), Fault>
-    ensures { AskedEnds (TaskEnds (ReadFails D.File D.File.left D.File.failures) (D.known folder.now)) (asked (map string_bytes words.now)) result
+    ensures { AskedEnds (TaskEnds (ReadFails D.File D.File.left D.File.failures) (D.known folder.now))
+        (asked (map string_bytes words.now)) result
         (change (O.written output.old) (O.written output.new) (O.failures output.old) (O.failures output.new)) }
 {
     match read_words(rt.alloc(), words)? {
@@ -110,7 +112,8 @@ pub fn command<D: Folder, O: Sink, F: Sink, R: AllocGlobal + Threads + Wait + Sy
     output: &mut O,
     faults: &mut F,
 ) -> u8
-    ensures ends { Ends (λ done. 0) (TaskEnds (ReadFails D.File D.File.left D.File.failures) (D.known folder.now)) (asked (map string_bytes words.now))
+    ensures ends { Ends (λ done. 0) (TaskEnds (ReadFails D.File D.File.left D.File.failures) (D.known folder.now))
+        (asked (map string_bytes words.now))
         (change (O.written output.old) (O.written output.new) (O.failures output.old) (O.failures output.new))
         (change (F.written faults.old) (F.written faults.new) (F.failures faults.old) (F.failures faults.new)) result }
     ensures kept { (result ≡ 1) ⊎ (result ≡ 2) → O.written output.new ≡ O.written output.old }

@@ -55,4 +55,5 @@ SaysRefusal name e said = (found : Option Found) × (wanted : Option Text) × (s
 
 -- how many instances and callers accepted scripts have
 abbrev pub counts_text : Text → Scripts → Text
-counts_text name s = name ++ codes ": instances " ++ decimal (length s.instances) ++ codes ", callers " ++ decimal (length s.calls) ++ codes "\n"
+counts_text name s =
+    name ++ codes ": instances " ++ decimal (length s.instances) ++ codes ", callers " ++ decimal (length s.calls) ++ codes "\n"

@@ -31,8 +31,8 @@ pub record Said : Type 0 where
 pub data AreJudged (p : Program) (scripts : Named) (said : Said) : Type 0 where
   are_scripts : (s : Scripts) → AreScripts p scripts.bytes s → said.status ≡ 0 → said.text ≡ counts_text scripts.name s
       → AreJudged p scripts said
-  are_refused : (e : ScriptRefusal) → e ≢ refusals.Memory → AreRefused p scripts.bytes e → said.status ≡ 2 → SaysRefusal scripts.name e said.text
-      → AreJudged p scripts said
+  are_refused : (e : ScriptRefusal) → e ≢ refusals.Memory → AreRefused p scripts.bytes e → said.status ≡ 2
+      → SaysRefusal scripts.name e said.text → AreJudged p scripts said
 
 -- a program is refused, and its refusal is said, with the line of the source that it names; or it is accepted, and the scripts are
 -- judged, if there are any
