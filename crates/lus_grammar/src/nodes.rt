@@ -1,6 +1,6 @@
 //! Equations and nodes.
 
-ghost use Rattle.std.specs.Prelude.{◌≡◌, [], map};
+ghost use Rattle.std.specs.Prelude.{◌≡◌, []};
 ghost use Rattle.lus_syntax.specs.Limits.{most_depth};
 ghost use Rattle.lus_syntax.specs.View.{tokens_seen, names_seen, equation_seen, node_seen};
 ghost use Rattle.lus_grammar.specs.Answers.{Gives, read_as, all_read_as};

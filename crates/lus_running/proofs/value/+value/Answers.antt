@@ -1,22 +1,19 @@
-use Rattle.std.proofs.Common.{rules, ◌≡◌, ◌∙◌, sym, ap, ap₂, subst, map, drop, Option, Some, None, IfOk, length, add-one, ◌<◌, ◌++◌, ◌∷◌, [], suc, drop-cons, slice_get, slice_index_or, ◌≤◌, refl, arith}
+use Rattle.std.proofs.Common.{rules, ◌≡◌, ◌∙◌, sym, ap, subst, map, drop, Option, Some, None, IfOk, length, add-one, ◌<◌, ◌++◌, ◌∷◌, [], suc, drop-cons, slice_get, slice_index_or, ◌≤◌, refl, arith}
 use Rattle.std.proofs.lemmas.List.{map-append}
 use Rattle.std.specs.Prelude.{option_map}
 use Rattle.std.specs.Option.{option_and_then}
 use Rattle.std.proofs.lemmas.Option.{slice_get_read, slice_get_past}
 use Rattle.lus_values.specs.Lists.{item}
-use Rattle.lus_values.specs.Operators.{apply}
 use Rattle.lus_values.specs.Values.{Value}
 use Rattle.lus_values.specs.View.{value_of, entry_of}
-use Rattle.lus_streams.specs.Streams.{with_operands}
-use Rattle.lus_classes.specs.Classes.{compute, choose, select}
-use Rattle.lus_classes.specs.Steps.{chosen, run}
-use Rattle.lus_flat_classes.specs.View.{code_of, codes_of}
-use Rattle.lus_flat_classes.proofs.FormulaViews.{seen_compute, seen_choose, seen_select}
+use Rattle.lus_classes.specs.Steps.{run}
+use Rattle.lus_flat_classes.specs.View.{code_of}
+use Rattle.lus_flat_classes.proofs.FormulaViews.{seen_compute, seen_select}
 use Rattle.lus_running.specs.Constructors.{constructor_in}
 use Rattle.lus_running.specs.Computed.{all_operands, applied, branch_in, value_in}
 use Rattle.lus_running.proofs.Branches.{selected_none, selected_at}
 use Rattle.lus_flat_classes.specs.declared.formula.Formula.{Formula}
-use Rattle.lus_running.proofs.Operands.{computed_is, values_more, one_item, two_items, three_items}
+use Rattle.lus_running.proofs.Operands.{computed_is, values_more}
 use Rattle.lus_running.proofs.value.+value.Goals as goal
 
 pub values_of-loop-operand-preserved : goal.values_of-loop-operand-preserved
