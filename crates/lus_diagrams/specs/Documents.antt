@@ -3,6 +3,7 @@ use Rattle.std.specs.Prelude.{ℕ, List, ◌++◌, flat_map, codes}
 use Rattle.lus_diagrams.specs.Texts.{Text}
 use Rattle.lus_diagrams.specs.Shapes.{attribute_text, shape_text}
 use Rattle.lus_diagrams.specs.ShapeView.{shape_seen}
+use Rattle.lus_diagrams.specs.declared.svg.TheConstants.{OPENING, STYLE}
 use Rattle.lus_diagrams.specs.declared.picture.Picture.{Picture}
 use Rattle.lus_diagrams.specs.declared.shape.Shape.{Shape}
 
@@ -16,3 +17,7 @@ shapes_text ss = flat_map (λ s. shape_text (shape_seen s)) ss
 abbrev pub document_text : Text → Text → Picture → Text
 document_text opening style p =
     size_text opening p.width p.height ++ style ++ shapes_text p.shapes.items ++ codes "</svg>\n"
+
+-- the document of a picture
+abbrev pub picture_text : Picture → Text
+picture_text p = document_text OPENING.now STYLE.now p

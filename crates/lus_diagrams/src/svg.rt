@@ -1,7 +1,7 @@
 //! A picture as a document of SVG.
 
 ghost use Rattle.std.specs.Prelude.{◌≡◌, ◌++◌, OnOk, string_bytes};
-ghost use Rattle.lus_diagrams.specs.Documents.{document_text, shapes_text, size_text};
+ghost use Rattle.lus_diagrams.specs.Documents.{document_text, picture_text, shapes_text, size_text};
 
 use crate::picture::Picture;
 use crate::shape::{Shape, push_attribute, push_shape};
@@ -60,7 +60,7 @@ fn push_document(
 
 /// Appends the document of a picture.
 pub fn push_svg(out: &mut String, picture: &Picture<'_>) -> Result<(), AllocError>
-    ensures { OnOk result (string_bytes out.new ≡ string_bytes out.old ++ document_text OPENING.now STYLE.now picture.now) }
+    ensures { OnOk result (string_bytes out.new ≡ string_bytes out.old ++ picture_text picture.now) }
 {
     push_document(out, OPENING, STYLE, picture)
 }

@@ -1,1 +1,3 @@
-pub mod Faults
+pub mod CommandLine
+pub mod Drawings
+pub mod Ends

@@ -1,7 +1,13 @@
 //! What is drawn of a text of journals.
 
-use crate::fault::Fault;
+ghost use Rattle.std.specs.Prelude.{◌≡◌, IfErr, IfOk, IsUtf8, OnOk, Ok, flat_map, is_some, map, string_bytes, true};
+ghost use Rattle.lus_diagrams.specs.Journals.{IsFaultOf, journals_of};
+ghost use Rattle.lus_diagrams.specs.JournalView.{journal_seen};
+ghost use Rattle.lus_diagrams.specs.Pictures.{diagram_words};
+ghost use Rattle.lus_draw.specs.Drawings.{Draws, IsDiagramFault, IsDrawingFault, IsPictureOf, journal_words};
+
 use crate::labels::{labels, node_named};
+use lus_cli::Fault;
 use lus_diagrams::{Diagram, Journal, JournalError, draw, push_svg, push_text, read_journals};
 use lus_machine::Program;
 use lus_program::Node;
@@ -22,29 +28,57 @@ fn named_diagram<'a>(
     alloc: Global,
     program: &Program,
     journal: &Journal<'a>,
-) -> Result<Diagram<'a>, Fault> {
+) -> Result<Diagram<'a>, Fault>
+    ensures words { IfOk result (λ d. diagram_words d ≡ journal_words (journal_seen journal.now)) }
+    ensures fault { IfErr result (λ f. IsDiagramFault true f) }
+{
     let Some(node) = node_named(program, journal.node) else {
         return Err(Fault::Journal(journal.line));
     };
     if !fits(journal, node) {
         return Err(Fault::Journal(journal.line));
     }
-    let labels = labels(alloc, program.names(), node)?;
-    Ok(Diagram::labelled(alloc, journal, node.inputs as usize, labels)?)
+    let Ok(labels) = labels(alloc, program.names(), node) else {
+        return Err(Fault::Memory);
+    };
+    match Diagram::labelled(alloc, journal, node.inputs as usize, labels) {
+        Ok(diagram) => Ok(diagram),
+        Err(_) => Err(Fault::Memory),
+    }
+}
+
+/// The diagram of a journal, with the names of a program's node if there is one.
+fn diagram<'a>(
+    alloc: Global,
+    program: Option<&Program>,
+    journal: &Journal<'a>,
+) -> Result<Diagram<'a>, Fault>
+    ensures words { IfOk result (λ d. diagram_words d ≡ journal_words (journal_seen journal.now)) }
+    ensures fault { IfErr result (λ f. IsDiagramFault (is_some program.entry) f) }
+{
+    let Some(program) = program else {
+        return match Diagram::numbered(alloc, journal) {
+            Ok(diagram) => Ok(diagram),
+            Err(_) => Err(Fault::Memory),
+        };
+    };
+    named_diagram(alloc, program, journal)
 }
 
 fn diagrams<'a>(
     alloc: Global,
     program: Option<&Program>,
     journals: &[Journal<'a>],
-) -> Result<Vec<Diagram<'a>>, Fault> {
+) -> Result<Vec<Diagram<'a>>, Fault>
+    ensures words { IfOk result (λ v. flat_map diagram_words v.items ≡ flat_map journal_words (map journal_seen journals.now)) }
+    ensures fault { IfErr result (λ f. IsDiagramFault (is_some program.entry) f) }
+{
     let mut diagrams = Vec::new(alloc);
     for journal in journals {
-        let diagram = match program {
-            Some(program) => named_diagram(alloc, program, journal)?,
-            None => Diagram::numbered(alloc, journal)?,
-        };
-        diagrams.push(diagram)?;
+        let diagram = diagram(alloc, program, journal)?;
+        if diagrams.push(diagram).is_err() {
+            return Err(Fault::Memory);
+        }
     }
     Ok(diagrams)
 }
@@ -60,7 +94,9 @@ fn text_of(alloc: Global, diagrams: &[Diagram<'_>]) -> Result<String, AllocError
     Ok(out)
 }
 
-fn picture_of(alloc: Global, diagrams: &[Diagram<'_>]) -> Result<String, AllocError> {
+fn picture_of(alloc: Global, diagrams: &[Diagram<'_>]) -> Result<String, AllocError>
+    ensures { IfOk result (λ s. IsPictureOf (flat_map diagram_words diagrams.now) (string_bytes s)) }
+{
     let picture = draw(alloc, diagrams)?;
     let mut out = String::new(alloc);
     push_svg(&mut out, &picture)?;
@@ -83,10 +119,25 @@ fn fault_behind(alloc: Global, front: &[u8]) -> JournalError {
 }
 
 /// The journals of bytes. Bytes that are no text are in a line that is none.
-fn journals_in(alloc: Global, bytes: &[u8]) -> Result<Vec<Journal<'_>>, JournalError> {
+fn journals_in(alloc: Global, bytes: &[u8]) -> Result<Vec<Journal<'_>>, JournalError>
+    ensures utf8 { OnOk result (IsUtf8 bytes.now) }
+    ensures read { IfOk result (λ v. journals_of bytes.now ≡ Ok (map journal_seen v.items)) }
+    ensures refused { IfErr result (λ e. IsUtf8 bytes.now → IsFaultOf e (journals_of bytes.now)) }
+{
     match str::from_utf8(bytes) {
         Ok(text) => read_journals(alloc, text),
         Err(error) => Err(fault_behind(alloc, &bytes[..error.valid_up_to()])),
+    }
+}
+
+/// A picture of diagrams, or their text.
+fn drawn(alloc: Global, svg: bool, diagrams: &[Diagram<'_>]) -> Result<String, AllocError>
+    ensures { IfOk result (λ s. svg ≡ true → IsPictureOf (flat_map diagram_words diagrams.now) (string_bytes s)) }
+{
+    if svg {
+        picture_of(alloc, diagrams)
+    } else {
+        text_of(alloc, diagrams)
     }
 }
 
@@ -96,12 +147,18 @@ pub fn drawing(
     svg: bool,
     program: Option<&Program>,
     bytes: &[u8],
-) -> Result<String, Fault> {
-    let journals = journals_in(alloc, bytes)?;
+) -> Result<String, Fault>
+    ensures drawn { IfOk result (λ s. Draws svg bytes.now (string_bytes s)) }
+    ensures fault { IfErr result (λ f. IsDrawingFault (is_some program.entry) bytes.now f) }
+{
+    let journals = match journals_in(alloc, bytes) {
+        Ok(journals) => journals,
+        Err(JournalError::Line(line)) => return Err(Fault::Journal(line)),
+        Err(JournalError::Memory) => return Err(Fault::Memory),
+    };
     let diagrams = diagrams(alloc, program, &journals)?;
-    Ok(if svg {
-        picture_of(alloc, &diagrams)?
-    } else {
-        text_of(alloc, &diagrams)?
-    })
+    match drawn(alloc, svg, &diagrams) {
+        Ok(drawn) => Ok(drawn),
+        Err(_) => Err(Fault::Memory),
+    }
 }

@@ -2,14 +2,13 @@
 #![tactic(auto)]
 
 mod drawing;
-mod fault;
 mod labels;
 mod shell;
 mod words;
 
-use crate::fault::Fault;
-use crate::shell::{command, tell};
-use lus_host::Output;
+use crate::shell::command;
+use lus_cli::{Fault, tell};
+use lus_devices::{Disk, Output};
 use std::env;
 use std::io::ErrorKind;
 use std::process::ExitCode;
@@ -32,8 +31,8 @@ fn main(rt: HostRuntime) -> ExitCode {
     let mut output = Output(rt.stdout());
     let mut faults = Output(rt.stderr());
     let status = match given_words(&rt) {
-        Ok(words) => command(&rt, &words, &mut output, &mut faults),
-        Err(fault) => tell(rt.alloc(), &mut faults, fault),
+        Ok(words) => command(rt.alloc(), &Disk(&rt), &words, &mut output, &mut faults),
+        Err(fault) => tell(&mut faults, fault),
     };
     ExitCode::from(status)
 }

@@ -1,85 +1,132 @@
-//! The command line over files.
+//! The command line over a folder.
 
-ghost use Rattle.std.specs.Prelude.{◌≡◌, ◌≤◌, ◌⊎◌};
-ghost use Rattle.lus_draw.specs.Faults.{fault_status};
+ghost use Rattle.std.specs.Prelude.{◌≡◌, IfErr, IfOk, Some, None, map, option_map, string_bytes};
+ghost use Rattle.lus_code.specs.Codes.{program_of};
+ghost use Rattle.lus_machine.specs.Acceptance.{Accepted};
+ghost use Rattle.lus_cli.specs.Changes.{change};
+ghost use Rattle.lus_cli.specs.Ends.{AskedEnds, Ends, ReadFails, SaysEnds};
+ghost use Rattle.lus_draw.specs.CommandLine.{asked};
+ghost use Rattle.lus_draw.specs.Ends.{DrawFails, IsCompileFault, IsDrawn, IsNamed, IsProgramFault, TaskEnds};
 
 use crate::drawing::drawing;
-use crate::fault::Fault;
 use crate::words::{Task, read_words};
-use lus_host::{Input, MOST_BYTES, Sink, read_at_most, text_of, write_all};
+use lus_cli::{Fault, read_file, tell};
+use lus_devices::{Folder, Sink, write_all};
+use lus_host::{RunError, text_of};
 use lus_machine::{Program, compile};
+use lus_syntax::MOST_BYTES;
 use std::alloc::Global;
-use std::fs;
-use std::io::Read;
-use std::rt::Files;
 
-/// Writes the fault's line and gives its status. One for which there is no memory is want of memory.
-pub fn tell<F: Sink>(alloc: Global, faults: &mut F, fault: Fault) -> u8
-    ensures status { (result ≡ fault_status fault) ⊎ (result ≡ 4) }
-    ensures failed { 1 ≤ result }
+/// The program that bytes are the text of.
+fn compiled(alloc: Global, bytes: &[u8]) -> Result<Program, Fault>
+    ensures accepted { IfOk result (λ p. Accepted bytes.now (program_of p)) }
+    ensures fault { IfErr result (λ f. IsCompileFault bytes.now f) }
 {
-    match format!(in alloc; "error {fault}\n") {
-        Ok(line) => {
-            let _ = write_all(faults, line.as_bytes());
-            fault.status()
-        }
-        Err(_) => {
-            let _ = write_all(faults, b"error memory\n");
-            4
-        }
+    let text = match text_of(bytes) {
+        Ok(text) => text,
+        Err(refusal) => return Err(Fault::from(RunError::Program(refusal))),
+    };
+    match compile(alloc, text) {
+        Ok(program) => Ok(program),
+        Err(refusal) => Err(Fault::from(RunError::Program(refusal))),
     }
 }
 
-/// The bytes of a file, or the first of them where it has more than `most`.
-fn read_file<R: Files + AllocGlobal>(rt: &R, name: &str, most: usize) -> Result<Vec<u8>, Fault> {
-    match fs::open(rt, name) {
-        Ok(file) => {
-            let mut source = Input(file);
-            Ok(read_at_most(rt.alloc(), &mut source, most)?)
-        }
-        Err(_) => Err(Fault::File),
-    }
+/// The program of a file. Its bytes are read to their end, or to the first that is one too many.
+fn read_program<D: Folder>(alloc: Global, folder: &D, name: &str) -> Result<Program, Fault>
+    ensures named { IfOk result (λ p. IsNamed (D.known folder.now) (Some name.now)) }
+    ensures fault { IfErr result (λ f. IsProgramFault (ReadFails D.File D.File.left D.File.failures)
+        (D.known folder.now) (Some name.now) f) }
+{
+    let bytes = read_file(alloc, folder, name, MOST_BYTES + 1)?;
+    compiled(alloc, &bytes)
 }
 
-fn read_program<R: Files + AllocGlobal>(rt: &R, name: &str) -> Result<Program, Fault> {
-    let bytes = read_file(rt, name, MOST_BYTES + 1)?;
-    let text = text_of(&bytes)?;
-    Ok(compile(rt.alloc(), text)?)
+/// Draws journals with the names of a program.
+fn draw_named<D: Folder>(
+    alloc: Global,
+    folder: &D,
+    svg: bool,
+    journal: &str,
+    program: &str,
+) -> Result<String, Fault>
+    ensures drawn { IfOk result (λ s. IsDrawn (D.known folder.now) svg journal.now (Some program.now) (string_bytes s)) }
+    ensures fault { IfErr result (λ f. DrawFails (ReadFails D.File D.File.left D.File.failures) (D.known folder.now)
+        journal.now (Some program.now) f) }
+{
+    let bytes = read_file(alloc, folder, journal, usize::MAX)?;
+    let program = read_program(alloc, folder, program)?;
+    drawing(alloc, svg, Some(&program), &bytes)
 }
 
-fn draw<R: Files + AllocGlobal>(rt: &R, task: Task<'_>) -> Result<String, Fault> {
-    let bytes = read_file(rt, task.journal, usize::MAX)?;
+/// Draws journals by themselves.
+fn draw_numbered<D: Folder>(
+    alloc: Global,
+    folder: &D,
+    svg: bool,
+    journal: &str,
+) -> Result<String, Fault>
+    ensures drawn { IfOk result (λ s. IsDrawn (D.known folder.now) svg journal.now None (string_bytes s)) }
+    ensures fault { IfErr result (λ f. DrawFails (ReadFails D.File D.File.left D.File.failures) (D.known folder.now)
+        journal.now None f) }
+{
+    let bytes = read_file(alloc, folder, journal, usize::MAX)?;
+    drawing(alloc, svg, None, &bytes)
+}
+
+fn draw<D: Folder>(alloc: Global, folder: &D, task: Task<'_>) -> Result<String, Fault>
+    ensures drawn { IfOk result (λ s. IsDrawn (D.known folder.now) task.entry.svg task.entry.journal.now
+        (option_map (λ p. p.now) task.entry.program) (string_bytes s)) }
+    ensures fault { IfErr result (λ f. DrawFails (ReadFails D.File D.File.left D.File.failures) (D.known folder.now)
+        task.entry.journal.now (option_map (λ p. p.now) task.entry.program) f) }
+{
     match task.program {
-        Some(name) => {
-            let program = read_program(rt, name)?;
-            drawing(rt.alloc(), task.svg, Some(&program), &bytes)
-        }
-        None => drawing(rt.alloc(), task.svg, None, &bytes),
+        Some(program) => draw_named(alloc, folder, task.svg, task.journal, program),
+        None => draw_numbered(alloc, folder, task.svg, task.journal),
     }
 }
 
-fn perform<R: Files + AllocGlobal, O: Sink>(
-    rt: &R,
+fn write_drawn<O: Sink>(output: &mut O, drawn: &str) -> Result<(), Fault>
+    ensures { SaysEnds (λ done text. text ≡ drawn.now) (λ f. ⊥) result
+        (change (O.written output.old) (O.written output.new) (O.failures output.old) (O.failures output.new)) }
+{
+    match write_all(output, drawn.as_bytes()) {
+        Ok(()) => Ok(()),
+        Err(_) => Err(Fault::Output),
+    }
+}
+
+fn perform<D: Folder, O: Sink>(
+    alloc: Global,
+    folder: &D,
     words: &[String],
     output: &mut O,
-) -> Result<(), Fault> {
-    let task = read_words(rt.alloc(), words)?;
-    let drawn = draw(rt, task)?;
-    write_all(output, drawn.as_bytes())?;
-    Ok(())
+) -> Result<(), Fault>
+    ensures { AskedEnds (TaskEnds (ReadFails D.File D.File.left D.File.failures) (D.known folder.now))
+        (asked (map string_bytes words.now)) result
+        (change (O.written output.old) (O.written output.new) (O.failures output.old) (O.failures output.new)) }
+{
+    let task = read_words(alloc, words)?;
+    let drawn = draw(alloc, folder, task)?;
+    write_drawn(output, &drawn)
 }
 
-/// Draws what the words ask for and gives the status of the process: 0 where it is written, else that of the fault.
-pub fn command<R: Files + AllocGlobal, O: Sink, F: Sink>(
-    rt: &R,
+/// Draws what the words ask for of the files of a folder, and gives the status of the process: 0 where it is written, else
+/// that of the fault.
+pub fn command<D: Folder, O: Sink, F: Sink>(
+    alloc: Global,
+    folder: &D,
     words: &[String],
     output: &mut O,
     faults: &mut F,
 ) -> u8
-    ensures { result ≡ 0 → F.written faults.new ≡ F.written faults.old }
+    ensures { Ends (λ done. 0) (TaskEnds (ReadFails D.File D.File.left D.File.failures) (D.known folder.now))
+        (asked (map string_bytes words.now))
+        (change (O.written output.old) (O.written output.new) (O.failures output.old) (O.failures output.new))
+        (change (F.written faults.old) (F.written faults.new) (F.failures faults.old) (F.failures faults.new)) result }
 {
-    match perform(rt, words, output) {
+    match perform(alloc, folder, words, output) {
         Ok(()) => 0,
-        Err(fault) => tell(rt.alloc(), faults, fault),
+        Err(fault) => tell(faults, fault),
     }
 }

@@ -1,8 +1,13 @@
 //! The words of the command line.
 
-use crate::fault::Fault;
-use clap::error::ErrorKind;
+ghost use Rattle.std.specs.Prelude.{◌≡◌, IfOk, Some, None, Err, map, option_map, string_bytes};
+ghost use Rattle.clap.specs.Words.{app_of};
+ghost use Rattle.lus_cli.specs.CommandLine.{is_true};
+ghost use Rattle.lus_cli.specs.declared.words.WordsError.TheVariants.{Mistaken};
+ghost use Rattle.lus_draw.specs.CommandLine.{asked, chosen, task_seen, the_command};
+
 use clap::{Arg, ArgAction, Command};
+use lus_cli::{WordsError, matches};
 use std::alloc::{AllocError, Global};
 
 /// What the words ask for: a picture or text, of a file of journals, with a program's names where one is named.
@@ -13,7 +18,9 @@ pub struct Task<'a> {
     pub program: Option<&'a str>,
 }
 
-fn command<'a>(alloc: Global) -> Result<Command<'a>, AllocError> {
+fn command<'a>(alloc: Global) -> Result<Command<'a>, AllocError>
+    ensures shape { IfOk result (λ c. app_of c ≡ the_command) }
+{
     let svg = Arg::new(alloc, "svg")
         .long("svg")
         .action(ArgAction::SetTrue);
@@ -28,28 +35,37 @@ fn command<'a>(alloc: Global) -> Result<Command<'a>, AllocError> {
         .arg(program)
 }
 
-/// What the words after the program's own name ask for. A flag's value is the text `true` or `false`.
-pub fn read_words<'a>(alloc: Global, words: &'a [String]) -> Result<Task<'a>, Fault> {
-    let command = command(alloc)?;
-    let matches = match command.try_get_matches_from(words) {
-        Ok(matches) => matches,
-        Err(error) => {
-            return Err(match error.kind() {
-                ErrorKind::OutOfMemory => Fault::Memory,
-                _ => Fault::Words,
-            });
-        }
-    };
-    let svg = match matches.get_str("svg") {
+/// What the words after the program's own name ask for.
+pub fn read_words<'a>(alloc: Global, words: &'a [String]) -> Result<Task<'a>, WordsError>
+    ensures ok { IfOk result (λ task. asked (map string_bytes words.now) ≡ Some (task_seen task)) }
+    ensures mistaken { result ≡ Err Mistaken → asked (map string_bytes words.now) ≡ None }
+{
+    let matches = matches(command(alloc)?, words)?;
+    choose(
+        matches.get_str("svg"),
+        matches.get_str("JOURNAL"),
+        matches.get_str("PROGRAM"),
+    )
+    .ok_or(WordsError::Mistaken)
+}
+
+/// A flag's value is the text `true` or `false`.
+fn choose<'a>(
+    svg: Option<&'a str>,
+    journal: Option<&'a str>,
+    program: Option<&'a str>,
+) -> Option<Task<'a>>
+    ensures { option_map task_seen result ≡ chosen (is_true (option_map (λ t. t.now) svg.entry))
+        (option_map (λ t. t.now) journal.entry) (option_map (λ t. t.now) program.entry) }
+{
+    let journal = journal?;
+    let svg = match svg {
         Some(text) => text == "true",
         None => false,
     };
-    match matches.get_str("JOURNAL") {
-        Some(journal) => Ok(Task {
-            svg,
-            journal,
-            program: matches.get_str("PROGRAM"),
-        }),
-        None => Err(Fault::Words),
-    }
+    Some(Task {
+        svg,
+        journal,
+        program,
+    })
 }

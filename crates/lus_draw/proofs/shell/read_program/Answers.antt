@@ -1,0 +1,22 @@
+-- What holds of the bytes that were read holds of the file's.
+use Rattle.std.proofs.Common.{◌+◌, refl, subst}
+use Rattle.std.proofs.lemmas.Result.{IfErr-weaker, IfOk-weaker}
+use Rattle.lus_syntax.specs.Limits.{most_bytes}
+use Rattle.lus_code.specs.Codes.{program_of}
+use Rattle.lus_machine.specs.Acceptance.{Accepted}
+use Rattle.lus_cli.specs.Ends.{ReadFails}
+use Rattle.lus_draw.specs.Ends.{IsCompileFault}
+use Rattle.lus_draw.proofs.Files.{compile_fault, named}
+use Rattle.lus_draw.proofs.shell.read_program.Goals as goal
+
+pub returns-clause-named : goal.returns-clause-named
+returns-clause-named g c =
+    IfOk-weaker c.compiled.result _ _ (λ p accepted. named (ReadFails g.row.D-File.Denot g.D.File.Source.left g.D.File.Source.failures)
+    (g.D.Folder.known c.args.folder.now) c.args.name.now most_bytes (most_bytes + 1) refl refl c.in_ok-bytes.bytes.items c.in_ok-bytes.ensures.bytes
+    (program_of p) (subst (λ bs. Accepted bs (program_of p)) c.deref.ensures.value accepted)) c.compiled.ensures.accepted
+
+pub returns-clause-fault : goal.returns-clause-fault
+returns-clause-fault g c =
+    IfErr-weaker c.compiled.result _ _ (λ f cause. compile_fault (ReadFails g.row.D-File.Denot g.D.File.Source.left g.D.File.Source.failures)
+    (g.D.Folder.known c.args.folder.now) c.args.name.now most_bytes (most_bytes + 1) refl refl c.in_ok-bytes.bytes.items c.in_ok-bytes.ensures.bytes
+    f (subst (λ bs. IsCompileFault bs f) c.deref.ensures.value cause)) c.compiled.ensures.fault

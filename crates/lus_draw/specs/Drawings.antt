@@ -1,0 +1,47 @@
+-- What is drawn of the bytes of journals, and why nothing is.
+use Rattle.std.specs.Prelude.{◌≡◌, Bool, true, false, List, flat_map, IsUtf8, Ok, Err, ⊤}
+use Rattle.lus_cli.specs.CommandLine.{Text}
+use Rattle.lus_cli.specs.declared.fault.Fault.{Fault}
+use Rattle.lus_cli.specs.declared.fault.Fault.TheVariants as faults
+use Rattle.lus_diagrams.specs.Columns.{columns_of}
+use Rattle.lus_diagrams.specs.Documents.{picture_text}
+use Rattle.lus_diagrams.specs.Journals.{Journal, journals_of}
+use Rattle.lus_diagrams.specs.Pictures.{column_texts, seen_words}
+use Rattle.lus_diagrams.specs.declared.picture.Picture.{Picture}
+
+-- the words of a journal's table, column by column
+abbrev pub journal_words : Journal → List Text
+journal_words j = flat_map column_texts (columns_of j.entries)
+
+-- the document of a picture whose columns have these words
+abbrev pub IsPictureOf : List Text → Text → Type 0
+IsPictureOf words drawn = (p : Picture) × (seen_words p.shapes.items ≡ words) × (drawn ≡ picture_text p)
+
+-- the bytes are a text of journals, of which a picture is drawn, or a text, of which nothing is said
+pub record Draws (svg : Bool) (bytes drawn : Text) : Type 0 where
+  pub utf8 : IsUtf8 bytes
+  pub journals : List Journal
+  pub read : journals_of bytes ≡ Ok journals
+  pub picture : svg ≡ true → IsPictureOf (flat_map journal_words journals) drawn
+
+-- a journal whose node the program doesn't have, or has with other inputs or outputs; or want of memory
+abbrev pub IsDiagramFault : Bool → Fault → Type 0
+IsDiagramFault named (faults.Journal n) = named ≡ true
+IsDiagramFault named faults.Memory = ⊤
+IsDiagramFault named (faults.Program e) = ⊥
+IsDiagramFault named (faults.Scripts e) = ⊥
+IsDiagramFault named faults.Words = ⊥
+IsDiagramFault named faults.File = ⊥
+IsDiagramFault named faults.Output = ⊥
+IsDiagramFault named faults.Start = ⊥
+
+-- without a program, the line that is told of a text is the first that is none of a journal
+abbrev pub IsDrawingFault : Bool → Text → Fault → Type 0
+IsDrawingFault named bytes (faults.Journal n) = named ≡ false → IsUtf8 bytes → journals_of bytes ≡ Err n
+IsDrawingFault named bytes faults.Memory = ⊤
+IsDrawingFault named bytes (faults.Program e) = ⊥
+IsDrawingFault named bytes (faults.Scripts e) = ⊥
+IsDrawingFault named bytes faults.Words = ⊥
+IsDrawingFault named bytes faults.File = ⊥
+IsDrawingFault named bytes faults.Output = ⊥
+IsDrawingFault named bytes faults.Start = ⊥

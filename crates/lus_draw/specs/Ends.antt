@@ -1,0 +1,73 @@
+-- How drawing ends: what was drawn of the files, or which fault ended it.
+use Rattle.std.specs.Prelude.{◌⊎◌, Bool, Option, Some, None, Result, ⊤, is_some}
+use Rattle.lus_syntax.specs.declared.refusal.Refusal.{Refusal}
+use Rattle.lus_program.specs.Programs.{Program}
+use Rattle.lus_machine.specs.Acceptance.{Accepted}
+use Rattle.lus_devices.specs.Folders.{Known, WithFile}
+use Rattle.lus_host.specs.Sources.{ProgramRefused}
+use Rattle.lus_cli.specs.Changes.{Change}
+use Rattle.lus_cli.specs.CommandLine.{Text}
+use Rattle.lus_cli.specs.Ends.{IsLost, SaysEnds}
+use Rattle.lus_cli.specs.declared.fault.Fault.{Fault}
+use Rattle.lus_cli.specs.declared.fault.Fault.TheVariants as faults
+use Rattle.lus_draw.specs.CommandLine.{Asked}
+use Rattle.lus_draw.specs.Drawings.{Draws, IsDrawingFault}
+
+-- the program whose names are used is accepted, where its bytes are known
+abbrev pub IsNamed : (Text → Known) → Option Text → Type 0
+IsNamed known None = ⊤
+IsNamed known (Some program) = WithFile (known program) (λ text. (p : Program) × Accepted text p)
+
+-- the program's file is lost
+abbrev pub IsProgramLost : (Known → Type 0) → (Text → Known) → Option Text → Type 0
+IsProgramLost read_fails known None = ⊥
+IsProgramLost read_fails known (Some program) = IsLost read_fails (known program)
+
+-- the program is refused, where its bytes are known
+abbrev pub IsProgramRefused : (Text → Known) → Option Text → Refusal → Type 0
+IsProgramRefused known None e = ⊥
+IsProgramRefused known (Some program) e = WithFile (known program) (λ text. ProgramRefused text e)
+
+-- bytes are refused as a program, or memory was wanting
+abbrev pub IsCompileFault : Text → Fault → Type 0
+IsCompileFault bytes (faults.Program e) = ProgramRefused bytes e
+IsCompileFault bytes faults.Memory = ⊤
+IsCompileFault bytes (faults.Journal n) = ⊥
+IsCompileFault bytes (faults.Scripts e) = ⊥
+IsCompileFault bytes faults.Words = ⊥
+IsCompileFault bytes faults.File = ⊥
+IsCompileFault bytes faults.Output = ⊥
+IsCompileFault bytes faults.Start = ⊥
+
+-- why there are no names of a program: its file is lost, it is refused, or memory was wanting
+abbrev pub IsProgramFault : (Known → Type 0) → (Text → Known) → Option Text → Fault → Type 0
+IsProgramFault read_fails known program faults.File = IsProgramLost read_fails known program
+IsProgramFault read_fails known program (faults.Program e) = IsProgramRefused known program e
+IsProgramFault read_fails known program faults.Memory = ⊤
+IsProgramFault read_fails known program (faults.Journal n) = ⊥
+IsProgramFault read_fails known program (faults.Scripts e) = ⊥
+IsProgramFault read_fails known program faults.Words = ⊥
+IsProgramFault read_fails known program faults.Output = ⊥
+IsProgramFault read_fails known program faults.Start = ⊥
+
+-- why nothing is drawn of the journals of this name, perhaps with the names of a program
+abbrev pub DrawFails : (Known → Type 0) → (Text → Known) → Text → Option Text → Fault → Type 0
+DrawFails read_fails known journal program faults.File = IsLost read_fails (known journal) ⊎ IsProgramLost read_fails known program
+DrawFails read_fails known journal program (faults.Program e) = IsProgramRefused known program e
+DrawFails read_fails known journal program (faults.Journal n) =
+    WithFile (known journal) (λ bytes. IsDrawingFault (is_some program) bytes (faults.Journal n))
+DrawFails read_fails known journal program faults.Memory = ⊤
+DrawFails read_fails known journal program (faults.Scripts e) = ⊥
+DrawFails read_fails known journal program faults.Words = ⊥
+DrawFails read_fails known journal program faults.Output = ⊥
+DrawFails read_fails known journal program faults.Start = ⊥
+
+-- the drawing of the journals of this name
+abbrev pub IsDrawn : (Text → Known) → Bool → Text → Option Text → Text → Type 0
+IsDrawn known svg journal program drawn = WithFile (known journal) (λ bytes. Draws svg bytes drawn) × IsNamed known program
+
+-- the drawing is written; where there is none, nothing is
+abbrev pub TaskEnds : (Known → Type 0) → (Text → Known) → Asked → Result (Unit {0}) Fault → Change → Type 0
+TaskEnds read_fails known asked =
+    SaysEnds (λ done drawn. IsDrawn known asked.svg asked.journal asked.program drawn)
+    (DrawFails read_fails known asked.journal asked.program)
