@@ -87,7 +87,8 @@ fn arguments_of(
     arguments: &[Expr],
     base: &[Test],
 ) -> Result<Vec<Argument>, Memory>
-    ensures { IfOk result (λ found. map argument_seen found.items ≡ map tested_argument (arguments_from program.now called arguments.now base.now)) }
+    ensures { let formed = arguments_from program.now called arguments.now base.now in
+        IfOk result (λ found. map argument_seen found.items ≡ map tested_argument formed) }
 {
     let mut found = Vec::with_capacity(alloc, arguments.len())?;
     for (formal, argument) in arguments.iter().enumerate() {
@@ -131,7 +132,8 @@ pub fn call_of(
     arguments: &[Expr],
     clock: &[Test],
 ) -> Result<Call, Memory>
-    ensures { IfOk result (λ q. call_seen q ≡ tested_call (call_form (program_seen program.now) called (operands_of arguments.now) clock.now)) }
+    ensures { let formed = call_form (program_seen program.now) called (operands_of arguments.now) clock.now in
+        IfOk result (λ q. call_seen q ≡ tested_call formed) }
 {
     let base = base_of(alloc, program, called, clock)?;
     let arguments = arguments_of(alloc, program, called, arguments, &base)?;

@@ -3,7 +3,7 @@
 ghost use Rattle.std.specs.Prelude.{◌≡◌, ◌∷◌, ◌++◌, [], IfOk, OnOk, map};
 ghost use Rattle.lus_flat_classes.specs.View.{atom_of as atom_in};
 ghost use Rattle.lus_translation.specs.Building.{next_cell, next_first};
-ghost use Rattle.lus_translation.specs.Newest.{cell_seen};
+ghost use Rattle.lus_translation.specs.Newest.{Tested, cell_seen};
 
 use lus_flat_classes::{Atom, Cell};
 use lus_program::Test;
@@ -29,7 +29,8 @@ pub fn number_of(count: usize) -> Result<u32, Memory>
 /// A cell for an operand on a clock with this newest test: its number.
 pub fn keep_cell(test: Option<Test>, operand: Atom, kept: &mut Kept) -> Result<u32, Memory>
     ensures number { IfOk result (λ n. n ≡ next_cell kept.old) }
-    ensures cells { OnOk result (map cell_seen kept.new.cells.items ≡ map cell_seen kept.old.cells.items ++ record { test = test; atom = atom_in operand } ∷ []) }
+    ensures cells { let more : Tested = record { test = test; atom = atom_in operand } in
+        OnOk result (map cell_seen kept.new.cells.items ≡ map cell_seen kept.old.cells.items ++ more ∷ []) }
     ensures firsts { OnOk result (kept.new.firsts ≡ kept.old.firsts) }
 {
     let number = number_of(kept.cells.len())?;
