@@ -1,3 +1,5 @@
 pub mod MadeClasses
 pub mod KeptRows
 pub mod FewNodes
+pub use Rattle.lus_order.proofs as OrderProofs
+pub use Rattle.lus_simulation.proofs as SimulationProofs

@@ -1,2 +1,5 @@
 pub mod Codes
 pub mod Made
+pub use Rattle.lus_order.specs as OrderSpecs
+pub use Rattle.lus_cells.specs as CellsSpecs
+pub use Rattle.lus_simulation.specs as SimulationSpecs

@@ -5,3 +5,6 @@ mod classes;
 mod code;
 
 pub use code::{Code, translate};
+pub use lus_cells;
+pub use lus_normal;
+pub use lus_order;

@@ -13,14 +13,14 @@ use Rattle.lus_classes.specs.Steps.{is_on_row}
 use Rattle.lus_classes.specs.ClassesOf.{IsClassOf}
 use Rattle.lus_flat_classes.specs.declared.class.Class.{Class}
 use Rattle.lus_flat_classes.specs.View.{clock_from, class_of, classes_of}
-use Rattle.lus_simulation.specs.Checked.{IsChecked}
-use Rattle.lus_simulation.specs.Fitting.{has_shape, has_presence, all_below, same_truth}
-use Rattle.lus_simulation.specs.LineageLaws.{StepsTo, Faults}
-use Rattle.lus_simulation.specs.Lineages.{outputs_of}
-use Rattle.lus_simulation.specs.Nesting.{depth_of}
-use Rattle.lus_simulation.proofs.FittingRows.{below_true, one_truth, rows_that_fit}
-use Rattle.lus_simulation.proofs.Lived.{formals_at, steps_follow, faults_follow}
-use Rattle.lus_simulation.proofs.Nested.{calls_nested}
+use Rattle.lus_code.specs.SimulationSpecs.Checked.{IsChecked}
+use Rattle.lus_code.specs.SimulationSpecs.Fitting.{has_shape, has_presence, all_below, same_truth}
+use Rattle.lus_code.specs.SimulationSpecs.LineageLaws.{StepsTo, Faults}
+use Rattle.lus_code.specs.SimulationSpecs.Lineages.{outputs_of}
+use Rattle.lus_code.specs.SimulationSpecs.Nesting.{depth_of}
+use Rattle.lus_code.proofs.SimulationProofs.FittingRows.{below_true, one_truth, rows_that_fit}
+use Rattle.lus_code.proofs.SimulationProofs.Lived.{formals_at, steps_follow, faults_follow}
+use Rattle.lus_code.proofs.SimulationProofs.Nested.{calls_nested}
 use Rattle.lus_code.specs.Codes.{IsCodeOf}
 use Rattle.lus_running.specs.declared.error.StepError.TheVariants as running
 use Rattle.lus_running.specs.declared.instance.Instance.{Instance}

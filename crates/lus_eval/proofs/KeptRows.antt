@@ -10,11 +10,11 @@ use Rattle.lus_program.specs.declared.node.Node.{Node as StoredNode}
 use Rattle.lus_program.specs.declared.node.Program.{Program as StoredProgram}
 use Rattle.lus_program.specs.Programs.{node_at}
 use Rattle.lus_program.specs.View.{node_of, program_seen}
-use Rattle.lus_order.proofs.Nodes.{node_here}
+use Rattle.lus_code.proofs.OrderProofs.Nodes.{node_here}
 use Rattle.lus_flat_classes.specs.declared.class.Class.{Class}
 use Rattle.lus_flat_classes.specs.Places.{state_in}
-use Rattle.lus_simulation.specs.Checked.{IsChecked}
-use Rattle.lus_simulation.specs.Nesting.{depth_of}
+use Rattle.lus_code.specs.SimulationSpecs.Checked.{IsChecked}
+use Rattle.lus_code.specs.SimulationSpecs.Nesting.{depth_of}
 use Rattle.lus_code.specs.Codes.{ProgramCode, program_of}
 use Rattle.lus_running.specs.declared.instance.Instance.{Instance}
 use Rattle.lus_running.specs.Instances as instances

@@ -13,7 +13,7 @@ use Rattle.lus_program.specs.Programs.{Program, Field}
 use Rattle.lus_program.specs.View.{field_of}
 use Rattle.lus_meaning.specs.Types.{fields_in}
 use Rattle.lus_meaning.specs.Resolved.{declared_in}
-use Rattle.lus_simulation.specs.Fitting.{is_of, are_of, entry_fits}
+use Rattle.lus_code.specs.SimulationSpecs.Fitting.{is_of, are_of, entry_fits}
 use Rattle.lus_eval.specs.TypedRows.{values_fit, entries_fit}
 
 module _ (p : Program) where

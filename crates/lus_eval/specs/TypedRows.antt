@@ -7,7 +7,7 @@ use Rattle.lus_program.specs.declared.types.Field.{Field as StoredField}
 use Rattle.lus_program.specs.declared.node.Variable.{Variable as StoredVariable}
 use Rattle.lus_program.specs.Programs.{Program, Field, Variable}
 use Rattle.lus_program.specs.View.{field_of, variable_of}
-use Rattle.lus_simulation.specs.Fitting.{are_of, row_fits}
+use Rattle.lus_code.specs.SimulationSpecs.Fitting.{are_of, row_fits}
 
 module _ (p : Program) where
   -- values are of the types of fields

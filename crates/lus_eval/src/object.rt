@@ -1,7 +1,7 @@
 //! Objects.
 
 ghost use Rattle.std.specs.Prelude.{◌≡◌, ◌↔◌, ◌<◌, [], IsTrue, length, IfOk, IfErr, OnErr};
-ghost use Rattle.lus_simulation.specs.Fitting.{has_shape, has_presence};
+ghost use Rattle.lus_code.specs.SimulationSpecs.Fitting.{has_shape, has_presence};
 ghost use Rattle.lus_code.specs.Codes.{program_of};
 ghost use Rattle.lus_eval.specs.Objects.{IsFault, IsReset, IsShaped, IsStep, ObjectLived};
 

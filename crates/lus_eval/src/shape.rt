@@ -5,7 +5,7 @@ ghost use Rattle.lus_values.specs.View.{entry_of, value_of};
 ghost use Rattle.lus_program.specs.View.{program_seen};
 ghost use Rattle.lus_meaning.specs.Types.{constructors_in};
 ghost use Rattle.lus_meaning.specs.Resolved.{declared_in};
-ghost use Rattle.lus_simulation.specs.Fitting.{entry_fits, is_of};
+ghost use Rattle.lus_code.specs.SimulationSpecs.Fitting.{entry_fits, is_of};
 ghost use Rattle.lus_eval.specs.TypedRows.{entries_fit, values_fit};
 
 use lus_meaning::fields_at;

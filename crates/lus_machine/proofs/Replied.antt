@@ -3,10 +3,10 @@ use Rattle.std.proofs.Common.{◌≡◌, ◌<◌, ◌≤◌, ◌++◌, ℕ, List
 use Rattle.std.proofs.lemmas.List.{get_or_default}
 use Rattle.lus_values.specs.Lists.{item}
 use Rattle.lus_values.specs.Values.{Row}
-use Rattle.lus_simulation.specs.Lineages.{Lineage, HasLived}
-use Rattle.lus_simulation.specs.LineageLaws.{Faults}
-use Rattle.lus_simulation.specs.Fitting.{has_shape, has_presence}
-use Rattle.lus_simulation.proofs.Lived.{resets_lived}
+use Rattle.lus_eval.specs.SimulationSpecs.Lineages.{Lineage, HasLived}
+use Rattle.lus_eval.specs.SimulationSpecs.LineageLaws.{Faults}
+use Rattle.lus_eval.specs.SimulationSpecs.Fitting.{has_shape, has_presence}
+use Rattle.lus_eval.proofs.SimulationProofs.Lived.{resets_lived}
 use Rattle.lus_requests.specs.declared.request.Request.{Request}
 use Rattle.lus_requests.specs.declared.request.Request.TheVariants.{Step, Reset, Save, Restore}
 use Rattle.lus_requests.specs.declared.request.Reply.TheVariants.{Outputs, Done, Refused}
@@ -18,7 +18,7 @@ use Rattle.lus_history.specs.Keeping.{Answers, IsInstance}
 use Rattle.lus_history.specs.Laws.{RequestsAnswer}
 use Rattle.lus_history.proofs.GoingOn.{instances_go_on}
 use Rattle.lus_history.proofs.Answering.{requests_are_answered, instances_begin}
-use Rattle.lus_code.specs.Codes.{ProgramCode, program_of, plain_classes}
+use Rattle.lus_eval.specs.CodeSpecs.Codes.{ProgramCode, program_of, plain_classes}
 use Rattle.lus_eval.specs.Objects.{Kept, IsShaped, ObjectLived, IsStep, IsReset, state_of}
 use Rattle.lus_machine.specs.declared.answers.Answer.{Answer}
 use Rattle.lus_machine.specs.declared.answers.Change.TheVariants.{Nothing, Empty, Next, Slot}

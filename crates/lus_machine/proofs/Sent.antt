@@ -23,8 +23,8 @@ use Rattle.lus_flat_classes.specs.contracts.class.Class as Class
 use Rattle.lus_meaning.specs.contracts.typed.Typed as Typed
 use Rattle.lus_clocks.specs.contracts.passes.Clocked as Clocked
 use Rattle.lus_clocks.specs.contracts.passes.Initialised as Initialised
-use Rattle.lus_order.specs.contracts.pass.Ordered as Ordered
-use Rattle.lus_code.specs.contracts.code.Code as Code
+use Rattle.lus_eval.specs.OrderSpecs.contracts.pass.Ordered as Ordered
+use Rattle.lus_eval.specs.CodeSpecs.contracts.code.Code as Code
 use Rattle.lus_eval.specs.contracts.object.Object as Object
 use Rattle.lus_requests.specs.contracts.request.Entry as Entry
 use Rattle.lus_machine.specs.contracts.program.Program as Program

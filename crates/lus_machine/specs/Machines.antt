@@ -7,7 +7,7 @@ use Rattle.lus_requests.specs.declared.request.Reply.{Reply}
 use Rattle.lus_requests.specs.declared.request.Entry.{Entry}
 use Rattle.lus_history.specs.Histories.{History}
 use Rattle.lus_history.specs.Keeping.{IsInstance}
-use Rattle.lus_code.specs.Codes.{ProgramCode, program_of}
+use Rattle.lus_eval.specs.CodeSpecs.Codes.{ProgramCode, program_of}
 use Rattle.lus_eval.specs.Objects.{Kept, ObjectLived}
 use Rattle.lus_machine.specs.Acceptance.{IsAccepted}
 use Rattle.lus_machine.specs.Constructors.{names_of}

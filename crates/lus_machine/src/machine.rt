@@ -3,7 +3,7 @@
 ghost use Rattle.std.specs.Prelude.{◌≡◌, ◌<◌, ◌++◌, ◌∷◌, [], length, replicate, None, IfOk, IfErr, OnErr};
 ghost use Rattle.std.specs.Arc.{arc_value};
 ghost use Rattle.lus_history.specs.Replies.{slots as slot_count};
-ghost use Rattle.lus_code.specs.Codes.{program_of};
+ghost use Rattle.lus_eval.specs.CodeSpecs.Codes.{program_of};
 ghost use Rattle.lus_machine.specs.Changes.{Becomes, IsSlot};
 ghost use Rattle.lus_machine.specs.Machines.{IsLegal, entry, full};
 
@@ -37,7 +37,7 @@ impl Model for Machine {
     ghost use Rattle.std.specs.Arc.{arc_value};
     ghost use Rattle.lus_values.specs.Coded.{coded_row};
     ghost use Rattle.lus_history.specs.CodedPrograms.{coded_expression};
-    ghost use Rattle.lus_code.specs.Codes.{program_of};
+    ghost use Rattle.lus_eval.specs.CodeSpecs.Codes.{program_of};
     ghost use Rattle.lus_machine.specs.Machines.{Told, Lives};
 
     ghost Value = { Told };

@@ -13,7 +13,7 @@ use Rattle.lus_program.specs.declared.expr.Test.{Test}
 use Rattle.lus_classes.specs.Classes.{Atom, constant, named, Class, answer, Step, Call}
 use Rattle.lus_classes.specs.ClassesOf.{IsClassOf, IsCode, IsCovered, IsSource, IsStep, AreCalls, InTurn, atom_code}
 use Rattle.lus_normal_form.specs.NormalForm.{IsSimpleRight}
-use Rattle.lus_normal_nodes.specs.Ready.{IsReady}
+use Rattle.lus_translation.specs.NormalNodesSpecs.Ready.{IsReady}
 use Rattle.lus_flat_classes.specs.declared.formula.Formula.{Formula, Fixed, Fetch, Compute', Recall, Choose', Select'}
 use Rattle.lus_flat_classes.specs.declared.class.Call.{Call as StoredCall}
 use Rattle.lus_flat_classes.specs.declared.class.Class.{Class as StoredClass}

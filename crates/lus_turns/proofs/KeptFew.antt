@@ -12,7 +12,7 @@ use Rattle.lus_streams.specs.Clocks.{Clock, clock_of}
 use Rattle.lus_streams.specs.Equations.{Definition, given_by, definition_in, definition_of, equation_clock, place_in}
 use Rattle.lus_normal_form.specs.NormalNodes.{memories, all_memories, firsts, all_firsts, count_rights}
 use Rattle.lus_normal_form.specs.NormalForm.{IsSimpleRight}
-use Rattle.lus_normal_nodes.specs.Ready.{IsReady}
+use Rattle.lus_translation.specs.NormalNodesSpecs.Ready.{IsReady}
 use Rattle.lus_translation.specs.Forms.{kept_cells, all_kept_cells, branch_cells, kept_firsts, all_kept_firsts, branch_firsts, given_cells, given_firsts, turn_cells, turn_firsts, equation_cells, equation_firsts, Turn, cells_at, firsts_at, all_cells, all_firsts as firsts_in_all, numbers_form}
 use Rattle.lus_translation.specs.Orders.{InOrder, IsGivenBy, IsTurn, AreTurns, in_turn}
 use Rattle.lus_flat_classes.specs.declared.class.Class.{Class as StoredClass}

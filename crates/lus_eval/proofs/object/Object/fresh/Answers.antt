@@ -2,9 +2,9 @@ use Rattle.std.proofs.Common.{List, sym, subst, []}
 use Rattle.lus_classes.specs.States.{State}
 use Rattle.lus_flat_classes.specs.declared.class.Class.{Class}
 use Rattle.lus_flat_classes.specs.View.{classes_of}
-use Rattle.lus_simulation.specs.Lineages.{HasLived}
-use Rattle.lus_simulation.specs.Nesting.{depth_of}
-use Rattle.lus_simulation.proofs.Lived.{starts_lived}
+use Rattle.lus_code.specs.SimulationSpecs.Lineages.{HasLived}
+use Rattle.lus_code.specs.SimulationSpecs.Nesting.{depth_of}
+use Rattle.lus_code.proofs.SimulationProofs.Lived.{starts_lived}
 use Rattle.lus_code.specs.Codes.{program_of}
 use Rattle.lus_running.specs.Instances.{state_of}
 use Rattle.lus_eval.proofs.Following.{nested}

@@ -4,9 +4,9 @@ use Rattle.lus_program.specs.Programs.{Node, node_at}
 use Rattle.lus_classes.specs.States.{WithinDepth}
 use Rattle.lus_flat_classes.specs.declared.class.Class.{Class}
 use Rattle.lus_flat_classes.specs.View.{classes_of}
-use Rattle.lus_simulation.specs.Fitting.{has_shape, has_presence}
-use Rattle.lus_simulation.specs.LineageLaws.{StepsTo, Faults}
-use Rattle.lus_simulation.specs.Nesting.{depth_of}
+use Rattle.lus_code.specs.SimulationSpecs.Fitting.{has_shape, has_presence}
+use Rattle.lus_code.specs.SimulationSpecs.LineageLaws.{StepsTo, Faults}
+use Rattle.lus_code.specs.SimulationSpecs.Nesting.{depth_of}
 use Rattle.lus_code.specs.Codes.{program_of, plain_classes}
 use Rattle.lus_running.specs.declared.error.StepError.{StepError as RunningError}
 use Rattle.lus_running.specs.declared.error.StepError.TheVariants as running

@@ -1,6 +1,6 @@
 use Rattle.std.proofs.Common.{◌≡◌, ◌∙◌, subst, refl, arith}
 use Rattle.std.specs.Arc.{arc_value}
-use Rattle.lus_code.specs.Codes.{ProgramCode}
+use Rattle.lus_eval.specs.CodeSpecs.Codes.{ProgramCode}
 use Rattle.lus_machine.specs.Changes.{Answered}
 use Rattle.lus_machine.specs.Machines.{Lives, entry}
 use Rattle.lus_machine.proofs.Replied.{lives_on}

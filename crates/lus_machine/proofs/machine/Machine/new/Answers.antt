@@ -1,7 +1,7 @@
 use Rattle.std.proofs.Common.{◌≡◌, ◌∙◌, [], None, replicate, subst}
 use Rattle.std.specs.Arc.{arc_value}
 use Rattle.lus_history.specs.Replies.{slots}
-use Rattle.lus_code.specs.Codes.{ProgramCode, program_of}
+use Rattle.lus_eval.specs.CodeSpecs.Codes.{ProgramCode, program_of}
 use Rattle.lus_eval.specs.Objects.{ObjectLived}
 use Rattle.lus_machine.specs.Acceptance.{IsAccepted}
 use Rattle.lus_machine.specs.Machines.{Lives}
