@@ -1,10 +1,9 @@
 //! Callers that share one instance, each on a thread of its own.
 
-use lus_callers::{Call, Caller, OpenGate, fit, run_callers, run_seated};
-use lus_machine::{NodeId, Program};
-use lus_requests::Request;
-use lus_shared::LockedNode;
-use lus_values::{Memory, Row};
+use lus_host::{
+    Call, Caller, LockedNode, Memory, NodeId, OpenGate, Program, Request, Row, fit, run_callers,
+    run_seated,
+};
 use std::alloc::Global;
 use std::sync::{Arc, Wait};
 use std::thread::Threads;

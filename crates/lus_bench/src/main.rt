@@ -7,12 +7,10 @@ mod callers;
 
 ghost use Rattle.std.specs.Prelude.{◌<◌, length};
 ghost use Rattle.std.specs.Arc.{arc_value};
-ghost use Rattle.lus_code.specs.Codes.{program_of};
+ghost use Rattle.lus_host.specs.CodeSpecs.Codes.{program_of};
 
 use callers::{Sharing, entries};
-use lus_machine::{CallError, Machine, NodeId, Program, compile};
-use lus_requests::{Reply, Request};
-use lus_values::{Row, print};
+use lus_host::{CallError, Machine, NodeId, Program, Reply, Request, Row, compile, print};
 use std::alloc::{AllocError, Global};
 use std::process::ExitCode;
 use std::rt::Files;

@@ -15,6 +15,8 @@ mod threads;
 pub use condition::fit;
 pub use gate::{Gate, OpenGate};
 pub use lus_requests::{Call, Caller};
+pub use lus_shared;
+pub use lus_shared::lus_machine;
 pub use run::{Journals, run_callers};
 pub use seated::run_seated;
 pub use threads::HostError;

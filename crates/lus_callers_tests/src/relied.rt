@@ -1,12 +1,12 @@
 //! What a host relies on: a run over seats under two of its own clauses.
 ghost use Rattle.std.specs.Arc.{arc_value};
-ghost use Rattle.lus_code.specs.Codes.{program_of};
+ghost use Rattle.lus_callers.specs.CodeSpecs.Codes.{program_of};
 ghost use Rattle.std.specs.Prelude.{◌<◌, ◌^◌, true, length, IfOk};
 ghost use Rattle.lus_callers.specs.Scripts.{HasNodes, CallKnown, HaveFewCalls, scripts, shares, histories};
 ghost use Rattle.lus_callers.specs.Served.{AllCounted, AllServed};
 
+use lus_callers::lus_machine::Program;
 use lus_callers::{Caller, Gate, HostError, Journals, run_seated};
-use lus_machine::Program;
 use lus_program::NodeId;
 use std::alloc::Global;
 use std::sync::{Arc, Wait};

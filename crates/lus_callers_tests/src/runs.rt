@@ -1,11 +1,11 @@
 //! Programs, callers, and what their runs leave.
 
 use crate::relied::run_served;
+use lus_callers::lus_machine::{Program, compile};
+use lus_callers::lus_shared::{Journal, LockedNode};
 use lus_callers::{Call, Caller, Gate, HostError, Journals, fit, run_callers};
-use lus_machine::{Program, compile};
 use lus_program::NodeId;
 use lus_requests::{Reply, Request};
-use lus_shared::{Journal, LockedNode};
 use lus_values::{Memory, Row, Value};
 use std::alloc::Global;
 use std::sync::{Arc, Wait};

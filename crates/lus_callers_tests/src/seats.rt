@@ -3,8 +3,8 @@
 ghost use Rattle.std.specs.Prelude.{◌≡◌, [], IfOk};
 
 use crate::runs::{TWO, a_program, a_step, gives, is_journal};
-use lus_machine::Machine;
-use lus_shared::{LockedNode, SeatNode, Shared, Strangers};
+use lus_callers::lus_machine::Machine;
+use lus_callers::lus_shared::{LockedNode, SeatNode, Shared, Strangers};
 use lus_values::Memory;
 use std::alloc::Global;
 use std::sync::Wait;

@@ -1,7 +1,7 @@
 -- What `run` promises of devices, as the end of a run of files.
 use Rattle.std.proofs.Common.{◌≡◌, ◌∙◌, ◌≢◌, ◌⊎◌, inl, inr, sym, subst, refl, Bool, true, false, Option, Some, None, Result, Ok, Err, IfOk, IfErr, IfSome}
 use Rattle.std.proofs.lemmas.Option.{IfSome_then}
-use Rattle.lus_callers.specs.declared.threads.HostError.TheVariants as hosts
+use Rattle.lus_host.specs.CallersSpecs.declared.threads.HostError.TheVariants as hosts
 use Rattle.lus_syntax.specs.declared.refusal.Refusal.{Refusal}
 use Rattle.lus_syntax.specs.declared.refusal.RefusalNumber.{RefusalNumber}
 use Rattle.lus_syntax.specs.declared.refusal.RefusalNumber.TheVariants as numbers

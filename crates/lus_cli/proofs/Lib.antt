@@ -1,3 +1,4 @@
 pub mod EndLemmas
 pub mod Lines
 pub mod Pieces
+pub use Rattle.lus_host.proofs as HostProofs

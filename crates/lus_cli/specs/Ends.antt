@@ -1,7 +1,7 @@
 -- How a command ends: what became of what was asked for, what the output took of it, and what was told.
 use Rattle.std.specs.Prelude.{◌≡◌, ◌⊎◌, ℕ, true, false, Option, Some, None, Result, Ok, Err, ⊤}
 use Rattle.lus_program.specs.Programs.{Program}
-use Rattle.lus_machine.specs.Acceptance.{Accepted}
+use Rattle.lus_host.specs.MachineSpecs.Acceptance.{Accepted}
 use Rattle.lus_devices.specs.Devices.{Bytes, WritesBeginning, one_more, with_text}
 use Rattle.lus_devices.specs.Folders.{Holds, IsMissing, Known, WithFile}
 use Rattle.lus_host.specs.Runs.{BeginsRun, WritesRun}

@@ -2,8 +2,8 @@
 use Rattle.std.specs.Prelude.{◌≡◌, ◌⊎◌, ℕ, ◌++◌, codes, Bool, true, false, Result, Ok, Err}
 use Rattle.std.specs.Fmt.{decimal}
 use Rattle.lus_devices.specs.Devices.{WritesBeginning, with_text}
-use Rattle.lus_callers.specs.declared.threads.HostError.{HostError}
-use Rattle.lus_callers.specs.declared.threads.HostError.TheVariants as hosts
+use Rattle.lus_host.specs.CallersSpecs.declared.threads.HostError.{HostError}
+use Rattle.lus_host.specs.CallersSpecs.declared.threads.HostError.TheVariants as hosts
 use Rattle.lus_host.specs.declared.error.RunError.{RunError}
 use Rattle.lus_host.specs.declared.error.RunError.TheVariants as runs
 use Rattle.lus_scripts.specs.declared.refusal.ScriptRefusal.{ScriptRefusal}

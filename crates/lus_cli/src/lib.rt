@@ -9,5 +9,6 @@ mod words;
 
 pub use fault::{Fault, script_text};
 pub use files::read_file;
+pub use lus_host;
 pub use shell::{command, tell};
 pub use words::{Task, WordsError, matches, read_words};

@@ -5,11 +5,11 @@ use Rattle.lus_syntax.specs.declared.refusal.Refusal.{Refusal}
 use Rattle.lus_syntax.specs.declared.refusal.RefusalNumber.{RefusalNumber}
 use Rattle.lus_syntax.specs.declared.refusal.RefusalNumber.TheVariants as numbers
 use Rattle.lus_program.specs.Programs.{Program}
-use Rattle.lus_machine.specs.Acceptance.{Accepted}
+use Rattle.lus_cli.specs.MachineSpecs.Acceptance.{Accepted}
 use Rattle.lus_devices.specs.Devices.{Bytes}
 use Rattle.lus_devices.specs.Folders.{Known, WithFile}
-use Rattle.lus_host.specs.Sources.{ProgramRefused}
-use Rattle.lus_host.proofs.Sources.{accepted_left, read_whole, refused_left}
+use Rattle.lus_cli.specs.HostSpecs.Sources.{ProgramRefused}
+use Rattle.lus_cli.proofs.HostProofs.Sources.{accepted_left, read_whole, refused_left}
 use Rattle.lus_cli.specs.CommandLine.{Text}
 use Rattle.lus_cli.specs.Ends.{IsLost, IsReadingFault}
 use Rattle.lus_cli.specs.Faults.{program_fault}

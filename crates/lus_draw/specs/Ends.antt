@@ -2,9 +2,9 @@
 use Rattle.std.specs.Prelude.{◌⊎◌, Bool, Option, Some, None, Result, ⊤, is_some}
 use Rattle.lus_syntax.specs.declared.refusal.Refusal.{Refusal}
 use Rattle.lus_program.specs.Programs.{Program}
-use Rattle.lus_machine.specs.Acceptance.{Accepted}
+use Rattle.lus_cli.specs.MachineSpecs.Acceptance.{Accepted}
 use Rattle.lus_devices.specs.Folders.{Known, WithFile}
-use Rattle.lus_host.specs.Sources.{ProgramRefused}
+use Rattle.lus_cli.specs.HostSpecs.Sources.{ProgramRefused}
 use Rattle.lus_cli.specs.Changes.{Change}
 use Rattle.lus_cli.specs.CommandLine.{Text}
 use Rattle.lus_cli.specs.Ends.{IsLost, SaysEnds}

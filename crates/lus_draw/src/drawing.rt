@@ -8,8 +8,8 @@ ghost use Rattle.lus_draw.specs.Drawings.{Draws, IsDiagramFault, IsDrawingFault,
 
 use crate::labels::{labels, node_named};
 use lus_cli::Fault;
+use lus_cli::lus_host::Program;
 use lus_diagrams::{Diagram, Journal, JournalError, draw, push_svg, push_text, read_journals};
-use lus_machine::Program;
 use lus_program::Node;
 use std::alloc::{AllocError, Global};
 use std::str;

@@ -1,6 +1,6 @@
 //! The labels of rows: the names and clocks of a node's inputs and outputs.
 
-use lus_machine::Program;
+use lus_cli::lus_host::Program;
 use lus_program::{Kind, Node, Test, Variable};
 use lus_values::Names;
 use std::alloc::{AllocError, Global};

@@ -1,8 +1,8 @@
 //! The command line over a folder.
 
 ghost use Rattle.std.specs.Prelude.{◌≡◌, IfErr, IfOk, Some, None, map, option_map, string_bytes};
-ghost use Rattle.lus_code.specs.Codes.{program_of};
-ghost use Rattle.lus_machine.specs.Acceptance.{Accepted};
+ghost use Rattle.lus_cli.specs.CodeSpecs.Codes.{program_of};
+ghost use Rattle.lus_cli.specs.MachineSpecs.Acceptance.{Accepted};
 ghost use Rattle.lus_cli.specs.Changes.{change};
 ghost use Rattle.lus_cli.specs.Ends.{AskedEnds, Ends, ReadFails, SaysEnds};
 ghost use Rattle.lus_draw.specs.CommandLine.{asked};
@@ -10,10 +10,9 @@ ghost use Rattle.lus_draw.specs.Ends.{DrawFails, IsCompileFault, IsDrawn, IsName
 
 use crate::drawing::drawing;
 use crate::words::{Task, read_words};
+use lus_cli::lus_host::{Program, RunError, compile, text_of};
 use lus_cli::{Fault, read_file, tell};
 use lus_devices::{Folder, Sink, write_all};
-use lus_host::{RunError, text_of};
-use lus_machine::{Program, compile};
 use lus_syntax::MOST_BYTES;
 use std::alloc::Global;
 

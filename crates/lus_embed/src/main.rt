@@ -3,10 +3,7 @@
 
 ghost use Rattle.std.specs.Prelude.{◌≡◌};
 
-use lus_machine::{Machine, Program, compile};
-use lus_requests::{Reply, Request};
-use lus_shared::{Seat, SeatNode};
-use lus_values::{Row, Value, print};
+use lus_host::{Machine, Program, Reply, Request, Row, Seat, SeatNode, Value, compile, print};
 use std::process::ExitCode;
 use std::sync::Arc;
 

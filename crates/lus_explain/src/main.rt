@@ -1,9 +1,9 @@
 //! `lus_explain PROGRAM [SCRIPTS]`.
 #![tactic(auto)]
 
-use lus_cli::{Fault, tell};
 use lus_devices::{Disk, Output};
 use lus_reports::command;
+use lus_reports::lus_cli::{Fault, tell};
 use std::env;
 use std::io::ErrorKind;
 use std::process::ExitCode;

@@ -9,9 +9,9 @@ use Rattle.lus_values.specs.Lists.{Each, item}
 use Rattle.lus_program.specs.declared.node.NodeId.{NodeId}
 use Rattle.lus_program.specs.Programs.{Program}
 use Rattle.lus_requests.specs.declared.request.Entry.{Entry}
-use Rattle.lus_history.specs.Histories.{History}
-use Rattle.lus_machine.specs.declared.error.CallError.{CallError}
-use Rattle.lus_shared.specs.declared.shared.Journal.{Journal}
+use Rattle.lus_callers.specs.HistorySpecs.Histories.{History}
+use Rattle.lus_callers.specs.MachineSpecs.declared.error.CallError.{CallError}
+use Rattle.lus_callers.specs.SharedSpecs.declared.shared.Journal.{Journal}
 use Rattle.lus_callers.specs.Served.{AllCounted, AllServed, IsHistoryOf}
 use Rattle.lus_requests.specs.declared.call.Call.{Call}
 use Rattle.lus_requests.specs.declared.call.Caller.{Caller}

@@ -1,3 +1,4 @@
 pub mod Sources
 pub mod ScriptErrors
 pub mod Histories
+pub use Rattle.lus_callers.proofs.SharedProofs as SharedProofs

@@ -6,7 +6,7 @@ use Rattle.serde_json.specs.Read.{read}
 use Rattle.lus_values.specs.Names.{Names}
 use Rattle.lus_program.specs.Programs.{Program}
 use Rattle.lus_syntax.specs.Limits.{most_bytes}
-use Rattle.lus_machine.specs.Constructors.{names_of}
+use Rattle.lus_callers.specs.MachineSpecs.Constructors.{names_of}
 use Rattle.lus_devices.specs.Devices.{Bytes}
 use Rattle.lus_host.specs.ScriptRefusals.{AreRefused, AreScripts, ScriptsRefused, are_too_long, are_no_json, are_refused}
 use Rattle.lus_scripts.specs.Scripts.{Scripts, scripts_of}

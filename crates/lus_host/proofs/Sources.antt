@@ -5,7 +5,7 @@ use Rattle.lus_syntax.specs.declared.refusal.Refusal.{Refusal}
 use Rattle.lus_program.specs.Programs.{Program}
 use Rattle.lus_devices.specs.Devices.{Bytes}
 use Rattle.lus_syntax.specs.Limits.{most_bytes}
-use Rattle.lus_machine.specs.Acceptance.{Accepted}
+use Rattle.lus_callers.specs.MachineSpecs.Acceptance.{Accepted}
 use Rattle.lus_host.specs.Sources.{IsNoText, too_long, no_utf8, ProgramRefused, is_no_text, is_refused}
 
 -- where fewer bytes than n were read of those left, they are all

@@ -1,7 +1,7 @@
 -- Which errors a check and a run may answer, by what the devices had left.
 use Rattle.std.specs.Prelude.{◌≡◌, ℕ, ⊤, ◌⊎◌, Option, IfSome}
 use Rattle.lus_program.specs.Programs.{Program}
-use Rattle.lus_machine.specs.Acceptance.{Accepted}
+use Rattle.lus_callers.specs.MachineSpecs.Acceptance.{Accepted}
 use Rattle.lus_callers.specs.declared.threads.HostError.TheVariants as hosts
 use Rattle.lus_devices.specs.Devices.{Bytes, one_more}
 use Rattle.lus_host.specs.ScriptRefusals.{AreRefused}

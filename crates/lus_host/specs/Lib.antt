@@ -3,3 +3,6 @@ pub mod ScriptRefusals
 pub mod Errors
 pub mod Runs
 pub mod View
+pub use Rattle.lus_callers.specs as CallersSpecs
+pub use Rattle.lus_callers.specs.MachineSpecs as MachineSpecs
+pub use Rattle.lus_callers.specs.CodeSpecs as CodeSpecs

@@ -4,12 +4,12 @@ use Rattle.std.specs.List.{AllZip, list_all, sum_by}
 use Rattle.lus_values.specs.Lists.{item}
 use Rattle.lus_program.specs.Programs.{Program}
 use Rattle.lus_requests.specs.declared.request.Entry.{Entry}
-use Rattle.lus_history.specs.Histories.{History}
-use Rattle.lus_machine.specs.Acceptance.{Accepted}
+use Rattle.lus_callers.specs.HistorySpecs.Histories.{History}
+use Rattle.lus_callers.specs.MachineSpecs.Acceptance.{Accepted}
 use Rattle.lus_callers.specs.Fronts.{requests_of, requests_on}
-use Rattle.lus_shared.specs.Knowledge.{kept}
+use Rattle.lus_callers.specs.SharedSpecs.Knowledge.{kept}
 use Rattle.lus_requests.specs.declared.call.Call.{Call}
-use Rattle.lus_machine.specs.Constructors.{names_of}
+use Rattle.lus_callers.specs.MachineSpecs.Constructors.{names_of}
 use Rattle.lus_devices.specs.Devices.{Bytes, WritesBeginning, with_text}
 use Rattle.lus_devices.specs.Journals.{Journal, journals_text}
 use Rattle.lus_host.specs.ScriptRefusals.{AreScripts}

@@ -4,7 +4,7 @@ use Rattle.serde_json.specs.Data.{Data}
 use Rattle.serde_json.specs.Read.{read}
 use Rattle.lus_program.specs.Programs.{Program}
 use Rattle.lus_syntax.specs.Limits.{most_bytes}
-use Rattle.lus_machine.specs.Constructors.{names_of}
+use Rattle.lus_callers.specs.MachineSpecs.Constructors.{names_of}
 use Rattle.lus_devices.specs.Devices.{Bytes}
 use Rattle.lus_scripts.specs.Scripts.{Scripts, scripts_of}
 use Rattle.lus_scripts.specs.declared.refusal.ScriptRefusal.{ScriptRefusal}

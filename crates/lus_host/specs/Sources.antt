@@ -8,7 +8,7 @@ use Rattle.lus_syntax.specs.Places.{start, place_behind}
 use Rattle.lus_syntax.specs.Tokens.{IsAt}
 use Rattle.lus_syntax.specs.Limits.{most_bytes}
 use Rattle.lus_program.specs.Programs.{Program}
-use Rattle.lus_machine.specs.Acceptance.{Accepted, RefusedWith}
+use Rattle.lus_callers.specs.MachineSpecs.Acceptance.{Accepted, RefusedWith}
 use Rattle.lus_devices.specs.Devices.{Bytes, WritesBeginning, with_text}
 
 -- the longest front that is UTF-8

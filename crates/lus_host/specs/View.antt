@@ -3,7 +3,7 @@ use Rattle.std.specs.Prelude.{Bool, List, is_some, map, not}
 use Rattle.std.specs.List.{list_all}
 use Rattle.std.specs.Arc.{arc_value}
 use Rattle.lus_requests.specs.declared.request.Entry.{Entry}
-use Rattle.lus_code.specs.Codes.{program_of}
+use Rattle.lus_callers.specs.CodeSpecs.Codes.{program_of}
 use Rattle.lus_scripts.specs.View.{scripts_seen}
 use Rattle.lus_devices.specs.Devices.{Bytes}
 use Rattle.lus_host.specs.Runs.{run_text}

@@ -3,14 +3,14 @@
 ghost use Rattle.std.specs.Arc.{arc_value};
 ghost use Rattle.std.specs.Prelude.{◌≡◌, ◌≢◌, IfOk, Err, map, is_some, not};
 ghost use Rattle.std.specs.List.{list_all};
-ghost use Rattle.lus_code.specs.Codes.{program_of};
+ghost use Rattle.lus_callers.specs.CodeSpecs.Codes.{program_of};
 ghost use Rattle.lus_callers.specs.declared.threads.HostError.TheVariants.{Seats};
 ghost use Rattle.lus_host.specs.Runs.{AreHistories};
 ghost use Rattle.lus_scripts.specs.Scripts.{HaveNodes};
 ghost use Rattle.lus_scripts.specs.View.{scripts_seen};
 
+use lus_callers::lus_machine::{CallError, Program};
 use lus_callers::{Gate, HostError, Journals, run_seated};
-use lus_machine::{CallError, Program};
 use lus_program::NodeId;
 use lus_scripts::{Instance, Scripts};
 use std::alloc::{AllocError, Global};

@@ -1,4 +1,4 @@
-//! Checks of programs, and runs of programs with scripts.
+//! Checks of programs, runs of programs with scripts, and all else that a host of compiled nodes calls.
 #![tactic(auto)]
 
 mod answering;
@@ -11,12 +11,20 @@ mod text;
 
 pub use checking::check;
 pub use error::RunError;
-pub use lus_callers::{Call, Caller, Gate, HostError, OpenGate};
+pub use lus_callers::lus_machine::{CallError, Field, Formal, Machine, NodeId, Program, compile};
+pub use lus_callers::lus_shared::{
+    Busy, LockedNode, LockedSeat, Seat, SeatNode, Shared, Strangers, TryError,
+};
+pub use lus_callers::{
+    Call, Caller, Gate, HostError, Journals, OpenGate, fit, run_callers, run_seated,
+};
 pub use lus_devices::{
     Failure, Input, Journal, Output, ReadError, Sink, Source, WriteError, read_at_most, write_all,
     write_journals,
 };
+pub use lus_requests::{Entry, Reply, Request, Why};
 pub use lus_scripts::{Instance, ScriptRefusal, Scripts, read_scripts};
 pub use lus_syntax::MOST_BYTES;
+pub use lus_values::{Memory, Names, Row, Value, print};
 pub use running::run;
 pub use text::text_of;

@@ -2,7 +2,7 @@
 
 ghost use Rattle.std.specs.Prelude.{◌≡◌, ◌<◌, ◌≤◌, ◌^◌, IfOk, IfErr, IfSome, Err, length};
 ghost use Rattle.lus_program.specs.View.{program_seen};
-ghost use Rattle.lus_machine.specs.Constructors.{names_of};
+ghost use Rattle.lus_callers.specs.MachineSpecs.Constructors.{names_of};
 ghost use Rattle.lus_devices.specs.Devices.{one_more};
 ghost use Rattle.lus_host.specs.Errors.{IsScriptsError};
 ghost use Rattle.lus_host.specs.ScriptRefusals.{AreRefused, AreScripts};

@@ -3,16 +3,16 @@
 ghost use Rattle.std.specs.Prelude.{◌≡◌, ◌≢◌, ◌+◌, ◌⊎◌, IfOk, IfErr, IfSome, Err, take};
 ghost use Rattle.lus_syntax.specs.declared.refusal.RefusalNumber.TheVariants as numbers;
 ghost use Rattle.lus_syntax.specs.Limits.{most_bytes};
-ghost use Rattle.lus_code.specs.Codes.{program_of};
+ghost use Rattle.lus_callers.specs.CodeSpecs.Codes.{program_of};
 ghost use Rattle.lus_devices.specs.Devices.{one_more};
-ghost use Rattle.lus_machine.specs.Acceptance.{Accepted, AcceptedWith, IsAccepted};
+ghost use Rattle.lus_callers.specs.MachineSpecs.Acceptance.{Accepted, AcceptedWith, IsAccepted};
 ghost use Rattle.lus_host.specs.Errors.{IsReadingError};
 ghost use Rattle.lus_host.specs.Sources.{ProgramRefused};
 
 use crate::error::RunError;
 use crate::text::text_of;
+use lus_callers::lus_machine::{Program, check, compile};
 use lus_devices::{ReadError, Source, read_at_most};
-use lus_machine::{Program, check, compile};
 use lus_syntax::{MOST_BYTES, Refusal};
 use std::alloc::Global;
 

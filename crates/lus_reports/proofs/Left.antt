@@ -4,12 +4,12 @@ use Rattle.lus_syntax.specs.Limits.{most_bytes}
 use Rattle.lus_syntax.specs.declared.refusal.Refusal.{Refusal}
 use Rattle.lus_syntax.specs.Lexemes.{Text}
 use Rattle.lus_program.specs.Programs.{Program}
-use Rattle.lus_machine.specs.Acceptance.{Accepted}
+use Rattle.lus_cli.specs.MachineSpecs.Acceptance.{Accepted}
 use Rattle.lus_devices.specs.Devices.{Bytes}
 use Rattle.lus_devices.specs.Folders.{Known, WithFile}
-use Rattle.lus_host.specs.Sources.{no_utf8, too_long}
-use Rattle.lus_host.proofs.Sources.{accepted_left, read_part, read_whole}
-use Rattle.lus_host.proofs.ScriptErrors.{error_left, scripts_left}
+use Rattle.lus_cli.specs.HostSpecs.Sources.{no_utf8, too_long}
+use Rattle.lus_cli.proofs.HostProofs.Sources.{accepted_left, read_part, read_whole}
+use Rattle.lus_cli.proofs.HostProofs.ScriptErrors.{error_left, scripts_left}
 use Rattle.lus_cli.specs.Ends.{WithFiles}
 use Rattle.lus_reports.specs.Explanations.{IsExplained, is_no_text, is_refused}
 use Rattle.lus_reports.specs.Verdicts as verdicts

@@ -7,8 +7,8 @@ use Rattle.lus_syntax.specs.Refusals.{cycle_text, number_text}
 use Rattle.lus_syntax.specs.declared.refusal.Refusal.{Refusal}
 use Rattle.lus_syntax.specs.declared.refusal.RefusalNumber.{RefusalNumber}
 use Rattle.lus_syntax.specs.declared.refusal.RefusalNumber.TheVariants as numbers
-use Rattle.lus_machine.specs.Acceptance.{RefusedWith}
-use Rattle.lus_host.specs.Sources.{IsNoText}
+use Rattle.lus_cli.specs.MachineSpecs.Acceptance.{RefusedWith}
+use Rattle.lus_cli.specs.HostSpecs.Sources.{IsNoText}
 use Rattle.lus_reports.specs.Lines.{blanks, line_at}
 use Rattle.lus_reports.specs.Sentences.{fault_of, sentence_of}
 

@@ -7,8 +7,8 @@ use Rattle.lus_program.specs.Programs.{Program}
 use Rattle.lus_scripts.specs.Scripts.{Scripts}
 use Rattle.lus_scripts.specs.declared.refusal.ScriptRefusal.{ScriptRefusal}
 use Rattle.lus_scripts.specs.declared.refusal.ScriptRefusal.TheVariants as refusals
-use Rattle.lus_machine.specs.Acceptance.{Accepted}
-use Rattle.lus_host.specs.ScriptRefusals.{AreRefused, AreScripts}
+use Rattle.lus_cli.specs.MachineSpecs.Acceptance.{Accepted}
+use Rattle.lus_cli.specs.HostSpecs.ScriptRefusals.{AreRefused, AreScripts}
 use Rattle.lus_reports.specs.Complaints.{SaysRefusal, counts_text}
 use Rattle.lus_reports.specs.Explanations.{IsExplained, report_text}
 use Rattle.lus_reports.specs.declared.verdict.File.{File}

@@ -1,13 +1,12 @@
 //! Why a program is refused, with the line of its source where it shows.
 
 ghost use Rattle.std.specs.Prelude.{IfErr, IfOk, option_map};
-ghost use Rattle.lus_code.specs.Codes.{program_of};
-ghost use Rattle.lus_machine.specs.Acceptance.{Accepted};
+ghost use Rattle.lus_cli.specs.CodeSpecs.Codes.{program_of};
+ghost use Rattle.lus_cli.specs.MachineSpecs.Acceptance.{Accepted};
 ghost use Rattle.lus_reports.specs.Explanations.{IsExplained};
 
 use crate::lines::line_at;
-use lus_host::text_of;
-use lus_machine::{Program, compile};
+use lus_cli::lus_host::{Program, compile, text_of};
 use lus_syntax::Refusal;
 use std::alloc::Global;
 

@@ -4,7 +4,7 @@ use crate::check::Check;
 use crate::finding::Finding;
 use crate::form::{items_at, text_at};
 use crate::spot::Spot;
-use lus_machine::Program;
+use lus_cli::lus_host::Program;
 use lus_scripts::{MOST_CALLERS, MOST_CALLS, MOST_INSTANCES};
 use serde_json::Value;
 

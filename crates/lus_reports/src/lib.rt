@@ -22,6 +22,7 @@ mod words;
 pub use check::Check;
 pub use explanation::{Explanation, explain};
 pub use finding::{Finding, Found};
+pub use lus_cli;
 pub use outlining::outline;
 pub use reporting::report;
 pub use scripts::{Complaint, explain_scripts, report_scripts};

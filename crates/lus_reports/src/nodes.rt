@@ -1,8 +1,8 @@
 //! What is said of a node.
 
-use lus_meaning::Typed;
 use lus_program::{Declared, Kind, Node, Test, Variable};
 use lus_syntax::NodeKind;
+use lus_types::Typed;
 use std::alloc::AllocError;
 
 /// The program that a source means, with the names of its declared types.

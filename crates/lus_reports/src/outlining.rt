@@ -2,8 +2,8 @@
 
 use crate::nodes::{Source, push_node};
 use lus_cells::cells_of_nodes;
+use lus_cli::lus_host::text_of;
 use lus_grammar::parse;
-use lus_host::text_of;
 use lus_syntax::{Refusal, Tree, lex};
 use lus_types::check_types;
 use std::alloc::{AllocError, Global};

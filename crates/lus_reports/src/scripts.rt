@@ -3,8 +3,8 @@
 ghost use Rattle.std.specs.Prelude.{◌≡◌, ◌++◌, IfErr, IfOk, OnOk, codes, option_map, string_bytes};
 ghost use Rattle.lus_cli.specs.Faults.{script_text};
 ghost use Rattle.lus_reports.specs.Complaints.{SaysRefusal, complaint_text, found_text, meaning_of, wanted_text};
-ghost use Rattle.lus_code.specs.Codes.{program_of};
-ghost use Rattle.lus_host.specs.ScriptRefusals.{AreRefused, AreScripts};
+ghost use Rattle.lus_cli.specs.CodeSpecs.Codes.{program_of};
+ghost use Rattle.lus_cli.specs.HostSpecs.ScriptRefusals.{AreRefused, AreScripts};
 ghost use Rattle.lus_scripts.specs.View.{scripts_seen};
 
 use crate::check::Check;
@@ -14,8 +14,8 @@ use crate::json::fault_at;
 use crate::known::{doubled_name, too_many, unknown_name};
 use crate::lines::place_behind;
 use crate::value::wrong_value;
+use lus_cli::lus_host::Program;
 use lus_cli::script_text;
-use lus_machine::Program;
 use lus_scripts::{ScriptRefusal, Scripts, read_scripts};
 use lus_syntax::MOST_BYTES;
 use serde_json::Value;

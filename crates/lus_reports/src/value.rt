@@ -5,7 +5,7 @@ use crate::finding::Finding;
 use crate::form::{items_at, member_count, text_at};
 use crate::known::place_named;
 use crate::spot::Spot;
-use lus_machine::{Field, Formal, Program};
+use lus_cli::lus_host::{Field, Formal, Program};
 use lus_program::Kind;
 use lus_syntax::MOST_NESTING;
 use serde_json::Value;

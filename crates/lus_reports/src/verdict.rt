@@ -3,7 +3,7 @@
 ghost use Rattle.std.specs.Prelude.{◌≡◌, ◌≢◌, IfErr, IfOk, OnOk, option_map, string_bytes};
 ghost use Rattle.lus_syntax.specs.declared.refusal.RefusalNumber.TheVariants as numbers;
 ghost use Rattle.lus_scripts.specs.declared.refusal.ScriptRefusal.TheVariants as refusals;
-ghost use Rattle.lus_code.specs.Codes.{program_of};
+ghost use Rattle.lus_cli.specs.CodeSpecs.Codes.{program_of};
 ghost use Rattle.lus_scripts.specs.View.{scripts_seen};
 ghost use Rattle.lus_cli.specs.declared.fault.Fault.TheVariants as faults;
 ghost use Rattle.lus_reports.specs.Complaints.{SaysRefusal, counts_text};
@@ -15,7 +15,7 @@ use crate::outlining::outline;
 use crate::reporting::report;
 use crate::scripts::{Complaint, explain_scripts, report_scripts};
 use lus_cli::Fault;
-use lus_machine::Program;
+use lus_cli::lus_host::Program;
 use lus_scripts::{ScriptRefusal, Scripts};
 use lus_syntax::RefusalNumber;
 use std::alloc::Global;

@@ -17,7 +17,7 @@ impl Model for View {
     ghost use Rattle.lus_shared.specs.Knowledge.{Sight};
     ghost use Rattle.std.specs.Coded.{codes};
     ghost use Rattle.lus_values.specs.Coded.{coded_row};
-    ghost use Rattle.lus_history.specs.CodedPrograms.{coded_expression};
+    ghost use Rattle.lus_machine.specs.HistorySpecs.CodedPrograms.{coded_expression};
 
     ghost Value = { Sight };
 

@@ -36,7 +36,7 @@ impl Model for SeatNode {
     ghost use Rattle.lus_shared.specs.Key.{origin_of};
     ghost use Rattle.std.specs.Coded.{codes};
     ghost use Rattle.lus_values.specs.Coded.{coded_value};
-    ghost use Rattle.lus_history.specs.CodedPrograms.{coded_expression};
+    ghost use Rattle.lus_machine.specs.HistorySpecs.CodedPrograms.{coded_expression};
 
     ghost Value = { Instance };
 
@@ -61,7 +61,7 @@ impl Model for Seat {
     ghost use Rattle.lus_shared.specs.Views.{standing_of, facts_of, IsSeated};
     ghost use Rattle.std.specs.Coded.{codes};
     ghost use Rattle.lus_values.specs.Coded.{coded_row};
-    ghost use Rattle.lus_history.specs.CodedPrograms.{coded_expression};
+    ghost use Rattle.lus_machine.specs.HistorySpecs.CodedPrograms.{coded_expression};
 
     ghost Value = { Standing };
 
@@ -192,7 +192,7 @@ impl Model for Held {
     ghost use Rattle.lus_shared.specs.Views.{standing_of, facts_of, IsTaker};
     ghost use Rattle.std.specs.Coded.{codes};
     ghost use Rattle.lus_values.specs.Coded.{coded_row};
-    ghost use Rattle.lus_history.specs.CodedPrograms.{coded_expression};
+    ghost use Rattle.lus_machine.specs.HistorySpecs.CodedPrograms.{coded_expression};
 
     ghost Value = { Standing };
 

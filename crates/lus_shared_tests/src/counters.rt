@@ -1,9 +1,9 @@
 //! A node that counts its steps, with two seats.
 ghost use Rattle.std.specs.Prelude.{◌≡◌, [], IfOk};
 
-use lus_machine::{Machine, compile};
 use lus_program::NodeId;
 use lus_requests::{Reply, Request};
+use lus_shared::lus_machine::{Machine, compile};
 use lus_shared::{Seat, SeatNode};
 use lus_values::{Memory, Row, Value};
 use std::alloc::Global;

@@ -1,13 +1,13 @@
 //! What a host relies on: each function makes one call, and its contract is what that call's contract says to a host.
 ghost use Rattle.std.specs.Prelude.{◌≡◌, ◌++◌, ◌∷◌, [], length, IfOk, IfErr};
 ghost use Rattle.std.specs.List.{All};
-ghost use Rattle.lus_machine.specs.Machines.{entry};
+ghost use Rattle.lus_shared.specs.MachineSpecs.Machines.{entry};
 ghost use Rattle.lus_shared.specs.Closing.{Closed};
 ghost use Rattle.lus_shared.specs.Trait.{EndsIn};
 ghost use Rattle.lus_shared.specs.Views.{Adds, Sees};
 
-use lus_machine::{CallError, Machine};
 use lus_requests::{Reply, Request};
+use lus_shared::lus_machine::{CallError, Machine};
 use lus_shared::{Journal, Seat, SeatNode, Shared, Strangers, TryError};
 use std::sync::Wait;
 

@@ -1,5 +1,5 @@
 use denote.Param.Send.{sendable}
-use Rattle.lus_shared.proofs.Sent.{locked_sync}
+use Rattle.lus_callers.proofs.SharedProofs.Sent.{locked_sync}
 use Rattle.lus_callers_tests.proofs.runs.locked.Goals as goal
 
 pub run_callers-requires-sync-N : goal.run_callers-requires-sync-N

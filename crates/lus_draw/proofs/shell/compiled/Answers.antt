@@ -1,7 +1,7 @@
 -- A refusal by a pass is one of the bytes, or want of memory.
 use Rattle.std.proofs.Common.{refl, subst}
-use Rattle.lus_machine.specs.Acceptance.{RefusedWith}
-use Rattle.lus_host.specs.Sources.{is_refused}
+use Rattle.lus_cli.specs.MachineSpecs.Acceptance.{RefusedWith}
+use Rattle.lus_cli.specs.HostSpecs.Sources.{is_refused}
 use Rattle.lus_draw.proofs.Files.{refusal_fault}
 use Rattle.lus_draw.proofs.shell.compiled.Goals as goal
 

@@ -2,8 +2,8 @@
 use Rattle.std.proofs.Common.{◌+◌, refl, subst}
 use Rattle.std.proofs.lemmas.Result.{IfErr-weaker, IfOk-weaker}
 use Rattle.lus_syntax.specs.Limits.{most_bytes}
-use Rattle.lus_code.specs.Codes.{program_of}
-use Rattle.lus_machine.specs.Acceptance.{Accepted}
+use Rattle.lus_cli.specs.CodeSpecs.Codes.{program_of}
+use Rattle.lus_cli.specs.MachineSpecs.Acceptance.{Accepted}
 use Rattle.lus_cli.specs.Ends.{ReadFails}
 use Rattle.lus_draw.specs.Ends.{IsCompileFault}
 use Rattle.lus_draw.proofs.Files.{compile_fault, named}

@@ -4,7 +4,7 @@ use Rattle.std.proofs.lemmas.Option.{IfSome_then}
 use Rattle.lus_syntax.specs.Limits.{most_bytes}
 use Rattle.lus_host.specs.Sources.{ProgramRefused}
 use Rattle.lus_host.proofs.Sources.{refused_left, short_left}
-use Rattle.lus_machine.specs.Acceptance.{AcceptedWith}
+use Rattle.lus_callers.specs.MachineSpecs.Acceptance.{AcceptedWith}
 use Rattle.lus_host.proofs.program.count_nodes.Goals as goal
 
 pub returns-in-Ok-clause-ok : goal.returns-in-Ok-clause-ok

@@ -1,7 +1,7 @@
 -- Bytes are refused as no text, or as the text that they are.
 use Rattle.std.proofs.Common.{subst}
 use Rattle.std.proofs.lemmas.Result.{IfErr-weaker}
-use Rattle.lus_machine.specs.Acceptance.{RefusedWith}
+use Rattle.lus_callers.specs.MachineSpecs.Acceptance.{RefusedWith}
 use Rattle.lus_host.specs.Sources.{is_no_text, is_refused}
 use Rattle.lus_host.proofs.program.count_of.Goals as goal
 

@@ -4,8 +4,8 @@ use Rattle.std.proofs.lemmas.Option.{IfSome_then}
 use Rattle.lus_syntax.specs.Limits.{most_bytes}
 use Rattle.lus_host.specs.Sources.{ProgramRefused}
 use Rattle.lus_host.proofs.Sources.{refused_left, short_left}
-use Rattle.lus_code.specs.Codes.{program_of}
-use Rattle.lus_machine.specs.Acceptance.{Accepted}
+use Rattle.lus_callers.specs.CodeSpecs.Codes.{program_of}
+use Rattle.lus_callers.specs.MachineSpecs.Acceptance.{Accepted}
 use Rattle.lus_host.proofs.program.read_program.Goals as goal
 
 pub returns-in-Ok-clause-ok : goal.returns-in-Ok-clause-ok

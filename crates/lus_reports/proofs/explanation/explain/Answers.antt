@@ -1,6 +1,6 @@
 -- Bytes are refused as no text, or as the text that they are, at a line of it.
 use Rattle.std.proofs.Common.{◌≡◌, ◌∙◌, ap, sym, subst, option_map}
-use Rattle.lus_machine.specs.Acceptance.{RefusedWith}
+use Rattle.lus_cli.specs.MachineSpecs.Acceptance.{RefusedWith}
 use Rattle.lus_reports.specs.Explanations.{IsExplained, is_no_text, is_refused}
 use Rattle.lus_reports.specs.Lines.{line_at}
 use Rattle.lus_reports.proofs.explanation.explain.Goals as goal

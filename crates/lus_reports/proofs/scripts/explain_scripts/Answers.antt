@@ -1,11 +1,11 @@
 -- The clauses of reading, in the words of a run.
 use Rattle.std.proofs.Common.{◌≡◌, ◌∙◌, ap, sym, subst, Result, Err}
 use Rattle.lus_program.specs.View.{program_seen}
-use Rattle.lus_machine.specs.Constructors.{names_of}
-use Rattle.lus_host.specs.ScriptRefusals.{AreRefused}
+use Rattle.lus_cli.specs.MachineSpecs.Constructors.{names_of}
+use Rattle.lus_cli.specs.HostSpecs.ScriptRefusals.{AreRefused}
 use Rattle.lus_scripts.specs.declared.refusal.ScriptRefusal.{ScriptRefusal}
 use Rattle.lus_scripts.specs.declared.scripts.Scripts.{Scripts}
-use Rattle.lus_host.proofs.ScriptErrors.{read_refused}
+use Rattle.lus_cli.proofs.HostProofs.ScriptErrors.{read_refused}
 use Rattle.lus_reports.proofs.scripts.explain_scripts.Goals as goal
 
 pub returns-in-Err-clause-refused : goal.returns-in-Err-clause-refused

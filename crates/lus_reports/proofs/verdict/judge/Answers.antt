@@ -2,7 +2,7 @@
 use Rattle.std.proofs.Common.{◌≡◌, ◌≢◌, sym, subst, IfOk, option_map, string_bytes}
 use Rattle.std.proofs.lemmas.Result.{IfOk-weaker}
 use Rattle.lus_syntax.specs.declared.refusal.RefusalNumber.TheVariants.{Memory}
-use Rattle.lus_code.specs.Codes.{program_of}
+use Rattle.lus_cli.specs.CodeSpecs.Codes.{program_of}
 use Rattle.lus_reports.specs.Explanations.{report_text}
 use Rattle.lus_reports.specs.Verdicts.{IsVerdict, are_judged, file_seen, is_accepted, is_refused, verdict_seen}
 use Rattle.lus_reports.proofs.Statuses.{by_three}

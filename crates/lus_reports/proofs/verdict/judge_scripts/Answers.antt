@@ -1,6 +1,6 @@
 -- Scripts are accepted, or refused for another cause than memory.
 use Rattle.std.proofs.Common.{◌≡◌, ◌≢◌, string_bytes}
-use Rattle.lus_code.specs.Codes.{program_of}
+use Rattle.lus_cli.specs.CodeSpecs.Codes.{program_of}
 use Rattle.lus_scripts.specs.View.{scripts_seen}
 use Rattle.lus_scripts.specs.declared.refusal.ScriptRefusal.TheVariants.{Memory}
 use Rattle.lus_reports.specs.Complaints.{SaysRefusal, counts_text}
