@@ -4,7 +4,7 @@ use Rattle.std.proofs.lemmas.List.Sums.{sum_by-cons}
 use Rattle.lus_program.specs.declared.types.Kind.{Kind}
 use Rattle.lus_program.specs.declared.types.Kind.TheVariants as kinds
 use Rattle.lus_program.specs.declared.node.Equation.{Equation as StoredEquation}
-use Rattle.lus_program.specs.Programs.{Expression, literal, variable, operate, pre, arrow, fby, when, merge, call, Operands, none, more, calls, numbered, all_numbered, Node, Program}
+use Rattle.lus_program.specs.Programs.{Expression, literal, variable, operate, pre, arrow, when, merge, call, Operands, none, more, calls, numbered, all_numbered, Node, Program}
 use Rattle.lus_program.specs.View.{expression_of, equations_from}
 use Rattle.lus_meaning.specs.Resolved.{nodes_called, all_nodes_called}
 use Rattle.lus_cells.specs.Cells.{expression_cells, operand_cells, kind_leaves}
@@ -18,7 +18,6 @@ mutual
   called_numbered n (operate o es) = all_called_numbered n es
   called_numbered n (pre a) = called_numbered n a
   called_numbered n (arrow a b) = ap₂ ◌++◌ (called_numbered n a) (called_numbered (n + calls a) b)
-  called_numbered n (fby a b) = ap₂ ◌++◌ (called_numbered n a) (called_numbered (n + calls a) b)
   called_numbered n (when t a) = called_numbered n a
   called_numbered n (merge x bs) = all_called_numbered n bs
   called_numbered n (call g c es) = ap (λ gs. g ∷ gs) (all_called_numbered (suc n) es)
@@ -39,7 +38,6 @@ module _ (p : Program) (f : Node) where
     given_numbered n (operate o es) = ap (operator_given p o) (last_numbered n kinds.Bool es)
     given_numbered n (pre a) = given_numbered n a
     given_numbered n (arrow a b) = given_numbered n a
-    given_numbered n (fby a b) = given_numbered n a
     given_numbered n (when t a) = given_numbered n a
     given_numbered n (merge x bs) = last_numbered n kinds.Bool bs
     given_numbered n (call g c es) = refl
@@ -62,7 +60,6 @@ module _ (p : Program) (f : Node) where
       cells_numbered n (operate o es) = all_cells_numbered n es
       cells_numbered n (pre a) = ap₂ ◌+◌ (size_numbered n a) (cells_numbered n a)
       cells_numbered n (arrow a b) = ap (λ m. 1 + m) (ap₂ ◌+◌ (cells_numbered n a) (cells_numbered (n + calls a) b))
-      cells_numbered n (fby a b) = ap₂ ◌+◌ (ap (λ m. 1 + m) (size_numbered n a)) (ap₂ ◌+◌ (cells_numbered n a) (cells_numbered (n + calls a) b))
       cells_numbered n (when t a) = cells_numbered n a
       cells_numbered n (merge x bs) = all_cells_numbered n bs
       cells_numbered n (call g c es) = ap (λ m. max 1 (at g) + m) (all_cells_numbered (suc n) es)

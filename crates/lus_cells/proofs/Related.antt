@@ -5,7 +5,7 @@ use Rattle.std.proofs.lemmas.List.Sums.{sum_by-cons}
 use Rattle.lus_values.specs.Lists.{Each}
 use Rattle.lus_program.specs.declared.types.Kind.{Kind}
 use Rattle.lus_program.specs.declared.types.Kind.TheVariants as kinds
-use Rattle.lus_program.specs.Programs.{Expression, literal, variable, operate, pre, arrow, fby, when, merge, call, Operands, none, more, Declared, alias, enumeration, structure, Field, Equation, Node, Program}
+use Rattle.lus_program.specs.Programs.{Expression, literal, variable, operate, pre, arrow, when, merge, call, Operands, none, more, Declared, alias, enumeration, structure, Field, Equation, Node, Program}
 use Rattle.lus_meaning.specs.Resolved.{EquationFits, kinds_given_in, nodes_called, all_nodes_called}
 use Rattle.lus_resolution.proofs.Typed.{HasKind, HaveKinds, operate_typed, both_typed, when_typed, merge_typed, call_typed, more_typed, whole_call, whole_typed, fits_given}
 use Rattle.lus_cells.specs.Cells.{kind_leaves, declared_leaves, expression_cells, operand_cells}
@@ -66,11 +66,6 @@ module _ (R : ℕ → ℕ → Type 0) (same : (n : ℕ) → R n n) (sum : (a a' 
       cells_related (arrow a b) k h =
           let both = both_typed p f a b k in
           sum 1 1 (here a + here b) (there a + there b) (same 1) (sum (here a) (there a) (here b) (there b)
-          (cells_related a both.0 (left_called (nodes_called a) (nodes_called b) h))
-          (cells_related b both.1 (right_called (nodes_called a) (nodes_called b) h)))
-      cells_related (fby a b) k h =
-          let both = both_typed p f a b k in
-          sum (1 + size a) (1 + size' a) (here a + here b) (there a + there b) (sum 1 1 (size a) (size' a) (same 1) (sized a both.0)) (sum (here a) (there a) (here b) (there b)
           (cells_related a both.0 (left_called (nodes_called a) (nodes_called b) h))
           (cells_related b both.1 (right_called (nodes_called a) (nodes_called b) h)))
       cells_related (when t a) k h = cells_related a (when_typed p f t a k).1 h

@@ -7,7 +7,7 @@ use Rattle.lus_program.specs.declared.node.Node.{Node as StoredNode}
 use Rattle.lus_program.specs.declared.node.Program.{Program as StoredProgram}
 use Rattle.lus_program.specs.declared.types.Kind.{Kind}
 use Rattle.lus_program.specs.declared.types.Kind.TheVariants as kinds
-use Rattle.lus_program.specs.Programs.{Expression, literal, variable, operate, pre, arrow, fby, when, merge, call, Operands, none, more, Declared, alias, enumeration, structure, Node, Program, node_at}
+use Rattle.lus_program.specs.Programs.{Expression, literal, variable, operate, pre, arrow, when, merge, call, Operands, none, more, Declared, alias, enumeration, structure, Node, Program, node_at}
 use Rattle.lus_program.specs.View.{program_seen}
 use Rattle.lus_meaning.specs.Resolved.{declared_in, kind_in}
 
@@ -38,8 +38,7 @@ leaves_given at None = 0
 leaves_given at (Some k) = kind_leaves at k
 
 -- The cells of an expression, where what an expression gives has `size` leaves and node g has `at g` cells: for each `pre`
--- and each `fby` the leaves of its type, one for each `->` and each `fby`, and for each call the cells of the called node,
--- but at least one.
+-- the leaves of its type, one for each `->`, and for each call the cells of the called node, but at least one.
 module _ (size : Expression → ℕ) (at : ℕ → ℕ) where
   abbrev mutual
     pub expression_cells : Expression → ℕ
@@ -48,7 +47,6 @@ module _ (size : Expression → ℕ) (at : ℕ → ℕ) where
     expression_cells (operate o es) = operand_cells es
     expression_cells (pre a) = size a + expression_cells a
     expression_cells (arrow a b) = 1 + (expression_cells a + expression_cells b)
-    expression_cells (fby a b) = (1 + size a) + (expression_cells a + expression_cells b)
     expression_cells (when t a) = expression_cells a
     expression_cells (merge x bs) = operand_cells bs
     expression_cells (call g n es) = max 1 (at g) + operand_cells es

@@ -28,10 +28,6 @@ fn push_called(expr: &Expr, found: &mut Vec<u32>) -> Result<(), Memory>
             push_called(first, found)?;
             push_called(later, found)
         }
-        Form::Fby(first, later) => {
-            push_called(first, found)?;
-            push_called(later, found)
-        }
         Form::When(_, operand) => push_called(operand, found),
         Form::Merge(_, branches) => push_all_called(branches, found),
         Form::Call(called, arguments) => {

@@ -70,12 +70,6 @@ fn weigh(program: &Program, node: &Node, leaves: &[u32], cells: &[u32], expr: &E
             let later = weigh(program, node, leaves, cells, later);
             first.with(later.cells).with(1)
         }
-        Form::Fby(first, later) => {
-            let first = weigh(program, node, leaves, cells, first);
-            let later = weigh(program, node, leaves, cells, later);
-            let kept = kind_leaves(leaves, first.kind);
-            first.with(later.cells).with(1).with(kept)
-        }
         Form::When(_, operand) => weigh(program, node, leaves, cells, operand),
         Form::Merge(_, branches) => weigh_all(program, node, leaves, cells, branches),
         Form::Call(called, arguments) => {

@@ -6,7 +6,7 @@ use Rattle.std.proofs.lemmas.Bool.{and_parts, and_from, eqb-true}
 use Rattle.lus_values.specs.Values.{Value, bool, int, enum, struct, nil, Row}
 use Rattle.lus_values.specs.Lists.{item, Each}
 use Rattle.lus_values.specs.Operators.{apply}
-use Rattle.lus_program.specs.Programs.{Expression, literal, variable, operate, pre, arrow, fby, when, merge, call, Operands, none, more, Node, Program}
+use Rattle.lus_program.specs.Programs.{Expression, literal, variable, operate, pre, arrow, when, merge, call, Operands, none, more, Node, Program}
 use Rattle.lus_streams.specs.Clocks.{Clock, Part, at, parts, operand_parts, branch_parts}
 use Rattle.lus_streams.specs.Streams.{Instant, instant, Called, World, row_of, entry, is_constructor, holds, is_on, at_last, with_operand, with_operands, value, values, branch, HasValue}
 use Rattle.lus_streams.proofs.Lists.{each_left, each_right, each_append}
@@ -41,26 +41,6 @@ arrow_none (Some u) (Some v) hu hv = refl
 arrow_is : (k : Clock) (past : World) (u v : Option Value) → IsSome u → IsSome v → chosen (Some (never_on k past)) u v ≡ at_last k past u (λ i before. v)
 arrow_is k [] u v hu hv = arrow_none u v hu hv
 arrow_is k (i ∷ past) u v hu hv = arrow_step (is_on k i) (never_on k past) u v (at_last k past u (λ j before. v)) hu hv (arrow_is k past u v hu hv)
-
--- and `fby`, whose later value is a cell's
-fby_here : (u w : Option Value) → IsSome u → chosen (Some false) u w ≡ w
-fby_here None w hu = absurd (never hu)
-fby_here (Some u) None hu = refl
-fby_here (Some u) (Some w) hu = refl
-
-fby_step : (b n : Bool) (u w z first : Option Value) → IsSome u → chosen (Some n) u z ≡ first
-    → chosen (Some (elim b [ true ↦ false | false ↦ n ])) u (either b w z) ≡ either b w first
-fby_step true n u w z first hu e = fby_here u w hu
-fby_step false n u w z first hu e = e
-
-fby_none : (u : Option Value) → IsSome u → chosen (Some true) u (Some nil) ≡ u
-fby_none None hu = absurd (never hu)
-fby_none (Some u) hu = refl
-
-fby_is : (k : Clock) (past : World) (u : Option Value) (g : Instant → World → Option Value) → IsSome u
-    → chosen (Some (never_on k past)) u (at_last k past (Some nil) g) ≡ at_last k past u g
-fby_is k [] u g hu = fby_none u hu
-fby_is k (i ∷ past) u g hu = fby_step (is_on k i) (never_on k past) u (g i past) (at_last k past (Some nil) g) (at_last k past u g) hu (fby_is k past u g hu)
 
 -- what has a value has it of what has one
 chosen_first : (b : Option Bool) (u v : Option Value) → IsSome (chosen b u v) → IsSome u
@@ -113,7 +93,6 @@ module _ (p : Program) where
   whole_part P (operate o es) k h = h.0
   whole_part P (pre a) k h = h.0
   whole_part P (arrow a b) k h = h.0
-  whole_part P (fby a b) k h = h.0
   whole_part P (when t a) k h = h.0
   whole_part P (merge x bs) k h = h.0
   whole_part P (call g c args) k h = h.0
@@ -174,11 +153,6 @@ module _ (p : Program) (f : Node) (c : Class) (cells : List Value) (flags : List
         let hb = each_right Fine (parts p a k) (parts p b k) h in
         chosen_same _ _ _ _ _ _ (flag_is c.firsts flags past j k flags_stand is.0) (same a d k is.1 (each_drop Fine 1 (parts p a k) ha) t) (same b later k is.2 (each_drop Fine 1 (parts p b k) hb) t)
         ∙ arrow_is k past (value p a k now past) (value p b k now past) (whole_part p Fine a k ha t) (whole_part p Fine b k hb t)
-    same (fby a b) (choose j d (recall i)) k is h t =
-        let ha = each_left Fine (parts p a k) (parts p b k) h in
-        chosen_same _ _ _ _ _ _ (flag_is c.firsts flags past j k flags_stand is.0) (same a d k is.1 (each_drop Fine 1 (parts p a k) ha) t) (recall_is i k b is.2)
-        ∙ fby_is k past (value p a k now past) (λ i before. value p b k i before) (whole_part p Fine a k ha t)
-    same (fby a b) (choose j d _) k is h t = absurd is
     same (when u a) d k is h t = plain_is d (drop 1 k) a is
     same (merge x bs) (select y ds) k is h t = ap (λ z. selected cells flags asks ds z 0 r) (sym is.0) ∙ same_branch bs ds x 0 k is.1 h t
     same _ _ k is h t = absurd is
@@ -235,12 +209,6 @@ module _ (p : Program) (f : Node) (c : Class) (cells : List Value) (flags : List
           let hb = sound b later k is.2 (λ t. chosen_later (slice_get flags j) (run cells flags asks d r) (run cells flags asks later r) (s t)) in
           let rest = each_append Fine (parts p a k) (parts p b k) ha hb in
           (λ t. subst IsSome (same (arrow a b) (choose j d later) k is rest t) (s t), rest)
-      sound (fby a b) (choose j d (recall i)) k is s =
-          let ha = sound a d k is.1 (λ t. chosen_first (slice_get flags j) (run cells flags asks d r) (slice_get cells i) (s t)) in
-          let hb = subst (λ z. Each Fine (parts p z k)) (sym is.2.same) (atom_fine is.2.atom k is.2.on_clock) in
-          let rest = each_append Fine (parts p a k) (parts p b k) ha hb in
-          (λ t. subst IsSome (same (fby a b) (choose j d (recall i)) k is rest t) (s t), rest)
-      sound (fby a b) (choose j d _) k is s = absurd is
       sound (when u a) d k is s =
           let rest = subst (λ z. Each Fine (parts p z (drop 1 k))) (sym is.same) (atom_fine is.atom (drop 1 k) is.on_clock) in
           (λ t. subst IsSome (same (when u a) d k is rest t) (s t), rest)

@@ -6,7 +6,7 @@ use Rattle.std.proofs.lemmas.Bool.{ltb-true, ltb-false, le-ltb, MatchBool-at_fal
 use Rattle.lus_values.specs.Lists.{item, Each}
 use Rattle.lus_values.specs.Values.{Value, Row}
 use Rattle.lus_values.proofs.Lists.{below_all, each_found}
-use Rattle.lus_program.specs.Programs.{Expression, literal, variable, operate, pre, arrow, fby, when, merge, call, Operands, none, more, Equation, Node, Program, node_at}
+use Rattle.lus_program.specs.Programs.{Expression, literal, variable, operate, pre, arrow, when, merge, call, Operands, none, more, Equation, Node, Program, node_at}
 use Rattle.lus_streams.specs.Clocks.{Clock, clock_of, Part, formal_clock, base_of, parts, argument_parts}
 use Rattle.lus_streams.specs.Equations.{Definition, given_by, place_in, equation_clock, definition_in, definition_of, equation_parts}
 use Rattle.lus_streams.specs.Streams.{Instant, instant, Called, World, row_of, entry, called_at, is_on, where_on, value, definition_value, HasValue, Follows, EquationsHold}
@@ -56,7 +56,6 @@ right_value p f c (variable x) d k n xs now past is = refl
 right_value p f c (operate o es) d k n xs now past is = refl
 right_value p f c (pre a) d k n xs now past is = refl
 right_value p f c (arrow a b) d k n xs now past is = refl
-right_value p f c (fby a b) d k n xs now past is = refl
 right_value p f c (when t a) d k n xs now past is = refl
 right_value p f c (merge x bs) d k n xs now past is = refl
 right_value p f c (call g number args) d k n xs now past is = absurd is

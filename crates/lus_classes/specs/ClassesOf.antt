@@ -1,8 +1,8 @@
--- Which class belongs to a node in normal form: operands of `pre` and `when`, right operands of `fby` and arguments are
+-- Which class belongs to a node in normal form: operands of `pre` and `when` and arguments are
 -- constants and variables, and each call is a whole right side.
 use Rattle.std.specs.Prelude.{◌≡◌, ℕ, suc, ◌+◌, ◌<◌, ◌≤◌, ◌⊎◌, ◌||◌, ◌++◌, nat_eq, nat_lt, Bool, false, List, [], ◌∷◌, length, drop, Option, Some, None, IsTrue, slice_get}
 use Rattle.lus_values.specs.Lists.{Each}
-use Rattle.lus_program.specs.Programs.{Expression, literal, variable, operate, pre, arrow, fby, when, merge, call, Operands, none, more, Equation, Node, Program, node_at}
+use Rattle.lus_program.specs.Programs.{Expression, literal, variable, operate, pre, arrow, when, merge, call, Operands, none, more, Equation, Node, Program, node_at}
 use Rattle.lus_streams.specs.Clocks.{Clock, clock_of, operand, formal_clock, base_of}
 use Rattle.lus_streams.specs.Equations.{Definition, given_by, definition_of, equation_clock, Site, sites}
 use Rattle.lus_streams.specs.OnClock.{IsName}
@@ -25,7 +25,7 @@ module _ (p : Program) (f : Node) (c : Class) where
   AtomOn (constant v) k = Unit {0}
   AtomOn (named x) k = (clock_of f x ≡ k) × (x < length f.variables)
 
-  -- cell j keeps the operand a of a `pre` or an `fby` on k
+  -- cell j keeps the operand a of a `pre` on k
   pub record Remembers (j : ℕ) (k : Clock) (a : Expression) : Type 0 where
     pub atom : Atom
     pub here : slice_get c.memories j ≡ Some (record { clock = k; operand = atom })
@@ -47,7 +47,6 @@ module _ (p : Program) (f : Node) (c : Class) where
     IsCode (operate o es) (compute u ds) k = (o ≡ u) × AreCodes es ds k
     IsCode (pre a) (recall j) k = Remembers j k a
     IsCode (arrow a b) (choose j d later) k = (slice_get c.firsts j ≡ Some k) × IsCode a d k × IsCode b later k
-    IsCode (fby a b) (choose j d (recall i)) k = (slice_get c.firsts j ≡ Some k) × IsCode a d k × Remembers i k b
     IsCode (when t a) d k = IsAtomCode d (drop 1 k) a
     IsCode (merge x bs) (select y ds) k = (x ≡ y) × AreBranches bs ds x 0 k
     IsCode _ _ k = ⊥

@@ -2,7 +2,7 @@
 use Rattle.std.proofs.Common.{◌≡◌, ℕ, zero, suc, ◌+◌, true, List, [], ◌∷◌, length, drop, Option, Some, None, refl, sym, ap, ◌∙◌, subst, inl, inr, arith}
 use Rattle.lus_values.specs.Lists.{Each}
 use Rattle.lus_program.specs.declared.expr.Test.{Test}
-use Rattle.lus_program.specs.Programs.{Expression, literal, variable, operate, pre, arrow, fby, when, merge, call, Operands, none, more, Node, Program, node_at}
+use Rattle.lus_program.specs.Programs.{Expression, literal, variable, operate, pre, arrow, when, merge, call, Operands, none, more, Node, Program, node_at}
 use Rattle.lus_streams.specs.Clocks.{Clock, clock_of, Part, operand, formal_clock, base_of, parts, operand_parts, branch_parts, argument_parts}
 use Rattle.lus_streams.specs.OnClock.{test_of, actuals, OutputOn, PartOnClock}
 use Rattle.lus_streams.proofs.Lists.{each_left, each_right, each_append}
@@ -108,9 +108,6 @@ module _ (p : Program) (all : (g : ℕ) → AreDeclared (node_at p g)) (f : Node
     fits_is (arrow a b) o h =
         let k = clock_from f o in
         (tt, each_append On (parts p a k) (parts p b k) (fits_is a o (and_left (fits p f a o) (fits p f b o) h)) (fits_is b o (and_right (fits p f a o) (fits p f b o) h)))
-    fits_is (fby a b) o h =
-        let k = clock_from f o in
-        (tt, each_append On (parts p a k) (parts p b k) (fits_is a o (and_left (fits p f a o) (fits p f b o) h)) (fits_is b o (and_right (fits p f a o) (fits p f b o) h)))
     fits_is (when t a) o h =
         let same : clock_from f o ≡ t ∷ clock_of f t.variable = sym (ap (clock_from f) (same_test_is (Some t) o (and_left (same_test (Some t) o) (fits p f a (test_of f t.variable)) h))) in
         let inner = fits_is a (test_of f t.variable) (and_right (same_test (Some t) o) (fits p f a (test_of f t.variable)) h) in
@@ -155,9 +152,6 @@ module _ (p : Program) (all : (g : ℕ) → AreDeclared (node_at p g)) (f : Node
     is_fitting (operate q es) o h = are_fitting es o h.1
     is_fitting (pre a) o h = is_fitting a o h.1
     is_fitting (arrow a b) o h =
-        let k = clock_from f o in
-        and_true (fits p f a o) (fits p f b o) (is_fitting a o (each_left On (parts p a k) (parts p b k) h.1)) (is_fitting b o (each_right On (parts p a k) (parts p b k) h.1))
-    is_fitting (fby a b) o h =
         let k = clock_from f o in
         and_true (fits p f a o) (fits p f b o) (is_fitting a o (each_left On (parts p a k) (parts p b k) h.1)) (is_fitting b o (each_right On (parts p a k) (parts p b k) h.1))
     is_fitting (when t a) o h =

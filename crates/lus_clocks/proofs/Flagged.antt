@@ -7,7 +7,7 @@ use Rattle.lus_values.proofs.Lists.{below_all}
 use Rattle.lus_program.specs.declared.expr.Test.{Test}
 use Rattle.lus_program.specs.declared.node.Equation.{Equation as StoredEquation}
 use Rattle.lus_program.specs.declared.node.Node.{Node as StoredNode}
-use Rattle.lus_program.specs.Programs.{Expression, literal, variable, operate, pre, arrow, fby, when, merge, call, Operands, none, more, calls, numbered, all_numbered, Variable, Equation, Node, Program, no_variable, node_at}
+use Rattle.lus_program.specs.Programs.{Expression, literal, variable, operate, pre, arrow, when, merge, call, Operands, none, more, calls, numbered, all_numbered, Variable, Equation, Node, Program, no_variable, node_at}
 use Rattle.lus_program.specs.View.{expression_of, equations_from, node_of}
 use Rattle.lus_streams.specs.Clocks.{Clock, chain, clock_of, Part, formal_clock, base_of, parts, operand_parts, branch_parts, argument_parts}
 use Rattle.lus_streams.specs.Equations.{Definition, given_by, place_in, equation_clock, definition_in, definition_of, equation_parts}
@@ -40,9 +40,6 @@ module _ (p : Program) (flags : ℕ → Bool) where
     meets_is (operate o es) k h = (tt, operands_are es k h)
     meets_is (pre a) k h = (not_is (flag flags a) (and_left (not (flag flags a)) (meets flags a) h), meets_is a k (and_right (not (flag flags a)) (meets flags a) h))
     meets_is (arrow a b) k h = (tt, each_append R (parts p a k) (parts p b k) (meets_is a k (and_left (meets flags a) (meets flags b) h)) (meets_is b k (and_right (meets flags a) (meets flags b) h)))
-    meets_is (fby a b) k h =
-        let both = and_right (not (flag flags b)) (meets flags a && meets flags b) h in
-        (not_is (flag flags b) (and_left (not (flag flags b)) (meets flags a && meets flags b) h), each_append R (parts p a k) (parts p b k) (meets_is a k (and_left (meets flags a) (meets flags b) both)) (meets_is b k (and_right (meets flags a) (meets flags b) both)))
     meets_is (when t a) k h = (not_is (flags t.variable) (and_left (not (flags t.variable)) (meets flags a) h), meets_is a (drop 1 k) (and_right (not (flags t.variable)) (meets flags a) h))
     meets_is (merge x bs) k h =
         let rest = and_right (not (flags x)) (not (greatest flags bs) && all_meet flags bs) h in (
@@ -75,9 +72,6 @@ module _ (p : Program) (flags : ℕ → Bool) where
     is_met (operate o es) k h = are_operands es k h.1
     is_met (pre a) k h = and_true (not (flag flags a)) (meets flags a) (is_not (flag flags a) h.0) (is_met a k h.1)
     is_met (arrow a b) k h = and_true (meets flags a) (meets flags b) (is_met a k (each_left R (parts p a k) (parts p b k) h.1)) (is_met b k (each_right R (parts p a k) (parts p b k) h.1))
-    is_met (fby a b) k h =
-        and_true (not (flag flags b)) (meets flags a && meets flags b) (is_not (flag flags b) h.0)
-        (and_true (meets flags a) (meets flags b) (is_met a k (each_left R (parts p a k) (parts p b k) h.1)) (is_met b k (each_right R (parts p a k) (parts p b k) h.1)))
     is_met (when t a) k h = and_true (not (flags t.variable)) (meets flags a) (is_not (flags t.variable) h.0) (is_met a (drop 1 k) h.1)
     is_met (merge x bs) k h =
         and_true (not (flags x)) (not (greatest flags bs) && all_meet flags bs) (is_not (flags x) h.0.0)
@@ -110,7 +104,6 @@ module _ (flags : ℕ → Bool) where
     flag_numbered (operate o es) n = greatest_numbered es n
     flag_numbered (pre a) n = refl
     flag_numbered (arrow a b) n = flag_numbered a n
-    flag_numbered (fby a b) n = flag_numbered a n
     flag_numbered (when t a) n = flag_numbered a n
     flag_numbered (merge x bs) n = refl
     flag_numbered (call g c es) n = refl
@@ -126,7 +119,6 @@ module _ (flags : ℕ → Bool) where
     meets_numbered (operate o es) n = all_meet_numbered es n
     meets_numbered (pre a) n = ap₂ ◌&&◌ (ap not (flag_numbered a n)) (meets_numbered a n)
     meets_numbered (arrow a b) n = ap₂ ◌&&◌ (meets_numbered a n) (meets_numbered b (n + calls a))
-    meets_numbered (fby a b) n = ap₂ ◌&&◌ (ap not (flag_numbered b (n + calls a))) (ap₂ ◌&&◌ (meets_numbered a n) (meets_numbered b (n + calls a)))
     meets_numbered (when t a) n = ap (λ b. not (flags t.variable) && b) (meets_numbered a n)
     meets_numbered (merge x bs) n = ap (λ b. not (flags x) && b) (ap₂ ◌&&◌ (ap not (greatest_numbered bs n)) (all_meet_numbered bs n))
     meets_numbered (call g c es) n = ap₂ ◌&&◌ (ap not (greatest_numbered es (suc n))) (all_meet_numbered es (suc n))
@@ -148,10 +140,6 @@ module _ (a b : ℕ → Bool) (below : (x : ℕ) → a x ≡ true → b x ≡ tr
     meets_less (operate o es) h = all_meet_less es h
     meets_less (pre e) h = and_true (not (flag a e)) (meets a e) (not_less (flag a e) (flag b e) (flag_more a b below e) (and_left (not (flag b e)) (meets b e) h)) (meets_less e (and_right (not (flag b e)) (meets b e) h))
     meets_less (arrow e e') h = and_true (meets a e) (meets a e') (meets_less e (and_left (meets b e) (meets b e') h)) (meets_less e' (and_right (meets b e) (meets b e') h))
-    meets_less (fby e e') h =
-        let both = and_right (not (flag b e')) (meets b e && meets b e') h in
-        and_true (not (flag a e')) (meets a e && meets a e') (not_less (flag a e') (flag b e') (flag_more a b below e') (and_left (not (flag b e')) (meets b e && meets b e') h))
-        (and_true (meets a e) (meets a e') (meets_less e (and_left (meets b e) (meets b e') both)) (meets_less e' (and_right (meets b e) (meets b e') both)))
     meets_less (when t e) h = and_true (not (a t.variable)) (meets a e) (not_less (a t.variable) (b t.variable) (below t.variable) (and_left (not (b t.variable)) (meets b e) h)) (meets_less e (and_right (not (b t.variable)) (meets b e) h))
     meets_less (merge x es) h =
         let rest = and_right (not (b x)) (not (greatest b es) && all_meet b es) h in

@@ -1,7 +1,7 @@
 -- Whether an expression is on clocks doesn't hang on the numbers of its calls.
 use Rattle.std.proofs.Common.{◌≡◌, ℕ, zero, suc, ◌+◌, ◌&&◌, List, [], Option, Some, refl, ap, ap₂, ◌∙◌}
 use Rattle.lus_program.specs.declared.expr.Test.{Test}
-use Rattle.lus_program.specs.Programs.{Expression, literal, variable, operate, pre, arrow, fby, when, merge, call, Operands, none, more, calls, numbered, all_numbered, Node, Program, node_at}
+use Rattle.lus_program.specs.Programs.{Expression, literal, variable, operate, pre, arrow, when, merge, call, Operands, none, more, calls, numbered, all_numbered, Node, Program, node_at}
 use Rattle.lus_streams.specs.Clocks.{clock_of}
 use Rattle.lus_streams.specs.OnClock.{test_of, actuals}
 use Rattle.lus_clocks.specs.Fitting.{same_test, test_on, name_of, names_in, renamed_first, base_test, output_fits, fits, operands_fit, branches_fit, arguments_fit, outputs_fit, lefts_fit, equation_fits}
@@ -12,7 +12,6 @@ name_numbered (variable x) n = refl
 name_numbered (operate o es) n = refl
 name_numbered (pre a) n = refl
 name_numbered (arrow a b) n = refl
-name_numbered (fby a b) n = refl
 name_numbered (when t a) n = refl
 name_numbered (merge x bs) n = refl
 name_numbered (call g c es) n = refl
@@ -33,7 +32,6 @@ module _ (p : Program) (f : Node) where
     fits_numbered (operate q es) n o = operands_numbered es n o
     fits_numbered (pre a) n o = fits_numbered a n o
     fits_numbered (arrow a b) n o = ap₂ ◌&&◌ (fits_numbered a n o) (fits_numbered b (n + calls a) o)
-    fits_numbered (fby a b) n o = ap₂ ◌&&◌ (fits_numbered a n o) (fits_numbered b (n + calls a) o)
     fits_numbered (when t a) n o = ap (λ b. same_test (Some t) o && b) (fits_numbered a n (test_of f t.variable))
     fits_numbered (merge x bs) n o = ap (λ b. same_test (test_of f x) o && b) (branches_numbered bs n x 0)
     fits_numbered (call g c es) n o =
@@ -63,6 +61,5 @@ module _ (p : Program) (f : Node) where
   equation_numbered xs (operate q es) n o = ap (λ b. lefts_fit f o xs && b) (fits_numbered (operate q es) n o)
   equation_numbered xs (pre a) n o = ap (λ b. lefts_fit f o xs && b) (fits_numbered (pre a) n o)
   equation_numbered xs (arrow a b) n o = ap (λ z. lefts_fit f o xs && z) (fits_numbered (arrow a b) n o)
-  equation_numbered xs (fby a b) n o = ap (λ z. lefts_fit f o xs && z) (fits_numbered (fby a b) n o)
   equation_numbered xs (when t a) n o = ap (λ b. lefts_fit f o xs && b) (fits_numbered (when t a) n o)
   equation_numbered xs (merge x bs) n o = ap (λ b. lefts_fit f o xs && b) (fits_numbered (merge x bs) n o)

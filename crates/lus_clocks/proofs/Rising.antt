@@ -3,7 +3,7 @@ use Rattle.std.proofs.Common.{◌≡◌, ℕ, zero, suc, ◌<◌, ◌≤◌, nat
 use Rattle.std.proofs.lemmas.Bool.{cases_lt}
 use Rattle.std.proofs.lemmas.Bool.Decides.{nat_tests}
 use Rattle.lus_program.specs.declared.node.Equation.{Equation as StoredEquation}
-use Rattle.lus_program.specs.Programs.{Expression, literal, variable, operate, pre, arrow, fby, when, merge, call, Operands, none, more, Node}
+use Rattle.lus_program.specs.Programs.{Expression, literal, variable, operate, pre, arrow, when, merge, call, Operands, none, more, Node}
 use Rattle.lus_program.specs.View.{expression_of}
 use Rattle.lus_streams.specs.Order.{is_in}
 use Rattle.lus_streams.specs.Flags.{flag, greatest}
@@ -62,7 +62,6 @@ module _ (a b : ℕ → Bool) (below : (x : ℕ) → a x ≡ true → b x ≡ tr
     flag_more (operate o es) h = greatest_more es h
     flag_more (pre e) h = h
     flag_more (arrow e e') h = flag_more e h
-    flag_more (fby e e') h = flag_more e h
     flag_more (when t e) h = flag_more e h
     flag_more (merge x bs) h = h
     flag_more (call g c args) h = h

@@ -2,7 +2,7 @@
 -- the base clock: so a place has one optional test, and clocks are compared by it.
 use Rattle.std.specs.Prelude.{ℕ, zero, suc, ◌+◌, Bool, true, false, not, ◌&&◌, ◌||◌, nat_eq, nat_lt, List, [], ◌∷◌, length, take, Option, Some, None, is_some}
 use Rattle.lus_program.specs.declared.expr.Test.{Test}
-use Rattle.lus_program.specs.Programs.{Expression, literal, variable, operate, pre, arrow, fby, when, merge, call, Operands, none, more, Variable, Node, Program, node_at}
+use Rattle.lus_program.specs.Programs.{Expression, literal, variable, operate, pre, arrow, when, merge, call, Operands, none, more, Variable, Node, Program, node_at}
 use Rattle.lus_program.specs.declared.node.Equation.{Equation as StoredEquation}
 use Rattle.lus_program.specs.declared.node.Node.{Node as StoredNode}
 use Rattle.lus_program.specs.View.{expression_of, node_of}
@@ -101,7 +101,6 @@ module _ (p : Program) (f : Node) where
     fits (operate _ es) o = operands_fit es o
     fits (pre a) o = fits a o
     fits (arrow a b) o = fits a o && fits b o
-    fits (fby a b) o = fits a o && fits b o
     fits (when t a) o = same_test (Some t) o && fits a (test_of f t.variable)
     fits (merge x bs) o = same_test (test_of f x) o && branches_fit bs x 0
     fits (call g c args) o =

@@ -3,7 +3,7 @@
 use Rattle.std.specs.Prelude.{◌≡◌, ℕ, ◌+◌, ◌<◌, Bool, true, false, not, ◌&&◌, List, [], ◌∷◌, length, Some, None, if◌then◌else◌, slice_set, take}
 use Rattle.lus_values.specs.Lists.{item}
 use Rattle.lus_program.specs.declared.node.Equation.{Equation as StoredEquation}
-use Rattle.lus_program.specs.Programs.{Expression, literal, variable, operate, pre, arrow, fby, when, merge, call, Operands, none, more, Variable, Node, Program}
+use Rattle.lus_program.specs.Programs.{Expression, literal, variable, operate, pre, arrow, when, merge, call, Operands, none, more, Variable, Node, Program}
 use Rattle.lus_program.specs.View.{expression_of}
 use Rattle.lus_streams.specs.Order.{is_in}
 use Rattle.lus_streams.specs.Flags.{nil_free, flag, greatest, AreFlagsOf}
@@ -26,7 +26,6 @@ module _ (flags : ℕ → Bool) where
     meets (operate o es) = all_meet es
     meets (pre a) = not (flag flags a) && meets a
     meets (arrow a b) = meets a && meets b
-    meets (fby a b) = not (flag flags b) && (meets a && meets b)
     meets (when t a) = not (flags t.variable) && meets a
     meets (merge x bs) = not (flags x) && (not (greatest flags bs) && all_meet bs)
     meets (call g c args) = not (greatest flags args) && all_meet args

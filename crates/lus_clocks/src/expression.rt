@@ -44,10 +44,6 @@ pub fn check_expression(
             check_expression(program, node, first, clock)?;
             check_expression(program, node, later, clock)
         }
-        Form::Fby(first, later) => {
-            check_expression(program, node, first, clock)?;
-            check_expression(program, node, later, clock)
-        }
         Form::When(test, operand) => {
             require(same_clock(clock_on(*test), clock), expr.place)?;
             check_expression(

@@ -28,7 +28,6 @@ pub fn flag_of(flags: &[bool], expr: &Expr) -> bool
         Form::Operate(_, operands) => greatest_flag(flags, operands),
         Form::Pre(_) => true,
         Form::Arrow(first, _) => flag_of(flags, first),
-        Form::Fby(first, _) => flag_of(flags, first),
         Form::When(_, operand) => flag_of(flags, operand),
         Form::Merge(_, _) => false,
         Form::Call(_, _) => false,

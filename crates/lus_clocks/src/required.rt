@@ -28,11 +28,6 @@ fn check_meets(node: &Node, flags: &[bool], expr: &Expr) -> Result<(), Place>
             check_meets(node, flags, first)?;
             check_meets(node, flags, later)
         }
-        Form::Fby(first, later) => {
-            require(!flag_of(flags, later), later.place)?;
-            check_meets(node, flags, first)?;
-            check_meets(node, flags, later)
-        }
         Form::When(test, operand) => {
             require(
                 !flag_at(flags, test.variable as usize),

@@ -8,7 +8,7 @@ use Rattle.lus_values.proofs.Lists.{below_at, each_at}
 use Rattle.lus_program.specs.declared.types.Kind.{Kind}
 use Rattle.lus_program.specs.declared.types.Kind.TheVariants as kinds
 use Rattle.lus_program.specs.declared.expr.Test.{Test}
-use Rattle.lus_program.specs.Programs.{Expression, literal, variable, operate, pre, arrow, fby, when, merge, call, Operands, none, more, Equation, Node, Program, node_at, empty_node}
+use Rattle.lus_program.specs.Programs.{Expression, literal, variable, operate, pre, arrow, when, merge, call, Operands, none, more, Equation, Node, Program, node_at, empty_node}
 use Rattle.lus_streams.specs.Clocks.{Clock, Part, at, parts, operand_parts, branch_parts, argument_parts, base_of, formal_clock}
 use Rattle.lus_streams.specs.Equations.{Site, sites, sites_in, site_first, node_parts, equation_parts, equation_clock}
 use Rattle.lus_meaning.specs.Resolved.{EquationFits, NodeResolved, Resolved, kind_in, kinds_given_in}
@@ -36,7 +36,6 @@ first_keeps p counts (at k (variable x)) ss = omega arith
 first_keeps p counts (at k (operate o es)) ss = omega arith
 first_keeps p counts (at k (pre a)) ss = omega arith
 first_keeps p counts (at k (arrow a b)) ss = omega arith
-first_keeps p counts (at k (fby a b)) ss = omega arith
 first_keeps p counts (at k (when t a)) ss = omega arith
 first_keeps p counts (at k (merge x bs)) ss = omega arith
 first_keeps p counts (at k (call g c args)) ss =
@@ -92,13 +91,6 @@ module _ (p : Program) (f : Node) (leaves : ℕ → ℕ) (positive : (t : ℕ) �
         let later = within_cells b k both.1 in
         let sum = called_append p counts (parts p a k) (parts p b k) in
         omega (arith, first, later, sum)
-    within_cells (fby a b) k h =
-        let both = both_typed p f a b h in
-        let one = size_positive a both.0 in
-        let first = within_cells a k both.0 in
-        let later = within_cells b k both.1 in
-        let sum = called_append p counts (parts p a k) (parts p b k) in
-        omega (arith, one, first, later, sum)
     within_cells (when t a) k h = within_cells a _ (when_typed p f t a h).1
     within_cells (merge x bs) k h = branches_within bs x 0 k (merge_typed p f x bs h).1
     within_cells (call g c es) k h =

@@ -135,7 +135,10 @@ fn joined(
     ensures { IfOk result (λ x. expression_of x.value ≡ infix_meant op (expression_of left.value) (expression_of right.value)) }
 {
     match op {
-        Infix::Fby => boxed(alloc, place, Form::Fby(left, right)),
+        Infix::Fby => {
+            let kept = boxed(alloc, right.place, Form::Pre(right))?;
+            boxed(alloc, place, Form::Arrow(left, kept))
+        }
         Infix::Arrow => boxed(alloc, place, Form::Arrow(left, right)),
         Infix::Implies => compute(alloc, place, Op::Implies, left, right),
         Infix::Or => compute(alloc, place, Op::Or, left, right),

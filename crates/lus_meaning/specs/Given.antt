@@ -5,7 +5,7 @@ use Rattle.lus_values.specs.declared.operator.Operator.TheVariants as operators
 use Rattle.lus_values.specs.Lists.{item}
 use Rattle.lus_program.specs.declared.types.Kind.{Kind}
 use Rattle.lus_program.specs.declared.types.Kind.TheVariants as kinds
-use Rattle.lus_program.specs.Programs.{Expression, literal, variable, operate, pre, arrow, fby, when, merge, call, Operands, none, more, Node, Program, no_variable, node_at}
+use Rattle.lus_program.specs.Programs.{Expression, literal, variable, operate, pre, arrow, when, merge, call, Operands, none, more, Node, Program, no_variable, node_at}
 use Rattle.lus_meaning.specs.Types.{value_kind}
 use Rattle.lus_meaning.specs.Resolved.{field_kinds, operation_kind}
 
@@ -31,7 +31,6 @@ module _ (p : Program) (f : Node) where
     given (operate o es) = operator_given p o (last_given kinds.Bool es)
     given (pre a) = given a
     given (arrow a b) = given a
-    given (fby a b) = given a
     given (when t a) = given a
     given (merge x bs) = last_given kinds.Bool bs
     given (call g n es) = output_given p g

@@ -10,7 +10,7 @@ use Rattle.lus_syntax.specs.Limits.{most_parts}
 use Rattle.lus_program.specs.declared.expr.Test.{Test}
 use Rattle.lus_program.specs.declared.types.Kind.{Kind}
 use Rattle.lus_program.specs.declared.types.Kind.TheVariants as kinds
-use Rattle.lus_program.specs.Programs.{Expression, literal, variable, operate, pre, arrow, fby, when, merge, call, Operands, none, more, calls, numbered, Declared, Variable, Equation, Node, Program}
+use Rattle.lus_program.specs.Programs.{Expression, literal, variable, operate, pre, arrow, when, merge, call, Operands, none, more, calls, numbered, Declared, Variable, Equation, Node, Program}
 use Rattle.lus_program.specs.Parts.{program_parts}
 use Rattle.lus_graph.specs.Ways.{Uses, HasNoWayBack}
 use Rattle.lus_meaning.specs.Types.{same, all_same, where_true, alike, both, compared, choice_kind, value_kind, the_one, common_kind, count, fields_in, constructors_in, nothing_declared}
@@ -127,7 +127,6 @@ module _ (p : Program) where
       kind_in (operate o es) = option_and_then (operator_kind o) (kinds_in es)
       kind_in (pre a) = kind_in a
       kind_in (arrow a b) = option_and_then (λ k. option_and_then (alike k) (kind_in b)) (kind_in a)
-      kind_in (fby a b) = option_and_then (λ k. option_and_then (alike k) (kind_in b)) (kind_in a)
       kind_in (when t a) = option_and_then (λ k. where_true (test_fits t) (Some k)) (kind_in a)
       kind_in (merge x bs) = option_and_then (λ ks. option_and_then (merged ks) (kind_of_variable x)) (kinds_in bs)
       kind_in (call g c es) = option_and_then (λ ks. option_and_then the_one (results g ks)) (kinds_in es)
@@ -180,7 +179,6 @@ abbrev mutual
   nodes_called (operate o es) = all_nodes_called es
   nodes_called (pre a) = nodes_called a
   nodes_called (arrow a b) = nodes_called a ++ nodes_called b
-  nodes_called (fby a b) = nodes_called a ++ nodes_called b
   nodes_called (when t a) = nodes_called a
   nodes_called (merge x bs) = all_nodes_called bs
   nodes_called (call g c es) = g ∷ all_nodes_called es

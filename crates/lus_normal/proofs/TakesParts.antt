@@ -4,7 +4,7 @@ use Rattle.std.proofs.Math.Logic.{inr}
 use Rattle.lus_values.specs.Lists.{item, Each}
 use Rattle.lus_program.specs.declared.expr.Test.{Test}
 use Rattle.lus_program.specs.declared.node.Equation.{Equation as StoredEquation}
-use Rattle.lus_program.specs.Programs.{Expression, literal, variable, operate, pre, arrow, fby, when, merge, call, Operands, none, more, calls, numbered, Node, Program, empty_node, node_at}
+use Rattle.lus_program.specs.Programs.{Expression, literal, variable, operate, pre, arrow, when, merge, call, Operands, none, more, calls, numbered, Node, Program, empty_node, node_at}
 use Rattle.lus_program.specs.View.{expression_of, equations_from}
 use Rattle.lus_streams.specs.Clocks.{Clock, clock_of, Part, at, operand, formal_clock, base_of, parts, operand_parts, branch_parts, argument_parts}
 use Rattle.lus_streams.specs.Equations.{equation_clock}
@@ -88,11 +88,6 @@ module _ (p : Program) (f : Node) (declared : Declared f) (callees : (g : ℕ) �
         let second = right_of (parts p a k) (parts p b k) on.1 in
         both (inner_takes a o (R a o)) (inner_takes b o (R b o)) (inner_taken a k (T a k)) (inner_taken b k (T b k))
         (inner_seen a o k (R a o) (T a k) c (right_seen a o k c (whole a k first))) (inner_seen b o k (R b o) (T b k) c (right_seen b o k c (whole b k second)))
-    right_seen (fby a b) o k c on =
-        let first = left_of (parts p a k) (parts p b k) on.1 in
-        let second = right_of (parts p a k) (parts p b k) on.1 in
-        both (inner_takes a o (R a o)) (operand_takes b o (R b o)) (inner_taken a k (T a k)) (operand_taken b k (T b k))
-        (inner_seen a o k (R a o) (T a k) c (right_seen a o k c (whole a k first))) (operand_seen b o k (R b o) (T b k) c (right_seen b o k c (whole b k second)))
     right_seen (when t a) o k c on =
         let u = test_of f t.variable in
         let inside : clock_from f u ≡ drop 1 k = sym (clock_is f declared t.variable) ∙ sym (ap (drop 1) on.0) in
@@ -110,7 +105,6 @@ module _ (p : Program) (f : Node) (declared : Declared f) (callees : (g : ℕ) �
     whole (operate op es) k on = on
     whole (pre a) k on = on
     whole (arrow a b) k on = on
-    whole (fby a b) k on = on
     whole (when t a) k on = on
     whole (merge x bs) k on = on
 

@@ -10,7 +10,7 @@ use Rattle.lus_program.specs.declared.expr.Test.{Test}
 use Rattle.lus_program.specs.declared.types.Kind.{Kind}
 use Rattle.lus_program.specs.declared.types.Kind.TheVariants as kinds
 use Rattle.lus_program.specs.declared.node.Equation.{Equation as StoredEquation}
-use Rattle.lus_program.specs.Programs.{Expression, literal, variable, operate, pre, arrow, fby, when, merge, call, Operands, none, more, calls, numbered, Variable, Node, Program, no_variable, node_at, empty_node}
+use Rattle.lus_program.specs.Programs.{Expression, literal, variable, operate, pre, arrow, when, merge, call, Operands, none, more, calls, numbered, Variable, Node, Program, no_variable, node_at, empty_node}
 use Rattle.lus_program.specs.View.{expression_of, equations_from}
 use Rattle.lus_streams.specs.Clocks.{Clock, chain, clock_of}
 use Rattle.lus_streams.specs.OnClock.{actuals, test_of}
@@ -96,7 +96,6 @@ module _ (p : Program) (few : Each (λ d. constructors_in d ≤ most_constructor
     name_fits (operate o es) y h e = cc
     name_fits (pre a) y h e = cc
     name_fits (arrow a b) y h e = cc
-    name_fits (fby a b) y h e = cc
     name_fits (when t a) y h e = cc
     name_fits (merge x bs) y h e = cc
     name_fits (call g c args) y h e = cc
@@ -151,9 +150,6 @@ module _ (p : Program) (few : Each (λ d. constructors_in d ≤ most_constructor
         right_fits (arrow a c) o h b =
             let both = both_typed p f a c h in
             each_append Stored (inner_takes a o (R a o)) (inner_takes c o (R c o)) (inner_fits a o (R a o) b (right_fits a o both.0 b)) (inner_fits c o (R c o) b (right_fits c o both.1 b))
-        right_fits (fby a c) o h b =
-            let both = both_typed p f a c h in
-            each_append Stored (inner_takes a o (R a o)) (operand_takes c o (R c o)) (inner_fits a o (R a o) b (right_fits a o both.0 b)) (operand_fits c o (R c o) b (right_fits c o both.1 b))
         right_fits (when t a) o h b =
             let outer = test_of f t.variable in
             operand_fits a outer (R a outer) (own t.variable) (right_fits a outer (when_typed p f t a h).1 (own t.variable))

@@ -1,6 +1,6 @@
 -- The normal form of an expression has a value wherever it has, part by part, both ways.
 use Rattle.std.proofs.Common.{◌≡◌, ℕ, suc, ◌<◌, ◌∷◌, ◌++◌, drop, IsSome, refl, sym, ap, ◌∙◌, subst, IsTrue}
-use Rattle.lus_program.specs.Programs.{Expression, literal, variable, operate, pre, arrow, fby, when, merge, call, Operands, none, more, Program, node_at}
+use Rattle.lus_program.specs.Programs.{Expression, literal, variable, operate, pre, arrow, when, merge, call, Operands, none, more, Program, node_at}
 use Rattle.lus_values.specs.Lists.{Each}
 use Rattle.lus_streams.specs.Clocks.{Clock, clock_of, renamed_clock, Part, at, formal_clock, base_of, parts, operand_parts, branch_parts, argument_parts}
 use Rattle.lus_streams.specs.Streams.{Instant, World, is_on, value, HasValue}
@@ -16,7 +16,6 @@ first_part p P (variable x) k h = h.0
 first_part p P (operate o es) k h = h.0
 first_part p P (pre a) k h = h.0
 first_part p P (arrow a b) k h = h.0
-first_part p P (fby a b) k h = h.0
 first_part p P (when t a) k h = h.0
 first_part p P (merge x bs) k h = h.0
 first_part p P (call g c args) k h = h.0
@@ -91,15 +90,6 @@ module _ (p p' : Program) (V : ℕ → Type 0) (C : (g c n : ℕ) → Type 0) (N
               (normal_to a is.0 k is.3 (each_left Used first_parts later_parts u.1) (each_left Valued first_parts later_parts h.1))
               (normal_to b is.1 k is.4 (each_right Used first_parts later_parts u.1) (each_right Valued first_parts later_parts h.1)),
         )
-    normal_to (fby a b) e' k is u h =
-        let first_parts = parts p a k in
-        let later_parts = parts p b k in
-        subst (λ z. Each NormalValued (parts p' z k)) (sym is.2) (
-          same_to (fby a b) (fby is.0 is.1) k u (normal_same (fby a b) (fby is.0 is.1) k (is.0, is.1, refl, is.3, is.4) u) h.0,
-          each_append NormalValued (parts p' is.0 k) (parts p' is.1 k)
-              (normal_to a is.0 k is.3 (each_left Used first_parts later_parts u.1) (each_left Valued first_parts later_parts h.1))
-              (operand_to b is.1 k is.4 (each_right Used first_parts later_parts u.1) (each_right Valued first_parts later_parts h.1)),
-        )
     normal_to (when c a) e' k is u h =
         subst (λ z. Each NormalValued (parts p' z k)) (sym is.1)
         (same_to (when c a) (when c is.0) k u (normal_same (when c a) (when c is.0) k (is.0, refl, is.2) u) h.0, operand_to a is.0 (drop 1 k) is.2 u.1 h.1)
@@ -170,15 +160,6 @@ module _ (p p' : Program) (V : ℕ → Type 0) (C : (g c n : ℕ) → Type 0) (N
             each_append Valued (parts p a k) (parts p b k)
                 (normal_from a is.0 k is.3 (λ r n. right_from a r k n used_first) (each_left NormalValued (parts p' is.0 k) (parts p' is.1 k) shaped.1))
                 (normal_from b is.1 k is.4 (λ r n. right_from b r k n used_later) (each_right NormalValued (parts p' is.0 k) (parts p' is.1 k) shaped.1)),
-          )
-      right_from (fby a b) e' k is u h =
-          let shaped = subst (λ z. Each NormalValued (parts p' z k)) is.2 h in
-          let used_first = each_left Used (parts p a k) (parts p b k) u.1 in
-          let used_later = each_right Used (parts p a k) (parts p b k) u.1 in (
-            same_from (fby a b) (fby is.0 is.1) k u (normal_same (fby a b) (fby is.0 is.1) k (is.0, is.1, refl, is.3, is.4) u) shaped.0,
-            each_append Valued (parts p a k) (parts p b k)
-                (normal_from a is.0 k is.3 (λ r n. right_from a r k n used_first) (each_left NormalValued (parts p' is.0 k) (parts p' is.1 k) shaped.1))
-                (operand_from b is.1 k is.4 used_later (λ r n. right_from b r k n used_later) (each_right NormalValued (parts p' is.0 k) (parts p' is.1 k) shaped.1)),
           )
       right_from (when c a) e' k is u h =
           let shaped = subst (λ z. Each NormalValued (parts p' z k)) is.1 h in

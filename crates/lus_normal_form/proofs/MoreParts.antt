@@ -1,6 +1,6 @@
 -- More new variables leave a normal form one.
 use Rattle.std.proofs.Common.{ℕ, suc, ◌∷◌, drop}
-use Rattle.lus_program.specs.Programs.{Expression, literal, variable, operate, pre, arrow, fby, when, merge, call, Operands, none, more, Program, node_at}
+use Rattle.lus_program.specs.Programs.{Expression, literal, variable, operate, pre, arrow, when, merge, call, Operands, none, more, Program, node_at}
 use Rattle.lus_streams.specs.Clocks.{Clock, formal_clock, base_of}
 use Rattle.lus_normal_form.specs.NormalForm.{IsOperand, IsNormal, AreNormal, AreBranches, AreArguments, IsRight}
 
@@ -17,7 +17,6 @@ module _ (p : Program) (Old New : ℕ → Clock → Expression → Type 0) (to :
     normal_later (operate o es) e' k h = (h.0, h.1, all_later es h.0 k h.2)
     normal_later (pre a) e' k h = (h.0, h.1, operand_later a h.0 k h.2)
     normal_later (arrow a b) e' k h = (h.0, h.1, h.2, normal_later a h.0 k h.3, normal_later b h.1 k h.4)
-    normal_later (fby a b) e' k h = (h.0, h.1, h.2, normal_later a h.0 k h.3, operand_later b h.1 k h.4)
     normal_later (when t a) e' k h = (h.0, h.1, operand_later a h.0 (drop 1 k) h.2)
     normal_later (merge x bs) e' k h = (h.0, h.1, branches_later bs h.0 x 0 k h.2)
     normal_later (call g c args) e' k h = (h.0, h.1, to h.0 k (call g c args) h.2)

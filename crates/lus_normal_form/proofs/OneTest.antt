@@ -3,7 +3,7 @@
 use Rattle.std.proofs.Common.{◌≡◌, ℕ, zero, suc, ◌+◌, ◌≤◌, List, [], ◌∷◌, ◌++◌, length, drop, Option, Some, None, refl, sym, ap, ◌∙◌, subst, arith, ⊎_elim, suc-ne-zero, le_of_suc-le-suc, not-suc-le-zero}
 use Rattle.std.proofs.lemmas.Bool.{cases_lt}
 use Rattle.lus_program.specs.declared.expr.Test.{Test}
-use Rattle.lus_program.specs.Programs.{Expression, literal, variable, operate, pre, arrow, fby, when, merge, call, Operands, none, more, Equation, Node, Program, no_variable, empty_node, node_at}
+use Rattle.lus_program.specs.Programs.{Expression, literal, variable, operate, pre, arrow, when, merge, call, Operands, none, more, Equation, Node, Program, no_variable, empty_node, node_at}
 use Rattle.lus_values.specs.Lists.{item, Each, Below}
 use Rattle.lus_streams.specs.Clocks.{Clock, chain, clock_of, Part, operand, renamed_clock, renamed_test, formal_clock, base_of, parts, operand_parts, branch_parts, argument_parts}
 use Rattle.lus_streams.specs.Equations.{equation_clock, equation_parts, node_parts}
@@ -88,7 +88,6 @@ module _ (p : Program) (f : Node) where
       parts_on_chains (operate op es) k h o = (h, operands_on_chains es k h o.1)
       parts_on_chains (pre a) k h o = (h, parts_on_chains a k h o.1)
       parts_on_chains (arrow a b) k h o = (h, each_append OnChain (parts p a k) (parts p b k) (parts_on_chains a k h (each_left OnClock (parts p a k) (parts p b k) o.1)) (parts_on_chains b k h (each_right OnClock (parts p a k) (parts p b k) o.1)))
-      parts_on_chains (fby a b) k h o = (h, each_append OnChain (parts p a k) (parts p b k) (parts_on_chains a k h (each_left OnClock (parts p a k) (parts p b k) o.1)) (parts_on_chains b k h (each_right OnClock (parts p a k) (parts p b k) o.1)))
       parts_on_chains (when t a) k h o = (h, parts_on_chains a (drop 1 k) (chain_drop f 1 k h) o.1)
       parts_on_chains (merge x bs) k h o = (h, branches_on_chains bs x 0 k o.0 h o.1)
       parts_on_chains (call g c args) k h o = (h, arguments_on_chains args g args (base_of (node_at p g) k) 0 (chain_drop f _ k h) (call_clock (node_at p g) args (base_of (node_at p g) k) o.1) o.1)

@@ -3,7 +3,7 @@ use Rattle.std.proofs.Common.{◌≡◌, ℕ, zero, suc, ◌+◌, ◌<◌, ◌�
 use Rattle.std.proofs.lemmas.Bool.{cases_lt, eq-eqb}
 use Rattle.lus_values.specs.Lists.{Each}
 use Rattle.lus_values.proofs.Lists.{below_all}
-use Rattle.lus_program.specs.Programs.{Expression, literal, variable, operate, pre, arrow, fby, when, merge, call, Operands, none, more, Node, Program, node_at}
+use Rattle.lus_program.specs.Programs.{Expression, literal, variable, operate, pre, arrow, when, merge, call, Operands, none, more, Node, Program, node_at}
 use Rattle.lus_streams.specs.Clocks.{renamed_clock, Clock, clock_of, Part, formal_clock, base_of}
 use Rattle.lus_streams.specs.Equations.{Definition, given_by, definition_of}
 use Rattle.lus_streams.specs.OnClock.{actuals, DefinedOnClock, IsOnClocks}
@@ -99,7 +99,6 @@ module _ (p p' : Program) (new_parts : ℕ → List Part) (named : AreNamed p) (
         let inner = still done (needs is.0) (clock_variables k) first hk in
         let later = normal_grown b is.1 k is.4 first.all inner (λ r n. right_grown b r k n first.all first.first (still done (needs is.0) (needs b) first (each_right (In done) (needs a) (needs b) hn)) inner) in
         subst (λ z. Grown done (needs z)) (sym is.2) (both done (needs is.0) (needs is.1) first later)
-    right_grown (fby a b) e' k is done h hn hk = subst (λ z. Grown done (needs z)) (sym is.2) (normal_grown a is.0 k is.3 done hk (λ r n. right_grown a r k n done h hn hk))
     right_grown (when t a) e' k is done h hn hk =
         let inner = each_map_drop (In done) (λ t. t.variable) 1 k hk in
         subst (λ z. Grown done (needs z)) (sym is.1)

@@ -2,7 +2,7 @@
 use Rattle.std.proofs.Common.{◌≡◌, sym, ap, ◌∙◌, subst, ℕ, suc, ◌⊎◌, List, [], ◌∷◌, ◌++◌, length, drop, Some}
 use Rattle.std.proofs.Math.Logic.{inl, inr}
 use Rattle.lus_values.specs.Lists.{item, Each}
-use Rattle.lus_program.specs.Programs.{Expression, literal, variable, operate, pre, arrow, fby, when, merge, call, Operands, none, more, Equation, Node, Program, node_at}
+use Rattle.lus_program.specs.Programs.{Expression, literal, variable, operate, pre, arrow, when, merge, call, Operands, none, more, Equation, Node, Program, node_at}
 use Rattle.lus_streams.specs.Clocks.{Clock, clock_of, Part, at, renamed_clock, formal_clock, base_of, parts, operand_parts, branch_parts, argument_parts}
 use Rattle.lus_streams.specs.Equations.{given_by, equation_clock, definition_of, equation_parts}
 use Rattle.lus_streams.specs.OnClock.{PartOnClock, RightOnClock}
@@ -97,15 +97,6 @@ module _ (p p' : Program) (new_parts : ℕ → List Part) (named : AreNamed p) (
           each_append NormalOn (parts p' is.0 k) (parts p' is.1 k)
               (normal_on a is.0 k is.3 (each_left Used first later u.1) (each_left SourceOn first later o.1))
               (normal_on b is.1 k is.4 (each_right Used first later u.1) (each_right SourceOn first later o.1)),
-        )
-    normal_on (fby a b) e' k is u o =
-        let first = parts p a k in
-        let later = parts p b k in
-        subst (λ z. Each NormalOn (parts p' z k)) (sym is.2) (
-          tt,
-          each_append NormalOn (parts p' is.0 k) (parts p' is.1 k)
-              (normal_on a is.0 k is.3 (each_left Used first later u.1) (each_left SourceOn first later o.1))
-              (operand_on b is.1 k is.4 (each_right Used first later u.1) (each_right SourceOn first later o.1)),
         )
     normal_on (when t a) e' k is u o =
         subst (λ z. Each NormalOn (parts p' z k)) (sym is.1) (o.0 ∙ ap (λ z. t ∷ z) (sym (old t.variable u.0.1)), operand_on a is.0 (drop 1 k) is.2 u.1 o.1)

@@ -7,7 +7,7 @@ use Rattle.lus_values.specs.Lists.{item, Each, Below}
 use Rattle.lus_values.proofs.Lists.{below_all}
 use Rattle.lus_program.specs.declared.expr.Test.{Test}
 use Rattle.lus_program.specs.declared.types.Kind.{Kind}
-use Rattle.lus_program.specs.Programs.{Expression, literal, variable, operate, pre, arrow, fby, when, merge, call, Operands, none, more, Equation, Node, Program, empty_node, node_at}
+use Rattle.lus_program.specs.Programs.{Expression, literal, variable, operate, pre, arrow, when, merge, call, Operands, none, more, Equation, Node, Program, empty_node, node_at}
 use Rattle.lus_streams.specs.Clocks.{Clock, clock_of, Part, at, formal_clock, base_of, parts, operand_parts, branch_parts, argument_parts}
 use Rattle.lus_streams.specs.Equations.{Definition, given_by, equation_clock, definition_of, equation_parts, node_parts, Site, sites}
 use Rattle.lus_streams.specs.OnClock.{DefinedOnClock, IsOnClocks}
@@ -56,9 +56,6 @@ module _ (p : Program) (f : Node) where
     typed_in_node (operate o es) k h on = ((on, tt), operands_in_node es k (operate_typed p f o es h) on)
     typed_in_node (pre a) k h on = ((on, tt), typed_in_node a k h on)
     typed_in_node (arrow a b) k h on =
-        let both = both_typed p f a b h in
-        ((on, tt), each_append InNode (parts p a k) (parts p b k) (typed_in_node a k both.0 on) (typed_in_node b k both.1 on))
-    typed_in_node (fby a b) k h on =
         let both = both_typed p f a b h in
         ((on, tt), each_append InNode (parts p a k) (parts p b k) (typed_in_node a k both.0 on) (typed_in_node b k both.1 on))
     typed_in_node (when t a) k h on =
@@ -135,7 +132,6 @@ module _ (p : Program) (nodes : Each (NodeResolved p) p.nodes) where
     names_here (operate o es) k h here some = tt
     names_here (pre a) k h here some = tt
     names_here (arrow a b) k h here some = tt
-    names_here (fby a b) k h here some = tt
     names_here (when t a) k h here some = h
     names_here (merge x bs) k h here some = h
 

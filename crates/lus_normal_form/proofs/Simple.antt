@@ -2,7 +2,7 @@
 use Rattle.std.proofs.Common.{ℕ, suc, ◌<◌, List, [], ◌∷◌, length, drop, Option, Some, None, sym, subst, ⊎_elim}
 use Rattle.std.proofs.lemmas.Bool.{cases_lt}
 use Rattle.lus_values.specs.Lists.{item}
-use Rattle.lus_program.specs.Programs.{Expression, literal, variable, operate, pre, arrow, fby, when, merge, call, Operands, none, more, Equation, Node, Program, node_at}
+use Rattle.lus_program.specs.Programs.{Expression, literal, variable, operate, pre, arrow, when, merge, call, Operands, none, more, Equation, Node, Program, node_at}
 use Rattle.lus_streams.specs.Clocks.{Clock, Part, formal_clock, base_of}
 use Rattle.lus_streams.specs.Equations.{Definition, given_by, definition_of}
 use Rattle.lus_streams.proofs.Lists.{each_implies, below_at}
@@ -34,7 +34,6 @@ module _ (p : Program) (New : ℕ → Clock → Expression → Type 0) where
     normal_simple (operate o es) e' k h = subst IsSimple (sym h.1) (all_simple es h.0 k h.2)
     normal_simple (pre a) e' k h = subst IsSimple (sym h.1) (operand_atom a h.0 k h.2)
     normal_simple (arrow a b) e' k h = subst IsSimple (sym h.2) (normal_simple a h.0 k h.3, normal_simple b h.1 k h.4)
-    normal_simple (fby a b) e' k h = subst IsSimple (sym h.2) (normal_simple a h.0 k h.3, operand_atom b h.1 k h.4)
     normal_simple (when t a) e' k h = subst IsSimple (sym h.1) (operand_atom a h.0 (drop 1 k) h.2)
     normal_simple (merge x bs) e' k h = subst IsSimple (sym h.1) (branches_simple bs h.0 x 0 k h.2)
     normal_simple (call g c args) e' k h = subst IsSimple (sym h.1) tt

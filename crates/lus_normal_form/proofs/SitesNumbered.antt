@@ -1,6 +1,6 @@
 -- Where the calls of equations are numbered by their places in the program, those of the node's parts are by theirs.
 use Rattle.std.proofs.Common.{◌≡◌, refl, sym, subst, ℕ, suc, ◌+◌, List, [], ◌∷◌, ◌++◌, drop, append_assoc, arith}
-use Rattle.lus_program.specs.Programs.{Expression, literal, variable, operate, pre, arrow, fby, when, merge, call, Operands, none, more, calls, all_calls, numbered, all_numbered, Equation, Node, Program, node_at}
+use Rattle.lus_program.specs.Programs.{Expression, literal, variable, operate, pre, arrow, when, merge, call, Operands, none, more, calls, all_calls, numbered, all_numbered, Equation, Node, Program, node_at}
 use Rattle.lus_streams.specs.Clocks.{Clock, Part, formal_clock, base_of, parts, operand_parts, branch_parts, argument_parts}
 use Rattle.lus_streams.specs.Equations.{equation_clock, equation_parts, sites_in}
 use Rattle.lus_meaning.specs.Resolved.{AreNumbered}
@@ -28,9 +28,6 @@ module _ (p : Program) where
     expression_from (operate o es) n k rest h = operands_from es n k rest h
     expression_from (pre a) n k rest h = expression_from a n k rest h
     expression_from (arrow a b) n k rest h =
-        let second = parts p (numbered (n + calls a) b) k in
-        from_apart n (parts p (numbered n a) k) second rest (expression_from a n k (second ++ rest) (expression_from b (n + calls a) k rest (from_sum n (calls a) (calls b) rest h)))
-    expression_from (fby a b) n k rest h =
         let second = parts p (numbered (n + calls a) b) k in
         from_apart n (parts p (numbered n a) k) second rest (expression_from a n k (second ++ rest) (expression_from b (n + calls a) k rest (from_sum n (calls a) (calls b) rest h)))
     expression_from (when t a) n k rest h = expression_from a n (drop 1 k) rest h

@@ -1,7 +1,7 @@
 -- The normal form of an expression has its values.
 use Rattle.std.proofs.Common.{◌≡◌, ℕ, suc, true, false, Bool, ◌&&◌, List, [], ◌∷◌, drop, Option, Some, refl, sym, ap, ap₂, ◌∙◌, subst, IsTrue}
 use Rattle.lus_values.specs.Values.{Value}
-use Rattle.lus_program.specs.Programs.{Expression, literal, variable, operate, pre, arrow, fby, when, merge, call, Operands, none, more, Program}
+use Rattle.lus_program.specs.Programs.{Expression, literal, variable, operate, pre, arrow, when, merge, call, Operands, none, more, Program}
 use Rattle.lus_values.specs.Lists.{Each}
 use Rattle.lus_values.specs.Operators.{apply}
 use Rattle.lus_streams.specs.Clocks.{Clock, Part, parts, operand_parts, branch_parts}
@@ -75,7 +75,6 @@ module _ (p p' : Program) (V : ℕ → Type 0) (C : (g c n : ℕ) → Type 0) (N
   plain (operate o es) e' k is = subst IsPlain (sym is.1) tt
   plain (pre a) e' k is = subst IsPlain (sym is.1) tt
   plain (arrow a b) e' k is = subst IsPlain (sym is.2) tt
-  plain (fby a b) e' k is = subst IsPlain (sym is.2) tt
   plain (when t a) e' k is = subst IsPlain (sym is.1) tt
   plain (merge x bs) e' k is = subst IsPlain (sym is.1) tt
   plain (call g c args) e' k is = subst IsPlain (sym is.1) tt
@@ -122,12 +121,6 @@ module _ (p p' : Program) (V : ℕ → Type 0) (C : (g c n : ℕ) → Type 0) (N
         let first = normal_value a is.0 k is.3 (each_left Used (parts p a k) (parts p b k) u.1) i i' w w' l over t in
         let later = normal_value b is.1 k is.4 (each_right Used (parts p a k) (parts p b k) u.1) i i' w w' l over t in
         at_last_keeps k w w' _ _ _ _ u.0.0 over first (λ _ _ _ _ _ _ _. later) ∙ ap (λ z. value p' z k i' w') (sym is.2)
-    normal_value (fby a b) e' k is u i i' w w' l over t =
-        let first = normal_value a is.0 k is.3 (each_left Used (parts p a k) (parts p b k) u.1) i i' w w' l over t in
-        let used_later = each_right Used (parts p a k) (parts p b k) u.1 in
-        at_last_keeps k w w' _ _ _ _ u.0.0 over first
-        (λ j j' b₁ b₂ lj lb tj. operand_value b is.1 k is.4 used_later j j' b₁ b₂ lj tj (λ r n. normal_value b r k n used_later j j' b₁ b₂ lj lb tj))
-        ∙ ap (λ z. value p' z k i' w') (sym is.2)
     normal_value (when c a) e' k is u i i' w w' l over t =
         let on_rest = on_drop k i t in
         operand_value a is.0 (drop 1 k) is.2 u.1 i i' w w' l on_rest (λ r n. normal_value a r (drop 1 k) n u.1 i i' w w' l over on_rest)

@@ -1,7 +1,7 @@
 -- Which variables an expression needs and the clocks of its parts test, where each part uses such variables alone.
 use Rattle.std.proofs.Common.{ℕ, suc, ◌∷◌, drop}
 use Rattle.lus_values.specs.Lists.{Each}
-use Rattle.lus_program.specs.Programs.{Expression, literal, variable, operate, pre, arrow, fby, when, merge, call, Operands, none, more, Node, Program, node_at}
+use Rattle.lus_program.specs.Programs.{Expression, literal, variable, operate, pre, arrow, when, merge, call, Operands, none, more, Node, Program, node_at}
 use Rattle.lus_streams.specs.Clocks.{Clock, Part, formal_clock, base_of, parts, operand_parts, branch_parts, argument_parts}
 use Rattle.lus_streams.specs.Order.{needs, needs_all}
 use Rattle.lus_streams.proofs.Lists.{each_left, each_right, each_append}
@@ -20,7 +20,6 @@ module _ (p : Program) (V : ℕ → Type 0) (C : (g c n : ℕ) → Type 0) where
     needs_known (operate o es) k u = all_known es k u.1
     needs_known (pre a) k u = tt
     needs_known (arrow a b) k u = each_append V (needs a) (needs b) (needs_known a k (each_left Used (parts p a k) (parts p b k) u.1)) (needs_known b k (each_right Used (parts p a k) (parts p b k) u.1))
-    needs_known (fby a b) k u = needs_known a k (each_left Used (parts p a k) (parts p b k) u.1)
     needs_known (when t a) k u = (u.0.1, needs_known a (drop 1 k) u.1)
     needs_known (merge x bs) k u = (u.0.1, branches_known bs x 0 k u.1)
     needs_known (call g c args) k u = arguments_known args (node_at p g) args (base_of (node_at p g) k) 0 u.1

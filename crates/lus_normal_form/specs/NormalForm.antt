@@ -1,7 +1,7 @@
--- The normal form of an expression: operands of `pre`, `when` and calls and right operands of `fby` are literals or
+-- The normal form of an expression: operands of `pre`, `when` and calls are literals or
 -- variables, and each call is a whole right side. What is taken out of an expression gets a new variable.
 use Rattle.std.specs.Prelude.{◌≡◌, ◌⊎◌, ℕ, suc, ◌<◌, drop, List, [], ◌∷◌}
-use Rattle.lus_program.specs.Programs.{Expression, literal, variable, operate, pre, arrow, fby, when, merge, call, Operands, none, more, Program, node_at}
+use Rattle.lus_program.specs.Programs.{Expression, literal, variable, operate, pre, arrow, when, merge, call, Operands, none, more, Program, node_at}
 use Rattle.lus_streams.specs.Clocks.{Clock, Part, at, formal_clock, base_of}
 
 -- variable y stands for a on k, where the variables from n on stand for these parts
@@ -25,7 +25,6 @@ module _ (p : Program) (New : ℕ → Clock → Expression → Type 0) where
     IsNormal (operate o es) e' k = (es' : Operands) × (e' ≡ operate o es') × AreNormal es es' k
     IsNormal (pre a) e' k = (a' : Expression) × (e' ≡ pre a') × IsOperand a a' k
     IsNormal (arrow a b) e' k = (a' b' : Expression) × (e' ≡ arrow a' b') × IsNormal a a' k × IsNormal b b' k
-    IsNormal (fby a b) e' k = (a' b' : Expression) × (e' ≡ fby a' b') × IsNormal a a' k × IsOperand b b' k
     IsNormal (when t a) e' k = (a' : Expression) × (e' ≡ when t a') × IsOperand a a' (drop 1 k)
     IsNormal (merge x bs) e' k = (bs' : Operands) × (e' ≡ merge x bs') × AreBranches bs bs' x 0 k
     IsNormal (call g c args) e' k = (y : ℕ) × (e' ≡ variable y) × New y k (call g c args)
@@ -73,7 +72,7 @@ abbrev pub AreAtoms : Operands → Type 0
 AreAtoms none = Unit {0}
 AreAtoms (more e es) = IsAtom e × AreAtoms es
 
--- the operands of `pre` and `when` and the right operands of `fby` are literals or variables, and no call stands there
+-- the operands of `pre` and `when` are literals or variables, and no call stands there
 abbrev mutual
   pub IsSimple : Expression → Type 0
   IsSimple (literal v) = Unit {0}
@@ -81,7 +80,6 @@ abbrev mutual
   IsSimple (operate o es) = AreSimple es
   IsSimple (pre a) = IsAtom a
   IsSimple (arrow a b) = IsSimple a × IsSimple b
-  IsSimple (fby a b) = IsSimple a × IsAtom b
   IsSimple (when t a) = IsAtom a
   IsSimple (merge x bs) = AreSimple bs
   IsSimple (call g c args) = ⊥

@@ -2,7 +2,7 @@
 -- one new variable for each part that was taken out, with an equation of its own on the part's clock.
 use Rattle.std.specs.Prelude.{◌≡◌, ℕ, suc, ◌+◌, List, [], ◌∷◌, ◌++◌, length, Option, Some, None}
 use Rattle.lus_values.specs.Lists.{Each, Below}
-use Rattle.lus_program.specs.Programs.{Expression, literal, variable, operate, pre, arrow, fby, when, merge, call, Operands, none, more, Equation, Node, Program, node_at}
+use Rattle.lus_program.specs.Programs.{Expression, literal, variable, operate, pre, arrow, when, merge, call, Operands, none, more, Equation, Node, Program, node_at}
 use Rattle.lus_streams.specs.Clocks.{Clock, clock_of, Part, at, parts}
 use Rattle.lus_streams.specs.Equations.{Definition, given_by, definition_of, node_parts, Site, sites}
 use Rattle.lus_normal_form.specs.NormalForm.{StandsFor, IsCallOf, IsRight, IsSimpleRight}
@@ -33,7 +33,7 @@ IsWithin p all (at k a) = (before after : List Part) × (all ≡ before ++ (part
 abbrev pub DefinesNew : Program → Node → (ℕ → Clock → Expression → Type 0) → ℕ → Part → Type 0
 DefinesNew p f' New y (at k a) = (clock_of f' y ≡ k) × IsDefinition p New (Some (given_by a 0 (y ∷ []) k)) (definition_of f' y)
 
--- how many memories an expression wants: one for each `pre` and `fby`
+-- how many memories an expression wants: one for each `pre`
 abbrev mutual
   pub memories : Expression → ℕ
   memories (literal v) = 0
@@ -41,7 +41,6 @@ abbrev mutual
   memories (operate o es) = all_memories es
   memories (pre a) = suc (memories a)
   memories (arrow a b) = memories a + memories b
-  memories (fby a b) = suc (memories a + memories b)
   memories (when t a) = memories a
   memories (merge x bs) = all_memories bs
   memories (call g c args) = all_memories args
@@ -50,7 +49,7 @@ abbrev mutual
   all_memories none = 0
   all_memories (more e es) = memories e + all_memories es
 
--- how many marks of a first instant an expression wants: one for each `->` and `fby`
+-- how many marks of a first instant an expression wants: one for each `->`
 abbrev mutual
   pub firsts : Expression → ℕ
   firsts (literal v) = 0
@@ -58,7 +57,6 @@ abbrev mutual
   firsts (operate o es) = all_firsts es
   firsts (pre a) = firsts a
   firsts (arrow a b) = suc (firsts a + firsts b)
-  firsts (fby a b) = suc (firsts a + firsts b)
   firsts (when t a) = firsts a
   firsts (merge x bs) = all_firsts bs
   firsts (call g c args) = all_firsts args

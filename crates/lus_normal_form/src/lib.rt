@@ -20,8 +20,7 @@ pub fn normal_form_is_on_clocks()
     ensures { NormalIsOnClocks }
 {}
 
-/// In a normal form the operands of `pre`, `when` and calls and the right operands of `fby` are literals or variables, and
-/// each call is a whole right side.
+/// In a normal form the operands of `pre`, `when` and calls are literals or variables, and each call is a whole right side.
 pub fn normal_form_is_simple()
     ensures { NormalIsSimple }
 {}

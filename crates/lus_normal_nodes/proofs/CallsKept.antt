@@ -1,7 +1,7 @@
 -- The calls of a normal form have as many arguments as those of the source, and their nodes have the outputs that they had.
 use Rattle.std.proofs.Common.{◌≡◌, ◌∙◌, ap, sym, subst, ℕ, suc, List, [], ◌∷◌}
 use Rattle.lus_values.specs.Lists.{Each}
-use Rattle.lus_program.specs.Programs.{Expression, literal, variable, operate, pre, arrow, fby, when, merge, call, Operands, none, more, Program, node_at}
+use Rattle.lus_program.specs.Programs.{Expression, literal, variable, operate, pre, arrow, when, merge, call, Operands, none, more, Program, node_at}
 use Rattle.lus_streams.specs.Clocks.{Clock, Part, at}
 use Rattle.lus_streams.specs.Equations.{Site, sites_in}
 use Rattle.lus_streams.proofs.Calls.{AtBase, OfCall, OfSite, parts_of_sites, sites_of_parts}
@@ -38,7 +38,6 @@ fit_part p V R (at k (variable x)) h = tt
 fit_part p V R (at k (operate o es)) h = tt
 fit_part p V R (at k (pre a)) h = tt
 fit_part p V R (at k (arrow a b)) h = tt
-fit_part p V R (at k (fby a b)) h = tt
 fit_part p V R (at k (when t a)) h = tt
 fit_part p V R (at k (merge x bs)) h = tt
 
@@ -64,6 +63,5 @@ fit_has_arguments p ss (at k (variable x)) h = tt
 fit_has_arguments p ss (at k (operate o es)) h = tt
 fit_has_arguments p ss (at k (pre a)) h = tt
 fit_has_arguments p ss (at k (arrow a b)) h = tt
-fit_has_arguments p ss (at k (fby a b)) h = tt
 fit_has_arguments p ss (at k (when t a)) h = tt
 fit_has_arguments p ss (at k (merge x bs)) h = tt

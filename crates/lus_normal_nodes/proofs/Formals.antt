@@ -9,7 +9,7 @@ use Rattle.std.specs.Prelude.{slice_get, option_map}
 use Rattle.lus_values.specs.Lists.{Each, Below}
 use Rattle.lus_program.specs.declared.expr.Test.{Test}
 use Rattle.lus_program.specs.declared.types.Kind.{Kind}
-use Rattle.lus_program.specs.Programs.{Expression, literal, variable, operate, pre, arrow, fby, when, merge, call, Operands, none, more, Equation, Node, Program, Variable, empty_node, no_variable, node_at}
+use Rattle.lus_program.specs.Programs.{Expression, literal, variable, operate, pre, arrow, when, merge, call, Operands, none, more, Equation, Node, Program, Variable, empty_node, no_variable, node_at}
 use Rattle.lus_streams.specs.Clocks.{Clock, clock_of, Part, at, operand, formal_clock, base_of, parts, operand_parts, branch_parts, argument_parts}
 use Rattle.lus_streams.specs.Equations.{equation_clock, equation_parts, node_parts}
 use Rattle.lus_streams.specs.OnClock.{IsDeclared, IsName, IsOnClocks, LeftOnClock, PartOnClock, ProgramOnClocks, RightOnClock, actuals, test_of}
@@ -66,7 +66,6 @@ module _ (p : Program) (resolved : Each (NodeResolved p) p.nodes) where
       typed_parts (operate o es) k h = (tt, typed_operands es k (operate_typed p f o es h))
       typed_parts (pre a) k h = (tt, typed_parts a k h)
       typed_parts (arrow a b) k h = let both = both_typed p f a b h in (tt, each_append Has (parts p a k) (parts p b k) (typed_parts a k both.0) (typed_parts b k both.1))
-      typed_parts (fby a b) k h = let both = both_typed p f a b h in (tt, each_append Has (parts p a k) (parts p b k) (typed_parts a k both.0) (typed_parts b k both.1))
       typed_parts (when t a) k h = let given = when_typed p f t a h in (tt, typed_parts a (drop 1 k) given.1)
       typed_parts (merge x bs) k h = let given = merge_typed p f x bs h in (tt, typed_branches bs x 0 k given.1)
       typed_parts (call g c args) k h =
@@ -178,7 +177,6 @@ module _ (p : Program) (callees : (g : ℕ) → Declared (node_at p g)) (f : Nod
   right_formals (operate o es) x xs k left right has = parts_formals p f (parts p (operate o es) k) has right
   right_formals (pre a) x xs k left right has = parts_formals p f (parts p (pre a) k) has right
   right_formals (arrow a b) x xs k left right has = parts_formals p f (parts p (arrow a b) k) has right
-  right_formals (fby a b) x xs k left right has = parts_formals p f (parts p (fby a b) k) has right
   right_formals (when t a) x xs k left right has = parts_formals p f (parts p (when t a) k) has right
   right_formals (merge y bs) x xs k left right has = parts_formals p f (parts p (merge y bs) k) has right
 

@@ -2,7 +2,7 @@
 use Rattle.std.proofs.Common.{◌≡◌, ◌∙◌, ap, sym, subst, ℕ, zero, suc, ◌+◌, ◌<◌, ◌≤◌, nat_lt, Bool, true, false, List, [], ◌∷◌, length, arith}
 use Rattle.std.proofs.lemmas.Bool.{le-ltb, lt-ltb}
 use Rattle.lus_values.specs.Lists.{item, Each}
-use Rattle.lus_program.specs.Programs.{Expression, literal, variable, operate, pre, arrow, fby, when, merge, call, Equation, Node, Program, empty_node, node_at}
+use Rattle.lus_program.specs.Programs.{Expression, literal, variable, operate, pre, arrow, when, merge, call, Equation, Node, Program, empty_node, node_at}
 use Rattle.lus_streams.specs.Clocks.{Clock, Part, at, parts}
 use Rattle.lus_streams.specs.Equations.{equation_clock, equation_parts, node_parts}
 use Rattle.lus_streams.specs.Flags.{CallsHaveOutputs, HasOutput}
@@ -60,7 +60,6 @@ right_has_formals p (variable x) k h = tt
 right_has_formals p (operate o es) k h = tt
 right_has_formals p (pre a) k h = tt
 right_has_formals p (arrow a b) k h = tt
-right_has_formals p (fby a b) k h = tt
 right_has_formals p (when t a) k h = tt
 right_has_formals p (merge x bs) k h = tt
 

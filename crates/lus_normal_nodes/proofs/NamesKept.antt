@@ -2,7 +2,7 @@
 use Rattle.std.proofs.Common.{sym, subst, ℕ, suc, ◌<◌, List, ◌∷◌, ◌++◌, drop, Option, Some, None}
 use Rattle.lus_values.specs.Lists.{Each}
 use Rattle.lus_program.specs.declared.expr.Test.{Test}
-use Rattle.lus_program.specs.Programs.{Expression, literal, variable, operate, pre, arrow, fby, when, merge, call, Operands, none, more, Node, Program, node_at}
+use Rattle.lus_program.specs.Programs.{Expression, literal, variable, operate, pre, arrow, when, merge, call, Operands, none, more, Node, Program, node_at}
 use Rattle.lus_streams.specs.Clocks.{Clock, Part, formal_clock, base_of, parts, operand_parts, branch_parts, argument_parts}
 use Rattle.lus_streams.specs.Equations.{Definition, given_by}
 use Rattle.lus_streams.specs.Order.{clock_variables, needs_all}
@@ -58,12 +58,6 @@ module _ (p p' : Program) (f : Node) (u : ℕ) (New : ℕ → Clock → Expressi
           (on, tt),
           each_append Named (parts p' is.0 k) (parts p' is.1 k)
               (normal_named a is.0 k (left_of (parts p a k) (parts p b k) h.1) is.3 on) (normal_named b is.1 k (right_of (parts p a k) (parts p b k) h.1) is.4 on),
-        )
-    normal_named (fby a b) e' k h is on =
-        subst (λ z. Each Named (parts p' z k)) (sym is.2) (
-          (on, tt),
-          each_append Named (parts p' is.0 k) (parts p' is.1 k)
-              (normal_named a is.0 k (left_of (parts p a k) (parts p b k) h.1) is.3 on) (operand_named b is.1 k k (right_of (parts p a k) (parts p b k) h.1) is.4 on),
         )
     normal_named (when t a) e' k h is on =
         subst (λ z. Each Named (parts p' z k)) (sym is.1) ((on, old t.variable h.0.1), operand_named a is.0 (drop 1 k) (drop 1 k) h.1 is.2 (dropped 1 k on))

@@ -3,7 +3,7 @@
 use Rattle.std.proofs.Common.{ℕ, suc, ◌≤◌, List, [], ◌∷◌, sum_by, arith}
 use Rattle.std.proofs.lemmas.List.Sums.{sum_by-cons}
 use Rattle.lus_program.specs.Parts.{parts, parts_all}
-use Rattle.lus_program.specs.Programs.{Expression, literal, variable, operate, pre, arrow, fby, when, merge, call, Operands, none, more, Equation}
+use Rattle.lus_program.specs.Programs.{Expression, literal, variable, operate, pre, arrow, when, merge, call, Operands, none, more, Equation}
 use Rattle.lus_normal_nodes.specs.Forms.{operand_count, inner_count, right_count, inner_counts, argument_counts, equations_count}
 use Rattle.lus_normal_nodes.specs.Laws.{NewAreFew}
 
@@ -26,10 +26,6 @@ mutual
   right_few (arrow a b) =
       let h = inner_few a (right_count a) (right_few a) in
       let l = inner_few b (right_count b) (right_few b) in
-      omega (arith, h, l)
-  right_few (fby a b) =
-      let h = inner_few a (right_count a) (right_few a) in
-      let l = operand_few b (right_count b) (right_few b) in
       omega (arith, h, l)
   right_few (when t a) = let h = operand_few a (right_count a) (right_few a) in omega (arith, h)
   right_few (merge x bs) = let h = inners_few bs in omega (arith, h)

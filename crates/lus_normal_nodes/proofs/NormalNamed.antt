@@ -3,7 +3,7 @@ use Rattle.std.proofs.Common.{◌≡◌, subst, ℕ, ◌+◌, ◌<◌, ◌≤◌
 use Rattle.std.proofs.lemmas.Bool.{cases_lt}
 use Rattle.lus_values.specs.Lists.{item, Each}
 use Rattle.lus_values.proofs.Lists.{below_all}
-use Rattle.lus_program.specs.Programs.{Expression, literal, variable, operate, pre, arrow, fby, when, merge, call, Equation, Node, Program, node_at}
+use Rattle.lus_program.specs.Programs.{Expression, literal, variable, operate, pre, arrow, when, merge, call, Equation, Node, Program, node_at}
 use Rattle.lus_streams.specs.Clocks.{Clock, clock_of, Part, at, parts}
 use Rattle.lus_streams.specs.Equations.{Definition, given_by, equation_clock, definition_of, equation_parts, node_parts, sites}
 use Rattle.lus_streams.specs.Flags.{OutputIs}
@@ -38,7 +38,6 @@ names_of V p f (at k (variable x)) h = h.0
 names_of V p f (at k (operate o es)) h = (h.0.0, tt)
 names_of V p f (at k (pre a)) h = (h.0.0, tt)
 names_of V p f (at k (arrow a b)) h = (h.0.0, tt)
-names_of V p f (at k (fby a b)) h = (h.0.0, tt)
 names_of V p f (at k (when t a)) h = h.0
 names_of V p f (at k (merge x bs)) h = h.0
 

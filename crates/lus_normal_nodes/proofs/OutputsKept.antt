@@ -1,7 +1,7 @@
 -- A call in normal form has no more variables on its left than its node has outputs, as in the source.
 use Rattle.std.proofs.Common.{◌≡◌, subst, ℕ, zero, suc, ◌+◌, ◌<◌, nat_eq, Bool, true, false, List, [], ◌∷◌, length, Option, Some, None, refl, if◌then◌else◌, arith}
 use Rattle.lus_values.specs.Lists.{Each}
-use Rattle.lus_program.specs.Programs.{Expression, literal, variable, operate, pre, arrow, fby, when, merge, call, Equation, Node, Program, node_at}
+use Rattle.lus_program.specs.Programs.{Expression, literal, variable, operate, pre, arrow, when, merge, call, Equation, Node, Program, node_at}
 use Rattle.lus_streams.specs.Clocks.{Clock, Part, at}
 use Rattle.lus_streams.specs.Equations.{given_by, place_in, equation_clock, definition_in}
 use Rattle.lus_streams.specs.Flags.{HasOutput, OutputIs}
@@ -27,7 +27,6 @@ has_outputs p (variable x) n xs k h = tt
 has_outputs p (operate o es) n xs k h = tt
 has_outputs p (pre a) n xs k h = tt
 has_outputs p (arrow a b) n xs k h = tt
-has_outputs p (fby a b) n xs k h = tt
 has_outputs p (when t a) n xs k h = tt
 has_outputs p (merge x bs) n xs k h = tt
 
@@ -38,7 +37,6 @@ output_of p (variable x) n i xs k h lt = tt
 output_of p (operate o es) n i xs k h lt = tt
 output_of p (pre a) n i xs k h lt = tt
 output_of p (arrow a b) n i xs k h lt = tt
-output_of p (fby a b) n i xs k h lt = tt
 output_of p (when t a) n i xs k h lt = tt
 output_of p (merge x bs) n i xs k h lt = tt
 
@@ -61,7 +59,6 @@ part_outputs p (at k (variable x) ∷ ts) h = (tt, part_outputs p ts h.1)
 part_outputs p (at k (operate o es) ∷ ts) h = (tt, part_outputs p ts h.1)
 part_outputs p (at k (pre a) ∷ ts) h = (tt, part_outputs p ts h.1)
 part_outputs p (at k (arrow a b) ∷ ts) h = (tt, part_outputs p ts h.1)
-part_outputs p (at k (fby a b) ∷ ts) h = (tt, part_outputs p ts h.1)
 part_outputs p (at k (when t a) ∷ ts) h = (tt, part_outputs p ts h.1)
 part_outputs p (at k (merge x bs) ∷ ts) h = (tt, part_outputs p ts h.1)
 
@@ -74,7 +71,6 @@ module _ (p p' : Program) (outputs : (g : ℕ) → (node_at p' g).outputs ≡ (n
   form_outputs (operate o es) n size h = tt
   form_outputs (pre a) n size h = tt
   form_outputs (arrow a b) n size h = tt
-  form_outputs (fby a b) n size h = tt
   form_outputs (when t a) n size h = tt
   form_outputs (merge x bs) n size h = tt
 

@@ -2,7 +2,7 @@
 use Rattle.std.proofs.Common.{arith, ◌≡◌, refl, ap, ℕ, ◌+◌, suc, List, [], ◌∷◌, sum_by}
 use Rattle.std.proofs.lemmas.List.Sums.{sum_by-cons}
 use Rattle.lus_program.specs.declared.node.Equation.{Equation as StoredEquation}
-use Rattle.lus_program.specs.Programs.{Expression, literal, variable, operate, pre, arrow, fby, when, merge, call, Operands, none, more, calls, numbered, all_numbered, Equation}
+use Rattle.lus_program.specs.Programs.{Expression, literal, variable, operate, pre, arrow, when, merge, call, Operands, none, more, calls, numbered, all_numbered, Equation}
 use Rattle.lus_program.specs.Parts.{parts, parts_all}
 use Rattle.lus_program.specs.View.{expression_of, equations_from}
 
@@ -13,7 +13,6 @@ mutual
   parts-numbered n (operate o es) = ap suc (parts_all-numbered n es)
   parts-numbered n (pre a) = ap suc (parts-numbered n a)
   parts-numbered n (arrow a b) = omega (arith, parts-numbered n a, parts-numbered (n + calls a) b)
-  parts-numbered n (fby a b) = omega (arith, parts-numbered n a, parts-numbered (n + calls a) b)
   parts-numbered n (when t a) = ap suc (parts-numbered n a)
   parts-numbered n (merge x bs) = ap suc (parts_all-numbered n bs)
   parts-numbered n (call g c es) = ap suc (parts_all-numbered (suc n) es)

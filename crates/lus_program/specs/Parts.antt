@@ -1,6 +1,6 @@
 -- How many parts a program has: its equations, and the expressions in them.
 use Rattle.std.specs.Prelude.{◌+◌, ℕ, suc, sum_by}
-use Rattle.lus_program.specs.Programs.{Expression, literal, variable, operate, pre, arrow, fby, when, merge, call, Operands, none, more, Node, Program}
+use Rattle.lus_program.specs.Programs.{Expression, literal, variable, operate, pre, arrow, when, merge, call, Operands, none, more, Node, Program}
 
 -- an expression counts one, and what its operands count
 abbrev mutual
@@ -10,7 +10,6 @@ abbrev mutual
   parts (operate o es) = suc (parts_all es)
   parts (pre a) = suc (parts a)
   parts (arrow a b) = suc (parts a + parts b)
-  parts (fby a b) = suc (parts a + parts b)
   parts (when t a) = suc (parts a)
   parts (merge x bs) = suc (parts_all bs)
   parts (call g c es) = suc (parts_all es)

@@ -1,6 +1,6 @@
 -- What holds of each node that an expression calls.
 use Rattle.std.proofs.Common.{ℕ}
-use Rattle.lus_program.specs.Programs.{Expression, literal, variable, operate, pre, arrow, fby, when, merge, call, Operands, none, more}
+use Rattle.lus_program.specs.Programs.{Expression, literal, variable, operate, pre, arrow, when, merge, call, Operands, none, more}
 
 module _ (P : ℕ → Type 0) where
   abbrev mutual
@@ -10,7 +10,6 @@ module _ (P : ℕ → Type 0) where
     EachCall (operate o es) = EachCallIn es
     EachCall (pre a) = EachCall a
     EachCall (arrow a b) = EachCall a × EachCall b
-    EachCall (fby a b) = EachCall a × EachCall b
     EachCall (when t a) = EachCall a
     EachCall (merge x bs) = EachCallIn bs
     EachCall (call g c es) = P g × EachCallIn es

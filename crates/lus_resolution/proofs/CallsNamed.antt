@@ -12,7 +12,7 @@ use Rattle.lus_syntax.specs.Lexemes.{Text}
 use Rattle.lus_syntax.specs.Trees as tree
 use Rattle.lus_syntax.specs.Trees.{Numeral, Truth, Name, Call, Structure, Merge, Field, Parentheses, When, Unary, Binary, If, Parts, End, More, Tree}
 use Rattle.lus_program.specs.declared.types.Kind.TheVariants as kinds
-use Rattle.lus_program.specs.Programs.{Expression, literal, variable, operate, pre, arrow, fby, when, merge, call, Operands, none, more, calls, numbered, Equation, Node}
+use Rattle.lus_program.specs.Programs.{Expression, literal, variable, operate, pre, arrow, when, merge, call, Operands, none, more, calls, numbered, Equation, Node}
 use Rattle.lus_values.proofs.Lists.{each_left, each_right, each_append}
 use Rattle.lus_values.proofs.Equalities.{and_left, and_right}
 use Rattle.lus_meaning.specs.Scopes.{Scope, Signature, entry}
@@ -34,7 +34,6 @@ module _ (Q : ℕ → Type 0) where
     each_node (operate o es) h = each_nodes es h
     each_node (pre a) h = each_node a h
     each_node (arrow a b) h = each_append Q (nodes_called a) (nodes_called b) (each_node a h.0) (each_node b h.1)
-    each_node (fby a b) h = each_append Q (nodes_called a) (nodes_called b) (each_node a h.0) (each_node b h.1)
     each_node (when t a) h = each_node a h
     each_node (merge x bs) h = each_nodes bs h
     each_node (call g c es) h = (h.0, each_nodes es h.1)

@@ -11,7 +11,7 @@ use Rattle.lus_values.specs.declared.operator.Operator.TheVariants as operators
 use Rattle.lus_values.specs.Lists.{item}
 use Rattle.lus_program.specs.declared.types.Kind.{Kind}
 use Rattle.lus_program.specs.declared.types.Kind.TheVariants as kinds
-use Rattle.lus_program.specs.Programs.{Expression, literal, variable, operate, pre, arrow, fby, when, merge, call, Operands, none, more, Node, Program, Variable, no_variable, empty_node, node_at}
+use Rattle.lus_program.specs.Programs.{Expression, literal, variable, operate, pre, arrow, when, merge, call, Operands, none, more, Node, Program, Variable, no_variable, empty_node, node_at}
 use Rattle.lus_values.proofs.Equalities.{and_left, and_right}
 use Rattle.lus_meaning.specs.Types.{same, all_same, where_true, alike, both, compared, common_kind, the_one}
 use Rattle.lus_meaning.specs.Resolved.{only, of_two, op_kind, operation_kind, if_kind, operator_kind, projected, field_kinds, input_kinds, output_kinds, call_results, results, kind_of_variable, test_fits, merged, kind_in, kinds_in}
@@ -123,7 +123,7 @@ module _ (p : Program) where
         let found = map_gives (λ v. v.kind) (slice_get f.variables x) k h in
         ap (λ v. v.kind) (get_or_from_slice_get f.variables x found.0 no_variable found.1) ∙ found.2
 
-    -- of `->`, and of `fby`
+    -- of `->`
     first_gives : (a b : Expression) (k : Kind) → ((l : Kind) → kind_in p f a ≡ Some l → given p f a ≡ l) → kind_in p f (arrow a b) ≡ Some k → given p f a ≡ k
     first_gives a b k is h =
         let first = and_then_gives (λ l. option_and_then (alike l) (kind_in p f b)) (kind_in p f a) k h in
@@ -139,7 +139,6 @@ module _ (p : Program) where
           ap (operator_given p o) (last_is kinds.Bool es all.0 all.1) ∙ operator_gives o all.0 k all.2
       given_is (pre a) k h = given_is a k h
       given_is (arrow a b) k h = first_gives a b k (given_is a) h
-      given_is (fby a b) k h = first_gives a b k (given_is a) h
       given_is (when t a) k h =
           let one = and_then_gives (λ l. where_true (test_fits p f t) (Some l)) (kind_in p f a) k h in
           given_is a one.0 one.1 ∙ some_same (where_true_gives (test_fits p f t) (Some one.0) k one.2).1

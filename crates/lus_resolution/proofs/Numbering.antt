@@ -3,7 +3,7 @@ use Rattle.std.proofs.Common.{◌≡◌, ◌∙◌, refl, ap, ap₂, ℕ, suc, �
 use Rattle.std.specs.Prelude.{option_map}
 use Rattle.std.specs.Option.{option_and_then}
 use Rattle.lus_program.specs.declared.types.Kind.{Kind}
-use Rattle.lus_program.specs.Programs.{Expression, literal, variable, operate, pre, arrow, fby, when, merge, call, Operands, none, more, calls, all_calls, numbered, all_numbered, Node, Program}
+use Rattle.lus_program.specs.Programs.{Expression, literal, variable, operate, pre, arrow, when, merge, call, Operands, none, more, calls, all_calls, numbered, all_numbered, Node, Program}
 use Rattle.lus_meaning.specs.Types.{alike, where_true, the_one}
 use Rattle.lus_meaning.specs.Resolved.{operator_kind, results, kind_of_variable, test_fits, merged, kind_in, kinds_in, kinds_given_in, nodes_called, all_nodes_called}
 
@@ -14,7 +14,6 @@ mutual
   calls-numbered (operate o es) n = all_calls-numbered es n
   calls-numbered (pre a) n = calls-numbered a n
   calls-numbered (arrow a b) n = ap₂ ◌+◌ (calls-numbered a n) (calls-numbered b (n + calls a))
-  calls-numbered (fby a b) n = ap₂ ◌+◌ (calls-numbered a n) (calls-numbered b (n + calls a))
   calls-numbered (when t a) n = calls-numbered a n
   calls-numbered (merge x bs) n = all_calls-numbered bs n
   calls-numbered (call g c es) n = ap (λ m. suc m) (all_calls-numbered es (suc n))
@@ -31,8 +30,6 @@ mutual
   numbered-numbered (pre a) n m = ap pre (numbered-numbered a n m)
   numbered-numbered (arrow a b) n m =
       ap₂ arrow (numbered-numbered a n m) (ap (λ k. numbered (n + k) (numbered (m + calls a) b)) (calls-numbered a m) ∙ numbered-numbered b (n + calls a) (m + calls a))
-  numbered-numbered (fby a b) n m =
-      ap₂ fby (numbered-numbered a n m) (ap (λ k. numbered (n + k) (numbered (m + calls a) b)) (calls-numbered a m) ∙ numbered-numbered b (n + calls a) (m + calls a))
   numbered-numbered (when t a) n m = ap (when t) (numbered-numbered a n m)
   numbered-numbered (merge x bs) n m = ap (merge x) (all_numbered-numbered bs n m)
   numbered-numbered (call g c es) n m = ap (call g n) (all_numbered-numbered es (suc n) (suc m))
@@ -49,7 +46,6 @@ mutual
   nodes_called-numbered (operate o es) n = all_nodes_called-numbered es n
   nodes_called-numbered (pre a) n = nodes_called-numbered a n
   nodes_called-numbered (arrow a b) n = ap₂ ◌++◌ (nodes_called-numbered a n) (nodes_called-numbered b (n + calls a))
-  nodes_called-numbered (fby a b) n = ap₂ ◌++◌ (nodes_called-numbered a n) (nodes_called-numbered b (n + calls a))
   nodes_called-numbered (when t a) n = nodes_called-numbered a n
   nodes_called-numbered (merge x bs) n = all_nodes_called-numbered bs n
   nodes_called-numbered (call g c es) n = ap (λ gs. g ∷ gs) (all_nodes_called-numbered es (suc n))
@@ -72,7 +68,6 @@ module _ (p : Program) (f : Node) where
     kind_in-numbered (operate o es) n = ap (option_and_then (operator_kind p o)) (kinds_in-numbered es n)
     kind_in-numbered (pre a) n = kind_in-numbered a n
     kind_in-numbered (arrow a b) n = ap₂ paired (kind_in-numbered a n) (kind_in-numbered b (n + calls a))
-    kind_in-numbered (fby a b) n = ap₂ paired (kind_in-numbered a n) (kind_in-numbered b (n + calls a))
     kind_in-numbered (when t a) n = ap (option_and_then (λ k. where_true (test_fits p f t) (Some k))) (kind_in-numbered a n)
     kind_in-numbered (merge x bs) n = ap (option_and_then (λ ks. option_and_then (merged p f ks) (kind_of_variable p f x))) (kinds_in-numbered bs n)
     kind_in-numbered (call g c es) n = ap (option_and_then (λ ks. option_and_then the_one (results p g ks))) (kinds_in-numbered es (suc n))

@@ -31,7 +31,7 @@ module _ (p : Program) (f : Node) where
   pub operate_typed : (o : Operator) (es : Operands) → HasKind (operate o es) → HaveKinds es
   operate_typed o es h = let given = and_then_gives (operator_kind p o) (kinds_in p f es) h.0 h.1 in (given.0, given.1)
 
-  -- of `->`, and of `fby`
+  -- of `->`
   pub both_typed : (a b : Expression) → HasKind (arrow a b) → HasKind a × HasKind b
   both_typed a b h =
       let first = and_then_gives (λ k. option_and_then (alike k) (kind_in p f b)) (kind_in p f a) h.0 h.1 in

@@ -2,7 +2,7 @@
 use Rattle.std.proofs.Common.{ℕ, suc, ◌<◌, ◌∷◌, drop}
 use Rattle.lus_values.specs.Lists.{Each}
 use Rattle.lus_values.proofs.Lists.{each_append}
-use Rattle.lus_program.specs.Programs.{Expression, literal, variable, operate, pre, arrow, fby, when, merge, call, Operands, none, more, Node, Program, node_at}
+use Rattle.lus_program.specs.Programs.{Expression, literal, variable, operate, pre, arrow, when, merge, call, Operands, none, more, Node, Program, node_at}
 use Rattle.lus_streams.specs.Clocks.{Clock, formal_clock, base_of, parts, operand_parts, branch_parts, argument_parts}
 use Rattle.lus_streams.specs.Flags.{HasOutput}
 use Rattle.lus_resolution.proofs.Calls.{EachCall, EachCallIn}
@@ -18,7 +18,6 @@ module _ (p : Program) where
     parts_have (operate o es) k h = (tt, operands_have es k h)
     parts_have (pre a) k h = (tt, parts_have a k h)
     parts_have (arrow a b) k h = (tt, each_append (HasOutput p) (parts p a k) (parts p b k) (parts_have a k h.0) (parts_have b k h.1))
-    parts_have (fby a b) k h = (tt, each_append (HasOutput p) (parts p a k) (parts p b k) (parts_have a k h.0) (parts_have b k h.1))
     parts_have (when t a) k h = (tt, parts_have a (drop 1 k) h)
     parts_have (merge x bs) k h = (tt, branches_have bs x 0 k h)
     parts_have (call g c args) k h = (h.0, arguments_have args (node_at p g) args (base_of (node_at p g) k) 0 h.1)

@@ -7,7 +7,7 @@ use Rattle.std.specs.Prelude.{slice_get}
 use Rattle.lus_values.specs.Lists.{Each}
 use Rattle.lus_values.proofs.Lists.{below_all, each_append, each_found}
 use Rattle.lus_program.specs.declared.types.Kind.{Kind}
-use Rattle.lus_program.specs.Programs.{Expression, literal, variable, operate, pre, arrow, fby, when, merge, call, Operands, none, more, Equation, Node, Program, empty_node, node_at}
+use Rattle.lus_program.specs.Programs.{Expression, literal, variable, operate, pre, arrow, when, merge, call, Operands, none, more, Equation, Node, Program, empty_node, node_at}
 use Rattle.lus_streams.specs.Clocks.{Clock, parts}
 use Rattle.lus_streams.specs.Equations.{Definition, given_by, place_in, equation_clock, definition_in, definition_of, equation_parts}
 use Rattle.lus_streams.specs.Flags.{HasOutput, OutputIs, CallsHaveOutputs}
@@ -57,7 +57,6 @@ module _ (p : Program) (resolved : Each (NodeResolved p) p.nodes) where
       typed_calls (operate o es) h = all_typed_calls es (operate_typed p f o es h)
       typed_calls (pre a) h = typed_calls a h
       typed_calls (arrow a b) h = let both = both_typed p f a b h in (typed_calls a both.0, typed_calls b both.1)
-      typed_calls (fby a b) h = let both = both_typed p f a b h in (typed_calls a both.0, typed_calls b both.1)
       typed_calls (when t a) h = let given = when_typed p f t a h in typed_calls a given.1
       typed_calls (merge x bs) h = let given = merge_typed p f x bs h in all_typed_calls bs given.1
       typed_calls (call g c es) h =

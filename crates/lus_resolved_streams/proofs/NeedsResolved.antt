@@ -6,7 +6,7 @@ use Rattle.lus_values.specs.Lists.{item, Each, Below}
 use Rattle.lus_values.proofs.Lists.{below_all, each_append}
 use Rattle.lus_program.specs.declared.expr.Test.{Test}
 use Rattle.lus_program.specs.declared.types.Kind.{Kind}
-use Rattle.lus_program.specs.Programs.{Expression, literal, variable, operate, pre, arrow, fby, when, merge, call, Operands, none, more, Equation, Node, Program, no_variable}
+use Rattle.lus_program.specs.Programs.{Expression, literal, variable, operate, pre, arrow, when, merge, call, Operands, none, more, Equation, Node, Program, no_variable}
 use Rattle.lus_streams.specs.Clocks.{chain, clock_of}
 use Rattle.lus_streams.specs.Equations.{Definition, given_by, place_in, equation_clock, definition_in, definition_of}
 use Rattle.lus_streams.specs.Order.{needs, needs_all, clock_variables, needs_right, needed}
@@ -39,7 +39,6 @@ module _ (p : Program) (f : Node) where
     needs_within (operate o es) h = all_within es (operate_typed p f o es h)
     needs_within (pre a) h = tt
     needs_within (arrow a b) h = let both = both_typed p f a b h in each_append (λ y. y < length f.variables) (needs a) (needs b) (needs_within a both.0) (needs_within b both.1)
-    needs_within (fby a b) h = let both = both_typed p f a b h in needs_within a both.0
     needs_within (when t a) h = let given = when_typed p f t a h in (test_within t given.0, needs_within a given.1)
     needs_within (merge x bs) h = let given = merge_typed p f x bs h in (variable_within x given.0, all_within bs given.1)
     needs_within (call g c es) h = let made = call_typed p f g c es h in all_within es (made.2.arguments, made.2.have)

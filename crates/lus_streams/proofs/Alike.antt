@@ -1,7 +1,7 @@
 -- A value depends on the variables in use alone: two worlds, also of two programs, that agree on these give one value.
 use Rattle.std.proofs.Common.{◌≡◌, ℕ, suc, true, false, ◌&&◌, [], ◌∷◌, drop, Option, refl, ap, ap₂}
 use Rattle.lus_values.specs.Values.{Value}
-use Rattle.lus_program.specs.Programs.{Expression, literal, variable, operate, pre, arrow, fby, when, merge, call, Operands, none, more, Program}
+use Rattle.lus_program.specs.Programs.{Expression, literal, variable, operate, pre, arrow, when, merge, call, Operands, none, more, Program}
 use Rattle.lus_values.specs.Lists.{Each}
 use Rattle.lus_values.specs.Operators.{apply}
 use Rattle.lus_streams.specs.Clocks.{Clock, Part, at, parts, operand_parts, branch_parts}
@@ -55,8 +55,6 @@ module _ (p p' : Program) (V : ℕ → Type 0) (C : (g c : ℕ) → Type 0) wher
     value_like (arrow a b) k u i i' w w' l lw =
         let b' = value_like b k (each_right Uses (parts p a k) (parts p b k) u.1) i i' w w' l lw in
         at_last_like k w w' _ _ _ _ u.0.0 lw (value_like a k (each_left Uses (parts p a k) (parts p b k) u.1) i i' w w' l lw) (λ _ _ _ _ _ _. b')
-    value_like (fby a b) k u i i' w w' l lw =
-        at_last_like k w w' _ _ _ _ u.0.0 lw (value_like a k (each_left Uses (parts p a k) (parts p b k) u.1) i i' w w' l lw) (value_like b k (each_right Uses (parts p a k) (parts p b k) u.1))
     value_like (when t a) k u i i' w w' l lw = value_like a (drop 1 k) u.1 i i' w w' l lw
     value_like (merge x bs) k u i i' w w' l lw = branch_like bs x 0 k u.0.1 u.1 i i' w w' l lw
     value_like (call g c args) k u i i' w w' l lw = l.outputs g c 0 u.0.1

@@ -1,6 +1,6 @@
 -- Facts of each part of a text, and of each call in it.
 use Rattle.std.proofs.Common.{ℕ, suc, List, [], ◌∷◌, drop}
-use Rattle.lus_program.specs.Programs.{Expression, literal, variable, operate, pre, arrow, fby, when, merge, call, Operands, none, more, Equation, Node, Program, node_at}
+use Rattle.lus_program.specs.Programs.{Expression, literal, variable, operate, pre, arrow, when, merge, call, Operands, none, more, Equation, Node, Program, node_at}
 use Rattle.lus_values.specs.Lists.{Each}
 use Rattle.lus_streams.specs.Clocks.{Clock, Part, at, formal_clock, base_of, parts, operand_parts, branch_parts, argument_parts}
 use Rattle.lus_streams.specs.Equations.{equation_clock, equation_parts, Site, sites_in}
@@ -15,7 +15,6 @@ module _ (p : Program) (S R : Part → Type 0) (step : (e : Expression) (k : Clo
     each_part (operate o es) k h = (step (operate o es) k h, each_operand_part es k h.1)
     each_part (pre a) k h = (step (pre a) k h, each_part a k h.1)
     each_part (arrow a b) k h = (step (arrow a b) k h, each_append R (parts p a k) (parts p b k) (each_part a k (each_left S (parts p a k) (parts p b k) h.1)) (each_part b k (each_right S (parts p a k) (parts p b k) h.1)))
-    each_part (fby a b) k h = (step (fby a b) k h, each_append R (parts p a k) (parts p b k) (each_part a k (each_left S (parts p a k) (parts p b k) h.1)) (each_part b k (each_right S (parts p a k) (parts p b k) h.1)))
     each_part (when t a) k h = (step (when t a) k h, each_part a (drop 1 k) h.1)
     each_part (merge x bs) k h = (step (merge x bs) k h, each_branch_part bs x 0 k h.1)
     each_part (call g c args) k h = (step (call g c args) k h, each_argument_part args (node_at p g) args (base_of (node_at p g) k) 0 h.1)

@@ -1,7 +1,7 @@
 -- Flags hold in every world of a causal program on clocks without nil in its inputs, and in the worlds that it calls.
 use Rattle.std.proofs.Common.{◌≡◌, ℕ, suc, ◌+◌, ◌<◌, ◌≤◌, nat_lt, Bool, true, false, ◌||◌, List, [], ◌∷◌, length, take, drop, Option, Some, None, refl, sym, ◌∙◌, subst, IsFalse, MatchBool, is_some, true≢false, arith, ⊎_elim}
 use Rattle.lus_values.specs.Values.{Value, nil, Row}
-use Rattle.lus_program.specs.Programs.{Expression, literal, variable, operate, pre, arrow, fby, when, merge, call, Operands, none, more, Equation, Node, Program, node_at, empty_node}
+use Rattle.lus_program.specs.Programs.{Expression, literal, variable, operate, pre, arrow, when, merge, call, Operands, none, more, Equation, Node, Program, node_at, empty_node}
 use Rattle.lus_values.specs.Lists.{Each, Below}
 use Rattle.lus_values.specs.Operators.{apply}
 use Rattle.lus_streams.specs.Clocks.{Clock, clock_of, Part, at, formal_clock, base_of, parts, operand_parts, branch_parts, argument_parts}
@@ -139,13 +139,6 @@ module _ (p : Program) (f : Node) (flags : ℕ → Bool) where
         let later : was_on k past ≡ true → AllOver (λ i b'. IsNilFree (value p b k now past)) past = λ s. constant_over past (hb.1 s) in (
           (λ fl. last_nil_free k past (value p a k now past) (λ i before. value p b k now past) (λ _. ha.0 fl) later),
           (λ s. last_nil_free k past (value p a k now past) (λ i before. value p b k now past) (λ ns. absurd (true≢false (sym s ∙ ns))) later),
-        )
-    value_flag_holds (fby a b) k now past hn hv hg =
-        let ha = value_flag_holds a k now past hn hv (each_left (MeetsPremises (now ∷ past)) (parts p a k) (parts p b k) hg.1) in
-        let later : was_on k past ≡ true → AllOver (λ i before. IsNilFree (value p b k i before)) past =
-        λ _. past_nil_free b k (value_flag_holds b k) hg.0.required past hv (older now past (parts p b k) (each_right (MeetsPremises (now ∷ past)) (parts p a k) (parts p b k) hg.1)) in (
-          (λ fl. last_nil_free k past (value p a k now past) (λ i before. value p b k i before) (λ _. ha.0 fl) later),
-          (λ s. last_nil_free k past (value p a k now past) (λ i before. value p b k i before) (λ ns. absurd (true≢false (sym s ∙ ns))) later),
         )
     value_flag_holds (when t a) k now past hn hv hg =
         let h = value_flag_holds a (drop 1 k) now past hn.1 hv hg.1 in

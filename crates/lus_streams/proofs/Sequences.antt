@@ -1,7 +1,7 @@
--- `fby` is `->` with `pre` on its right.
-use Rattle.std.proofs.Common.{◌≡◌, Bool, true, false, [], ◌∷◌, Some, refl}
+-- `a fby b`, which is `a -> pre b`, is a at the first instant of its clock, and b at the last instant at all later ones.
+use Rattle.std.proofs.Common.{◌≡◌, Bool, true, false, [], ◌∷◌, Some, refl, sym}
 use Rattle.lus_values.specs.Values.{nil}
-use Rattle.lus_program.specs.Programs.{Expression, pre, arrow, fby, Program}
+use Rattle.lus_program.specs.Programs.{Expression, fby, Program}
 use Rattle.lus_streams.specs.Clocks.{Clock}
 use Rattle.lus_streams.specs.Streams.{Instant, World, is_on, at_last, value}
 
@@ -19,5 +19,6 @@ module _ {X : Type 0} (k : Clock) (e : X) (f : Instant → World → X) where
   last_of_last [] d = refl
   last_of_last (i ∷ past) d = last_or (is_on k i) i past d (last_of_last past d)
 
-pub fby_is_arrow : (p : Program) (a b : Expression) (k : Clock) (now : Instant) (past : World) → value p (fby a b) k now past ≡ value p (arrow a (pre b)) k now past
-fby_is_arrow p a b k now past = last_of_last k (Some nil) (λ i before. value p b k i before) past (value p a k now past)
+pub fby_is_last : (p : Program) (a b : Expression) (k : Clock) (now : Instant) (past : World)
+    → value p (fby a b) k now past ≡ at_last k past (value p a k now past) (λ i before. value p b k i before)
+fby_is_last p a b k now past = sym (last_of_last k (Some nil) (λ i before. value p b k i before) past (value p a k now past))

@@ -2,7 +2,7 @@
 use Rattle.std.proofs.Common.{◌≡◌, ℕ, zero, suc, ◌+◌, ◌<◌, ◌≤◌, nat_lt, Bool, true, false, ◌&&◌, List, [], ◌∷◌, map, length, take, drop, Option, Some, None, refl, sym, ap, ap₂, ◌∙◌, subst, IsTrue, MatchBool, is_some, ⊎_elim, suc-ne-zero}
 use Rattle.std.proofs.lemmas.Bool.{ltb-true, cases_lt}
 use Rattle.lus_program.specs.declared.expr.Test.{Test}
-use Rattle.lus_program.specs.Programs.{Expression, literal, variable, operate, pre, arrow, fby, when, merge, call, Operands, none, more, Equation, Node, Program, node_at, empty_node}
+use Rattle.lus_program.specs.Programs.{Expression, literal, variable, operate, pre, arrow, when, merge, call, Operands, none, more, Equation, Node, Program, node_at, empty_node}
 use Rattle.lus_values.specs.Lists.{item, Each}
 use Rattle.lus_values.specs.Operators.{apply}
 use Rattle.lus_streams.specs.Clocks.{Clock, clock_of, Part, operand, renamed_clock, renamed_test, formal_clock, base_of, parts, operand_parts, branch_parts, argument_parts}
@@ -67,9 +67,6 @@ module _ (p : Program) (now now' : Instant) (past : World) (same_base : is_prese
         let ea = value_same a k hk (each_left Agree (needs a) (needs b) hn) (each_left CallFact (parts p a k) (parts p b k) hc.1) in
         let eb = value_same b k hk (each_right Agree (needs a) (needs b) hn) (each_right CallFact (parts p a k) (parts p b k) hc.1) in
         λ i. at_last k past (ea i) (λ j before. eb i)
-    value_same (fby a b) k hk hn hc =
-        let ea = value_same a k hk hn (each_left CallFact (parts p a k) (parts p b k) hc.1) in
-        λ i. at_last k past (ea i) (λ j before. value p b k j before)
     value_same (when t a) k hk hn hc = value_same a (drop 1 k) (each_map_drop Agree variable_of 1 k hk) hn.1 hc.1
     value_same (merge x bs) k hk hn hc = branch_same bs x 0 k hn.0 hk hn.1 hc.1
     value_same (call g c args) k hk hn hc =

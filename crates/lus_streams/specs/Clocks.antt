@@ -3,7 +3,7 @@ use Rattle.std.specs.Prelude.{ℕ, zero, suc, List, [], ◌∷◌, ◌++◌, len
 use Rattle.lus_values.specs.Lists.{item}
 use Rattle.lus_values.specs.Values.{nil}
 use Rattle.lus_program.specs.declared.expr.Test.{Test}
-use Rattle.lus_program.specs.Programs.{Expression, literal, variable, operate, pre, arrow, fby, when, merge, call, Operands, none, more, Variable, Node, Program, no_variable, node_at}
+use Rattle.lus_program.specs.Programs.{Expression, literal, variable, operate, pre, arrow, when, merge, call, Operands, none, more, Variable, Node, Program, no_variable, node_at}
 
 -- a clock is present where its base is and each test holds; the empty list is the base itself
 abbrev pub Clock : Type 0
@@ -48,8 +48,8 @@ abbrev pub base_of : Node → Clock → Clock
 base_of g k = drop (length (clock_of g g.inputs)) k
 
 module _ (p : Program) where
-  -- an expression on k and all its sub-expressions, each with its own clock, in the order of the text: operators, `pre`,
-  -- `->` and `fby` are on the clock of their operands, the operand of `when` on that clock without the test, a branch of a
+  -- an expression on k and all its sub-expressions, each with its own clock, in the order of the text: operators, `pre`
+  -- and `->` on the clock of their operands, the operand of `when` on that clock without the test, a branch of a
   -- merge on the merge's clock with its test (Lustre V6 reference manual, "Clocks")
   abbrev mutual
     pub parts : Expression → Clock → List Part
@@ -58,7 +58,6 @@ module _ (p : Program) where
     parts (operate o es) k = at k (operate o es) ∷ operand_parts es k
     parts (pre a) k = at k (pre a) ∷ parts a k
     parts (arrow a b) k = at k (arrow a b) ∷ (parts a k ++ parts b k)
-    parts (fby a b) k = at k (fby a b) ∷ (parts a k ++ parts b k)
     parts (when t a) k = at k (when t a) ∷ parts a (drop 1 k)
     parts (merge x bs) k = at k (merge x bs) ∷ branch_parts bs x 0 k
     parts (call g c args) k = at k (call g c args) ∷ argument_parts args (node_at p g) args (base_of (node_at p g) k) 0

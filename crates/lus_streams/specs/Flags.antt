@@ -3,7 +3,7 @@
 use Rattle.std.specs.Prelude.{◌≡◌, ℕ, ◌+◌, ◌<◌, Bool, true, false, ◌&&◌, ◌||◌, [], ◌∷◌, length, Option, Some, None, IsTrue, IsFalse}
 use Rattle.lus_values.specs.Lists.{Each, Below}
 use Rattle.lus_values.specs.Values.{Value, struct, nil, Fields, end, field}
-use Rattle.lus_program.specs.Programs.{Expression, literal, variable, operate, pre, arrow, fby, when, merge, call, Operands, none, more, Node, Program, node_at}
+use Rattle.lus_program.specs.Programs.{Expression, literal, variable, operate, pre, arrow, when, merge, call, Operands, none, more, Node, Program, node_at}
 use Rattle.lus_streams.specs.Clocks.{Clock, clock_of, Part, at}
 use Rattle.lus_streams.specs.Equations.{Definition, given_by, definition_of, node_parts}
 use Rattle.lus_streams.specs.Order.{clock_variables}
@@ -34,7 +34,6 @@ module _ (flags : ℕ → Bool) where
     flag (operate o es) = greatest es
     flag (pre a) = true
     flag (arrow a b) = flag a
-    flag (fby a b) = flag a
     flag (when t a) = flag a
     flag (merge x bs) = false
     flag (call g c args) = false
@@ -44,12 +43,11 @@ module _ (flags : ℕ → Bool) where
     greatest none = false
     greatest (more e es) = flag e || greatest es
 
-  -- what a part requires: 0 of the operand of `pre`, the right operand of `fby`, a variable that is tested, a branch of a
-  -- merge and an argument; a literal isn't nil
+  -- what a part requires: 0 of the operand of `pre`, a variable that is tested, a branch of a merge
+  -- and an argument; a literal isn't nil
   abbrev pub Required : Part → Type 0
   Required (at k (literal v)) = IsTrue (nil_free v)
   Required (at k (pre a)) = IsFalse (flag a)
-  Required (at k (fby a b)) = IsFalse (flag b)
   Required (at k (when t a)) = IsFalse (flags t.variable)
   Required (at k (merge x bs)) = IsFalse (flags x) × IsFalse (greatest bs)
   Required (at k (call g c args)) = IsFalse (greatest args)

@@ -2,12 +2,12 @@
 -- same instant, and the orders that have them first.
 use Rattle.std.specs.Prelude.{ℕ, Bool, false, ◌||◌, nat_eq, List, [], ◌∷◌, ◌++◌, map, length, Option, Some, None, IsTrue}
 use Rattle.lus_values.specs.Lists.{Each, Below}
-use Rattle.lus_program.specs.Programs.{Expression, literal, variable, operate, pre, arrow, fby, when, merge, call, Operands, none, more, Node, Program}
+use Rattle.lus_program.specs.Programs.{Expression, literal, variable, operate, pre, arrow, when, merge, call, Operands, none, more, Node, Program}
 use Rattle.lus_streams.specs.Clocks.{Clock, clock_of}
 use Rattle.lus_streams.specs.Equations.{Definition, given_by, definition_of}
 
--- the variables of an expression, tests included, outside the operand of each `pre` and the right operand of each `fby`;
--- each output of a call needs all that its arguments need
+-- the variables of an expression, tests included, outside the operand of each `pre`; each output of a call needs all that
+-- its arguments need
 abbrev mutual
   pub needs : Expression → List ℕ
   needs (literal v) = []
@@ -15,7 +15,6 @@ abbrev mutual
   needs (operate o es) = needs_all es
   needs (pre a) = []
   needs (arrow a b) = needs a ++ needs b
-  needs (fby a b) = needs a
   needs (when t a) = t.variable ∷ needs a
   needs (merge x bs) = x ∷ needs_all bs
   needs (call g c args) = needs_all args

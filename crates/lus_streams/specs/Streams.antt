@@ -4,7 +4,7 @@ use Rattle.std.specs.Prelude.{◌≡◌, ℕ, zero, suc, ◌+◌, drop, Bool, tr
 use Rattle.lus_values.specs.Lists.{item, Each, Below}
 use Rattle.lus_values.specs.Operators.{apply}
 use Rattle.lus_values.specs.Values.{Value, bool, enum, nil, Row}
-use Rattle.lus_program.specs.Programs.{Expression, literal, variable, operate, pre, arrow, fby, when, merge, call, Operands, none, more, Node, Program, node_at}
+use Rattle.lus_program.specs.Programs.{Expression, literal, variable, operate, pre, arrow, when, merge, call, Operands, none, more, Node, Program, node_at}
 use Rattle.lus_streams.specs.Clocks.{Clock, clock_of, Part, at, formal_clock}
 use Rattle.lus_streams.specs.Equations.{Definition, given_by, definition_of, node_parts, Site, sites}
 
@@ -89,8 +89,8 @@ module _ (p : Program) where
 
   -- the value of an expression on k at an instant at which k is present, nil too, or None where it has no value: `pre` has
   -- the operand's value at the last instant of the clock, nil without one; `->` is its first operand at the first instant
-  -- of the clock, its second at all later ones; `fby` is `->` with `pre`; `when` is its operand on the clock without the
-  -- test; a merge is the branch of the constructor that its variable holds
+  -- of the clock, its second at all later ones; `when` is its operand on the clock without the test; a merge is the branch
+  -- of the constructor that its variable holds
   abbrev mutual
     pub value : Expression → Clock → Instant → World → Option Value
     value (literal v) k now past = Some v
@@ -98,7 +98,6 @@ module _ (p : Program) where
     value (operate o es) k now past = with_operands (apply o) (values es k now past)
     value (pre a) k now past = at_last k past (Some nil) (λ i before. value a k i before)
     value (arrow a b) k now past = at_last k past (value a k now past) (λ i before. value b k now past)
-    value (fby a b) k now past = at_last k past (value a k now past) (λ i before. value b k i before)
     value (when t a) k now past = value a (drop 1 k) now past
     value (merge x bs) k now past = branch bs x 0 k now past
     value (call g c args) k now past = output g c 0 now

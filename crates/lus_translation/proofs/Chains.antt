@@ -2,7 +2,7 @@
 use Rattle.std.proofs.Common.{◌≡◌, ℕ, zero, suc, ◌+◌, List, [], ◌∷◌, slice_get}
 use Rattle.lus_values.specs.Lists.{item, Each}
 use Rattle.lus_program.specs.declared.node.Equation.{Equation as StoredEquation}
-use Rattle.lus_program.specs.Programs.{Expression, literal, variable, operate, pre, arrow, fby, when, merge, call, Operands, none, more, Equation, Node, Program, node_at, calls, numbered, all_numbered}
+use Rattle.lus_program.specs.Programs.{Expression, literal, variable, operate, pre, arrow, when, merge, call, Operands, none, more, Equation, Node, Program, node_at, calls, numbered, all_numbered}
 use Rattle.lus_program.specs.View.{expression_of, equations_from}
 use Rattle.lus_streams.specs.Clocks.{Clock, clock_of, operand, formal_clock, base_of, Part, parts, operand_parts, branch_parts}
 use Rattle.lus_streams.specs.Equations.{equation_clock}
@@ -47,9 +47,6 @@ module _ (p : Program) (f : Node) where
         let first = kept_chained n a k h (each_left OnClock (parts p (numbered n a) k) (parts p (numbered (n + calls a) b) k) o.1) in
         let later = kept_chained (n + calls a) b k h (each_right OnClock (parts p (numbered n a) k) (parts p (numbered (n + calls a) b) k) o.1) in
         (each_append (Chained f) (kept_cells a k) (kept_cells b k) first.0 later.0, (h, each_append (IsChain f) (kept_firsts a k) (kept_firsts b k) first.1 later.1))
-    kept_chained n (fby a b) k h o =
-        let first = kept_chained n a k h (each_left OnClock (parts p (numbered n a) k) (parts p (numbered (n + calls a) b) k) o.1) in
-        (each_append (Chained f) (kept_cells a k) (cell_for b k) first.0 (h, tt), (h, first.1))
     kept_chained n (when t a) k h o = (tt, tt)
     kept_chained n (merge x bs) k h o = branches_chained n bs x 0 k o.0 h o.1
     kept_chained n (call g i args) k h o = (tt, tt)
@@ -84,7 +81,6 @@ module _ (p : Program) (f : Node) where
   turn_chained n (operate o es) k xs h fit = given_chained (operate o es) k xs (kept_chained n (operate o es) k h fit.1.on_clock)
   turn_chained n (pre a) k xs h fit = given_chained (pre a) k xs (kept_chained n (pre a) k h fit.1.on_clock)
   turn_chained n (arrow a b) k xs h fit = given_chained (arrow a b) k xs (kept_chained n (arrow a b) k h fit.1.on_clock)
-  turn_chained n (fby a b) k xs h fit = given_chained (fby a b) k xs (kept_chained n (fby a b) k h fit.1.on_clock)
   turn_chained n (when t a) k xs h fit = given_chained (when t a) k xs (kept_chained n (when t a) k h fit.1.on_clock)
   turn_chained n (merge x bs) k xs h fit = given_chained (merge x bs) k xs (kept_chained n (merge x bs) k h fit.1.on_clock)
 
@@ -118,7 +114,6 @@ module _ (p : Program) (f : Node) where
     calls_first (operate o es) k h fit rest later = later
     calls_first (pre a) k h fit rest later = later
     calls_first (arrow a b) k h fit rest later = later
-    calls_first (fby a b) k h fit rest later = later
     calls_first (when t a) k h fit rest later = later
     calls_first (merge x bs) k h fit rest later = later
 

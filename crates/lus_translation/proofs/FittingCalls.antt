@@ -4,7 +4,7 @@ use Rattle.std.proofs.lemmas.Bool.{cases_lt}
 use Rattle.lus_values.specs.Lists.{Each}
 use Rattle.lus_values.proofs.Lists.{below_at}
 use Rattle.lus_program.specs.declared.expr.Test.{Test}
-use Rattle.lus_program.specs.Programs.{Expression, literal, variable, operate, pre, arrow, fby, when, merge, call, Operands, none, more, Equation, Variable, Node, Program, no_variable, empty_node, node_at}
+use Rattle.lus_program.specs.Programs.{Expression, literal, variable, operate, pre, arrow, when, merge, call, Operands, none, more, Equation, Variable, Node, Program, no_variable, empty_node, node_at}
 use Rattle.lus_streams.specs.Clocks.{Clock, clock_of, operand, formal_clock, base_of, Part, parts, operand_parts, branch_parts, argument_parts}
 use Rattle.lus_streams.specs.Equations.{equation_clock, equation_parts, Site, sites_in}
 use Rattle.lus_streams.specs.OnClock.{IsDeclared, IsName, IsOnClocks, RightOnClock, ProgramOnClocks, test_of}
@@ -94,7 +94,6 @@ module _ (p : Program) (f : Node) where
   simple_fits (operate op es) k s o u = (s, record { on_clock = o; known = u })
   simple_fits (pre a) k s o u = (s, record { on_clock = o; known = u })
   simple_fits (arrow a b) k s o u = (s, record { on_clock = o; known = u })
-  simple_fits (fby a b) k s o u = (s, record { on_clock = o; known = u })
   simple_fits (when t a) k s o u = (s, record { on_clock = o; known = u })
   simple_fits (merge x bs) k s o u = (s, record { on_clock = o; known = u })
 
@@ -106,7 +105,6 @@ module _ (p : Program) (f : Node) where
   right_fits callees (operate op es) k s o u has formals = simple_fits (operate op es) k s o u
   right_fits callees (pre a) k s o u has formals = simple_fits (pre a) k s o u
   right_fits callees (arrow a b) k s o u has formals = simple_fits (arrow a b) k s o u
-  right_fits callees (fby a b) k s o u has formals = simple_fits (fby a b) k s o u
   right_fits callees (when t a) k s o u has formals = simple_fits (when t a) k s o u
   right_fits callees (merge x bs) k s o u has formals = simple_fits (merge x bs) k s o u
 
@@ -148,8 +146,6 @@ module _ (p : Program) where
     simple_no_sites (pre a) k s rest = atom_no_sites a k s rest
     simple_no_sites (arrow a b) k s rest =
         ap (sites_in p) (append_assoc (parts p a k) (parts p b k) rest) ∙ simple_no_sites a k s.0 (parts p b k ++ rest) ∙ simple_no_sites b k s.1 rest
-    simple_no_sites (fby a b) k s rest =
-        ap (sites_in p) (append_assoc (parts p a k) (parts p b k) rest) ∙ simple_no_sites a k s.0 (parts p b k ++ rest) ∙ atom_no_sites b k s.1 rest
     simple_no_sites (when t a) k s rest = atom_no_sites a (drop 1 k) s rest
     simple_no_sites (merge x bs) k s rest = branches_no_sites bs x 0 k s rest
     simple_no_sites (call g n args) k s rest = absurd s
@@ -190,7 +186,6 @@ module _ (p : Program) (f : Node) (c : Class) where
   one_first (operate op es) k n rest qs fit h later = skipped (operate op es) k n rest qs fit.0 h later
   one_first (pre a) k n rest qs fit h later = skipped (pre a) k n rest qs fit.0 h later
   one_first (arrow a b) k n rest qs fit h later = skipped (arrow a b) k n rest qs fit.0 h later
-  one_first (fby a b) k n rest qs fit h later = skipped (fby a b) k n rest qs fit.0 h later
   one_first (when t a) k n rest qs fit h later = skipped (when t a) k n rest qs fit.0 h later
   one_first (merge x bs) k n rest qs fit h later = skipped (merge x bs) k n rest qs fit.0 h later
 

@@ -1,6 +1,6 @@
 -- One more step, call or clock.
 use Rattle.std.proofs.Common.{◌≡◌, ◌∙◌, ℕ, zero, suc, ◌+◌, ◌≤◌, List, [], ◌∷◌, ◌++◌, map, length, None, slice_get, refl, sym, ap, append_assoc, append-nil, le_of_suc-le-suc, not-suc-le-zero}
-use Rattle.lus_program.specs.Programs.{Expression, literal, variable, operate, pre, arrow, fby, when, merge, call, Program}
+use Rattle.lus_program.specs.Programs.{Expression, literal, variable, operate, pre, arrow, when, merge, call, Program}
 use Rattle.lus_streams.specs.Clocks.{Clock}
 use Rattle.lus_classes.specs.Classes.{Code, Step, Call}
 use Rattle.lus_flat_classes.specs.declared.class.Step.{Step as StoredStep}
@@ -21,7 +21,6 @@ first_before p (variable x) k qs = refl
 first_before p (operate o es) k qs = refl
 first_before p (pre a) k qs = refl
 first_before p (arrow a b) k qs = refl
-first_before p (fby a b) k qs = refl
 first_before p (when t a) k qs = refl
 first_before p (merge x bs) k qs = refl
 first_before p (call g i args) k qs = refl

@@ -3,7 +3,7 @@ use Rattle.std.proofs.Common.{◌≡◌, ◌∙◌, ℕ, zero, suc, ◌+◌, ◌
 use Rattle.std.proofs.lemmas.Bool.{cases_lt}
 use Rattle.lus_values.specs.Lists.{item, Each}
 use Rattle.lus_program.specs.declared.node.Equation.{Equation as StoredEquation}
-use Rattle.lus_program.specs.Programs.{Expression, literal, variable, operate, pre, arrow, fby, when, merge, call, Operands, none, more, Variable, Node, Program, no_variable, calls, numbered, all_numbered}
+use Rattle.lus_program.specs.Programs.{Expression, literal, variable, operate, pre, arrow, when, merge, call, Operands, none, more, Variable, Node, Program, no_variable, calls, numbered, all_numbered}
 use Rattle.lus_program.specs.View.{expression_of, equations_from}
 use Rattle.lus_streams.specs.Clocks.{Clock, clock_of, parts, operand_parts, branch_parts}
 use Rattle.lus_streams.specs.Equations.{equation_clock}
@@ -54,7 +54,6 @@ mutual
   simple_numbered n (operate o es) s = ap (operate o) (all_simple_numbered n es s)
   simple_numbered n (pre a) s = ap pre (atom_numbered n a s)
   simple_numbered n (arrow a b) s = ap₂ arrow (simple_numbered n a s.0) (simple_numbered (n + calls a) b s.1)
-  simple_numbered n (fby a b) s = ap₂ fby (simple_numbered n a s.0) (atom_numbered (n + calls a) b s.1)
   simple_numbered n (when t a) s = ap (when t) (atom_numbered n a s)
   simple_numbered n (merge x bs) s = ap (merge x) (all_simple_numbered n bs s)
   simple_numbered n (call g i args) s = absurd s
@@ -69,7 +68,6 @@ mutual
   atom_numbered n (operate o es) s = absurd s
   atom_numbered n (pre a) s = absurd s
   atom_numbered n (arrow a b) s = absurd s
-  atom_numbered n (fby a b) s = absurd s
   atom_numbered n (when t a) s = absurd s
   atom_numbered n (merge x bs) s = absurd s
   atom_numbered n (call g i args) s = absurd s
@@ -88,10 +86,6 @@ module _ (p : Program) (f : Node) (c : Class) where
         each_append IsKept (kept_cells a k) (kept_cells b k)
         (cells_kept a k s.0 (each_left (On p f c) (parts p a k) (parts p b k) o.1) (each_left (Used p f c) (parts p a k) (parts p b k) u.1))
         (cells_kept b k s.1 (each_right (On p f c) (parts p a k) (parts p b k) o.1) (each_right (Used p f c) (parts p a k) (parts p b k) u.1))
-    cells_kept (fby a b) k s o u =
-        each_append IsKept (kept_cells a k) (cell_for b k)
-        (cells_kept a k s.0 (each_left (On p f c) (parts p a k) (parts p b k) o.1) (each_left (Used p f c) (parts p a k) (parts p b k) u.1))
-        (atom_on p f c b k s.1 (each_right (On p f c) (parts p a k) (parts p b k) o.1) (each_right (Used p f c) (parts p a k) (parts p b k) u.1), tt)
     cells_kept (when t a) k s o u = tt
     cells_kept (merge x bs) k s o u = branch_cells_kept bs x 0 k s o.1 u.1
     cells_kept (call g i args) k s o u = absurd s
@@ -129,7 +123,6 @@ module _ (p : Program) (f : Node) (c : Class) where
   turn_kept n (operate o es) k xs fit = simple_kept n (operate o es) k xs fit.0 fit.1.on_clock fit.1.known
   turn_kept n (pre a) k xs fit = simple_kept n (pre a) k xs fit.0 fit.1.on_clock fit.1.known
   turn_kept n (arrow a b) k xs fit = simple_kept n (arrow a b) k xs fit.0 fit.1.on_clock fit.1.known
-  turn_kept n (fby a b) k xs fit = simple_kept n (fby a b) k xs fit.0 fit.1.on_clock fit.1.known
   turn_kept n (when t a) k xs fit = simple_kept n (when t a) k xs fit.0 fit.1.on_clock fit.1.known
   turn_kept n (merge x bs) k xs fit = simple_kept n (merge x bs) k xs fit.0 fit.1.on_clock fit.1.known
 

@@ -59,13 +59,6 @@ pub fn code_of(
             let later = Box::new(alloc, code_of(alloc, later, clock, kept)?)?;
             Ok(Formula::Choose(flag, first, later))
         }
-        Form::Fby(first, later) => {
-            let flag = first_of(clock, kept)?;
-            let first = Box::new(alloc, code_of(alloc, first, clock, kept)?)?;
-            let cell = cell_of(alloc, later, clock, kept)?;
-            let later = Box::new(alloc, Formula::Recall(cell))?;
-            Ok(Formula::Choose(flag, first, later))
-        }
         Form::When(_, operand) => Ok(formula_of_atom(atom_of(alloc, operand)?)),
         Form::Merge(variable, branches) => {
             let codes = branch_codes_of(alloc, *variable, branches, clock, kept)?;

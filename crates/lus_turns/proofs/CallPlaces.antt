@@ -2,7 +2,7 @@
 use Rattle.std.proofs.Common.{◌≡◌, ℕ, zero, suc, ◌+◌, ◌<◌, List, [], ◌∷◌, length, Some, slice_get, refl, sym, subst, arith, not-suc-le-zero, le_of_suc-le-suc}
 use Rattle.lus_values.specs.Lists.{item, Each}
 use Rattle.lus_program.specs.declared.node.Equation.{Equation as StoredEquation}
-use Rattle.lus_program.specs.Programs.{Expression, literal, variable, operate, pre, arrow, fby, when, merge, call, Operands, Node, Program, calls}
+use Rattle.lus_program.specs.Programs.{Expression, literal, variable, operate, pre, arrow, when, merge, call, Operands, Node, Program, calls}
 use Rattle.lus_program.specs.View.{expression_of, equations_from}
 use Rattle.lus_streams.specs.Clocks.{Clock, clock_of}
 use Rattle.lus_classes.specs.Classes.{Call}
@@ -53,7 +53,6 @@ module _ (p : Program) (k : Clock) (q : StoredEquation) (qs : List StoredEquatio
   found_in (operate o es) is n lt = unchanged (operate o es) is refl n lt
   found_in (pre a) is n lt = unchanged (pre a) is refl n lt
   found_in (arrow a b) is n lt = unchanged (arrow a b) is refl n lt
-  found_in (fby a b) is n lt = unchanged (fby a b) is refl n lt
   found_in (when t a) is n lt = unchanged (when t a) is refl n lt
   found_in (merge x bs) is n lt = unchanged (merge x bs) is refl n lt
 

@@ -6,7 +6,7 @@ use Rattle.std.proofs.lemmas.List.{length-map}
 use Rattle.std.proofs.lemmas.List.Sums.{sum_by-append, sum_by-cons}
 use Rattle.lus_values.specs.Lists.{item, Each}
 use Rattle.lus_program.specs.declared.node.Equation.{Equation as StoredEquation}
-use Rattle.lus_program.specs.Programs.{Expression, literal, variable, operate, pre, arrow, fby, when, merge, call, Operands, none, more, calls, numbered, all_numbered, Equation, Node, Program}
+use Rattle.lus_program.specs.Programs.{Expression, literal, variable, operate, pre, arrow, when, merge, call, Operands, none, more, calls, numbered, all_numbered, Equation, Node, Program}
 use Rattle.lus_program.specs.View.{expression_of, equations_from}
 use Rattle.lus_streams.specs.Clocks.{Clock, clock_of}
 use Rattle.lus_streams.specs.Equations.{Definition, given_by, definition_in, definition_of, equation_clock, place_in}
@@ -34,10 +34,6 @@ mutual
       let later = cells_few (n + calls a) b k in
       let both = length-append (kept_cells a k) (kept_cells b k) in
       omega (arith, first, later, both)
-  cells_few n (fby a b) k =
-      let first = cells_few n a k in
-      let both = length-append (kept_cells a k) (kept_cells (pre b) k) in
-      omega (arith, first, both)
   cells_few n (when t a) k = omega arith
   cells_few n (merge x bs) k = branch_cells_few n bs x 0 k
   cells_few n (call g c args) k = omega arith
@@ -70,7 +66,6 @@ mutual
       let later = firsts_few (n + calls a) b k in
       let both = length-append (kept_firsts a k) (kept_firsts b k) in
       omega (arith, first, later, both)
-  firsts_few n (fby a b) k = let first = firsts_few n a k in omega (arith, first)
   firsts_few n (when t a) k = omega arith
   firsts_few n (merge x bs) k = branch_firsts_few n bs x 0 k
   firsts_few n (call g c args) k = omega arith

@@ -3,7 +3,7 @@ use Rattle.std.proofs.Common.{◌≡◌, ◌∙◌, inl, ℕ, zero, suc, ◌+◌
 use Rattle.std.proofs.lemmas.Bool.{eqb-true}
 use Rattle.lus_values.specs.Lists.{item, Each}
 use Rattle.lus_values.proofs.Lists.{below_at}
-use Rattle.lus_program.specs.Programs.{Expression, literal, variable, operate, pre, arrow, fby, when, merge, call, Operands, Equation, Node, Program, node_at, numbered, all_numbered}
+use Rattle.lus_program.specs.Programs.{Expression, literal, variable, operate, pre, arrow, when, merge, call, Operands, Equation, Node, Program, node_at, numbered, all_numbered}
 use Rattle.lus_streams.specs.Clocks.{Clock, clock_of}
 use Rattle.lus_streams.specs.Equations.{Definition, given_by, definition_of, equation_clock, place_in}
 use Rattle.lus_streams.specs.OnClock.{DefinedOnClock, LeftOnClock}
@@ -73,7 +73,6 @@ module _ (p : Program) (f : Node) (c : Class) where
   simple_clock x o ts (operate op es) k s h = h
   simple_clock x o ts (pre a) k s h = h
   simple_clock x o ts (arrow a b) k s h = h
-  simple_clock x o ts (fby a b) k s h = h
   simple_clock x o ts (when t a) k s h = h
   simple_clock x o ts (merge y bs) k s h = h
   simple_clock x o ts (call g i args) k s h = absurd s
@@ -172,7 +171,6 @@ module _ (p : Program) (f : Node) (c : Class) where
   turn_follows m n number (operate o es) ts xs found h = simple_follow m n number (operate o es) ts xs h.fit.0 h
   turn_follows m n number (pre a) ts xs found h = simple_follow m n number (pre a) ts xs h.fit.0 h
   turn_follows m n number (arrow a b) ts xs found h = simple_follow m n number (arrow a b) ts xs h.fit.0 h
-  turn_follows m n number (fby a b) ts xs found h = simple_follow m n number (fby a b) ts xs h.fit.0 h
   turn_follows m n number (when t a) ts xs found h = simple_follow m n number (when t a) ts xs h.fit.0 h
   turn_follows m n number (merge x bs) ts xs found h = simple_follow m n number (merge x bs) ts xs h.fit.0 h
 
@@ -195,6 +193,5 @@ module _ (p : Program) (f : Node) (c : Class) where
     turn_is_steps m n number (operate o es) ts xs found h cells firsts = simple_steps m n number (operate o es) ts xs h.fit.0 h.fit.1 h cells firsts
     turn_is_steps m n number (pre a) ts xs found h cells firsts = simple_steps m n number (pre a) ts xs h.fit.0 h.fit.1 h cells firsts
     turn_is_steps m n number (arrow a b) ts xs found h cells firsts = simple_steps m n number (arrow a b) ts xs h.fit.0 h.fit.1 h cells firsts
-    turn_is_steps m n number (fby a b) ts xs found h cells firsts = simple_steps m n number (fby a b) ts xs h.fit.0 h.fit.1 h cells firsts
     turn_is_steps m n number (when t a) ts xs found h cells firsts = simple_steps m n number (when t a) ts xs h.fit.0 h.fit.1 h cells firsts
     turn_is_steps m n number (merge x bs) ts xs found h cells firsts = simple_steps m n number (merge x bs) ts xs h.fit.0 h.fit.1 h cells firsts

@@ -47,7 +47,6 @@ fn parts_left(expr: &Expr, most: usize) -> Option<usize>
         Form::Operate(_, operands) => all_parts_left(operands, left),
         Form::Pre(operand) => parts_left(operand, left),
         Form::Arrow(first, later) => parts_left(later, parts_left(first, left)?),
-        Form::Fby(first, later) => parts_left(later, parts_left(first, left)?),
         Form::When(_, operand) => parts_left(operand, left),
         Form::Merge(_, branches) => all_parts_left(branches, left),
         Form::Call(_, arguments) => all_parts_left(arguments, left),
