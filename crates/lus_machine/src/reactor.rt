@@ -1,0 +1,154 @@
+//! Reactors.
+
+ghost use Rattle.std.specs.Prelude.{◌≡◌, ◌<◌, ◌++◌, ◌∷◌, [], length, replicate, None, IfOk, OnErr};
+ghost use Rattle.std.specs.Arc.{arc_value};
+ghost use Rattle.lus_history.specs.Replies.{slots as slot_count};
+ghost use Rattle.lus_eval.specs.CodeSpecs.Codes.{program_of};
+ghost use Rattle.lus_machine.specs.Changes.{Becomes, IsSlot};
+ghost use Rattle.lus_machine.specs.Machines.{IsLawful, entry};
+
+use crate::answers::{Answer, Change, SLOTS, answer_to};
+use crate::program::Program;
+use lus_eval::Object;
+use lus_program::NodeId;
+use lus_requests::{Entry, Reply, Request};
+use lus_trace::Trace;
+use lus_values::Memory;
+use std::alloc::Global;
+use std::marker::Model;
+use std::sync::Arc;
+
+/// An instance of a node with what it saves. It stores no history: only proofs read that of its calls.
+#[derive(Drop)]
+pub struct Reactor {
+    alloc: Global,
+    program: Arc<Program>,
+    node: NodeId,
+    object: Object,
+    slots: Vec<Option<Object>>,
+    trace: Trace,
+}
+
+impl Model for Reactor {
+    ghost use Rattle.std.specs.Coded.{codes};
+    ghost use Rattle.std.specs.Arc.{arc_value};
+    ghost use Rattle.lus_values.specs.Coded.{coded_row};
+    ghost use Rattle.lus_history.specs.CodedPrograms.{coded_expression};
+    ghost use Rattle.lus_eval.specs.CodeSpecs.Codes.{program_of};
+    ghost use Rattle.lus_machine.specs.Machines.{Told, Lives};
+
+    ghost Value = { Told };
+
+    ghost coded = { Prim.hlevel (codes, coded_row, coded_expression) };
+
+    ghost view = { λ r. record { program = program_of (arc_value r.program); node = r.node.0; history = r.trace.entries } };
+
+    ghost invariant = { λ r. Lives (arc_value r.program) r.node.0 r.trace.entries r.object r.slots.items };
+}
+
+fn empty_slots(alloc: Global) -> Result<Vec<Option<Object>>, Memory>
+    ensures { IfOk result (λ s. s.items ≡ replicate slot_count None) }
+{
+    let mut slots = Vec::new(alloc);
+    for _slot in 0..SLOTS {
+        slots.push(None)?;
+    }
+    Ok(slots)
+}
+
+/// Enters a request with its reply, by copies of both.
+fn enter(
+    alloc: Global,
+    entries: &mut Vec<Entry>,
+    caller: u32,
+    request: &Request,
+    reply: &Reply,
+) -> Result<(), Memory>
+    ensures ok { IfOk result (λ u. entries.new.items ≡ entries.old.items ++ entry caller request.now reply.now ∷ []) }
+    ensures err { OnErr result (entries.new.items ≡ entries.old.items) }
+{
+    let request = request.copy(alloc)?;
+    let reply = reply.copy(alloc)?;
+    entries.push(Entry {
+        caller,
+        request,
+        reply,
+    })?;
+    Ok(())
+}
+
+/// Makes a change; this takes no memory.
+fn take_over(object: &mut Object, slots: &mut Vec<Option<Object>>, change: Change)
+    requires slot { IsSlot change }
+    requires eight { length slots.old.items ≡ slot_count }
+    ensures becomes { Becomes change object.old slots.old.items object.new slots.new.items }
+{
+    match change {
+        Change::Nothing => {}
+        Change::Empty => object.reset(),
+        Change::Next(next) => *object = next,
+        Change::Slot(slot, copy) => slots[slot] = Some(copy),
+    }
+}
+
+impl Reactor {
+    /// A reactor that was never called.
+    pub fn new(alloc: Global, program: Arc<Program>, node: NodeId) -> Result<Reactor, Memory>
+        requires { node.0 < length (program_of (arc_value program)).nodes }
+        ensures value { IfOk result (λ r. r ≡ record { program = program_of (arc_value program); node = node.0; history = [] }) }
+        ensures legal { IfOk result IsLawful }
+    {
+        let object = Object::fresh(alloc, program.code(), node)?;
+        let slots = empty_slots(alloc)?;
+        Ok(Reactor {
+            alloc,
+            program,
+            node,
+            object,
+            slots,
+            trace: Trace::new(),
+        })
+    }
+
+    /// Answers a request, or leaves all as it was: every growth is made before anything changes.
+    pub fn call(&mut self, caller: u32, request: &Request) -> Result<Reply, Memory>
+        ensures ok { IfOk result (λ a. self.new ≡ record self.old { history = self.old.history ++ entry caller request.now a ∷ [] }) }
+        ensures err { OnErr result (self.new ≡ self.old) }
+        ensures legal { IsLawful self.new }
+    {
+        let Answer { reply, change } = answer_to(
+            self.program.code(),
+            &self.object,
+            &self.slots,
+            request,
+        )?;
+        self.trace = self.trace.and(&caller, request, &reply);
+        take_over(&mut self.object, &mut self.slots, change);
+        Ok(reply)
+    }
+
+    /// Answers a request and enters it with its reply, or makes no entry and leaves all as it was.
+    pub(crate) fn call_entered(
+        &mut self,
+        caller: u32,
+        request: &Request,
+        entries: &mut Vec<Entry>,
+    ) -> Result<Reply, Memory>
+        ensures ok { IfOk result (λ a. self.new ≡ record self.old { history = self.old.history ++ entry caller request.now a ∷ [] }) }
+        ensures entered { IfOk result (λ a. entries.new.items ≡ entries.old.items ++ entry caller request.now a ∷ []) }
+        ensures err { OnErr result (self.new ≡ self.old) }
+        ensures kept { OnErr result (entries.new.items ≡ entries.old.items) }
+        ensures legal { IsLawful self.new }
+    {
+        let Answer { reply, change } = answer_to(
+            self.program.code(),
+            &self.object,
+            &self.slots,
+            request,
+        )?;
+        enter(self.alloc, entries, caller, request, &reply)?;
+        self.trace = self.trace.and(&caller, request, &reply);
+        take_over(&mut self.object, &mut self.slots, change);
+        Ok(reply)
+    }
+}
