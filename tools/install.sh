@@ -33,6 +33,10 @@ if [ -d "$here/bindings" ]; then
     put 755 lib "$here"/bindings/*.so
     put 644 include "$here"/bindings/*.h
     put 644 share/lus/python "$here"/bindings/*.py
+    if [ -d "$prefix/share/lus/python" ]; then
+        # (lus.py looks for it there)
+        ln -sf ../../../lib/liblus.so "$prefix/share/lus/python/liblus.so"
+    fi
     if [ -d "$here/bindings/rust" ]; then
         rm -rf "$prefix/share/lus/rust"
         cp -R "$here/bindings/rust" "$prefix/share/lus/rust"
