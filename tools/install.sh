@@ -1,0 +1,51 @@
+#!/bin/sh
+# ./install.sh PREFIX: copies the programs into PREFIX/bin, their pages into PREFIX/share/man/man1, the library and its header into
+# PREFIX/lib and PREFIX/include, and documents, examples and editors' files into PREFIX/share/lus. It overwrites an older version.
+set -eu
+if [ $# != 1 ]; then
+    echo "usage: ./install.sh PREFIX" >&2
+    exit 2
+fi
+here=$(cd "$(dirname "$0")" && pwd)
+mkdir -p "$1"
+prefix=$(cd "$1" && pwd)
+
+# put MODE FOLDER FILE..: copies files that are there
+put() {
+    mode=$1
+    to=$prefix/$2
+    shift 2
+    mkdir -p "$to"
+    for file; do
+        if [ -f "$file" ]; then
+            install -m "$mode" "$file" "$to/"
+        fi
+    done
+}
+
+for page in "$here"/man/*.1; do
+    tool=$(basename "$page" .1)
+    put 755 bin "$here/$tool"
+    put 644 share/man/man1 "$page"
+done
+if [ -d "$here/bindings" ]; then
+    put 644 lib "$here"/bindings/*.a
+    put 755 lib "$here"/bindings/*.so
+    put 644 include "$here"/bindings/*.h
+    put 644 share/lus/python "$here"/bindings/*.py
+    if [ -d "$prefix/share/lus/python" ]; then
+        # (lus.py looks for it there)
+        ln -sf ../../../lib/liblus.so "$prefix/share/lus/python/liblus.so"
+    fi
+    if [ -d "$here/bindings/rust" ]; then
+        rm -rf "$prefix/share/lus/rust"
+        cp -R "$here/bindings/rust" "$prefix/share/lus/rust"
+    fi
+fi
+put 644 share/lus "$here"/*.md "$here/LICENSE" "$here/VERSION"
+put 644 share/vim/vimfiles/syntax "$here/editors/lus.vim"
+for folder in docs examples editors; do
+    rm -rf "$prefix/share/lus/$folder"
+    cp -R "$here/$folder" "$prefix/share/lus/$folder"
+done
+echo "lus $(cat "$here/VERSION") is in $prefix"
