@@ -6,7 +6,7 @@ use Rattle.std.proofs.lemmas.Bool.{and_parts, and_from, eqb-true}
 use Rattle.lus_values.specs.Values.{Value, bool, int, enum, struct, nil, Row}
 use Rattle.lus_values.specs.Lists.{item, Each}
 use Rattle.lus_values.specs.Operators.{apply}
-use Rattle.lus_program.specs.Programs.{Expression, literal, variable, operate, pre, arrow, when, merge, call, Operands, none, more, Node, Program}
+use Rattle.lus_program.specs.Programs.{Expression, literal, variable, operate, pre, arrow, when, merge, Operands, none, more, Node, Program}
 use Rattle.lus_streams.specs.Clocks.{Clock, Part, at, parts, operand_parts, branch_parts}
 use Rattle.lus_streams.specs.Streams.{Instant, instant, Called, World, row_of, entry, is_constructor, holds, is_on, at_last, with_operand, with_operands, value, values, branch, HasValue}
 use Rattle.lus_streams.proofs.Lists.{each_left, each_right, each_append}
@@ -89,13 +89,7 @@ module _ (p : Program) where
   -- what holds of all parts of an expression holds of itself
   pub whole_part : (P : Part → Type 0) (e : Expression) (k : Clock) → Each P (parts p e k) → P (at k e)
   whole_part P (literal v) k h = h.0
-  whole_part P (variable x) k h = h.0
-  whole_part P (operate o es) k h = h.0
-  whole_part P (pre a) k h = h.0
-  whole_part P (arrow a b) k h = h.0
-  whole_part P (when t a) k h = h.0
-  whole_part P (merge x bs) k h = h.0
-  whole_part P (call g c args) k h = h.0
+  whole_part P e k h = h.0
 
   pub atom_value : (a : Atom) (k : Clock) (now : Instant) (past : World) → value p (atom_expression a) k now past ≡ atom_in a (row_of now)
   atom_value (constant v) k now past = refl

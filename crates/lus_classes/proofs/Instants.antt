@@ -6,7 +6,7 @@ use Rattle.std.proofs.lemmas.Bool.{ltb-true, ltb-false, le-ltb, MatchBool-at_fal
 use Rattle.lus_values.specs.Lists.{item, Each}
 use Rattle.lus_values.specs.Values.{Value, Row}
 use Rattle.lus_values.proofs.Lists.{below_all, each_found}
-use Rattle.lus_program.specs.Programs.{Expression, literal, variable, operate, pre, arrow, when, merge, call, Operands, none, more, Equation, Node, Program, node_at}
+use Rattle.lus_program.specs.Programs.{Expression, literal, call, Operands, none, more, Equation, Node, Program, node_at}
 use Rattle.lus_streams.specs.Clocks.{Clock, clock_of, Part, formal_clock, base_of, parts, argument_parts}
 use Rattle.lus_streams.specs.Equations.{Definition, given_by, place_in, equation_clock, definition_in, definition_of, equation_parts}
 use Rattle.lus_streams.specs.Streams.{Instant, instant, Called, World, row_of, entry, called_at, is_on, where_on, value, definition_value, HasValue, Follows, EquationsHold}
@@ -52,13 +52,8 @@ module _ (p : Program) (P : Part → Type 0) (f : Node) where
 pub right_value : (p : Program) (f : Node) (c : Class) (e : Expression) (d : Code) (k : Clock) (n : ℕ) (xs : List ℕ) (now : Instant) (past : World) → IsCode p f c e d k
     → definition_value p (Some (given_by e n xs k)) now past ≡ value p e k now past
 right_value p f c (literal v) d k n xs now past is = refl
-right_value p f c (variable x) d k n xs now past is = refl
-right_value p f c (operate o es) d k n xs now past is = refl
-right_value p f c (pre a) d k n xs now past is = refl
-right_value p f c (arrow a b) d k n xs now past is = refl
-right_value p f c (when t a) d k n xs now past is = refl
-right_value p f c (merge x bs) d k n xs now past is = refl
 right_value p f c (call g number args) d k n xs now past is = absurd is
+right_value p f c e d k n xs now past is = refl
 
 -- where its base is present each call answers the row of its called instant
 abbrev pub Answers : Class → List Ask → Row → Called → Type 0

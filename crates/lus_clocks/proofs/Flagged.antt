@@ -100,13 +100,10 @@ module _ (flags : ℕ → Bool) where
   mutual
     pub flag_numbered : (e : Expression) (n : ℕ) → flag flags (numbered n e) ≡ flag flags e
     flag_numbered (literal v) n = refl
-    flag_numbered (variable x) n = refl
     flag_numbered (operate o es) n = greatest_numbered es n
-    flag_numbered (pre a) n = refl
     flag_numbered (arrow a b) n = flag_numbered a n
     flag_numbered (when t a) n = flag_numbered a n
-    flag_numbered (merge x bs) n = refl
-    flag_numbered (call g c es) n = refl
+    flag_numbered e n = refl
 
     pub greatest_numbered : (es : Operands) (n : ℕ) → greatest flags (all_numbered n es) ≡ greatest flags es
     greatest_numbered none n = refl

@@ -8,13 +8,7 @@ use Rattle.lus_clocks.specs.Fitting.{same_test, test_on, name_of, names_in, rena
 
 name_numbered : (e : Expression) (n : ℕ) → name_of (numbered n e) ≡ name_of e
 name_numbered (literal v) n = refl
-name_numbered (variable x) n = refl
-name_numbered (operate o es) n = refl
-name_numbered (pre a) n = refl
-name_numbered (arrow a b) n = refl
-name_numbered (when t a) n = refl
-name_numbered (merge x bs) n = refl
-name_numbered (call g c es) n = refl
+name_numbered e n = refl
 
 name_at_numbered : (es : Operands) (xs : List ℕ) (n i : ℕ) → names_in (actuals (all_numbered n es) xs) i ≡ names_in (actuals es xs) i
 name_at_numbered none xs n i = refl

@@ -12,13 +12,7 @@ use Rattle.lus_normal_form.proofs.Values.{Keeps, KeepsOver, on_keeps, operand_va
 -- a part stands first among its sub-expressions
 pub first_part : (p : Program) (P : Part → Type 0) (a : Expression) (k : Clock) → Each P (parts p a k) → P (at k a)
 first_part p P (literal v) k h = h.0
-first_part p P (variable x) k h = h.0
-first_part p P (operate o es) k h = h.0
-first_part p P (pre a) k h = h.0
-first_part p P (arrow a b) k h = h.0
-first_part p P (when t a) k h = h.0
-first_part p P (merge x bs) k h = h.0
-first_part p P (call g c args) k h = h.0
+first_part p P e k h = h.0
 
 module _ (p p' : Program) (V : ℕ → Type 0) (C : (g c n : ℕ) → Type 0) (New : ℕ → Clock → Expression → Type 0)
     (bases : (g c : ℕ) → C g c 0 → (k : Clock) → base_of (node_at p' g) k ≡ base_of (node_at p g) k)

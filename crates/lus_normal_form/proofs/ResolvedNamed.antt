@@ -129,11 +129,9 @@ module _ (p : Program) (nodes : Each (NodeResolved p) p.nodes) where
     names_here (call g c args) k h here some = (here, output_known g 0 some)
     names_here (literal v) k h here some = tt
     names_here (variable x) k h here some = h
-    names_here (operate o es) k h here some = tt
-    names_here (pre a) k h here some = tt
-    names_here (arrow a b) k h here some = tt
     names_here (when t a) k h here some = h
     names_here (merge x bs) k h here some = h
+    names_here e k h here some = tt
 
     part_uses : (e : Part) → (InNode p f e × OfCall IsCallHere e) × HasOutput p e → Uses (Known f) (GivesOutput p f) e
     part_uses (at k e) h = (h.0.0.0, names_here e k h.0.0.1 h.0.1 h.1)

@@ -73,11 +73,8 @@ module _ (p p' : Program) (V : ℕ → Type 0) (C : (g c n : ℕ) → Type 0) (N
   plain (literal v) e' k is = subst IsPlain (sym is) tt
   plain (variable x) e' k is = subst IsPlain (sym is) tt
   plain (operate o es) e' k is = subst IsPlain (sym is.1) tt
-  plain (pre a) e' k is = subst IsPlain (sym is.1) tt
   plain (arrow a b) e' k is = subst IsPlain (sym is.2) tt
-  plain (when t a) e' k is = subst IsPlain (sym is.1) tt
-  plain (merge x bs) e' k is = subst IsPlain (sym is.1) tt
-  plain (call g c args) e' k is = subst IsPlain (sym is.1) tt
+  plain e e' k is = subst IsPlain (sym is.1) tt
 
   plain_value : (e' : Expression) (n : ℕ) (xs : List ℕ) (k : Clock) (i' : Instant) (w' : World) → IsPlain e' → definition_value p' (Some (given_by e' n xs k)) i' w' ≡ value p' e' k i' w'
   plain_value (call g c args) n xs k i' w' h = absurd h

@@ -1,7 +1,7 @@
 -- The calls of a normal form have as many arguments as those of the source, and their nodes have the outputs that they had.
 use Rattle.std.proofs.Common.{◌≡◌, ◌∙◌, ap, sym, subst, ℕ, suc, List, [], ◌∷◌}
 use Rattle.lus_values.specs.Lists.{Each}
-use Rattle.lus_program.specs.Programs.{Expression, literal, variable, operate, pre, arrow, when, merge, call, Operands, none, more, Program, node_at}
+use Rattle.lus_program.specs.Programs.{Expression, literal, call, Operands, none, more, Program, node_at}
 use Rattle.lus_streams.specs.Clocks.{Clock, Part, at}
 use Rattle.lus_streams.specs.Equations.{Site, sites_in}
 use Rattle.lus_streams.proofs.Calls.{AtBase, OfCall, OfSite, parts_of_sites, sites_of_parts}
@@ -34,12 +34,7 @@ module _ (p : Program) (New : ℕ → Clock → Expression → Type 0) where
 fit_part : (p : Program) (V : ℕ → Type 0) (R : (g c : ℕ) → Type 0) (t : Part) → HasArguments p t × Uses V (λ g c n. R g c × OutputKnown p g n) t → OfCall (AtBase p (IsFit p)) t
 fit_part p V R (at k (call g c args)) h = (h.0, h.1.1.1)
 fit_part p V R (at k (literal v)) h = tt
-fit_part p V R (at k (variable x)) h = tt
-fit_part p V R (at k (operate o es)) h = tt
-fit_part p V R (at k (pre a)) h = tt
-fit_part p V R (at k (arrow a b)) h = tt
-fit_part p V R (at k (when t a)) h = tt
-fit_part p V R (at k (merge x bs)) h = tt
+fit_part p V R (at k e) h = tt
 
 pub source_fits : (p : Program) (V : ℕ → Type 0) (R : (g c : ℕ) → Type 0) (ts : List Part) → Each (HasArguments p) ts → Each (Uses V (λ g c n. R g c × OutputKnown p g n)) ts → Each (OfSite p (IsFit p)) (sites_in p ts)
 source_fits p V R ts has uses =
@@ -59,9 +54,4 @@ parts_fit p ts h =
 pub fit_has_arguments : (p : Program) (ss : List Site) (t : Part) → OfCall (AtBase p (IsFitCall p ss)) t → HasArguments p t
 fit_has_arguments p ss (at k (call g c args)) h = h.0.0
 fit_has_arguments p ss (at k (literal v)) h = tt
-fit_has_arguments p ss (at k (variable x)) h = tt
-fit_has_arguments p ss (at k (operate o es)) h = tt
-fit_has_arguments p ss (at k (pre a)) h = tt
-fit_has_arguments p ss (at k (arrow a b)) h = tt
-fit_has_arguments p ss (at k (when t a)) h = tt
-fit_has_arguments p ss (at k (merge x bs)) h = tt
+fit_has_arguments p ss (at k e) h = tt

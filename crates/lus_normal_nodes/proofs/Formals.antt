@@ -173,12 +173,7 @@ module _ (p : Program) (callees : (g : ℕ) → Declared (node_at p g)) (f : Nod
     parts_formals p f (argument_parts p args (node_at p g) args (base_of (node_at p g) k) 0) has.1 right,
   )
   right_formals (literal v) x xs k left right has = parts_formals p f (parts p (literal v) k) has right
-  right_formals (variable y) x xs k left right has = parts_formals p f (parts p (variable y) k) has right
-  right_formals (operate o es) x xs k left right has = parts_formals p f (parts p (operate o es) k) has right
-  right_formals (pre a) x xs k left right has = parts_formals p f (parts p (pre a) k) has right
-  right_formals (arrow a b) x xs k left right has = parts_formals p f (parts p (arrow a b) k) has right
-  right_formals (when t a) x xs k left right has = parts_formals p f (parts p (when t a) k) has right
-  right_formals (merge y bs) x xs k left right has = parts_formals p f (parts p (merge y bs) k) has right
+  right_formals e x xs k left right has = parts_formals p f (parts p e k) has right
 
   pub left_formals : (e : Expression) (xs : List ℕ) (k : Clock) → 0 < length xs → LeftOnClock p f (record { targets = xs; right = e }) 0 xs → RightOnClock p f (parts p e k) → Each (HasArguments p) (parts p e k) → Each (HasFormals p) (parts p e k)
   left_formals e [] k some left right has = elim (not-suc-le-zero some) [ ]

@@ -2,7 +2,7 @@
 use Rattle.std.proofs.Common.{◌≡◌, ◌∙◌, ap, sym, subst, ℕ, zero, suc, ◌+◌, ◌<◌, ◌≤◌, nat_lt, Bool, true, false, List, [], ◌∷◌, length, arith}
 use Rattle.std.proofs.lemmas.Bool.{le-ltb, lt-ltb}
 use Rattle.lus_values.specs.Lists.{item, Each}
-use Rattle.lus_program.specs.Programs.{Expression, literal, variable, operate, pre, arrow, when, merge, call, Equation, Node, Program, empty_node, node_at}
+use Rattle.lus_program.specs.Programs.{Expression, literal, call, Equation, Node, Program, empty_node, node_at}
 use Rattle.lus_streams.specs.Clocks.{Clock, Part, at, parts}
 use Rattle.lus_streams.specs.Equations.{equation_clock, equation_parts, node_parts}
 use Rattle.lus_streams.specs.Flags.{CallsHaveOutputs, HasOutput}
@@ -56,12 +56,7 @@ module _ (p : Program) (f : Node) (known : Each (λ x. x < length f.variables) (
 right_has_formals : (p : Program) (e : Expression) (k : Clock) → HasFormals p (at k e) → RightHasFormals p e
 right_has_formals p (call g c args) k h = h
 right_has_formals p (literal v) k h = tt
-right_has_formals p (variable x) k h = tt
-right_has_formals p (operate o es) k h = tt
-right_has_formals p (pre a) k h = tt
-right_has_formals p (arrow a b) k h = tt
-right_has_formals p (when t a) k h = tt
-right_has_formals p (merge x bs) k h = tt
+right_has_formals p e k h = tt
 
 rights_have_formals : (p : Program) → ProgramOnClocks p → (f : Node) (qs : List Equation) → Each (λ q. 0 < length q.targets) qs → Each (λ q. LeftOnClock p f q 0 q.targets) qs
     → Each (λ q. RightOnClock p f (parts p q.right (equation_clock f q))) qs → Each (HasArguments p) (equation_parts p f qs) → Each (λ q. RightHasFormals p q.right) qs

@@ -3,7 +3,7 @@ use Rattle.std.proofs.Common.{◌≡◌, subst, ℕ, ◌+◌, ◌<◌, ◌≤◌
 use Rattle.std.proofs.lemmas.Bool.{cases_lt}
 use Rattle.lus_values.specs.Lists.{item, Each}
 use Rattle.lus_values.proofs.Lists.{below_all}
-use Rattle.lus_program.specs.Programs.{Expression, literal, variable, operate, pre, arrow, when, merge, call, Equation, Node, Program, node_at}
+use Rattle.lus_program.specs.Programs.{Expression, literal, variable, when, merge, call, Equation, Node, Program, node_at}
 use Rattle.lus_streams.specs.Clocks.{Clock, clock_of, Part, at, parts}
 use Rattle.lus_streams.specs.Equations.{Definition, given_by, equation_clock, definition_of, equation_parts, node_parts, sites}
 use Rattle.lus_streams.specs.Flags.{OutputIs}
@@ -35,11 +35,9 @@ names_of : (V : ℕ → Type 0) (p : Program) (f : Node) (t : Part) → Uses V A
 names_of V p f (at k (call g c args)) h = (h.0.0, (h.1.1, h.1.0.1))
 names_of V p f (at k (literal v)) h = (h.0.0, tt)
 names_of V p f (at k (variable x)) h = h.0
-names_of V p f (at k (operate o es)) h = (h.0.0, tt)
-names_of V p f (at k (pre a)) h = (h.0.0, tt)
-names_of V p f (at k (arrow a b)) h = (h.0.0, tt)
 names_of V p f (at k (when t a)) h = h.0
 names_of V p f (at k (merge x bs)) h = h.0
+names_of V p f (at k e) h = (h.0.0, tt)
 
 -- a variable is an output that its call has, or on the clock of its right side
 fits_by : (p : Program) (f : Node) (formals : (g n : ℕ) → n < (node_at p g).outputs → OutputKnown p g n) (x : ℕ) (d : Option Definition) → DefinedOnClock p f x d → OutputIs p d

@@ -1,7 +1,7 @@
 -- A call in normal form has no more variables on its left than its node has outputs, as in the source.
 use Rattle.std.proofs.Common.{◌≡◌, subst, ℕ, zero, suc, ◌+◌, ◌<◌, nat_eq, Bool, true, false, List, [], ◌∷◌, length, Option, Some, None, refl, if◌then◌else◌, arith}
 use Rattle.lus_values.specs.Lists.{Each}
-use Rattle.lus_program.specs.Programs.{Expression, literal, variable, operate, pre, arrow, when, merge, call, Equation, Node, Program, node_at}
+use Rattle.lus_program.specs.Programs.{Expression, literal, call, Equation, Node, Program, node_at}
 use Rattle.lus_streams.specs.Clocks.{Clock, Part, at}
 use Rattle.lus_streams.specs.Equations.{given_by, place_in, equation_clock, definition_in}
 use Rattle.lus_streams.specs.Flags.{HasOutput, OutputIs}
@@ -23,22 +23,12 @@ has_outputs : (p : Program) (e : Expression) (n : ℕ) (xs : List ℕ) (k : Cloc
 has_outputs p (call g c args) zero xs k h = omega arith
 has_outputs p (call g c args) (suc n) xs k h = let last = h n (omega arith) in omega (arith, last)
 has_outputs p (literal v) n xs k h = tt
-has_outputs p (variable x) n xs k h = tt
-has_outputs p (operate o es) n xs k h = tt
-has_outputs p (pre a) n xs k h = tt
-has_outputs p (arrow a b) n xs k h = tt
-has_outputs p (when t a) n xs k h = tt
-has_outputs p (merge x bs) n xs k h = tt
+has_outputs p e n xs k h = tt
 
 output_of : (p : Program) (e : Expression) (n i : ℕ) (xs : List ℕ) (k : Clock) → HasOutputs p e n → i < n → OutputIs p (Some (given_by e i xs k))
 output_of p (call g c args) n i xs k h lt = omega (arith, h, lt)
 output_of p (literal v) n i xs k h lt = tt
-output_of p (variable x) n i xs k h lt = tt
-output_of p (operate o es) n i xs k h lt = tt
-output_of p (pre a) n i xs k h lt = tt
-output_of p (arrow a b) n i xs k h lt = tt
-output_of p (when t a) n i xs k h lt = tt
-output_of p (merge x bs) n i xs k h lt = tt
+output_of p e n i xs k h lt = tt
 
 -- the source
 pub source_outputs : (p : Program) (nodes : Each (NodeResolved p) p.nodes) (f : Node) (qs : List Equation) → Each (EquationFits p f) qs → Each (LeftHasOutputs p) qs
@@ -55,24 +45,14 @@ part_outputs : (p : Program) (ts : List Part) → Each (HasOutput p) ts → Each
 part_outputs p [] h = tt
 part_outputs p (at k (call g c args) ∷ ts) h = (let some = h.0 in omega (arith, some), part_outputs p ts h.1)
 part_outputs p (at k (literal v) ∷ ts) h = (tt, part_outputs p ts h.1)
-part_outputs p (at k (variable x) ∷ ts) h = (tt, part_outputs p ts h.1)
-part_outputs p (at k (operate o es) ∷ ts) h = (tt, part_outputs p ts h.1)
-part_outputs p (at k (pre a) ∷ ts) h = (tt, part_outputs p ts h.1)
-part_outputs p (at k (arrow a b) ∷ ts) h = (tt, part_outputs p ts h.1)
-part_outputs p (at k (when t a) ∷ ts) h = (tt, part_outputs p ts h.1)
-part_outputs p (at k (merge x bs) ∷ ts) h = (tt, part_outputs p ts h.1)
+part_outputs p (at k e ∷ ts) h = (tt, part_outputs p ts h.1)
 
 -- the normal form, where nodes keep their outputs
 module _ (p p' : Program) (outputs : (g : ℕ) → (node_at p' g).outputs ≡ (node_at p g).outputs) where
   form_outputs : (e : Expression) (n size : ℕ) → HasOutputs p e size → HasOutputs p' (right_form n e) size
   form_outputs (call g c args) n size h = let same = outputs g in omega (arith, h, same)
   form_outputs (literal v) n size h = tt
-  form_outputs (variable x) n size h = tt
-  form_outputs (operate o es) n size h = tt
-  form_outputs (pre a) n size h = tt
-  form_outputs (arrow a b) n size h = tt
-  form_outputs (when t a) n size h = tt
-  form_outputs (merge x bs) n size h = tt
+  form_outputs e n size h = tt
 
   added_outputs : (n : ℕ) (es : List Expression) → Each (λ e. HasOutputs p e 1) es → Each (LeftHasOutputs p') (added_equations n es)
   added_outputs n [] h = tt

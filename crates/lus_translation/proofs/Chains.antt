@@ -2,7 +2,7 @@
 use Rattle.std.proofs.Common.{◌≡◌, ℕ, zero, suc, ◌+◌, List, [], ◌∷◌, slice_get}
 use Rattle.lus_values.specs.Lists.{item, Each}
 use Rattle.lus_program.specs.declared.node.Equation.{Equation as StoredEquation}
-use Rattle.lus_program.specs.Programs.{Expression, literal, variable, operate, pre, arrow, when, merge, call, Operands, none, more, Equation, Node, Program, node_at, calls, numbered, all_numbered}
+use Rattle.lus_program.specs.Programs.{Expression, literal, variable, operate, pre, arrow, merge, call, Operands, none, more, Equation, Node, Program, node_at, calls, numbered, all_numbered}
 use Rattle.lus_program.specs.View.{expression_of, equations_from}
 use Rattle.lus_streams.specs.Clocks.{Clock, clock_of, operand, formal_clock, base_of, Part, parts, operand_parts, branch_parts}
 use Rattle.lus_streams.specs.Equations.{equation_clock}
@@ -11,7 +11,7 @@ use Rattle.lus_streams.proofs.Lists.{each_left, each_right, each_append}
 use Rattle.lus_classes.specs.Classes.{Memory, Argument, Call}
 use Rattle.lus_normal_form.specs.Laws.{IsChain}
 use Rattle.lus_normal_form.proofs.OneTest.{call_clock, chain_drop, clock_is_chain, renamed_is_chain}
-use Rattle.lus_translation.specs.Forms.{Turn, all_cells, all_firsts, arguments_form, call_first, call_form, calls_form, cells_at, equation_cells, equation_firsts, firsts_at, given_cells, given_firsts, turn_cells, turn_firsts, kept_cells, all_kept_cells, branch_cells, cell_for, kept_firsts, all_kept_firsts, branch_firsts}
+use Rattle.lus_translation.specs.Forms.{Turn, all_cells, all_firsts, arguments_form, call_first, call_form, calls_form, cells_at, equation_cells, equation_firsts, firsts_at, given_cells, given_firsts, turn_cells, turn_firsts, kept_cells, all_kept_cells, branch_cells, kept_firsts, all_kept_firsts, branch_firsts}
 use Rattle.lus_translation.specs.Laws.{IsFittingCall, IsFittingRight}
 
 module _ (f : Node) where
@@ -40,16 +40,14 @@ module _ (p : Program) (f : Node) where
   mutual
     kept_chained : (n : ℕ) (e : Expression) (k : Clock) → IsChain f k → Each OnClock (parts p (numbered n e) k) → Each (Chained f) (kept_cells e k) × Each (IsChain f) (kept_firsts e k)
     kept_chained n (literal v) k h o = (tt, tt)
-    kept_chained n (variable x) k h o = (tt, tt)
     kept_chained n (operate op es) k h o = all_kept_chained n es k h o.1
     kept_chained n (pre a) k h o = ((h, tt), tt)
     kept_chained n (arrow a b) k h o =
         let first = kept_chained n a k h (each_left OnClock (parts p (numbered n a) k) (parts p (numbered (n + calls a) b) k) o.1) in
         let later = kept_chained (n + calls a) b k h (each_right OnClock (parts p (numbered n a) k) (parts p (numbered (n + calls a) b) k) o.1) in
         (each_append (Chained f) (kept_cells a k) (kept_cells b k) first.0 later.0, (h, each_append (IsChain f) (kept_firsts a k) (kept_firsts b k) first.1 later.1))
-    kept_chained n (when t a) k h o = (tt, tt)
     kept_chained n (merge x bs) k h o = branches_chained n bs x 0 k o.0 h o.1
-    kept_chained n (call g i args) k h o = (tt, tt)
+    kept_chained n e k h o = (tt, tt)
 
     all_kept_chained : (n : ℕ) (es : Operands) (k : Clock) → IsChain f k → Each OnClock (operand_parts p (all_numbered n es) k) → Each (Chained f) (all_kept_cells es k) × Each (IsChain f) (all_kept_firsts es k)
     all_kept_chained n none k h o = (tt, tt)
@@ -77,12 +75,7 @@ module _ (p : Program) (f : Node) where
   turn_chained : (n : ℕ) (e : Expression) (k : Clock) (xs : List ℕ) → IsChain f k → IsFittingRight p f (numbered n e) k → Each (Chained f) (turn_cells e k xs) × Each (IsChain f) (turn_firsts e k xs)
   turn_chained n (call g i args) k xs h fit = (tt, tt)
   turn_chained n (literal v) k xs h fit = given_chained (literal v) k xs (kept_chained n (literal v) k h fit.1.on_clock)
-  turn_chained n (variable x) k xs h fit = given_chained (variable x) k xs (kept_chained n (variable x) k h fit.1.on_clock)
-  turn_chained n (operate o es) k xs h fit = given_chained (operate o es) k xs (kept_chained n (operate o es) k h fit.1.on_clock)
-  turn_chained n (pre a) k xs h fit = given_chained (pre a) k xs (kept_chained n (pre a) k h fit.1.on_clock)
-  turn_chained n (arrow a b) k xs h fit = given_chained (arrow a b) k xs (kept_chained n (arrow a b) k h fit.1.on_clock)
-  turn_chained n (when t a) k xs h fit = given_chained (when t a) k xs (kept_chained n (when t a) k h fit.1.on_clock)
-  turn_chained n (merge x bs) k xs h fit = given_chained (merge x bs) k xs (kept_chained n (merge x bs) k h fit.1.on_clock)
+  turn_chained n e k xs h fit = given_chained e k xs (kept_chained n e k h fit.1.on_clock)
 
   module _ (own : (x : ℕ) → IsChain f (clock_of f x)) where
     equation_chained : (n : ℕ) (qs : List StoredEquation) (i : ℕ) (xs : List ℕ) → Each (λ q. IsFittingRight p f q.right (equation_clock f q)) (equations_from n qs)
@@ -110,12 +103,7 @@ module _ (p : Program) (f : Node) where
     calls_first : (e : Expression) (k : Clock) → IsChain f k → IsFittingRight p f e k → (rest : List Call) → Each (CallChained f) rest → Each (CallChained f) (call_first p e k rest)
     calls_first (call g i args) k h fit rest later = (call_chained g args k h fit, later)
     calls_first (literal v) k h fit rest later = later
-    calls_first (variable x) k h fit rest later = later
-    calls_first (operate o es) k h fit rest later = later
-    calls_first (pre a) k h fit rest later = later
-    calls_first (arrow a b) k h fit rest later = later
-    calls_first (when t a) k h fit rest later = later
-    calls_first (merge x bs) k h fit rest later = later
+    calls_first e k h fit rest later = later
 
     pub calls_chained : (qs : List Equation) → Each (λ q. IsFittingRight p f q.right (equation_clock f q)) qs → Each (CallChained f) (calls_form p f qs)
     calls_chained [] fit = tt

@@ -90,23 +90,13 @@ module _ (p : Program) (f : Node) where
   simple_fits : (e : Expression) (k : Clock) → IsSimple e → RightOnClock p f (parts p e k) → Each (Uses (Known f) (GivesOutput p f)) (parts p e k) → IsFittingRight p f e k
   simple_fits (call g n args) k s o u = absurd s
   simple_fits (literal v) k s o u = (s, record { on_clock = o; known = u })
-  simple_fits (variable x) k s o u = (s, record { on_clock = o; known = u })
-  simple_fits (operate op es) k s o u = (s, record { on_clock = o; known = u })
-  simple_fits (pre a) k s o u = (s, record { on_clock = o; known = u })
-  simple_fits (arrow a b) k s o u = (s, record { on_clock = o; known = u })
-  simple_fits (when t a) k s o u = (s, record { on_clock = o; known = u })
-  simple_fits (merge x bs) k s o u = (s, record { on_clock = o; known = u })
+  simple_fits e k s o u = (s, record { on_clock = o; known = u })
 
   right_fits : (callees : (g : ℕ) → Declared (node_at p g)) (e : Expression) (k : Clock) → IsSimpleRight e → RightOnClock p f (parts p e k) → Each (Uses (Known f) (GivesOutput p f)) (parts p e k)
       → Each (HasArguments p) (parts p e k) → RightHasFormals p e → IsFittingRight p f e k
   right_fits callees (call g n args) k s o u has formals = record { atoms = s; on_clock = o; known = u.1; size = has.0; formals = formals; declared = callees g }
   right_fits callees (literal v) k s o u has formals = simple_fits (literal v) k s o u
-  right_fits callees (variable x) k s o u has formals = simple_fits (variable x) k s o u
-  right_fits callees (operate op es) k s o u has formals = simple_fits (operate op es) k s o u
-  right_fits callees (pre a) k s o u has formals = simple_fits (pre a) k s o u
-  right_fits callees (arrow a b) k s o u has formals = simple_fits (arrow a b) k s o u
-  right_fits callees (when t a) k s o u has formals = simple_fits (when t a) k s o u
-  right_fits callees (merge x bs) k s o u has formals = simple_fits (merge x bs) k s o u
+  right_fits callees e k s o u has formals = simple_fits e k s o u
 
   rights_fit : (callees : (g : ℕ) → Declared (node_at p g)) (qs : List Equation) → Each (λ q. IsSimpleRight q.right) qs → Each (λ q. RightOnClock p f (parts p q.right (equation_clock f q))) qs
       → Each (Uses (Known f) (GivesOutput p f)) (equation_parts p f qs) → Each (HasArguments p) (equation_parts p f qs) → Each (λ q. RightHasFormals p q.right) qs → Each (λ q. IsFittingRight p f q.right (equation_clock f q)) qs
@@ -182,12 +172,7 @@ module _ (p : Program) (f : Node) (c : Class) where
         subst (λ ss. AreCalls p f c ss qs (suc n)) (sym none_here) (later (suc n) (subst (Numbered (suc n)) none_here h.1)),
       )
   one_first (literal v) k n rest qs fit h later = skipped (literal v) k n rest qs fit.0 h later
-  one_first (variable x) k n rest qs fit h later = skipped (variable x) k n rest qs fit.0 h later
-  one_first (operate op es) k n rest qs fit h later = skipped (operate op es) k n rest qs fit.0 h later
-  one_first (pre a) k n rest qs fit h later = skipped (pre a) k n rest qs fit.0 h later
-  one_first (arrow a b) k n rest qs fit h later = skipped (arrow a b) k n rest qs fit.0 h later
-  one_first (when t a) k n rest qs fit h later = skipped (when t a) k n rest qs fit.0 h later
-  one_first (merge x bs) k n rest qs fit h later = skipped (merge x bs) k n rest qs fit.0 h later
+  one_first e k n rest qs fit h later = skipped e k n rest qs fit.0 h later
 
   all_first : (qs : List Equation) → Each (λ q. IsFittingRight p f q.right (equation_clock f q)) qs → Later (equation_parts p f qs) (calls_form p f qs)
   all_first [] fit n h = tt

@@ -1,6 +1,6 @@
 -- One more step, call or clock.
 use Rattle.std.proofs.Common.{◌≡◌, ◌∙◌, ℕ, zero, suc, ◌+◌, ◌≤◌, List, [], ◌∷◌, ◌++◌, map, length, None, slice_get, refl, sym, ap, append_assoc, append-nil, le_of_suc-le-suc, not-suc-le-zero}
-use Rattle.lus_program.specs.Programs.{Expression, literal, variable, operate, pre, arrow, when, merge, call, Program}
+use Rattle.lus_program.specs.Programs.{Expression, literal, Program}
 use Rattle.lus_streams.specs.Clocks.{Clock}
 use Rattle.lus_classes.specs.Classes.{Code, Step, Call}
 use Rattle.lus_flat_classes.specs.declared.class.Step.{Step as StoredStep}
@@ -17,13 +17,7 @@ steps_pushed (r ∷ ss) s = ap (λ l. steps_in r ++ l) (steps_pushed ss s) ∙ s
 
 pub first_before : (p : Program) (e : Expression) (k : Clock) (qs : List Call) → call_first p e k qs ≡ call_first p e k [] ++ qs
 first_before p (literal v) k qs = refl
-first_before p (variable x) k qs = refl
-first_before p (operate o es) k qs = refl
-first_before p (pre a) k qs = refl
-first_before p (arrow a b) k qs = refl
-first_before p (when t a) k qs = refl
-first_before p (merge x bs) k qs = refl
-first_before p (call g i args) k qs = refl
+first_before p e k qs = refl
 
 -- one variable more has been given the code of e
 pub given_next : (ss whole : List Step) (d : Code) (m n m' n' : ℕ) (e : Expression) (k : Clock) (x : ℕ) (xs : List ℕ) → d ≡ code_form m n e k → m' ≡ m + length (kept_cells e k) → n' ≡ n + length (kept_firsts e k)

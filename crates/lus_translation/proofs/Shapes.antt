@@ -15,7 +15,7 @@ use Rattle.lus_classes.specs.Classes.{Memory, Class}
 use Rattle.lus_classes.specs.ClassesOf.{AtomOn}
 use Rattle.lus_normal_form.specs.NormalForm.{IsAtom, IsSimple, AreSimple}
 use Rattle.lus_normal_nodes.specs.Ready.{Declared}
-use Rattle.lus_translation.specs.Forms.{Turn, all_cells, all_clocks, cells_at, class_form, equation_cells, given_cells, turn_cells, kept_cells, all_kept_cells, branch_cells, cell_for, numbers_form}
+use Rattle.lus_translation.specs.Forms.{Turn, all_cells, all_clocks, cells_at, class_form, equation_cells, given_cells, turn_cells, kept_cells, all_kept_cells, branch_cells, numbers_form}
 use Rattle.lus_translation.specs.Laws.{IsFittingRight, ClassesHaveShape}
 use Rattle.lus_translation.proofs.Codes.{On, Used, atom_on}
 use Rattle.lus_translation.proofs.FittingCalls.{all_calls_belong, input_tested, ready_rights_fit}
@@ -66,11 +66,7 @@ mutual
   atom_numbered n (literal v) s = refl
   atom_numbered n (variable x) s = refl
   atom_numbered n (operate o es) s = absurd s
-  atom_numbered n (pre a) s = absurd s
-  atom_numbered n (arrow a b) s = absurd s
-  atom_numbered n (when t a) s = absurd s
-  atom_numbered n (merge x bs) s = absurd s
-  atom_numbered n (call g i args) s = absurd s
+  atom_numbered n e s = absurd s
 
 module _ (p : Program) (f : Node) (c : Class) where
   abbrev IsKept : Memory → Type 0
@@ -119,12 +115,7 @@ module _ (p : Program) (f : Node) (c : Class) where
   turn_kept : (n : ℕ) (e : Expression) (k : Clock) (xs : List ℕ) → IsFittingRight p f (numbered n e) k → Each IsKept (turn_cells e k xs)
   turn_kept n (call g i args) k xs fit = tt
   turn_kept n (literal v) k xs fit = simple_kept n (literal v) k xs fit.0 fit.1.on_clock fit.1.known
-  turn_kept n (variable x) k xs fit = simple_kept n (variable x) k xs fit.0 fit.1.on_clock fit.1.known
-  turn_kept n (operate o es) k xs fit = simple_kept n (operate o es) k xs fit.0 fit.1.on_clock fit.1.known
-  turn_kept n (pre a) k xs fit = simple_kept n (pre a) k xs fit.0 fit.1.on_clock fit.1.known
-  turn_kept n (arrow a b) k xs fit = simple_kept n (arrow a b) k xs fit.0 fit.1.on_clock fit.1.known
-  turn_kept n (when t a) k xs fit = simple_kept n (when t a) k xs fit.0 fit.1.on_clock fit.1.known
-  turn_kept n (merge x bs) k xs fit = simple_kept n (merge x bs) k xs fit.0 fit.1.on_clock fit.1.known
+  turn_kept n e k xs fit = simple_kept n e k xs fit.0 fit.1.on_clock fit.1.known
 
   equation_kept : (n : ℕ) (qs : List StoredEquation) (i : ℕ) (xs : List ℕ) → Each (λ q. IsFittingRight p f q.right (equation_clock f q)) (equations_from n qs) → Each IsKept (equation_cells f (slice_get qs i) xs)
   equation_kept n [] i xs fit = tt

@@ -2,7 +2,7 @@
 use Rattle.std.proofs.Common.{◌≡◌, ℕ, zero, suc, ◌+◌, ◌<◌, List, [], ◌∷◌, length, Some, slice_get, refl, sym, subst, arith, not-suc-le-zero, le_of_suc-le-suc}
 use Rattle.lus_values.specs.Lists.{item, Each}
 use Rattle.lus_program.specs.declared.node.Equation.{Equation as StoredEquation}
-use Rattle.lus_program.specs.Programs.{Expression, literal, variable, operate, pre, arrow, when, merge, call, Operands, Node, Program, calls}
+use Rattle.lus_program.specs.Programs.{Expression, literal, call, Operands, Node, Program, calls}
 use Rattle.lus_program.specs.View.{expression_of, equations_from}
 use Rattle.lus_streams.specs.Clocks.{Clock, clock_of}
 use Rattle.lus_classes.specs.Classes.{Call}
@@ -49,12 +49,7 @@ module _ (p : Program) (k : Clock) (q : StoredEquation) (qs : List StoredEquatio
       let counted : next_number 0 (expression_of q.right) ≡ 1 = subst (λ d. next_number 0 d ≡ 1) (sym is) refl in
       later q qs n (suc n) (omega (arith, counted)) (rest n (le_of_suc-le-suc lt))
   found_in (literal v) is n lt = unchanged (literal v) is refl n lt
-  found_in (variable x) is n lt = unchanged (variable x) is refl n lt
-  found_in (operate o es) is n lt = unchanged (operate o es) is refl n lt
-  found_in (pre a) is n lt = unchanged (pre a) is refl n lt
-  found_in (arrow a b) is n lt = unchanged (arrow a b) is refl n lt
-  found_in (when t a) is n lt = unchanged (when t a) is refl n lt
-  found_in (merge x bs) is n lt = unchanged (merge x bs) is refl n lt
+  found_in e is n lt = unchanged e is refl n lt
 
 pub call_place : (p : Program) (f : Node) (qs : List StoredEquation) (n : ℕ) → n < length (stored_calls p f qs) → IsRightSide qs n
 call_place p f [] n lt = elim (not-suc-le-zero lt) [ ]

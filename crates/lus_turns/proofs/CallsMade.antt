@@ -4,7 +4,7 @@ use Rattle.std.proofs.lemmas.List.{length-map}
 use Rattle.std.proofs.lemmas.Option.{slice_get_within}
 use Rattle.lus_values.specs.Lists.{item, Each}
 use Rattle.lus_program.specs.declared.node.Equation.{Equation as StoredEquation}
-use Rattle.lus_program.specs.Programs.{Expression, literal, variable, operate, pre, arrow, when, merge, call, Operands, Node, Program, node_at, empty_node, numbered, all_numbered}
+use Rattle.lus_program.specs.Programs.{Expression, literal, variable, when, call, Operands, Node, Program, node_at, empty_node, numbered, all_numbered}
 use Rattle.lus_program.specs.View.{equations_from}
 use Rattle.lus_streams.specs.Clocks.{Clock}
 use Rattle.lus_streams.specs.Equations.{Definition, given_by, definition_of, equation_clock, Site, sites}
@@ -44,13 +44,8 @@ atom_asks (named x) n m e = cc
 
 no_answer : (p : Program) (f : Node) (c : Class) (e : Expression) (n m : ℕ) (k : Clock) → IsCode p f c e (answer n m) k → ⊥
 no_answer p f c (literal v) n m k h = h
-no_answer p f c (variable x) n m k h = h
-no_answer p f c (operate o es) n m k h = h
-no_answer p f c (pre a) n m k h = h
-no_answer p f c (arrow a b) n m k h = h
 no_answer p f c (when t a) n m k h = atom_asks h.atom n m h.code
-no_answer p f c (merge x bs) n m k h = h
-no_answer p f c (call g i args) n m k h = h
+no_answer p f c e n m k h = h
 
 -- a step that answers call n makes one of the calls
 source_within : (p : Program) (f : Node) (c : Class) (x n m : ℕ) (d : Option Definition) → IsSource p f c x d (answer n m) → n < length c.calls

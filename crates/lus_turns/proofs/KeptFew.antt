@@ -6,7 +6,7 @@ use Rattle.std.proofs.lemmas.List.{length-map}
 use Rattle.std.proofs.lemmas.List.Sums.{sum_by-append, sum_by-cons}
 use Rattle.lus_values.specs.Lists.{item, Each}
 use Rattle.lus_program.specs.declared.node.Equation.{Equation as StoredEquation}
-use Rattle.lus_program.specs.Programs.{Expression, literal, variable, operate, pre, arrow, when, merge, call, Operands, none, more, calls, numbered, all_numbered, Equation, Node, Program}
+use Rattle.lus_program.specs.Programs.{Expression, literal, variable, operate, arrow, merge, call, Operands, none, more, calls, numbered, all_numbered, Equation, Node, Program}
 use Rattle.lus_program.specs.View.{expression_of, equations_from}
 use Rattle.lus_streams.specs.Clocks.{Clock, clock_of}
 use Rattle.lus_streams.specs.Equations.{Definition, given_by, definition_in, definition_of, equation_clock, place_in}
@@ -26,17 +26,14 @@ use Rattle.lus_turns.proofs.StoredEquations.{stored_at}
 mutual
   cells_few : (n : ℕ) (e : Expression) (k : Clock) → length (kept_cells e k) ≤ memories (numbered n e)
   cells_few n (literal v) k = omega arith
-  cells_few n (variable x) k = omega arith
   cells_few n (operate o es) k = all_cells_few n es k
-  cells_few n (pre a) k = omega arith
   cells_few n (arrow a b) k =
       let first = cells_few n a k in
       let later = cells_few (n + calls a) b k in
       let both = length-append (kept_cells a k) (kept_cells b k) in
       omega (arith, first, later, both)
-  cells_few n (when t a) k = omega arith
   cells_few n (merge x bs) k = branch_cells_few n bs x 0 k
-  cells_few n (call g c args) k = omega arith
+  cells_few n e k = omega arith
 
   all_cells_few : (n : ℕ) (es : Operands) (k : Clock) → length (all_kept_cells es k) ≤ all_memories (all_numbered n es)
   all_cells_few n none k = omega arith
@@ -58,17 +55,14 @@ mutual
 mutual
   firsts_few : (n : ℕ) (e : Expression) (k : Clock) → length (kept_firsts e k) ≤ firsts (numbered n e)
   firsts_few n (literal v) k = omega arith
-  firsts_few n (variable x) k = omega arith
   firsts_few n (operate o es) k = all_firsts_few n es k
-  firsts_few n (pre a) k = omega arith
   firsts_few n (arrow a b) k =
       let first = firsts_few n a k in
       let later = firsts_few (n + calls a) b k in
       let both = length-append (kept_firsts a k) (kept_firsts b k) in
       omega (arith, first, later, both)
-  firsts_few n (when t a) k = omega arith
   firsts_few n (merge x bs) k = branch_firsts_few n bs x 0 k
-  firsts_few n (call g c args) k = omega arith
+  firsts_few n e k = omega arith
 
   all_firsts_few : (n : ℕ) (es : Operands) (k : Clock) → length (all_kept_firsts es k) ≤ all_firsts (all_numbered n es)
   all_firsts_few n none k = omega arith

@@ -3,7 +3,7 @@ use Rattle.std.proofs.Common.{◌≡◌, ◌∙◌, inl, ℕ, zero, suc, ◌+◌
 use Rattle.std.proofs.lemmas.Bool.{eqb-true}
 use Rattle.lus_values.specs.Lists.{item, Each}
 use Rattle.lus_values.proofs.Lists.{below_at}
-use Rattle.lus_program.specs.Programs.{Expression, literal, variable, operate, pre, arrow, when, merge, call, Operands, Equation, Node, Program, node_at, numbered, all_numbered}
+use Rattle.lus_program.specs.Programs.{Expression, literal, call, Operands, Equation, Node, Program, node_at, numbered, all_numbered}
 use Rattle.lus_streams.specs.Clocks.{Clock, clock_of}
 use Rattle.lus_streams.specs.Equations.{Definition, given_by, definition_of, equation_clock, place_in}
 use Rattle.lus_streams.specs.OnClock.{DefinedOnClock, LeftOnClock}
@@ -69,13 +69,8 @@ module _ (p : Program) (f : Node) (c : Class) where
   -- a variable is on the clock of a right side that is no call
   simple_clock : (x o : ℕ) (ts : List ℕ) (r : Expression) (k : Clock) → IsSimple r → DefinedOnClock p f x (Some (given_by r o ts k)) → clock_of f x ≡ k
   simple_clock x o ts (literal v) k s h = h
-  simple_clock x o ts (variable y) k s h = h
-  simple_clock x o ts (operate op es) k s h = h
-  simple_clock x o ts (pre a) k s h = h
-  simple_clock x o ts (arrow a b) k s h = h
-  simple_clock x o ts (when t a) k s h = h
-  simple_clock x o ts (merge y bs) k s h = h
   simple_clock x o ts (call g i args) k s h = absurd s
+  simple_clock x o ts e k s h = h
 
   simple_given : (q : Equation) (xs : List ℕ) → IsSimple q.right → IsHeld p f q xs → Each (IsGivenOf p f c q.right (equation_clock f q)) xs
   simple_given q xs s h =
@@ -167,12 +162,7 @@ module _ (p : Program) (f : Node) (c : Class) where
       let k = clock_of f (item 0 ts 0) in
       answers_follow number (node_at p g).inputs g numbered_args ts xs (found g j args refl ∙ ap Some (sym (call_numbered p g (suc number) args k))) h.given
   turn_follows m n number (literal v) ts xs found h = simple_follow m n number (literal v) ts xs h.fit.0 h
-  turn_follows m n number (variable x) ts xs found h = simple_follow m n number (variable x) ts xs h.fit.0 h
-  turn_follows m n number (operate o es) ts xs found h = simple_follow m n number (operate o es) ts xs h.fit.0 h
-  turn_follows m n number (pre a) ts xs found h = simple_follow m n number (pre a) ts xs h.fit.0 h
-  turn_follows m n number (arrow a b) ts xs found h = simple_follow m n number (arrow a b) ts xs h.fit.0 h
-  turn_follows m n number (when t a) ts xs found h = simple_follow m n number (when t a) ts xs h.fit.0 h
-  turn_follows m n number (merge x bs) ts xs found h = simple_follow m n number (merge x bs) ts xs h.fit.0 h
+  turn_follows m n number e ts xs found h = simple_follow m n number e ts xs h.fit.0 h
 
   -- an output that defines a variable is a variable of the called node
   abbrev pub OutputsKnown : Type 0
@@ -189,9 +179,4 @@ module _ (p : Program) (f : Node) (c : Class) where
         let k = clock_of f (item 0 ts 0) in
         answers_are_steps g number numbered_args ts no_input (λ x o. known g number numbered_args ts k x o) xs xs h (found g j args refl ∙ ap Some (sym (call_numbered p g (suc number) args k))) h.given
     turn_is_steps m n number (literal v) ts xs found h cells firsts = simple_steps m n number (literal v) ts xs h.fit.0 h.fit.1 h cells firsts
-    turn_is_steps m n number (variable x) ts xs found h cells firsts = simple_steps m n number (variable x) ts xs h.fit.0 h.fit.1 h cells firsts
-    turn_is_steps m n number (operate o es) ts xs found h cells firsts = simple_steps m n number (operate o es) ts xs h.fit.0 h.fit.1 h cells firsts
-    turn_is_steps m n number (pre a) ts xs found h cells firsts = simple_steps m n number (pre a) ts xs h.fit.0 h.fit.1 h cells firsts
-    turn_is_steps m n number (arrow a b) ts xs found h cells firsts = simple_steps m n number (arrow a b) ts xs h.fit.0 h.fit.1 h cells firsts
-    turn_is_steps m n number (when t a) ts xs found h cells firsts = simple_steps m n number (when t a) ts xs h.fit.0 h.fit.1 h cells firsts
-    turn_is_steps m n number (merge x bs) ts xs found h cells firsts = simple_steps m n number (merge x bs) ts xs h.fit.0 h.fit.1 h cells firsts
+    turn_is_steps m n number e ts xs found h cells firsts = simple_steps m n number e ts xs h.fit.0 h.fit.1 h cells firsts
