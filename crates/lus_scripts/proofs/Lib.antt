@@ -3,3 +3,4 @@ pub mod Checks
 pub mod DistinctNames
 pub mod Values
 pub mod ReadScripts
+pub mod RequestLists

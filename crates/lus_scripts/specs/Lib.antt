@@ -2,3 +2,4 @@ pub mod Limits
 pub mod Forms
 pub mod Scripts
 pub mod View
+pub mod Requests

@@ -45,7 +45,7 @@ pub(crate) struct Form<'v> {
     pub callers: Vec<CallerForm<'v>>,
 }
 
-fn as_list(value: &Value) -> Option<&[Value]>
+pub(crate) fn as_list(value: &Value) -> Option<&[Value]>
     ensures { option_map (λ items. map view items.now) result ≡ as_list (view value.now) }
 {
     let items = value.as_array()?;
@@ -126,7 +126,7 @@ fn read_reset(value: &Value) -> Option<Ask<'_>>
 }
 
 /// What a call asks, by the first of the keys that is there.
-fn read_ask(call: &Value) -> Option<Ask<'_>>
+pub(crate) fn read_ask(call: &Value) -> Option<Ask<'_>>
     ensures { option_map ask_seen result ≡ ask_of (view call.now) }
 {
     if let Some(items) = call.get("step") {

@@ -7,10 +7,12 @@ mod limits;
 mod names;
 mod reading;
 mod refusal;
+mod request;
 mod scripts;
 mod value;
 
 pub use limits::{MOST_CALLERS, MOST_CALLS, MOST_INSTANCES, MOST_NAME_BYTES};
 pub use reading::read_scripts;
 pub use refusal::ScriptRefusal;
+pub use request::read_request;
 pub use scripts::{Instance, Scripts};

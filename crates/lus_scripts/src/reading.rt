@@ -28,11 +28,11 @@ use std::alloc::Global;
 /// What the calls of scripts are read by: the program, the names of its constructors, and the instances with the table of
 /// their names.
 #[derive(Clone, Copy)]
-struct Scope<'p> {
-    program: &'p Program,
-    names: &'p Names,
-    table: &'p IndexSet<String>,
-    instances: &'p [Instance],
+pub(crate) struct Scope<'p> {
+    pub program: &'p Program,
+    pub names: &'p Names,
+    pub table: &'p IndexSet<String>,
+    pub instances: &'p [Instance],
 }
 
 /// The node of the instance at this place.
@@ -43,7 +43,7 @@ fn node_on(scope: Scope<'_>, on: usize) -> Option<&Node>
     scope.program.nodes.get(instance.id.0 as usize)
 }
 
-fn read_request(
+pub(crate) fn read_request(
     alloc: Global,
     scope: Scope<'_>,
     node: Option<&Node>,

@@ -127,7 +127,7 @@ fn read_typed(
 }
 
 /// An item of a step: null is absent.
-fn read_item(
+pub(crate) fn read_item(
     alloc: Global,
     program: &Program,
     names: &Names,

@@ -1,0 +1,129 @@
+-- Lines that are played as calls, one by one.
+use Rattle.std.specs.Prelude.{◌≡◌, ◌⊎◌, ◌+◌, ◌<◌, ◌≤◌, ◌++◌, ℕ, Bool, true, false, List, [], ◌∷◌, length, map, flat_map, Option, Some, None}
+use Rattle.std.specs.List.{AllZip}
+use Rattle.lus_devices.specs.Devices.{Bytes, WritesBeginning, with_front, with_text}
+use Rattle.lus_requests.specs.declared.request.Request.{Request}
+use Rattle.lus_requests.specs.declared.request.Reply.{Reply}
+use Rattle.lus_requests.specs.declared.request.Entry.{Entry}
+use Rattle.lus_lines.specs.Lines.{IsLast, IsNext, IsPlain, most_line_bytes}
+use Rattle.lus_lines.specs.declared.error.LineError.{LineError}
+use Rattle.lus_lines.specs.declared.error.LineError.TheVariants as lines
+use Rattle.lus_play.specs.declared.error.PlayError.{PlayError}
+use Rattle.lus_play.specs.declared.error.PlayError.TheVariants as plays
+use Rattle.lus_play.specs.declared.playing.Score.{Score}
+use Rattle.lus_play.specs.declared.playing.Turn.{Turn}
+use Rattle.lus_play.specs.declared.playing.Turn.TheVariants.{Entered, Refused, Unfinished, Ended}
+
+abbrev pub line_fault : LineError → PlayError
+line_fault lines.Read = plays.Read
+line_fault lines.Memory = plays.Memory
+
+-- a request of the one caller, with its reply
+abbrev pub entry_of : Request → Reply → Entry
+entry_of r a = record { caller = 0; request = r; reply = a }
+
+-- a line has a request, or it is too long or has none
+abbrev pub Reads : (Bytes → Option Request → Type 0) → Bytes → Option Request → Type 0
+Reads R line (Some r) = R line (Some r)
+Reads R line None = (most_line_bytes < length line) ⊎ R line None
+
+pub record IsReadAs (R : Bytes → Option Request → Type 0) (line : Bytes) (o : Option Request) : Type 0 where
+  pub plain : IsPlain line
+  pub reads : Reads R line o
+
+-- the requests that there are
+abbrev pub requests : List (Option Request) → List Request
+requests [] = []
+requests (None ∷ os) = requests os
+requests (Some r ∷ os) = r ∷ requests os
+
+-- a line with its line feed
+abbrev pub ended : Bytes → Bytes
+ended line = line ++ 10 ∷ []
+
+-- the texts of entries, the first of which is the nth
+abbrev pub texts : (ℕ → Entry → Bytes) → ℕ → List Entry → Bytes
+texts says n [] = []
+texts says n (e ∷ es) = says n e ++ texts says (n + 1) es
+
+-- So many lines were read, and so many of them are no calls; the requests of the others, in their order, are those of the entries.
+pub record Asks (R : Bytes → Option Request → Type 0) (left later : Option Bytes) (entries : List Entry) (turns refused : ℕ) : Type 0 where
+  pub lines : List Bytes
+  pub reads : List (Option Request)
+  pub were : left ≡ with_front (flat_map ended lines) later
+  pub read : AllZip (IsReadAs R) lines reads
+  pub asked : map (λ e. e.request) entries ≡ requests reads
+  pub turned : length lines ≡ turns
+  pub counted : turns ≡ length entries + refused
+
+-- Such entries are new in a history, and of their texts as much is written as W says.
+pub record Played (R : Bytes → Option Request → Type 0) (says : ℕ → Entry → Bytes) (first : ℕ) (left later : Option Bytes)
+    (h h' : List Entry) (W : Bytes → Type 0) (turns refused : ℕ) : Type 0 where
+  pub entries : List Entry
+  pub asks : Asks R left later entries turns refused
+  pub entered : h' ≡ h ++ entries
+  pub wrote : W (texts says first entries)
+
+-- an unfinished line is one more that is no call
+abbrev pub with_tail : Bytes → ℕ → ℕ
+with_tail [] n = n
+with_tail (b ∷ bs) n = n + 1
+
+-- all lines were read up to the end
+abbrev pub AsksAll : (Bytes → Option Request → Type 0) → Option Bytes → Option Bytes → List Entry → Score → Type 0
+AsksAll R left end entries score =
+    (later : Option Bytes) × (tail : Bytes) × (refused : ℕ) × Asks R left later entries (score.entered + refused) refused
+    × IsLast tail later end × (score.refused ≡ with_tail tail refused)
+
+-- likewise, and the texts of the entries are written
+pub record HasPlayedAll (R : Bytes → Option Request → Type 0) (says : ℕ → Entry → Bytes) (first : ℕ) (left end : Option Bytes)
+    (h h' : List Entry) (w w' : Option Bytes) (score : Score) : Type 0 where
+  pub entries : List Entry
+  pub asks : AsksAll R left end entries score
+  pub entered : h' ≡ h ++ entries
+  pub wrote : w' ≡ with_text w (texts says first entries)
+
+-- some lines were read
+abbrev pub AsksSome : (Bytes → Option Request → Type 0) → Option Bytes → List Entry → Type 0
+AsksSome R left entries = (later : Option Bytes) × (turns refused : ℕ) × Asks R left later entries turns refused
+
+-- likewise, and a beginning of the texts of the entries is written
+pub record HasPlayed (R : Bytes → Option Request → Type 0) (says : ℕ → Entry → Bytes) (first : ℕ) (left : Option Bytes)
+    (h h' : List Entry) (w w' : Option Bytes) : Type 0 where
+  pub entries : List Entry
+  pub asks : AsksSome R left entries
+  pub entered : h' ≡ h ++ entries
+  pub wrote : WritesBeginning w w' (texts says first entries)
+
+-- ---- one line
+
+-- a line was answered, or it is no call
+abbrev pub Answers : (Bytes → Option Request → Type 0) → (ℕ → Entry → Bytes) → ℕ → Bytes → Bool
+    → List Entry → List Entry → Option Bytes → Option Bytes → Type 0
+Answers R says n line true h h' w w' = (e : Entry) × R line (Some e.request) × (h' ≡ h ++ e ∷ []) × (w' ≡ with_text w (says n e))
+Answers R says n line false h h' w w' = R line None × (h' ≡ h) × (w' ≡ w)
+
+-- nothing was done, or the call was made and a beginning of its entry's text is written
+abbrev pub AnswerFails : (Bytes → Option Request → Type 0) → (ℕ → Entry → Bytes) → ℕ → Bytes
+    → List Entry → List Entry → Option Bytes → Option Bytes → Type 0
+AnswerFails R says n line h h' w w' =
+    ((h' ≡ h) × (w' ≡ w)) ⊎ ((e : Entry) × R line (Some e.request) × (h' ≡ h ++ e ∷ []) × WritesBeginning w w' (says n e))
+
+abbrev pub turn_of : Bool → Turn
+turn_of true = Entered
+turn_of false = Refused
+
+abbrev pub TurnIs : Turn → (Bytes → Option Request → Type 0) → (ℕ → Entry → Bytes) → ℕ → Option Bytes → Option Bytes
+    → List Entry → List Entry → Option Bytes → Option Bytes → Type 0
+TurnIs Entered R says n left later h h' w w' =
+    (line : Bytes) × (e : Entry) × IsNext line left later × R line (Some e.request) × (h' ≡ h ++ e ∷ []) × (w' ≡ with_text w (says n e))
+TurnIs Refused R says n left later h h' w w' = (line : Bytes) × IsNext line left later × Reads R line None × (h' ≡ h) × (w' ≡ w)
+TurnIs Unfinished R says n left later h h' w w' = (tail : Bytes) × IsLast tail left later × (0 < length tail) × (h' ≡ h) × (w' ≡ w)
+TurnIs Ended R says n left later h h' w w' = IsLast [] left later × (h' ≡ h) × (w' ≡ w)
+
+abbrev pub TurnFails : (Bytes → Option Request → Type 0) → (ℕ → Entry → Bytes) → ℕ → Option Bytes
+    → List Entry → List Entry → Option Bytes → Option Bytes → Type 0
+TurnFails R says n left h h' w w' =
+    ((h' ≡ h) × (w' ≡ w))
+    ⊎ ((later : Option Bytes) × (line : Bytes) × (e : Entry) × IsNext line left later × R line (Some e.request) × (h' ≡ h ++ e ∷ [])
+    × WritesBeginning w w' (says n e))
