@@ -2,9 +2,9 @@
 
 ghost use Rattle.std.specs.Prelude.{◌≡◌, ◌++◌, OnOk, IfOk, map, string_bytes};
 ghost use Rattle.lus_values.specs.View.{entry_of};
-ghost use Rattle.lus_devices.specs.Journals.{caller_name, item_text, items_text, line_text, reply_text, request_text, row_text, why_text};
+ghost use Rattle.lus_devices.specs.Journals.{caller_name, item_text, items_text, line_text, listed_rows_text, reply_text, request_text, row_text, rows_text, why_text};
 
-use lus_requests::{Entry, Reply, Request, Why};
+use lus_requests::{Entry, Reply, Request, Rows, Why};
 use lus_values::{Memory, Names, Row, Value, push_value};
 
 fn push_item(line: &mut String, names: &Names, item: &Option<Value>) -> Result<(), Memory>
@@ -39,6 +39,29 @@ fn push_row(line: &mut String, names: &Names, row: &Row) -> Result<(), Memory>
     Ok(())
 }
 
+fn push_listed_rows(line: &mut String, names: &Names, rows: &[Row]) -> Result<(), Memory>
+    ensures { OnOk result (string_bytes line.new ≡ string_bytes line.old ++ listed_rows_text names.now rows.now) }
+{
+    let [first, later @ ..] = rows else {
+        return Ok(());
+    };
+    push_row(line, names, first)?;
+    for row in later {
+        line.push_str(", ")?;
+        push_row(line, names, row)?;
+    }
+    Ok(())
+}
+
+fn push_rows(line: &mut String, names: &Names, rows: &Rows) -> Result<(), Memory>
+    ensures { OnOk result (string_bytes line.new ≡ string_bytes line.old ++ rows_text names.now rows.now) }
+{
+    line.push_str("(")?;
+    push_listed_rows(line, names, rows.items())?;
+    line.push_str(")")?;
+    Ok(())
+}
+
 fn push_request(line: &mut String, names: &Names, request: &Request) -> Result<(), Memory>
     ensures { OnOk result (string_bytes line.new ≡ string_bytes line.old ++ request_text names.now request.now) }
 {
@@ -50,6 +73,10 @@ fn push_request(line: &mut String, names: &Names, request: &Request) -> Result<(
         Request::Reset => line.push_str("reset")?,
         Request::Save(slot) => write!(line, "save {slot}")?,
         Request::Restore(slot) => write!(line, "restore {slot}")?,
+        Request::Burst(rows) => {
+            line.push_str("burst")?;
+            push_rows(line, names, rows)?;
+        }
     }
     Ok(())
 }
@@ -71,6 +98,7 @@ fn push_reply(line: &mut String, names: &Names, reply: &Reply) -> Result<(), Mem
 {
     match reply {
         Reply::Outputs(row) => push_row(line, names, row),
+        Reply::Rows(rows) => push_rows(line, names, rows),
         Reply::Done => Ok(line.push_str("done")?),
         Reply::Refused(why) => push_why(line, *why),
     }
@@ -87,7 +115,7 @@ fn caller_name(callers: &[String], caller: u32) -> &str
 }
 
 /// Appends the nth entry of an instance. After `Memory` a part of it may have been appended.
-pub(crate) fn push_line(
+pub fn push_line(
     line: &mut String,
     names: &Names,
     callers: &[String],

@@ -22,7 +22,7 @@ pub use lus_devices::{
     Failure, Input, Journal, Output, ReadError, Sink, Source, WriteError, read_at_most, write_all,
     write_journals,
 };
-pub use lus_requests::{Entry, Reply, Request, Why};
+pub use lus_requests::{Entry, Reply, Request, Rows, Why};
 pub use lus_scripts::{Instance, ScriptRefusal, Scripts, read_scripts};
 pub use lus_syntax::MOST_BYTES;
 pub use lus_values::{Memory, Names, Row, Value, print};

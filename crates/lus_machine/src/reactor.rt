@@ -117,6 +117,7 @@ impl Reactor {
         ensures legal { IsLawful self.new }
     {
         let Answer { reply, change } = answer_to(
+            self.alloc,
             self.program.code(),
             &self.object,
             &self.slots,
@@ -141,6 +142,7 @@ impl Reactor {
         ensures legal { IsLawful self.new }
     {
         let Answer { reply, change } = answer_to(
+            self.alloc,
             self.program.code(),
             &self.object,
             &self.slots,

@@ -3,6 +3,8 @@
 
 mod call;
 mod request;
+mod rows;
 
 pub use call::{Call, Caller};
 pub use request::{Entry, Reply, Request, Why};
+pub use rows::Rows;

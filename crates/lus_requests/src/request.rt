@@ -2,6 +2,7 @@
 
 ghost use Rattle.std.specs.Prelude.{◌≡◌, IfOk};
 
+use crate::rows::Rows;
 use lus_values::{Memory, Row};
 use std::alloc::Global;
 
@@ -16,12 +17,15 @@ pub enum Request {
     Save(u64),
     /// Goes back to what a slot records.
     Restore(u64),
+    /// Several instants, one behind another: all of them or none.
+    Burst(Rows),
 }
 
 /// Why a request was refused.
 #[derive(Clone, Copy, PartialEq, Eq, Debug)]
 pub enum Why {
-    /// The inputs aren't as many as the node's, or one is no value of its type; or there is no slot of this number.
+    /// The inputs aren't as many as the node's, or one is no value of its type; or there is no slot of this
+    /// number, or a burst has more rows than it may.
     Shape,
     /// An input isn't present exactly where its clock is.
     Presence,
@@ -36,6 +40,8 @@ pub enum Why {
 pub enum Reply {
     /// The values of the node's outputs at the instant.
     Outputs(Row),
+    /// Those at each instant of a burst.
+    Rows(Rows),
     Done,
     Refused(Why),
 }
@@ -58,6 +64,7 @@ impl Request {
             Request::Reset => Ok(Request::Reset),
             Request::Save(slot) => Ok(Request::Save(*slot)),
             Request::Restore(slot) => Ok(Request::Restore(*slot)),
+            Request::Burst(rows) => Ok(Request::Burst(rows.copy(alloc)?)),
         }
     }
 }
@@ -69,6 +76,7 @@ impl Reply {
     {
         match self {
             Reply::Outputs(outputs) => Ok(Reply::Outputs(outputs.copy(alloc)?)),
+            Reply::Rows(rows) => Ok(Reply::Rows(rows.copy(alloc)?)),
             Reply::Done => Ok(Reply::Done),
             Reply::Refused(why) => Ok(Reply::Refused(*why)),
         }

@@ -1,6 +1,6 @@
 -- The form of scripts: what a JSON value says before its names are looked up and the values of its steps are read.
 use Rattle.std.specs.Prelude.{◌==◌, ◌&&◌, ◌||◌, ℕ, Bool, false, List, [], ◌∷◌, length, nat_le, codes}
-use Rattle.std.specs.Prelude.{Option, Some, None, option_map, option_and_then, unwrap_or, if◌then◌else◌}
+use Rattle.std.specs.Prelude.{Option, Some, None, is_some, option_map, option_and_then, unwrap_or, if◌then◌else◌}
 use Rattle.std.specs.List.{list_all}
 use Rattle.std.specs.Option.{option_map_or}
 use Rattle.serde_json.specs.Data.{Data, Items, no_items, item}
@@ -63,6 +63,7 @@ pub data Ask : Type 0 where
   reset : Ask
   save : ℕ → Ask
   restore : ℕ → Ask
+  burst : List Data → Ask
 
 abbrev pub slot_of : Data → Option ℕ
 slot_of d = option_and_then as_u64 (as_number d)
@@ -70,16 +71,23 @@ slot_of d = option_and_then as_u64 (as_number d)
 abbrev pub reset_of : Data → Option Ask
 reset_of d = if unwrap_or (as_bool d) false then Some reset else None
 
+abbrev pub is_list : Data → Bool
+is_list d = is_some (as_list d)
+
+-- a list of lists
+abbrev pub burst_of : Data → Option Ask
+burst_of d = option_and_then (λ ds. if list_all is_list ds then Some (burst ds) else None) (as_list d)
+
 -- by the first of the keys that is there
-abbrev pub ask_among : (step reset save restore : Option Data) → Option Ask
-ask_among (Some d) r s t = option_map step (as_list d)
-ask_among None (Some d) s t = reset_of d
-ask_among None None (Some d) t = option_map save (slot_of d)
-ask_among None None None (Some d) = option_map restore (slot_of d)
-ask_among None None None None = None
+abbrev pub ask_among : (step reset save restore burst : Option Data) → Option Ask
+ask_among (Some d) r s t b = option_map step (as_list d)
+ask_among None (Some d) s t b = reset_of d
+ask_among None None (Some d) t b = option_map save (slot_of d)
+ask_among None None None (Some d) b = option_map restore (slot_of d)
+ask_among None None None None b = option_and_then burst_of b
 
 abbrev pub ask_of : Data → Option Ask
-ask_of d = ask_among (get (codes "step") d) (get (codes "reset") d) (get (codes "save") d) (get (codes "restore") d)
+ask_of d = ask_among (get (codes "step") d) (get (codes "reset") d) (get (codes "save") d) (get (codes "restore") d) (get (codes "burst") d)
 
 pub record CallForm : Type 0 where
   pub on : Text

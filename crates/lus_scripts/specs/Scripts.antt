@@ -14,9 +14,9 @@ use Rattle.lus_program.specs.declared.types.Kind.{Kind}
 use Rattle.lus_program.specs.declared.types.Kind.TheVariants.{Struct}
 use Rattle.lus_program.specs.Programs.{Declared, alias, enumeration, structure, Field, Node, Program}
 use Rattle.lus_requests.specs.declared.request.Request.{Request}
-use Rattle.lus_requests.specs.declared.request.Request.TheVariants.{Step, Reset, Save, Restore}
+use Rattle.lus_requests.specs.declared.request.Request.TheVariants.{Step, Reset, Save, Restore, Burst}
 use Rattle.lus_scripts.specs.Limits.{most_callers, most_calls, most_instances}
-use Rattle.lus_scripts.specs.Forms.{both, each, Ask, step, reset, save, restore, CallForm, InstanceForm, CallerForm, Form, form_of}
+use Rattle.lus_scripts.specs.Forms.{both, each, as_list, Ask, step, reset, save, restore, burst, CallForm, InstanceForm, CallerForm, Form, form_of}
 use Rattle.lus_scripts.specs.declared.refusal.ScriptRefusal.{ScriptRefusal}
 use Rattle.lus_scripts.specs.declared.refusal.ScriptRefusal.TheVariants.{Form as NotTheForm, Unknown, Double, Limit}
 use Rattle.lus_requests.specs.declared.call.Call.{Call}
@@ -99,6 +99,10 @@ abbrev pub row_from : Program → Names → Option Node → ℕ → List Data �
 row_from p names f n [] = Some []
 row_from p names f n (d ∷ ds) = option_map (λ q. q.0 ∷ q.1) (both (item_of_json p names (input_kind f n) d) (row_from p names f (n + 1) ds))
 
+-- the row that a list is
+abbrev pub listed_row : Program → Names → Option Node → Data → Option Row
+listed_row p names f d = option_and_then (row_from p names f 0) (as_list d)
+
 -- what calls are read by: a program, the names of its constructors, and the names and the nodes' places of the instances
 pub record Scope : Type 0 where
   pub program : Program
@@ -115,6 +119,7 @@ request_of s f (step items) = option_map Step (row_from s.program s.names f 0 it
 request_of s f reset = Some Reset
 request_of s f (save slot) = Some (Save slot)
 request_of s f (restore slot) = Some (Restore slot)
+request_of s f (burst rows) = option_map Burst (each (listed_row s.program s.names f) rows)
 
 abbrev pub call_of : Scope → CallForm → Option Call
 call_of s c =

@@ -21,6 +21,7 @@ ask_seen (asks.Step items) = forms.step (map view items.now)
 ask_seen asks.Reset = forms.reset
 ask_seen (asks.Save n) = forms.save n
 ask_seen (asks.Restore n) = forms.restore n
+ask_seen (asks.Burst rows) = forms.burst (map view rows.now)
 
 abbrev pub call_seen : CallForm → forms.CallForm
 call_seen c = record { on = c.on.now; ask = ask_seen c.ask }

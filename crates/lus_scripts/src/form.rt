@@ -3,7 +3,7 @@
 ghost use Rattle.std.specs.Prelude.{◌≡◌, ◌⊎◌, IfErr, IfOk, Some, None, Err, map, option_map, codes};
 ghost use Rattle.std.specs.List.{list_all};
 ghost use Rattle.serde_json.specs.View.{view};
-ghost use Rattle.lus_scripts.specs.Forms.{as_list, ask_of, call_form, caller_form, callers_form, calls_form, each, form_of, instance_form, instances_form, is_letter, is_name, is_name_byte, members_count, name_of, reset_of, slot_of, starts_with_letter, two_members};
+ghost use Rattle.lus_scripts.specs.Forms.{as_list, ask_of, burst_of, call_form, caller_form, callers_form, calls_form, each, form_of, instance_form, instances_form, is_letter, is_list, is_name, is_name_byte, members_count, name_of, reset_of, slot_of, starts_with_letter, two_members};
 ghost use Rattle.lus_scripts.specs.View.{ask_seen, call_seen, caller_seen, form_seen, instance_seen};
 
 use crate::limits::MOST_NAME_BYTES;
@@ -18,6 +18,8 @@ pub(crate) enum Ask<'v> {
     Reset,
     Save(u64),
     Restore(u64),
+    /// Lists of values, a row each.
+    Burst(&'v [Value]),
 }
 
 /// A call on an instance that is named.
@@ -125,6 +127,29 @@ fn read_reset(value: &Value) -> Option<Ask<'_>>
     }
 }
 
+fn is_list(value: &Value) -> bool
+    ensures { result ≡ is_list (view value.now) }
+{
+    as_list(value).is_some()
+}
+
+fn are_lists(values: &[Value]) -> bool
+    ensures { result ≡ list_all (λ v. is_list (view v)) values.now }
+{
+    values.iter().all(|value| is_list(value))
+}
+
+fn read_burst(value: &Value) -> Option<Ask<'_>>
+    ensures { option_map ask_seen result ≡ burst_of (view value.now) }
+{
+    let rows = as_list(value)?;
+    if are_lists(rows) {
+        Some(Ask::Burst(rows))
+    } else {
+        None
+    }
+}
+
 /// What a call asks, by the first of the keys that is there.
 pub(crate) fn read_ask(call: &Value) -> Option<Ask<'_>>
     ensures { option_map ask_seen result ≡ ask_of (view call.now) }
@@ -138,8 +163,10 @@ pub(crate) fn read_ask(call: &Value) -> Option<Ask<'_>>
     if let Some(slot) = call.get("save") {
         return Some(Ask::Save(slot.as_u64()?));
     }
-    let slot = call.get("restore")?;
-    Some(Ask::Restore(slot.as_u64()?))
+    if let Some(slot) = call.get("restore") {
+        return Some(Ask::Restore(slot.as_u64()?));
+    }
+    read_burst(call.get("burst")?)
 }
 
 fn read_call(call: &Value) -> Option<CallForm<'_>>

@@ -16,7 +16,7 @@ use crate::known::{are_calls_known, instances_of, is_within_limits};
 use crate::names::{caller_names, copy_names, instance_names, name_table, place_of};
 use crate::refusal::ScriptRefusal;
 use crate::scripts::{Instance, Scripts};
-use crate::value::read_row;
+use crate::value::{read_row, read_rows};
 use indexmap::IndexSet;
 use lus_program::{Node, Program};
 use lus_requests::{Call, Caller, Request};
@@ -66,6 +66,13 @@ pub(crate) fn read_request(
         Ask::Reset => Ok(Request::Reset),
         Ask::Save(slot) => Ok(Request::Save(slot)),
         Ask::Restore(slot) => Ok(Request::Restore(slot)),
+        Ask::Burst(lists) => Ok(Request::Burst(read_rows(
+            alloc,
+            scope.program,
+            scope.names,
+            node,
+            lists,
+        )?)),
     }
 }
 

@@ -6,11 +6,12 @@ ghost use Rattle.serde_json.specs.View.{view};
 ghost use Rattle.lus_values.specs.View.{entry_of, value_of};
 ghost use Rattle.lus_program.specs.View.{field_of, node_of, program_seen};
 ghost use Rattle.lus_scripts.specs.Forms.{each};
-ghost use Rattle.lus_scripts.specs.Scripts.{fields_at, input_kind, item_of_json, row_from, scalar, value_at, value_of_json};
+ghost use Rattle.lus_scripts.specs.Scripts.{fields_at, input_kind, item_of_json, listed_row, row_from, scalar, value_at, value_of_json};
 
-use crate::form::member_count;
+use crate::form::{as_list, member_count};
 use crate::refusal::ScriptRefusal;
 use lus_program::{Declared, Field, Kind, Node, Program};
+use lus_requests::Rows;
 use lus_syntax::MOST_NESTING;
 use lus_values::{Names, Row, Value};
 use serde_json::Value as Json;
@@ -164,4 +165,43 @@ pub(crate) fn read_row(
         row.push(read_item(alloc, program, names, input_kind(node, place), item)?)?;
     }
     Ok(Row::new(row))
+}
+
+fn read_listed_row(
+    alloc: Global,
+    program: &Program,
+    names: &Names,
+    node: Option<&Node>,
+    json: &Json,
+) -> Result<Row, ScriptRefusal>
+    ensures ok { IfOk result (λ row.
+        listed_row (program_seen program.now) names.now (option_map (λ f. node_of f.now) node.entry) (view json.now) ≡ Some row) }
+    ensures form { result ≡ Err ScriptRefusal.Form
+        → listed_row (program_seen program.now) names.now (option_map (λ f. node_of f.now) node.entry) (view json.now) ≡ None }
+    ensures errors { IfErr result (λ e. (e ≡ ScriptRefusal.Form) ⊎ (e ≡ ScriptRefusal.Memory)) }
+{
+    let items = as_list(json).ok_or(ScriptRefusal::Form)?;
+    read_row(alloc, program, names, node, items)
+}
+
+/// The rows of a burst of a node.
+pub(crate) fn read_rows(
+    alloc: Global,
+    program: &Program,
+    names: &Names,
+    node: Option<&Node>,
+    lists: &[Json],
+) -> Result<Rows, ScriptRefusal>
+    ensures ok { IfOk result (λ rows.
+        each (listed_row (program_seen program.now) names.now (option_map (λ f. node_of f.now) node.entry)) (map view lists.now) ≡ Some rows) }
+    ensures form { result ≡ Err ScriptRefusal.Form
+        → each (listed_row (program_seen program.now) names.now (option_map (λ f. node_of f.now) node.entry)) (map view lists.now) ≡ None }
+    ensures errors { IfErr result (λ e. (e ≡ ScriptRefusal.Form) ⊎ (e ≡ ScriptRefusal.Memory)) }
+{
+    let mut rows = Vec::new(alloc);
+    for list in lists {
+        let row = read_listed_row(alloc, program, names, node, list)?;
+        rows.push(row)?;
+    }
+    Ok(Rows::new(rows))
 }
