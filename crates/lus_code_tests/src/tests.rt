@@ -2,7 +2,7 @@
 
 use lus_clocks::{check_clocks, check_nil};
 use lus_code::{Code, translate};
-use lus_flat_classes::{Class, Extent};
+use lus_flat_classes::{Class, Extent, Part};
 use lus_grammar::parse;
 use lus_normal::normalise;
 use lus_order::order;
@@ -116,25 +116,23 @@ fn too_many_state_cells_are_refused(rt: HostRuntime) -> Result<(), Fail> {
     Ok(())
 }
 
-/// Whether the step at a place stands in so many open cases, and whether it opens one more.
-fn stands(class: &Class, place: usize, depth: u32, opens: bool) -> bool {
-    match class.guards.get(place) {
-        Some(guard) => guard.depth == depth && guard.opens == opens,
-        None => false,
-    }
+/// Whether the part at a place is made by instructions.
+fn is_code(class: &Class, place: usize) -> bool {
+    matches!(class.parts.get(place), Some(Part::Code(_, _)))
 }
 
 #[test]
-fn steps_share_the_cases_of_their_common_tests(rt: HostRuntime) -> Result<(), Fail> {
-    let text =
-        "node o(c: bool; d: bool when c; x: int) returns (a: int; b: int when c; f: int when d; e: int when c); \
-        let a = x + 1; b = a when c; f = b when d; e = merge d (true -> f) (false -> b when not d); tel";
-    let code = code_of(rt.alloc(), text).ok().ok_or("refused")?;
-    let class = code.classes().get(0).ok_or("no class")?;
-    assert_eq!(rt; class.steps.len(), 4);
-    assert!(rt; stands(class, 0, 0, false));
-    assert!(rt; stands(class, 1, 0, true));
-    assert!(rt; stands(class, 2, 1, true));
-    assert!(rt; stands(class, 3, 1, false));
+fn neighbours_are_made_by_one_part(rt: HostRuntime) -> Result<(), Fail> {
+    let text = format!(in rt.alloc();
+        "{COUNTER} node o(x: int) returns (y: int); var a: int; let a = x + 1; y = a + t() * 2; tel"
+    )?;
+    let code = code_of(rt.alloc(), &text).ok().ok_or("refused")?;
+    let counter = code.classes().get(0).ok_or("no class")?;
+    assert_eq!(rt; counter.parts.len(), 1);
+    assert!(rt; is_code(counter, 0));
+    let caller = code.classes().get(1).ok_or("no class")?;
+    let count = caller.parts.len();
+    assert!(rt; count == 2 || count == 3);
+    assert!(rt; is_code(caller, count - 1));
     Ok(())
 }

@@ -6,7 +6,7 @@ use Rattle.lus_classes.specs.ClassesOf.{InTurn}
 use Rattle.lus_flat_classes.specs.declared.class.Call.{Call}
 use Rattle.lus_flat_classes.specs.declared.class.Class.{Class}
 use Rattle.lus_flat_classes.specs.declared.class.Extent.{Extent}
-use Rattle.lus_flat_classes.specs.Cases.{AreGuards}
+use Rattle.lus_flat_classes.specs.Parts.{AreParts}
 use Rattle.lus_flat_classes.specs.Places.{HasRoom, InOrder, IsPart}
 use Rattle.lus_flat_classes.specs.Turns.{AreMaking, AreReady, GivesSome, HasTurns, IsReady}
 use Rattle.lus_flat_classes.specs.View.{class_of, steps_of}
@@ -31,7 +31,7 @@ turns_kept rooms c c' room is turns =
       turns = subst (λ d. InTurn d (steps_of c'.steps.items) (λ x. nat_lt x c'.inputs)) (sym seen)
           (subst (λ ss. InTurn (class_of c) (steps_of ss) (λ x. nat_lt x c'.inputs)) (sym steps)
           (subst (λ n. InTurn (class_of c) (steps_of c.steps.items) (λ x. nat_lt x n)) (sym inputs) turns.turns));
-      guards = subst (λ (d : Class). AreGuards d.tests.items [] d.steps.items d.guards.items) (sym is.same) turns.guards;
+      parts = subst (λ (d : Class). AreParts d.tests.items d.steps.items d.steps.items d.parts.items) (sym is.same) turns.parts;
       given = subst (λ ss. Each (GivesSome (length c'.calls.items)) ss) (sym steps) (subst (λ n. Each (GivesSome n) c.steps.items) (sym long) turns.given);
       every = λ n lt. subst (λ ss. AreMaking n ss) (sym steps) (turns.every n (subst (λ l. n < l) long lt));
     }

@@ -9,6 +9,7 @@ ghost use Rattle.lus_running.specs.Instances.{HasFormals, IsCopy, IsFresh, IsLon
 ghost use Rattle.lus_running.specs.OnClocks.{PassOnClocks};
 
 use crate::error::StepError;
+use crate::following::most_temporaries;
 use crate::resetting::{absent, copy_cells, copy_flags, empty_all, nils, set_all, set_flags};
 use crate::running::{part_of, place, run};
 use lus_flat_classes::{Class, Extent};
@@ -27,6 +28,8 @@ pub struct Instance {
     pub next_firsts: Vec<bool>,
     /// Room for the variables of an instant; what it holds between instants has no meaning.
     pub variables: Vec<Option<Value>>,
+    /// Room for what instructions compute on the way; it has no meaning behind them.
+    pub temporaries: Vec<Option<Value>>,
 }
 
 impl Instance {
@@ -44,6 +47,7 @@ impl Instance {
         let next_cells = nils(alloc, extent.cells as usize)?;
         let next_firsts = set_flags(alloc, extent.firsts as usize)?;
         let variables = absent(alloc, extent.variables as usize)?;
+        let temporaries = absent(alloc, most_temporaries(classes))?;
         Ok(Instance {
             alloc,
             node,
@@ -52,6 +56,7 @@ impl Instance {
             next_cells,
             next_firsts,
             variables,
+            temporaries,
         })
     }
 
@@ -72,6 +77,7 @@ impl Instance {
         let next_cells = nils(self.alloc, self.next_cells.len())?;
         let next_firsts = set_flags(self.alloc, self.next_firsts.len())?;
         let variables = absent(self.alloc, self.variables.len())?;
+        let temporaries = absent(self.alloc, self.temporaries.len())?;
         Ok(Instance {
             alloc: self.alloc,
             node: self.node,
@@ -80,6 +86,7 @@ impl Instance {
             next_cells,
             next_firsts,
             variables,
+            temporaries,
         })
     }
 
@@ -135,6 +142,7 @@ impl Instance {
             &mut self.next_cells,
             &mut self.next_firsts,
             &mut self.variables,
+            &mut self.temporaries,
         )?;
         let answer = part_of(self.alloc, &self.variables, class.inputs as usize, outputs)?;
         swap(&mut self.cells, &mut self.next_cells);

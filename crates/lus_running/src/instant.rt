@@ -4,13 +4,12 @@ ghost use Rattle.std.specs.Prelude.{◌≡◌, None, map, slice_set};
 ghost use Rattle.lus_values.specs.Lists.{item};
 ghost use Rattle.lus_values.specs.View.{entry_of};
 ghost use Rattle.lus_running.specs.Gifts.{GivesTo, ReceivesAll, ReceivesOne};
-ghost use Rattle.lus_running.specs.Held.{TellsPresence, held_behind, is_present};
 
-use crate::entries::entry_at;
 use crate::error::StepError;
-use crate::presence::{enters, is_present};
+use crate::presence::is_present;
 use crate::value::value_of;
-use lus_flat_classes::{Class, Formula, Guard, Target};
+use lus_flat_classes::{Class, Formula, Target};
+use lus_instructions::entry_at;
 use lus_values::Value;
 use std::alloc::Global;
 
@@ -23,8 +22,7 @@ pub fn put(row: &mut [Option<Value>], variable: usize, entry: Option<Value>)
     }
 }
 
-/// Gives a variable that has no entry yet the value of its formula where its clock is present, and tells how many of the open
-/// cases hold behind its step.
+/// Gives a variable that has no entry yet the value of its formula where its clock is present.
 pub fn give(
     alloc: Global,
     class: &Class,
@@ -33,15 +31,11 @@ pub fn give(
     row: &mut [Option<Value>],
     variable: usize,
     formula: &Formula,
-    guard: Guard,
-    held: &mut usize,
 ) -> Result<(), StepError>
     requires unknown { item None (map entry_of row.old) variable ≡ None }
-    requires tells { TellsPresence class.now (map entry_of row.old) variable guard held.old }
     ensures gives { GivesTo class.now cells.now firsts.now variable formula.now row.old result row.new }
-    ensures held { held.new ≡ held_behind guard held.old (is_present class.now (map entry_of row.old) variable) }
 {
-    if !enters(class, row, variable, guard, held) {
+    if !is_present(class, row, variable) {
         return Ok(());
     }
     match value_of(alloc, formula, cells, firsts, row)? {

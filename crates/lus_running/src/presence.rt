@@ -1,5 +1,5 @@
 //! Which clocks are present, by one look at the newest test: where the entries of a row stand on their clocks, the older tests
-//! hold wherever it does. Steps that stand in a case share the look of the step that opened it.
+//! hold wherever it does.
 
 ghost use Rattle.std.specs.Prelude.{◌≡◌, None, map};
 ghost use Rattle.lus_values.specs.Lists.{item};
@@ -7,10 +7,9 @@ ghost use Rattle.lus_values.specs.View.{entry_of};
 ghost use Rattle.lus_classes.specs.Classes.{clock_in};
 ghost use Rattle.lus_classes.specs.Steps.{is_on_row};
 ghost use Rattle.lus_running.specs.Constructors.{constructor_in, holds};
-ghost use Rattle.lus_running.specs.Held.{TellsPresence, held_behind};
-ghost use Rattle.lus_running.specs.Looks.{newest, short_of};
+ghost use Rattle.lus_flat_classes.specs.Looks.{newest, short_of};
 
-use lus_flat_classes::{Class, Guard};
+use lus_flat_classes::Class;
 use lus_program::Test;
 use lus_values::Value;
 
@@ -50,32 +49,4 @@ pub fn is_present(class: &Class, row: &[Option<Value>], variable: usize) -> bool
         Some(test) => is_on(*test, row),
         None => true,
     }
-}
-
-/// Whether the newest test of the clock of a step's variable holds, if it has one. The step's guard tells it, given how many of
-/// the open cases hold, but where the step opens a case itself. Counts how many of the open cases hold behind the step.
-pub fn enters(
-    class: &Class,
-    row: &[Option<Value>],
-    variable: usize,
-    guard: Guard,
-    held: &mut usize,
-) -> bool
-    requires { TellsPresence class.now (map entry_of row.now) variable guard held.old }
-    ensures present { result ≡ is_on_row (clock_in (short_of class.now) variable) (map entry_of row.now) }
-    ensures held { held.new ≡ held_behind guard held.old result }
-{
-    let depth = guard.depth as usize;
-    if *held < depth {
-        return false;
-    }
-    *held = depth;
-    if !guard.opens {
-        return true;
-    }
-    let present = is_present(class, row, variable);
-    if present {
-        *held = depth + 1;
-    }
-    present
 }

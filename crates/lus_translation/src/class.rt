@@ -3,7 +3,7 @@
 ghost use Rattle.std.specs.Prelude.{◌≡◌, Some, [], IfOk, OnOk, length};
 ghost use Rattle.lus_program.specs.View.{node_of};
 ghost use Rattle.lus_values.specs.Lists.{Each};
-ghost use Rattle.lus_flat_classes.specs.Cases.{AreGuards};
+ghost use Rattle.lus_flat_classes.specs.Parts.{AreParts};
 ghost use Rattle.lus_translation.specs.Making.{GivesAny};
 ghost use Rattle.lus_translation.specs.Newest.{HasNewest};
 ghost use Rattle.lus_translation.specs.Forms.{equation_cells, equation_firsts};
@@ -13,7 +13,8 @@ use crate::calls::{calls_of, clock_of_equation, numbers_of, tests_of};
 use crate::kept::Kept;
 use crate::steps::{Built, give_turn};
 use crate::turn::Turn;
-use lus_flat_classes::{Class, Extent, guards_of};
+use lus_flat_classes::{Class, Extent};
+use lus_flat_code::parts_of;
 use lus_program::{Equation, Node, Program};
 use lus_values::Memory;
 use std::alloc::Global;
@@ -101,7 +102,7 @@ pub fn class_with(
 ) -> Result<Class, Memory>
     ensures form { IfOk result (λ c. HasNewest (node_of node.now) c (class_from program.now node.now turns.now)) }
     ensures outputs { IfOk result (λ c. c.outputs ≡ node.now.outputs) }
-    ensures guards { IfOk result (λ c. AreGuards c.tests.items [] c.steps.items c.guards.items) }
+    ensures parts { IfOk result (λ c. AreParts c.tests.items c.steps.items c.steps.items c.parts.items) }
     ensures given { IfOk result (λ c. Each GivesAny c.steps.items) }
 {
     let mut built = Built {
@@ -114,14 +115,14 @@ pub fn class_with(
     let numbers = numbers_of(alloc, node)?;
     make_turns(alloc, program, node, &numbers, turns, &mut built)?;
     let tests = tests_of(alloc, node)?;
-    let guards = guards_of(alloc, &tests, &built.steps)?;
+    let parts = parts_of(alloc, &tests, &built.steps)?;
     let calls = calls_of(alloc, program, node)?;
     Ok(Class {
         inputs: node.inputs,
         outputs: node.outputs,
         tests,
         steps: built.steps,
-        guards,
+        parts,
         cells: built.kept.cells,
         firsts: built.kept.firsts,
         calls,

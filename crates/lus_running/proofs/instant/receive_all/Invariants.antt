@@ -1,6 +1,6 @@
 use Rattle.std.proofs.Common.{◌≡◌, map, drop}
 use Rattle.lus_values.specs.View.{entry_of}
-use Rattle.lus_running.specs.Looks.{short_of}
+use Rattle.lus_flat_classes.specs.Looks.{short_of}
 use Rattle.lus_running.specs.Comes.{received}
 use Rattle.lus_running.proofs.instant.receive_all.Given as goal
 

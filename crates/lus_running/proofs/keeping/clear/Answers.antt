@@ -2,7 +2,7 @@ use Rattle.std.proofs.Common.{◌≡◌, ◌∙◌, sym, ap, map, ◌++◌, ◌<
 use Rattle.std.proofs.lemmas.List.{length-map, get_or-map}
 use Rattle.lus_values.specs.View.{entry_of}
 use Rattle.lus_classes.specs.Steps.{flags_after}
-use Rattle.lus_running.specs.Looks.{newest}
+use Rattle.lus_flat_classes.specs.Looks.{newest}
 use Rattle.lus_running.specs.Kept.{flag_after}
 use Rattle.lus_running.proofs.KeptPlaces.{next_flag}
 use Rattle.lus_running.proofs.keeping.clear.Goals as goal

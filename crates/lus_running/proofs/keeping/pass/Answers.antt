@@ -2,7 +2,7 @@ use Rattle.std.proofs.Common.{◌≡◌, ◌∙◌, sym, ap, map, ◌++◌, ◌<
 use Rattle.std.proofs.lemmas.List.{map-set, length-map, get_or-map}
 use Rattle.lus_values.specs.View.{entry_of}
 use Rattle.lus_classes.specs.Steps.{passed}
-use Rattle.lus_running.specs.Looks.{short_argument}
+use Rattle.lus_flat_classes.specs.Looks.{short_argument}
 use Rattle.lus_running.specs.Kept.{argument_after}
 use Rattle.lus_running.proofs.KeptPlaces.{next_argument}
 use Rattle.lus_running.proofs.keeping.pass.Goals as goal

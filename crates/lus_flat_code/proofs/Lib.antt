@@ -1,0 +1,5 @@
+pub mod Emitting
+pub mod Selecting
+pub mod Forms
+pub mod StepsPlayed
+pub mod PartsMade

@@ -1,0 +1,14 @@
+//! Instructions over rows of entries: what the steps of a class compute, one value after another.
+#![tactic(auto)]
+
+mod entries;
+mod instruction;
+mod machine;
+mod operation;
+mod place;
+
+pub use entries::{cell_at, copy_value, entry_at};
+pub use instruction::{Instruction, Operand};
+pub use machine::run;
+pub use operation::{chosen, of_one, of_three, of_two, operate};
+pub use place::word_of;
