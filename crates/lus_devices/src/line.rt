@@ -30,7 +30,8 @@ fn push_items(line: &mut String, names: &Names, items: &[Option<Value>]) -> Resu
     Ok(())
 }
 
-fn push_row(line: &mut String, names: &Names, row: &Row) -> Result<(), Memory>
+/// Appends the text of a row, as `(18, -, true)`. After `Memory` a part of it may have been appended.
+pub fn push_row(line: &mut String, names: &Names, row: &Row) -> Result<(), Memory>
     ensures { OnOk result (string_bytes line.new ≡ string_bytes line.old ++ row_text names.now row.now) }
 {
     line.push_str("(")?;
@@ -87,7 +88,7 @@ fn caller_name(callers: &[String], caller: u32) -> &str
 }
 
 /// Appends the nth entry of an instance. After `Memory` a part of it may have been appended.
-pub(crate) fn push_line(
+pub fn push_line(
     line: &mut String,
     names: &Names,
     callers: &[String],
