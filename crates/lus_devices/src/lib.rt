@@ -11,5 +11,6 @@ mod source;
 pub use device::{Disk, Failure, Input, Output};
 pub use folder::Folder;
 pub use journal::{Journal, WriteError, write_journals};
+pub use line::{push_line, push_row};
 pub use sink::{Sink, write_all};
 pub use source::{ReadError, Source, read_at_most};

@@ -30,7 +30,8 @@ fn push_items(line: &mut String, names: &Names, items: &[Option<Value>]) -> Resu
     Ok(())
 }
 
-fn push_row(line: &mut String, names: &Names, row: &Row) -> Result<(), Memory>
+/// Appends the text of a row, as `(18, -, true)`. After `Memory` a part of it may have been appended.
+pub fn push_row(line: &mut String, names: &Names, row: &Row) -> Result<(), Memory>
     ensures { OnOk result (string_bytes line.new ≡ string_bytes line.old ++ row_text names.now row.now) }
 {
     line.push_str("(")?;

@@ -1,0 +1,174 @@
+/* Wrong uses: each gives a status and changes nothing. Then what is right: structures, save and restore, a seat that holds the
+ * machine, two seats that meet, and texts. */
+#include "lus.h"
+#include <stdio.h>
+#include <stdlib.h>
+#include <string.h>
+
+static int uses;
+static void give(lus_status got, lus_status want, const char *call) {
+    uses++;
+    if (got != want) { printf("%s gave %d, not %d\n", call, got, want); exit(1); }
+}
+#define GIVES(call, want) give(call, want, #call)
+#define MUST(call) do { lus_status s_ = (call); if (s_ != LUS_OK) { printf("line %d: %s gave %d\n", __LINE__, #call, s_); exit(1); } } while (0)
+#define IS(fact) do { if (!(fact)) { printf("line %d: not %s\n", __LINE__, #fact); exit(1); } } while (0)
+
+static const char text[] = "type pair = struct { a: int; b: bool }; type light = enum { Red, Green };\n"
+    "node counter(passed: bool) returns (count: int); let count = (0 -> pre count) + (if passed then 1 else 0); tel\n"
+    "node swap(p: pair; l: light) returns (q: pair; m: light);\n"
+    "let q = pair { a = p.a + 1; b = not p.b }; m = if l = Red then Green else Red; tel\n";
+static const char cyclic[] = "node n(x: int) returns (y: int); var a: int; let y = a; a = y; tel";
+
+/* The instance is as it was: it has so many entries, and counts on from there. */
+static void same(lus_seat *seat, uint64_t entries) {
+    uint64_t found;
+    MUST(lus_count(seat, &found));
+    IS(found == entries);
+}
+
+static void wrong_uses(lus_program *program, lus_seat *one) {
+    lus_program other = LUS_NONE;
+    lus_journal journal = LUS_NONE;
+    lus_seat two[2] = {LUS_NONE, LUS_NONE};
+    lus_refusal refusal;
+    lus_answer answer;
+    lus_formal formal;
+    lus_value passed = {LUS_BOOL, 0, 1}, out;
+    char names[16];
+    uint32_t number;
+    uint64_t count;
+    /* texts */
+    GIVES(lus_compile(cyclic, sizeof cyclic - 1, &other, &refusal, names, sizeof names), LUS_REFUSED);
+    printf("refused E%u line %u column %u, a cycle of %u:", refusal.number, refusal.line, refusal.column, refusal.cycle);
+    for (char *name = names; name < names + refusal.bytes; name += strlen(name) + 1) printf(" %s", name);
+    printf("\n");
+    GIVES(lus_compile("\xff", 1, &other, 0, 0, 0), LUS_TEXT);
+    GIVES(lus_compile(0, 5, &other, 0, 0, 0), LUS_HANDLE);
+    GIVES(lus_compile(text, sizeof text - 1, program, 0, 0, 0), LUS_HANDLE);
+    IS(!other.live);
+    /* names and numbers */
+    GIVES(lus_node(program, "nothing", 7, &number), LUS_NO_SUCH);
+    GIVES(lus_formals(program, 7, &number, &refusal.line), LUS_NO_SUCH);
+    GIVES(lus_input(program, 0, 1, &formal, 0, 0), LUS_NO_SUCH);
+    GIVES(lus_open(program, 7, two, 2), LUS_NO_SUCH);
+    GIVES(lus_open(program, 0, two, 0), LUS_HANDLE);
+    GIVES(lus_open(program, 0, one, 1), LUS_HANDLE);
+    IS(!two[0].live && !two[1].live);
+    /* handles of another kind, or empty */
+    GIVES(lus_try_step(program, &passed, 1, &answer, &out, 1), LUS_HANDLE);
+    GIVES(lus_try_step(&other, &passed, 1, &answer, &out, 1), LUS_HANDLE);
+    GIVES(lus_try_step(0, &passed, 1, &answer, &out, 1), LUS_HANDLE);
+    GIVES(lus_nodes(one, &number), LUS_HANDLE);
+    GIVES(lus_entries(one, &count), LUS_HANDLE);
+    GIVES(lus_release(one), LUS_HANDLE);
+    GIVES(lus_free(&other), LUS_HANDLE);
+    /* values and requests that are none */
+    lus_value structure = {LUS_STRUCT, 0, 3}, two_true = {LUS_BOOL, 0, 2}, nil = {5, 0, 0}, typed = {LUS_BOOL, 1, 1};
+    GIVES(lus_try_step(one, &structure, 1, &answer, &out, 1), LUS_VALUE);
+    GIVES(lus_try_step(one, &two_true, 1, &answer, &out, 1), LUS_VALUE);
+    GIVES(lus_try_step(one, &nil, 1, &answer, &out, 1), LUS_VALUE);
+    GIVES(lus_try_step(one, &typed, 1, &answer, &out, 1), LUS_VALUE);
+    GIVES(lus_try_call(one, 7, 0, 0, 0, &answer, 0, 0), LUS_VALUE);
+    /* seats that aren't all of one instance */
+    MUST(lus_open(program, 0, two, 2));
+    GIVES(lus_close(two, 1, &journal), LUS_SEATS);
+    GIVES(lus_close(two, 2, program), LUS_HANDLE);
+    GIVES(lus_meet(&two[0], one), LUS_SEATS);
+    GIVES(lus_meet(&two[0], &two[0]), LUS_HANDLE);
+    same(&two[0], 0);
+    same(&two[1], 0);
+    MUST(lus_hold(&two[0], &count));
+    GIVES(lus_try_step(&two[1], &passed, 1, &answer, &out, 1), LUS_BUSY);
+    GIVES(lus_try_step(&two[0], &passed, 1, &answer, &out, 1), LUS_HANDLE);
+    GIVES(lus_close(two, 2, &journal), LUS_HANDLE);
+    MUST(lus_release(&two[0]));
+    MUST(lus_close(two, 2, &journal));
+    MUST(lus_entries(&journal, &count));
+    IS(count == 0);
+    MUST(lus_free(&journal));
+    printf("%d wrong uses\n", uses);
+}
+
+static void meetings(lus_program *program) {
+    lus_seat two[2] = {LUS_NONE, LUS_NONE};
+    lus_value passed = {LUS_BOOL, 0, 1}, out;
+    lus_answer answer;
+    lus_journal journal = LUS_NONE;
+    uint64_t count;
+    MUST(lus_open(program, 0, two, 2));
+    MUST(lus_try_step(&two[0], &passed, 1, &answer, &out, 1));
+    MUST(lus_meet(&two[0], &two[1]));
+    MUST(lus_hold(&two[1], &count));
+    GIVES(lus_hold(&two[0], &count), LUS_BUSY);
+    IS(count == 1);
+    MUST(lus_free(&two[1])); /* a seat that is let go gives the machine back */
+    MUST(lus_try_step(&two[0], &passed, 1, &answer, &out, 1));
+    IS(out.number == 2);
+    GIVES(lus_close(two, 1, &journal), LUS_SEATS);
+    MUST(lus_free(&two[0]));
+}
+
+static void structures(lus_program *program) {
+    lus_seat seat = LUS_NONE;
+    lus_value in[4] = {{LUS_STRUCT, 0, 2}, {LUS_INT, 0, 41}, {LUS_BOOL, 0, 0}, {LUS_ENUM, 1, 0}}, out[4];
+    lus_answer answer;
+    char line[64];
+    uint64_t bytes;
+    uint32_t node;
+    MUST(lus_node(program, "swap", 4, &node));
+    MUST(lus_open(program, node, &seat, 1));
+    MUST(lus_try_step(&seat, in, 4, &answer, out, 4));
+    IS(answer.count == 4 && out[0].kind == LUS_STRUCT && out[0].number == 2 && out[1].number == 42 && out[2].number == 1);
+    MUST(lus_row_text(program, in, 4, line, sizeof line, &bytes));
+    printf("swap%.*s", (int)bytes, line);
+    MUST(lus_row_text(program, out, 4, line, sizeof line, &bytes));
+    printf(" -> %.*s\n", (int)bytes, line);
+    MUST(lus_free(&seat));
+}
+
+static void save_and_restore(lus_seat *seat) {
+    lus_value passed = {LUS_BOOL, 0, 1}, out = {9, 9, 9};
+    lus_answer answer;
+    MUST(lus_try_step(seat, &passed, 1, &answer, &out, 1));
+    MUST(lus_try_call(seat, LUS_SAVE, 3, 0, 0, &answer, 0, 0));
+    MUST(lus_try_call(seat, LUS_RESET, 0, 0, 0, &answer, 0, 0));
+    MUST(lus_try_step(seat, &passed, 1, &answer, &out, 1));
+    IS(out.number == 1);
+    MUST(lus_try_call(seat, LUS_RESTORE, 3, 0, 0, &answer, 0, 0));
+    GIVES(lus_try_step(seat, &passed, 1, &answer, 0, 0), LUS_SHORT); /* the call was made */
+    IS(answer.count == 1);
+    MUST(lus_outputs(seat, &answer, &out, 1));
+    IS(out.number == 4);
+    MUST(lus_try_call(seat, LUS_RESTORE, 9, 0, 0, &answer, 0, 0));
+    IS(answer.kind == LUS_NOT_DONE && answer.why == LUS_SHAPE);
+    MUST(lus_try_step(seat, 0, 0, &answer, 0, 0)); /* a row of nothing is a row: the machine refuses it */
+    IS(answer.kind == LUS_NOT_DONE && answer.why == LUS_SHAPE);
+}
+
+int main(void) {
+    lus_program program = LUS_NONE;
+    lus_seat one = LUS_NONE;
+    lus_journal journal = LUS_NONE;
+    lus_value passed = {LUS_BOOL, 0, 1}, out;
+    lus_answer answer;
+    char lines[512];
+    uint64_t bytes;
+    MUST(lus_compile(text, sizeof text - 1, &program, 0, 0, 0));
+    MUST(lus_open(&program, 0, &one, 1));
+    MUST(lus_try_step(&one, &passed, 1, &answer, &out, 1));
+    MUST(lus_try_step(&one, &passed, 1, &answer, &out, 1));
+    wrong_uses(&program, &one);
+    same(&one, 2);
+    meetings(&program);
+    structures(&program);
+    save_and_restore(&one);
+    MUST(lus_close(&one, 1, &journal));
+    MUST(lus_entry_text(&journal, 8, "panel", 6, lines, sizeof lines, &bytes));
+    printf("%.*s", (int)bytes, lines);
+    MUST(lus_journal_text(&journal, "door", 4, "panel", 6, lines, sizeof lines, &bytes));
+    printf("%.*s", (int)bytes, lines);
+    MUST(lus_free(&journal));
+    MUST(lus_free(&program));
+    return 0;
+}

@@ -1,0 +1,128 @@
+/* The calls of lus.h: tests for null, and then the proved calls. An empty slice of Rattle's has a pointer that isn't null. */
+#include "lus.h"
+#include <stdatomic.h>
+
+typedef lus_handle H;
+lus_status lus_raw_compile(const uint8_t *, size_t, H *, lus_refusal *, uint8_t *, size_t);
+lus_status lus_raw_nodes(H *, uint32_t *);
+lus_status lus_raw_node(H *, const uint8_t *, size_t, uint32_t *);
+lus_status lus_raw_node_name(H *, uint32_t, uint64_t *, uint8_t *, size_t);
+lus_status lus_raw_formals(H *, uint32_t, uint32_t *, uint32_t *);
+lus_status lus_raw_input(H *, uint32_t, uint32_t, lus_formal *, uint8_t *, size_t);
+lus_status lus_raw_output(H *, uint32_t, uint32_t, lus_formal *, uint8_t *, size_t);
+lus_status lus_raw_field(H *, uint32_t, uint32_t, lus_formal *, uint8_t *, size_t);
+lus_status lus_raw_constructor(H *, uint32_t, uint32_t, uint64_t *, uint8_t *, size_t);
+lus_status lus_raw_row_text(H *, const lus_value *, size_t, uint8_t *, size_t, uint64_t *);
+lus_status lus_raw_open(H *, uint32_t, uint32_t, uint64_t, H *);
+lus_status lus_raw_try_call(H *, uint32_t, uint64_t, const lus_value *, size_t, lus_answer *, lus_value *, size_t);
+lus_status lus_raw_outputs(H *, lus_answer *, lus_value *, size_t);
+lus_status lus_raw_count(H *, uint64_t *);
+lus_status lus_raw_number(H *, uint32_t *);
+lus_status lus_raw_meet(H *, H *);
+lus_status lus_raw_hold(H *, uint64_t *);
+lus_status lus_raw_release(H *);
+lus_status lus_raw_pop(H *, H *);
+lus_status lus_raw_gather_none(H *);
+lus_status lus_raw_gather(H *, H *);
+lus_status lus_raw_close(H *);
+lus_status lus_raw_entries(H *, uint64_t *);
+lus_status lus_raw_entry(H *, uint64_t, lus_entry *, lus_value *, size_t, lus_value *, size_t);
+lus_status lus_raw_journal_text(H *, const uint8_t *, size_t, const uint8_t *, size_t, uint8_t *, size_t, uint64_t *);
+lus_status lus_raw_entry_text(H *, uint64_t, const uint8_t *, size_t, uint8_t *, size_t, uint64_t *);
+lus_status lus_raw_free(H *);
+
+static uint64_t none[2];
+#define BYTES(p, n) ((n) ? (uint8_t *)(p) : (uint8_t *)none)
+#define VALUES(p, n) ((n) ? (lus_value *)(p) : (lus_value *)none)
+#define NEED(x) do { if (!(x)) return LUS_HANDLE; } while (0)
+
+lus_status lus_compile(const char *text, size_t n, H *out, lus_refusal *refusal, char *names, size_t room) {
+    lus_refusal own;
+    NEED((text || !n) && out && (names || !room));
+    return lus_raw_compile(BYTES(text, n), n, out, refusal ? refusal : &own, BYTES(names, room), room);
+}
+lus_status lus_nodes(H *p, uint32_t *count) { NEED(p && count); return lus_raw_nodes(p, count); }
+lus_status lus_node(H *p, const char *name, size_t n, uint32_t *node) {
+    NEED(p && (name || !n) && node);
+    return lus_raw_node(p, BYTES(name, n), n, node);
+}
+lus_status lus_node_name(H *p, uint32_t node, uint64_t *bytes, char *name, size_t n) {
+    NEED(p && bytes && (name || !n));
+    return lus_raw_node_name(p, node, bytes, BYTES(name, n), n);
+}
+lus_status lus_formals(H *p, uint32_t node, uint32_t *i, uint32_t *o) { NEED(p && i && o && i != o); return lus_raw_formals(p, node, i, o); }
+lus_status lus_input(H *p, uint32_t node, uint32_t k, lus_formal *f, char *name, size_t n) {
+    NEED(p && f && (name || !n));
+    return lus_raw_input(p, node, k, f, BYTES(name, n), n);
+}
+lus_status lus_output(H *p, uint32_t node, uint32_t k, lus_formal *f, char *name, size_t n) {
+    NEED(p && f && (name || !n));
+    return lus_raw_output(p, node, k, f, BYTES(name, n), n);
+}
+lus_status lus_field(H *p, uint32_t s, uint32_t k, lus_formal *f, char *name, size_t n) {
+    NEED(p && f && (name || !n));
+    return lus_raw_field(p, s, k, f, BYTES(name, n), n);
+}
+lus_status lus_constructor(H *p, uint32_t t, uint32_t k, uint64_t *bytes, char *name, size_t n) {
+    NEED(p && bytes && (name || !n));
+    return lus_raw_constructor(p, t, k, bytes, BYTES(name, n), n);
+}
+lus_status lus_row_text(H *p, const lus_value *values, size_t n, char *text, size_t room, uint64_t *bytes) {
+    NEED(p && (values || !n) && (text || !room) && bytes);
+    return lus_raw_row_text(p, VALUES(values, n), n, BYTES(text, room), room, bytes);
+}
+lus_status lus_open(H *p, uint32_t node, H *seats, uint32_t count) {
+    static _Atomic uint64_t ids;
+    H all = LUS_NONE;
+    NEED(p && seats && count);
+    for (uint32_t k = 0; k < count; k++) NEED(!seats[k].live && &seats[k] != p);
+    lus_status status = lus_raw_open(p, node, count, atomic_fetch_add(&ids, 1), &all);
+    for (uint32_t k = 0; status == LUS_OK && k < count; k++) status = lus_raw_pop(&all, &seats[k]);
+    if (status != LUS_OK)
+        for (uint32_t k = 0; k < count; k++) lus_raw_free(&seats[k]);
+    lus_raw_free(&all);
+    return status;
+}
+lus_status lus_try_call(H *s, uint32_t request, uint64_t slot, const lus_value *in, size_t n, lus_answer *a, lus_value *out, size_t room) {
+    NEED(s && (in || !n) && a && (out || !room));
+    return lus_raw_try_call(s, request, slot, VALUES(in, n), n, a, VALUES(out, room), room);
+}
+lus_status lus_outputs(H *s, lus_answer *a, lus_value *out, size_t room) {
+    NEED(s && a && (out || !room));
+    return lus_raw_outputs(s, a, VALUES(out, room), room);
+}
+lus_status lus_count(H *s, uint64_t *count) { NEED(s && count); return lus_raw_count(s, count); }
+lus_status lus_number(H *s, uint32_t *number) { NEED(s && number); return lus_raw_number(s, number); }
+lus_status lus_meet(H *s, H *t) { NEED(s && t && s != t); return lus_raw_meet(s, t); }
+lus_status lus_hold(H *s, uint64_t *count) { NEED(s && count); return lus_raw_hold(s, count); }
+lus_status lus_release(H *s) { NEED(s); return lus_raw_release(s); }
+lus_status lus_close(H *seats, uint32_t count, H *journal) {
+    NEED(seats && count && journal && !journal->live);
+    H all = LUS_NONE;
+    uint32_t k = 0;
+    lus_status status = lus_raw_gather_none(&all);
+    for (; status == LUS_OK && k < count; k++)
+        if ((status = lus_raw_gather(&all, &seats[k])) != LUS_OK) break;
+    if (status == LUS_OK) status = lus_raw_close(&all);
+    if (status == LUS_OK) {
+        *journal = all; /* moved: `all` is never used again */
+        return LUS_OK;
+    }
+    while (k > 0 && lus_raw_pop(&all, &seats[k - 1]) == LUS_OK) k--;
+    lus_raw_free(&all);
+    return status;
+}
+lus_status lus_entries(H *j, uint64_t *count) { NEED(j && count); return lus_raw_entries(j, count); }
+lus_status lus_entry_at(H *j, uint64_t place, lus_entry *e, lus_value *in, size_t n, lus_value *out, size_t room) {
+    NEED(j && e && (in || !n) && (out || !room));
+    return lus_raw_entry(j, place, e, VALUES(in, n), n, VALUES(out, room), room);
+}
+lus_status lus_journal_text(H *j, const char *instance, size_t m, const char *callers, size_t n, char *text, size_t room, uint64_t *bytes) {
+    NEED(j && (instance || !m) && (callers || !n) && (text || !room) && bytes);
+    return lus_raw_journal_text(j, BYTES(instance, m), m, BYTES(callers, n), n, BYTES(text, room), room, bytes);
+}
+lus_status lus_entry_text(H *j, uint64_t place, const char *callers, size_t n, char *text, size_t room, uint64_t *bytes) {
+    NEED(j && (callers || !n) && (text || !room) && bytes);
+    return lus_raw_entry_text(j, place, BYTES(callers, n), n, BYTES(text, room), room, bytes);
+}
+lus_status lus_free(H *h) { NEED(h); return lus_raw_free(h); }

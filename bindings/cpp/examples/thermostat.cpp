@@ -1,0 +1,44 @@
+// Steps a thermostat from C++ 17: c++ -std=c++17 thermostat.cpp liblus.a -o thermostat
+#include "lus.h"
+#include <iostream>
+#include <stdexcept>
+#include <string>
+#include <vector>
+
+static const std::string text = R"(
+node thermostat(temperature: int; low: int; high: int) returns (heat: bool; minutes: int);
+let
+  heat = if temperature < low then true else if temperature > high then false else (false -> pre heat);
+  minutes = if heat then (0 -> pre minutes) + 1 else 0;
+tel
+)";
+
+static void must(lus_status status) {
+    if (status != LUS_OK) throw std::runtime_error("status " + std::to_string(status));
+}
+
+// A handle that is let go with its owner.
+struct Owner {
+    lus_handle handle = LUS_NONE;
+    Owner() = default;
+    Owner(const Owner &) = delete;
+    ~Owner() { lus_free(&handle); }
+};
+
+int main() {
+    Owner program, seat, journal;
+    uint32_t node;
+    must(lus_compile(text.data(), text.size(), &program.handle, nullptr, nullptr, 0));
+    must(lus_node(&program.handle, "thermostat", 10, &node));
+    must(lus_open(&program.handle, node, &seat.handle, 1));
+    for (int64_t temperature : {18, 20, 23}) {
+        std::vector<lus_value> inputs{{LUS_INT, 0, temperature}, {LUS_INT, 0, 19}, {LUS_INT, 0, 22}}, outputs(2);
+        lus_answer answer;
+        must(lus_try_step(&seat.handle, inputs.data(), inputs.size(), &answer, outputs.data(), outputs.size()));
+        std::cout << temperature << ": heat " << outputs[0].number << ", minutes " << outputs[1].number << "\n";
+    }
+    uint64_t entries;
+    must(lus_close(&seat.handle, 1, &journal.handle));
+    must(lus_entries(&journal.handle, &entries));
+    std::cout << entries << " entries\n";
+}

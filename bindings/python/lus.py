@@ -1,0 +1,466 @@
+"""Lustre programs, instances of their nodes, and seats at them for threads, over liblus.so.
+
+    program = lus.Program(text)
+    seat, = program.open("thermostat")
+    seat.step(temperature=18, low=19, high=22)    # {'heat': True, 'minutes': 1}
+
+Inputs and outputs are Python values by name: bool, int, the name of a constructor, a dict of a structure's fields, and None
+where a clock is absent. Each thread has a seat of its own; seats of one instance may be called at the same time. A seat takes
+one call at a time: a lock of its own sees to that.
+"""
+import ctypes as c
+import os
+import threading
+import time
+
+OK, BUSY, MEMORY, FULL, REFUSED, NO_SUCH, VALUE, SHORT, HANDLE, SEATS, TEXT = range(11)
+_ABSENT, _BOOL, _INT, _ENUM, _STRUCT = range(5)
+_STEP, _RESET, _SAVE, _RESTORE = range(1, 5)
+_OUTPUTS, _DONE, _NOT_DONE = range(1, 4)
+_WHY = ["", "shape", "presence", "fault", "nosave"]
+_REQUESTS = ["", "step", "reset", "save", "restore"]
+_STATUS = ["done", "another seat has the machine", "out of memory", "the history is full", "the text is refused",
+           "there is none of this name or number", "these are no values", "an array is too short", "wrong use of a handle",
+           "these are not all seats of one instance", "the bytes are not UTF-8"]
+
+
+class Handle(c.Structure):
+    _fields_ = [("live", c.c_uint64), ("kept", c.c_void_p)]
+
+
+class _Value(c.Structure):
+    _fields_ = [("kind", c.c_uint32), ("type", c.c_uint32), ("number", c.c_int64)]
+
+
+class _Refusal(c.Structure):
+    _fields_ = [(name, c.c_uint32) for name in ("number", "line", "column", "cycle")] + [("bytes", c.c_uint64)]
+
+
+class _Formal(c.Structure):
+    _fields_ = [(name, c.c_uint32) for name in ("kind", "type", "clocked", "unused")] + [("bytes", c.c_uint64)]
+
+
+class _Answer(c.Structure):
+    _fields_ = [("kind", c.c_uint32), ("why", c.c_uint32), ("count", c.c_uint64)]
+
+
+class _Entry(c.Structure):
+    _fields_ = [("caller", c.c_uint32), ("request", c.c_uint32), ("slot", c.c_uint64), ("reply", c.c_uint32),
+                ("why", c.c_uint32), ("inputs", c.c_uint64), ("outputs", c.c_uint64)]
+
+
+class Error(Exception):
+    """A call that made no entry, with its status."""
+
+    def __init__(self, status):
+        super().__init__(_STATUS[status])
+        self.status = status
+
+
+class Busy(Error):
+    """Another seat has the machine, which has so many entries."""
+
+    def __init__(self, entries):
+        super().__init__(BUSY)
+        self.entries = entries
+
+
+class Refused(Error):
+    """The text is refused: its number, the place, and for a cycle the variables."""
+
+    def __init__(self, number, line, column, cycle):
+        super().__init__(REFUSED)
+        self.number, self.line, self.column, self.cycle = number, line, column, cycle
+
+    def __str__(self):
+        cycle = ", a cycle of " + ", ".join(self.cycle) if self.cycle else ""
+        return f"E{self.number} line {self.line} column {self.column}{cycle}"
+
+
+class NotDone(Exception):
+    """The request was entered, and refused: `why` is shape, presence, fault or nosave."""
+
+    def __init__(self, why):
+        super().__init__("refused " + why)
+        self.why = why
+
+
+_H, _N, _U32, _U64, _S = c.POINTER(Handle), c.c_size_t, c.POINTER(c.c_uint32), c.POINTER(c.c_uint64), c.c_char_p
+_VALUES = c.POINTER(_Value)
+_CALLS = {
+    "compile": [_S, _N, _H, c.POINTER(_Refusal), _S, _N],
+    "nodes": [_H, _U32],
+    "node": [_H, _S, _N, _U32],
+    "node_name": [_H, c.c_uint32, _U64, _S, _N],
+    "formals": [_H, c.c_uint32, _U32, _U32],
+    "input": [_H, c.c_uint32, c.c_uint32, c.POINTER(_Formal), _S, _N],
+    "output": [_H, c.c_uint32, c.c_uint32, c.POINTER(_Formal), _S, _N],
+    "field": [_H, c.c_uint32, c.c_uint32, c.POINTER(_Formal), _S, _N],
+    "constructor": [_H, c.c_uint32, c.c_uint32, _U64, _S, _N],
+    "open": [_H, c.c_uint32, _H, c.c_uint32],
+    "try_call": [_H, c.c_uint32, c.c_uint64, _VALUES, _N, c.POINTER(_Answer), _VALUES, _N],
+    "outputs": [_H, c.POINTER(_Answer), _VALUES, _N],
+    "count": [_H, _U64],
+    "number": [_H, _U32],
+    "meet": [_H, _H],
+    "hold": [_H, _U64],
+    "release": [_H],
+    "close": [_H, c.c_uint32, _H],
+    "entries": [_H, _U64],
+    "entry_at": [_H, c.c_uint64, c.POINTER(_Entry), _VALUES, _N, _VALUES, _N],
+    "journal_text": [_H, _S, _N, _S, _N, _S, _N, _U64],
+    "free": [_H],
+}
+
+
+def _load():
+    path = os.environ.get("LIBLUS") or os.path.join(os.path.dirname(os.path.abspath(__file__)), "liblus.so")
+    library = c.CDLL(path)
+    for name, types in _CALLS.items():
+        call = getattr(library, "lus_" + name)
+        call.argtypes, call.restype = types, c.c_uint32
+    return library
+
+
+_lus = _load()
+
+
+def _must(status):
+    if status != OK:
+        raise Error(status)
+
+
+class _Owner:
+    """A handle that is given to one call at a time, and let go with its owner."""
+
+    def __init__(self):
+        self._handle, self._lock = Handle(), threading.Lock()
+
+    def __del__(self):
+        if self._handle.live:
+            _lus.lus_free(self._handle)
+
+
+class _Formals:
+    """The inputs, the outputs or the fields of a structure, in declared order."""
+
+    def __init__(self, program, call, owner, count):
+        self.names, self.kinds = [], []
+        place = 0
+        while count is None or place < count:
+            formal, name = _Formal(), c.create_string_buffer(64)
+            status = call(program, owner, place, formal, name, 64)
+            if status == NO_SUCH:
+                break
+            _must(status)
+            if formal.bytes > 64:
+                name = c.create_string_buffer(formal.bytes)
+                _must(call(program, owner, place, formal, name, formal.bytes))
+            self.names.append(name.raw[: formal.bytes].decode())
+            self.kinds.append((formal.kind, formal.type, bool(formal.clocked)))
+            place += 1
+
+
+class _Types:
+    """The constructors of enumerations and the fields of structures, read from the program once."""
+
+    def __init__(self, program):
+        self.enums, self.structs = {}, {}
+        self.program = program
+
+    def learn(self, formals):
+        for kind, number, _clocked in formals.kinds:
+            if kind == _ENUM and number not in self.enums:
+                self.enums[number] = self._constructors(number)
+            if kind == _STRUCT and number not in self.structs:
+                self.structs[number] = fields = _Formals(self.program, _lus.lus_field, number, None)
+                self.learn(fields)
+
+    def _constructors(self, number):
+        names = []
+        while True:
+            count, name = c.c_uint64(), c.create_string_buffer(256)
+            status = _lus.lus_constructor(self.program, number, len(names), count, name, 256)
+            if status == NO_SUCH:
+                return names
+            _must(status)
+            if count.value > 256:
+                name = c.create_string_buffer(count.value)
+                _must(_lus.lus_constructor(self.program, number, len(names), count, name, count.value))
+            names.append(name.raw[: count.value].decode())
+
+    def write(self, row, value, kind):
+        """Adds the numbers of a value to a row; the type of the value decides, so that the machine can refuse a wrong one."""
+        if value is None:
+            row.append(_Value(_ABSENT, 0, 0))
+        elif isinstance(value, bool):
+            row.append(_Value(_BOOL, 0, int(value)))
+        elif isinstance(value, int):
+            if not -(2 ** 63) <= value < 2 ** 63:
+                raise OverflowError("an int has 64 bits")
+            row.append(_Value(_INT, 0, value))
+        elif isinstance(value, str) and kind[0] == _ENUM and value in self.enums[kind[1]]:
+            row.append(_Value(_ENUM, kind[1], self.enums[kind[1]].index(value)))
+        elif isinstance(value, dict) and kind[0] == _STRUCT and set(value) == set(self.structs[kind[1]].names):
+            fields = self.structs[kind[1]]
+            row.append(_Value(_STRUCT, 0, len(fields.names)))
+            for name, field in zip(fields.names, fields.kinds):
+                self.write(row, value[name], field)
+        else:
+            raise ValueError(f"no value of its type: {value!r}")
+
+    def read(self, values, kind):
+        value = next(values)
+        if value.kind == _ABSENT:
+            return None
+        if value.kind == _BOOL:
+            return bool(value.number)
+        if value.kind == _INT:
+            return value.number
+        if value.kind == _ENUM:
+            return self.enums[value.type][value.number]
+        fields = self.structs[kind[1]]
+        return {name: self.read(values, field) for name, field in zip(fields.names, fields.kinds)}
+
+    def row(self, formals, values):
+        """A row of numbers as a dict by names; as a list where it isn't as long as the formals."""
+        left = iter(values)
+        return {name: self.read(left, kind) for name, kind in zip(formals.names, formals.kinds)}
+
+
+class Node:
+    """A node of a program: its name, and the names of its inputs and outputs."""
+
+    def __init__(self, program, number):
+        self._program, self.number = program, number
+        count, name = c.c_uint64(), c.create_string_buffer(256)
+        handle = program._handle
+        _must(_lus.lus_node_name(handle, number, count, name, 256))
+        if count.value > 256:
+            name = c.create_string_buffer(count.value)
+            _must(_lus.lus_node_name(handle, number, count, name, count.value))
+        self.name = name.raw[: count.value].decode()
+        inputs, outputs = c.c_uint32(), c.c_uint32()
+        _must(_lus.lus_formals(handle, number, inputs, outputs))
+        self._inputs = _Formals(handle, _lus.lus_input, number, inputs.value)
+        self._outputs = _Formals(handle, _lus.lus_output, number, outputs.value)
+        program._types.learn(self._inputs)
+        program._types.learn(self._outputs)
+        self.inputs, self.outputs = tuple(self._inputs.names), tuple(self._outputs.names)
+
+
+class Program(_Owner):
+    """The program of a text, or Refused."""
+
+    def __init__(self, text):
+        super().__init__()
+        text = text.encode() if isinstance(text, str) else bytes(text)
+        why, room = _Refusal(), 1024
+        while True:
+            names = c.create_string_buffer(room)
+            status = _lus.lus_compile(text, len(text), self._handle, why, names, room)
+            if status == REFUSED and why.bytes > room:
+                room = why.bytes
+                continue
+            break
+        if status == REFUSED:
+            cycle = names.raw[: why.bytes].decode().split("\0")[:-1]
+            raise Refused(why.number, why.line, why.column, cycle)
+        _must(status)
+        self._types = _Types(self._handle)
+        count = c.c_uint32()
+        _must(_lus.lus_nodes(self._handle, count))
+        self.nodes = {}
+        for number in range(count.value):
+            node = Node(self, number)
+            self.nodes[node.name] = node
+
+    def open(self, node, seats=1):
+        """An instance of the node of this name: a seat for each of so many callers, with the numbers from 0 on."""
+        if node not in self.nodes:
+            raise Error(NO_SUCH)
+        handles = (Handle * seats)()
+        with self._lock:
+            _must(_lus.lus_open(self._handle, self.nodes[node].number, handles, seats))
+        return [Seat(self, self.nodes[node], handles[k]) for k in range(seats)]
+
+
+class Seat(_Owner):
+    """A caller's place at an instance of a node."""
+
+    def __init__(self, program, node, handle):
+        super().__init__()
+        self._program, self.node = program, node
+        self._handle = Handle(handle.live, handle.kept)
+        handle.live, handle.kept = 0, None
+        self._room = len(node.outputs) + 8
+
+    def _call(self, request, slot, row):
+        answer = _Answer()
+        inputs = (_Value * len(row))(*row)
+        with self._lock:
+            outputs = (_Value * self._room)()
+            status = _lus.lus_try_call(self._handle, request, slot, inputs, len(row), answer, outputs, self._room)
+            while status == SHORT:
+                self._room = answer.count
+                outputs = (_Value * self._room)()
+                status = _lus.lus_outputs(self._handle, answer, outputs, self._room)
+        if status == BUSY:
+            raise Busy(answer.count)
+        _must(status)
+        if answer.kind == _NOT_DONE:
+            raise NotDone(_WHY[answer.why])
+        if answer.kind == _OUTPUTS:
+            return self._program._types.row(self.node._outputs, outputs[: answer.count])
+        return None
+
+    def _row(self, inputs):
+        formals, row = self.node._inputs, []
+        unknown = set(inputs) - set(formals.names)
+        if unknown:
+            raise ValueError("no inputs: " + ", ".join(sorted(unknown)))
+        for name, kind in zip(formals.names, formals.kinds):
+            self._program._types.write(row, inputs.get(name), kind)
+        return row
+
+    def try_step(self, **inputs):
+        """The outputs at the next instant, by their names, or Busy; or NotDone, which is an entry too."""
+        return self._call(_STEP, 0, self._row(inputs))
+
+    def _again(self, request, slot, row):
+        while True:
+            try:
+                return self._call(request, slot, row)
+            except Busy:
+                time.sleep(0)
+
+    def step(self, **inputs):
+        """As `try_step`, again while the machine is taken."""
+        return self._again(_STEP, 0, self._row(inputs))
+
+    def reset(self):
+        self._again(_RESET, 0, [])
+
+    def save(self, slot):
+        self._again(_SAVE, slot, [])
+
+    def restore(self, slot):
+        self._again(_RESTORE, slot, [])
+
+    def count(self):
+        """How many entries there are."""
+        count = c.c_uint64()
+        with self._lock:
+            _must(_lus.lus_count(self._handle, count))
+        return count.value
+
+    def number(self):
+        number = c.c_uint32()
+        with self._lock:
+            _must(_lus.lus_number(self._handle, number))
+        return number.value
+
+    def meet(self, other):
+        """Both seats of one instance have then seen the same entries."""
+        if other is self:
+            raise Error(HANDLE)
+        first, second = sorted((self, other), key=id)
+        with first._lock, second._lock:
+            _must(_lus.lus_meet(self._handle, other._handle))
+
+    def hold(self):
+        """Takes the machine for this seat alone, until `release`, or Busy."""
+        count = c.c_uint64()
+        with self._lock:
+            status = _lus.lus_hold(self._handle, count)
+        if status == BUSY:
+            raise Busy(count.value)
+        _must(status)
+
+    def release(self):
+        with self._lock:
+            _must(_lus.lus_release(self._handle))
+
+
+def close(seats):
+    """The journal of an instance, given all of its seats, which are empty then; otherwise they stay as they are."""
+    seats = list(seats)
+    if not seats:
+        raise Error(SEATS)
+    if len(set(map(id, seats))) != len(seats):
+        raise Error(HANDLE)
+    journal = Journal(seats[0]._program, seats[0].node)
+    handles = (Handle * len(seats))()
+    for seat in sorted(seats, key=id):
+        seat._lock.acquire()
+    try:
+        for handle, seat in zip(handles, seats):
+            handle.live, handle.kept = seat._handle.live, seat._handle.kept
+        status = _lus.lus_close(handles, len(seats), journal._handle)
+        for handle, seat in zip(handles, seats):
+            seat._handle.live, seat._handle.kept = handle.live, handle.kept
+    finally:
+        for seat in seats:
+            seat._lock.release()
+    _must(status)
+    return journal
+
+
+class Entry:
+    """One entry of a journal: the caller's number, the request, its inputs by name or its slot, and the outputs by name, None, or
+    why it was refused."""
+
+    def __init__(self, caller, request, inputs, slot, outputs, why):
+        self.caller, self.request, self.inputs, self.slot = caller, request, inputs, slot
+        self.outputs, self.why = outputs, why
+
+    def __repr__(self):
+        return f"Entry({self.caller}, {self.request!r}, {self.inputs}, {self.slot}, {self.outputs}, {self.why!r})"
+
+
+class Journal(_Owner):
+    """The entries of an instance that was closed."""
+
+    def __init__(self, program, node):
+        super().__init__()
+        self._program, self.node = program, node
+
+    def __len__(self):
+        count = c.c_uint64()
+        with self._lock:
+            _must(_lus.lus_entries(self._handle, count))
+        return count.value
+
+    def __getitem__(self, place):
+        if not 0 <= place < len(self):
+            raise IndexError(place)
+        entry, inputs, outputs = _Entry(), (_Value * 8)(), (_Value * 8)()
+        with self._lock:
+            status = _lus.lus_entry_at(self._handle, place, entry, inputs, 8, outputs, 8)
+            if status == SHORT:
+                inputs, outputs = (_Value * entry.inputs)(), (_Value * entry.outputs)()
+                status = _lus.lus_entry_at(self._handle, place, entry, inputs, entry.inputs, outputs, entry.outputs)
+        _must(status)
+        types, node = self._program._types, self.node
+        given, why = None, _WHY[entry.why]
+        if entry.request == _STEP and why != "shape":
+            given = types.row(node._inputs, inputs[: entry.inputs])
+        told = types.row(node._outputs, outputs[: entry.outputs]) if entry.reply == _OUTPUTS else None
+        slot = entry.slot if entry.request in (_SAVE, _RESTORE) else None
+        return Entry(entry.caller, _REQUESTS[entry.request], given, slot, told, why)
+
+    def __iter__(self):
+        return (self[place] for place in range(len(self)))
+
+    def text(self, instance, callers):
+        """The journal as `lus` prints it and `lus_draw` reads it."""
+        instance = instance.encode()
+        names = b"".join(name.encode() + b"\0" for name in callers)
+        count = c.c_uint64()
+        with self._lock:
+            status = _lus.lus_journal_text(self._handle, instance, len(instance), names, len(names), None, 0, count)
+            if status != SHORT:
+                _must(status)
+            text = c.create_string_buffer(count.value)
+            _must(_lus.lus_journal_text(self._handle, instance, len(instance), names, len(names), text, count.value, count))
+        return text.raw[: count.value].decode()

@@ -1,0 +1,6 @@
+pub mod Holds
+pub mod Seated
+pub mod Owed
+pub mod Served
+pub mod Held
+pub mod Met

@@ -1,0 +1,8 @@
+use Rattle.std.proofs.Common.{◌+◌, ◌*◌}
+use Rattle.lus_leaves.proofs.reading.+read.Given as goal
+
+abbrev pub decreases-read : goal.decreases-read
+decreases-read l = 2 * l.depth
+
+abbrev pub decreases-read_fields : goal.decreases-read_fields
+decreases-read_fields l = 2 * l.depth + 1

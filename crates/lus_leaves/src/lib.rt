@@ -1,0 +1,11 @@
+//! Rows as C has them, an array of numbers, and back.
+#![tactic(auto)]
+
+mod counting;
+mod leaf;
+mod reading;
+mod writing;
+
+pub use leaf::Leaf;
+pub use reading::row_of;
+pub use writing::write_row;

@@ -1,0 +1,141 @@
+//! Leaves become rows.
+
+use crate::leaf::{ABSENT, BOOL, ENUM, INT, Leaf, STRUCT};
+use lus_values::{Memory, Row, Value};
+use std::alloc::Global;
+
+/// The most structures in one another.
+const DEPTH: u32 = 64;
+
+/// The entry that begins at a place, and the place behind it.
+#[derive(Drop)]
+enum Found {
+    At(Option<Value>, usize),
+    Wrong,
+}
+
+/// A number that a count or a constructor can be.
+fn small(number: i64) -> Option<u32> {
+    if number < 0 {
+        return None;
+    }
+    if number > 4294967295 {
+        return None;
+    }
+    Some(number as u32)
+}
+
+/// What one leaf is: an entry, the head of a structure with so many fields, or neither.
+#[derive(Drop)]
+enum Single {
+    Entry(Option<Value>),
+    Head(u32),
+    Wrong,
+}
+
+fn truth(leaf: Leaf) -> Single {
+    match leaf.number {
+        0 => Single::Entry(Some(Value::Bool(false))),
+        1 => Single::Entry(Some(Value::Bool(true))),
+        _ => Single::Wrong,
+    }
+}
+
+fn read_leaf(leaf: Leaf) -> Single {
+    if leaf.kind == ENUM {
+        return match small(leaf.number) {
+            Some(constructor) => Single::Entry(Some(Value::Enum(leaf.of, constructor))),
+            None => Single::Wrong,
+        };
+    }
+    if leaf.of != 0 {
+        return Single::Wrong;
+    }
+    if leaf.kind == INT {
+        return Single::Entry(Some(Value::Int(leaf.number)));
+    }
+    if leaf.kind == BOOL {
+        return truth(leaf);
+    }
+    if leaf.kind == STRUCT {
+        return match small(leaf.number) {
+            Some(count) => Single::Head(count),
+            None => Single::Wrong,
+        };
+    }
+    if leaf.kind == ABSENT && leaf.number == 0 {
+        return Single::Entry(None);
+    }
+    Single::Wrong
+}
+
+/// The entry that begins at a place.
+#[cycle(read)]
+fn read(alloc: Global, leaves: &[Leaf], at: usize, depth: u32) -> Result<Found, Memory> {
+    let Some(leaf) = leaves.get(at) else {
+        return Ok(Found::Wrong);
+    };
+    match read_leaf(*leaf) {
+        Single::Entry(entry) => Ok(Found::At(entry, at + 1)),
+        Single::Head(count) => {
+            if depth == 0 {
+                return Ok(Found::Wrong);
+            }
+            Ok(
+                match read_fields(alloc, leaves, at + 1, count, depth - 1)? {
+                    Some((fields, next)) => Found::At(Some(Value::Struct(fields)), next),
+                    None => Found::Wrong,
+                },
+            )
+        }
+        Single::Wrong => Ok(Found::Wrong),
+    }
+}
+
+/// So many fields, of which the first begins at a place, and the place behind the last.
+#[cycle(read)]
+fn read_fields(
+    alloc: Global,
+    leaves: &[Leaf],
+    start: usize,
+    count: u32,
+    depth: u32,
+) -> Result<Option<(Vec<Value>, usize)>, Memory> {
+    let mut fields = Vec::new(alloc);
+    let mut at = start;
+    for _field in 0..count {
+        match read(alloc, leaves, at, depth)? {
+            Found::At(entry, next) => {
+                let Some(value) = entry else {
+                    return Ok(None);
+                };
+                fields.push(value)?;
+                at = next;
+            }
+            Found::Wrong => return Ok(None),
+        }
+    }
+    Ok(Some((fields, at)))
+}
+
+/// The row that these leaves are, or nothing: leaves that no values are, or structures more than 64 deep.
+pub fn row_of(alloc: Global, leaves: &[Leaf]) -> Result<Option<Row>, Memory> {
+    let mut items = Vec::new(alloc);
+    let mut at = 0;
+    for _left in 0..leaves.len() {
+        if at >= leaves.len() {
+            break;
+        }
+        match read(alloc, leaves, at, DEPTH)? {
+            Found::At(entry, next) => {
+                items.push(entry)?;
+                at = next;
+            }
+            Found::Wrong => return Ok(None),
+        }
+    }
+    if at != leaves.len() {
+        return Ok(None);
+    }
+    Ok(Some(Row::new(items)))
+}
