@@ -5,8 +5,8 @@ ghost use Rattle.lus_shared.specs.Views.{Sees, Adds};
 ghost use Rattle.lus_shared.specs.Calls.{Counts};
 ghost use Rattle.lus_shared.specs.CodeSpecs.Codes.{program_of};
 
-use lus_shared::lus_machine::{NodeId, Program};
 use lus_requests::{Reply, Request};
+use lus_shared::lus_machine::{NodeId, Program};
 use lus_shared::{Busy, Held, Seat, SeatNode, TryError};
 use lus_values::Row;
 use std::marker::Model;

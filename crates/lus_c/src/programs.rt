@@ -4,8 +4,8 @@ ghost use Rattle.std.specs.Prelude.{◌≡◌, length};
 use crate::content::Content;
 use crate::handle::Handle;
 use crate::status::{HANDLE, NONE, OK, TEXT};
-use lus_shared::lus_machine::{Formal, NodeId, Program};
 use lus_program::Kind;
+use lus_shared::lus_machine::{Formal, NodeId, Program};
 use std::alloc::Global;
 use std::str;
 

@@ -5,8 +5,8 @@ ghost use Rattle.lus_c.specs.Held.{EndLeaves};
 ghost use Rattle.lus_c.specs.Seated.{Belongs, IsMate};
 
 use crate::node_seat::{NodeSeat, Opened};
-use lus_shared::lus_machine::{Machine, NodeId, Program};
 use lus_requests::Entry;
+use lus_shared::lus_machine::{Machine, NodeId, Program};
 use lus_shared::{Seat, SeatNode, Strangers};
 use lus_values::Memory;
 use std::alloc::Global;
