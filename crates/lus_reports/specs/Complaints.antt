@@ -23,6 +23,9 @@ spot_text (spots.OfCaller c key) = codes "callers[" ++ decimal c ++ codes "]." +
 spot_text (spots.Call c i) = codes "callers[" ++ decimal c ++ codes "].calls[" ++ decimal i ++ codes "]"
 spot_text (spots.OfCall c i key) = codes "callers[" ++ decimal c ++ codes "].calls[" ++ decimal i ++ codes "]." ++ key.now
 spot_text (spots.Item c i k) = codes "callers[" ++ decimal c ++ codes "].calls[" ++ decimal i ++ codes "].step[" ++ decimal k ++ codes "]"
+spot_text (spots.Row c i r) = codes "callers[" ++ decimal c ++ codes "].calls[" ++ decimal i ++ codes "].burst[" ++ decimal r ++ codes "]"
+spot_text (spots.ItemOfRow c i r k) =
+    codes "callers[" ++ decimal c ++ codes "].calls[" ++ decimal i ++ codes "].burst[" ++ decimal r ++ codes "][" ++ decimal k ++ codes "]"
 
 -- where it was found, behind the name of the file
 abbrev pub found_text : Option Found → Text

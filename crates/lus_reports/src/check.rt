@@ -39,7 +39,7 @@ pub enum Check {
     Node,
     /// The scripts have the instance.
     On,
-    /// An item of a step is a value.
+    /// An item of a step, or of a row of a burst, is a value.
     Value,
 }
 
@@ -56,7 +56,7 @@ impl Check {
             Check::Instance => "an instance is an object with exactly the keys `name` and `node`",
             Check::Caller => "a caller is an object with exactly the keys `name` and `calls`",
             Check::Call => {
-                "a call is an object with the key `on` and exactly one of `step`, `reset`, `save` and `restore`"
+                "a call is an object with the key `on` and exactly one of `step`, `burst`, `reset`, `save` and `restore`"
             }
             Check::Name => {
                 "a name is a string of 1 to 64 bytes: a letter or `_`, then letters, digits and `_`"

@@ -84,8 +84,11 @@ fn wrong_ask(call: &Value) -> Option<(&'static str, Check)> {
     if let Some(slot) = call.get("save") {
         return unless(slot.as_u64().is_some(), "save", Check::Slot);
     }
-    let slot = call.get("restore")?;
-    unless(slot.as_u64().is_some(), "restore", Check::Slot)
+    if let Some(slot) = call.get("restore") {
+        return unless(slot.as_u64().is_some(), "restore", Check::Slot);
+    }
+    let rows = call.get("burst")?;
+    unless(rows.is_array(), "burst", Check::List)
 }
 
 /// Whether a value is an object with `on` and one of the keys of what is asked.
@@ -94,6 +97,17 @@ fn has_call_keys(call: &Value) -> bool {
         || has_keys(call, "on", "reset")
         || has_keys(call, "on", "save")
         || has_keys(call, "on", "restore")
+        || has_keys(call, "on", "burst")
+}
+
+/// The first row of a burst that is no list.
+fn wrong_row(caller: usize, place: usize, call: &Value) -> Option<Finding> {
+    for (row, items) in items_at(call, "burst").iter().enumerate() {
+        if !items.is_array() {
+            return Some(Finding::at(Spot::Row(caller, place, row), Check::List));
+        }
+    }
+    None
 }
 
 /// What is wrong with a call by itself.
@@ -104,8 +118,10 @@ fn wrong_call(caller: usize, place: usize, call: &Value) -> Option<Finding> {
     if text_at(call, "on").is_none() {
         return Some(Finding::at(Spot::OfCall(caller, place, "on"), Check::Text));
     }
-    let (key, check) = wrong_ask(call)?;
-    Some(Finding::at(Spot::OfCall(caller, place, key), check))
+    match wrong_ask(call) {
+        Some((key, check)) => Some(Finding::at(Spot::OfCall(caller, place, key), check)),
+        None => wrong_row(caller, place, call),
+    }
 }
 
 fn wrong_calls(caller: usize, calls: &[Value]) -> Option<Finding> {

@@ -28,6 +28,10 @@ pub enum Spot {
     OfCall(usize, usize, &'static str),
     /// `callers[1].calls[7].step[0]`
     Item(usize, usize, usize),
+    /// `callers[1].calls[7].burst[2]`
+    Row(usize, usize, usize),
+    /// `callers[1].calls[7].burst[2][0]`
+    ItemOfRow(usize, usize, usize, usize),
 }
 
 impl fmt::Display for Spot {
@@ -46,6 +50,12 @@ impl fmt::Display for Spot {
             Spot::OfCall(caller, at, key) => write!(f, "callers[{caller}].calls[{at}].{key}"),
             Spot::Item(caller, at, item) => {
                 write!(f, "callers[{caller}].calls[{at}].step[{item}]")
+            }
+            Spot::Row(caller, at, row) => {
+                write!(f, "callers[{caller}].calls[{at}].burst[{row}]")
+            }
+            Spot::ItemOfRow(caller, at, row, item) => {
+                write!(f, "callers[{caller}].calls[{at}].burst[{row}][{item}]")
             }
         }
     }

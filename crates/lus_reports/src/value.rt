@@ -1,8 +1,8 @@
-//! Where an item of a step is no value.
+//! Where an item of a step, or of a row of a burst, is no value.
 
 use crate::check::Check;
 use crate::finding::Finding;
-use crate::form::{items_at, member_count, text_at};
+use crate::form::{items, items_at, member_count, text_at};
 use crate::known::place_named;
 use crate::spot::Spot;
 use lus_cli::lus_host::{Field, Formal, Program};
@@ -78,7 +78,7 @@ fn inputs_named<'p>(program: &'p Program, node: &str) -> &'p [Formal] {
     }
 }
 
-/// The place of the first item of a step that is no value.
+/// The place of the first item of a row that is no value.
 fn wrong_item(program: &Program, inputs: &[Formal], items: &[Value]) -> Option<usize> {
     for (place, item) in items.iter().enumerate() {
         let kind = match inputs.get(place) {
@@ -92,9 +92,37 @@ fn wrong_item(program: &Program, inputs: &[Formal], items: &[Value]) -> Option<u
     None
 }
 
-fn wrong_step(program: &Program, instances: &[Value], call: &Value) -> Option<usize> {
+/// The first item of a row of a burst that is no value.
+fn wrong_rows(
+    program: &Program,
+    inputs: &[Formal],
+    caller: usize,
+    call: usize,
+    rows: &[Value],
+) -> Option<Finding> {
+    for (row, listed) in rows.iter().enumerate() {
+        let listed = items(Some(listed)).unwrap_or(&[]);
+        if let Some(item) = wrong_item(program, inputs, listed) {
+            let spot = Spot::ItemOfRow(caller, call, row, item);
+            return Some(Finding::at(spot, Check::Value));
+        }
+    }
+    None
+}
+
+/// The first item of what a call asks that is no value.
+fn wrong_call(
+    program: &Program,
+    instances: &[Value],
+    caller: usize,
+    place: usize,
+    call: &Value,
+) -> Option<Finding> {
     let inputs = inputs_of(program, instances, text_at(call, "on"));
-    wrong_item(program, inputs, items_at(call, "step"))
+    match wrong_item(program, inputs, items_at(call, "step")) {
+        Some(item) => Some(Finding::at(Spot::Item(caller, place, item), Check::Value)),
+        None => wrong_rows(program, inputs, caller, place, items_at(call, "burst")),
+    }
 }
 
 fn wrong_calls(
@@ -104,14 +132,15 @@ fn wrong_calls(
     calls: &[Value],
 ) -> Option<Finding> {
     for (place, call) in calls.iter().enumerate() {
-        if let Some(item) = wrong_step(program, instances, call) {
-            return Some(Finding::at(Spot::Item(caller, place, item), Check::Value));
+        let finding = wrong_call(program, instances, caller, place, call);
+        if finding.is_some() {
+            return finding;
         }
     }
     None
 }
 
-/// The first item of a step that is no value.
+/// The first item of a step or of a burst that is no value.
 pub(crate) fn wrong_value(program: &Program, scripts: &Value) -> Option<Finding> {
     let instances = items_at(scripts, "instances");
     for (place, caller) in items_at(scripts, "callers").iter().enumerate() {
