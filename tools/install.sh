@@ -1,5 +1,5 @@
 #!/bin/sh
-# ./install.sh PREFIX: copies the programs into PREFIX/bin, their pages into PREFIX/share/man/man1, the library and its header into
+# ./install.sh PREFIX: copies the program into PREFIX/bin, links its other names to it, and copies their pages into PREFIX/share/man/man1, the library and its header into
 # PREFIX/lib and PREFIX/include, and documents, examples and editors' files into PREFIX/share/lus. It overwrites an older version.
 set -eu
 if [ $# != 1 ]; then
@@ -23,9 +23,12 @@ put() {
     done
 }
 
+put 755 bin "$here/lus"
 for page in "$here"/man/*.1; do
     tool=$(basename "$page" .1)
-    put 755 bin "$here/$tool"
+    if [ "$tool" != lus ]; then
+        ln -sf lus "$prefix/bin/$tool"
+    fi
     put 644 share/man/man1 "$page"
 done
 if [ -d "$here/bindings" ]; then

@@ -1,4 +1,5 @@
-//! `lus --check PROGRAM` and `lus PROGRAM SCRIPTS`.
+//! `lus --check PROGRAM` and `lus PROGRAM SCRIPTS`. By the name of another tool, through a link, the same program is that tool:
+//! `lus_explain`, `lus_draw`.
 #![tactic(auto)]
 
 use lus_cli::{Fault, command, tell};
@@ -7,10 +8,10 @@ use std::env;
 use std::io::ErrorKind;
 use std::process::ExitCode;
 
-/// The words after the program's own name. Words that are no text ask for nothing.
-fn words(rt: &HostRuntime) -> Result<Vec<String>, Fault> {
+/// The name under which the program was called, and the words behind it. Words that are no text ask for nothing.
+fn arguments(rt: &HostRuntime) -> Result<Vec<String>, Fault> {
     match env::args(rt) {
-        Ok(arguments) => match arguments.skip(1).collect(rt.alloc()) {
+        Ok(arguments) => match arguments.collect(rt.alloc()) {
             Ok(words) => Ok(words),
             Err(_) => Err(Fault::Memory),
         },
@@ -21,12 +22,31 @@ fn words(rt: &HostRuntime) -> Result<Vec<String>, Fault> {
     }
 }
 
+/// The tool that a program called so is, and the words behind its name.
+fn tool_and_words(arguments: &[String]) -> (&str, &[String]) {
+    match arguments.split_first() {
+        Some((path, words)) => match path.rsplit_once('/') {
+            Some((_, name)) => (name, words),
+            None => (path.as_str(), words),
+        },
+        None => ("lus", arguments),
+    }
+}
+
 fn main(rt: HostRuntime) -> ExitCode {
     let disk = Disk(&rt);
     let mut output = Output(rt.stdout());
     let mut faults = Output(rt.stderr());
-    let status = match words(&rt) {
-        Ok(words) => command(&rt, &disk, &words, &mut output, &mut faults),
+    let status = match arguments(&rt) {
+        Ok(arguments) => match tool_and_words(&arguments) {
+            ("lus_explain", words) => {
+                lus_reports::command(rt.alloc(), &disk, words, &mut output, &mut faults)
+            }
+            ("lus_draw", words) => {
+                lus_draw::command(rt.alloc(), &disk, words, &mut output, &mut faults)
+            }
+            (_, words) => command(&rt, &disk, words, &mut output, &mut faults),
+        },
         Err(fault) => tell(&mut faults, fault),
     };
     ExitCode::from(status)
