@@ -1,5 +1,5 @@
 -- The tests of what is taken out of a node of a resolved program, within the limits of a source, can be stored.
-use Rattle.std.proofs.Common.{arith, subst, ◌≡◌, ◌∙◌, sym, ap, refl, true≢false, ℕ, zero, suc, ◌+◌, ◌^◌, ◌<◌, ◌≤◌, nat_lt, nat_eq, true, false, List, [], ◌∷◌, length, Option, Some, None}
+use Rattle.std.proofs.Common.{arith, subst, ◌≡◌, ◌∙◌, sym, ap, refl, true≢false, ℕ, zero, suc, ◌+◌, ◌^◌, ◌<◌, ◌≤◌, nat_lt, nat_eq, Bool, true, false, cond, List, [], ◌∷◌, length, Option, Some, None}
 use Rattle.std.proofs.lemmas.Bool.{eqb-true, ltb-true}
 use Rattle.std.proofs.lemmas.Option.{slice_get_within}
 use Rattle.std.specs.Prelude.{option_map, slice_get}
@@ -21,7 +21,8 @@ use Rattle.lus_meaning.specs.Resolved.{EquationFits, VariableFits, kind_in, kind
 use Rattle.lus_resolution.proofs.Numbering.{given-numbered}
 use Rattle.lus_resolution.proofs.Options.{and_then_gives, map_gives, where_true_gives}
 use Rattle.lus_resolution.proofs.Typed.{HasKind, HaveKinds, operate_typed, both_typed, when_typed, merge_typed, call_typed, more_typed, whole_call, whole_typed, fits_given}
-use Rattle.lus_normal.specs.Forms.{Taken, operand_takes, inner_takes, right_takes, inners_takes, branches_takes, arguments_takes}
+use Rattle.lus_normal_nodes.specs.Forms.{Position, Inside, Operand, is_taken}
+use Rattle.lus_normal.specs.Forms.{Taken, branch_test, argument_test, right_takes, operands_takes, takes}
 use Rattle.lus_normal.specs.Laws.{equations_take}
 use Rattle.lus_meaning.specs.Sound.{IsLimited}
 use Rattle.lus_normal.specs.Numbers.{AllFit, Fits}
@@ -93,12 +94,7 @@ module _ (p : Program) (few : Each (λ d. constructors_in d ≤ most_constructor
     name_fits : (e : Expression) (y : ℕ) → HasKind p f e → name_of e ≡ Some y → y < 2 ^ 32
     name_fits (variable x) y h e = let known = variable_fits x h in let same : x ≡ y = cc in omega (arith, known, same)
     name_fits (literal v) y h e = cc
-    name_fits (operate o es) y h e = cc
-    name_fits (pre a) y h e = cc
-    name_fits (arrow a b) y h e = cc
-    name_fits (when t a) y h e = cc
-    name_fits (merge x bs) y h e = cc
-    name_fits (call g c args) y h e = cc
+    name_fits a y h e = cc
 
     names_fit : (es : Operands) → HaveKinds p f es → (m y : ℕ) → names_in (actuals es []) m ≡ Some y → y < 2 ^ 32
     names_fit none h m y e = cc
@@ -121,79 +117,64 @@ module _ (p : Program) (few : Each (λ d. constructors_in d ≤ most_constructor
         let rest = map_gives (λ ls. first.0 ∷ ls) (kinds_in p f es) ks first.2 in
         (rest.0, rest.1, ap length rest.2)
 
-    operand_fits : (e : Expression) (o : Option Test) (ts : List Taken) → Fits o → AllFit ts → AllFit (operand_takes e o ts)
-    operand_fits (literal v) o ts h hs = tt
-    operand_fits (variable x) o ts h hs = tt
-    operand_fits e o ts h hs = (h, hs)
-
-    inner_fits : (e : Expression) (o : Option Test) (ts : List Taken) → Fits o → AllFit ts → AllFit (inner_takes e o ts)
-    inner_fits (call g c args) o ts h hs = (h, hs)
-    inner_fits e o ts h hs = hs
-
     abbrev R : Expression → Option Test → List Taken
     R = right_takes p f
 
+    one : (here : Position) (e : Expression) (o : Option Test) → Fits o → AllFit (R e o) → AllFit (takes p f here e o)
+    one here e o h hs = choose (is_taken here e)
+      where
+        choose : (b : Bool) → AllFit (cond b (record { test = o; operand = e } ∷ R e o) (R e o))
+        choose true = (h, hs)
+        choose false = hs
+
     -- the tests with which variables are declared, in this node and in those that are called
     module _ (own : (x : ℕ) → Fits (test_of f x)) (called : (g x : ℕ) → Fits (test_of (node_at p g) x)) where
-      abbrev formal_fits : (g : ℕ) (args : Operands) → HaveKinds p f args → (base : Option Test) → Fits base → (m : ℕ)
-          → Fits (renamed_first (names_in (actuals args [])) (clock_of (node_at p g) m) base)
-      formal_fits g args h base b m =
-          let vs = (node_at p g).variables in
-          renamed_fits (names_in (actuals args [])) (names_fit args h) (clock_of (node_at p g) m) base (chain_fits vs (called g) (length vs) m) b
+      -- of the arguments of a call of g
+      abbrev formals : ℕ → Operands → Option Test → ℕ → Option Test
+      formals g args o = argument_test (node_at p g) (names_in (actuals args [])) (base_test f (node_at p g) o)
+
+      formals_fit : (g : ℕ) (args : Operands) → HaveKinds p f args → (o : Option Test) → Fits o → (m : ℕ) → Fits (formals g args o m)
+      formals_fit g args h o b m =
+          let node = node_at p g in
+          let vs = node.variables in
+          let base = without_fit f own (length (clock_of node node.inputs)) o b in
+          renamed_fits (names_in (actuals args [])) (names_fit args h) (clock_of node m) (base_test f node o) (chain_fits vs (called g) (length vs) m) base
 
       mutual
         right_fits : (e : Expression) (o : Option Test) → HasKind p f e → Fits o → AllFit (R e o)
         right_fits (literal v) o h b = tt
         right_fits (variable x) o h b = tt
-        right_fits (operate n es) o h b = inners_fit es o (operate_typed p f n es h) b
-        right_fits (pre a) o h b = operand_fits a o (R a o) b (right_fits a o h b)
+        right_fits (operate n es) o h b = let given = operate_typed p f n es h in operands_fit Inside es (λ m. o) 0 given.0 given.1 (λ m lt. b)
+        right_fits (pre a) o h b = one Operand a o b (right_fits a o h b)
         right_fits (arrow a c) o h b =
             let both = both_typed p f a c h in
-            each_append Stored (inner_takes a o (R a o)) (inner_takes c o (R c o)) (inner_fits a o (R a o) b (right_fits a o both.0 b)) (inner_fits c o (R c o) b (right_fits c o both.1 b))
+            each_append Stored (takes p f Inside a o) (takes p f Inside c o) (one Inside a o b (right_fits a o both.0 b)) (one Inside c o b (right_fits c o both.1 b))
         right_fits (when t a) o h b =
             let outer = test_of f t.variable in
-            operand_fits a outer (R a outer) (own t.variable) (right_fits a outer (when_typed p f t a h).1 (own t.variable))
+            one Operand a outer (own t.variable) (right_fits a outer (when_typed p f t a h).1 (own t.variable))
         right_fits (merge x bs) o h b =
             let counted = merge_counted x bs h in
-            branches_fit bs x 0 counted.0 counted.1 (variable_fits x (merge_typed p f x bs h).0) (let few_branches = counted.2 in omega (arith, few_branches))
+            let few_branches = counted.2 in
+            operands_fit Inside bs (branch_test x) 0 counted.0 counted.1 (λ m lt. (variable_fits x (merge_typed p f x bs h).0, omega (arith, few_branches, lt)))
         right_fits (call g c args) o h b =
             let made = call_typed p f g c args h in
-            arguments_fit args g args (base_test f (node_at p g) o) 0 (made.2.arguments, made.2.have) (made.2.arguments, made.2.have)
-            (without_fit f own (length (clock_of (node_at p g) (node_at p g).inputs)) o b)
+            operands_fit Operand args (formals g args o) 0 made.2.arguments made.2.have (λ m lt. formals_fit g args (made.2.arguments, made.2.have) o b m)
 
-        inners_fit : (es : Operands) (o : Option Test) → HaveKinds p f es → Fits o → AllFit (inners_takes p f es o)
-        inners_fit none o h b = tt
-        inners_fit (more e es) o h b =
-            let both = more_typed p f e es h in
-            each_append Stored (inner_takes e o (R e o)) (inners_takes p f es o) (inner_fits e o (R e o) b (right_fits e o both.0 b)) (inners_fit es o both.1 b)
-
-        branches_fit : (es : Operands) (x c : ℕ) (ks : List Kind) → kinds_in p f es ≡ Some ks → x < 2 ^ 32 → c + length ks ≤ 2 ^ 32 → AllFit (branches_takes p f es x c)
-        branches_fit none x c ks e known room = tt
-        branches_fit (more a es) x c ks e known room =
+        -- operands of these types, as many as tests that can be stored
+        operands_fit : (here : Position) (es : Operands) (os : ℕ → Option Test) (m : ℕ) (ks : List Kind) → kinds_in p f es ≡ Some ks → ((i : ℕ) → i < m + length ks → Fits (os i))
+            → AllFit (operands_takes p f here es os m)
+        operands_fit here none os m ks e fit = tt
+        operands_fit here (more a es) os m ks e fit =
             let rest = more_counted a es ks e in
             let counted = rest.2 in
-            let o : Option Test = Some (record { variable = x; constructor = c }) in
-            let b : Fits o = (known, omega (arith, counted, room)) in
-            each_append Stored (inner_takes a o (R a o)) (branches_takes p f es x (suc c))
-            (inner_fits a o (R a o) b (right_fits a o (more_typed p f a es (ks, e)).0 b))
-            (branches_fit es x (suc c) rest.0 rest.1 known (omega (arith, counted, room)))
-
-        arguments_fit : (es : Operands) (g : ℕ) (args : Operands) (base : Option Test) (m : ℕ) → HaveKinds p f args → HaveKinds p f es → Fits base
-            → AllFit (arguments_takes p f es (node_at p g) (names_in (actuals args [])) base m)
-        arguments_fit none g args base m all h b = tt
-        arguments_fit (more e es) g args base m all h b =
-            let both = more_typed p f e es h in
-            let names = names_in (actuals args []) in
-            let o = renamed_first names (clock_of (node_at p g) m) base in
-            let fit = formal_fits g args all base b m in
-            each_append Stored (operand_takes e o (R e o)) (arguments_takes p f es (node_at p g) names base (suc m))
-            (operand_fits e o (R e o) fit (right_fits e o both.0 fit)) (arguments_fit es g args base (suc m) all both.1 b)
+            let b = fit m (omega (arith, counted)) in
+            each_append Stored (takes p f here a (os m)) (operands_takes p f here es os (suc m))
+            (one here a (os m) b (right_fits a (os m) (more_typed p f a es (ks, e)).0 b)) (operands_fit here es os (suc m) rest.0 rest.1 (λ i lt. fit i (omega (arith, counted, lt))))
 
       whole_fits : (e : Expression) (o : Option Test) (ls : List Kind) → kinds_given_in p f e ≡ Some ls → Fits o → AllFit (R e o)
       whole_fits (call g c args) o ls h b =
           let made = whole_call p f g c args ls h in
-          arguments_fit args g args (base_test f (node_at p g) o) 0 (made.arguments, made.have) (made.arguments, made.have)
-          (without_fit f own (length (clock_of (node_at p g) (node_at p g).inputs)) o b)
+          operands_fit Operand args (formals g args o) 0 made.arguments made.have (λ m lt. formals_fit g args (made.arguments, made.have) o b m)
       whole_fits e o ls h b = right_fits e o (whole_typed p f e ls h) b
 
       equations_fit : (n : ℕ) (qs : List StoredEquation) → Each (EquationFits p f) (equations_from n qs) → AllFit (equations_take p f qs)

@@ -1,6 +1,7 @@
 -- What the walk over a right side adds to what has been taken out and to the equations in normal form.
 use Rattle.std.specs.Prelude.{◌≡◌, ◌+◌, ◌^◌, ◌<◌, ℕ, suc, Option, List, [], ◌∷◌, ◌++◌, length}
 use Rattle.lus_values.specs.Lists.{item}
+use Rattle.lus_program.specs.declared.expr.Test.{Test}
 use Rattle.lus_program.specs.declared.expr.Expr.{Expr}
 use Rattle.lus_program.specs.declared.node.Equation.{Equation as StoredEquation}
 use Rattle.lus_program.specs.declared.node.Node.{Node as StoredNode}
@@ -11,33 +12,30 @@ use Rattle.lus_streams.specs.OnClock.{actuals, test_of}
 use Rattle.lus_clocks.specs.declared.clock.NewestTest.{NewestTest}
 use Rattle.lus_clocks.specs.Fitting.{names_in}
 use Rattle.lus_clocks.specs.View.{clock_in}
-use Rattle.lus_normal_nodes.specs.Forms.{added_equations, inner_form, normal_equations, right_form}
-use Rattle.lus_normal_nodes.specs.Forms.{operand_count, inner_count, right_count, inner_counts, argument_counts, equations_count}
-use Rattle.lus_normal_nodes.specs.Forms.{operand_out, inner_out, right_out, inner_outs, argument_outs}
+use Rattle.lus_normal_nodes.specs.Forms.{Position, right_count, operands_count, size, form, right_form, right_out, operands_out, out}
+use Rattle.lus_normal_nodes.specs.Forms.{added_equations, equations_count, normal_equations}
 use Rattle.lus_normal.specs.declared.taking.Taking.{Taking}
-use Rattle.lus_normal.specs.Forms.{Taken, operand_takes, inner_takes, right_takes, inners_takes, branches_takes, arguments_takes}
+use Rattle.lus_normal.specs.Forms.{Taken, argument_test, right_takes, operands_takes, takes}
 use Rattle.lus_normal.specs.Laws.{equations_take}
 use Rattle.lus_normal.specs.View.{all_taken_seen, equations_seen}
 
--- how many new variables a whole right side makes, an operand that is taken out, and what may be one
+-- how many new variables a whole right side makes, and one that is taken out
 abbrev pub new_in_right : Expr → ℕ
 new_in_right e = right_count (expression_of e)
 
 abbrev pub new_in_part : Expr → ℕ
 new_in_part e = suc (right_count (expression_of e))
 
-abbrev pub new_in_operand : Expr → ℕ
-new_in_operand e = operand_count (expression_of e) (right_count (expression_of e))
+-- how many an expression makes where it stands, and operands
+abbrev pub new_in : Position → Expr → ℕ
+new_in here e = size here (expression_of e)
 
--- how many an expression inside of another makes, the operands of an operator, and arguments
-abbrev pub new_in_inner : Expr → ℕ
-new_in_inner e = inner_count (expression_of e) (right_count (expression_of e))
+abbrev pub new_in_operands : Position → List Expr → ℕ
+new_in_operands here es = operands_count here (operands_of es)
 
-abbrev pub new_in_inners : List Expr → ℕ
-new_in_inners es = inner_counts (operands_of es)
-
-abbrev pub new_in_arguments : List Expr → ℕ
-new_in_arguments es = argument_counts (operands_of es)
+-- the newest tests of the clocks of these arguments of a call of g with this base
+abbrev pub argument_tests : StoredProgram → List Expr → (g : ℕ) → Option NewestTest → ℕ → Option Test
+argument_tests p es g base = argument_test (node_at (program_seen p) g) (names_in (actuals (operands_of es) [])) (clock_in base)
 
 -- numbers are left for n new variables
 abbrev pub HasRoom : Taking → (n : ℕ) → Type 0
@@ -68,34 +66,13 @@ module _ (old new : Taking) where
         let test = clock_in clock in
         Takes (record { test = test; operand = own } ∷ right_takes (program_seen p) (node_of f) own test)
 
-    -- what is taken out for an operand, which may be a literal or a variable
-    abbrev pub TakesOperand : Expr → Option NewestTest → Type 0
-    TakesOperand e clock =
-        let own = expression_of e in
-        let test = clock_in clock in
-        Takes (operand_takes own test (right_takes (program_seen p) (node_of f) own test))
+    -- what is taken out for an expression where it stands
+    abbrev pub TakesAt : Position → Expr → Option NewestTest → Type 0
+    TakesAt here e clock = Takes (takes (program_seen p) (node_of f) here (expression_of e) (clock_in clock))
 
-    -- what is taken out for an expression inside of another
-    abbrev pub TakesInner : Expr → Option NewestTest → Type 0
-    TakesInner e clock =
-        let own = expression_of e in
-        let test = clock_in clock in
-        Takes (inner_takes own test (right_takes (program_seen p) (node_of f) own test))
-
-    -- what is taken out of the operands of an operator
-    abbrev pub TakesInners : List Expr → Option NewestTest → Type 0
-    TakesInners es clock = Takes (inners_takes (program_seen p) (node_of f) (operands_of es) (clock_in clock))
-
-    -- what is taken out of the branches of a merge by x
-    abbrev pub TakesBranches : List Expr → (x : ℕ) → Type 0
-    TakesBranches es x = Takes (branches_takes (program_seen p) (node_of f) (operands_of es) x 0)
-
-    -- what is taken out of the arguments of a call of g with this base
-    abbrev pub TakesArguments : List Expr → (g : ℕ) → Option NewestTest → Type 0
-    TakesArguments es g base =
-        let args = operands_of es in
-        let called = node_at (program_seen p) g in
-        Takes (arguments_takes (program_seen p) (node_of f) args called (names_in (actuals args [])) (clock_in base) 0)
+    -- what is taken out of operands, each on the clock with the test of its number
+    abbrev pub TakesOperands : Position → List Expr → (ℕ → Option Test) → Type 0
+    TakesOperands here es os = Takes (operands_takes (program_seen p) (node_of f) here (operands_of es) os 0)
 
     -- what is taken out of an equation, on the clock of its first variable
     abbrev pub TakesEquation : StoredEquation → Type 0
@@ -111,17 +88,12 @@ module _ (old new : Taking) where
   abbrev pub AddsPart : Expr → Type 0
   AddsPart e = Adds (added_equations old.next (expression_of e ∷ right_out (expression_of e)))
 
-  abbrev pub AddsOperand : Expr → Type 0
-  AddsOperand e = Adds (added_equations old.next (operand_out (expression_of e) (right_out (expression_of e))))
+  -- those of what is taken out for an expression where it stands, and of operands
+  abbrev pub AddsAt : Position → Expr → Type 0
+  AddsAt here e = Adds (added_equations old.next (out here (expression_of e)))
 
-  abbrev pub AddsInner : Expr → Type 0
-  AddsInner e = Adds (added_equations old.next (inner_out (expression_of e) (right_out (expression_of e))))
-
-  abbrev pub AddsInners : List Expr → Type 0
-  AddsInners es = Adds (added_equations old.next (inner_outs (operands_of es)))
-
-  abbrev pub AddsArguments : List Expr → Type 0
-  AddsArguments es = Adds (added_equations old.next (argument_outs (operands_of es)))
+  abbrev pub AddsOperands : Position → List Expr → Type 0
+  AddsOperands here es = Adds (added_equations old.next (operands_out here (operands_of es)))
 
   -- an equation in normal form, and those of what is taken out of it
   abbrev pub AddsEquation : StoredEquation → Type 0
@@ -130,9 +102,9 @@ module _ (old new : Taking) where
       (record { targets = q.targets.items; right = right_form old.next (expression_of q.right) }
       ∷ added_equations old.next (right_out (expression_of q.right)))
 
--- what stands for an expression inside of another, n being the next new variable
-abbrev pub IsInnerForm : (n : ℕ) → (e result : Expr) → Type 0
-IsInnerForm n e result = expression_of result ≡ inner_form n (expression_of e) (right_form n (expression_of e))
+-- what stands for an expression, n being the next new variable
+abbrev pub IsForm : Position → (n : ℕ) → (e result : Expr) → Type 0
+IsForm here n e result = expression_of result ≡ form here n (expression_of e)
 
 -- all equations of a node in normal form
 abbrev pub HasEquations : StoredNode → Taking → Type 0
