@@ -11,12 +11,15 @@ use Rattle.std.proofs.lemmas.List.Splits.{join_with_byte-slice_split}
 use Rattle.std.proofs.lemmas.List.Sums.{split_at_first, prefix_len_stops}
 use Rattle.std.proofs.lemmas.Option.{none-some, same_Some, cond_some, option_and_then_some}
 use Rattle.std.proofs.lemmas.Slice.Eq.{bytes_eq-Decides}
-use Rattle.lus_diagrams.specs.Texts.{Text, cut}
+use Rattle.lus_diagrams.specs.Texts.{Text, cut, before_end}
 use Rattle.lus_diagrams.specs.Words.{is_decimal, is_name, is_number}
 use Rattle.lus_diagrams.specs.Items.{is_row}
-use Rattle.lus_diagrams.specs.Entries.{Entry, Request, Reply, step, reset, save, restore, outputs, done, refused, agree, step_request, slot_request, worded_request, other_request, request_at, request_of, is_refusal, outputs_reply, plain_reply, other_reply, reply_at, reply_of, call_of, entry_of}
+use Rattle.lus_diagrams.specs.Rows.{are_rows}
+use Rattle.lus_diagrams.specs.Accepted.{accepted_rows}
+use Rattle.lus_diagrams.specs.Entries.{Entry, Request, Reply, step, burst, reset, save, restore, outputs, rows, done, refused, agree, step_request, burst_request, opened_request, slot_request, worded_request, other_request, request_at, request_of, is_refusal, outputs_reply, rows_reply, opened_reply, plain_reply, other_reply, reply_at, reply_of, call_of, entry_of}
 use Rattle.lus_diagrams.specs.Journals as journals
-use Rattle.lus_diagrams.specs.Journals.{Journal, Reading, head_of, is_count, is_count_at, arity_of, arity_with, begun, with_entry, opened, step_within, step_at, ended, run, nothing_read, journals_of}
+use Rattle.lus_diagrams.specs.Journals.{Journal, Reading, head_of, is_count, is_count_at, arity_over, begun, with_entry, opened, step_within, step_at, ended, run, nothing_read, journals_of}
+use Rattle.lus_diagrams.proofs.Ends.{end_text}
 use Rattle.lus_diagrams.specs.Printed.{in_row, request_text, reply_text, entry_line, entries_text, head_line, opening_text, journal_text, journals_text}
 
 -- ---- tests
@@ -55,6 +58,20 @@ step_text word rest r h =
     ∙ ap (λ t. codes "step(" ++ t) (sym (append_assoc p.0 (codes ")") (codes " -")))
     ∙ ap (λ q. request_text q ++ codes " -") within.1)
 
+burst_text : (word rest : Text) (r : Request) → word ≡ codes "burst" → burst_request rest ≡ Some r → word ++ 40 ∷ rest ≡ request_text r ++ codes " -"
+burst_text word rest r name h =
+    option_and_then_some _ (before_end (codes ") -") rest) r h (λ body e g.
+    let within = cond_some (are_rows body) (burst body) r g in
+    (λ i. name i ++ 40 ∷ end_text (codes ") -") rest body e i)
+    ∙ ap (λ t. codes "burst(" ++ t) (sym (append_assoc body (codes ")") (codes " -")))
+    ∙ ap (λ q. request_text q ++ codes " -") within.1)
+
+opened_text_asked : (word rest : Text) (r : Request) → opened_request word rest ≡ Some r → word ++ 40 ∷ rest ≡ request_text r ++ codes " -"
+opened_text_asked word rest r h =
+    if_cases (bytes_eq word (codes "burst")) (burst_request rest) (step_request word rest) (Some r) h
+    (λ name g. burst_text word rest r (same_text _ _ name) g)
+    (λ name g. step_text word rest r g)
+
 slot_text : (word slot : Text) (r : Request) → slot_request word slot ≡ Some r → word ++ 32 ∷ slot ≡ request_text r
 slot_text word slot r h =
     if_cases (is_number slot) _ None (Some r) h
@@ -85,7 +102,7 @@ other_request_text asked r h =
 
 asked_text : (asked : Text) (o : Option (Text × Text)) (r : Request) → cut 40 asked ≡ o → request_at asked o ≡ Some r → asked ≡ request_text r ++ codes " -"
 asked_text asked None r e h = other_request_text asked r h
-asked_text asked (Some p) r e h = cut_text 40 asked p e ∙ step_text p.0 p.1 r h
+asked_text asked (Some p) r e h = cut_text 40 asked p e ∙ opened_text_asked p.0 p.1 r h
 
 outputs_text : (front rest : Text) (r : Reply) → outputs_reply front rest ≡ Some r → front ++ 40 ∷ rest ≡ 32 ∷ reply_text r
 outputs_text front rest r h =
@@ -96,6 +113,21 @@ outputs_text front rest r h =
     (λ i. same_text front (codes " ") both.0 i ++ 40 ∷ cut_text 41 rest p e i)
     ∙ ap (λ t. codes " (" ++ (p.0 ++ 41 ∷ t)) tail
     ∙ ap (λ q. 32 ∷ reply_text q) within.1)
+
+rows_text : (front rest : Text) (r : Reply) → rows_reply front rest ≡ Some r → front ++ 40 ∷ rest ≡ 32 ∷ reply_text r
+rows_text front rest r h =
+    option_and_then_some _ (before_end (codes ")") rest) r h (λ body e g.
+    let within = cond_some (bytes_eq front (codes " ") && are_rows body) (rows body) r g in
+    let both = and_parts _ _ within.0 in
+    (λ i. same_text front (codes " ") both.0 i ++ 40 ∷ end_text (codes ")") rest body e i)
+    ∙ ap (λ q. 32 ∷ reply_text q) within.1)
+
+opened_text_told : (q : Request) (front rest : Text) (r : Reply) → opened_reply q front rest ≡ Some r → front ++ 40 ∷ rest ≡ 32 ∷ reply_text r
+opened_text_told (step i) front rest r h = outputs_text front rest r h
+opened_text_told (burst i) front rest r h = rows_text front rest r h
+opened_text_told reset front rest r h = outputs_text front rest r h
+opened_text_told (save s) front rest r h = outputs_text front rest r h
+opened_text_told (restore s) front rest r h = outputs_text front rest r h
 
 plain_text : (t : Text) (r : Reply) → plain_reply t ≡ Some r → t ≡ reply_text r
 plain_text t r h =
@@ -112,9 +144,9 @@ other_reply_text told r h =
     (λ empty g2. cut_text 32 told p e ∙ (λ i. no_text p.0 empty i ++ 32 ∷ plain_text p.1 r g2 i))
     (λ empty e2. absurd (none-some r e2)))
 
-told_text : (told : Text) (o : Option (Text × Text)) (r : Reply) → cut 40 told ≡ o → reply_at told o ≡ Some r → told ≡ 32 ∷ reply_text r
-told_text told None r e h = other_reply_text told r h
-told_text told (Some p) r e h = cut_text 40 told p e ∙ outputs_text p.0 p.1 r h
+told_text : (q : Request) (told : Text) (o : Option (Text × Text)) (r : Reply) → cut 40 told ≡ o → reply_at q told o ≡ Some r → told ≡ 32 ∷ reply_text r
+told_text q told None r e h = other_reply_text told r h
+told_text q told (Some p) r e h = cut_text 40 told p e ∙ opened_text_told q p.0 p.1 r h
 
 -- ---- lines
 
@@ -127,13 +159,13 @@ call_text : (line caller call : Text) (e : Entry) → call_of line caller call �
 call_text line caller call e h =
     option_and_then_some _ (cut 62 call) e h (λ p cut_is g.
     option_and_then_some _ (request_of p.0) e g (λ q asked g2.
-    option_and_then_some _ (reply_of p.1) e g2 (λ r told g3.
+    option_and_then_some _ (reply_of q p.1) e g2 (λ r told g3.
     let within = cond_some (agree q r) (record { line = line; caller = caller; request = q; reply = r }) e g3 in
     record {
       by = ap (λ x. x.caller) (sym within.1);
       says =
           cut_text 62 call p cut_is
-          ∙ (λ i. asked_text p.0 (cut 40 p.0) q refl asked i ++ 62 ∷ told_text p.1 (cut 40 p.1) r refl told i)
+          ∙ (λ i. asked_text p.0 (cut 40 p.0) q refl asked i ++ 62 ∷ told_text q p.1 (cut 40 p.1) r refl told i)
           ∙ append_assoc (request_text q) (codes " -") (62 ∷ 32 ∷ reply_text r)
           ∙ ap (λ t. request_text q ++ (codes " -> " ++ t)) (sym (append-nil (reply_text r)))
           ∙ ap (λ x. in_row (request_text x.request ∷ codes " -> " ∷ reply_text x.reply ∷ [])) within.1;
@@ -207,7 +239,7 @@ begun_text n line j h =
 longer_text : (j k : Journal) (line : Text) → with_entry j line ≡ Some k → opening_text k ≡ opening_text j ++ (line ++ 10 ∷ [])
 longer_text j k line h =
     option_and_then_some _ (entry_of (length j.entries + 1) line) k h (λ e read g.
-    option_and_then_some _ (arity_with j.arity (arity_of e)) k g (λ a fits is.
+    option_and_then_some _ (arity_over j.arity (accepted_rows e)) k g (λ a fits is.
     let says : entry_line (1 + length j.entries) e ≡ line = ap (λ m. entry_line m e) (omega arith) ∙ sym (line_text (length j.entries + 1) line e read) in
     ap opening_text (sym (same_Some _ _ is))
     ∙ ap (λ t. head_line j ++ 10 ∷ (t ++ [])) (entries_more 1 j.entries e)

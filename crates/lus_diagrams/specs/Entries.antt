@@ -2,19 +2,22 @@
 use Rattle.std.specs.Prelude.{◌==◌, ◌&&◌, ◌||◌, ℕ, Bool, true, false, [], ◌∷◌, length, nat_le, codes}
 use Rattle.std.specs.Prelude.{Option, Some, None, if◌then◌else◌}
 use Rattle.std.specs.Str.{bytes_eq}
-use Rattle.lus_diagrams.specs.Texts.{Text, cut, ◌>>=◌}
+use Rattle.lus_diagrams.specs.Texts.{Text, cut, before_end, ◌>>=◌}
 use Rattle.lus_diagrams.specs.Words.{is_decimal, is_name, is_number}
 use Rattle.lus_diagrams.specs.Items.{is_row}
+use Rattle.lus_diagrams.specs.Rows.{are_rows, row_count}
 
--- what was asked: a step with the text of its inputs, a save and a restore with that of the slot
+-- what was asked: a step with the text of its inputs, a burst with that of its rows, a save and a restore with that of the slot
 pub data Request : Type 0 where
   step : Text → Request
+  burst : Text → Request
   reset : Request
   save : Text → Request
   restore : Text → Request
 
 pub data Reply : Type 0 where
   outputs : Text → Reply
+  rows : Text → Reply
   done : Reply
   refused : Text → Reply
 
@@ -34,15 +37,23 @@ is_slot (d ∷ e ∷ ds) = false
 -- whether this reply may answer this request
 abbrev pub agree : Request → Reply → Bool
 agree (step i) (outputs o) = true
+agree (step i) (rows o) = false
 agree (step i) done = false
 agree (step i) (refused why) = true
+agree (burst i) (outputs o) = false
+agree (burst i) (rows o) = row_count i == row_count o
+agree (burst i) done = false
+agree (burst i) (refused why) = true
 agree reset (outputs o) = false
+agree reset (rows o) = false
 agree reset done = true
 agree reset (refused why) = true
 agree (save s) (outputs o) = false
+agree (save s) (rows o) = false
 agree (save s) done = is_slot s
 agree (save s) (refused why) = true
 agree (restore s) (outputs o) = false
+agree (restore s) (rows o) = false
 agree (restore s) done = is_slot s
 agree (restore s) (refused why) = true
 
@@ -53,6 +64,15 @@ abbrev pub step_request : Text → Text → Option Request
 step_request word rest = do
   p ← cut 41 rest
   if bytes_eq word (codes "step") && (bytes_eq p.1 (codes " -") && is_row p.0) then Some (step p.0) else None
+
+-- `burst` before the parenthesis, and rows behind it
+abbrev pub burst_request : Text → Option Request
+burst_request rest = do
+  body ← before_end (codes ") -") rest
+  if are_rows body then Some (burst body) else None
+
+abbrev pub opened_request : Text → Text → Option Request
+opened_request word rest = if bytes_eq word (codes "burst") then burst_request rest else step_request word rest
 
 abbrev pub slot_request : Text → Text → Option Request
 slot_request word slot =
@@ -71,7 +91,7 @@ abbrev pub other_request : Text → Option Request
 other_request asked = if bytes_eq asked (codes "reset -") then Some reset else worded_request asked
 
 abbrev pub request_at : Text → Option (Text × Text) → Option Request
-request_at asked (Some p) = step_request p.0 p.1
+request_at asked (Some p) = opened_request p.0 p.1
 request_at asked None = other_request asked
 
 abbrev pub request_of : Text → Option Request
@@ -89,6 +109,19 @@ outputs_reply front rest = do
   p ← cut 41 rest
   if bytes_eq front (codes " ") && (length p.1 == 0 && is_row p.0) then Some (outputs p.0) else None
 
+abbrev pub rows_reply : Text → Text → Option Reply
+rows_reply front rest = do
+  body ← before_end (codes ")") rest
+  if bytes_eq front (codes " ") && are_rows body then Some (rows body) else None
+
+-- a burst's outputs are rows, as its inputs
+abbrev pub opened_reply : Request → Text → Text → Option Reply
+opened_reply (step i) front rest = outputs_reply front rest
+opened_reply (burst i) front rest = rows_reply front rest
+opened_reply reset front rest = outputs_reply front rest
+opened_reply (save s) front rest = outputs_reply front rest
+opened_reply (restore s) front rest = outputs_reply front rest
+
 abbrev pub plain_reply : Text → Option Reply
 plain_reply t = if bytes_eq t (codes "done") then Some done else (if is_refusal t then Some (refused t) else None)
 
@@ -97,12 +130,12 @@ other_reply told = do
   p ← cut 32 told
   if length p.0 == 0 then plain_reply p.1 else None
 
-abbrev pub reply_at : Text → Option (Text × Text) → Option Reply
-reply_at told (Some p) = outputs_reply p.0 p.1
-reply_at told None = other_reply told
+abbrev pub reply_at : Request → Text → Option (Text × Text) → Option Reply
+reply_at asked told (Some p) = opened_reply asked p.0 p.1
+reply_at asked told None = other_reply told
 
-abbrev pub reply_of : Text → Option Reply
-reply_of told = reply_at told (cut 40 told)
+abbrev pub reply_of : Request → Text → Option Reply
+reply_of asked told = reply_at asked told (cut 40 told)
 
 -- ---- lines
 
@@ -111,7 +144,7 @@ abbrev pub call_of : Text → Text → Text → Option Entry
 call_of line caller call = do
   p ← cut 62 call
   request ← request_of p.0
-  reply ← reply_of p.1
+  reply ← reply_of request p.1
   if agree request reply then Some (record { line = line; caller = caller; request = request; reply = reply }) else None
 
 -- the nth entry of an instance

@@ -7,7 +7,8 @@ use Rattle.std.specs.Str.{bytes_eq}
 use Rattle.lus_diagrams.specs.Texts.{Text, cut, ◌>>=◌}
 use Rattle.lus_diagrams.specs.Words.{is_decimal, is_name}
 use Rattle.lus_diagrams.specs.Items.{item_count}
-use Rattle.lus_diagrams.specs.Entries.{Entry, Request, Reply, step as asked_step, reset, save, restore, outputs, done, refused, entry_of}
+use Rattle.lus_diagrams.specs.Entries.{Entry, entry_of}
+use Rattle.lus_diagrams.specs.Accepted.{Row, accepted_rows}
 use Rattle.lus_diagrams.specs.declared.error.JournalError.{JournalError}
 use Rattle.lus_diagrams.specs.declared.error.JournalError.TheVariants.{Line, Memory}
 use Rattle.lus_diagrams.specs.declared.journal.Arity.{Arity}
@@ -38,21 +39,17 @@ is_count n line = is_count_at n (cut 32 line)
 
 -- ---- accepted instants of one instance have as many inputs and outputs
 
-abbrev pub arity_between : Request → Reply → Option Arity
-arity_between (asked_step i) (outputs o) = Some (record { inputs = item_count i; outputs = item_count o })
-arity_between (asked_step i) done = None
-arity_between (asked_step i) (refused why) = None
-arity_between reset r = None
-arity_between (save s) r = None
-arity_between (restore s) r = None
+abbrev pub arity_of : Row → Arity
+arity_of r = record { inputs = item_count r.inputs; outputs = item_count r.outputs }
 
-abbrev pub arity_of : Entry → Option Arity
-arity_of e = arity_between e.request e.reply
+abbrev pub arity_with : Option Arity → Arity → Option Arity
+arity_with None b = Some b
+arity_with (Some a) b = if (a.inputs == b.inputs) && (a.outputs == b.outputs) then Some a else None
 
-abbrev pub arity_with : Option Arity → Option Arity → Option (Option Arity)
-arity_with None new = Some new
-arity_with (Some a) None = Some (Some a)
-arity_with (Some a) (Some b) = if (a.inputs == b.inputs) && (a.outputs == b.outputs) then Some (Some a) else None
+-- that of all rows so far, where these fit
+abbrev pub arity_over : Option Arity → List Row → Option (Option Arity)
+arity_over a [] = Some a
+arity_over a (r ∷ rs) = option_map_or (λ b. arity_over (Some b) rs) (arity_with a (arity_of r)) None
 
 -- ---- line by line
 
@@ -62,7 +59,7 @@ begun n line = option_map (λ p. record { line = n; instance = p.0; node = p.1; 
 abbrev pub with_entry : Journal → Text → Option Journal
 with_entry j line = do
   e ← entry_of (length j.entries + 1) line
-  s ← arity_with j.arity (arity_of e)
+  s ← arity_over j.arity (accepted_rows e)
   Some (record { line = j.line; instance = j.instance; node = j.node; arity = s; entries = j.entries ++ e ∷ [] })
 
 -- the journals that were read whole, and the one whose last line is still to come

@@ -19,6 +19,7 @@ is_column_ink inks.Number = true
 is_column_ink inks.Input = true
 is_column_ink inks.Output = true
 is_column_ink inks.Absent = true
+is_column_ink inks.Burst = true
 is_column_ink inks.Reset = true
 is_column_ink inks.Save = true
 is_column_ink inks.Restore = true
@@ -37,6 +38,7 @@ seen_words ss = flat_map words_in ss
 
 abbrev pub shown_cells : Head → List Text → List Text
 shown_cells (heads.Instant n) cells = cells
+shown_cells (heads.Burst n) cells = []
 shown_cells heads.Reset cells = []
 shown_cells (heads.Save s) cells = []
 shown_cells (heads.Restore s) cells = []

@@ -2,7 +2,7 @@
 use Rattle.std.specs.Prelude.{ℕ, ◌+◌, List, [], ◌∷◌, ◌++◌, length, flat_map, codes}
 use Rattle.std.specs.Fmt.{decimal}
 use Rattle.lus_diagrams.specs.Texts.{Text}
-use Rattle.lus_diagrams.specs.Entries.{Entry, Request, Reply, step, reset, save, restore, outputs, done, refused}
+use Rattle.lus_diagrams.specs.Entries.{Entry, Request, Reply, step, burst, reset, save, restore, outputs, rows, done, refused}
 use Rattle.lus_diagrams.specs.Journals.{Journal}
 
 -- texts in a row
@@ -12,12 +12,14 @@ in_row (t ∷ ts) = t ++ in_row ts
 
 abbrev pub request_text : Request → Text
 request_text (step i) = in_row (codes "step(" ∷ i ∷ codes ")" ∷ [])
+request_text (burst i) = in_row (codes "burst(" ∷ i ∷ codes ")" ∷ [])
 request_text reset = codes "reset"
 request_text (save s) = codes "save " ++ s
 request_text (restore s) = codes "restore " ++ s
 
 abbrev pub reply_text : Reply → Text
 reply_text (outputs o) = in_row (codes "(" ∷ o ∷ codes ")" ∷ [])
+reply_text (rows o) = in_row (codes "(" ∷ o ∷ codes ")" ∷ [])
 reply_text done = codes "done"
 reply_text (refused why) = why
 

@@ -2,7 +2,7 @@
 
 ghost use Rattle.std.specs.Prelude.{◌≡◌, ◌<◌, ◌==◌, IfOk, map, option_map};
 ghost use Rattle.std.specs.List.{slice_split};
-ghost use Rattle.lus_diagrams.specs.Texts.{cut};
+ghost use Rattle.lus_diagrams.specs.Texts.{before_end, cut};
 
 use std::alloc::{AllocError, Global};
 
@@ -20,4 +20,11 @@ pub(crate) fn parts(alloc: Global, text: &str, mark: char) -> Result<Vec<&str>, 
     ensures { IfOk result (λ v. map (λ t. t.now) v.items ≡ slice_split (λ b. b == mark) text.now) }
 {
     text.split(mark).collect(alloc)
+}
+
+/// What stands before such an end, if the text has it.
+pub(crate) fn before_end<'a>(text: &'a str, end: &str) -> Option<&'a str>
+    ensures { option_map (λ front. front.now) result ≡ before_end end.now text.now }
+{
+    text.strip_suffix(end)
 }

@@ -1,26 +1,29 @@
 //! Entries of a journal, as their lines spell them.
 
 ghost use Rattle.std.specs.Prelude.{◌≡◌, option_map};
-ghost use Rattle.lus_diagrams.specs.Entries.{agree, call_of, entry_of, is_refusal, is_slot, other_reply, other_request, outputs_reply, reply_of, request_of, slot_request, step_request};
+ghost use Rattle.lus_diagrams.specs.Entries.{agree, burst_request, call_of, entry_of, is_refusal, is_slot, opened_reply, opened_request, other_reply, other_request, outputs_reply, reply_of, request_of, rows_reply, slot_request, step_request};
 ghost use Rattle.lus_diagrams.specs.View.{entry_seen, reply_seen, request_seen};
 
-use crate::cutting::cut;
+use crate::cutting::{before_end, cut};
 use crate::items::is_row;
 use crate::names::{is_decimal, is_name, is_number};
+use crate::rows::{are_rows, row_count};
 
-/// What was asked. A step has the text of its inputs, a save and a restore that of the slot.
+/// What was asked. A step has the text of its inputs, a burst that of its rows, a save and a restore that of the slot.
 #[derive(Clone, Copy)]
 pub enum Request<'a> {
     Step(&'a str),
+    Burst(&'a str),
     Reset,
     Save(&'a str),
     Restore(&'a str),
 }
 
-/// What was replied. Outputs have their text, a refusal its own, as `refused shape`.
+/// What was replied. Outputs and a burst's rows have their text, a refusal its own, as `refused shape`.
 #[derive(Clone, Copy)]
 pub enum Reply<'a> {
     Outputs(&'a str),
+    Rows(&'a str),
     Done,
     Refused(&'a str),
 }
@@ -51,6 +54,7 @@ fn agree(request: Request<'_>, reply: Reply<'_>) -> bool
     match (request, reply) {
         (Request::Save(slot), Reply::Done) | (Request::Restore(slot), Reply::Done) => is_slot(slot),
         (Request::Step(_), Reply::Outputs(_)) => true,
+        (Request::Burst(inputs), Reply::Rows(outputs)) => row_count(inputs) == row_count(outputs),
         (Request::Reset, Reply::Done) => true,
         (_, Reply::Refused(_)) => true,
         _ => false,
@@ -65,6 +69,27 @@ fn step_request<'a>(word: &str, rest: &'a str) -> Option<Request<'a>>
         Some(Request::Step(items))
     } else {
         None
+    }
+}
+
+fn burst_request(rest: &str) -> Option<Request<'_>>
+    ensures { option_map request_seen result ≡ burst_request rest.now }
+{
+    let rows = before_end(rest, ") -")?;
+    if are_rows(rows) {
+        Some(Request::Burst(rows))
+    } else {
+        None
+    }
+}
+
+fn opened_request<'a>(word: &str, rest: &'a str) -> Option<Request<'a>>
+    ensures { option_map request_seen result ≡ opened_request word.now rest.now }
+{
+    if word == "burst" {
+        burst_request(rest)
+    } else {
+        step_request(word, rest)
     }
 }
 
@@ -102,7 +127,7 @@ fn read_request(asked: &str) -> Option<Request<'_>>
     ensures { option_map request_seen result ≡ request_of asked.now }
 {
     match cut(asked, '(') {
-        Some((word, rest)) => step_request(word, rest),
+        Some((word, rest)) => opened_request(word, rest),
         None => other_request(asked),
     }
 }
@@ -125,6 +150,27 @@ fn outputs_reply<'a>(front: &str, rest: &'a str) -> Option<Reply<'a>>
     }
 }
 
+fn rows_reply<'a>(front: &str, rest: &'a str) -> Option<Reply<'a>>
+    ensures { option_map reply_seen result ≡ rows_reply front.now rest.now }
+{
+    let rows = before_end(rest, ")")?;
+    if front == " " && are_rows(rows) {
+        Some(Reply::Rows(rows))
+    } else {
+        None
+    }
+}
+
+/// The reply in parentheses, which are rows where a burst was asked.
+fn opened_reply<'a>(request: Request<'_>, front: &str, rest: &'a str) -> Option<Reply<'a>>
+    ensures { option_map reply_seen result ≡ opened_reply (request_seen request.entry) front.now rest.now }
+{
+    match request {
+        Request::Burst(_) => rows_reply(front, rest),
+        _ => outputs_reply(front, rest),
+    }
+}
+
 fn other_reply(told: &str) -> Option<Reply<'_>>
     ensures { option_map reply_seen result ≡ other_reply told.now }
 {
@@ -140,12 +186,12 @@ fn other_reply(told: &str) -> Option<Reply<'_>>
     }
 }
 
-/// The reply of what stands behind the `>` of an entry's line, with the blank at its start.
-fn read_reply(told: &str) -> Option<Reply<'_>>
-    ensures { option_map reply_seen result ≡ reply_of told.now }
+/// The reply to this request of what stands behind the `>` of an entry's line, with the blank at its start.
+fn read_reply<'a>(request: Request<'_>, told: &'a str) -> Option<Reply<'a>>
+    ensures { option_map reply_seen result ≡ reply_of (request_seen request.entry) told.now }
 {
     match cut(told, '(') {
-        Some((front, rest)) => outputs_reply(front, rest),
+        Some((front, rest)) => opened_reply(request, front, rest),
         None => other_reply(told),
     }
 }
@@ -156,7 +202,7 @@ fn read_call<'a>(line: &'a str, caller: &'a str, call: &'a str) -> Option<Entry<
 {
     let (asked, told) = cut(call, '>')?;
     let request = read_request(asked)?;
-    let reply = read_reply(told)?;
+    let reply = read_reply(request, told)?;
     if agree(request, reply) {
         Some(Entry {
             line,

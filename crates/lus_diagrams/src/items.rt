@@ -2,7 +2,7 @@
 
 ghost use Rattle.std.specs.Prelude.{◌≡◌, ◌++◌, ◌+◌, ◌==◌, OnOk, length, map};
 ghost use Rattle.std.specs.List.{list_any, count_by};
-ghost use Rattle.lus_diagrams.specs.Items.{are_items, is_item_byte, is_row, item_count, items_of, place_after, trimmed};
+ghost use Rattle.lus_diagrams.specs.Items.{are_items, is_item_byte, is_row, is_within, item_count, items_of, place_after, trimmed};
 
 use crate::cutting::{cut, parts};
 use crate::names::is_name_byte;
@@ -25,7 +25,7 @@ fn is_item_byte(byte: u8) -> bool
     is_name_byte(byte) || b"-?{; }".contains(&byte)
 }
 
-fn place_after(place: Place, byte: u8) -> Option<Place>
+pub(crate) fn place_after(place: Place, byte: u8) -> Option<Place>
     ensures { result ≡ place_after place byte }
 {
     match place {
@@ -35,6 +35,13 @@ fn place_after(place: Place, byte: u8) -> Option<Place>
         Place::Comma if byte == b' ' => Some(Place::Begins),
         _ => None,
     }
+}
+
+/// Whether an item may end here.
+pub(crate) fn is_within(place: Place) -> bool
+    ensures { result ≡ is_within place }
+{
+    matches!(place, Place::Within)
 }
 
 fn are_items(bytes: &[u8]) -> bool
@@ -47,7 +54,7 @@ fn are_items(bytes: &[u8]) -> bool
             None => return false,
         }
     }
-    matches!(place, Place::Within)
+    is_within(place)
 }
 
 /// Whether a text is items with `, ` between them: none where it is empty.

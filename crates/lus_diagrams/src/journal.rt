@@ -1,12 +1,13 @@
 //! Journals, read line by line.
 
 ghost use Rattle.std.specs.Prelude.{◌≡◌, ◌<◌, ◌^◌, ◌-◌, IfOk, IfErr, Ok, Some, map, option_map};
-ghost use Rattle.lus_diagrams.specs.Journals.{IsFault, IsFaultOf, begun, head_of, is_count, ended, journals_of, arity_of, arity_with, step, with_entry};
-ghost use Rattle.lus_diagrams.specs.View.{entry_seen};
+ghost use Rattle.lus_diagrams.specs.Journals.{IsFault, IsFaultOf, begun, head_of, is_count, ended, journals_of, arity_of, arity_over, arity_with, step, with_entry};
+ghost use Rattle.lus_diagrams.specs.Accepted.{row_seen};
 ghost use Rattle.lus_diagrams.specs.JournalView.{journal_seen, reading};
 
+use crate::accepted::{Row, accepted_rows};
 use crate::cutting::{cut, parts};
-use crate::entry::{Entry, Reply, Request, read_entry};
+use crate::entry::{Entry, read_entry};
 use crate::error::JournalError;
 use crate::items::item_count;
 use crate::names::{is_decimal, is_name};
@@ -53,34 +54,38 @@ fn is_count(count: u64, line: &str) -> bool
     }
 }
 
-/// The arity of an accepted instant.
-fn arity_of(entry: &Entry<'_>) -> Option<Arity>
-    ensures { result ≡ arity_of (entry_seen entry.now) }
+fn arity_of(row: Row<'_>) -> Arity
+    ensures { result ≡ arity_of (row_seen row.entry) }
 {
-    match (entry.request, entry.reply) {
-        (Request::Step(inputs), Reply::Outputs(outputs)) => Some(Arity {
-            inputs: item_count(inputs),
-            outputs: item_count(outputs),
-        }),
-        _ => None,
+    Arity {
+        inputs: item_count(row.inputs),
+        outputs: item_count(row.outputs),
     }
 }
 
-/// The arity of an instance once an entry of this arity follows, if they fit.
-fn arity_with(old: Option<Arity>, new: Option<Arity>) -> Option<Option<Arity>>
+/// The arity of an instance once an instant of this arity follows, if they fit.
+fn arity_with(old: Option<Arity>, new: Arity) -> Option<Arity>
     ensures { result ≡ arity_with old new }
 {
-    match (old, new) {
-        (Some(old), Some(new)) => {
-            if old.inputs == new.inputs && old.outputs == new.outputs {
-                Some(Some(old))
-            } else {
-                None
-            }
-        }
-        (Some(old), None) => Some(Some(old)),
-        (None, new) => Some(new),
+    match old {
+        Some(old) if old.inputs == new.inputs && old.outputs == new.outputs => Some(old),
+        Some(_) => None,
+        None => Some(new),
     }
+}
+
+/// The arity of an instance once these instants follow, if all fit.
+fn arity_over(old: Option<Arity>, rows: &[Row<'_>]) -> Option<Option<Arity>>
+    ensures { result ≡ arity_over old (map row_seen rows.now) }
+{
+    let mut arity = old;
+    for row in rows {
+        match arity_with(arity, arity_of(*row)) {
+            Some(next) => arity = Some(next),
+            None => return None,
+        }
+    }
+    Some(arity)
 }
 
 fn begin<'a>(alloc: Global, number: u64, line: &'a str) -> Result<Journal<'a>, JournalError>
@@ -101,6 +106,7 @@ fn begin<'a>(alloc: Global, number: u64, line: &'a str) -> Result<Journal<'a>, J
 
 /// The journal with the entry of a line.
 fn with_entry<'a>(
+    alloc: Global,
     mut journal: Journal<'a>,
     number: u64,
     line: &'a str,
@@ -111,7 +117,8 @@ fn with_entry<'a>(
     let Some(entry) = read_entry(journal.entries.len() as u64 + 1, line) else {
         return Err(JournalError::Line(number));
     };
-    let Some(arity) = arity_with(journal.arity, arity_of(&entry)) else {
+    let rows = accepted_rows(alloc, &entry)?;
+    let Some(arity) = arity_over(journal.arity, &rows) else {
         return Err(JournalError::Line(number));
     };
     journal.arity = arity;
@@ -137,7 +144,7 @@ fn read_line<'a>(
         whole.push(journal)?;
         return Ok(None);
     }
-    Ok(Some(with_entry(journal, number, line)?))
+    Ok(Some(with_entry(alloc, journal, number, line)?))
 }
 
 /// The journals, where nothing stands behind the last line feed.

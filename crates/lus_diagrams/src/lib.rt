@@ -1,6 +1,7 @@
 //! Diagrams of journals: for each instance a table with a column for each accepted instant, as text or as an SVG picture.
 #![tactic(auto)]
 
+mod accepted;
 mod cutting;
 mod diagram;
 mod entry;
@@ -12,6 +13,7 @@ mod lineage;
 mod names;
 mod picture;
 mod plain;
+mod rows;
 mod shape;
 mod svg;
 mod table;

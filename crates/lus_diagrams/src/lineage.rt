@@ -1,15 +1,17 @@
 //! The number of each instant in its lineage: the instants since a reset, a restore going back to its save's.
 
-ghost use Rattle.std.specs.Prelude.{◌≡◌, ◌<◌, ◌-◌, ◌^◌, ◌+◌, ℕ};
-ghost use Rattle.lus_diagrams.specs.Columns.{head_after, lineage_after, slot_value};
+ghost use Rattle.std.specs.Prelude.{◌≡◌, ◌<◌, ℕ};
+ghost use Rattle.lus_diagrams.specs.Columns.{IsWithin, lineage_behind, mark_between, slot_value};
 ghost use Rattle.lus_diagrams.specs.View.{entry_seen};
 
 use crate::entry::{Entry, Reply, Request};
 
-/// What stands above a column: the number of an instant in its lineage, or what happened between instants.
+/// What stands above a column: the number of an instant in its lineage, or what happened between instants. A burst has the
+/// number of its instants, which follow.
 #[derive(Clone, Copy)]
 pub enum Head {
     Instant(u64),
+    Burst(u64),
     Reset,
     Save(u8),
     Restore(u8),
@@ -33,13 +35,12 @@ fn slot_value(slot: &str) -> u8
     }
 }
 
-/// The head of an accepted entry.
-pub(crate) fn head_after(lineage: &Lineage, entry: &Entry<'_>) -> Option<Head>
-    requires { lineage.now.count < 2 ^ 64 - 1 }
-    ensures { result ≡ head_after lineage.now (entry_seen entry.now) }
+/// The mark that an entry of so many accepted rows leaves.
+pub(crate) fn mark_of(rows: usize, entry: &Entry<'_>) -> Option<Head>
+    ensures { let e = entry_seen entry.now in result ≡ mark_between rows e.request e.reply }
 {
     match (entry.request, entry.reply) {
-        (Request::Step(_), Reply::Outputs(_)) => Some(Head::Instant(lineage.count + 1)),
+        (Request::Burst(_), Reply::Rows(_)) => Some(Head::Burst(rows as u64)),
         (Request::Reset, Reply::Done) => Some(Head::Reset),
         (Request::Save(slot), Reply::Done) => Some(Head::Save(slot_value(slot))),
         (Request::Restore(slot), Reply::Done) => Some(Head::Restore(slot_value(slot))),
@@ -47,13 +48,12 @@ pub(crate) fn head_after(lineage: &Lineage, entry: &Entry<'_>) -> Option<Head>
     }
 }
 
-/// The lineage behind an entry.
-pub(crate) fn lineage_after(mut lineage: Lineage, entry: &Entry<'_>) -> Lineage
-    requires { lineage.count < 2 ^ 64 - 1 }
-    ensures { result ≡ lineage_after lineage (entry_seen entry.now) }
+/// The lineage behind the mark of an entry of so many accepted rows.
+pub(crate) fn lineage_behind(mut lineage: Lineage, rows: usize, entry: &Entry<'_>) -> Lineage
+    ensures gives { let e = entry_seen entry.now in result ≡ lineage_behind lineage (mark_between rows e.request e.reply) }
+    ensures within { (i : ℕ) → IsWithin i lineage → IsWithin i result }
 {
     match (entry.request, entry.reply) {
-        (Request::Step(_), Reply::Outputs(_)) => lineage.count += 1,
         (Request::Reset, Reply::Done) => lineage.count = 0,
         (Request::Save(slot), Reply::Done) => {
             lineage.saved[slot_value(slot) as usize] = lineage.count;

@@ -146,6 +146,7 @@ fn push_column<'d, 'a>(
 {
     let title = column.title.as_str();
     match column.head {
+        Head::Burst(_) => push_mark(shapes, spot, Ink::Burst, title, bottom),
         Head::Reset => push_mark(shapes, spot, Ink::Reset, title, bottom),
         Head::Save(_) => push_mark(shapes, spot, Ink::Save, title, bottom),
         Head::Restore(_) => push_mark(shapes, spot, Ink::Restore, title, bottom),

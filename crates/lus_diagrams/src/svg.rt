@@ -16,8 +16,9 @@ text{font:14px 'DejaVu Sans Mono',Menlo,Consolas,monospace;text-anchor:middle;fi
 .name,.label,.refused{text-anchor:start}.name{font-weight:bold;font-size:16px}.label{fill:#64748b}
 .number{font-size:12px;fill:#94a3b8}.input{fill:#475569}.output{font-weight:bold}.absent{fill:#cbd5e1}
 line{stroke-width:1}.grid{stroke:#eef2f6}.frame{stroke:#cbd5e1}
-line.reset,line.save,line.restore{stroke-dasharray:3 4}
-text.reset,text.save,text.restore{font-size:12px}
+line.burst,line.reset,line.save,line.restore{stroke-dasharray:3 4}
+text.burst,text.reset,text.save,text.restore{font-size:12px}
+rect.burst{fill:#dbeafe}line.burst{stroke:#60a5fa}text.burst{fill:#1d4ed8}
 rect.reset{fill:#fef3c7}line.reset{stroke:#f59e0b}text.reset{fill:#b45309}
 rect.save{fill:#d1fae5}line.save{stroke:#34d399}text.save{fill:#047857}
 rect.restore{fill:#ede9fe}line.restore{stroke:#a78bfa}text.restore{fill:#6d28d9}

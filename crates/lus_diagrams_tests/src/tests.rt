@@ -4,8 +4,8 @@ use lus_diagrams::{Diagram, JournalError, draw, push_svg, push_text, read_journa
 use std::alloc::Global;
 use std::test::Fail;
 
-/// A gate, a delay that is reset by its own input, and a sum with saves, restores, a reset and refused calls.
-const JOURNALS: [(&str, &str); 5] = [
+/// A gate, a delay that is reset by its own input, a sum with saves, restores, a reset and refused calls, and bursts.
+const JOURNALS: [(&str, &str); 7] = [
     (
         "instance k e\n1 a step(false) -> (0)\n2 a step(false) -> (1)\n3 a step(true) -> (0)\n4 a step(false) -> (1)\nentries 4\n",
         "instance k e\n
@@ -53,6 +53,23 @@ output 2       3\n
 2 a step(5) -> refused shape
 ",
     ),
+    (
+        "instance k s\n1 a step(1) -> (1)\n2 a save 0 -> done\n3 a burst((2), (3)) -> ((3), (6))\n4 a burst((4), (true)) -> refused shape\n5 a burst() -> ()\n6 a step(4) -> (10)\n7 a restore 0 -> done\n8 a burst((5)) -> ((6))\nentries 8\n",
+        "instance k s\n
+instant   1  save 0  burst 2  2  3  burst 0   4  restore 0  burst 1  2
+input 1   1       |        |  2  3        |   4          |        |  5
+output 1  1       |        |  3  6        |  10          |        |  6\n
+4 a burst((4), (true)) -> refused shape
+",
+    ),
+    (
+        "instance k u\n1 a burst((), ()) -> ((0, 1), (1, 2))\nentries 1\n",
+        "instance k u\n
+instant   burst 2  1  2
+output 1        |  0  1
+output 2        |  1  2
+",
+    ),
 ];
 
 fn text_of(alloc: Global, journal: &str) -> Option<String> {
@@ -98,7 +115,7 @@ fn a_picture_has_the_words_of_its_table(rt: HostRuntime) -> Result<(), Fail> {
 }
 
 /// Texts, and the number of their first line that is none of a journal there.
-const MISTAKEN: [(&str, u64); 10] = [
+const MISTAKEN: [(&str, u64); 16] = [
     ("entries 0\n", 1),
     ("instance k\n", 1),
     ("instance k m", 1),
@@ -115,6 +132,15 @@ const MISTAKEN: [(&str, u64); 10] = [
         3,
     ),
     ("instance k m\n1 a save 8 -> done\nentries 1\n", 2),
+    ("instance k m\n1 a burst((1), (2)) -> ((1))\nentries 1\n", 2),
+    ("instance k m\n1 a burst((1)) -> (1)\nentries 1\n", 2),
+    ("instance k m\n1 a step(1) -> ((1))\nentries 1\n", 2),
+    ("instance k m\n1 a burst((1),(2)) -> ((1), (2))\nentries 1\n", 2),
+    ("instance k m\n1 a burst((1)) -> done\nentries 1\n", 2),
+    (
+        "instance k m\n1 a burst((1), (2, 3)) -> ((1), (2))\nentries 1\n",
+        2,
+    ),
 ];
 
 fn first_mistake(alloc: Global, text: &str) -> u64 {
