@@ -1,4 +1,5 @@
 pub mod Sources
 pub mod ScriptErrors
 pub mod Histories
+pub mod Headlines
 pub use Rattle.lus_callers.proofs.SharedProofs as SharedProofs
