@@ -17,10 +17,10 @@ use Rattle.lus_meaning.specs.Resolved.{EquationFits, NodeResolved, Resolved, kin
 use Rattle.lus_meaning.specs.Sound.{IsLimited}
 use Rattle.lus_resolution.proofs.Options.{map_gives}
 use Rattle.lus_resolution.proofs.Typed.{fits_given}
-use Rattle.lus_normal.specs.NormalNodesSpecs.Forms.{added_equations, equations_count, normal_equations, right_count, right_form, right_out}
-use Rattle.lus_normal.specs.NormalNodesSpecs.Parts.{equations_taken, node_taken, right_taken}
-use Rattle.lus_normal.proofs.NormalNodesProofs.Counted.{taken_length}
-use Rattle.lus_normal.proofs.NormalNodesProofs.NewAreFew.{new_are_few}
+use Rattle.lus_normal_form.specs.Forms.{added_equations, equations_count, normal_equations, right_count, right_form, right_out}
+use Rattle.lus_normal_form.specs.Parts.{equations_taken, node_taken, right_taken}
+use Rattle.lus_normal_form.proofs.Counted.{taken_length}
+use Rattle.lus_normal_form.proofs.NewAreFew.{new_are_few}
 use Rattle.lus_normal.specs.Laws.{AreMadeOf, IsMadeOf, IsNormalProgram}
 use Rattle.lus_normal.specs.View.{equations_seen}
 use Rattle.lus_turns.specs.Turned.{HasOneLeft, HaveOneLeft}

@@ -31,18 +31,12 @@ abbrev called_keep : Program → (ℕ → ℕ) → List Part → ℕ
 called_keep p counts es = sum_by (λ s. counts s.node) (sites_in p es)
 
 first_keeps : (p : Program) (counts : ℕ → ℕ) (e : Part) (ss : List Site) → sum_by (λ s. counts s.node) (site_first p e ss) ≡ sum_by (λ s. counts s.node) (site_first p e []) + sum_by (λ s. counts s.node) ss
-first_keeps p counts (at k (literal v)) ss = omega arith
-first_keeps p counts (at k (variable x)) ss = omega arith
-first_keeps p counts (at k (operate o es)) ss = omega arith
-first_keeps p counts (at k (pre a)) ss = omega arith
-first_keeps p counts (at k (arrow a b)) ss = omega arith
-first_keeps p counts (at k (when t a)) ss = omega arith
-first_keeps p counts (at k (merge x bs)) ss = omega arith
 first_keeps p counts (at k (call g c args)) ss =
     let s : Site = record { node = g; number = c; args = args; base = base_of (node_at p g) k } in
     let one = sum_by-cons (λ (t : Site). counts t.node) s ss in
     let alone = sum_by-cons (λ (t : Site). counts t.node) s [] in
     omega (arith, one, alone)
+first_keeps p counts (at k e) ss = omega arith
 
 called_append : (p : Program) (counts : ℕ → ℕ) (es ds : List Part) → called_keep p counts (es ++ ds) ≡ called_keep p counts es + called_keep p counts ds
 called_append p counts [] ds = omega arith

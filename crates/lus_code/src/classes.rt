@@ -3,7 +3,7 @@
 ghost use Rattle.std.specs.Prelude.{◌≡◌, ℕ, List, length, map, IfOk};
 ghost use Rattle.lus_program.specs.View.{program_seen};
 ghost use Rattle.lus_classes.specs.ClassesOf.{AreClassesOf};
-ghost use Rattle.lus_normal.specs.NormalNodesSpecs.Ready.{AreReady as NodesAreReady};
+ghost use Rattle.lus_normal_form.specs.Ready.{AreReady as NodesAreReady};
 ghost use Rattle.lus_order.specs.Orders.{AreOrders};
 ghost use Rattle.lus_flat_classes.specs.Turns.{AreReady};
 ghost use Rattle.lus_flat_classes.specs.View.{classes_of};

@@ -11,9 +11,9 @@ use Rattle.lus_program.specs.Programs.{calls, Node, Program}
 use Rattle.lus_program.specs.View.{expression_of, equations_from, node_of, program_seen}
 use Rattle.lus_meaning.specs.Resolved.{NodeResolved, Resolved}
 use Rattle.lus_meaning.specs.Sound.{IsLimited}
-use Rattle.lus_normal_nodes.specs.Forms.{equations_count}
-use Rattle.lus_normal_nodes.proofs.NewAreFew.{new_are_few}
-use Rattle.lus_normal_nodes.proofs.Numbers.{right_count_numbered}
+use Rattle.lus_normal_form.specs.Forms.{equations_count}
+use Rattle.lus_normal_form.proofs.NewAreFew.{new_are_few}
+use Rattle.lus_normal_form.proofs.Numbers.{right_count_numbered}
 use Rattle.lus_normal.specs.Laws.{equations_take}
 use Rattle.lus_normal.specs.Numbers.{AllFit}
 use Rattle.lus_normal.specs.View.{equations_seen}

@@ -8,10 +8,10 @@ use Rattle.lus_meaning.specs.Resolved.{Resolved}
 use Rattle.lus_meaning.specs.Sound.{IsLimited}
 use Rattle.lus_streams.specs.Equations.{equation_clock}
 use Rattle.lus_streams.proofs.Lists.{each_item, each_of_items}
-use Rattle.lus_normal_nodes.specs.Forms.{equations_count}
-use Rattle.lus_normal_nodes.specs.Parts.{equations_taken, right_taken}
-use Rattle.lus_normal_nodes.proofs.Counted.{taken_length}
-use Rattle.lus_normal_nodes.proofs.NewAreFew.{new_are_few}
+use Rattle.lus_normal_form.specs.Forms.{equations_count}
+use Rattle.lus_normal_form.specs.Parts.{equations_taken, right_taken}
+use Rattle.lus_normal_form.proofs.Counted.{taken_length}
+use Rattle.lus_normal_form.proofs.NewAreFew.{new_are_few}
 use Rattle.lus_order.specs.Orders.{IsNarrow}
 use Rattle.lus_normal.specs.Laws.{IsNormalProgram}
 use Rattle.lus_normal.proofs.Limited.{each_within_sum}

@@ -14,14 +14,14 @@ use Rattle.lus_clocks.specs.Fitting.{clock_from, base_test, name_of, names_in, r
 use Rattle.lus_clocks.proofs.NewestTests.{clock_is, without_tests_is}
 use Rattle.lus_clocks.proofs.CallClocks.{Named, formal_is}
 use Rattle.lus_normal_form.proofs.OneTest.{call_clock}
-use Rattle.lus_normal_nodes.specs.Forms.{Position, Inside, Operand, is_taken}
-use Rattle.lus_normal_nodes.specs.Nodes.{part_test}
-use Rattle.lus_normal_nodes.specs.Parts.{branch_clock, right_taken, operands_taken, taken, equations_taken}
-use Rattle.lus_normal_nodes.proofs.Counted.{map_append}
-use Rattle.lus_normal_nodes.proofs.OperandParts.{parts_on, operands_on, branches_on, arguments_on}
+use Rattle.lus_normal_form.specs.Forms.{Position, Inside, Operand, is_taken}
+use Rattle.lus_normal_form.specs.Nodes.{part_test}
+use Rattle.lus_normal_form.specs.Parts.{branch_clock, right_taken, operands_taken, taken, equations_taken}
+use Rattle.lus_normal_form.proofs.Counted.{map_append}
+use Rattle.lus_normal_form.proofs.OperandParts.{parts_on, operands_on, branches_on, arguments_on}
 use Rattle.lus_normal.specs.Forms.{Taken, branch_test, argument_test, right_takes, operands_takes, takes}
 use Rattle.lus_normal.specs.Laws.{TestsAreNewest, equations_take}
-use Rattle.lus_normal_nodes.specs.Ready.{Declared}
+use Rattle.lus_normal_form.specs.Ready.{Declared}
 use Rattle.lus_normal.proofs.TakesNumbered.{right_tests, tests}
 
 actuals_none : (args : Operands) → actuals args [] ≡ args

@@ -21,7 +21,7 @@ use Rattle.lus_meaning.specs.Resolved.{EquationFits, VariableFits, kind_in, kind
 use Rattle.lus_resolution.proofs.Numbering.{given-numbered}
 use Rattle.lus_resolution.proofs.Options.{and_then_gives, map_gives, where_true_gives}
 use Rattle.lus_resolution.proofs.Typed.{HasKind, HaveKinds, operate_typed, both_typed, when_typed, merge_typed, call_typed, more_typed, whole_call, whole_typed, fits_given}
-use Rattle.lus_normal_nodes.specs.Forms.{Position, Inside, Operand, is_taken}
+use Rattle.lus_normal_form.specs.Forms.{Position, Inside, Operand, is_taken}
 use Rattle.lus_normal.specs.Forms.{Taken, branch_test, argument_test, right_takes, operands_takes, takes}
 use Rattle.lus_normal.specs.Laws.{equations_take}
 use Rattle.lus_meaning.specs.Sound.{IsLimited}

@@ -13,11 +13,11 @@ use Rattle.lus_meaning.specs.Resolved.{kind_in, Resolved}
 use Rattle.lus_streams.specs.Order.{IsCausal}
 use Rattle.lus_normal_form.specs.Laws.{KeepsWorlds}
 use Rattle.lus_normal_form.specs.NormalNodes.{IsNormalOf}
-use Rattle.lus_normal_nodes.specs.Needs.{NeedsVariables}
-use Rattle.lus_normal_nodes.specs.Forms.{normal_equations}
-use Rattle.lus_normal_nodes.specs.Nodes.{IsMadeFrom, part_test}
-use Rattle.lus_normal_nodes.specs.Parts.{node_taken}
-use Rattle.lus_normal_nodes.specs.Ready.{AreReady}
+use Rattle.lus_normal_form.specs.Needs.{NeedsVariables}
+use Rattle.lus_normal_form.specs.Forms.{normal_equations}
+use Rattle.lus_normal_form.specs.Nodes.{IsMadeFrom, part_test}
+use Rattle.lus_normal_form.specs.Parts.{node_taken}
+use Rattle.lus_normal_form.specs.Ready.{AreReady}
 use Rattle.lus_normal.specs.Forms.{Taken, right_takes}
 use Rattle.lus_normal.specs.View.{all_taken_seen, equations_seen}
 

@@ -12,8 +12,8 @@ use Rattle.lus_streams.specs.OnClock.{actuals, test_of}
 use Rattle.lus_clocks.specs.declared.clock.NewestTest.{NewestTest}
 use Rattle.lus_clocks.specs.Fitting.{names_in}
 use Rattle.lus_clocks.specs.View.{clock_in}
-use Rattle.lus_normal_nodes.specs.Forms.{Position, right_count, operands_count, size, form, right_form, right_out, operands_out, out}
-use Rattle.lus_normal_nodes.specs.Forms.{added_equations, equations_count, normal_equations}
+use Rattle.lus_normal_form.specs.Forms.{Position, right_count, operands_count, size, form, right_form, right_out, operands_out, out}
+use Rattle.lus_normal_form.specs.Forms.{added_equations, equations_count, normal_equations}
 use Rattle.lus_normal.specs.declared.taking.Taking.{Taking}
 use Rattle.lus_normal.specs.Forms.{Taken, argument_test, right_takes, operands_takes, takes}
 use Rattle.lus_normal.specs.Laws.{equations_take}

@@ -18,4 +18,25 @@ pub mod OneCall
 pub mod CallsOnClock
 pub mod PartsOnClock
 pub mod NormalOnClocks
+pub mod Runs
+pub mod Counted
+pub mod OperandParts
+pub mod RightsNormal
+pub mod Sites
+pub mod TakenWithin
+pub mod Memories
+pub mod Targets
+pub mod SimpleForms
+pub mod HaveFormals
+pub mod MadeNodes
+pub mod Numbers
+pub mod NeedsKnown
+pub mod LeftsDefined
+pub mod CallsKept
+pub mod NamesKept
+pub mod OutputsKept
+pub mod NormalNamed
+pub mod MadeReady
+pub mod NewAreFew
 mod Examples
+mod ComputedExamples

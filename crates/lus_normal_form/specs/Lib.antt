@@ -2,3 +2,10 @@ pub mod NormalForm
 pub mod Named
 pub mod NormalNodes
 pub mod Laws
+pub mod Forms
+pub mod Parts
+pub mod Nodes
+pub mod Numbers
+pub mod Needs
+pub mod Computed
+pub mod Ready

@@ -15,8 +15,8 @@ use Rattle.lus_classes.specs.Classes.{Call, Class}
 use Rattle.lus_classes.specs.ClassesOf.{AreArguments, Linked, IsCall, AreCalls}
 use Rattle.lus_normal_form.specs.NormalForm.{IsAtom, AreAtoms, IsSimple, AreSimple, IsSimpleRight}
 use Rattle.lus_normal_form.specs.Named.{Known, GivesOutput, Uses, Numbered}
-use Rattle.lus_normal_nodes.specs.Laws.{HaveFormals}
-use Rattle.lus_normal_nodes.specs.Ready.{Declared, HasArguments, RightHasFormals, operand_size}
+use Rattle.lus_normal_form.specs.Computed.{HaveFormals}
+use Rattle.lus_normal_form.specs.Ready.{Declared, HasArguments, RightHasFormals, operand_size}
 use Rattle.lus_translation.specs.Forms.{arguments_form, call_form, call_first, calls_form}
 use Rattle.lus_translation.specs.Laws.{IsFittingCall, IsFittingRight, CallsBelong, ReadyRightsFit, AllCallsBelong}
 use Rattle.lus_translation.proofs.Codes.{On, Used, atom_same, atom_on}

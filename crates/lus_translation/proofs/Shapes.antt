@@ -14,7 +14,7 @@ use Rattle.lus_clocks.proofs.NewestTests.{clock_tail}
 use Rattle.lus_classes.specs.Classes.{Memory, Class}
 use Rattle.lus_classes.specs.ClassesOf.{AtomOn}
 use Rattle.lus_normal_form.specs.NormalForm.{IsAtom, IsSimple, AreSimple}
-use Rattle.lus_normal_nodes.specs.Ready.{Declared}
+use Rattle.lus_normal_form.specs.Ready.{Declared}
 use Rattle.lus_translation.specs.Forms.{Turn, all_cells, all_clocks, cells_at, class_form, equation_cells, given_cells, turn_cells, kept_cells, all_kept_cells, branch_cells, numbers_form}
 use Rattle.lus_translation.specs.Laws.{IsFittingRight, ClassesHaveShape}
 use Rattle.lus_translation.proofs.Codes.{On, Used, atom_on}

@@ -12,8 +12,8 @@ use Rattle.lus_classes.specs.Classes.{Class, clock_in}
 use Rattle.lus_classes.specs.ClassesOf.{AtomOn, IsCode, IsCall, AreCalls}
 use Rattle.lus_normal_form.specs.NormalForm.{AreAtoms, IsSimple}
 use Rattle.lus_normal_form.specs.Named.{Known, GivesOutput, Uses}
-use Rattle.lus_normal_nodes.specs.Laws.{HaveFormals}
-use Rattle.lus_normal_nodes.specs.Ready.{Declared, IsReady, operand_size}
+use Rattle.lus_normal_form.specs.Computed.{HaveFormals}
+use Rattle.lus_normal_form.specs.Ready.{Declared, IsReady, operand_size}
 use Rattle.lus_flat_classes.specs.declared.class.Class.{Class as StoredClass}
 use Rattle.lus_flat_classes.specs.View.{class_of}
 use Rattle.lus_translation.specs.Newest.{HasNewest}

@@ -4,7 +4,7 @@ use Rattle.std.proofs.lemmas.List.{length-map}
 use Rattle.std.proofs.lemmas.Option.{slice_get_within}
 use Rattle.lus_values.specs.Lists.{item, Each}
 use Rattle.lus_program.specs.declared.node.Equation.{Equation as StoredEquation}
-use Rattle.lus_program.specs.Programs.{Expression, literal, variable, when, call, Operands, Node, Program, node_at, empty_node, numbered, all_numbered}
+use Rattle.lus_program.specs.Programs.{Expression, literal, when, call, Operands, Node, Program, node_at, empty_node, numbered, all_numbered}
 use Rattle.lus_program.specs.View.{equations_from}
 use Rattle.lus_streams.specs.Clocks.{Clock}
 use Rattle.lus_streams.specs.Equations.{Definition, given_by, definition_of, equation_clock, Site, sites}
@@ -13,8 +13,8 @@ use Rattle.lus_program.specs.declared.expr.Test.{Test}
 use Rattle.lus_classes.specs.Classes.{Atom, constant, named, Class, answer, Step, Call}
 use Rattle.lus_classes.specs.ClassesOf.{IsClassOf, IsCode, IsCovered, IsSource, IsStep, AreCalls, InTurn, atom_code}
 use Rattle.lus_normal_form.specs.NormalForm.{IsSimpleRight}
-use Rattle.lus_translation.specs.NormalNodesSpecs.Ready.{IsReady}
-use Rattle.lus_flat_classes.specs.declared.formula.Formula.{Formula, Fixed, Fetch, Compute', Recall, Choose', Select'}
+use Rattle.lus_normal_form.specs.Ready.{IsReady}
+use Rattle.lus_flat_classes.specs.declared.formula.Formula.{Formula, Fixed}
 use Rattle.lus_flat_classes.specs.declared.class.Call.{Call as StoredCall}
 use Rattle.lus_flat_classes.specs.declared.class.Class.{Class as StoredClass}
 use Rattle.lus_flat_classes.specs.declared.class.Target.{Target}
@@ -84,11 +84,7 @@ answering_append n (s ∷ ss) rs h = ⊎_elim (λ here. inl (inl here)) (λ rest
 
 stored_asks : (d : Formula) (n m : ℕ) → code_of d ≡ answer n m → ⊥
 stored_asks (Fixed v) n m e = cc
-stored_asks (Fetch x) n m e = cc
-stored_asks (Compute' o shape ds) n m e = cc
-stored_asks (Recall j) n m e = cc
-stored_asks (Choose' j q a r b) n m e = cc
-stored_asks (Select' x shape ds) n m e = cc
+stored_asks d n m e = cc
 
 taken_answers : (n k : ℕ) (us : List Target) → IsAnswering n (map (taken k) us) → n ≡ k
 taken_answers n k [] h = absurd h

@@ -15,7 +15,7 @@ use Rattle.lus_classes.specs.ClassesOf.{IsTarget, IsStep, IsCovered}
 use Rattle.lus_normal_form.specs.NormalForm.{IsSimpleRight}
 use Rattle.lus_normal_form.specs.Named.{DefinesFirst, DefinitionFits}
 use Rattle.lus_translation.specs.Forms.{Turn, calls_form, class_form, numbers_form, steps_at, cells_at, firsts_at, all_steps, all_cells, all_firsts, equation_steps, equation_cells, equation_firsts}
-use Rattle.lus_translation.specs.NormalNodesSpecs.Ready.{IsReady}
+use Rattle.lus_normal_form.specs.Ready.{IsReady}
 use Rattle.lus_translation.specs.Laws.{HasFrom, IsFittingRight}
 use Rattle.lus_translation.specs.Orders.{Follow, IsTurn, in_turn}
 use Rattle.lus_translation.proofs.FittingCalls.{ready_rights_fit}
@@ -23,7 +23,7 @@ use Rattle.lus_translation.proofs.From.{from_left, from_right}
 use Rattle.lus_translation.proofs.Numbered.{stored_calls, calls_stored}
 use Rattle.lus_translation.proofs.Shapes.{classes_have_shape}
 use Rattle.lus_translation.proofs.Followers.{followers_are_in_turn, followers_give_all}
-use Rattle.lus_translation.specs.NormalNodesSpecs.Ready.{IsDefined, DefinesLeft, HasOutputs}
+use Rattle.lus_normal_form.specs.Ready.{IsDefined, DefinesLeft, HasOutputs}
 use Rattle.lus_turns.specs.Laws.{ClassesBelong}
 use Rattle.lus_turns.proofs.CallNumbers.{calls_before, call_found, number_at}
 use Rattle.lus_turns.proofs.StoredEquations.{each_slice, slice_within, numbered_equation, stored_at}

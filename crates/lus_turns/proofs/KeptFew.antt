@@ -6,13 +6,13 @@ use Rattle.std.proofs.lemmas.List.{length-map}
 use Rattle.std.proofs.lemmas.List.Sums.{sum_by-append, sum_by-cons}
 use Rattle.lus_values.specs.Lists.{item, Each}
 use Rattle.lus_program.specs.declared.node.Equation.{Equation as StoredEquation}
-use Rattle.lus_program.specs.Programs.{Expression, literal, variable, operate, arrow, merge, call, Operands, none, more, calls, numbered, all_numbered, Equation, Node, Program}
+use Rattle.lus_program.specs.Programs.{Expression, literal, operate, arrow, merge, call, Operands, none, more, calls, numbered, all_numbered, Equation, Node, Program}
 use Rattle.lus_program.specs.View.{expression_of, equations_from}
 use Rattle.lus_streams.specs.Clocks.{Clock, clock_of}
 use Rattle.lus_streams.specs.Equations.{Definition, given_by, definition_in, definition_of, equation_clock, place_in}
 use Rattle.lus_normal_form.specs.NormalNodes.{memories, all_memories, firsts, all_firsts, count_rights}
 use Rattle.lus_normal_form.specs.NormalForm.{IsSimpleRight}
-use Rattle.lus_translation.specs.NormalNodesSpecs.Ready.{IsReady}
+use Rattle.lus_normal_form.specs.Ready.{IsReady}
 use Rattle.lus_translation.specs.Forms.{kept_cells, all_kept_cells, branch_cells, kept_firsts, all_kept_firsts, branch_firsts, given_cells, given_firsts, turn_cells, turn_firsts, equation_cells, equation_firsts, Turn, cells_at, firsts_at, all_cells, all_firsts as firsts_in_all, numbers_form}
 use Rattle.lus_translation.specs.Orders.{InOrder, IsGivenBy, IsTurn, AreTurns, in_turn}
 use Rattle.lus_flat_classes.specs.declared.class.Class.{Class as StoredClass}

@@ -12,10 +12,10 @@ use Rattle.lus_graph.specs.Ways.{IsDistinct}
 use Rattle.lus_order.specs.Orders.{OrdersVariables}
 use Rattle.lus_order.specs.Uses.{definer}
 use Rattle.lus_translation.specs.Forms.{Turn}
-use Rattle.lus_translation.specs.NormalNodesSpecs.Ready.{IsReady}
+use Rattle.lus_normal_form.specs.Ready.{IsReady}
 use Rattle.lus_translation.specs.Orders.{AreTurns}
 use Rattle.lus_turns.specs.Adding.{add_at, placed_at}
-use Rattle.lus_translation.specs.NormalNodesSpecs.Ready.{IsDefined}
+use Rattle.lus_normal_form.specs.Ready.{IsDefined}
 use Rattle.lus_turns.proofs.Finding.{add_found}
 use Rattle.lus_turns.proofs.Insertion.{Fresh, in_cases, or_true}
 use Rattle.lus_turns.proofs.Underway.{Underway, definer_within, in_all, input_next, variable_next}

@@ -9,7 +9,7 @@ use Rattle.lus_streams.specs.OnClock.{IsName, actuals, variables}
 use Rattle.lus_clocks.proofs.NewestTests.{clock_tail}
 use Rattle.lus_classes.specs.Classes.{Argument, Call, Class, answer, named}
 use Rattle.lus_classes.specs.ClassesOf.{IsAnswer, Meets, Matches}
-use Rattle.lus_translation.specs.NormalNodesSpecs.Ready.{Declared, operand_size}
+use Rattle.lus_normal_form.specs.Ready.{Declared, operand_size}
 use Rattle.lus_translation.specs.Forms.{atom_form, arguments_form, call_form}
 use Rattle.lus_translation.specs.Laws.{IsFittingCall}
 use Rattle.lus_translation.proofs.FittingCalls.{calls_belong, input_tested}

@@ -18,7 +18,7 @@ use Rattle.lus_translation.specs.Orders.{Follow, IsGivenBy, right_reads}
 use Rattle.lus_translation.proofs.Followers.{IsGivenOf, given_follow, given_are_steps, self_in}
 use Rattle.lus_translation.proofs.Numbered.{call_numbered}
 use Rattle.lus_translation.proofs.Shapes.{simple_numbered}
-use Rattle.lus_translation.specs.NormalNodesSpecs.Ready.{DefinesLeft, HasOutputs}
+use Rattle.lus_normal_form.specs.Ready.{DefinesLeft, HasOutputs}
 use Rattle.lus_turns.proofs.Results.{answer_is}
 use Rattle.lus_turns.proofs.StoredEquations.{slice_within}
 

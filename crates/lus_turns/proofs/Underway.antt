@@ -12,10 +12,10 @@ use Rattle.lus_streams.specs.Order.{clock_variables, is_in, needed, needs_right}
 use Rattle.lus_streams.proofs.Lists.{each_left, each_right, each_append, each_implies}
 use Rattle.lus_order.specs.Uses.{definer}
 use Rattle.lus_translation.specs.Forms.{Turn}
-use Rattle.lus_translation.specs.NormalNodesSpecs.Ready.{IsReady}
+use Rattle.lus_normal_form.specs.Ready.{IsReady}
 use Rattle.lus_translation.specs.Orders.{InOrder, IsGivenBy, IsTurn, in_turn, right_reads}
 use Rattle.lus_turns.specs.Adding.{add_to, placed_at}
-use Rattle.lus_translation.specs.NormalNodesSpecs.Ready.{DefinesLeft, IsDefined}
+use Rattle.lus_normal_form.specs.Ready.{DefinesLeft, IsDefined}
 use Rattle.lus_turns.proofs.Classes.{defined_past}
 use Rattle.lus_turns.proofs.Defining.{definer_defines, definer_first, standing}
 use Rattle.lus_turns.proofs.Finding.{ArePlaces, places_kept, same_length}

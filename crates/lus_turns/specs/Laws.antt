@@ -5,7 +5,7 @@ use Rattle.lus_program.specs.Programs.{Node, Program}
 use Rattle.lus_program.specs.View.{equations_from}
 use Rattle.lus_classes.specs.ClassesOf.{IsClassOf}
 use Rattle.lus_translation.specs.Forms.{Turn, class_form, numbers_form}
-use Rattle.lus_translation.specs.NormalNodesSpecs.Ready.{IsReady, IsDefined}
+use Rattle.lus_normal_form.specs.Ready.{IsReady, IsDefined}
 use Rattle.lus_translation.specs.Orders.{AreTurns}
 
 -- the class whose equations have turns in a causal order belongs to the node

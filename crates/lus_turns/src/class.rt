@@ -4,8 +4,8 @@ ghost use Rattle.std.specs.Prelude.{IfOk};
 ghost use Rattle.lus_program.specs.View.{node_of, program_seen};
 ghost use Rattle.lus_order.specs.Orders.{OrdersVariables};
 ghost use Rattle.lus_turns.specs.Turned.{IsTurned};
-ghost use Rattle.lus_translation.specs.NormalNodesSpecs.Ready.{IsReady};
-ghost use Rattle.lus_translation.specs.NormalNodesSpecs.Ready.{IsDefined};
+ghost use Rattle.lus_normal_form.specs.Ready.{IsReady};
+ghost use Rattle.lus_normal_form.specs.Ready.{IsDefined};
 
 use crate::turns::turns_of;
 use lus_flat_classes::Class;

@@ -3,11 +3,11 @@
 ghost use Rattle.std.specs.Prelude.{IfOk, OnOk, length, map};
 ghost use Rattle.lus_program.specs.View.{node_of, program_seen};
 ghost use Rattle.lus_order.specs.Orders.{OrdersVariables};
-ghost use Rattle.lus_translation.specs.NormalNodesSpecs.Ready.{IsReady};
+ghost use Rattle.lus_normal_form.specs.Ready.{IsReady};
 ghost use Rattle.lus_translation.specs.Orders.{AreTurns};
 ghost use Rattle.lus_translation.specs.View.{turn_of as turn_in};
 ghost use Rattle.lus_turns.specs.Adding.{PlacesAdded, TurnsAdded};
-ghost use Rattle.lus_translation.specs.NormalNodesSpecs.Ready.{IsDefined};
+ghost use Rattle.lus_normal_form.specs.Ready.{IsDefined};
 
 use lus_order::definers_of;
 use lus_program::{Node, Program};

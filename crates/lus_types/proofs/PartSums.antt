@@ -5,20 +5,14 @@ use Rattle.std.proofs.lemmas.List.Sums.{sum_by-cons, sum_by_more, sum_by_more_le
 use Rattle.lus_program.specs.declared.expr.Expr.{Expr}
 use Rattle.lus_program.specs.declared.node.Node.{Node as StoredNode}
 use Rattle.lus_program.specs.declared.node.Program.{Program as StoredProgram}
-use Rattle.lus_program.specs.Programs.{Expression, literal, variable, operate, pre, arrow, when, merge, call}
+use Rattle.lus_program.specs.Programs.{Expression, literal}
 use Rattle.lus_program.specs.Parts.{parts, parts_all, node_parts, program_parts}
 use Rattle.lus_program.specs.View.{expression_of, operands_of, node_of, program_seen}
 use Rattle.lus_program.proofs.Parts.{parts-equations_from}
 
 pub parts_some : (e : Expression) → 0 < parts e
 parts_some (literal v) = omega arith
-parts_some (variable x) = omega arith
-parts_some (operate o es) = omega arith
-parts_some (pre a) = omega arith
-parts_some (arrow a b) = omega arith
-parts_some (when t a) = omega arith
-parts_some (merge x bs) = omega arith
-parts_some (call g c es) = omega arith
+parts_some e = omega arith
 
 module _ {X : Type 0} (f : X → ℕ) (xs : List X) (i left most : ℕ) where
   -- the next item has more than is left

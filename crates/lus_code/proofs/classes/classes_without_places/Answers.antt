@@ -3,7 +3,7 @@ use Rattle.std.proofs.lemmas.List.{get_or-map, length-map}
 use Rattle.lus_values.specs.Lists.{item}
 use Rattle.lus_program.specs.Programs.{node_at}
 use Rattle.lus_program.specs.View.{node_of, program_seen}
-use Rattle.lus_normal.specs.NormalNodesSpecs.Ready.{IsDefined, IsReady}
+use Rattle.lus_normal_form.specs.Ready.{IsDefined, IsReady}
 use Rattle.lus_order.specs.Orders.{OrdersVariables}
 use Rattle.lus_order.proofs.Nodes.{node_here}
 use Rattle.lus_turns.specs.Turned.{IsTurned}

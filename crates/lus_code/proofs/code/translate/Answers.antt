@@ -2,7 +2,7 @@ use Rattle.std.proofs.Common.{◌≡◌, ◌≤◌, ◌∙◌, sym, ap, subst, a
 use Rattle.std.proofs.lemmas.List.{length-map}
 use Rattle.lus_program.specs.Programs.{node_at}
 use Rattle.lus_program.specs.View.{node_of, program_seen}
-use Rattle.lus_normal.specs.NormalNodesSpecs.Parts.{node_taken}
+use Rattle.lus_normal_form.specs.Parts.{node_taken}
 use Rattle.lus_syntax.specs.Limits.{most_cells}
 use Rattle.lus_streams.proofs.Lists.{each_item}
 use Rattle.lus_cells.specs.Cells.{AreStateCells, HaveLeaves}

@@ -1,0 +1,133 @@
+-- What the variables of a normal form need are its variables.
+use Rattle.std.proofs.Common.{◌≡◌, sym, subst, ℕ, suc, ◌<◌, ◌≤◌, List, [], ◌∷◌, ◌++◌, drop, length, Option, Some, None, arith, ⊎_elim}
+use Rattle.std.proofs.lemmas.Bool.{cases_lt}
+use Rattle.lus_values.specs.Lists.{Each}
+use Rattle.lus_values.proofs.Lists.{below_all}
+use Rattle.lus_program.specs.Programs.{Expression, literal, variable, operate, pre, arrow, when, merge, call, Operands, none, more, Node, Program, node_at}
+use Rattle.lus_streams.specs.Clocks.{Clock, clock_of, Part, formal_clock, base_of, parts, operand_parts, branch_parts, argument_parts}
+use Rattle.lus_streams.specs.Equations.{Definition, given_by, definition_of, node_parts}
+use Rattle.lus_streams.specs.Order.{needs, needs_all, needs_right, needed, clock_variables}
+use Rattle.lus_streams.proofs.Lists.{each_append, each_implies, each_left, each_right, below_at}
+use Rattle.lus_normal_form.specs.NormalForm.{StandsFor, IsOperand, IsNormal, AreNormal, AreBranches, AreArguments, IsRight}
+use Rattle.lus_normal_form.specs.NormalNodes.{DefinesNew, IsDefinition, IsNormalNode, IsWithin}
+use Rattle.lus_normal_form.specs.Named.{GivesOutput, IsNamed, Known, Uses}
+use Rattle.lus_normal_form.proofs.Equations.{RightParts, each_within, right_parts}
+use Rattle.lus_normal_form.proofs.Faults.{first_part}
+use Rattle.lus_normal_form.proofs.NewParts.{new_at, new_fact, new_part, stands_before}
+use Rattle.lus_normal_form.specs.Needs.{NormalNeedsVariables}
+
+module _ (p : Program) (f : Node) (u : ℕ) (New : ℕ → Clock → Expression → Type 0) (old : (x : ℕ) → Known f x → x < u) (new : (y : ℕ) (k : Clock) (a : Expression) → New y k a → y < u) where
+  abbrev B : List ℕ → Type 0
+  B = Each (λ y. y < u)
+
+  abbrev U : Part → Type 0
+  U = Uses (Known f) (GivesOutput p f)
+
+  abbrev Us : List Part → Type 0
+  Us = Each U
+
+  abbrev left_of : (xs ys : List Part) → Us (xs ++ ys) → Us xs
+  left_of = each_left U
+
+  abbrev right_of : (xs ys : List Part) → Us (xs ++ ys) → Us ys
+  right_of = each_right U
+
+  operand_needs : (a a' : Expression) (k : Clock) → Us (parts p a k) → IsOperand p New a a' k → B (needs a')
+  operand_needs (literal v) a' k h is = subst (λ z. B (needs z)) (sym is) tt
+  operand_needs (variable x) a' k h is = subst (λ z. B (needs z)) (sym is) (old x h.0.1, tt)
+  operand_needs a a' k h is = subst (λ z. B (needs z)) (sym is.1) (new is.0 k a is.2, tt)
+
+  mutual
+    normal_needs : (e e' : Expression) (k : Clock) → Us (parts p e k) → IsNormal p New e e' k → B (needs e')
+    normal_needs (literal v) e' k h is = subst (λ z. B (needs z)) (sym is) tt
+    normal_needs (variable x) e' k h is = subst (λ z. B (needs z)) (sym is) (old x h.0.1, tt)
+    normal_needs (operate o es) e' k h is = subst (λ z. B (needs z)) (sym is.1) (all_needs es is.0 k h.1 is.2)
+    normal_needs (pre a) e' k h is = subst (λ z. B (needs z)) (sym is.1) tt
+    normal_needs (arrow a b) e' k h is =
+        subst (λ z. B (needs z)) (sym is.2)
+        (each_append (λ y. y < u) (needs is.0) (needs is.1) (normal_needs a is.0 k (left_of (parts p a k) (parts p b k) h.1) is.3) (normal_needs b is.1 k (right_of (parts p a k) (parts p b k) h.1) is.4))
+    normal_needs (when t a) e' k h is = subst (λ z. B (needs z)) (sym is.1) (old t.variable h.0.1, operand_needs a is.0 (drop 1 k) h.1 is.2)
+    normal_needs (merge x bs) e' k h is = subst (λ z. B (needs z)) (sym is.1) (old x h.0.1, branches_needs bs is.0 x 0 k h.1 is.2)
+    normal_needs (call g c args) e' k h is = subst (λ z. B (needs z)) (sym is.1) (new is.0 k (call g c args) is.2, tt)
+
+    all_needs : (es es' : Operands) (k : Clock) → Us (operand_parts p es k) → AreNormal p New es es' k → B (needs_all es')
+    all_needs none es' k h is = subst (λ z. B (needs_all z)) (sym is) tt
+    all_needs (more e es) es' k h is =
+        subst (λ z. B (needs_all z)) (sym is.2)
+        (each_append (λ y. y < u) (needs is.0) (needs_all is.1) (normal_needs e is.0 k (left_of (parts p e k) (operand_parts p es k) h) is.3) (all_needs es is.1 k (right_of (parts p e k) (operand_parts p es k) h) is.4))
+
+    branches_needs : (es es' : Operands) (x c : ℕ) (k : Clock) → Us (branch_parts p es x c k) → AreBranches p New es es' x c k → B (needs_all es')
+    branches_needs none es' x c k h is = subst (λ z. B (needs_all z)) (sym is) tt
+    branches_needs (more e es) es' x c k h is =
+        let k' : Clock = record { variable = x; constructor = c } ∷ k in
+        let rest = branch_parts p es x (suc c) k in
+        subst (λ z. B (needs_all z)) (sym is.2)
+        (each_append (λ y. y < u) (needs is.0) (needs_all is.1) (normal_needs e is.0 k' (left_of (parts p e k') rest h) is.3) (branches_needs es is.1 x (suc c) k (right_of (parts p e k') rest h) is.4))
+
+  pub arguments_need : (es es' : Operands) (g : ℕ) (args args' : Operands) (base : Clock) (m : ℕ) → Us (argument_parts p es (node_at p g) args base m) → AreArguments p New es es' g args args' base m → B (needs_all es')
+  arguments_need none es' g args args' base m h is = subst (λ z. B (needs_all z)) (sym is) tt
+  arguments_need (more e es) es' g args args' base m h is =
+      let k = formal_clock (node_at p g) args base m in
+      let rest = argument_parts p es (node_at p g) args base (suc m) in
+      subst (λ z. B (needs_all z)) (sym is.2)
+      (each_append (λ y. y < u) (needs is.0) (needs_all is.1) (operand_needs e is.0 k (left_of (parts p e k) rest h) is.4) (arguments_need es is.1 g args args' base (suc m) (right_of (parts p e k) rest h) is.5))
+
+  right_needs : (e e' : Expression) (k : Clock) → Us (parts p e k) → IsRight p New e e' k → B (needs e')
+  right_needs (call g c args) e' k h is = subst (λ z. B (needs z)) (sym is.1) (arguments_need args is.0 g args is.0 (base_of (node_at p g) k) 0 h.1 is.2)
+  right_needs e e' k h is = normal_needs e e' k h is
+
+  definition_needs : (d d' : Option Definition) → RightParts p U d → IsDefinition p New d d' → B (needs_right d')
+  definition_needs None d' h is = subst (λ z. B (needs_right z)) (sym is) tt
+  definition_needs (Some (given_by e n xs k)) d' h is = subst (λ z. B (needs_right z)) (sym is.1) (right_needs e is.0 k h is.2)
+
+module _ (p p' : Program) (f f' : Node) (new_parts : List Part) (named : IsNamed p f) (normal : IsNormalNode p p' f f' new_parts) where
+  abbrev w : ℕ
+  w = length f.variables
+
+  abbrev u : ℕ
+  u = length f'.variables
+
+  abbrev New : ℕ → Clock → Expression → Type 0
+  New = StandsFor w new_parts
+
+  old_below : (x : ℕ) → Known f x → x < u
+  old_below x lt = let size = normal.width in omega (arith, lt, size)
+
+  new_below : (y : ℕ) (k : Clock) (a : Expression) → New y k a → y < u
+  new_below y k a s = let lt = stands_before w new_parts y k a s in let size = normal.width in omega (arith, lt, size)
+
+  abbrev Below : List ℕ → Type 0
+  Below = Each (λ y. y < u)
+
+  known_below : (xs : List ℕ) → Each (Known f) xs → Below xs
+  known_below xs h = each_implies (Known f) (λ y. y < u) old_below xs h
+
+  old_needs : (x : ℕ) → x < w → Below (needed f' x)
+  old_needs x lt =
+      let clock : clock_of f' x ≡ clock_of f x = below_at (λ x. clock_of f' x ≡ clock_of f x) w normal.clocks x lt in
+      let known = below_at (λ x. Each (Known f) (clock_variables (clock_of f x))) w named.clocks x lt in
+      let is = below_at (λ x. IsDefinition p New (definition_of f x) (definition_of f' x)) w normal.definitions x lt in
+      each_append (λ y. y < u) (clock_variables (clock_of f' x)) (needs_right (definition_of f' x))
+      (subst (λ k. Below (clock_variables k)) (sym clock) (known_below (clock_variables (clock_of f x)) known))
+      (definition_needs p f u New old_below new_below (definition_of f x) (definition_of f' x) (right_parts p (Uses (Known f) (GivesOutput p f)) f f.equations x named.uses) is)
+
+  new_needs : (x : ℕ) → w ≤ x → x < u → Below (needed f' x)
+  new_needs x le lt =
+      let size = normal.width in
+      let found = new_at w new_parts x le (omega (arith, lt, size)) in
+      let k = found.0 in
+      let a = found.1 in
+      let is = new_fact (DefinesNew p f' New) w new_parts normal.new_definitions x k a found.2 in
+      let uses = each_within p (Uses (Known f) (GivesOutput p f)) (node_parts p f) k a (new_part (IsWithin p (node_parts p f)) w new_parts normal.within x k a found.2) named.uses in
+      let own = first_part p (Uses (Known f) (GivesOutput p f)) a k uses in
+      each_append (λ y. y < u) (clock_variables (clock_of f' x)) (needs_right (definition_of f' x))
+      (subst (λ l. Below (clock_variables l)) (sym is.0) (known_below (clock_variables k) own.0))
+      (definition_needs p f u New old_below new_below (Some (given_by a 0 (x ∷ []) k)) (definition_of f' x) uses is.1)
+
+  pub all_need : (x : ℕ) → x < u → Below (needed f' x)
+  all_need x lt = ⊎_elim (λ low. old_needs x low) (λ high. new_needs x high lt) (cases_lt x w)
+
+pub normal_needs_variables : NormalNeedsVariables
+normal_needs_variables p p' new_parts named normal g =
+    let f' = node_at p' g in
+    below_all (λ x. Each (λ y. y < length f'.variables) (needed f' x)) (length f'.variables) (all_need p p' (node_at p g) f' (new_parts g) (named g) (normal g))
