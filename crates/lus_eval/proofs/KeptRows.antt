@@ -2,9 +2,9 @@
 use Rattle.std.proofs.Common.{◌≡◌, ◌∙◌, ◌+◌, ◌<◌, ◌≤◌, ℕ, List, Some, sym, ap, subst, true, length, map, arith}
 use Rattle.std.specs.Prelude.{slice_get}
 use Rattle.std.proofs.lemmas.List.{length-map}
-use Rattle.std.proofs.lemmas.Option.{slice_get_within}
+use Rattle.std.proofs.lemmas.Option.{slice_get_within, same_Some}
 use Rattle.lus_values.specs.Lists.{item}
-use Rattle.lus_values.specs.Values.{nil}
+use Rattle.lus_values.specs.Values.{nil, Row}
 use Rattle.lus_values.specs.View.{value_of}
 use Rattle.lus_program.specs.declared.node.Node.{Node as StoredNode}
 use Rattle.lus_program.specs.declared.node.Program.{Program as StoredProgram}
@@ -19,7 +19,7 @@ use Rattle.lus_code.specs.Codes.{ProgramCode, program_of}
 use Rattle.lus_running.specs.declared.instance.Instance.{Instance}
 use Rattle.lus_running.specs.Instances as instances
 use Rattle.lus_running.proofs.Placed.{resets_state}
-use Rattle.lus_eval.specs.Objects.{Kept, kept_by, IsEven, IsShaped, IsReset}
+use Rattle.lus_eval.specs.Objects.{Kept, kept_by, IsEven, IsShaped, IsReset, IsStep}
 
 module _ (c : ProgramCode) (classes : List Class) (same : classes ≡ c.classes) (o : Instance) where
   pub shaped_in_code : ((g : ℕ) (k : Class) → slice_get classes g ≡ Some k → k.extent.cells + k.extent.firsts ≤ item 0 c.cells g) → instances.IsShaped classes o → IsShaped c (kept_by o)
@@ -76,3 +76,26 @@ reset_kept o o' h = record {
       let d = depth_of (program_of c) in
       (λ j. state_in c.classes d (h.node j) (h.cells j) (h.firsts j)) ∙ resets_state c.classes d o.node (map value_of o.cells.items) o.firsts.items;
 }
+
+-- objects of a node have as much room
+pub same_room : (c : ProgramCode) (o o' : Kept) → IsShaped c o → IsShaped c o' → o'.node ≡ o.node → o'.room ≡ o.room
+same_room c o o' s s' node =
+    let found : slice_get c.classes o'.node ≡ Some s.class = ap (slice_get c.classes) node ∙ s.found in
+    s'.variables ∙ ap (λ (k : Class). k.extent.variables) (same_Some s'.class s.class (sym s'.found ∙ found)) ∙ sym s.variables
+
+module _ (s o' : Instance) (back : instances.IsBack s o') where
+  -- an instance that goes back behind a step is as it was before it
+  pub back_to : (c : ProgramCode) (o : Instance) (i outputs : Row) → IsShaped c (kept_by o) → IsStep c (kept_by o) (kept_by s) i outputs → instances.LeavesBehind o s
+      → kept_by o' ≡ kept_by o
+  back_to c o i outputs shaped is behind =
+      let node : o'.node ≡ o.node = back.node ∙ is.node in
+      let cells : map value_of o'.cells.items ≡ map value_of o.cells.items = ap (λ v. map value_of v.items) (back.cells ∙ behind.cells) in
+      let firsts : o'.firsts.items ≡ o.firsts.items = ap (λ v. v.items) (back.firsts ∙ behind.firsts) in
+      let room : length o'.variables.items ≡ length o.variables.items = ap (λ v. length v.items) back.variables ∙ same_room c (kept_by o) (kept_by s) shaped is.shaped is.node in
+      λ j. record { node = node j; cells = cells j; firsts = firsts j; room = room j }
+
+  pub back_even : IsEven s → IsEven o'
+  back_even even = record {
+    cells = ap (λ v. length v.items) back.next_cells ∙ sym even.cells ∙ sym (ap (λ v. length v.items) back.cells);
+    firsts = ap (λ v. length v.items) back.next_firsts ∙ sym even.firsts ∙ sym (ap (λ v. length v.items) back.firsts);
+  }

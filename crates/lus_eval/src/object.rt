@@ -7,6 +7,7 @@ ghost use Rattle.lus_eval.specs.Objects.{IsFault, IsReset, IsShaped, IsStep, Obj
 
 use crate::error::StepError;
 use crate::shape::row_fits;
+use crate::stepping::step_instance;
 use lus_code::Code;
 use lus_program::NodeId;
 use lus_running::{Instance, fits_presence};
@@ -88,13 +89,28 @@ impl Object {
         ensures fault { IfErr result (λ e. e ≡ StepError.Fault → IsFault code.now self.old inputs.now) }
         ensures err { OnErr result (self.new ≡ self.old) }
     {
-        let classes = code.classes();
-        let node = &code.program().nodes[self.instance.node as usize];
-        let depth = classes.len() + 1;
-        let outputs = self
-            .instance
-            .step(classes, depth, inputs, node.outputs as usize)?;
-        Ok(outputs)
+        step_instance(&mut self.instance, code, inputs)
+    }
+
+    /// One more instant as `step` makes it, with its outputs twice: after an error the object is as it was, also where there is memory
+    /// for them only once.
+    pub fn step_twice(&mut self, code: &Code, inputs: &Row) -> Result<(Row, Row), StepError>
+        requires shaped { IsShaped code.now self.old }
+        requires shape { IsTrue (has_shape (program_of code.now) self.old.node inputs.now) }
+        requires presence { IsTrue (has_presence (program_of code.now) self.old.node inputs.now) }
+        ensures ok { IfOk result (λ both. IsStep code.now self.old self.new inputs.now both.0) }
+        ensures same { IfOk result (λ both. both.1 ≡ both.0) }
+        ensures fault { IfErr result (λ e. e ≡ StepError.Fault → IsFault code.now self.old inputs.now) }
+        ensures err { OnErr result (self.new ≡ self.old) }
+    {
+        let outputs = step_instance(&mut self.instance, code, inputs)?;
+        match outputs.copy(self.instance.alloc) {
+            Ok(again) => Ok((outputs, again)),
+            Err(Memory) => {
+                self.instance.go_back();
+                Err(StepError::Memory)
+            }
+        }
     }
 
     /// As it was when it was fresh; takes no memory.

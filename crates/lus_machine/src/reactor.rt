@@ -1,6 +1,6 @@
 //! Reactors.
 
-ghost use Rattle.std.specs.Prelude.{◌≡◌, ◌<◌, ◌++◌, ◌∷◌, [], length, replicate, None, IfOk, OnErr};
+ghost use Rattle.std.specs.Prelude.{◌≡◌, ◌<◌, ◌++◌, ◌∷◌, [], length, replicate, None, IfOk, IfSome, OnErr};
 ghost use Rattle.std.specs.Arc.{arc_value};
 ghost use Rattle.lus_history.specs.Replies.{slots as slot_count};
 ghost use Rattle.lus_eval.specs.CodeSpecs.Codes.{program_of};
@@ -56,25 +56,16 @@ fn empty_slots(alloc: Global) -> Result<Vec<Option<Object>>, Memory>
     Ok(slots)
 }
 
-/// Enters a request with its reply, by copies of both.
-fn enter(
-    alloc: Global,
-    entries: &mut Vec<Entry>,
-    caller: u32,
-    request: &Request,
-    reply: &Reply,
-) -> Result<(), Memory>
-    ensures ok { IfOk result (λ u. entries.new.items ≡ entries.old.items ++ entry caller request.now reply.now ∷ []) }
-    ensures err { OnErr result (entries.new.items ≡ entries.old.items) }
+/// The reply of an answer once more; this takes memory only where the answer has the reply once.
+fn once_more(alloc: Global, again: Option<Reply>, reply: &Reply) -> Result<Reply, Memory>
+    requires { IfSome again (λ r. r ≡ reply.now) }
+    ensures same { IfOk result (λ r. r ≡ reply.now) }
+    ensures err { OnErr result (again ≡ None) }
 {
-    let request = request.copy(alloc)?;
-    let reply = reply.copy(alloc)?;
-    entries.push(Entry {
-        caller,
-        request,
-        reply,
-    })?;
-    Ok(())
+    match again {
+        Some(again) => Ok(again),
+        None => Ok(reply.copy(alloc)?),
+    }
 }
 
 /// Makes a change; this takes no memory.
@@ -116,10 +107,10 @@ impl Reactor {
         ensures err { OnErr result (self.new ≡ self.old) }
         ensures legal { IsLawful self.new }
     {
-        let Answer { reply, change } = answer_to(
+        let Answer { reply, change, .. } = answer_to(
             self.alloc,
             self.program.code(),
-            &self.object,
+            &mut self.object,
             &self.slots,
             request,
         )?;
@@ -141,16 +132,27 @@ impl Reactor {
         ensures kept { OnErr result (entries.new.items ≡ entries.old.items) }
         ensures legal { IsLawful self.new }
     {
-        let Answer { reply, change } = answer_to(
+        let request_kept = request.copy(self.alloc)?;
+        entries.reserve(1)?;
+        let Answer {
+            reply,
+            again,
+            change,
+        } = answer_to(
             self.alloc,
             self.program.code(),
-            &self.object,
+            &mut self.object,
             &self.slots,
             request,
         )?;
-        enter(self.alloc, entries, caller, request, &reply)?;
+        let reply_kept = once_more(self.alloc, again, &reply)?;
         self.trace = self.trace.and(&caller, request, &reply);
         take_over(&mut self.object, &mut self.slots, change);
+        entries.push_reserved(Entry {
+            caller,
+            request: request_kept,
+            reply: reply_kept,
+        });
         Ok(reply)
     }
 }

@@ -1,11 +1,11 @@
 //! Instances of nodes.
 
-ghost use Rattle.std.specs.Prelude.{◌≡◌, ◌↔◌, ◌<◌, IsTrue, suc, IfOk, OnErr, length};
+ghost use Rattle.std.specs.Prelude.{◌≡◌, ◌↔◌, ◌<◌, IsTrue, suc, IfOk, OnErr, OnOk, length};
 ghost use Rattle.lus_classes.specs.States.{WithinDepth};
 ghost use Rattle.lus_flat_classes.specs.Turns.{AreReady};
 ghost use Rattle.lus_flat_classes.specs.View.{classes_of};
 ghost use Rattle.lus_running.specs.Fits.{FitsPresence, OfClass};
-ghost use Rattle.lus_running.specs.Instances.{HasFormals, IsCopy, IsFresh, IsLong, IsReset, IsShaped, KeepsSame, TakesStep};
+ghost use Rattle.lus_running.specs.Instances.{HasFormals, IsBack, IsCopy, IsFresh, IsLong, IsReset, IsShaped, KeepsSame, LeavesBehind, TakesStep};
 ghost use Rattle.lus_running.specs.OnClocks.{PassOnClocks};
 
 use crate::error::StepError;
@@ -111,7 +111,8 @@ impl Instance {
             && self.variables.len() == extent.variables as usize
     }
 
-    /// One more instant: so many outputs, or the instance as it was.
+    /// One more instant: so many outputs, with the rows of the last instant left behind as those for the next one; or the instance as
+    /// it was.
     pub fn step(
         &mut self,
         classes: &[Class],
@@ -129,6 +130,7 @@ impl Instance {
         ensures node { self.new.node ≡ self.old.node }
         ensures shaped { IsShaped classes.now self.new }
         ensures err { OnErr result (KeepsSame self.old self.new) }
+        ensures behind { OnOk result (LeavesBehind self.old self.new) }
     {
         let class = &classes[self.node as usize];
         place(self.alloc, inputs.items(), &mut self.variables)?;
@@ -148,5 +150,13 @@ impl Instance {
         swap(&mut self.cells, &mut self.next_cells);
         swap(&mut self.firsts, &mut self.next_firsts);
         Ok(Row::new(answer))
+    }
+
+    /// As it was before the step that was its last call; takes no memory.
+    pub fn go_back(&mut self)
+        ensures { IsBack self.old self.new }
+    {
+        swap(&mut self.cells, &mut self.next_cells);
+        swap(&mut self.firsts, &mut self.next_firsts);
     }
 }

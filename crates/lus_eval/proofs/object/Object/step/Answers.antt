@@ -1,114 +1,24 @@
-use Rattle.std.proofs.Common.{◌≡◌, ◌∙◌, ℕ, ◌+◌, List, sym, ap, subst, length, suc, arith, IsTrue, Some, Ok, Err}
-use Rattle.std.specs.Prelude.{slice_get}
-use Rattle.lus_program.specs.Programs.{Node, node_at}
-use Rattle.lus_classes.specs.States.{WithinDepth}
-use Rattle.lus_flat_classes.specs.declared.class.Class.{Class}
-use Rattle.lus_flat_classes.specs.View.{classes_of}
+use Rattle.std.proofs.Common.{◌≡◌, subst, sym, IsTrue}
+use Rattle.std.specs.Result.{IfOk, IfErr}
 use Rattle.lus_code.specs.SimulationSpecs.Fitting.{has_shape, has_presence}
-use Rattle.lus_code.specs.SimulationSpecs.LineageLaws.{StepsTo, Faults}
-use Rattle.lus_code.specs.SimulationSpecs.Nesting.{depth_of}
-use Rattle.lus_code.specs.Codes.{program_of, plain_classes}
-use Rattle.lus_running.specs.declared.error.StepError.{StepError as RunningError}
-use Rattle.lus_running.specs.declared.error.StepError.TheVariants as running
-use Rattle.lus_running.specs.Instances.{HasFormals, TakesStep}
-use Rattle.lus_running.specs.Instances.{state_of as instance_state}
-use Rattle.lus_eval.specs.Objects.{Kept, kept_by, IsShaped, state_of}
-use Rattle.lus_eval.proofs.Following.{nested, has_formals, presence_told, step_follows, fault_follows}
-use Rattle.lus_eval.proofs.KeptRows.{instance_shaped, shaped_in_code, source_checked, source_node}
-use Rattle.lus_eval.proofs.PassedErrors.{fault_passed}
-use Rattle.lus_eval.proofs.Passing.{pass_on_clocks}
+use Rattle.lus_code.specs.Codes.{program_of}
+use Rattle.lus_eval.specs.declared.error.StepError.TheVariants as errors
+use Rattle.lus_eval.specs.Objects.{Kept, kept_by, IsFault, IsShaped, IsStep}
 use Rattle.lus_eval.proofs.object.Object.step.Goals as goal
 
-pub step-requires-clause-shaped : goal.step-requires-clause-shaped
-step-requires-clause-shaped c =
-    let code = c.args.code.now in
-    instance_shaped code c.classes-classes.result.now c.classes-classes.ensures.same c.self.inside.instance c.self.invariant (subst (IsShaped code) (sym c.self.view_is) c.requires.shaped)
+pub step_instance-requires-clause-shaped : goal.step_instance-requires-clause-shaped
+step_instance-requires-clause-shaped c = subst (IsShaped c.args.code.now) (sym c.self.view_is) c.requires.shaped
 
-pub step-requires-clause-depth : goal.step-requires-clause-depth
-step-requires-clause-depth c =
-    let code = c.args.code.now in
-    let p = program_of code in
-    let classes = c.classes-classes.result.now in
-    let checked = source_checked code c.program.result.now c.program.ensures.same c.program.ensures.checked in
-    let size = c.classes-classes.ensures.size in
-    let deep : depth_of p ≡ suc (length classes + 1) = omega (arith, size) in
-    subst (λ (d : ℕ). WithinDepth (classes_of classes) d c.self.inside.instance.node) deep (nested p classes checked c.classes-classes.ensures.code c.self.inside.instance.node)
+pub step_instance-requires-clause-shape : goal.step_instance-requires-clause-shape
+step_instance-requires-clause-shape c = subst (λ (k : Kept). IsTrue (has_shape (program_of c.args.code.now) k.node c.args.inputs.now)) (sym c.self.view_is) c.requires.shape
 
-pub step-requires-clause-formals : goal.step-requires-clause-formals
-step-requires-clause-formals c k found =
-    let code = c.args.code.now in
-    let p = program_of code in
-    let i = c.args.inputs.now in
-    let o = kept_by c.self.inside.instance in
-    let classes = c.classes-classes.result.now in
-    let checked = source_checked code c.program.result.now c.program.ensures.same c.program.ensures.checked in
-    let shaped = subst (IsShaped code) (sym c.self.view_is) c.requires.shaped in
-    let shape = subst (λ (k : Kept). IsTrue (has_shape p k.node i)) (sym c.self.view_is) c.requires.shape in
-    let presence = subst (λ (k : Kept). IsTrue (has_presence p k.node i)) (sym c.self.view_is) c.requires.presence in
-    let node = source_node code o shaped classes c.classes-classes.ensures.same c.classes-classes.ensures.size c.program.result.now c.program.ensures.same c.index-node.result.now c.index-node.ensures in
-    subst (λ (n : Node). HasFormals n.outputs i k) node (has_formals p classes checked c.classes-classes.ensures.code o.node k found i shape presence)
-
-pub step-requires-clause-presence : goal.step-requires-clause-presence
-step-requires-clause-presence c k found =
-    let code = c.args.code.now in
-    let p = program_of code in
-    let i = c.args.inputs.now in
-    let o = kept_by c.self.inside.instance in
-    let classes = c.classes-classes.result.now in
-    let checked = source_checked code c.program.result.now c.program.ensures.same c.program.ensures.checked in
-    let presence = subst (λ (k : Kept). IsTrue (has_presence p k.node i)) (sym c.self.view_is) c.requires.presence in
-    (presence_told p classes checked c.classes-classes.ensures.code o.node k found i).0 presence
-
-pub step-requires-clause-passing : goal.step-requires-clause-passing
-step-requires-clause-passing c = pass_on_clocks (program_of c.args.code.now) c.classes-classes.result.now c.classes-classes.ensures.code
-
-pub returns-in_err-outputs-clause-fault : goal.returns-in_err-outputs-clause-fault
-returns-in_err-outputs-clause-fault c =
-    let code = c.args.code.now in
-    let p = program_of code in
-    let i = c.args.inputs.now in
-    let before = c.self.inside.instance in
-    let after = c.step.new.self in
-    let o = kept_by before in
-    let classes = c.classes-classes.result.now in
-    let checked = source_checked code c.program.result.now c.program.ensures.same c.program.ensures.checked in
-    let size = c.classes-classes.ensures.size in
-    let deep : suc (length classes + 1) ≡ depth_of p = omega (arith, size) in
-    let shaped = subst (IsShaped code) (sym c.self.view_is) c.requires.shaped in
-    let found : slice_get classes o.node ≡ Some shaped.class = ap (λ (l : List Class). slice_get l o.node) c.classes-classes.ensures.same ∙ shaped.found in
-    let node = source_node code o shaped classes c.classes-classes.ensures.same size c.program.result.now c.program.ensures.same c.index-node.result.now c.index-node.ensures in
-    let error = c.in_err-outputs.field-0.0 in
-    let takes = subst (λ (n : Node). TakesStep classes (length classes + 1) n.outputs before i (Err error) after) (sym node) c.in_err-outputs.ensures.step in
-    let faults = λ (same : error ≡ running.Fault).
-    let faulted = subst (λ (r : RunningError). TakesStep classes (length classes + 1) (node_at p o.node).outputs before i (Err r) after) same takes in
-    let ended = fault_follows p classes checked c.classes-classes.ensures.code before after shaped.class found i (length classes + 1) deep faulted in
-    let seen = subst (λ (l : List Class). Faults p (classes_of l) (instance_state l (depth_of p) before) before.node i) c.classes-classes.ensures.same ended in
-    subst (λ (k : Kept). Faults p (plain_classes code) (state_of code k) k.node i) c.self.view_is seen in
-    fault_passed (Faults p (plain_classes code) (state_of code c.args.self.now) c.args.self.now.node i) c.from_residual.result error c.from_residual.ensures.1 faults
+pub step_instance-requires-clause-presence : goal.step_instance-requires-clause-presence
+step_instance-requires-clause-presence c = subst (λ (k : Kept). IsTrue (has_presence (program_of c.args.code.now) k.node c.args.inputs.now)) (sym c.self.view_is) c.requires.presence
 
 pub returns-clause-ok : goal.returns-clause-ok
 returns-clause-ok c =
-    let code = c.args.code.now in
-    let p = program_of code in
-    let i = c.args.inputs.now in
-    let before = c.self.inside.instance in
-    let after = c.step.new.self in
-    let outputs = c.in_ok-outputs.outputs in
-    let o = kept_by before in
-    let classes = c.classes-classes.result.now in
-    let checked = source_checked code c.program.result.now c.program.ensures.same c.program.ensures.checked in
-    let size = c.classes-classes.ensures.size in
-    let deep : suc (length classes + 1) ≡ depth_of p = omega (arith, size) in
-    let shaped = subst (IsShaped code) (sym c.self.view_is) c.requires.shaped in
-    let shape = subst (λ (k : Kept). IsTrue (has_shape p k.node i)) (sym c.self.view_is) c.requires.shape in
-    let presence = subst (λ (k : Kept). IsTrue (has_presence p k.node i)) (sym c.self.view_is) c.requires.presence in
-    let found : slice_get classes o.node ≡ Some shaped.class = ap (λ (l : List Class). slice_get l o.node) c.classes-classes.ensures.same ∙ shaped.found in
-    let node = source_node code o shaped classes c.classes-classes.ensures.same size c.program.result.now c.program.ensures.same c.index-node.result.now c.index-node.ensures in
-    let takes = subst (λ (n : Node). TakesStep classes (length classes + 1) n.outputs before i (Ok outputs) after) (sym node) c.in_ok-outputs.ensures.step in
-    let steps = step_follows p classes checked c.classes-classes.ensures.code before after shaped.class found i (length classes + 1) deep outputs shape presence takes in
-    let seen = subst (λ (l : List Class). StepsTo p (classes_of l) (instance_state l (depth_of p) before) (instance_state l (depth_of p) after) before.node i outputs) c.classes-classes.ensures.same steps in
-    record {
-      node = c.step.ensures.node ∙ ap (λ (k : Kept). k.node) c.self.view_is;
-      shaped = shaped_in_code code classes c.classes-classes.ensures.same after c.classes-classes.ensures.rows c.step.ensures.shaped;
-      steps = subst (λ (k : Kept). StepsTo p (plain_classes code) (state_of code k) (state_of code (kept_by after)) k.node i outputs) c.self.view_is seen;
-    }
+    subst (λ (k : Kept). IfOk c.step_instance.result (λ outputs. IsStep c.args.code.now k (kept_by c.step_instance.new.instance) c.args.inputs.now outputs)) c.self.view_is c.step_instance.ensures.ok
+
+pub returns-clause-fault : goal.returns-clause-fault
+returns-clause-fault c =
+    subst (λ (k : Kept). IfErr c.step_instance.result (λ e. e ≡ errors.Fault → IsFault c.args.code.now k c.args.inputs.now)) c.self.view_is c.step_instance.ensures.fault
