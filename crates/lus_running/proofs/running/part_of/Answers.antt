@@ -5,7 +5,7 @@ use Rattle.lus_running.proofs.Placing.{one_more, nothing_taken, taken_between}
 use Rattle.lus_running.proofs.running.part_of.Goals as goal
 
 pub loop-variable-init : goal.loop-variable-init
-loop-variable-init c = ap (map entry_of) c.new-part.ensures.items ∙ sym (nothing_taken c.args.from (map entry_of c.args.variables.now))
+loop-variable-init c = ap (map entry_of) c.in_ok-part.ensures.items ∙ sym (nothing_taken c.args.from (map entry_of c.args.variables.now))
 
 pub loop-variable-preserved : goal.loop-variable-preserved
 loop-variable-preserved c =
