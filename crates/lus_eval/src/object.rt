@@ -92,8 +92,8 @@ impl Object {
         step_instance(&mut self.instance, code, inputs)
     }
 
-    /// One more instant as `step` makes it, with its outputs twice: after an error the object is as it was, also where there is memory
-    /// for them only once.
+    /// One more instant as `step` makes it, with its outputs twice, of which the first takes no more memory than it needs. After an
+    /// error the object is as it was, also where there is memory for the outputs only once.
     pub fn step_twice(&mut self, code: &Code, inputs: &Row) -> Result<(Row, Row), StepError>
         requires shaped { IsShaped code.now self.old }
         requires shape { IsTrue (has_shape (program_of code.now) self.old.node inputs.now) }

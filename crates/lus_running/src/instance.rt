@@ -5,7 +5,8 @@ ghost use Rattle.lus_classes.specs.States.{WithinDepth};
 ghost use Rattle.lus_flat_classes.specs.Turns.{AreReady};
 ghost use Rattle.lus_flat_classes.specs.View.{classes_of};
 ghost use Rattle.lus_running.specs.Fits.{FitsPresence, OfClass};
-ghost use Rattle.lus_running.specs.Instances.{HasFormals, IsBack, IsCopy, IsFresh, IsLong, IsReset, IsShaped, KeepsSame, LeavesBehind, TakesStep};
+ghost use Rattle.lus_running.specs.Instances.{HasFormals, IsFresh, IsLong, IsShaped, TakesStep};
+ghost use Rattle.lus_running.specs.Instances.{IsBack, IsCopy, IsReset, KeepsSame, LeavesBehind};
 ghost use Rattle.lus_running.specs.OnClocks.{PassOnClocks};
 
 use crate::error::StepError;
@@ -111,8 +112,8 @@ impl Instance {
             && self.variables.len() == extent.variables as usize
     }
 
-    /// One more instant: so many outputs, with the rows of the last instant left behind as those for the next one; or the instance as
-    /// it was.
+    /// One more instant: so many outputs, with the rows of the last instant left behind as those for the next one; or the
+    /// instance as it was.
     pub fn step(
         &mut self,
         classes: &[Class],

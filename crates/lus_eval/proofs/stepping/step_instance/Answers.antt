@@ -1,3 +1,4 @@
+-- The step of an instance follows the streams of its source.
 use Rattle.std.proofs.Common.{◌≡◌, ◌∙◌, ℕ, ◌+◌, List, sym, ap, subst, length, suc, arith, Some, Ok, Err}
 use Rattle.std.specs.Prelude.{slice_get}
 use Rattle.lus_program.specs.Programs.{Node, node_at}

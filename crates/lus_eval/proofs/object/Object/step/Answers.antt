@@ -1,3 +1,4 @@
+-- An object steps as its instance does.
 use Rattle.std.proofs.Common.{◌≡◌, subst, sym, IsTrue}
 use Rattle.std.specs.Result.{IfOk, IfErr}
 use Rattle.lus_code.specs.SimulationSpecs.Fitting.{has_shape, has_presence}

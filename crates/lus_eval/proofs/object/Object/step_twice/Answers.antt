@@ -1,3 +1,4 @@
+-- An object steps as its instance does, or goes back to its last instant.
 use Rattle.std.proofs.Common.{◌∙◌, subst, sym, IsTrue}
 use Rattle.lus_code.specs.SimulationSpecs.Fitting.{has_shape, has_presence}
 use Rattle.lus_code.specs.Codes.{program_of}
