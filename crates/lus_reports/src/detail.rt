@@ -3,8 +3,8 @@
 use crate::explanation::Explanation;
 use crate::sentences::{fault_of, sentence_of};
 use lus_cli::lus_host::{compile, text_of};
-use lus_faults::{Edit, Finding, edited, further_marks, push_finding};
-use lus_misreadings::misread;
+use lus_causes::lus_faults::{Edit, Finding, edited, further_marks, push_finding};
+use lus_causes::finding_of;
 use lus_syntax::{Refusal, RefusalNumber};
 use std::alloc::{AllocError, Global};
 
@@ -69,15 +69,6 @@ fn tried(
         return Ok(finding);
     }
     Ok(finding.with_edit(None))
-}
-
-/// What is known of the case of a refusal.
-fn finding_of(
-    alloc: Global,
-    source: &str,
-    refusal: &Refusal,
-) -> Result<Option<Finding>, AllocError> {
-    misread(alloc, source, refusal)
 }
 
 /// What is told where nothing is known of the case.

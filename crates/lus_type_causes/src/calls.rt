@@ -61,7 +61,7 @@ fn wrong_count(
     let wanted = counted(given, count_of(&node.inputs), "argument")?;
     let sentence = format!(in given.alloc; "`{text}` takes {wanted}, and is given {found}")?;
     let told = told_at(given.alloc, name.span.start, name.span.length, sentence);
-    told.with(
+    told.beside(
         node.name.span,
         format!(in given.alloc; "`{text}` is declared here")?,
     )
@@ -84,11 +84,11 @@ fn wrong_argument(
         "argument {number} of `{text}`, `{input}`, has type `{want}`, and is given `{has}`"
     )?;
     let told = told_at(given.alloc, name.span.start, name.span.length, sentence);
-    let told = told.with(
+    let told = told.beside(
         extent_of(given.source, &part.value),
         format!(in given.alloc; "this has type `{has}`")?,
     )?;
-    told.with(
+    told.beside(
         formal.0.span,
         format!(in given.alloc; "`{input}` is declared here")?,
     )
@@ -100,7 +100,7 @@ fn wrong_results(given: Given<'_>, name: &Name, node: &Node) -> Result<Clash, Al
     let gives = counted(given, count_of(&node.outputs), "value")?;
     let sentence = format!(in given.alloc; "`{text}` gives {gives}, where one is wanted")?;
     let told = told_at(given.alloc, name.span.start, name.span.length, sentence);
-    let told = told.with(
+    let told = told.beside(
         node.name.span,
         format!(in given.alloc; "`{text}` is declared here")?,
     )?;

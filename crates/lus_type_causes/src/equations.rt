@@ -5,7 +5,7 @@ use crate::inferring::{Given, infer, infer_all};
 use crate::kinds::Kind;
 use crate::stop::{Clash, Stop, ending, told_at};
 use lus_faults::extent_of;
-use lus_syntax::{Equation, Expr, Name, Node, Part};
+use lus_syntax::{Equation, Expr, Group, Name, Node, Part};
 use std::alloc::AllocError;
 
 /// The call that a right side is, parentheses aside.
@@ -18,18 +18,23 @@ fn whole_call(expr: &Expr) -> Option<(&Name, &[Part])> {
     }
 }
 
-/// Where a variable of a node is declared.
-fn declared<'t>(node: &'t Node, text: &str) -> Option<&'t Name> {
-    for groups in [&node.inputs, &node.outputs, &node.locals] {
-        for group in groups {
-            for name in &group.names {
-                if name.text.as_str() == text {
-                    return Some(name);
-                }
+/// Where groups declare a variable.
+fn declared_in<'t>(groups: &'t [Group], text: &str) -> Option<&'t Name> {
+    for group in groups {
+        for name in &group.names {
+            if name.text.as_str() == text {
+                return Some(name);
             }
         }
     }
     None
+}
+
+/// Where a variable of a node is declared.
+fn declared<'t>(node: &'t Node, text: &str) -> Option<&'t Name> {
+    declared_in(&node.inputs, text)
+        .or(declared_in(&node.outputs, text))
+        .or(declared_in(&node.locals, text))
 }
 
 /// A right side of another type than its variable.
@@ -50,7 +55,7 @@ fn wrong_type(
     )?;
     let told = told_at(given.alloc, span.start, span.length, sentence);
     match declared(node, text) {
-        Some(name) => told.with(
+        Some(name) => told.beside(
             name.span,
             format!(in given.alloc; "`{text}` is declared here")?,
         ),

@@ -79,8 +79,8 @@ pub fn infer(given: Given<'_>, expr: &Expr) -> Inferred {
                 *span,
                 condition,
                 asked,
-                (left, first),
-                (right, second),
+                (&**left, first),
+                (&**right, second),
             )
         }
     }

@@ -85,7 +85,7 @@ fn fault_of(given: Given<'_>, node: &Node, found: Kept<'_>) -> Result<Clash, All
             let told = match called(given, name) {
                 Some(callee) => {
                     let label = format!(in given.alloc; "`{text}` is declared here")?;
-                    told.with(callee.name.span, label)?
+                    told.beside(callee.name.span, label)?
                 }
                 None => told,
             };

@@ -80,7 +80,7 @@ fn wrong_label(
     let sentence = format!(in given.alloc; "type `{owner}` has no constructor `{text}`")?;
     let told = told_at(given.alloc, span.start, span.length, sentence);
     let name = variable.text.as_str();
-    told.with(
+    told.beside(
         variable.span,
         format!(in given.alloc; "`{name}` has type `{owner}`")?,
     )
@@ -112,9 +112,9 @@ fn unlike(
     let sentence = format!(in given.alloc; "the branches are of two types, `{one}` and `{other}`")?;
     let told = told_at(given.alloc, span.start, span.length, sentence);
     let label = format!(in given.alloc; "this has type `{one}`")?;
-    let told = told.with(extent_of(given.source, &first.0.value), label)?;
+    let told = told.beside(extent_of(given.source, &first.0.value), label)?;
     let label = format!(in given.alloc; "this has type `{other}`")?;
-    told.with(extent_of(given.source, &second.0.value), label)
+    told.beside(extent_of(given.source, &second.0.value), label)
 }
 
 /// The first fault of the labels and the branches.

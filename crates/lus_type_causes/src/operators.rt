@@ -64,7 +64,7 @@ fn has_type(
 ) -> Result<Clash, AllocError> {
     let name = kind.name(given.tree);
     let label = format!(in given.alloc; "this has type `{name}`")?;
-    told.with(extent_of(given.source, operand), label)
+    told.beside(extent_of(given.source, operand), label)
 }
 
 /// An operand of another type than its operator wants.

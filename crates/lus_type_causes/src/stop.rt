@@ -44,7 +44,7 @@ pub fn told_at(alloc: Global, place: Place, length: u32, sentence: String) -> Cl
 
 impl Clash {
     /// The fault with a further place.
-    pub fn with(mut self, span: Span, label: String) -> Result<Clash, AllocError> {
+    pub fn beside(mut self, span: Span, label: String) -> Result<Clash, AllocError> {
         self.finding.relate(span, label)?;
         Ok(self)
     }

@@ -48,7 +48,7 @@ fn no_field(
     let owner = declaration.name.text.as_str();
     let sentence = format!(in given.alloc; "`{owner}` has no field `{text}`")?;
     let told = told_at(given.alloc, main.start, main.length, sentence);
-    let told = told.with(
+    let told = told.beside(
         declaration.name.span,
         format!(in given.alloc; "`{owner}` is declared here")?,
     )?;
@@ -116,11 +116,11 @@ fn wrong_value(
         "the field `{text}` has type `{want}`, and is given `{has}`"
     )?;
     let told = told_at(given.alloc, owner.span.start, owner.span.length, sentence);
-    let told = told.with(
+    let told = told.beside(
         extent_of(given.source, &part.value),
         format!(in given.alloc; "this has type `{has}`")?,
     )?;
-    told.with(
+    told.beside(
         field.0.span,
         format!(in given.alloc; "`{text}` is declared here")?,
     )
@@ -158,7 +158,7 @@ fn miscounted(
                 };
                 let told = told_at(given.alloc, owner.span.start, owner.span.length, sentence);
                 let label = format!(in given.alloc; "`{text}` is declared here")?;
-                let told = told.with(field.span, label)?;
+                let told = told.beside(field.span, label)?;
                 let note = "A structure's value has each field exactly once, in any order.";
                 return Ok(Some(told.noted(given.alloc, note)?));
             }
