@@ -1,10 +1,15 @@
 //! The finding of a refusal's case.
 
+use lus_clock_causes::clock_cause;
 use lus_faults::Finding;
 use lus_grammar::parse;
+use lus_limit_causes::limit_cause;
 use lus_misreadings::misread;
 use lus_name_causes::name_cause;
+use lus_nil_causes::nil_cause;
+use lus_round_causes::{cycle_cause, recursion_cause};
 use lus_syntax::{Refusal, RefusalNumber, lex};
+use lus_type_causes::type_cause;
 use std::alloc::{AllocError, Global};
 
 /// What is said of the case of a refusal that a source's tree shows.
@@ -17,8 +22,22 @@ fn of_tree(alloc: Global, source: &str, refusal: &Refusal) -> Result<Option<Find
     };
     match refusal.number {
         RefusalNumber::Name => name_cause(alloc, &tree, refusal),
+        RefusalNumber::Type => type_cause(alloc, source, &tree, refusal),
+        RefusalNumber::Clock => clock_cause(alloc, source, &tree, refusal),
+        RefusalNumber::Nil => nil_cause(alloc, source, &tree, refusal),
+        RefusalNumber::Cycle => cycle_cause(alloc, &tree, refusal),
+        RefusalNumber::Recursion => recursion_cause(alloc, &tree, refusal),
         _ => Ok(None),
     }
+}
+
+/// What is said of a limit that is passed: of a number, or of what is declared.
+fn of_limit(alloc: Global, source: &str, refusal: &Refusal) -> Result<Option<Finding>, AllocError> {
+    let found = misread(alloc, source, refusal)?;
+    if found.is_some() {
+        return Ok(found);
+    }
+    limit_cause(alloc, source, refusal)
 }
 
 /// What is said of the case of a refusal of a source; nothing where no more is known than its number and its place.
@@ -31,7 +50,7 @@ pub fn finding_of(
         RefusalNumber::Lexical => misread(alloc, source, refusal),
         RefusalNumber::Unsupported => misread(alloc, source, refusal),
         RefusalNumber::Syntax => misread(alloc, source, refusal),
-        RefusalNumber::Limit => misread(alloc, source, refusal),
+        RefusalNumber::Limit => of_limit(alloc, source, refusal),
         RefusalNumber::Memory => Ok(None),
         _ => of_tree(alloc, source, refusal),
     }

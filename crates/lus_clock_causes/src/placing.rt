@@ -33,7 +33,7 @@ impl<'t, 'c> Looking<'t, 'c> {
 
 /// The first part of an expression at the place that isn't on its clock, where the expression should be on this one.
 #[cycle(placing)]
-pub fn misplaced<'t>(
+pub fn off_clock<'t>(
     looking: Looking<'t, '_>,
     expr: &'t Expr,
     wanted: Clock<'t>,
@@ -60,8 +60,8 @@ pub fn misplaced<'t>(
             }
             in_branches(looking, variable, parts)
         }
-        Expr::Field(operand, _) => misplaced(looking, operand, wanted),
-        Expr::Parentheses(_, inner) => misplaced(looking, inner, wanted),
+        Expr::Field(operand, _) => off_clock(looking, operand, wanted),
+        Expr::Parentheses(_, inner) => off_clock(looking, inner, wanted),
         Expr::When(operand, test) => {
             let has = Clock::on(test);
             let found = looking.compared(expr, has, wanted);
@@ -70,18 +70,18 @@ pub fn misplaced<'t>(
             }
             let tested = has.newest?;
             let inside = looking.clocks.clock(tested.variable.text.as_str())?;
-            misplaced(looking, operand, inside)
+            off_clock(looking, operand, inside)
         }
-        Expr::Unary(_, _, operand) => misplaced(looking, operand, wanted),
-        Expr::Binary(_, left, right) => match misplaced(looking, left, wanted) {
+        Expr::Unary(_, _, operand) => off_clock(looking, operand, wanted),
+        Expr::Binary(_, left, right) => match off_clock(looking, left, wanted) {
             Some(found) => Some(found),
-            None => misplaced(looking, right, wanted),
+            None => off_clock(looking, right, wanted),
         },
-        Expr::If(_, condition, left, right) => match misplaced(looking, condition, wanted) {
+        Expr::If(_, condition, left, right) => match off_clock(looking, condition, wanted) {
             Some(found) => Some(found),
-            None => match misplaced(looking, left, wanted) {
+            None => match off_clock(looking, left, wanted) {
                 Some(found) => Some(found),
-                None => misplaced(looking, right, wanted),
+                None => off_clock(looking, right, wanted),
             },
         },
     }
@@ -94,7 +94,7 @@ fn in_parts<'t>(
     wanted: Clock<'t>,
 ) -> Option<Misplaced<'t>> {
     for part in parts {
-        let found = misplaced(looking, &part.value, wanted);
+        let found = off_clock(looking, &part.value, wanted);
         if found.is_some() {
             return found;
         }
@@ -117,7 +117,7 @@ fn in_branches<'t>(
                     label: text_of_label(label),
                 }),
             };
-            let found = misplaced(looking, &part.value, clock);
+            let found = off_clock(looking, &part.value, clock);
             if found.is_some() {
                 return found;
             }
@@ -130,5 +130,5 @@ fn in_branches<'t>(
 pub fn in_equation<'t>(looking: Looking<'t, '_>, equation: &'t Equation) -> Option<Misplaced<'t>> {
     let first = equation.left.first()?;
     let wanted = looking.clocks.clock(first.text.as_str())?;
-    misplaced(looking, &equation.right, wanted)
+    off_clock(looking, &equation.right, wanted)
 }

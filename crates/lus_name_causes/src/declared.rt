@@ -92,6 +92,7 @@ pub fn candidates<'t>(
             texts.push("false")?;
         }
         Role::Variable => {}
+        Role::Left => {}
         Role::Constructor => {
             let mut names = Vec::new(alloc);
             push_constructors(&mut names, tree)?;

@@ -107,7 +107,7 @@ pub fn wrong_left(
             }
             let used = Use {
                 name: *left,
-                role: Role::Value,
+                role: Role::Left,
             };
             let finding = unknown(alloc, used, &texts)?;
             return Ok(Some(finding));

@@ -12,6 +12,7 @@ pub enum Role {
     Constructor,
     Type,
     Node,
+    Left,
 }
 
 impl Role {
@@ -23,6 +24,7 @@ impl Role {
             Role::Constructor => "no constructor",
             Role::Type => "no type",
             Role::Node => "no node",
+            Role::Left => "no output and no local",
         }
     }
 }

@@ -3,7 +3,7 @@
 use crate::first::first_value;
 use crate::flags::{Flags, flag_of};
 use lus_faults::{Edit, Finding, extent_of, slice_of};
-use lus_syntax::{Expr, Infix, Name, Part, Prefix, Tree};
+use lus_syntax::{Expr, Infix, Name, Part, Prefix, Span, Tree};
 use std::alloc::{AllocError, Global};
 
 /// Where a nil comes from: a variable, or a `pre`; and whether it comes through a branch or an operand.
@@ -70,6 +70,24 @@ fn origin_in<'t>(flags: &Flags<'t>, parts: &'t [Part]) -> Option<Origin<'t>> {
     None
 }
 
+/// Whether an opening parenthesis stands at a byte.
+fn is_open(bytes: &[u8], at: usize) -> bool {
+    match bytes.get(at) {
+        Some(byte) => *byte == b'(',
+        None => false,
+    }
+}
+
+/// Whether parentheses stand right before and behind a span.
+fn is_enclosed(source: &str, span: Span) -> bool {
+    let bytes = source.as_bytes();
+    let before = (span.start.byte as usize).checked_sub(1);
+    match (before, bytes.get(span.end().byte as usize)) {
+        (Some(before), Some(close)) => *close == b')' && is_open(bytes, before),
+        _ => false,
+    }
+}
+
 /// How `pre` is written with a first value.
 fn edit_of(
     alloc: Global,
@@ -80,14 +98,19 @@ fn edit_of(
 ) -> Result<Option<Edit>, AllocError> {
     let span = extent_of(source, expr);
     let text = slice_of(source, span);
-    match first_value(tree, flags.node, expr) {
-        Some(first) => Ok(Some(Edit {
-            byte: span.start.byte,
-            length: span.length,
-            text: format!(in alloc; "({first} -> {text})")?,
-        })),
-        None => Ok(None),
-    }
+    let Some(first) = first_value(tree, flags.node, expr) else {
+        return Ok(None);
+    };
+    let written = if is_enclosed(source, span) {
+        format!(in alloc; "{first} -> {text}")?
+    } else {
+        format!(in alloc; "({first} -> {text})")?
+    };
+    Ok(Some(Edit {
+        byte: span.start.byte,
+        length: span.length,
+        text: written,
+    }))
 }
 
 /// The variable that an expression is.

@@ -69,8 +69,8 @@ pub fn report(
     explanation: &Explanation<'_>,
     detail: &Detail,
 ) -> Result<String, AllocError>
-    ensures { IfOk result (λ text. string_bytes text
-        ≡ report_text name.now explanation.now.refusal (option_map (λ line. line.now) explanation.now.line) (detail_seen detail.now)) }
+    ensures { let line = option_map (λ line. line.now) explanation.now.line in
+        IfOk result (λ text. string_bytes text ≡ report_text name.now explanation.now.refusal line (detail_seen detail.now)) }
 {
     let refusal = &explanation.refusal;
     let mut report = String::new(alloc);

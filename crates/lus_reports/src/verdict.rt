@@ -45,8 +45,8 @@ fn refused_program(
     detail: &Detail,
 ) -> Result<Verdict, Fault>
     ensures status { IfOk result (λ v. v.status ≡ 1) }
-    ensures text { IfOk result (λ v. string_bytes v.text
-        ≡ report_text name.now explanation.now.refusal (option_map (λ line. line.now) explanation.now.line) (detail_seen detail.now)) }
+    ensures text { let line = option_map (λ line. line.now) explanation.now.line in
+        IfOk result (λ v. string_bytes v.text ≡ report_text name.now explanation.now.refusal line (detail_seen detail.now)) }
     ensures number { OnOk result (explanation.now.refusal.number ≢ numbers.Memory) }
     ensures memory { IfErr result (λ f. f ≡ faults.Memory) }
 {

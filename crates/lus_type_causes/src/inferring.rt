@@ -54,7 +54,7 @@ pub fn infer(given: Given<'_>, expr: &Expr) -> Inferred {
         }
         Expr::Field(operand, name) => {
             let kind = infer(given, operand)?;
-            field(given, operand, kind, name)
+            field(given, kind, name)
         }
         Expr::Parentheses(_, inner) => infer(given, inner),
         Expr::When(operand, test) => {

@@ -2,8 +2,8 @@
 
 use lus_syntax::Tree;
 
-/// A type: `bool`, `int`, or the enumeration or structure that a type's declaration stands for, by its place. What isn't known is no
-/// fault here.
+/// A type: `bool`, `int`, or the enumeration or structure that a declaration stands for, by its place. What isn't known is no fault
+/// here.
 #[derive(Clone, Copy, PartialEq, Eq)]
 pub enum Kind {
     Bool,

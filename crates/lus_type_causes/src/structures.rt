@@ -4,8 +4,8 @@ use crate::inferring::Given;
 use crate::kinds::Kind;
 use crate::scope::kind_of;
 use crate::stop::{Clash, Inferred, ending, told_at};
-use lus_faults::{Edit, extent_of, nearest, start_of};
-use lus_syntax::{Definition, Expr, Fields, Lead, Name, Part, Span, TypeDeclaration};
+use lus_faults::{Edit, extent_of, nearest};
+use lus_syntax::{Definition, Fields, Lead, Name, Part, Span, TypeDeclaration};
 use std::alloc::AllocError;
 
 /// The declaration of a structure's type.
@@ -80,15 +80,11 @@ fn no_structure(given: Given<'_>, main: Span, kind: Kind) -> Result<Clash, Alloc
 }
 
 /// A field of a value.
-pub fn field(given: Given<'_>, operand: &Expr, kind: Kind, name: &Name) -> Inferred {
+pub fn field(given: Given<'_>, kind: Kind, name: &Name) -> Inferred {
     if kind == Kind::Unknown {
         return Ok(kind);
     }
-    let start = start_of(operand);
-    let main = Span {
-        start,
-        length: name.span.end().byte.saturating_sub(start.byte),
-    };
+    let main = name.span;
     let Some((declaration, groups)) = structure_of(given, kind) else {
         return Err(ending(given.alloc, no_structure(given, main, kind)?));
     };
