@@ -31,7 +31,7 @@ module _ (m n : ℕ) (is : m ≡ most_bytes) (next : n ≡ m + 1) (bytes left : 
       is_back = omega arith
 
   pub verdict_left : (name : Text) (said : Said) {scripts : Option Named} → IsVerdict (named name bytes) said scripts → IsVerdict (named name left) said scripts
-  verdict_left name said (verdicts.is_refused r line other explained status text) = verdicts.is_refused r line other (explained_left r explained) status text
+  verdict_left name said (verdicts.is_refused r line told other explained status text) = verdicts.is_refused r line told other (explained_left r explained) status text
   verdict_left name said (is_accepted p a status) = is_accepted p (accepted_so p a) status
   verdict_left name said (are_judged p a judged) = are_judged p (accepted_so p a) judged
 
@@ -40,7 +40,7 @@ module _ (m n : ℕ) (is : m ≡ most_bytes) (next : n ≡ m + 1) (bytes left : 
   judged_left p name said (are_refused e other r status text) = are_refused e other (error_left m n is next p bytes left read e r) status text
 
   pub scripts_so : (program : Named) (name : Text) (said : Said) → IsVerdict program said (Some (named name bytes)) → IsVerdict program said (Some (named name left))
-  scripts_so program name said (verdicts.is_refused r line other explained status text) = verdicts.is_refused r line other explained status text
+  scripts_so program name said (verdicts.is_refused r line told other explained status text) = verdicts.is_refused r line told other explained status text
   scripts_so program name said (are_judged p a judged) = are_judged p a (judged_left p name said judged)
 
 -- what follows of a file's bytes

@@ -10,7 +10,6 @@ use Rattle.lus_syntax.specs.declared.refusal.RefusalNumber.TheVariants as number
 use Rattle.lus_cli.specs.MachineSpecs.Acceptance.{RefusedWith}
 use Rattle.lus_cli.specs.HostSpecs.Sources.{IsNoText}
 use Rattle.lus_reports.specs.Lines.{blanks, line_at}
-use Rattle.lus_reports.specs.Sentences.{fault_of, sentence_of}
 
 -- the bytes are no text, which has no lines to show, or a text whose refusal, but for want of memory, is its own, and the line
 -- is that of the refusal
@@ -22,14 +21,20 @@ pub data IsExplained (bytes : Text) (r : Refusal) : Option Text → Type 0 where
 abbrev pub place_text : Text → Refusal → Text
 place_text name r = name ++ codes ":" ++ decimal r.line ++ codes ":" ++ decimal r.column ++ codes ": "
 
--- what it is
-abbrev pub error_text : RefusalNumber → Text
-error_text number = codes "error " ++ number_text number ++ codes ": " ++ fault_of number ++ codes "\n"
+-- what is told of the case: a sentence, the carets behind the first, and what stands behind the line
+pub record Telling : Type 0 where
+  pub sentence : Text
+  pub marks : Text
+  pub more : Text
 
--- the line, and a caret under the column
-abbrev pub line_text : Option Text → Refusal → Text
-line_text None r = []
-line_text (Some line) r = line ++ codes "\n" ++ blanks line r.column ++ codes "^\n"
+-- what it is
+abbrev pub error_text : RefusalNumber → Text → Text
+error_text number sentence = codes "error " ++ number_text number ++ codes ": " ++ sentence ++ codes "\n"
+
+-- the line, a caret under the column, and those behind it
+abbrev pub line_text : Option Text → Refusal → Text → Text
+line_text None r marks = []
+line_text (Some line) r marks = line ++ codes "\n" ++ blanks line r.column ++ codes "^" ++ marks ++ codes "\n"
 
 -- the variables of a cycle
 abbrev pub cycle_line : List Text → Text
@@ -37,5 +42,6 @@ cycle_line [] = []
 cycle_line (name ∷ names) = cycle_text (name ∷ names) ++ codes "\n"
 
 -- all that is said of a refusal of the program of this name
-abbrev pub report_text : Text → Refusal → Option Text → Text
-report_text name r line = place_text name r ++ error_text r.number ++ line_text line r ++ cycle_line r.cycle ++ sentence_of r.number ++ codes "\n"
+abbrev pub report_text : Text → Refusal → Option Text → Telling → Text
+report_text name r line told =
+    place_text name r ++ error_text r.number told.sentence ++ line_text line r told.marks ++ cycle_line r.cycle ++ told.more

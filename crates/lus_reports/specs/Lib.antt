@@ -1,6 +1,6 @@
 pub mod Lines
-pub mod Sentences
 pub mod Explanations
+pub mod Details
 pub mod Complaints
 pub mod CommandLine
 pub mod Verdicts

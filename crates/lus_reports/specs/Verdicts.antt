@@ -10,7 +10,7 @@ use Rattle.lus_scripts.specs.declared.refusal.ScriptRefusal.TheVariants as refus
 use Rattle.lus_cli.specs.MachineSpecs.Acceptance.{Accepted}
 use Rattle.lus_cli.specs.HostSpecs.ScriptRefusals.{AreRefused, AreScripts}
 use Rattle.lus_reports.specs.Complaints.{SaysRefusal, counts_text}
-use Rattle.lus_reports.specs.Explanations.{IsExplained, report_text}
+use Rattle.lus_reports.specs.Explanations.{IsExplained, Telling, report_text}
 use Rattle.lus_reports.specs.declared.verdict.File.{File}
 use Rattle.lus_reports.specs.declared.verdict.Verdict.{Verdict}
 
@@ -37,8 +37,8 @@ pub data AreJudged (p : Program) (scripts : Named) (said : Said) : Type 0 where
 -- a program is refused, and its refusal is said, with the line of the source that it names; or it is accepted, and the scripts are
 -- judged, if there are any
 pub data IsVerdict (program : Named) (said : Said) : Option Named → Type 0 where
-  is_refused : {scripts : Option Named} (r : Refusal) (line : Option Text) → r.number ≢ numbers.Memory → IsExplained program.bytes r line
-      → said.status ≡ 1 → said.text ≡ report_text program.name r line → IsVerdict program said scripts
+  is_refused : {scripts : Option Named} (r : Refusal) (line : Option Text) (told : Telling) → r.number ≢ numbers.Memory → IsExplained program.bytes r line
+      → said.status ≡ 1 → said.text ≡ report_text program.name r line told → IsVerdict program said scripts
   is_accepted : (p : Program) → Accepted program.bytes p → said.status ≡ 0 → IsVerdict program said None
   are_judged : {scripts : Named} (p : Program) → Accepted program.bytes p → AreJudged p scripts said → IsVerdict program said (Some scripts)
 

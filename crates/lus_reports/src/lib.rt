@@ -2,6 +2,7 @@
 #![tactic(auto)]
 
 mod check;
+mod detail;
 mod explanation;
 mod finding;
 mod form;
@@ -20,6 +21,7 @@ mod verdict;
 mod words;
 
 pub use check::Check;
+pub use detail::{Detail, detail_of};
 pub use explanation::{Explanation, explain};
 pub use finding::{Finding, Found};
 pub use lus_cli;

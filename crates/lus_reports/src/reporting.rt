@@ -2,10 +2,11 @@
 
 ghost use Rattle.std.specs.Prelude.{◌≡◌, ◌++◌, IfOk, OnOk, option_map, string_bytes};
 ghost use Rattle.lus_reports.specs.Explanations.{cycle_line, error_text, line_text, place_text, report_text};
+ghost use Rattle.lus_reports.specs.Details.{detail_seen};
 
+use crate::detail::Detail;
 use crate::explanation::Explanation;
 use crate::lines::blanks;
-use crate::sentences::{fault_of, sentence_of};
 use lus_syntax::Refusal;
 use std::alloc::{AllocError, Global};
 
@@ -19,31 +20,34 @@ fn push_place(report: &mut String, name: &str, refusal: &Refusal) -> Result<(), 
     Ok(())
 }
 
-/// The number, and the fault in a few words, as `error E6: clocks disagree`.
-fn push_fault(report: &mut String, refusal: &Refusal) -> Result<(), AllocError>
-    ensures { OnOk result (string_bytes report.new ≡ string_bytes report.old ++ error_text refusal.now.number) }
+/// The number, and a sentence of the case, as `error E4: no node is named `g``.
+fn push_fault(report: &mut String, refusal: &Refusal, detail: &Detail) -> Result<(), AllocError>
+    ensures { OnOk result (string_bytes report.new
+        ≡ string_bytes report.old ++ error_text refusal.now.number (string_bytes detail.now.sentence)) }
 {
     let number = refusal.number.as_str();
-    let fault = fault_of(refusal.number);
-    write!(report, "error {number}: {fault}\n")?;
+    let sentence = &detail.sentence;
+    write!(report, "error {number}: {sentence}\n")?;
     Ok(())
 }
 
-/// The line, and a caret under the column.
+/// The line, a caret under the column, and those behind it.
 fn push_line(
     alloc: Global,
     report: &mut String,
     line: Option<&str>,
     refusal: &Refusal,
+    detail: &Detail,
 ) -> Result<(), AllocError>
     ensures { OnOk result (string_bytes report.new
-        ≡ string_bytes report.old ++ line_text (option_map (λ l. l.now) line.entry) refusal.now) }
+        ≡ string_bytes report.old ++ line_text (option_map (λ l. l.now) line.entry) refusal.now (string_bytes detail.now.marks)) }
 {
     let Some(line) = line else {
         return Ok(());
     };
     let blanks = blanks(alloc, line, refusal.column as usize)?;
-    write!(report, "{line}\n{blanks}^\n")
+    let marks = &detail.marks;
+    write!(report, "{line}\n{blanks}^{marks}\n")
 }
 
 /// The variables of a cycle.
@@ -57,23 +61,24 @@ fn push_cycle(report: &mut String, refusal: &Refusal) -> Result<(), AllocError>
     write!(report, "{cycle}\n")
 }
 
-/// All that is said of a refusal of the program of this name: where and what, the line of the source with a caret, the
-/// variables of a cycle, and one sentence.
+/// All that is said of a refusal of the program of this name: where and what, the line of the source with carets, the variables of
+/// a cycle, and what is known of its case.
 pub fn report(
     alloc: Global,
     name: &str,
     explanation: &Explanation<'_>,
+    detail: &Detail,
 ) -> Result<String, AllocError>
-    ensures { IfOk result (λ text. string_bytes text
-        ≡ report_text name.now explanation.now.refusal (option_map (λ line. line.now) explanation.now.line)) }
+    ensures { let line = option_map (λ line. line.now) explanation.now.line in
+        IfOk result (λ text. string_bytes text ≡ report_text name.now explanation.now.refusal line (detail_seen detail.now)) }
 {
     let refusal = &explanation.refusal;
     let mut report = String::new(alloc);
     push_place(&mut report, name, refusal)?;
-    push_fault(&mut report, refusal)?;
-    push_line(alloc, &mut report, explanation.line, refusal)?;
+    push_fault(&mut report, refusal, detail)?;
+    push_line(alloc, &mut report, explanation.line, refusal, detail)?;
     push_cycle(&mut report, refusal)?;
-    let sentence = sentence_of(refusal.number);
-    write!(report, "{sentence}\n")?;
+    let more = &detail.more;
+    write!(report, "{more}")?;
     Ok(report)
 }

@@ -1,14 +1,9 @@
 //! What the number of a refusal means to whoever reads the source, and what to do.
 
-ghost use Rattle.std.specs.Prelude.{◌≡◌};
-ghost use Rattle.lus_reports.specs.Sentences.{fault_of, sentence_of};
-
 use lus_syntax::RefusalNumber;
 
 /// The fault in a few words.
-pub(crate) fn fault_of(number: RefusalNumber) -> &'static str
-    ensures { result.now ≡ fault_of number }
-{
+pub(crate) fn fault_of(number: RefusalNumber) -> &'static str {
     match number {
         RefusalNumber::Lexical => "no token begins here",
         RefusalNumber::Syntax => "this spells no program",
@@ -20,14 +15,12 @@ pub(crate) fn fault_of(number: RefusalNumber) -> &'static str
         RefusalNumber::Nil => "a value may be nil where none may",
         RefusalNumber::Recursion => "a node or a type leads back to itself",
         RefusalNumber::Limit => "a limit is passed",
-        RefusalNumber::Memory => "want of memory",
+        RefusalNumber::Memory => "out of memory",
     }
 }
 
 /// One sentence on what it means here and what to do.
-pub(crate) fn sentence_of(number: RefusalNumber) -> &'static str
-    ensures { result.now ≡ sentence_of number }
-{
+pub(crate) fn sentence_of(number: RefusalNumber) -> &'static str {
     match number {
         RefusalNumber::Lexical =>
             "Close the comment, write a token of the language, or save the bytes as UTF-8.",

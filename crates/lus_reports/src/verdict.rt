@@ -8,8 +8,10 @@ ghost use Rattle.lus_scripts.specs.View.{scripts_seen};
 ghost use Rattle.lus_cli.specs.declared.fault.Fault.TheVariants as faults;
 ghost use Rattle.lus_reports.specs.Complaints.{SaysRefusal, counts_text};
 ghost use Rattle.lus_reports.specs.Explanations.{report_text};
+ghost use Rattle.lus_reports.specs.Details.{detail_seen};
 ghost use Rattle.lus_reports.specs.Verdicts.{AreJudged, IsVerdict, file_seen, verdict_seen};
 
+use crate::detail::{Detail, detail_of};
 use crate::explanation::{Explanation, explain};
 use crate::outlining::outline;
 use crate::reporting::report;
@@ -40,17 +42,18 @@ fn refused_program(
     alloc: Global,
     name: &str,
     explanation: &Explanation<'_>,
+    detail: &Detail,
 ) -> Result<Verdict, Fault>
     ensures status { IfOk result (λ v. v.status ≡ 1) }
-    ensures text { IfOk result (λ v. string_bytes v.text
-        ≡ report_text name.now explanation.now.refusal (option_map (λ line. line.now) explanation.now.line)) }
+    ensures text { let line = option_map (λ line. line.now) explanation.now.line in
+        IfOk result (λ v. string_bytes v.text ≡ report_text name.now explanation.now.refusal line (detail_seen detail.now)) }
     ensures number { OnOk result (explanation.now.refusal.number ≢ numbers.Memory) }
     ensures memory { IfErr result (λ f. f ≡ faults.Memory) }
 {
     if explanation.refusal.number == RefusalNumber::Memory {
         return Err(Fault::Memory);
     }
-    match report(alloc, name, explanation) {
+    match report(alloc, name, explanation, detail) {
         Ok(text) => Ok(Verdict { text, status: 1 }),
         Err(_) => Err(Fault::Memory),
     }
@@ -119,6 +122,9 @@ pub fn judge(alloc: Global, program: File<'_>, scripts: Option<File<'_>>) -> Res
             Some(scripts) => judge_scripts(alloc, &accepted, scripts),
             None => accepted_program(alloc, program),
         },
-        Err(explanation) => refused_program(alloc, program.name, &explanation),
+        Err(explanation) => match detail_of(alloc, program.name, program.bytes, &explanation) {
+            Ok(detail) => refused_program(alloc, program.name, &explanation, &detail),
+            Err(_) => Err(Fault::Memory),
+        },
     }
 }

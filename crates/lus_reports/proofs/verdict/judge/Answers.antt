@@ -3,6 +3,7 @@ use Rattle.std.proofs.Common.{◌≡◌, ◌≢◌, sym, subst, IfOk, option_map
 use Rattle.std.proofs.lemmas.Result.{IfOk-weaker}
 use Rattle.lus_syntax.specs.declared.refusal.RefusalNumber.TheVariants.{Memory}
 use Rattle.lus_cli.specs.CodeSpecs.Codes.{program_of}
+use Rattle.lus_reports.specs.Details.{detail_seen}
 use Rattle.lus_reports.specs.Explanations.{report_text}
 use Rattle.lus_reports.specs.Verdicts.{IsVerdict, are_judged, file_seen, is_accepted, is_refused, verdict_seen}
 use Rattle.lus_reports.proofs.Statuses.{by_three}
@@ -19,11 +20,12 @@ returns-in-Ok-clause-verdict c =
     (IfOk-weaker c.accepted_program.result _ _ (λ v status. is_accepted (program_of c.in-Ok.accepted) c.in-Ok.ensures.accepted status)
     c.accepted_program.ensures.status)
 
-pub returns-clause-verdict : goal.returns-clause-verdict
-returns-clause-verdict c =
+pub returns-in-Ok-detail_of-clause-verdict : goal.returns-in-Ok-detail_of-clause-verdict
+returns-in-Ok-detail_of-clause-verdict c =
     let r = c.in-Err.explanation.refusal in
     let line = option_map (λ line. line.now) c.in-Err.explanation.line in
-    by_three c.refused_program.result (λ v. v.status ≡ 1) (λ v. string_bytes v.text ≡ report_text c.args.program.name.now r line)
+    let told = detail_seen c.in-Ok-detail_of.detail in
+    by_three c.refused_program.result (λ v. v.status ≡ 1) (λ v. string_bytes v.text ≡ report_text c.args.program.name.now r line told)
     (λ v. IsVerdict (file_seen c.args.program) (verdict_seen v) (option_map file_seen c.args.scripts)) (r.number ≢ Memory)
     c.refused_program.ensures.status c.refused_program.ensures.text c.refused_program.ensures.number
-    (λ v status text other. is_refused r line other c.in-Err.ensures.explained status text)
+    (λ v status text other. is_refused r line told other c.in-Err.ensures.explained status text)

@@ -1,0 +1,9 @@
+//! What is said of clocks that disagree.
+#![tactic(auto)]
+
+mod cause;
+mod clock;
+mod declared;
+mod placing;
+
+pub use cause::clock_cause;

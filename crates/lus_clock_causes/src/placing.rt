@@ -1,0 +1,134 @@
+//! Where an expression isn't on the clock of its place.
+
+use crate::clock::{Clock, Clocks, Tick, text_of_label};
+use lus_faults::start_of;
+use lus_syntax::{Equation, Expr, Lead, Name, Part};
+
+/// An expression that is on another clock than its place: of a variable, or by `when`.
+#[derive(Clone, Copy)]
+pub struct Misplaced<'t> {
+    pub expr: &'t Expr,
+    pub has: Clock<'t>,
+    pub wanted: Clock<'t>,
+}
+
+/// What is looked through: the clocks of a node's variables, and the place that is looked for.
+#[derive(Clone, Copy)]
+pub struct Looking<'t, 'c> {
+    pub clocks: &'c Clocks<'t>,
+    pub line: u32,
+    pub column: u32,
+}
+
+impl<'t, 'c> Looking<'t, 'c> {
+    /// The expression, where it stands at the place and on another clock than it should.
+    fn compared(self, expr: &'t Expr, has: Clock<'t>, wanted: Clock<'t>) -> Option<Misplaced<'t>> {
+        let start = start_of(expr);
+        if start.line == self.line && start.column == self.column && !has.is(wanted) {
+            return Some(Misplaced { expr, has, wanted });
+        }
+        None
+    }
+}
+
+/// The first part of an expression at the place that isn't on its clock, where the expression should be on this one.
+#[cycle(placing)]
+pub fn off_clock<'t>(
+    looking: Looking<'t, '_>,
+    expr: &'t Expr,
+    wanted: Clock<'t>,
+) -> Option<Misplaced<'t>> {
+    match expr {
+        Expr::Number(_, _) => None,
+        Expr::Truth(_, _) => None,
+        Expr::Name(name) => {
+            let has = looking.clocks.clock(name.text.as_str())?;
+            looking.compared(expr, has, wanted)
+        }
+        Expr::Call(name, parts) => {
+            if looking.clocks.is_plain(name.text.as_str()) {
+                return in_parts(looking, parts, wanted);
+            }
+            None
+        }
+        Expr::Structure(_, parts) => in_parts(looking, parts, wanted),
+        Expr::Merge(_, variable, parts) => {
+            let has = looking.clocks.clock(variable.text.as_str())?;
+            let found = looking.compared(expr, has, wanted);
+            if found.is_some() {
+                return found;
+            }
+            in_branches(looking, variable, parts)
+        }
+        Expr::Field(operand, _) => off_clock(looking, operand, wanted),
+        Expr::Parentheses(_, inner) => off_clock(looking, inner, wanted),
+        Expr::When(operand, test) => {
+            let has = Clock::on(test);
+            let found = looking.compared(expr, has, wanted);
+            if found.is_some() {
+                return found;
+            }
+            let tested = has.newest?;
+            let inside = looking.clocks.clock(tested.variable.text.as_str())?;
+            off_clock(looking, operand, inside)
+        }
+        Expr::Unary(_, _, operand) => off_clock(looking, operand, wanted),
+        Expr::Binary(_, left, right) => match off_clock(looking, left, wanted) {
+            Some(found) => Some(found),
+            None => off_clock(looking, right, wanted),
+        },
+        Expr::If(_, condition, left, right) => match off_clock(looking, condition, wanted) {
+            Some(found) => Some(found),
+            None => match off_clock(looking, left, wanted) {
+                Some(found) => Some(found),
+                None => off_clock(looking, right, wanted),
+            },
+        },
+    }
+}
+
+#[cycle(placing)]
+fn in_parts<'t>(
+    looking: Looking<'t, '_>,
+    parts: &'t [Part],
+    wanted: Clock<'t>,
+) -> Option<Misplaced<'t>> {
+    for part in parts {
+        let found = off_clock(looking, &part.value, wanted);
+        if found.is_some() {
+            return found;
+        }
+    }
+    None
+}
+
+/// Each branch is on the clock of the merged variable with its own label.
+#[cycle(placing)]
+fn in_branches<'t>(
+    looking: Looking<'t, '_>,
+    variable: &'t Name,
+    parts: &'t [Part],
+) -> Option<Misplaced<'t>> {
+    for part in parts {
+        if let Lead::Branch(_, label) = &part.lead {
+            let clock = Clock {
+                newest: Some(Tick {
+                    variable,
+                    label: text_of_label(label),
+                }),
+            };
+            let found = off_clock(looking, &part.value, clock);
+            if found.is_some() {
+                return found;
+            }
+        }
+    }
+    None
+}
+
+/// The first part of an equation at the place that isn't on its clock.
+pub fn in_equation<'t>(looking: Looking<'t, '_>, equation: &'t Equation) -> Option<Misplaced<'t>> {
+    let first = equation.left.first()?;
+    let wanted = looking.clocks.clock(first.text.as_str())?;
+    off_clock(looking, &equation.right, wanted)
+}

@@ -1,0 +1,16 @@
+//! What there is to say of a refused source: what is wrong, where it comes from, and how its text would be accepted.
+#![tactic(auto)]
+
+mod edit;
+mod extent;
+mod finding;
+mod lines;
+mod report;
+mod spelling;
+
+pub use edit::{Edit, edited, edited_lines};
+pub use extent::{extent_of, label_span, start_of};
+pub use finding::{Finding, Related};
+pub use lines::{bytes_at, line_at, offset_of, slice_of};
+pub use report::{further_marks, push_finding};
+pub use spelling::{are_near, nearest};

@@ -1,0 +1,121 @@
+//! Which limit is passed, by what stands at the place of the refusal.
+
+use crate::counts::{is_at, parts_of, variable_at, variables_of};
+use lus_faults::Finding;
+use lus_grammar::parse;
+use lus_syntax::{
+    MOST_CALLS_DEEP, MOST_CELLS, MOST_CONSTRUCTORS, MOST_DECLARATIONS, MOST_DEPTH, MOST_FIELDS,
+    MOST_LEAVES, MOST_NESTING, MOST_VARIABLES, Name, Refusal, RefusalNumber, Tree, lex,
+};
+use std::alloc::{AllocError, Global};
+
+/// What is said of too many of something: how many there are, and the limit.
+fn too_many(
+    alloc: Global,
+    name: &Name,
+    what: &str,
+    count: usize,
+    most: usize,
+) -> Result<Finding, AllocError> {
+    let sentence = format!(in alloc; "{count} {what}, where at most {most} may be")?;
+    Ok(Finding::new(alloc, sentence, name.span.length))
+}
+
+/// What is said of a type that is too large.
+fn large_type(
+    alloc: Global,
+    tree: &Tree,
+    refusal: &Refusal,
+) -> Result<Option<Finding>, AllocError> {
+    for (place, declaration) in tree.types.iter().enumerate() {
+        let name = &declaration.name;
+        if is_at(name, refusal.line, refusal.column) {
+            if place >= MOST_DECLARATIONS {
+                let count = tree.types.len();
+                return Ok(Some(too_many(alloc, name, "types", count, MOST_DECLARATIONS)?));
+            }
+            let (what, count) = parts_of(declaration);
+            let most = if what == "constructors" {
+                MOST_CONSTRUCTORS
+            } else {
+                MOST_FIELDS
+            };
+            if count > most {
+                return Ok(Some(too_many(alloc, name, what, count, most)?));
+            }
+            let text = name.text.as_str();
+            let sentence = format!(in alloc;
+                "`{text}` has more than {MOST_LEAVES} leaves, or structures nest in it deeper than {MOST_NESTING}"
+            )?;
+            return Ok(Some(Finding::new(alloc, sentence, name.span.length)));
+        }
+    }
+    Ok(None)
+}
+
+/// What is said of a node that is too large, or one too many.
+fn large_node(
+    alloc: Global,
+    tree: &Tree,
+    refusal: &Refusal,
+) -> Result<Option<Finding>, AllocError> {
+    for (place, node) in tree.nodes.iter().enumerate() {
+        let name = &node.name;
+        if is_at(name, refusal.line, refusal.column) {
+            if place >= MOST_DECLARATIONS {
+                let count = tree.nodes.len();
+                return Ok(Some(too_many(alloc, name, "nodes", count, MOST_DECLARATIONS)?));
+            }
+            let text = name.text.as_str();
+            let sentence = format!(in alloc;
+                "calls nest in `{text}` deeper than {MOST_CALLS_DEEP}, or it keeps more than {MOST_CELLS} state cells"
+            )?;
+            return Ok(Some(Finding::new(alloc, sentence, name.span.length)));
+        }
+        if let Some(variable) = variable_at(node, refusal.line, refusal.column) {
+            let count = variables_of(node);
+            return Ok(Some(too_many(alloc, variable, "variables", count, MOST_VARIABLES)?));
+        }
+    }
+    Ok(None)
+}
+
+/// What is said of an expression that is too deep.
+fn too_deep(alloc: Global) -> Result<Finding, AllocError> {
+    let sentence = format!(in alloc; "the expression here is deeper than {MOST_DEPTH}")?;
+    let finding = Finding::new(alloc, sentence, 1);
+    let note = "Give its parts names: a local for each, with an equation. Parentheses count too.";
+    finding.with_note(alloc, note)
+}
+
+/// What is said of a limit that a tree passes.
+fn of_tree(alloc: Global, tree: &Tree, refusal: &Refusal) -> Result<Option<Finding>, AllocError> {
+    for (place, constant) in tree.constants.iter().enumerate() {
+        if place >= MOST_DECLARATIONS && is_at(&constant.name, refusal.line, refusal.column) {
+            let count = tree.constants.len();
+            let name = &constant.name;
+            return Ok(Some(too_many(alloc, name, "constants", count, MOST_DECLARATIONS)?));
+        }
+    }
+    let found = large_type(alloc, tree, refusal)?;
+    if found.is_some() {
+        return Ok(found);
+    }
+    large_node(alloc, tree, refusal)
+}
+
+/// What is said of a limit that is passed; nothing where it is none of declarations, of types and nodes, or of depth.
+pub fn limit_cause(
+    alloc: Global,
+    source: &str,
+    refusal: &Refusal,
+) -> Result<Option<Finding>, AllocError> {
+    let Ok(tokens) = lex(alloc, source) else {
+        return Ok(None);
+    };
+    match parse(alloc, &tokens) {
+        Ok(tree) => of_tree(alloc, &tree, refusal),
+        Err(found) if found.number == RefusalNumber::Limit => Ok(Some(too_deep(alloc)?)),
+        Err(_) => Ok(None),
+    }
+}

@@ -1,0 +1,7 @@
+//! What is said of a limit that is passed: which, its value, and how many there are.
+#![tactic(auto)]
+
+mod cause;
+mod counts;
+
+pub use cause::limit_cause;

@@ -1,0 +1,314 @@
+//! Forms of other languages, and of the full language, by their tokens.
+
+use crate::declaration::Declaration;
+use crate::spelled::{compares, is_infix, is_next, is_symbol, is_word};
+use lus_faults::{Edit, Finding, bytes_at, slice_of};
+use lus_syntax::{Symbol, Token, TokenKind, Word};
+use std::alloc::{AllocError, Global};
+
+/// A form that is told by its tokens: what is said, a note, and the bytes that another text takes the place of.
+#[derive(Clone, Copy)]
+struct Form {
+    sentence: &'static str,
+    note: &'static str,
+    instead: Option<(u32, u32, &'static str)>,
+}
+
+/// A form without another text.
+fn told(sentence: &'static str, note: &'static str) -> Option<Form> {
+    Some(Form {
+        sentence,
+        note,
+        instead: None,
+    })
+}
+
+/// Where two tokens stand, from the first one's first byte to the second one's last.
+fn across(first: &Token, second: &Token) -> (u32, u32) {
+    let start = first.span.start.byte;
+    (start, second.span.end().byte.saturating_sub(start))
+}
+
+/// Two symbols that make one in other languages.
+fn doubled(declaration: &Declaration<'_>, found: &Token) -> Option<Form> {
+    let before = declaration.before(1)?;
+    if !is_next(Some(before), Some(found)) {
+        return None;
+    }
+    let (byte, length) = across(before, found);
+    if is_symbol(Some(before), Symbol::Equal) && is_symbol(Some(found), Symbol::Equal) {
+        return Some(Form {
+            sentence: "`==` is no operator",
+            note: "`=` says that two values are equal.",
+            instead: Some((byte, length, "=")),
+        });
+    }
+    let is_static = is_symbol(Some(before), Symbol::Less) && is_symbol(Some(found), Symbol::Less);
+    if is_static {
+        return told(
+            "static parameters, in `<<` and `>>`, are left out",
+            "Write a node for each, or give the value as an input.",
+        );
+    }
+    None
+}
+
+/// An equation that is written as an assignment.
+fn assigned(declaration: &Declaration<'_>, found: &Token) -> Option<Form> {
+    let after = declaration.behind(1)?;
+    let is_assignment = is_symbol(Some(found), Symbol::Colon)
+        && is_symbol(Some(after), Symbol::Equal)
+        && is_next(Some(found), Some(after));
+    if !is_assignment {
+        return None;
+    }
+    let (byte, length) = across(found, after);
+    Some(Form {
+        sentence: "equations are written with `=`",
+        note: "An equation holds at each instant; nothing is assigned.",
+        instead: Some((byte, length, "=")),
+    })
+}
+
+/// A number with a point.
+fn pointed(declaration: &Declaration<'_>) -> Option<Form> {
+    let point = declaration.before(1)?;
+    let number = declaration.before(2)?;
+    let is_number = matches!(number.kind, TokenKind::Number(_));
+    if is_number && is_symbol(Some(point), Symbol::Dot) && is_next(Some(number), Some(point)) {
+        return told(
+            "numbers with a point are left out",
+            "Write `int`, and count in hundredths or thousandths: 150 for 1.5.",
+        );
+    }
+    None
+}
+
+/// A word that is one word too few, or of another language.
+fn joined(source: &str, found: &Token) -> Option<Form> {
+    let text = slice_of(source, found.span);
+    let byte = found.span.start.byte;
+    let length = found.span.length;
+    if text == "whenot" {
+        return Some(Form {
+            sentence: "`whenot` is no word of the language",
+            note: "A test that fails is written `when not`.",
+            instead: Some((byte, length, "when not")),
+        });
+    }
+    if text == "elsif" || text == "elseif" || text == "elif" {
+        return Some(Form {
+            sentence: "this is no word of the language",
+            note: "A further condition is written `else if`.",
+            instead: Some((byte, length, "else if")),
+        });
+    }
+    None
+}
+
+/// An expression where a constant's value stands.
+fn computed(declaration: &Declaration<'_>, found: &Token) -> Option<Form> {
+    if is_word(declaration.tokens.first(), Word::Const) && is_infix(found) && !compares(found) {
+        return told(
+            "a constant is one value, and no expression",
+            "Write the value itself, or a node without inputs that gives it.",
+        );
+    }
+    None
+}
+
+/// A clock in parentheses that holds more than one variable.
+fn clocked(declaration: &Declaration<'_>, found: &Token) -> Option<Form> {
+    if is_word(declaration.before(1), Word::When) && is_symbol(Some(found), Symbol::Open) {
+        return told(
+            "the clock behind `when` is one variable, or `not` and one",
+            "Give the condition a name: declare a local of type `bool`, and write its equation.",
+        );
+    }
+    None
+}
+
+/// Several values in parentheses that are no arguments of a call.
+fn tuple(declaration: &Declaration<'_>, found: &Token) -> Option<Form> {
+    if !is_symbol(Some(found), Symbol::Comma) {
+        return None;
+    }
+    let mut depth = 0usize;
+    for back in 1..200usize {
+        let token = declaration.before(back)?;
+        if is_symbol(Some(token), Symbol::Close) {
+            depth = depth.saturating_add(1);
+        }
+        if is_symbol(Some(token), Symbol::Semicolon) {
+            return None;
+        }
+        if is_symbol(Some(token), Symbol::Open) {
+            if depth == 0 {
+                return told(
+                    "several values in parentheses are left out, but for the results of one call",
+                    "Write an equation for each variable, or a structure.",
+                );
+            }
+            depth -= 1;
+        }
+    }
+    None
+}
+
+/// The first form that the tokens round a fault have.
+fn form_of(source: &str, declaration: &Declaration<'_>, found: &Token) -> Option<Form> {
+    doubled(declaration, found)
+        .or(assigned(declaration, found))
+        .or(pointed(declaration))
+        .or(joined(source, found))
+        .or(computed(declaration, found))
+        .or(clocked(declaration, found))
+        .or(tuple(declaration, found))
+}
+
+/// The place behind the operand that begins at one.
+fn operand_end(declaration: &Declaration<'_>, from: usize) -> usize {
+    let mut depth = 0usize;
+    for (place, token) in declaration.tokens.iter().enumerate() {
+        if place >= from {
+            let opens = is_symbol(Some(token), Symbol::Open);
+            let closes = is_symbol(Some(token), Symbol::Close);
+            let goes_on = place > from && (opens || is_symbol(Some(token), Symbol::Dot))
+                || is_symbol(declaration.tokens.get(place.saturating_sub(1)), Symbol::Dot)
+                || place == from;
+            if depth == 0 && !goes_on {
+                return place;
+            }
+            if opens {
+                depth = depth.saturating_add(1);
+            }
+            if closes {
+                depth = depth.saturating_sub(1);
+            }
+        }
+    }
+    declaration.tokens.len()
+}
+
+/// The text of the tokens from one place up to another.
+fn text_of<'s>(
+    source: &'s str,
+    declaration: &Declaration<'_>,
+    from: usize,
+    to: usize,
+) -> Option<&'s str> {
+    let start = declaration.tokens.get(from)?.span.start.byte;
+    let end = declaration.tokens.get(to.checked_sub(1)?)?.span.end().byte;
+    bytes_at(source, start as usize, end as usize)
+}
+
+/// What is said of a `merge` whose branches have no labels.
+fn unlabelled(
+    alloc: Global,
+    source: &str,
+    declaration: &Declaration<'_>,
+) -> Result<Option<Finding>, AllocError> {
+    let is_merge = is_word(declaration.before(2), Word::Merge);
+    let Some(found) = declaration.found() else {
+        return Ok(None);
+    };
+    if !is_merge || is_symbol(Some(found), Symbol::Open) {
+        return Ok(None);
+    }
+    let middle = operand_end(declaration, declaration.fault);
+    let end = operand_end(declaration, middle);
+    let (Some(first), Some(second), Some(last)) = (
+        text_of(source, declaration, declaration.fault, middle),
+        text_of(source, declaration, middle, end),
+        declaration.tokens.get(end.saturating_sub(1)),
+    ) else {
+        return Ok(None);
+    };
+    let (byte, length) = across(found, last);
+    let edit = Edit {
+        byte,
+        length,
+        text: format!(in alloc; "(true -> {first}) (false -> {second})")?,
+    };
+    let sentence = String::from_str(alloc, "each branch of a `merge` has a label")?;
+    let note = "Of a `bool` the labels are `true` and `false`, of an enumeration its constructors.";
+    let finding = Finding::new(alloc, sentence, found.span.length).with_note(alloc, note)?;
+    Ok(Some(finding.with_edit(Some(edit))))
+}
+
+/// What is said of a clock in parentheses: it stands without them.
+fn bracketed(
+    alloc: Global,
+    source: &str,
+    declaration: &Declaration<'_>,
+) -> Result<Option<Finding>, AllocError> {
+    let is_clock = is_word(declaration.before(1), Word::When)
+        && is_symbol(declaration.found(), Symbol::Open);
+    let close = if is_word(declaration.behind(1), Word::Not) {
+        3
+    } else {
+        2
+    };
+    let (true, Some(found), Some(last)) = (is_clock, declaration.found(), declaration.behind(close))
+    else {
+        return Ok(None);
+    };
+    if !is_symbol(Some(last), Symbol::Close) {
+        return Ok(None);
+    }
+    let first = declaration.fault.saturating_add(1);
+    let Some(inner) = text_of(
+        source,
+        declaration,
+        first,
+        declaration.fault.saturating_add(close),
+    ) else {
+        return Ok(None);
+    };
+    let (byte, length) = across(found, last);
+    let edit = Edit {
+        byte,
+        length,
+        text: String::from_str(alloc, inner)?,
+    };
+    let sentence = String::from_str(alloc, "the clock behind `when` stands without parentheses")?;
+    Ok(Some(Finding::new(alloc, sentence, length).with_edit(Some(edit))))
+}
+
+/// What is said of a form, with the other text where there is one.
+fn finding_of(alloc: Global, form: Form, length: u32) -> Result<Finding, AllocError> {
+    let sentence = String::from_str(alloc, form.sentence)?;
+    let finding = Finding::new(alloc, sentence, length).with_note(alloc, form.note)?;
+    let Some((byte, taken, text)) = form.instead else {
+        return Ok(finding);
+    };
+    let edit = Edit {
+        byte,
+        length: taken,
+        text: String::from_str(alloc, text)?,
+    };
+    Ok(finding.with_edit(Some(edit)))
+}
+
+/// What is said of a form of another language, or of the full one.
+pub fn foreign(
+    alloc: Global,
+    source: &str,
+    declaration: &Declaration<'_>,
+) -> Result<Option<Finding>, AllocError> {
+    let Some(found) = declaration.found() else {
+        return Ok(None);
+    };
+    let clock = bracketed(alloc, source, declaration)?;
+    if clock.is_some() {
+        return Ok(clock);
+    }
+    let merge = unlabelled(alloc, source, declaration)?;
+    if merge.is_some() {
+        return Ok(merge);
+    }
+    match form_of(source, declaration, found) {
+        Some(form) => Ok(Some(finding_of(alloc, form, found.span.length)?)),
+        None => Ok(None),
+    }
+}

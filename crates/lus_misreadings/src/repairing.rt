@@ -1,0 +1,140 @@
+//! A token that is missing, too much, or a word where a name belongs.
+
+use crate::declaration::Declaration;
+use crate::spelled::{MISSING, Spelled};
+use crate::trial::{Reach, reach_of, token_of};
+use lus_faults::{Edit, Finding, slice_of};
+use lus_syntax::{Token, TokenKind, Word};
+use std::alloc::{AllocError, Global};
+
+/// How a declaration is repaired at its fault.
+#[derive(Clone, Copy)]
+enum Repair {
+    Insert(Spelled),
+    Remove,
+    Rename,
+}
+
+/// The repair with which most is read, the first of those that are as good, and how far.
+fn best_of(
+    alloc: Global,
+    declaration: &Declaration<'_>,
+) -> Result<Option<(Repair, Reach)>, AllocError> {
+    let mut best = None;
+    let mut most = declaration.next();
+    for missing in &MISSING {
+        let tried = declaration.spliced(alloc, 0, &[token_of(missing.kind)])?;
+        let reached = reach_of(alloc, &tried);
+        if reached.is_behind(most) {
+            best = Some((Repair::Insert(*missing), reached));
+            most = reached;
+        }
+    }
+    if declaration.found().is_none() {
+        return Ok(best);
+    }
+    let tried = declaration.spliced(alloc, 1, &[token_of(TokenKind::Identifier("name"))])?;
+    let reached = reach_of(alloc, &tried);
+    if is_keyword(declaration.found()) && reached.is_behind(most) {
+        best = Some((Repair::Rename, reached));
+        most = reached;
+    }
+    let tried = declaration.spliced(alloc, 1, &[])?;
+    let reached = reach_of(alloc, &tried);
+    if reached.is_behind(most) {
+        best = Some((Repair::Remove, reached));
+    }
+    Ok(best)
+}
+
+fn is_keyword(token: Option<&Token>) -> bool {
+    match token {
+        Some(token) => matches!(token.kind, TokenKind::Keyword(_)),
+        None => false,
+    }
+}
+
+/// How a missing token is written behind the one before it.
+fn written(alloc: Global, missing: Spelled) -> Result<String, AllocError> {
+    let text = missing.text;
+    match missing.kind {
+        TokenKind::Keyword(Word::Tel | Word::Let) => format!(in alloc; "\n{text}"),
+        TokenKind::Keyword(_) => format!(in alloc; " {text}"),
+        TokenKind::Punctuation(_) => String::from_str(alloc, text),
+        TokenKind::Identifier(_) => String::from_str(alloc, text),
+        TokenKind::Number(_) => String::from_str(alloc, text),
+    }
+}
+
+/// What is said of a missing token.
+fn missing_token(
+    alloc: Global,
+    source: &str,
+    declaration: &Declaration<'_>,
+    missing: Spelled,
+) -> Result<Option<Finding>, AllocError> {
+    let Some(before) = declaration.before(1) else {
+        return Ok(None);
+    };
+    let text = missing.text;
+    let previous = slice_of(source, before.span);
+    let sentence = format!(in alloc; "`{text}` is missing behind `{previous}`")?;
+    let length = match declaration.found() {
+        Some(found) => found.span.length,
+        None => 1,
+    };
+    let edit = Edit {
+        byte: before.span.end().byte,
+        length: 0,
+        text: written(alloc, missing)?,
+    };
+    Ok(Some(Finding::new(alloc, sentence, length).with_edit(Some(edit))))
+}
+
+/// What is said of a token that is too much.
+fn needless_token(
+    alloc: Global,
+    source: &str,
+    declaration: &Declaration<'_>,
+) -> Result<Option<Finding>, AllocError> {
+    let Some(found) = declaration.found() else {
+        return Ok(None);
+    };
+    let text = slice_of(source, found.span);
+    let sentence = format!(in alloc; "`{text}` is too much here")?;
+    let edit = Edit {
+        byte: found.span.start.byte,
+        length: found.span.length,
+        text: String::new(alloc),
+    };
+    Ok(Some(Finding::new(alloc, sentence, found.span.length).with_edit(Some(edit))))
+}
+
+/// What is said of a word where a name belongs.
+fn taken_word(
+    alloc: Global,
+    source: &str,
+    declaration: &Declaration<'_>,
+) -> Result<Option<Finding>, AllocError> {
+    let Some(found) = declaration.found() else {
+        return Ok(None);
+    };
+    let text = slice_of(source, found.span);
+    let sentence = format!(in alloc; "`{text}` is a word of the language, and no name")?;
+    let finding = Finding::new(alloc, sentence, found.span.length);
+    Ok(Some(finding.with_note(alloc, "Choose another name, everywhere it stands.")?))
+}
+
+/// What is said where one token makes the difference: one that is missing, one too much, or a word where a name belongs.
+pub fn repaired(
+    alloc: Global,
+    source: &str,
+    declaration: &Declaration<'_>,
+) -> Result<Option<Finding>, AllocError> {
+    match best_of(alloc, declaration)? {
+        Some((Repair::Insert(missing), _)) => missing_token(alloc, source, declaration, missing),
+        Some((Repair::Remove, _)) => needless_token(alloc, source, declaration),
+        Some((Repair::Rename, _)) => taken_word(alloc, source, declaration),
+        None => Ok(None),
+    }
+}

@@ -1,0 +1,223 @@
+//! Characters that no token begins with.
+
+use crate::case::Case;
+
+/// What is said of each, a longer text before a shorter one.
+pub static SYMBOLS: [(&str, Case); 24] = [
+    (
+        "(*",
+        Case {
+            length: 2,
+            sentence: "this comment is never closed",
+            note: "A comment that `(*` opens ends at the next `*)`; comments don't nest.",
+            instead: None,
+        },
+    ),
+    (
+        "/*",
+        Case {
+            length: 2,
+            sentence: "this comment is never closed",
+            note: "A comment that `/*` opens ends at the next `*/`; comments don't nest.",
+            instead: None,
+        },
+    ),
+    (
+        "!=",
+        Case {
+            length: 2,
+            sentence: "`!=` is no operator",
+            note: "`<>` says that two values differ.",
+            instead: Some("<>"),
+        },
+    ),
+    (
+        "!",
+        Case {
+            length: 1,
+            sentence: "`!` is no operator",
+            note: "`not` negates.",
+            instead: Some("not "),
+        },
+    ),
+    (
+        "&&",
+        Case {
+            length: 2,
+            sentence: "`&&` is no operator",
+            note: "`and` joins two conditions.",
+            instead: Some("and"),
+        },
+    ),
+    (
+        "&",
+        Case {
+            length: 1,
+            sentence: "`&` is no operator",
+            note: "`and` joins two conditions.",
+            instead: Some("and"),
+        },
+    ),
+    (
+        "||",
+        Case {
+            length: 2,
+            sentence: "`||` is no operator",
+            note: "`or` says that one of two conditions holds.",
+            instead: Some("or"),
+        },
+    ),
+    (
+        "|",
+        Case {
+            length: 1,
+            sentence: "`|` joins arrays, which are left out",
+            note: "`or` says that one of two conditions holds.",
+            instead: None,
+        },
+    ),
+    (
+        "%",
+        Case {
+            length: 1,
+            sentence: "`%` is no operator",
+            note: "`mod` is what a division leaves.",
+            instead: Some("mod"),
+        },
+    ),
+    (
+        "^",
+        Case {
+            length: 1,
+            sentence: "`^` makes arrays, which are left out",
+            note: "Write a structure with a field for each element, and a call for each element.",
+            instead: None,
+        },
+    ),
+    (
+        "[",
+        Case {
+            length: 1,
+            sentence: "`[` is for arrays, which are left out",
+            note: "Write a structure with a field for each element, and a call for each element.",
+            instead: None,
+        },
+    ),
+    (
+        "]",
+        Case {
+            length: 1,
+            sentence: "`]` is for arrays, which are left out",
+            note: "Write a structure with a field for each element, and a call for each element.",
+            instead: None,
+        },
+    ),
+    (
+        "\"",
+        Case {
+            length: 1,
+            sentence: "a quotation mark begins no token: there are no texts",
+            note: "Write an enumeration, as in `type state = enum { Off, On };`.",
+            instead: None,
+        },
+    ),
+    (
+        "'",
+        Case {
+            length: 1,
+            sentence: "`'` begins no token",
+            note: "Names have letters of ASCII, digits and `_`.",
+            instead: None,
+        },
+    ),
+    (
+        "\u{feff}",
+        Case {
+            length: 3,
+            sentence: "the file begins with a byte order mark",
+            note: "Save it as UTF-8 without one.",
+            instead: None,
+        },
+    ),
+    (
+        "\u{a0}",
+        Case {
+            length: 2,
+            sentence: "this is a blank of another kind, a no-break space",
+            note: "Write a common blank.",
+            instead: Some(" "),
+        },
+    ),
+    (
+        "→",
+        Case {
+            length: 3,
+            sentence: "`→` is no token",
+            note: "The arrow is written `->`.",
+            instead: Some("->"),
+        },
+    ),
+    (
+        "⇒",
+        Case {
+            length: 3,
+            sentence: "`⇒` is no token",
+            note: "The implication is written `=>`.",
+            instead: Some("=>"),
+        },
+    ),
+    (
+        "≤",
+        Case {
+            length: 3,
+            sentence: "`≤` is no token",
+            note: "It is written `<=`.",
+            instead: Some("<="),
+        },
+    ),
+    (
+        "≥",
+        Case {
+            length: 3,
+            sentence: "`≥` is no token",
+            note: "It is written `>=`.",
+            instead: Some(">="),
+        },
+    ),
+    (
+        "≠",
+        Case {
+            length: 3,
+            sentence: "`≠` is no token",
+            note: "It is written `<>`.",
+            instead: Some("<>"),
+        },
+    ),
+    (
+        "¬",
+        Case {
+            length: 2,
+            sentence: "`¬` is no token",
+            note: "It is written `not`.",
+            instead: Some("not "),
+        },
+    ),
+    (
+        "∧",
+        Case {
+            length: 3,
+            sentence: "`∧` is no token",
+            note: "It is written `and`.",
+            instead: Some("and"),
+        },
+    ),
+    (
+        "∨",
+        Case {
+            length: 3,
+            sentence: "`∨` is no token",
+            note: "It is written `or`.",
+            instead: Some("or"),
+        },
+    ),
+];

@@ -1,0 +1,11 @@
+//! What is said of a name that is unknown, doubled or not defined.
+#![tactic(auto)]
+
+mod cause;
+mod declared;
+mod doubled;
+mod equations;
+mod expressions;
+mod unknown;
+
+pub use cause::name_cause;

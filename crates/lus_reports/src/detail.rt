@@ -1,0 +1,129 @@
+//! What is told of the case of a refusal.
+
+use crate::explanation::Explanation;
+use crate::sentences::{fault_of, sentence_of};
+use lus_cli::lus_host::{compile, text_of};
+use lus_causes::lus_faults::{Edit, Finding, edited, further_marks, push_finding};
+use lus_causes::finding_of;
+use lus_syntax::{Refusal, RefusalNumber};
+use std::alloc::{AllocError, Global};
+
+/// What is told of the case of a refusal: a sentence, the carets behind the first, and what stands behind the line.
+#[derive(Drop)]
+pub struct Detail {
+    pub sentence: String,
+    pub marks: String,
+    pub more: String,
+}
+
+/// How late the pass is that refuses with a number. Limits are of several passes.
+fn pass_of(number: RefusalNumber) -> u32 {
+    match number {
+        RefusalNumber::Memory => 0,
+        RefusalNumber::Lexical => 1,
+        RefusalNumber::Unsupported => 1,
+        RefusalNumber::Syntax => 2,
+        RefusalNumber::Name => 3,
+        RefusalNumber::Recursion => 4,
+        RefusalNumber::Limit => 5,
+        RefusalNumber::Type => 6,
+        RefusalNumber::Clock => 7,
+        RefusalNumber::Nil => 8,
+        RefusalNumber::Cycle => 9,
+    }
+}
+
+/// Whether a refusal is of a later pass than another, or further on in the text.
+fn is_later(found: &Refusal, refusal: &Refusal) -> bool {
+    let pass = pass_of(found.number);
+    let before = pass_of(refusal.number);
+    if pass != before {
+        return pass > before;
+    }
+    found.line > refusal.line || (found.line == refusal.line && found.column > refusal.column)
+}
+
+/// Whether a change of the text helps: the changed text is accepted, or refused later.
+fn helps(alloc: Global, source: &str, refusal: &Refusal, edit: &Edit) -> Result<bool, AllocError> {
+    let Some(changed) = edited(alloc, source, edit)? else {
+        return Ok(false);
+    };
+    match compile(alloc, &changed) {
+        Ok(_) => Ok(true),
+        Err(found) => Ok(is_later(&found, refusal)),
+    }
+}
+
+/// A finding, without its change of the text where that doesn't help.
+fn tried(
+    alloc: Global,
+    source: &str,
+    refusal: &Refusal,
+    finding: Finding,
+) -> Result<Finding, AllocError> {
+    let is_helpful = match &finding.edit {
+        Some(edit) => helps(alloc, source, refusal, edit)?,
+        None => true,
+    };
+    if is_helpful {
+        return Ok(finding);
+    }
+    Ok(finding.with_edit(None))
+}
+
+/// What is told where nothing is known of the case.
+fn plain_detail(alloc: Global, refusal: &Refusal) -> Result<Detail, AllocError> {
+    let sentence = sentence_of(refusal.number);
+    Ok(Detail {
+        sentence: String::from_str(alloc, fault_of(refusal.number))?,
+        marks: String::new(alloc),
+        more: format!(in alloc; "{sentence}\n")?,
+    })
+}
+
+/// What is told of a finding.
+fn told(
+    alloc: Global,
+    name: &str,
+    source: &str,
+    explanation: &Explanation<'_>,
+    finding: Finding,
+) -> Result<Detail, AllocError> {
+    let refusal = &explanation.refusal;
+    let mut more = String::new(alloc);
+    push_finding(alloc, &mut more, name, source, &finding)?;
+    if finding.note.is_none() && finding.edit.is_none() {
+        let sentence = sentence_of(refusal.number);
+        write!(more, "{sentence}\n")?;
+    }
+    let marks = match explanation.line {
+        Some(line) => further_marks(alloc, line, refusal.column, finding.length)?,
+        None => String::new(alloc),
+    };
+    Ok(Detail {
+        sentence: finding.sentence,
+        marks,
+        more,
+    })
+}
+
+/// What is told of the case of a refusal of a program's bytes. A change of the text is told only where the changed text is
+/// accepted, or refused later.
+pub fn detail_of(
+    alloc: Global,
+    name: &str,
+    bytes: &[u8],
+    explanation: &Explanation<'_>,
+) -> Result<Detail, AllocError> {
+    let refusal = &explanation.refusal;
+    let Ok(source) = text_of(bytes) else {
+        return plain_detail(alloc, refusal);
+    };
+    match finding_of(alloc, source, refusal)? {
+        Some(finding) => {
+            let finding = tried(alloc, source, refusal, finding)?;
+            told(alloc, name, source, explanation, finding)
+        }
+        None => plain_detail(alloc, refusal),
+    }
+}

@@ -1,0 +1,17 @@
+//! What is said of types, counts, labels or fields that disagree.
+#![tactic(auto)]
+
+mod calls;
+mod cause;
+mod equations;
+mod inferring;
+mod kinds;
+mod memory;
+mod merges;
+mod operators;
+mod scope;
+mod stop;
+mod structures;
+mod tests;
+
+pub use cause::type_cause;

@@ -1,0 +1,123 @@
+//! What names stand for in a node.
+
+use crate::kinds::Kind;
+use indexmap::IndexMap;
+use lus_syntax::{Constant, Definition, Group, Literal, Name, Node, Tree, TypeName};
+use std::alloc::{AllocError, Global};
+
+/// The names of a source, and of one of its nodes.
+#[derive(Drop)]
+pub struct Scope {
+    pub types: IndexMap<String, usize>,
+    pub values: IndexMap<String, Kind>,
+    pub nodes: IndexMap<String, usize>,
+    pub variables: IndexMap<String, Kind>,
+}
+
+/// The type that a type's name stands for, through aliases.
+pub fn kind_of(types: &IndexMap<String, usize>, tree: &Tree, type_name: &TypeName) -> Kind {
+    let mut current = type_name;
+    for _step in 0..tree.types.len() {
+        match current {
+            TypeName::Bool(_) => return Kind::Bool,
+            TypeName::Int(_) => return Kind::Int,
+            TypeName::Declared(name) => {
+                let Some(place) = types.get(name.text.as_str()).copied() else {
+                    return Kind::Unknown;
+                };
+                match tree.types.get(place) {
+                    Some(declaration) => match &declaration.definition {
+                        Definition::Alias(next) => current = next,
+                        Definition::Enumeration(_) => return Kind::Declared(place),
+                        Definition::Structure(_) => return Kind::Declared(place),
+                    },
+                    None => return Kind::Unknown,
+                }
+            }
+        }
+    }
+    match current {
+        TypeName::Bool(_) => Kind::Bool,
+        TypeName::Int(_) => Kind::Int,
+        TypeName::Declared(_) => Kind::Unknown,
+    }
+}
+
+fn add<T: Copy + Drop>(
+    table: &mut IndexMap<String, T>,
+    name: &Name,
+    value: T,
+) -> Result<(), AllocError> {
+    let _before = table.insert(name.text.clone()?, value)?;
+    Ok(())
+}
+
+/// The type of a constant's value.
+pub fn literal_kind(scope: &Scope, value: &Literal) -> Kind {
+    match value {
+        Literal::Number(_, _) => Kind::Int,
+        Literal::Negative(_, _, _) => Kind::Int,
+        Literal::Truth(_, _) => Kind::Bool,
+        Literal::Constructor(name) => {
+            scope
+                .values
+                .get(name.text.as_str())
+                .copied()
+                .unwrap_or(Kind::Unknown)
+        }
+    }
+}
+
+fn add_constant(scope: &mut Scope, constant: &Constant) -> Result<(), AllocError> {
+    let kind = literal_kind(scope, &constant.value);
+    add(&mut scope.values, &constant.name, kind)
+}
+
+fn add_groups(scope: &mut Scope, tree: &Tree, groups: &[Group]) -> Result<(), AllocError> {
+    for group in groups {
+        let kind = kind_of(&scope.types, tree, &group.type_name);
+        for name in &group.names {
+            add(&mut scope.variables, name, kind)?;
+        }
+    }
+    Ok(())
+}
+
+fn add_constructors(scope: &mut Scope, tree: &Tree) -> Result<(), AllocError> {
+    for (place, declaration) in tree.types.iter().enumerate() {
+        if let Definition::Enumeration(names) = &declaration.definition {
+            for name in names {
+                add(&mut scope.values, name, Kind::Declared(place))?;
+            }
+        }
+    }
+    Ok(())
+}
+
+/// What names stand for in a source, outside its nodes.
+pub fn scope_of(alloc: Global, tree: &Tree) -> Result<Scope, AllocError> {
+    let mut scope = Scope {
+        types: IndexMap::new(alloc),
+        values: IndexMap::new(alloc),
+        nodes: IndexMap::new(alloc),
+        variables: IndexMap::new(alloc),
+    };
+    for (place, declaration) in tree.types.iter().enumerate() {
+        add(&mut scope.types, &declaration.name, place)?;
+    }
+    for (place, node) in tree.nodes.iter().enumerate() {
+        add(&mut scope.nodes, &node.name, place)?;
+    }
+    add_constructors(&mut scope, tree)?;
+    for constant in &tree.constants {
+        add_constant(&mut scope, constant)?;
+    }
+    Ok(scope)
+}
+
+/// Adds the variables of a node.
+pub fn enter(scope: &mut Scope, tree: &Tree, node: &Node) -> Result<(), AllocError> {
+    add_groups(scope, tree, &node.inputs)?;
+    add_groups(scope, tree, &node.outputs)?;
+    add_groups(scope, tree, &node.locals)
+}
