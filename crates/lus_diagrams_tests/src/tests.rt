@@ -135,7 +135,10 @@ const MISTAKEN: [(&str, u64); 16] = [
     ("instance k m\n1 a burst((1), (2)) -> ((1))\nentries 1\n", 2),
     ("instance k m\n1 a burst((1)) -> (1)\nentries 1\n", 2),
     ("instance k m\n1 a step(1) -> ((1))\nentries 1\n", 2),
-    ("instance k m\n1 a burst((1),(2)) -> ((1), (2))\nentries 1\n", 2),
+    (
+        "instance k m\n1 a burst((1),(2)) -> ((1), (2))\nentries 1\n",
+        2,
+    ),
     ("instance k m\n1 a burst((1)) -> done\nentries 1\n", 2),
     (
         "instance k m\n1 a burst((1), (2, 3)) -> ((1), (2))\nentries 1\n",

@@ -2,9 +2,9 @@
 
 use crate::explanation::Explanation;
 use crate::sentences::{fault_of, sentence_of};
-use lus_cli::lus_host::{compile, text_of};
-use lus_causes::lus_faults::{Edit, Finding, edited, further_marks, push_finding};
 use lus_causes::finding_of;
+use lus_causes::lus_faults::{Edit, Finding, edited, further_marks, push_finding};
+use lus_cli::lus_host::{compile, text_of};
 use lus_syntax::{Refusal, RefusalNumber};
 use std::alloc::{AllocError, Global};
 
