@@ -1,6 +1,7 @@
 -- The least flags that meet the equations of a node decide whether any flags meet all that is required.
-use Rattle.std.proofs.Common.{◌≡◌, ℕ, zero, suc, ◌+◌, ◌<◌, ◌≤◌, nat_eq, Bool, true, false, not, ◌&&◌, ◌||◌, List, [], ◌∷◌, map, length, take, drop, Option, Some, None, IsFalse, refl, sym, ap, ap₂, ◌∙◌, subst, true≢false, not-suc-le-zero, le_of_suc-le-suc, arith, if◌then◌else◌, ⊎_elim}
+use Rattle.std.proofs.Common.{◌≡◌, ℕ, zero, suc, ◌+◌, ◌<◌, ◌≤◌, nat_eq, nat_lt, Bool, true, false, not, ◌&&◌, ◌||◌, List, [], ◌∷◌, map, length, take, drop, Option, Some, None, IsFalse, refl, sym, ap, ap₂, ◌∙◌, subst, true≢false, not-suc-le-zero, le_of_suc-le-suc, arith, if◌then◌else◌, ⊎_elim}
 use Rattle.std.proofs.lemmas.Bool.{cases_lt}
+use Rattle.std.proofs.lemmas.Bool.Decides.{nat_tests}
 use Rattle.std.proofs.lemmas.List.{length-take}
 use Rattle.lus_values.specs.Lists.{item, Each}
 use Rattle.lus_values.proofs.Lists.{below_all}
@@ -15,10 +16,10 @@ use Rattle.lus_streams.specs.Order.{is_in, clock_variables}
 use Rattle.lus_streams.specs.Flags.{flag, greatest, Required, DefinedFlag, AreFlagsOf}
 use Rattle.lus_streams.proofs.Lists.{each_left, each_right, each_append, below_at, item_past, item_take}
 use Rattle.lus_streams.proofs.NilFree.{and_left, and_right, and_true}
-use Rattle.lus_clocks.specs.Raising.{flags_in, meets, all_meet, raised, rights_meet, tests_meet, none_raised, all_required, AreLeast, HasFlags}
+use Rattle.lus_clocks.specs.Raising.{flags_in, meets, all_meet, raised, raised_local, rights_meet, tests_meet, none_raised, all_required, AreGiven, AreLeast, HasFlags}
 use Rattle.lus_streams.proofs.Clocks.{chain_some}
 use Rattle.lus_clocks.proofs.Whole.{one_less}
-use Rattle.lus_clocks.proofs.Rising.{flag_more, greatest_more}
+use Rattle.lus_clocks.proofs.Rising.{flag_more, greatest_more, raised_more}
 
 not_is : (b : Bool) → not b ≡ true → b ≡ false
 not_is true h = sym h
@@ -270,8 +271,15 @@ module _ (flags : ℕ → Bool) where
       let m = one_less (length f.variables) x lt in
       is_not (flags t.variable) ((subst AreClear (chain_some m.0 (length f.variables) f.variables x t m.1 e) h).0)
 
--- a node that the code holds, and the least flags that meet its equations
-module _ (p : Program) (node : StoredNode) (bs : List Bool) (l : AreLeast (node_of node) node.equations.items bs) where
+lowered_false : (x n : ℕ) (b : Bool) → x < n → not (nat_lt x n) && b ≡ false
+lowered_false x n b lt = grind (arith, nat_tests)
+
+lowered_same : (x n : ℕ) (b : Bool) → n ≤ x → not (nat_lt x n) && b ≡ b
+lowered_same x n b ge = grind (arith, nat_tests)
+
+-- a node that the code holds, the least flags that meet the equations of its locals, and the flags that all equations give
+-- under these
+module _ (p : Program) (node : StoredNode) (bs given : List Bool) (l : AreLeast (node_of node) node.equations.items bs) (g : AreGiven node.equations.items bs given) where
   abbrev f : Node
   f = node_of node
 
@@ -282,7 +290,7 @@ module _ (p : Program) (node : StoredNode) (bs : List Bool) (l : AreLeast (node_
   count = f.inputs + f.outputs
 
   abbrev formals : Bool
-  formals = none_raised (take count bs)
+  formals = none_raised (take count given)
 
   abbrev tests : Bool
   tests = tests_meet (flags_in bs) f.variables
@@ -290,21 +298,35 @@ module _ (p : Program) (node : StoredNode) (bs : List Bool) (l : AreLeast (node_
   abbrev rights : Bool
   rights = rights_meet (flags_in bs) qs
 
-  pub least_meet : all_required f qs bs ≡ true → AreFlagsOf (flags_in bs) p f
+  formal_clear : (x : ℕ) → x < count → flags_in bs x ≡ false
+  formal_clear x lt =
+      ⊎_elim (λ (below : x < length bs). l.fixed x below ∙ lowered_false x count (raised (flags_in bs) qs x) lt)
+      (λ (past : length bs ≤ x). item_past false bs x past)
+      (cases_lt x (length bs))
+
+  -- under flags that meet what is required the equation of each variable gives it its flag
+  given_own : formals ≡ true → (x : ℕ) → x < length bs → flags_in bs x ≡ raised (flags_in bs) qs x
+  given_own h x below =
+      ⊎_elim (λ (lt : x < count). formal_clear x lt ∙ sym (sym (g.each x below) ∙ sym (item_take false count given x lt) ∙ none_at (take count given) h x))
+      (λ (ge : count ≤ x). l.fixed x below ∙ lowered_same x count (raised (flags_in bs) qs x) ge)
+      (cases_lt x count)
+
+  pub least_meet : all_required f qs bs given ≡ true → AreFlagsOf (flags_in bs) p f
   least_meet h =
       let rest = and_right formals (tests && rights) h in
       record {
-        public = below_all (λ x. IsFalse (flags_in bs x)) count (λ x lt. sym (item_take false count bs x lt) ∙ none_at (take count bs) (and_left formals (tests && rights) h) x);
+        public = below_all (λ x. IsFalse (flags_in bs x)) count formal_clear;
         tested = below_all (λ x. AreClear (flags_in bs) (clock_of f x)) (length f.variables) (λ x lt. clear (flags_in bs) f.variables (and_left tests rights rest) (length f.variables) x);
-        defined = below_all (λ x. DefinedFlag (flags_in bs) x (definition_of f x)) (length f.variables) (λ x lt. defined_by (flags_in bs) x (raised (flags_in bs) qs x) (definition_of f x) (gives f (flags_in bs) x 0 qs) (l.fixed x (subst (λ n. x < n) (sym l.size) lt)));
+        defined = below_all (λ x. DefinedFlag (flags_in bs) x (definition_of f x)) (length f.variables) (λ x lt. defined_by (flags_in bs) x (raised (flags_in bs) qs x) (definition_of f x) (gives f (flags_in bs) x 0 qs) (given_own (and_left formals (tests && rights) h) x (subst (λ n. x < n) (sym l.size) lt)));
         parts = rights_are p f (flags_in bs) 0 qs (and_right tests rights rest);
       }
 
   module _ (flags : ℕ → Bool) (h : AreFlagsOf flags p f) where
+    raised_meet : (x : ℕ) → x < length f.variables → raised flags qs x ≡ true → flags x ≡ true
+    raised_meet x lt = closed_by flags x (raised flags qs x) (definition_of f x) (gives f flags x 0 qs) (below_at (λ y. DefinedFlag flags y (definition_of f y)) (length f.variables) h.defined x lt)
+
     below_any : (x : ℕ) → flags_in bs x ≡ true → flags x ≡ true
-    below_any =
-        l.least flags
-        (λ x lt e. closed_by flags x (raised flags qs x) (definition_of f x) (gives f flags x 0 qs) (below_at (λ y. DefinedFlag flags y (definition_of f y)) (length f.variables) h.defined x lt) e)
+    below_any = l.least flags (λ x lt e. raised_meet x lt (and_right (not (nat_lt x count)) (raised flags qs x) e))
 
     clear_where : (x : ℕ) → flags x ≡ false → flags_in bs x ≡ false
     clear_where x e = false_by (flags_in bs x) (λ t. true≢false (sym (below_any x t) ∙ e))
@@ -313,19 +335,29 @@ module _ (p : Program) (node : StoredNode) (bs : List Bool) (l : AreLeast (node_
     clear_tests [] h = tt
     clear_tests (t ∷ k) h = (clear_where t.variable h.0, clear_tests k h.1)
 
-    pub all_meet_least : all_required f qs bs ≡ true
+    -- no equation gives an input or output flag true: it would under these flags too
+    given_clear : (x : ℕ) → x < count → flags_in given x ≡ false
+    given_clear x lt =
+        ⊎_elim (λ (below : x < length given).
+        let within : x < length bs = subst (λ n. x < n) g.size below in
+        let declared : x < length f.variables = subst (λ n. x < n) l.size within in
+        false_by (flags_in given x) (λ t. true≢false (sym (raised_meet x declared (raised_more (flags_in bs) flags below_any qs x (sym (g.each x within) ∙ t))) ∙ below_at (λ y. IsFalse (flags y)) count h.public x lt)))
+        (λ (past : length given ≤ x). item_past false given x past)
+        (cases_lt x (length given))
+
+    pub all_meet_least : all_required f qs bs given ≡ true
     all_meet_least =
         and_true formals (tests && rights)
-        (at_none (take count bs)
+        (at_none (take count given)
         (λ x.
-        ⊎_elim (λ (lt : x < count). item_take false count bs x lt ∙ clear_where x (below_at (λ y. IsFalse (flags y)) count h.public x lt))
-        (λ (ge : count ≤ x). item_past false (take count bs) x (omega (arith, length-take count bs, ge)))
+        ⊎_elim (λ (lt : x < count). item_take false count given x lt ∙ given_clear x lt)
+        (λ (ge : count ≤ x). item_past false (take count given) x (omega (arith, length-take count given, ge)))
         (cases_lt x count)))
         (and_true tests rights
         (at_test (flags_in bs) f.variables (λ x lt. clear_meets (flags_in bs) f x lt (clear_tests (clock_of f x) (below_at (λ y. AreClear flags (clock_of f y)) (length f.variables) h.tested x lt)) (item no_variable f.variables x).test refl))
         (rights_less (flags_in bs) flags below_any qs (are_rights p f flags 0 qs h.parts)))
 
-  pub none_meet : all_required f qs bs ≡ false → HasFlags p f → ⊥
+  pub none_meet : all_required f qs bs given ≡ false → HasFlags p f → ⊥
   none_meet e h = true≢false (sym (all_meet_least h.0 h.1) ∙ e)
 
 -- nodes of a program in turn

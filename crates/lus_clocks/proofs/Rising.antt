@@ -1,5 +1,5 @@
 -- Flags that are raised round by round come to the least ones.
-use Rattle.std.proofs.Common.{◌≡◌, ℕ, zero, suc, ◌<◌, ◌≤◌, nat_eq, Bool, true, false, ◌||◌, List, [], ◌∷◌, length, slice_set, refl, sym, ap, ap₂, ◌∙◌, subst, true≢false, suc-ne-zero, not-suc-le-zero, le_of_suc-le-suc, arith, if◌then◌else◌, ⊎_elim}
+use Rattle.std.proofs.Common.{◌≡◌, ℕ, zero, suc, ◌+◌, ◌<◌, ◌≤◌, nat_eq, nat_lt, Bool, true, false, not, ◌&&◌, ◌||◌, List, [], ◌∷◌, length, slice_set, refl, sym, ap, ap₂, ◌∙◌, subst, true≢false, suc-ne-zero, not-suc-le-zero, le_of_suc-le-suc, arith, if◌then◌else◌, ⊎_elim}
 use Rattle.std.proofs.lemmas.Bool.{cases_lt}
 use Rattle.std.proofs.lemmas.Bool.Decides.{nat_tests}
 use Rattle.lus_program.specs.declared.node.Equation.{Equation as StoredEquation}
@@ -8,18 +8,18 @@ use Rattle.lus_program.specs.View.{expression_of}
 use Rattle.lus_streams.specs.Order.{is_in}
 use Rattle.lus_streams.specs.Flags.{flag, greatest}
 use Rattle.lus_streams.proofs.Lists.{item_past}
-use Rattle.lus_streams.proofs.NilFree.{or_more}
-use Rattle.lus_clocks.specs.Raising.{flags_in, given, all_given, raised, raised_count, AreFalse, IsNext, AreLeast}
+use Rattle.lus_streams.proofs.NilFree.{and_left, and_right, and_true, or_more}
+use Rattle.lus_clocks.specs.Raising.{flags_in, given, all_given, raised, raised_local, raised_count, AreFalse, AreGiven, AreLowered, IsNext, AreLeast}
 
 -- one flag set
-set_at : (bs : List Bool) (y x : ℕ) (b : Bool) → x < length bs → flags_in (slice_set bs y b) x ≡ (if nat_eq x y then b else flags_in bs x)
+pub set_at : (bs : List Bool) (y x : ℕ) (b : Bool) → x < length bs → flags_in (slice_set bs y b) x ≡ (if nat_eq x y then b else flags_in bs x)
 set_at [] y x b lt = absurd (not-suc-le-zero lt)
 set_at (c ∷ bs) zero zero b lt = refl
 set_at (c ∷ bs) zero (suc x) b lt = grind (arith, nat_tests)
 set_at (c ∷ bs) (suc y) zero b lt = grind (arith, nat_tests)
 set_at (c ∷ bs) (suc y) (suc x) b lt = let rest = set_at bs y x b (le_of_suc-le-suc lt) in grind (arith, nat_tests)
 
-length_set : (bs : List Bool) (y : ℕ) (b : Bool) → length (slice_set bs y b) ≡ length bs
+pub length_set : (bs : List Bool) (y : ℕ) (b : Bool) → length (slice_set bs y b) ≡ length bs
 length_set [] y b = refl
 length_set (c ∷ bs) zero b = refl
 length_set (c ∷ bs) (suc y) b = ap suc (length_set bs y b)
@@ -79,6 +79,9 @@ module _ (a b : ℕ → Bool) (below : (x : ℕ) → a x ≡ true → b x ≡ tr
   raised_more (q ∷ qs) x h =
       if_more (is_in q.targets.items x) (flag a (expression_of q.right)) (raised a qs x) (flag b (expression_of q.right)) (raised b qs x) (flag_more (expression_of q.right)) (raised_more qs x) h
 
+  pub raised_local_more : (n : ℕ) (qs : List StoredEquation) (x : ℕ) → raised_local a n qs x ≡ true → raised_local b n qs x ≡ true
+  raised_local_more n qs x h = and_true (not (nat_lt x n)) (raised b qs x) (and_left (not (nat_lt x n)) (raised a qs x) h) (raised_more qs x (and_right (not (nat_lt x n)) (raised a qs x) h))
+
 -- counts
 abbrev one : Bool → ℕ
 one b = if b then 1 else 0
@@ -119,46 +122,53 @@ pub count_most : (bs : List Bool) → raised_count bs ≤ length bs
 count_most [] = omega arith
 count_most (b ∷ bs) = let rest = count_most bs in let here = one_most b in omega (arith, rest, here)
 
--- flags on the way to the least: no more than the equations give under them, and no more than any that meet these
-abbrev pub IsClosed : ℕ → List StoredEquation → (ℕ → Bool) → Type 0
-IsClosed n qs flags = (x : ℕ) → x < n → raised flags qs x ≡ true → flags x ≡ true
+-- flags of n variables on the way to the least: no more than the equations give under them to those past the first m, and no
+-- more than any that meet these
+abbrev pub IsClosed : ℕ → ℕ → List StoredEquation → (ℕ → Bool) → Type 0
+IsClosed n m qs flags = (x : ℕ) → x < n → raised_local flags m qs x ≡ true → flags x ≡ true
 
-pub record IsRising (n : ℕ) (qs : List StoredEquation) (bs : List Bool) : Type 0 where
+pub record IsRising (n m : ℕ) (qs : List StoredEquation) (bs : List Bool) : Type 0 where
   pub size : length bs ≡ n
-  pub rising : (x : ℕ) → flags_in bs x ≡ true → raised (flags_in bs) qs x ≡ true
-  pub least : (flags : ℕ → Bool) → IsClosed n qs flags → (x : ℕ) → flags_in bs x ≡ true → flags x ≡ true
+  pub rising : (x : ℕ) → flags_in bs x ≡ true → raised_local (flags_in bs) m qs x ≡ true
+  pub least : (flags : ℕ → Bool) → IsClosed n m qs flags → (x : ℕ) → flags_in bs x ≡ true → flags x ≡ true
 
 within : (bs : List Bool) (x : ℕ) → flags_in bs x ≡ true → x < length bs
 within bs x h = ⊎_elim (λ lt. lt) (λ ge. absurd (true≢false (sym h ∙ item_past false bs x ge))) (cases_lt x (length bs))
 
-module _ (n : ℕ) (qs : List StoredEquation) (bs next : List Bool) (r : IsRising n qs bs) (s : IsNext qs bs next) where
+module _ (n m : ℕ) (qs : List StoredEquation) (bs next : List Bool) (r : IsRising n m qs bs) (s : IsNext m qs bs next) where
   pub next_below : IsBelow bs next
   next_below x h = s.given x (within bs x h) ∙ r.rising x h
 
-  from_next : (x : ℕ) → flags_in next x ≡ true → raised (flags_in bs) qs x ≡ true
-  from_next x h = sym (s.given x (subst (λ m. x < m) s.size (within next x h))) ∙ h
+  from_next : (x : ℕ) → flags_in next x ≡ true → raised_local (flags_in bs) m qs x ≡ true
+  from_next x h = sym (s.given x (subst (λ k. x < k) s.size (within next x h))) ∙ h
 
-  pub rising_next : IsRising n qs next
+  pub rising_next : IsRising n m qs next
   rising_next = record {
     size = s.size ∙ r.size;
-    rising = λ x h. raised_more (flags_in bs) (flags_in next) next_below qs x (from_next x h);
-    least = λ flags closed x h. closed x (subst (λ m. x < m) (s.size ∙ r.size) (within next x h)) (raised_more (flags_in bs) flags (r.least flags closed) qs x (from_next x h));
+    rising = λ x h. raised_local_more (flags_in bs) (flags_in next) next_below m qs x (from_next x h);
+    least = λ flags closed x h. closed x (subst (λ k. x < k) (s.size ∙ r.size) (within next x h)) (raised_local_more (flags_in bs) flags (r.least flags closed) m qs x (from_next x h));
   }
 
   pub count_rises : raised_count bs ≤ raised_count next
   count_rises = count_below bs next (sym s.size) next_below
 
   pub count_within : raised_count next ≤ n
-  count_within = subst (λ m. raised_count next ≤ m) (s.size ∙ r.size) (count_most next)
+  count_within = subst (λ k. raised_count next ≤ k) (s.size ∙ r.size) (count_most next)
 
-  pub rising_ends : raised_count next ≡ raised_count bs → (f : Node) → length f.variables ≡ n → AreLeast f qs bs
-  rising_ends c f e =
+  pub rising_ends : raised_count next ≡ raised_count bs → (f : Node) → length f.variables ≡ n → f.inputs + f.outputs ≡ m → AreLeast f qs bs
+  rising_ends c f e formals =
       let same = count_same bs next (sym s.size) next_below (sym c) in
       record {
         size = r.size ∙ sym e;
-        fixed = λ x lt. ap (λ l. flags_in l x) same ∙ s.given x lt;
-        least = λ flags closed. r.least flags (λ x lt. closed x (subst (λ m. x < m) (sym e) lt));
+        fixed = λ x lt. ap (λ l. flags_in l x) same ∙ s.given x lt ∙ ap (λ k. raised_local (flags_in bs) k qs x) (sym formals);
+        least = λ flags closed. r.least flags (λ x lt h. closed x (subst (λ k. x < k) (sym e) lt) (ap (λ k. raised_local flags k qs x) formals ∙ h));
       }
 
-pub next_given : (qs : List StoredEquation) (bs start : List Bool) → AreFalse (length bs) start → IsNext qs bs (all_given (flags_in bs) qs start)
-next_given qs bs start f = record { size = length_all_given (flags_in bs) qs start ∙ f.size; given = λ x lt. all_given_at (flags_in bs) qs start x (subst (λ m. x < m) (sym f.size) lt) (f.all x) }
+pub all_given_are : (qs : List StoredEquation) (bs start : List Bool) → AreFalse (length bs) start → AreGiven qs bs (all_given (flags_in bs) qs start)
+all_given_are qs bs start f = record { size = length_all_given (flags_in bs) qs start ∙ f.size; each = λ x lt. all_given_at (flags_in bs) qs start x (subst (λ m. x < m) (sym f.size) lt) (f.all x) }
+
+pub given_lowered : (n : ℕ) (qs : List StoredEquation) (bs given next : List Bool) → AreGiven qs bs given → AreLowered n given next → IsNext n qs bs next
+given_lowered n qs bs given next g l = record {
+  size = l.size ∙ g.size;
+  given = λ x lt. l.each x (subst (λ k. x < k) (sym g.size) lt) ∙ ap (λ b. not (nat_lt x n) && b) (g.each x lt);
+}

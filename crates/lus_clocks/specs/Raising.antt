@@ -1,6 +1,6 @@
--- What the check of flags computes: the least flags that meet each equation, and whether the text's other requirements hold of
--- them.
-use Rattle.std.specs.Prelude.{◌≡◌, ℕ, ◌+◌, ◌<◌, Bool, true, false, not, ◌&&◌, List, [], ◌∷◌, length, Some, None, if◌then◌else◌, slice_set, take}
+-- What the check of flags computes: the least flags that meet each local's equation, where inputs and outputs have flag 0, and
+-- whether all else that is required holds of them.
+use Rattle.std.specs.Prelude.{◌≡◌, ℕ, ◌+◌, ◌<◌, nat_lt, Bool, true, false, not, ◌&&◌, List, [], ◌∷◌, length, Some, None, if◌then◌else◌, slice_set, take}
 use Rattle.lus_values.specs.Lists.{item}
 use Rattle.lus_program.specs.declared.node.Equation.{Equation as StoredEquation}
 use Rattle.lus_program.specs.Programs.{Expression, literal, variable, operate, pre, arrow, when, merge, call, Operands, none, more, Variable, Node, Program}
@@ -39,6 +39,11 @@ module _ (flags : ℕ → Bool) where
   raised [] x = false
   raised (q ∷ qs) x = if is_in q.targets.items x then flag flags (expression_of q.right) else raised qs x
 
+  -- the flag of a local by its equation; each of the first n variables, which are inputs and outputs, has flag false
+  -- whatever its equation is, so that an output which may be nil is at fault by its own equation alone
+  abbrev pub raised_local : ℕ → List StoredEquation → ℕ → Bool
+  raised_local n qs x = not (nat_lt x n) && raised qs x
+
   -- the flags of the variables on the left, that of the first equation last
   abbrev pub all_given : List StoredEquation → List Bool → List Bool
   all_given [] bs = bs
@@ -57,10 +62,11 @@ abbrev pub none_raised : List Bool → Bool
 none_raised [] = true
 none_raised (b ∷ bs) = not b && none_raised bs
 
--- what else is required of flags that meet the equations: 0 of inputs, outputs, tested variables, and in the text
-abbrev pub all_required : Node → List StoredEquation → List Bool → Bool
-all_required f qs bs =
-    none_raised (take (f.inputs + f.outputs) bs)
+-- what else is required of flags that meet the equations of locals, under which the equations give these flags: 0 of the
+-- equations of inputs and outputs, of tested variables, and in the text
+abbrev pub all_required : Node → List StoredEquation → List Bool → List Bool → Bool
+all_required f qs bs given =
+    none_raised (take (f.inputs + f.outputs) given)
     && (tests_meet (flags_in bs) f.variables && rights_meet (flags_in bs) qs)
 
 -- so many flags, all false
@@ -74,18 +80,29 @@ raised_count [] = 0
 raised_count (b ∷ bs) = (if b then 1 else 0) + raised_count bs
 
 -- the flags that equations give to the variables under these
-pub record IsNext (qs : List StoredEquation) (bs next : List Bool) : Type 0 where
+pub record AreGiven (qs : List StoredEquation) (bs given : List Bool) : Type 0 where
+  pub size : length given ≡ length bs
+  pub each : (x : ℕ) → x < length bs → flags_in given x ≡ raised (flags_in bs) qs x
+
+-- these flags, the first n of them false
+pub record AreLowered (n : ℕ) (bs lowered : List Bool) : Type 0 where
+  pub size : length lowered ≡ length bs
+  pub each : (x : ℕ) → x < length bs → flags_in lowered x ≡ not (nat_lt x n) && flags_in bs x
+
+-- the flags that equations give under these to the variables past the first n, which have flag false
+pub record IsNext (n : ℕ) (qs : List StoredEquation) (bs next : List Bool) : Type 0 where
   pub size : length next ≡ length bs
-  pub given : (x : ℕ) → x < length bs → flags_in next x ≡ raised (flags_in bs) qs x
+  pub given : (x : ℕ) → x < length bs → flags_in next x ≡ raised_local (flags_in bs) n qs x
 
--- each variable has at least the flag that its equation gives it
+-- each local has at least the flag that its equation gives it
 abbrev pub AreAtLeast : Node → List StoredEquation → (ℕ → Bool) → Type 0
-AreAtLeast f qs flags = (x : ℕ) → x < length f.variables → raised flags qs x ≡ true → flags x ≡ true
+AreAtLeast f qs flags = (x : ℕ) → x < length f.variables → raised_local flags (f.inputs + f.outputs) qs x ≡ true → flags x ≡ true
 
--- of these flags, each is its equation's, and any others that are at least their equations' are at least these
+-- of these flags, each local's is its equation's and all others are false, and any flags of which each local's is at least
+-- its equation's are at least these
 pub record AreLeast (f : Node) (qs : List StoredEquation) (bs : List Bool) : Type 0 where
   pub size : length bs ≡ length f.variables
-  pub fixed : (x : ℕ) → x < length bs → flags_in bs x ≡ raised (flags_in bs) qs x
+  pub fixed : (x : ℕ) → x < length bs → flags_in bs x ≡ raised_local (flags_in bs) (f.inputs + f.outputs) qs x
   pub least : (flags : ℕ → Bool) → AreAtLeast f qs flags → (x : ℕ) → flags_in bs x ≡ true → flags x ≡ true
 
 -- some flags meet all that is required of a node

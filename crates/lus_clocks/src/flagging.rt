@@ -7,14 +7,14 @@ ghost use Rattle.lus_program.specs.View.{node_of, program_seen};
 ghost use Rattle.lus_streams.specs.Flags.{IsFlagged};
 ghost use Rattle.lus_clocks.specs.Raising.{HasFlags};
 
-use crate::raising::least_flags;
+use crate::raising::{given_flags, least_flags};
 use crate::required::check_required;
 use lus_program::{Node, Program};
 use lus_syntax::{Refusal, RefusalNumber};
 use std::alloc::Global;
 
-/// Tells whether some flags of a node meet all requirements: then the least do. What is required doesn't hang on the other
-/// nodes of the program.
+/// Tells whether some flags of a node meet all requirements: then the least do, under which an output's own equation gives it
+/// flag 0. What is required doesn't hang on the other nodes of the program.
 fn check_node(alloc: Global, node: &Node) -> Result<(), Refusal>
     ensures ok { OnOk result ((p : PlainProgram) → HasFlags p (node_of node.now)) }
     ensures err { IfErr result (λ refusal. refusal.number ≢ RefusalNumber.Memory →
@@ -23,7 +23,8 @@ fn check_node(alloc: Global, node: &Node) -> Result<(), Refusal>
     ensures shaped { IfErr result HasShape }
 {
     let flags = least_flags(alloc, node)?;
-    match check_required(node, &flags) {
+    let given = given_flags(alloc, &node.equations, &flags)?;
+    match check_required(node, &flags, &given) {
         Ok(()) => Ok(()),
         Err(place) => Err(Refusal::new(RefusalNumber::Nil, place.line, place.column)),
     }

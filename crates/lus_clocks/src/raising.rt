@@ -1,8 +1,9 @@
-//! The least flags that meet the equations of a node: all false at first, and raised until nothing changes.
+//! The least flags that meet the equations of a node's locals: all false at first, and raised until nothing changes. Inputs and
+//! outputs have flag false throughout.
 
-ghost use Rattle.std.specs.Prelude.{◌≡◌, IfOk};
+ghost use Rattle.std.specs.Prelude.{◌≡◌, ◌+◌, IfOk};
 ghost use Rattle.lus_program.specs.View.{node_of};
-ghost use Rattle.lus_clocks.specs.Raising.{flags_in, given, all_given, raised_count, AreFalse, IsNext, AreLeast};
+ghost use Rattle.lus_clocks.specs.Raising.{flags_in, given, all_given, raised_count, AreFalse, AreGiven, AreLowered, IsNext, AreLeast};
 
 use crate::flag::flag_of;
 use lus_program::{Equation, Node};
@@ -45,12 +46,48 @@ fn all_false(alloc: Global, count: usize) -> Result<Vec<bool>, Memory>
 }
 
 /// The flags that the equations give under these, of each variable by the first that has it on the left.
-fn next_flags(alloc: Global, equations: &[Equation], flags: &[bool]) -> Result<Vec<bool>, Memory>
-    ensures { IfOk result (λ next. IsNext equations.now flags.now next.items) }
+pub fn given_flags(
+    alloc: Global,
+    equations: &[Equation],
+    flags: &[bool],
+) -> Result<Vec<bool>, Memory>
+    ensures { IfOk result (λ given. AreGiven equations.now flags.now given.items) }
 {
-    let mut next = all_false(alloc, flags.len())?;
-    give_all(flags, equations, &mut next);
+    let mut given = all_false(alloc, flags.len())?;
+    give_all(flags, equations, &mut given);
+    Ok(given)
+}
+
+/// Makes the first flags false.
+fn lower(flags: &mut Vec<bool>, count: usize)
+    ensures { AreLowered count flags.old.items flags.new.items }
+{
+    for place in 0..count {
+        if place < flags.len() {
+            flags[place] = false;
+        }
+    }
+}
+
+/// The flags that the equations give under these to the locals, which stand after so many inputs and outputs.
+fn next_flags(
+    alloc: Global,
+    equations: &[Equation],
+    formals: usize,
+    flags: &[bool],
+) -> Result<Vec<bool>, Memory>
+    ensures { IfOk result (λ next. IsNext formals equations.now flags.now next.items) }
+{
+    let mut next = given_flags(alloc, equations, flags)?;
+    lower(&mut next, formals);
     Ok(next)
+}
+
+/// How many variables are inputs or outputs.
+pub fn count_formals(node: &Node) -> usize
+    ensures { result ≡ (node_of node.now).inputs + (node_of node.now).outputs }
+{
+    node.inputs as usize + node.outputs as usize
 }
 
 /// How many flags are true.
@@ -66,15 +103,16 @@ fn count_raised(flags: &[bool]) -> usize
     count
 }
 
-/// The least flags of a node that meet its equations.
+/// The least flags of a node that meet the equations of its locals. Inputs and outputs have flag false.
 ///
 /// A round reads each equation once; there are at most as many rounds as variables, and one more.
 pub fn least_flags(alloc: Global, node: &Node) -> Result<Vec<bool>, Memory>
     ensures { IfOk result (λ flags. AreLeast (node_of node.now) node.now.equations.items flags.items) }
 {
+    let formals = count_formals(node);
     let mut flags = all_false(alloc, node.variables.len())?;
     loop {
-        let next = next_flags(alloc, &node.equations, &flags)?;
+        let next = next_flags(alloc, &node.equations, formals, &flags)?;
         if count_raised(&next) == count_raised(&flags) {
             return Ok(flags);
         }

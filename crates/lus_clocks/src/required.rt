@@ -7,6 +7,7 @@ ghost use Rattle.lus_clocks.specs.Raising.{flags_in, meets, all_meet, rights_mee
 
 use crate::expression::require;
 use crate::flag::{flag_at, flag_of};
+use crate::raising::count_formals;
 use crate::values::is_nil_free;
 use lus_program::{Expr, Form, Node};
 use lus_syntax::Place;
@@ -114,12 +115,12 @@ fn check_none_raised(node: &Node, flags: &[bool]) -> Result<(), Place>
     Ok(())
 }
 
-/// Fails where flags, which meet the equations of a node, don't meet all else that is required.
-pub fn check_required(node: &Node, flags: &[bool]) -> Result<(), Place>
-    ensures { is_ok result ≡ all_required (node_of node.now) node.now.equations.items flags.now }
+/// Fails where flags, which meet the equations of a node's locals, don't meet all else that is required. Under them the
+/// equations give the flags in `given`: an output is at fault where its own equation may be nil.
+pub fn check_required(node: &Node, flags: &[bool], given: &[bool]) -> Result<(), Place>
+    ensures { is_ok result ≡ all_required (node_of node.now) node.now.equations.items flags.now given.now }
 {
-    let formals = node.inputs as usize + node.outputs as usize;
-    check_none_raised(node, front(flags, formals))?;
+    check_none_raised(node, front(given, count_formals(node)))?;
     check_tests(node, flags)?;
     check_rights(node, flags)
 }
