@@ -5,7 +5,7 @@ ghost use Rattle.std.specs.Prelude.{◌≤◌, ◌+◌, suc, [], length, IfOk};
 ghost use Rattle.lus_syntax.specs.Limits.{most_depth};
 ghost use Rattle.lus_syntax.specs.View.{tokens_seen, name_seen};
 ghost use Rattle.lus_spelling.specs.Expressions.{Whole, Arrow, Else, Primary, Dotted, Atom};
-ghost use Rattle.lus_spelling.specs.Reading.{part_at, parts_at, name_at, operands_at, parentheses_at, plain_at, branches_at, read};
+ghost use Rattle.lus_spelling.specs.Reading.{part_at, parts_at, name_at, parentheses_at, plain_at, branches_at, read};
 ghost use Rattle.lus_grammar.specs.Rules.{level_of, operand_of, head_level, head_other};
 ghost use Rattle.lus_grammar.specs.Answers.{Gives, tree_read, part_read, parts_read};
 
@@ -272,7 +272,7 @@ fn dotted(alloc: Global, limit: u32, tokens: Tokens<'_>) -> Read<'_>
 }
 
 #[cycle(parser)]
-#[tactic(auto, unfolding(lus_spelling::specs::Reading::read, lus_spelling::specs::Reading::read_atom, lus_spelling::specs::Reading::atom_at))]
+#[tactic(auto, unfolding(lus_spelling::specs::Reading::read, lus_spelling::specs::Reading::read_atom, lus_spelling::specs::Reading::atom_at, lus_spelling::specs::Reading::operands_at))]
 fn atom(alloc: Global, limit: u32, tokens: Tokens<'_>) -> Read<'_>
     requires { limit ≤ most_depth }
     ensures within { IfOk result (λ x. x.1 ≤ limit + 1) }
@@ -280,7 +280,14 @@ fn atom(alloc: Global, limit: u32, tokens: Tokens<'_>) -> Read<'_>
 {
     match list_operator(tokens) {
         None => plain(alloc, limit, tokens),
-        Some((operator, span, rest)) => operands(alloc, limit, operator, span, rest),
+        Some((operator, span, after)) => {
+            let Some((_, rest)) = symbol(Symbol::Open, after) else {
+                return Err(ParseError::Syntax(after.len()));
+            };
+            let (operands, depth, rest) = parts(alloc, Form::Call, limit, rest)?;
+            let tree = trees::variadic(alloc, operator, span, operands)?;
+            Ok((tree, depth + 1, rest))
+        }
     }
 }
 
@@ -306,30 +313,6 @@ fn plain(alloc: Global, limit: u32, tokens: Tokens<'_>) -> Read<'_>
         }
         TokenKind::Keyword(word) => truth(alloc, word, *span, tokens.len(), rest),
         TokenKind::Punctuation(_) => parentheses(alloc, limit, tokens),
-    }
-}
-
-/// The operands after an operator.
-#[cycle(parser)]
-#[tactic(auto, unfolding(lus_spelling::specs::Reading::operands_at))]
-fn operands(
-    alloc: Global,
-    limit: u32,
-    operator: ListOperator,
-    span: Span,
-    tokens: Tokens<'_>,
-) -> Read<'_>
-    requires { limit ≤ most_depth }
-    ensures within { IfOk result (λ x. x.1 ≤ limit + 1) }
-    ensures exact { Gives tree_read result (operands_at (read limit Whole) operator span (tokens_seen tokens.now)) }
-{
-    match symbol(Symbol::Open, tokens) {
-        None => Err(ParseError::Syntax(tokens.len())),
-        Some((_, rest)) => {
-            let (operands, depth, rest) = parts(alloc, Form::Call, limit, rest)?;
-            let tree = trees::variadic(alloc, operator, span, operands)?;
-            Ok((tree, depth + 1, rest))
-        }
     }
 }
 
