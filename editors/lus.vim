@@ -11,10 +11,9 @@ syntax keyword lusTruth true false
 syntax keyword lusMemory pre fby
 syntax keyword lusClock when merge
 syntax keyword lusChoice if then else
-syntax keyword lusWordOperator not and or xor div mod
-syntax keyword lusLeftOut real current assert extern unsafe condact package model with include operator nor
-syntax match lusSymbol /<>\|<=\|>=\|->\|=>\|=\|<\|>\|+\|-\|\*\|\//
-syntax match lusLeftOut /#/
+syntax keyword lusWordOperator not and or xor nor div mod
+syntax keyword lusLeftOut real current assert extern unsafe condact package model with include operator
+syntax match lusSymbol /<>\|<=\|>=\|->\|=>\|=\|<\|>\|+\|-\|\*\|\/\|#/
 syntax match lusNumber /\<[0-9]\+/
 syntax match lusComment /--.*$/
 syntax region lusComment start=/\/\*/ end=/\*\//

@@ -51,7 +51,9 @@ pub fn off_clock<'t>(
             }
             None
         }
-        Expr::Structure(_, parts) => in_parts(looking, parts, wanted),
+        Expr::Structure(_, parts) | Expr::Variadic(_, _, parts) => {
+            in_parts(looking, parts, wanted)
+        }
         Expr::Merge(_, variable, parts) => {
             let has = looking.clocks.clock(variable.text.as_str())?;
             let found = looking.compared(expr, has, wanted);

@@ -6,7 +6,8 @@ use Rattle.lus_syntax.specs.Lexemes.{Text}
 use Rattle.lus_syntax.specs.declared.tree.Part.{Part}
 use Rattle.lus_syntax.specs.View.{expression_seen, part_seen}
 use Rattle.lus_syntax.specs.declared.token.Span.{Span}
-use Rattle.lus_syntax.specs.Trees.{Named, Call, Structure, Merge, Parts, parts_of}
+use Rattle.lus_syntax.specs.declared.tree.ListOperator.{ListOperator}
+use Rattle.lus_syntax.specs.Trees.{Named, Call, Structure, Merge, Variadic, Parts, parts_of}
 use Rattle.lus_values.specs.declared.operator.Operator.TheVariants as operators
 use Rattle.lus_program.specs.declared.types.Kind.{Kind}
 use Rattle.lus_program.specs.declared.types.Kind.TheVariants as kinds
@@ -15,7 +16,7 @@ use Rattle.lus_program.specs.declared.expr.Expr.{Expr}
 use Rattle.lus_program.specs.View.{expression_of, operands_of}
 use Rattle.lus_meaning.specs.declared.entries.Placed.{Placed}
 use Rattle.lus_meaning.specs.Scopes.{Scope, entry}
-use Rattle.lus_meaning.specs.Types.{branch_places, fields_asked, fields_of, size_of, variable_kind, kind_of, kinds_of, the_one, outputs_of, structure_kind, merge_kind}
+use Rattle.lus_meaning.specs.Types.{branch_places, fields_asked, fields_of, size_of, variable_kind, kind_of, kinds_of, the_one, outputs_of, structure_kind, merge_kind, variadic_kind}
 use Rattle.lus_meaning.specs.Meaning.{branches_meant, structure_meant, variable_place, in_order, meant, all_meant}
 
 pub merge_is : (s : Scope) (n : Text) (clock : Placed) (bs : Parts) (ps : List ℕ) (size : ℕ) (out es : Operands)
@@ -47,3 +48,6 @@ kind_of-structure s n fs ks k = ap (option_and_then (λ ks. option_and_then (λ 
 
 pub kind_of-merge : (s : Scope) (p : Span) (n : Named) (bs : Parts) (ks : List Kind) → kinds_of s bs ≡ Some ks → kind_of s (Merge p n bs) ≡ option_and_then (λ k. merge_kind s k bs ks) (variable_kind s n.text)
 kind_of-merge s p n bs ks k = ap (option_and_then (λ ks. option_and_then (λ k. merge_kind s k bs ks) (variable_kind s n.text))) k
+
+pub kind_of-variadic : (s : Scope) (op : ListOperator) (p : Span) (es : Parts) (ks : List Kind) → kinds_of s es ≡ Some ks → kind_of s (Variadic op p es) ≡ variadic_kind es ks
+kind_of-variadic s op p es ks k = ap (option_and_then (variadic_kind es)) k

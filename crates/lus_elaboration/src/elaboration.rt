@@ -9,7 +9,7 @@ ghost use Rattle.lus_meaning.specs.ScopeView.{scope_of, Faulty};
 ghost use Rattle.lus_elaboration.specs.Wholes.{meaning, parts_seen};
 
 use crate::forms::{Elaborated, binary, boxed, choice, field, named, place_of, sampled, unary};
-use crate::parts::{call, merge, structure};
+use crate::parts::{call, merge, structure, variadic};
 use lus_meaning::{Fault, Scope};
 use lus_program::{Expr, Form, Kind};
 use lus_syntax::{Expr as Source, Part};
@@ -45,6 +45,10 @@ pub fn elaborate(alloc: Global, scope: &Scope, source: &Source) -> Result<Elabor
         Source::Merge(_, variable, branches) => {
             let (operands, kinds) = elaborate_all(alloc, scope, branches)?;
             merge(alloc, scope, place, variable, branches, operands, &kinds)
+        }
+        Source::Variadic(op, _, arguments) => {
+            let (operands, kinds) = elaborate_all(alloc, scope, arguments)?;
+            variadic(alloc, place, *op, arguments, operands, &kinds)
         }
         Source::Field(operand, name) => {
             let operand = elaborate(alloc, scope, operand)?;

@@ -50,6 +50,7 @@ pub fn right_side(alloc: Global, scope: &Scope, source: &Source) -> Result<Given
         | Source::Name(_)
         | Source::Structure(_, _)
         | Source::Merge(_, _, _)
+        | Source::Variadic(_, _, _)
         | Source::Field(_, _)
         | Source::When(_, _)
         | Source::Unary(_, _, _)

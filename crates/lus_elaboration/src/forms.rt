@@ -32,6 +32,7 @@ pub fn place_of(source: &Source) -> Place {
         Source::Call(name, _) => name.span.start,
         Source::Structure(name, _) => name.span.start,
         Source::Merge(span, _, _) => span.start,
+        Source::Variadic(_, span, _) => span.start,
         Source::Field(operand, _) => place_of(operand),
         Source::Parentheses(span, _) => span.start,
         Source::When(operand, _) => place_of(operand),

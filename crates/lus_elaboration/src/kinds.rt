@@ -2,7 +2,7 @@
 
 ghost use Rattle.std.specs.Prelude.{◌≡◌};
 ghost use Rattle.std.specs.List.{list_all};
-ghost use Rattle.lus_meaning.specs.Types.{same as same_kind, all_same as all_same_kinds, alike as alike_kind, prefix_kind as kind_of_prefix, both as kind_of_both, compared as kind_of_comparison, infix_kind as kind_of_infix, choice_kind as kind_of_choice, the_one as one_kind, common_kind as kind_of_all, value_kind as kind_of_value};
+ghost use Rattle.lus_meaning.specs.Types.{same as same_kind, all_same as all_same_kinds, alike as alike_kind, prefix_kind as kind_of_prefix, both as kind_of_both, compared as kind_of_comparison, infix_kind as kind_of_infix, choice_kind as kind_of_choice, bools_kind as kind_of_bools, the_one as one_kind, common_kind as kind_of_all, value_kind as kind_of_value};
 ghost use Rattle.lus_values.specs.View.{value_of};
 
 use lus_program::Kind;
@@ -133,6 +133,22 @@ pub fn common_kind(branches: &[Kind]) -> Option<Kind>
         [first, rest @ ..] => {
             if all_are(*first, rest) {
                 Some(*first)
+            } else {
+                None
+            }
+        }
+    }
+}
+
+/// The type of an operator before operands of these types.
+pub fn bools_kind(operands: &[Kind]) -> Option<Kind>
+    ensures { result ≡ kind_of_bools operands.now }
+{
+    match operands {
+        [] => None,
+        [_, _rest @ ..] => {
+            if all_are(Kind::Bool, operands) {
+                Some(Kind::Bool)
             } else {
                 None
             }

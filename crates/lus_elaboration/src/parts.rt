@@ -4,18 +4,18 @@ ghost use Rattle.std.specs.Prelude.{◌≡◌, Some, None, IfOk, IfErr, length, 
 ghost use Rattle.lus_syntax.specs.View.{name_seen, lead_seen};
 ghost use Rattle.lus_program.specs.Programs.{call as call_meant};
 ghost use Rattle.lus_program.specs.View.{operands_of};
-ghost use Rattle.lus_meaning.specs.Types.{all_same as all_same_kinds, are_arguments as arguments_alone, branch_place as place_of_branch, branch_places as places_of_branches, field_asked as asked_field, fields_asked as asked_fields, outputs_of};
-ghost use Rattle.lus_meaning.specs.Meaning.{node_place};
+ghost use Rattle.lus_meaning.specs.Types.{all_same as all_same_kinds, are_arguments as arguments_alone, branch_place as place_of_branch, branch_places as places_of_branches, field_asked as asked_field, fields_asked as asked_fields, outputs_of, variadic_kind};
+ghost use Rattle.lus_meaning.specs.Meaning.{list_operation as operation_of_list, node_place, variadic_meant};
 ghost use Rattle.lus_meaning.specs.ScopeView.{scope_of, Faulty};
 ghost use Rattle.lus_elaboration.specs.Wholes.{call_kind, meaning, merge_over, merge_over_kind, parts_seen, structure_of, structure_of_kind};
 
 use crate::arrangement::arranged;
 use crate::forms::{Elaborated, boxed, label_place, place_of};
-use crate::kinds::{all_same, common_kind, same, the_one};
+use crate::kinds::{all_same, bools_kind, common_kind, same, the_one};
 use lus_meaning::{Fault, Placed, Scope, Signature, field as field_named};
 use lus_program::{Expr, Form, Kind};
-use lus_syntax::{Label, Lead, Name, Part, Place};
-use lus_values::Operator;
+use lus_syntax::{Label, Lead, ListOperator, Name, Part, Place};
+use lus_values::{Op, Operator};
 use std::alloc::{AllocError, Global};
 
 fn are_arguments(parts: &[Part]) -> bool
@@ -77,6 +77,41 @@ pub fn call(
     };
     Ok(Elaborated {
         expr: boxed(alloc, place, Form::Call(node.place, operands))?,
+        kind,
+    })
+}
+
+fn list_operation(op: ListOperator) -> Op
+    ensures { result ≡ operation_of_list op }
+{
+    match op {
+        ListOperator::AtMostOne => Op::AtMostOne,
+        ListOperator::Nor => Op::Nor,
+    }
+}
+
+/// An operator before a list of operands: one truth value or more.
+pub fn variadic(
+    alloc: Global,
+    place: Place,
+    op: ListOperator,
+    arguments: &[Part],
+    operands: Vec<Expr>,
+    kinds: &[Kind],
+) -> Result<Elaborated, Fault>
+    ensures typed { IfOk result (λ x. variadic_kind (parts_seen arguments.now) kinds.now ≡ Some x.kind) }
+    ensures meant { IfOk result (λ x. meaning x ≡ variadic_meant op (operands_of operands.items)) }
+    ensures refused { IfErr result (Faulty (variadic_kind (parts_seen arguments.now) kinds.now ≡ None)) }
+{
+    if !are_arguments(arguments) {
+        return Err(Fault::At(place));
+    }
+    let Some(kind) = bools_kind(kinds) else {
+        return Err(Fault::At(place));
+    };
+    let operator = Operator::Compute(list_operation(op));
+    Ok(Elaborated {
+        expr: boxed(alloc, place, Form::Operate(operator, operands))?,
         kind,
     })
 }

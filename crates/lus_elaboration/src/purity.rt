@@ -62,6 +62,7 @@ pub fn memory(scope: &Scope, source: &Expr) -> Option<Place>
         }
         Expr::Structure(_, fields) => memory_in(scope, fields),
         Expr::Merge(_, _, branches) => memory_in(scope, branches),
+        Expr::Variadic(_, _, operands) => memory_in(scope, operands),
         Expr::Field(operand, _) => memory(scope, operand),
         Expr::Parentheses(_, inner) => memory(scope, inner),
         Expr::When(operand, _) => memory(scope, operand),

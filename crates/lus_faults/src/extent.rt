@@ -12,6 +12,7 @@ pub fn start_of(expr: &Expr) -> Place {
         Expr::Call(name, _) => name.span.start,
         Expr::Structure(name, _) => name.span.start,
         Expr::Merge(span, _, _) => span.start,
+        Expr::Variadic(_, span, _) => span.start,
         Expr::Field(operand, _) => start_of(operand),
         Expr::Parentheses(span, _) => span.start,
         Expr::When(operand, _) => start_of(operand),
@@ -57,6 +58,9 @@ fn end_of(source: &str, expr: &Expr) -> u32 {
         }
         Expr::Merge(_, name, parts) => {
             behind_next(source, last_end(source, name.span.end().byte, parts), b')')
+        }
+        Expr::Variadic(_, span, parts) => {
+            behind_next(source, last_end(source, span.end().byte, parts), b')')
         }
         Expr::Field(_, name) => name.span.end().byte,
         Expr::Parentheses(_, inner) => behind_next(source, end_of(source, inner), b')'),

@@ -121,6 +121,34 @@ fn truth_values_combine(rt: HostRuntime) {
 }
 
 #[test]
+fn at_most_one_and_none_count_what_is_true(rt: HostRuntime) {
+    for (op, want) in [
+        (Op::AtMostOne, [true, true, false, false]),
+        (Op::Nor, [true, false, false, false]),
+    ] {
+        for (place, (a, b, c)) in [
+            (false, false, false),
+            (true, false, false),
+            (true, true, false),
+            (true, true, true),
+        ]
+        .iter()
+        .enumerate()
+        {
+            let operands = [Value::Bool(*a), Value::Bool(*b), Value::Bool(*c)];
+            assert!(rt;
+                matches!(applied(op, &operands), Some(Value::Bool(given)) if given == want[place]),
+                "{op:?} of {a}, {b} and {c}"
+            );
+        }
+        assert!(rt; is_nil(op, &[Value::Bool(true), Value::Nil]));
+        assert!(rt; !fits_op(op, &[]));
+        assert!(rt; !fits_op(op, &[Value::Bool(true), Value::Int(1)]));
+        assert!(rt; try_apply(op, &[]).is_none());
+    }
+}
+
+#[test]
 fn nil_is_an_answer_and_misfits_are_none(rt: HostRuntime) {
     assert!(rt; is_nil(Op::Divide, &[Value::Nil, Value::Int(0)]));
     assert!(rt; is_nil(Op::Divide, &[Value::Int(0), Value::Nil]));

@@ -15,7 +15,7 @@ fn refused(alloc: Global, text: &str) -> Option<(RefusalNumber, u32, u32)> {
 fn what_the_language_leaves_out_is_unsupported(rt: HostRuntime) {
     for text in [
         "real", "current", "assert", "extern", "unsafe", "condact", "package", "model", "with",
-        "include", "operator", "nor", "#",
+        "include", "operator",
     ] {
         assert_eq!(rt;
             refused(rt.alloc(), text),

@@ -54,7 +54,7 @@ fn are_plain(tokens: &[Token], wanted: &[&str]) -> bool {
 #[test]
 fn each_word_is_a_keyword(rt: HostRuntime) -> Result<(), Fail> {
     let text =
-        "node function returns var let tel type const enum struct bool int true false not and or xor if then else div mod pre fby when merge";
+        "node function returns var let tel type const enum struct bool int true false not and or xor if then else div mod pre fby when merge nor";
     let words = [
         Word::Node,
         Word::Function,
@@ -83,6 +83,7 @@ fn each_word_is_a_keyword(rt: HostRuntime) -> Result<(), Fail> {
         Word::Fby,
         Word::When,
         Word::Merge,
+        Word::Nor,
     ];
     assert!(rt; are_words(&lex(rt.alloc(), text)?, words.as_slice()));
     Ok(())
@@ -111,8 +112,9 @@ fn each_symbol_is_a_token(rt: HostRuntime) -> Result<(), Fail> {
         Symbol::Minus,
         Symbol::Star,
         Symbol::Slash,
+        Symbol::Sharp,
     ];
-    let text = "(){},;:.=<><<=>>=->=>+-*/";
+    let text = "(){},;:.=<><<=>>=->=>+-*/#";
     assert!(rt; are_symbols(&lex(rt.alloc(), text)?, symbols.as_slice()));
     Ok(())
 }

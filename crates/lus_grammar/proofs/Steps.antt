@@ -3,6 +3,7 @@ use Rattle.std.proofs.Common.{◌≡◌, ℕ, suc, ◌+◌, List, Some, None, Re
 use Rattle.lus_syntax.specs.declared.token.Span.{Span}
 use Rattle.lus_syntax.specs.declared.token.Symbol.TheVariants as symbols
 use Rattle.lus_syntax.specs.declared.token.Word.TheVariants as words
+use Rattle.lus_syntax.specs.declared.tree.ListOperator.{ListOperator}
 use Rattle.lus_syntax.specs.declared.tree.Prefix.{Prefix}
 use Rattle.lus_grammar.specs.declared.fault.ParseError.{ParseError}
 use Rattle.lus_grammar.specs.declared.fault.ParseError.TheVariants as errors
@@ -10,9 +11,9 @@ use Rattle.lus_grammar.specs.declared.operators.Head.{Head}
 use Rattle.lus_grammar.specs.declared.operators.Head.TheVariants as heads
 use Rattle.lus_spelling.specs.declared.form.Form.TheVariants as forms
 use Rattle.lus_syntax.specs.Lexemes.{Lexeme, Sign, Keyword}
-use Rattle.lus_syntax.specs.Trees.{Named, Call, Structure, Merge, End, Expression, Unary}
-use Rattle.lus_spelling.specs.Expressions.{Primary, Level, Whole}
-use Rattle.lus_spelling.specs.Reading.{Fault, found, Read, Reader, ◌>>=◌, front, identifier_at, name_at, call_on, listed_at, entry, deep_at, primary_at, prefix_at, prefixed_on, prefixed_at, read, read_negation, read_negated, read_signed, read_primary}
+use Rattle.lus_syntax.specs.Trees.{Named, Call, Structure, Merge, Variadic, End, Expression, Unary}
+use Rattle.lus_spelling.specs.Expressions.{Primary, Atom, Level, Whole}
+use Rattle.lus_spelling.specs.Reading.{Fault, found, Read, Reader, ◌>>=◌, front, identifier_at, name_at, call_on, listed_at, entry, deep_at, primary_at, atom_at, operands_at, list_operator_at, prefix_at, prefixed_on, prefixed_at, read, read_negation, read_negated, read_signed, read_primary, read_atom}
 use Rattle.lus_grammar.specs.Rules.{head_level, head_operand, head_other}
 use Rattle.lus_grammar.specs.Answers.{Fails}
 
@@ -66,3 +67,7 @@ merge_is n ts x v rest at name = rw (at, name) refl
 
 pub primary_merge : (n : ℕ) (ts : List Lexeme) (x : Span × List Lexeme) (v : Named) (rest : List Lexeme) → front (Keyword words.Merge) ts ≡ Some x → identifier_at x.1 ≡ Ok (v, rest) → read (suc n) Primary ts ≡ listed_at (Merge x.0 v) forms.Merge (read n Whole) rest
 primary_merge = merge_is
+
+pub atom_listed : (n : ℕ) (ts : List Lexeme) (x : ListOperator × Span × List Lexeme) (y : Span × List Lexeme) → list_operator_at ts ≡ Some x → front (Sign symbols.Open) x.2 ≡ Some y → read (suc n) Atom ts ≡ listed_at (Variadic x.0 x.1) forms.Call (read n Whole) y.1
+unfolding read read_atom atom_at operands_at
+atom_listed n ts x y at opened = rw (at, opened) refl

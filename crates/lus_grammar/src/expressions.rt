@@ -5,19 +5,21 @@ ghost use Rattle.std.specs.Prelude.{◌≤◌, ◌+◌, suc, [], length, IfOk};
 ghost use Rattle.lus_syntax.specs.Limits.{most_depth};
 ghost use Rattle.lus_syntax.specs.View.{tokens_seen, name_seen};
 ghost use Rattle.lus_spelling.specs.Expressions.{Whole, Arrow, Else, Primary, Dotted, Atom};
-ghost use Rattle.lus_spelling.specs.Reading.{part_at, parts_at, name_at, parentheses_at, branches_at, read};
+ghost use Rattle.lus_spelling.specs.Reading.{part_at, parts_at, name_at, parentheses_at, plain_at, branches_at, read};
 ghost use Rattle.lus_grammar.specs.Rules.{level_of, operand_of, head_level, head_other};
 ghost use Rattle.lus_grammar.specs.Answers.{Gives, tree_read, part_read, parts_read};
 
 use crate::fault::{ParseError, Read, Tokens};
 use crate::front::{begun, expect_symbol, expect_word, identifier, symbol, word};
 use crate::openings::{Entry, nothing_left};
-use crate::operators::{Chain, Head, after_prefix, head_entry, infix, operand_entry, prefix};
+use crate::operators::{
+    Chain, Head, after_prefix, head_entry, infix, list_operator, operand_entry, prefix,
+};
 use crate::parts::{lead, tail, turn};
 use crate::primaries::{dots, sampled, truth};
 use crate::trees;
 use lus_spelling::{Form, primary_shape};
-use lus_syntax::{Expr, Infix, Name, Part, Span, Symbol, Token, TokenKind, Word};
+use lus_syntax::{Expr, Infix, ListOperator, Name, Part, Span, Symbol, Token, TokenKind, Word};
 use std::alloc::Global;
 
 /// Parts, the greatest depth among them, and the tokens after what closes them.
@@ -270,48 +272,47 @@ fn dotted(alloc: Global, limit: u32, tokens: Tokens<'_>) -> Read<'_>
 }
 
 #[cycle(parser)]
-#[tactic(auto, unfolding(lus_spelling::specs::Reading::read, lus_spelling::specs::Reading::read_atom, lus_spelling::specs::Reading::atom_at))]
+#[tactic(auto, unfolding(lus_spelling::specs::Reading::read, lus_spelling::specs::Reading::read_atom, lus_spelling::specs::Reading::atom_at, lus_spelling::specs::Reading::operands_at))]
 fn atom(alloc: Global, limit: u32, tokens: Tokens<'_>) -> Read<'_>
     requires { limit ≤ most_depth }
     ensures within { IfOk result (λ x. x.1 ≤ limit + 1) }
     ensures exact { Gives tree_read result (read (suc limit) Atom (tokens_seen tokens.now)) }
 {
-    match *tokens {
-        [] => Err(ParseError::Syntax(0)),
-        [
-            Token {
-                kind: TokenKind::Number(number),
-                span,
-            },
-            ref rest @ ..,
-        ] => Ok((Box::new(alloc, Expr::Number(number, span))?, 1, rest)),
-        [
-            Token {
-                kind: TokenKind::Identifier(text),
-                span,
-            },
-            ref rest @ ..,
-        ] => {
+    match list_operator(tokens) {
+        None => plain(alloc, limit, tokens),
+        Some((operator, span, after)) => {
+            let Some((_, rest)) = symbol(Symbol::Open, after) else {
+                return Err(ParseError::Syntax(after.len()));
+            };
+            let (operands, depth, rest) = parts(alloc, Form::Call, limit, rest)?;
+            let tree = trees::variadic(alloc, operator, span, operands)?;
+            Ok((tree, depth + 1, rest))
+        }
+    }
+}
+
+/// An atom that begins with no operator.
+#[cycle(parser)]
+#[tactic(auto, unfolding(lus_spelling::specs::Reading::plain_at))]
+fn plain(alloc: Global, limit: u32, tokens: Tokens<'_>) -> Read<'_>
+    requires { limit ≤ most_depth }
+    ensures within { IfOk result (λ x. x.1 ≤ limit + 1) }
+    ensures exact { Gives tree_read result (plain_at (read limit Whole) (tokens_seen tokens.now)) }
+{
+    let [Token { kind, span }, rest @ ..] = tokens else {
+        return Err(ParseError::Syntax(0));
+    };
+    match *kind {
+        TokenKind::Number(number) => Ok((Box::new(alloc, Expr::Number(number, *span))?, 1, rest)),
+        TokenKind::Identifier(text) => {
             let name = Name {
                 text: String::from_str(alloc, text)?,
-                span,
+                span: *span,
             };
             named(alloc, limit, name, rest)
         }
-        [
-            Token {
-                kind: TokenKind::Keyword(word),
-                span,
-            },
-            ref rest @ ..,
-        ] => truth(alloc, word, span, tokens.len(), rest),
-        [
-            Token {
-                kind: TokenKind::Punctuation(_),
-                ..
-            },
-            ..
-        ] => parentheses(alloc, limit, tokens),
+        TokenKind::Keyword(word) => truth(alloc, word, *span, tokens.len(), rest),
+        TokenKind::Punctuation(_) => parentheses(alloc, limit, tokens),
     }
 }
 
@@ -337,7 +338,7 @@ fn named(alloc: Global, limit: u32, name: Name, tokens: Tokens<'_>) -> Read<'_>
     Ok((Box::new(alloc, Expr::Name(name))?, 1, tokens))
 }
 
-/// The parts of a call, a structure or a merge.
+/// The parts of a call, a list, a structure or a merge.
 #[cycle(parser)]
 fn parts(alloc: Global, form: Form, limit: u32, tokens: Tokens<'_>) -> Parts<'_>
     requires { limit ≤ most_depth }

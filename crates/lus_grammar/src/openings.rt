@@ -24,8 +24,8 @@ fn begins(entry: Entry, kind: &TokenKind) -> bool
     match kind {
         TokenKind::Number(_)
         | TokenKind::Identifier(_)
-        | TokenKind::Keyword(Word::True | Word::False | Word::Merge)
-        | TokenKind::Punctuation(Symbol::Open) => true,
+        | TokenKind::Keyword(Word::True | Word::False | Word::Merge | Word::Nor)
+        | TokenKind::Punctuation(Symbol::Open | Symbol::Sharp) => true,
         TokenKind::Keyword(Word::Pre) | TokenKind::Punctuation(Symbol::Minus) => {
             matches!(entry, Entry::Choice | Entry::Negation | Entry::Signed)
         }

@@ -4,13 +4,13 @@ ghost use Rattle.std.specs.Prelude.{◌≡◌, option_map};
 ghost use Rattle.lus_syntax.specs.Lexemes.{Sign, Keyword};
 ghost use Rattle.lus_syntax.specs.View.{tokens_seen, expression_seen};
 ghost use Rattle.lus_spelling.specs.Expressions.{infix_of, mixing_of, mixes, may_join};
-ghost use Rattle.lus_spelling.specs.Reading.{entry, infix_at, prefix_at};
+ghost use Rattle.lus_spelling.specs.Reading.{entry, infix_at, list_operator_at, prefix_at};
 ghost use Rattle.lus_grammar.specs.Rules.{entry_of, level_of, operand_of, head_level, head_operand};
 
 use crate::fault::Tokens;
 use crate::openings::Entry;
 use lus_spelling::Mixing;
-use lus_syntax::{Expr, Infix, Prefix, Span, Symbol, Token, TokenKind, Word};
+use lus_syntax::{Expr, Infix, ListOperator, Prefix, Span, Symbol, Token, TokenKind, Word};
 
 /// The rules that read operands and operators between them.
 #[derive(Clone, Copy, Debug, PartialEq, Eq)]
@@ -183,6 +183,29 @@ pub fn prefix(head: Head, tokens: Tokens<'_>) -> Option<(Prefix, Span, Tokens<'_
                 rest @ ..,
             ],
         ) => Some((Prefix::Negate, *span, rest)),
+        _ => None,
+    }
+}
+
+/// An operator before a list of operands, its span, and the tokens after it.
+pub fn list_operator(tokens: Tokens<'_>) -> Option<(ListOperator, Span, Tokens<'_>)>
+    ensures { option_map (λ x. (x.0, x.1, tokens_seen x.2.now)) result ≡ list_operator_at (tokens_seen tokens.now) }
+{
+    match tokens {
+        [
+            Token {
+                kind: TokenKind::Punctuation(Symbol::Sharp),
+                span,
+            },
+            rest @ ..,
+        ] => Some((ListOperator::AtMostOne, *span, rest)),
+        [
+            Token {
+                kind: TokenKind::Keyword(Word::Nor),
+                span,
+            },
+            rest @ ..,
+        ] => Some((ListOperator::Nor, *span, rest)),
         _ => None,
     }
 }

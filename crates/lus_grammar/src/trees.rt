@@ -6,7 +6,7 @@ ghost use Rattle.lus_syntax.specs.View.{expression_seen, name_seen, part_seen, t
 ghost use Rattle.lus_grammar.specs.Answers.{Makes};
 
 use crate::fault::ParseError;
-use lus_syntax::{Expr, Infix, Name, Part, Prefix, Span, Test};
+use lus_syntax::{Expr, Infix, ListOperator, Name, Part, Prefix, Span, Test};
 use std::alloc::Global;
 
 type Made = Result<Box<Expr>, ParseError>;
@@ -82,4 +82,11 @@ pub fn merge(alloc: Global, span: Span, name: Name, branches: Vec<Part>) -> Made
 {
     let name = Box::new(alloc, name)?;
     Ok(Box::new(alloc, Expr::Merge(span, name, branches))?)
+}
+
+#[inline(never)]
+pub fn variadic(alloc: Global, operator: ListOperator, span: Span, operands: Vec<Part>) -> Made
+    ensures { Makes result (plain.Variadic operator span (plain.parts_of (map part_seen operands.items))) }
+{
+    Ok(Box::new(alloc, Expr::Variadic(operator, span, operands))?)
 }

@@ -5,7 +5,7 @@ use Rattle.std.proofs.lemmas.List.{length-map, get_or_default}
 use Rattle.std.proofs.lemmas.List.Elements.{All-nil, All-append, All-contains}
 use Rattle.lus_syntax.specs.declared.tree.Tree.{Tree as StoredTree}
 use Rattle.lus_syntax.specs.Lexemes.{Text}
-use Rattle.lus_syntax.specs.Trees.{Expression, Numeral, Truth, Name, Call, Structure, Merge, Field, Parentheses, When, Unary, Binary, If, Parts, End, More, Equation, Node, Tree}
+use Rattle.lus_syntax.specs.Trees.{Expression, Numeral, Truth, Name, Call, Structure, Merge, Variadic, Field, Parentheses, When, Unary, Binary, If, Parts, End, More, Equation, Node, Tree}
 use Rattle.lus_syntax.specs.View.{node_seen, tree_seen}
 use Rattle.lus_values.specs.Lists.{item, Below}
 use Rattle.lus_graph.specs.Ways.{Uses, used, IsOrder}
@@ -27,6 +27,7 @@ module _ (nodes : List Text) where
     called_inside (Call f es) = All-append (λ k. k < length nodes) (option_to_list (place_in nodes f.text)) (called_in nodes es) (places_inside nodes f.text) (parts_inside es)
     called_inside (Structure t fs) = parts_inside fs
     called_inside (Merge s c bs) = parts_inside bs
+    called_inside (Variadic op s es) = parts_inside es
     called_inside (Field a x) = called_inside a
     called_inside (Parentheses s a) = called_inside a
     called_inside (When a t) = called_inside a

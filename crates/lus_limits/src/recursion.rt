@@ -147,7 +147,9 @@ fn call_in(expr: &Expr, name: &str) -> Option<Place> {
             }
             call_in_parts(arguments, name)
         }
-        Expr::Structure(_, parts) | Expr::Merge(_, _, parts) => call_in_parts(parts, name),
+        Expr::Structure(_, parts) | Expr::Merge(_, _, parts) | Expr::Variadic(_, _, parts) => {
+            call_in_parts(parts, name)
+        }
         Expr::Field(operand, _)
         | Expr::Parentheses(_, operand)
         | Expr::When(operand, _)

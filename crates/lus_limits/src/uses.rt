@@ -97,6 +97,7 @@ fn push_called(nodes: &IndexSet<String>, expr: &Expr, found: &mut Vec<u32>) -> R
         }
         Expr::Structure(_, parts) => push_called_in(nodes, parts, found),
         Expr::Merge(_, _, parts) => push_called_in(nodes, parts, found),
+        Expr::Variadic(_, _, parts) => push_called_in(nodes, parts, found),
         Expr::Field(operand, _) => push_called(nodes, operand, found),
         Expr::Parentheses(_, operand) => push_called(nodes, operand, found),
         Expr::When(operand, _) => push_called(nodes, operand, found),

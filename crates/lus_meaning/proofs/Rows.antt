@@ -4,6 +4,7 @@ use Rattle.lus_syntax.specs.declared.token.Place.{Place}
 use Rattle.lus_syntax.specs.declared.token.Span.{Span}
 use Rattle.lus_syntax.specs.declared.tree.NodeKind.TheVariants as node_kinds
 use Rattle.lus_syntax.specs.declared.tree.Infix.TheVariants as infixes
+use Rattle.lus_syntax.specs.declared.tree.ListOperator.TheVariants as list_operators
 use Rattle.lus_syntax.specs.declared.tree.Prefix.TheVariants as prefixes
 use Rattle.lus_syntax.specs.Trees as tree
 use Rattle.lus_values.specs.declared.operator.Op.TheVariants as ops
@@ -269,3 +270,34 @@ looping = record { types = []; constants = []; nodes = node 114 (group (n 120 �
 
 leads_back : Leads (node_uses looping) 0 0
 leads_back = step (search rules)
+
+-- `#` and `nor`: node o(a: bool; b: bool) returns (y: bool); let y = #(a, b); tel, with other right sides
+
+abbrev listed : tree.Parts
+listed = argument (var 97) (argument (var 98) tree.End)
+
+abbrev o : tree.Node
+o = node 111 (group (n 97 ∷ n 98 ∷ []) bool_name ∷ []) (group (n 121 ∷ []) bool_name ∷ []) (equation (n 121 ∷ []) (tree.Variadic list_operators.AtMostOne here listed) ∷ [])
+
+abbrev listing : tree.Tree
+listing = record { types = []; constants = []; nodes = o ∷ [] }
+
+at_most_one_is_a_truth_value : kind_of (scope listing o) (tree.Variadic list_operators.AtMostOne here listed) ≡ Some kinds.Bool
+at_most_one_is_a_truth_value = refl
+
+at_most_one_means : meant (scope listing o) (tree.Variadic list_operators.AtMostOne here listed) ≡ program.operate (operators.Compute ops.AtMostOne) (program.more (program.variable 0) (program.more (program.variable 1) program.none))
+at_most_one_means = refl
+
+-- of a number; of no operand; with a part that no source spells
+at_most_one_of_a_number : kind_of (scope listing o) (tree.Variadic list_operators.AtMostOne here (argument (digit 1) tree.End)) ≡ None
+at_most_one_of_a_number = refl
+
+none_of_nothing : kind_of (scope listing o) (tree.Variadic list_operators.Nor here tree.End) ≡ None
+none_of_nothing = refl
+
+none_of_a_branch : kind_of (scope listing o) (tree.Variadic list_operators.Nor here (branch 65 (var 97) tree.End)) ≡ None
+none_of_a_branch = refl
+
+-- lawful in a function
+none_of_is_pure : memory_fits node_kinds.Function (scope listing o) (equation (n 121 ∷ []) (tree.Variadic list_operators.Nor here listed) ∷ []) ≡ true
+none_of_is_pure = refl

@@ -5,8 +5,10 @@ use Rattle.lus_syntax.specs.declared.tree.Prefix.{Prefix}
 use Rattle.lus_syntax.specs.declared.tree.Prefix.TheVariants as prefixes
 use Rattle.lus_syntax.specs.declared.tree.Infix.{Infix}
 use Rattle.lus_syntax.specs.declared.tree.Infix.TheVariants as infixes
+use Rattle.lus_syntax.specs.declared.tree.ListOperator.{ListOperator}
+use Rattle.lus_syntax.specs.declared.tree.ListOperator.TheVariants as list_operators
 use Rattle.lus_syntax.specs.Trees as tree
-use Rattle.lus_syntax.specs.Trees.{Named, Numeral, Truth, Name, Call, Structure, Merge, Field, Parentheses, When, Unary, Binary, If, Parts, End, More, Group, Tree}
+use Rattle.lus_syntax.specs.Trees.{Named, Numeral, Truth, Name, Call, Structure, Merge, Variadic, Field, Parentheses, When, Unary, Binary, If, Parts, End, More, Group, Tree}
 use Rattle.lus_values.specs.declared.operator.Op.{Op}
 use Rattle.lus_values.specs.declared.operator.Op.TheVariants as ops
 use Rattle.lus_values.specs.declared.operator.Operator.TheVariants as operators
@@ -51,6 +53,13 @@ infix_meant infixes.Subtract = compute ops.Subtract
 infix_meant infixes.Multiply = compute ops.Multiply
 infix_meant infixes.Divide = compute ops.Divide
 infix_meant infixes.Remainder = compute ops.Remainder
+
+abbrev pub list_operation : ListOperator → Op
+list_operation list_operators.AtMostOne = ops.AtMostOne
+list_operation list_operators.Nor = ops.Nor
+
+abbrev pub variadic_meant : ListOperator → Operands → Expression
+variadic_meant op es = operate (operators.Compute (list_operation op)) es
 
 -- the operand beside the number c
 abbrev pub beside : ℕ → List ℕ → Operands → Expression
@@ -116,6 +125,7 @@ module _ (s : Scope) where
     meant (Call f es) = call (node_place f.text) 0 (all_meant es)
     meant (Structure t fs) = structure_meant (unwrap_or (entry s.types t.text) kinds.Bool) fs (all_meant fs)
     meant (Merge p c bs) = merge (variable_place c.text) (branches_meant (unwrap_or (variable_kind s c.text) kinds.Bool) bs (all_meant bs))
+    meant (Variadic op p es) = variadic_meant op (all_meant es)
     meant (Field a x) = field_meant (kind_of s a) x.text (meant a)
     meant (Parentheses p a) = meant a
     meant (When a t) = when (test_meant t) (meant a)

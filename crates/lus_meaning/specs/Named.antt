@@ -4,7 +4,7 @@ use Rattle.std.specs.Prelude.{◌++◌, ◌&&◌, ◌||◌, Bool, true, false, n
 use Rattle.std.specs.List.{list_all}
 use Rattle.std.specs.Str.{bytes_eq}
 use Rattle.lus_syntax.specs.Lexemes.{Text}
-use Rattle.lus_syntax.specs.Trees.{Label, Constructor, Boolean, Test, Holds, Fails, Is, Lead, Plain, Of, Branch, Expression, Numeral, Truth, Name, Call, Structure, Merge, Field, Parentheses, When, Unary, Binary, If, Parts, End, More, TypeName, BoolName, IntName, DeclaredName, Fields, Definition, Alias, Enumeration, StructureOf, TypeDeclaration, Literal, Positive, Negative, TruthValue, ConstructorName, Constant, Group, Equation, Node, Tree}
+use Rattle.lus_syntax.specs.Trees.{Label, Constructor, Boolean, Test, Holds, Fails, Is, Lead, Plain, Of, Branch, Expression, Numeral, Truth, Name, Call, Structure, Merge, Variadic, Field, Parentheses, When, Unary, Binary, If, Parts, End, More, TypeName, BoolName, IntName, DeclaredName, Fields, Definition, Alias, Enumeration, StructureOf, TypeDeclaration, Literal, Positive, Negative, TruthValue, ConstructorName, Constant, Group, Equation, Node, Tree}
 use Rattle.lus_values.specs.Lists.{Each}
 use Rattle.lus_meaning.specs.Tables.{text_of, groups}
 
@@ -85,6 +85,7 @@ module _ (k : Known) where
     knows (Call f es) = is_in k.nodes f.text && knows_parts es
     knows (Structure t fs) = is_in k.types t.text && knows_parts fs
     knows (Merge p c bs) = is_in k.variables c.text && knows_parts bs
+    knows (Variadic op p es) = knows_parts es
     knows (Field a x) = knows a
     knows (Parentheses p a) = knows a
     knows (When a t) = knows a && knows_test t

@@ -13,7 +13,7 @@ use Rattle.lus_program.specs.declared.types.Kind.TheVariants as kinds
 use Rattle.lus_program.specs.Programs.{Expression, literal, variable, operate, pre, arrow, when, merge, call, Operands, none, more, calls, numbered, Declared, Variable, Equation, Node, Program}
 use Rattle.lus_program.specs.Parts.{program_parts}
 use Rattle.lus_graph.specs.Ways.{Uses, HasNoWayBack}
-use Rattle.lus_meaning.specs.Types.{same, all_same, where_true, alike, both, compared, choice_kind, value_kind, the_one, common_kind, count, fields_in, constructors_in, nothing_declared}
+use Rattle.lus_meaning.specs.Types.{same, all_same, where_true, alike, both, compared, choice_kind, value_kind, the_one, common_kind, bools_kind, count, fields_in, constructors_in, nothing_declared}
 
 abbrev pub only : Kind → Kind → List Kind → Option Kind
 only operand result (k ∷ []) = where_true (same operand k) (Some result)
@@ -42,6 +42,8 @@ op_kind ops.Less = of_two (both kinds.Int kinds.Bool)
 op_kind ops.AtMost = of_two (both kinds.Int kinds.Bool)
 op_kind ops.Greater = of_two (both kinds.Int kinds.Bool)
 op_kind ops.AtLeast = of_two (both kinds.Int kinds.Bool)
+op_kind ops.AtMostOne = bools_kind
+op_kind ops.Nor = bools_kind
 
 -- what an operation gives, whatever its operands (Lustre V6 reference manual, "Predefined operators")
 abbrev pub operation_kind : Op → Kind
@@ -62,6 +64,8 @@ operation_kind ops.Less = kinds.Bool
 operation_kind ops.AtMost = kinds.Bool
 operation_kind ops.Greater = kinds.Bool
 operation_kind ops.AtLeast = kinds.Bool
+operation_kind ops.AtMostOne = kinds.Bool
+operation_kind ops.Nor = kinds.Bool
 
 abbrev pub if_kind : List Kind → Option Kind
 if_kind (c ∷ k ∷ l ∷ []) = choice_kind c k l

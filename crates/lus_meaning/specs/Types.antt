@@ -9,7 +9,7 @@ use Rattle.lus_syntax.specs.declared.tree.Prefix.{Prefix}
 use Rattle.lus_syntax.specs.declared.tree.Prefix.TheVariants as prefixes
 use Rattle.lus_syntax.specs.declared.tree.Infix.{Infix}
 use Rattle.lus_syntax.specs.declared.tree.Infix.TheVariants as infixes
-use Rattle.lus_syntax.specs.Trees.{Label, Constructor, Boolean, Test, Holds, Fails, Is, Lead, Plain, Of, Branch, Expression, Numeral, Truth, Name, Call, Structure, Merge, Field, Parentheses, When, Unary, Binary, If, Parts, End, More}
+use Rattle.lus_syntax.specs.Trees.{Label, Constructor, Boolean, Test, Holds, Fails, Is, Lead, Plain, Of, Branch, Expression, Numeral, Truth, Name, Call, Structure, Merge, Variadic, Field, Parentheses, When, Unary, Binary, If, Parts, End, More}
 use Rattle.lus_values.specs.Lists.{item}
 use Rattle.lus_values.specs.Values.{Value, bool, int, enum, struct, nil}
 use Rattle.lus_program.specs.declared.expr.Test.{Test as PlacedTest}
@@ -95,6 +95,11 @@ abbrev pub common_kind : List Kind → Option Kind
 common_kind [] = None
 common_kind (k ∷ ks) = where_true (list_all (same k) ks) (Some k)
 
+-- `#` and `nor`: one truth value or more
+abbrev pub bools_kind : List Kind → Option Kind
+bools_kind [] = None
+bools_kind (k ∷ ks) = where_true (list_all (same kinds.Bool) (k ∷ ks)) (Some kinds.Bool)
+
 abbrev pub count : ℕ → List ℕ → ℕ
 count n [] = 0
 count n (m ∷ ms) = cond (nat_eq n m) (suc (count n ms)) (count n ms)
@@ -121,6 +126,10 @@ is_argument (Branch p l) = false
 abbrev pub are_arguments : Parts → Bool
 are_arguments End = true
 are_arguments (More l e ps) = is_argument l && are_arguments ps
+
+-- operands have nothing before them
+abbrev pub variadic_kind : Parts → List Kind → Option Kind
+variadic_kind es ks = where_true (are_arguments es) (bools_kind ks)
 
 -- the field of this name, by its place, those before it being n
 abbrev pub field_from : ℕ → List DeclaredField → Text → Option Placed
@@ -263,6 +272,7 @@ module _ (s : Scope) where
     kind_of (Call f es) = option_and_then (λ ks. option_and_then the_one (outputs_of f.text es ks)) (kinds_of es)
     kind_of (Structure t fs) = option_and_then (λ ks. option_and_then (λ k. structure_kind k fs ks) (entry s.types t.text)) (kinds_of fs)
     kind_of (Merge p c bs) = option_and_then (λ ks. option_and_then (λ k. merge_kind k bs ks) (variable_kind c.text)) (kinds_of bs)
+    kind_of (Variadic op p es) = option_and_then (variadic_kind es) (kinds_of es)
     kind_of (Field a x) = option_and_then (λ k. field_kind k x.text) (kind_of a)
     kind_of (Parentheses p a) = kind_of a
     kind_of (When a t) = option_and_then (λ k. option_map (λ c. k) (test_placed t)) (kind_of a)

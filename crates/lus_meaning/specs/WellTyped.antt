@@ -9,7 +9,7 @@ use Rattle.lus_syntax.specs.declared.tree.Prefix.TheVariants as prefixes
 use Rattle.lus_syntax.specs.declared.tree.Infix.{Infix}
 use Rattle.lus_syntax.specs.declared.tree.Infix.TheVariants as infixes
 use Rattle.lus_syntax.specs.Lexemes.{Text}
-use Rattle.lus_syntax.specs.Trees.{Named, Test, Expression, Numeral, Truth, Name, Call, Structure, Merge, Field, Parentheses, When, Unary, Binary, If, Parts, End, More, Constant, Equation, Node, Tree}
+use Rattle.lus_syntax.specs.Trees.{Named, Test, Expression, Numeral, Truth, Name, Call, Structure, Merge, Variadic, Field, Parentheses, When, Unary, Binary, If, Parts, End, More, Constant, Equation, Node, Tree}
 use Rattle.lus_values.specs.Lists.{Each}
 use Rattle.lus_values.specs.Values.{Value}
 use Rattle.lus_program.specs.declared.types.Kind.{Kind}
@@ -71,6 +71,7 @@ abbrev mutual
   is_pure s (Call f es) = calls_function s f.text && are_pure s es
   is_pure s (Structure t fs) = are_pure s fs
   is_pure s (Merge p c bs) = are_pure s bs
+  is_pure s (Variadic op p es) = are_pure s es
   is_pure s (Field a x) = is_pure s a
   is_pure s (Parentheses p a) = is_pure s a
   is_pure s (When a t) = is_pure s a

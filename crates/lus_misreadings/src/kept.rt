@@ -2,8 +2,8 @@
 
 use crate::case::Case;
 
-/// What is said of each word that is kept back, and of the one symbol.
-pub static KEPT: [(&str, Case); 13] = [
+/// What is said of each word that is kept back.
+pub static KEPT: [(&str, Case); 11] = [
     (
         "real",
         Case {
@@ -100,24 +100,6 @@ pub static KEPT: [(&str, Case); 13] = [
             length: 8,
             sentence: "`operator` is kept back, and no name",
             note: "Choose another name.",
-            instead: None,
-        },
-    ),
-    (
-        "nor",
-        Case {
-            length: 3,
-            sentence: "`nor` is left out",
-            note: "Write `not (a or b)`.",
-            instead: None,
-        },
-    ),
-    (
-        "#",
-        Case {
-            length: 1,
-            sentence: "`#` is left out",
-            note: "Write `not (a and b)`; of more than two, count by `if` those that hold.",
             instead: None,
         },
     ),

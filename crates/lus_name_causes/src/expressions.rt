@@ -74,6 +74,7 @@ pub fn in_expression(sought: Sought, source: &Expr) -> Option<Use<'_>> {
             Some(found) => Some(found),
             None => in_parts(sought, parts),
         },
+        Expr::Variadic(_, _, parts) => in_parts(sought, parts),
         Expr::Field(operand, _) => in_expression(sought, operand),
         Expr::Parentheses(_, inner) => in_expression(sought, inner),
         Expr::When(operand, test) => match in_expression(sought, operand) {

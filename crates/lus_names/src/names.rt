@@ -156,6 +156,7 @@ pub fn unknown(names: &Names, source: &Expr) -> Option<Place>
                 Some(variable.span.start)
             }
         }
+        Expr::Variadic(_, _, operands) => unknown_in(names, operands),
         Expr::Field(operand, _) => unknown(names, operand),
         Expr::Parentheses(_, inner) => unknown(names, inner),
         Expr::When(operand, test) => match unknown(names, operand) {

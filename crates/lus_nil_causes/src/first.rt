@@ -84,6 +84,7 @@ pub fn first_value<'t>(tree: &'t Tree, node: &'t Node, expr: &Expr) -> Option<&'
             Some(part) => first_value(tree, node, &part.value),
             None => None,
         },
+        Expr::Variadic(_, _, _) => Some("false"),
         Expr::Field(_, _) => None,
         Expr::Parentheses(_, inner) => first_value(tree, node, inner),
         Expr::When(_, _) => None,

@@ -35,6 +35,7 @@ pub fn flag_of(raised: &IndexMap<String, bool>, expr: &Expr) -> bool {
         Expr::Call(_, _) => false,
         Expr::Structure(_, parts) => greatest(raised, parts),
         Expr::Merge(_, _, _) => false,
+        Expr::Variadic(_, _, parts) => greatest(raised, parts),
         Expr::Field(operand, _) => flag_of(raised, operand),
         Expr::Parentheses(_, inner) => flag_of(raised, inner),
         Expr::When(operand, _) => flag_of(raised, operand),

@@ -59,7 +59,9 @@ fn in_expression<'t>(flags: &Flags<'t>, sought: Sought, expr: &'t Expr) -> Optio
             }
             in_parts(flags, sought, parts)
         }
-        Expr::Structure(_, parts) => in_parts(flags, sought, parts),
+        Expr::Structure(_, parts) | Expr::Variadic(_, _, parts) => {
+            in_parts(flags, sought, parts)
+        }
         Expr::Merge(_, _, parts) => {
             for part in parts {
                 if is_found(flags, sought, &part.value) {

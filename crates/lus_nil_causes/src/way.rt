@@ -33,7 +33,7 @@ fn origin_of<'t>(flags: &Flags<'t>, expr: &'t Expr) -> Option<Origin<'t>> {
             expr,
             is_computed: false,
         }),
-        Expr::Structure(_, parts) => origin_in(flags, parts),
+        Expr::Structure(_, parts) | Expr::Variadic(_, _, parts) => origin_in(flags, parts),
         Expr::Field(operand, _) => origin_of(flags, operand),
         Expr::Parentheses(_, inner) => origin_of(flags, inner),
         Expr::When(operand, _) => origin_of(flags, operand),

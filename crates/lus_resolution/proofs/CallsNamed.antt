@@ -10,7 +10,7 @@ use Rattle.lus_values.specs.Values.{nil}
 use Rattle.lus_graph.specs.Ways.{Uses, used, Leads, step, then, HasNoWayBack}
 use Rattle.lus_syntax.specs.Lexemes.{Text}
 use Rattle.lus_syntax.specs.Trees as tree
-use Rattle.lus_syntax.specs.Trees.{Numeral, Truth, Name, Call, Structure, Merge, Field, Parentheses, When, Unary, Binary, If, Parts, End, More, Tree}
+use Rattle.lus_syntax.specs.Trees.{Numeral, Truth, Name, Call, Structure, Merge, Variadic, Field, Parentheses, When, Unary, Binary, If, Parts, End, More, Tree}
 use Rattle.lus_program.specs.declared.types.Kind.TheVariants as kinds
 use Rattle.lus_program.specs.Programs.{Expression, literal, variable, operate, pre, arrow, when, merge, call, Operands, none, more, calls, numbered, Equation, Node}
 use Rattle.lus_values.proofs.Lists.{each_left, each_right, each_append}
@@ -59,6 +59,7 @@ module _ (Q : ℕ → Type 0) where
       named_called (Merge p c bs) h each =
           let l = unwrap_or (variable_kind s c.text) kinds.Bool in
           order_called Q 0 (size_of s l) (unwrap_or (branch_places s l bs) []) (all_meant s bs) (all_named bs (and_right (is_in k.variables c.text) (knows_parts k bs) h) each)
+      named_called (Variadic op p es) h each = all_named es h each
       named_called (Field a x) h each = field_called Q (field_named (fields_of s (unwrap_or (kind_of s a) kinds.Bool)) x.text) (meant s a) (named_called a h each)
       named_called (Parentheses p a) h each = named_called a h each
       named_called (When a t) h each = named_called a (and_left (knows k a) (knows_test k t) h) each

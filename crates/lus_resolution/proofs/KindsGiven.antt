@@ -13,7 +13,7 @@ use Rattle.lus_program.specs.declared.types.Kind.{Kind}
 use Rattle.lus_program.specs.declared.types.Kind.TheVariants as kinds
 use Rattle.lus_program.specs.Programs.{Expression, literal, variable, operate, pre, arrow, when, merge, call, Operands, none, more, Node, Program, Variable, no_variable, empty_node, node_at}
 use Rattle.lus_values.proofs.Equalities.{and_left, and_right}
-use Rattle.lus_meaning.specs.Types.{same, all_same, where_true, alike, both, compared, common_kind, the_one}
+use Rattle.lus_meaning.specs.Types.{same, all_same, where_true, alike, both, bools_kind, compared, common_kind, the_one}
 use Rattle.lus_meaning.specs.Resolved.{only, of_two, op_kind, operation_kind, if_kind, operator_kind, projected, field_kinds, input_kinds, output_kinds, call_results, results, kind_of_variable, test_fits, merged, kind_in, kinds_in}
 use Rattle.lus_resolution.proofs.Options.{and_then_gives, map_gives, where_true_gives, same_is}
 use Rattle.lus_meaning.specs.Given.{variable_given, output_given, operator_given, given, last_given}
@@ -43,6 +43,10 @@ compared_gives (a ∷ []) k h = cc
 compared_gives (a ∷ b ∷ []) k h = some_same (where_true_gives _ (Some kinds.Bool) k h).1
 compared_gives (a ∷ b ∷ c ∷ ks) k h = cc
 
+bools_gives : (ks : List Kind) (k : Kind) → bools_kind ks ≡ Some k → kinds.Bool ≡ k
+bools_gives [] k h = cc
+bools_gives (a ∷ ks) k h = some_same (where_true_gives (list_all (same kinds.Bool) (a ∷ ks)) (Some kinds.Bool) k h).1
+
 operation_gives : (op : Op) (ks : List Kind) (k : Kind) → op_kind op ks ≡ Some k → operation_kind op ≡ k
 operation_gives ops.Negate = only_gives kinds.Int kinds.Int
 operation_gives ops.Add = both_gives kinds.Int kinds.Int
@@ -61,6 +65,8 @@ operation_gives ops.Less = both_gives kinds.Int kinds.Bool
 operation_gives ops.AtMost = both_gives kinds.Int kinds.Bool
 operation_gives ops.Greater = both_gives kinds.Int kinds.Bool
 operation_gives ops.AtLeast = both_gives kinds.Int kinds.Bool
+operation_gives ops.AtMostOne = bools_gives
+operation_gives ops.Nor = bools_gives
 
 -- a choice gives what its last operand is
 if_gives : (ks : List Kind) (k : Kind) → if_kind ks ≡ Some k → last_of kinds.Bool ks ≡ k

@@ -15,9 +15,11 @@ use Rattle.lus_syntax.specs.declared.tree.Prefix.{Prefix}
 use Rattle.lus_syntax.specs.declared.tree.Prefix.TheVariants as prefixes
 use Rattle.lus_syntax.specs.declared.tree.Infix.{Infix}
 use Rattle.lus_syntax.specs.declared.tree.Infix.TheVariants as infixes
+use Rattle.lus_syntax.specs.declared.tree.ListOperator.{ListOperator}
+use Rattle.lus_syntax.specs.declared.tree.ListOperator.TheVariants as list_operators
 use Rattle.lus_syntax.specs.Lexemes.{Text}
 use Rattle.lus_syntax.specs.Trees as tree
-use Rattle.lus_syntax.specs.Trees.{Label, Constructor, Boolean, Holds, Fails, Is, Numeral, Truth, Name, Call, Structure, Merge, Field, Parentheses, When, Unary, Binary, If, Parts, End, More}
+use Rattle.lus_syntax.specs.Trees.{Label, Constructor, Boolean, Holds, Fails, Is, Numeral, Truth, Name, Call, Structure, Merge, Variadic, Field, Parentheses, When, Unary, Binary, If, Parts, End, More}
 use Rattle.lus_program.specs.declared.expr.Test.{Test}
 use Rattle.lus_program.specs.declared.types.Kind.{Kind}
 use Rattle.lus_program.specs.declared.types.Kind.TheVariants as kinds
@@ -25,9 +27,9 @@ use Rattle.lus_program.specs.Programs.{Expression, variable, literal, operate, w
 use Rattle.lus_meaning.specs.declared.entries.Placed.{Placed}
 use Rattle.lus_meaning.specs.declared.entries.Constructor.{Constructor as EnumConstructor}
 use Rattle.lus_meaning.specs.Scopes.{Scope, entry}
-use Rattle.lus_meaning.specs.Types.{same, all_same, where_true, prefix_kind, infix_kind, choice_kind, value_kind, call_kinds, the_one, common_kind, each_counted, each_once, are_arguments, field_named, fields_in, constructors_in, test_variable, truth_place, variable_kind, name_value, size_of, fields_of, label_place, asked_place, asked_of, test_placed, branch_place, branch_places, fields_asked, merge_kind, structure_kind, field_kind, outputs_of, kind_of, kinds_of}
+use Rattle.lus_meaning.specs.Types.{same, all_same, where_true, prefix_kind, infix_kind, choice_kind, bools_kind, variadic_kind, value_kind, call_kinds, the_one, common_kind, each_counted, each_once, are_arguments, field_named, fields_in, constructors_in, test_variable, truth_place, variable_kind, name_value, size_of, fields_of, label_place, asked_place, asked_of, test_placed, branch_place, branch_places, fields_asked, merge_kind, structure_kind, field_kind, outputs_of, kind_of, kinds_of}
 use Rattle.lus_meaning.specs.WellTyped.{kinds_given}
-use Rattle.lus_meaning.specs.Meaning.{one, two, in_order, prefix_meant, infix_meant, variable_place, no_test, test_meant, node_place, structure_meant, branches_meant, meant, all_meant}
+use Rattle.lus_meaning.specs.Meaning.{one, two, in_order, prefix_meant, infix_meant, variadic_meant, variable_place, no_test, test_meant, node_place, structure_meant, branches_meant, meant, all_meant}
 use Rattle.lus_meaning.specs.Resolved.{values_of, field_kinds, operator_kind, call_results, results, kind_of_variable, test_fits, merged, kind_in, kinds_in, kinds_given_in}
 use Rattle.lus_values.proofs.Equalities.{and_left, and_right, and_true}
 use Rattle.lus_resolution.proofs.Options.{and_then_gives, map_gives, where_true_gives, same_is, all_same_is, where_true_is, same_self, all_same_self}
@@ -182,6 +184,13 @@ module _ (s : Scope) (p : Program) (f : Node) (agrees : Agrees s p f) where
   infix_is infixes.Divide a b k l m h g e = of_both (operators.Compute ops.Divide) a b k l h g ∙ e
   infix_is infixes.Remainder a b k l m h g e = of_both (operators.Compute ops.Remainder) a b k l h g ∙ e
 
+  list_is : (op : ListOperator) (es : Operands) (ks : List Kind) (l : Kind) → kinds_in p f es ≡ Some ks → bools_kind ks ≡ Some l → kind_in p f (variadic_meant op es) ≡ Some l
+  list_is list_operators.AtMostOne es ks l h e = ap (option_and_then (operator_kind p (operators.Compute ops.AtMostOne))) h ∙ e
+  list_is list_operators.Nor es ks l h e = ap (option_and_then (operator_kind p (operators.Compute ops.Nor))) h ∙ e
+
+  variadic_is : (op : ListOperator) (args : Parts) (es : Operands) (ks : List Kind) (l : Kind) → kinds_in p f es ≡ Some ks → variadic_kind args ks ≡ Some l → kind_in p f (variadic_meant op es) ≡ Some l
+  variadic_is op args es ks l h e = list_is op es ks l h (where_true_gives (are_arguments args) (bools_kind ks) l e).1
+
   -- fields of a value
   field_form : (o : Option Placed) (x : Placed) (a : Expression) → o ≡ Some x
       → kind_in p f (elim o [ Some g ↦ operate (operators.Field g.place) (one a) | None ↦ operate (operators.Field 0) (one a) ]) ≡ kind_in p f (operate (operators.Field x.place) (one a))
@@ -297,6 +306,9 @@ module _ (s : Scope) (p : Program) (f : Node) (agrees : Agrees s p f) where
         let given = and_then_gives (λ ks. option_and_then (λ m. merge_kind s m bs ks) (variable_kind s c.text)) (kinds_of s bs) k h in
         let known = and_then_gives (λ m. merge_kind s m bs given.0) (variable_kind s c.text) k given.2 in
         merge_is c.text bs (all_meant s bs) given.0 known.0 k (variable_kind s c.text) known.1 known.1 given.1 (all_meant_are bs given.0 given.1) known.2
+    meant_is (Variadic op q es) k h =
+        let args = and_then_gives (variadic_kind es) (kinds_of s es) k h in
+        variadic_is op es (all_meant s es) args.0 k (all_meant_are es args.0 args.1) args.2
     meant_is (Field a x) k h =
         let given = and_then_gives (λ m. field_kind s m x.text) (kind_of s a) k h in
         field_is x.text given.0 k (meant s a) (kind_of s a) given.1 (meant_is a given.0 given.1) given.2
@@ -340,6 +352,7 @@ module _ (s : Scope) (p : Program) (f : Node) (agrees : Agrees s p f) where
       ap (option_and_then (results p (node_place s g.text))) (all_meant_are es args.0 args.1) ∙ result_is g.text es args.0 ks args.2
   given_is (Structure t fs) ks h = alone_is (Structure t fs) ks tt h
   given_is (Merge q c bs) ks h = alone_is (Merge q c bs) ks tt h
+  given_is (Variadic op q es) ks h = alone_is (Variadic op q es) ks tt h
   given_is (Field a x) ks h = alone_is (Field a x) ks (field_no_call (field_named (fields_of s (unwrap_or (kind_of s a) kinds.Bool)) x.text) (meant s a)) h
   given_is (Parentheses q a) ks h = given_is a ks h
   given_is (When a t) ks h = alone_is (When a t) ks tt h

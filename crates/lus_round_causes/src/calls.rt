@@ -46,6 +46,7 @@ fn add_expression<'t>(
         }
         Expr::Structure(_, parts) => add_parts(links, from, parts),
         Expr::Merge(_, _, parts) => add_parts(links, from, parts),
+        Expr::Variadic(_, _, parts) => add_parts(links, from, parts),
         Expr::Field(operand, _) => add_expression(links, from, operand),
         Expr::Parentheses(_, inner) => add_expression(links, from, inner),
         Expr::When(operand, _) => add_expression(links, from, operand),

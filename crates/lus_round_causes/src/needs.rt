@@ -44,6 +44,7 @@ fn in_expression(expr: &Expr, text: &str) -> Option<Need> {
             None => None,
         },
         Expr::Structure(_, parts) => in_parts(parts, text),
+        Expr::Variadic(_, _, parts) => in_parts(parts, text),
         Expr::Merge(_, name, parts) => match needed(name, text) {
             Some(found) => Some(found),
             None => in_parts(parts, text),

@@ -7,13 +7,14 @@ use Rattle.lus_syntax.specs.declared.token.Symbol.TheVariants as symbols
 use Rattle.lus_syntax.specs.declared.token.Word.TheVariants as words
 use Rattle.lus_syntax.specs.declared.tree.Infix.{Infix}
 use Rattle.lus_syntax.specs.declared.tree.Infix.TheVariants as operators
+use Rattle.lus_syntax.specs.declared.tree.ListOperator.{ListOperator}
 use Rattle.lus_syntax.specs.declared.tree.Prefix.{Prefix}
 use Rattle.lus_spelling.specs.declared.form.Form.{Form}
 use Rattle.lus_spelling.specs.declared.form.Form.TheVariants as forms
 use Rattle.lus_syntax.specs.Lexemes.{Kind, Number, Sign, Keyword, Lexeme, tok}
-use Rattle.lus_syntax.specs.Trees.{Named, Label, Constructor, Boolean, Test, Lead, Plain, Of, Branch, Expression, Numeral, Truth, Name, Call, Structure, Merge, Field, Parentheses, When, Unary, Binary, If, Parts, End, More, parts_of}
-use Rattle.lus_spelling.specs.Expressions.{ident, label, depth, deepest, Level, Whole, Arrow, Else, Choice, Implication, Disjunction, Conjunction, Negation, Negated, Comparison, Sum, Term, Signed, Primary, Dotted, Atom, infix_of, may_join, prefix_of, Joins, implication, disjunction, conjunction, comparison, sum, term, Heads, negation, negated, signed, Spells, SpellsAll, SpellsPart, SpellsTest, Separates, Closes, holds, fails, fails_in, labelled, comma, semicolon, unparted, closed, braced, late, unclosed, number, truth, falsity, name, call_empty, call, structure, parentheses, undotted, dotted, primary, merge, prefixed, bare, first, next, choice, else_choice, else_value, arrow_choice, arrow_value, arrow, whole, fby, when, final, further, argument, init, branch}
-use Rattle.lus_spelling.specs.Reading.{Fault, Syntax, Deep, Found, found, Read, Reader, ◌>>=◌, front, expect, identifier_at, label_at, closed_name_at, test_at, turn_at, Item, item, lead_at, part_at, Several, onward, parts_at, listed_at, after_open, parentheses_at, name_at, atom_at, dots_at, dotted_at, primary_at, prefix_at, prefixed_on, prefixed_at, join, two_on, infix_at, no_turn, one_turn, more_at, chain_at, branches_at, choice_at, arrow_on, arrow_at, is_primary, when_on, fby_on, whole_at, read_atom, read_dotted, read_primary, read_signed, read_term, read_sum, read_comparison, read_negated, read_negation, read_conjunction, read_disjunction, read_implication, read_choice, read_else, read_arrow, read_whole, read, opening_of, opening, entry, sampled}
+use Rattle.lus_syntax.specs.Trees.{Named, Label, Constructor, Boolean, Test, Lead, Plain, Of, Branch, Expression, Numeral, Truth, Name, Call, Structure, Merge, Variadic, Field, Parentheses, When, Unary, Binary, If, Parts, End, More, parts_of}
+use Rattle.lus_spelling.specs.Expressions.{ident, label, depth, deepest, Level, Whole, Arrow, Else, Choice, Implication, Disjunction, Conjunction, Negation, Negated, Comparison, Sum, Term, Signed, Primary, Dotted, Atom, infix_of, may_join, prefix_of, list_operator_of, Joins, implication, disjunction, conjunction, comparison, sum, term, Heads, negation, negated, signed, Spells, SpellsAll, SpellsPart, SpellsTest, Separates, Closes, holds, fails, fails_in, labelled, comma, semicolon, unparted, closed, braced, late, unclosed, number, truth, falsity, name, call_empty, call, structure, variadic, parentheses, undotted, dotted, primary, merge, prefixed, bare, first, next, choice, else_choice, else_value, arrow_choice, arrow_value, arrow, whole, fby, when, final, further, argument, init, branch}
+use Rattle.lus_spelling.specs.Reading.{Fault, Syntax, Deep, Found, found, Read, Reader, ◌>>=◌, front, expect, identifier_at, label_at, closed_name_at, test_at, turn_at, Item, item, lead_at, part_at, Several, onward, parts_at, listed_at, after_open, parentheses_at, name_at, operands_at, plain_at, atom_at, dots_at, dotted_at, primary_at, prefix_at, prefixed_on, prefixed_at, join, two_on, infix_at, no_turn, one_turn, more_at, chain_at, branches_at, choice_at, arrow_on, arrow_at, is_primary, when_on, fby_on, whole_at, read_atom, read_dotted, read_primary, read_signed, read_term, read_sum, read_comparison, read_negated, read_negation, read_conjunction, read_disjunction, read_implication, read_choice, read_else, read_arrow, read_whole, read, opening_of, opening, entry, sampled}
 use Rattle.lus_spelling.proofs.Sound.{front_is, zero_least, max_regroups}
 
 -- ---- what may follow, and what may begin
@@ -102,6 +103,11 @@ prefix_opening Signed (Keyword words.Pre) op e = refl
 prefix_opening Signed (Sign symbols.Minus) op e = refl
 prefix_opening _ _ op e = absurd cc
 
+list_opening : (l : Kind) (op : ListOperator) → list_operator_of l ≡ Some op → opening_of l ≡ 5
+list_opening (Sign symbols.Sharp) op e = refl
+list_opening (Keyword words.Nor) op e = refl
+list_opening _ op e = absurd cc
+
 no_prefix : (level : Level) (ts : List Lexeme) → entry level < opening ts → prefix_at level ts ≡ None
 no_prefix level [] lt = refl
 no_prefix level (t ∷ ts) lt = go (prefix_of level t.kind) refl
@@ -149,6 +155,7 @@ begins (name n) rest = omega arith
 begins (call_empty n o c) rest = omega arith
 begins (call n o d) rest = omega arith
 begins (structure n o d) rest = omega arith
+begins (variadic l op s o at d) rest = let e = list_opening l op at in omega (arith, e)
 begins (parentheses s c d) rest = omega arith
 begins (undotted d) rest = begins d rest
 begins (dotted s x {t} {ts} d) rest = subst (λ (u : List Lexeme). 5 ≤ opening u) (sym (append_assoc ts (tok (Sign symbols.Dot) s ∷ ident x ∷ []) rest)) (begins d (tok (Sign symbols.Dot) s ∷ ident x ∷ rest))
@@ -212,6 +219,7 @@ depth_positive (Name n) = omega arith
 depth_positive (Call n us) = omega arith
 depth_positive (Structure n us) = omega arith
 depth_positive (Merge s n us) = omega arith
+depth_positive (Variadic op s us) = omega arith
 depth_positive (Field t n) = omega arith
 depth_positive (When t c) = omega arith
 depth_positive (Parentheses s t) = omega arith
@@ -291,27 +299,27 @@ goal_atom : (t : Expression) (ts : List Lexeme) → ((n : ℕ) (rest : List Lexe
 goal_atom t ts h = record { reads = reads_from Atom t ts h; grows = λ operand j. elim j [ ]; dots = λ d. elim d [ ] }
 
 number_again : (k : ℤ) (s : Span) → Goal Atom (Numeral k s) (tok (Number k) s ∷ [])
-unfolding read read_atom atom_at
+unfolding read read_atom atom_at plain_at
 number_again k s = goal_atom (Numeral k s) (tok (Number k) s ∷ []) (λ n rest lt. sym (within (suc n) (Numeral k s) rest (omega arith)))
 
 truth_again : (s : Span) → Goal Atom (Truth true s) (tok (Keyword words.True) s ∷ [])
-unfolding read read_atom atom_at
+unfolding read read_atom atom_at plain_at
 truth_again s = goal_atom (Truth true s) (tok (Keyword words.True) s ∷ []) (λ n rest lt. sym (within (suc n) (Truth true s) rest (omega arith)))
 
 falsity_again : (s : Span) → Goal Atom (Truth false s) (tok (Keyword words.False) s ∷ [])
-unfolding read read_atom atom_at
+unfolding read read_atom atom_at plain_at
 falsity_again s = goal_atom (Truth false s) (tok (Keyword words.False) s ∷ []) (λ n rest lt. sym (within (suc n) (Truth false s) rest (omega arith)))
 
 name_again : (k : Named) → Goal Atom (Name k) (ident k ∷ [])
-unfolding read read_atom atom_at name_at
+unfolding read read_atom atom_at plain_at name_at
 name_again k = goal_atom (Name k) (ident k ∷ []) (λ n rest lt. rw (no_light (Sign symbols.Open) rest lt, no_light (Sign symbols.OpenBrace) rest lt) (sym (within (suc n) (Name k) rest (omega arith))))
 
 call_empty_again : (k : Named) (o e : Span) → Goal Atom (Call k End) (ident k ∷ tok (Sign symbols.Open) o ∷ tok (Sign symbols.Close) e ∷ [])
-unfolding read read_atom atom_at name_at
+unfolding read read_atom atom_at plain_at name_at
 call_empty_again k o e = goal_atom (Call k End) (ident k ∷ tok (Sign symbols.Open) o ∷ tok (Sign symbols.Close) e ∷ []) (λ n rest lt. sym (within (suc n) (Call k End) rest (omega arith)))
 
 parentheses_again : (s e : Span) (t : Expression) (ts : List Lexeme) → Reads Whole t ts → Goal Atom (Parentheses s t) (tok (Sign symbols.Open) s ∷ (ts ++ tok (Sign symbols.Close) e ∷ []))
-unfolding read read_atom atom_at parentheses_at
+unfolding read read_atom atom_at plain_at parentheses_at
 parentheses_again s e t ts h = goal_atom (Parentheses s t) (tok (Sign symbols.Open) s ∷ (ts ++ tok (Sign symbols.Close) e ∷ [])) (λ n rest lt.
     ap (λ (r : List Lexeme). read n Whole r >>= λ inner. after_open s inner (expect (Sign symbols.Close) inner.rest)) (append_assoc ts (tok (Sign symbols.Close) e ∷ []) rest)
     ∙ ap (λ (r : Read). r >>= λ inner. after_open s inner (expect (Sign symbols.Close) inner.rest)) (h.by n (tok (Sign symbols.Close) e ∷ rest) (omega arith))
@@ -542,12 +550,16 @@ listed_again make form us ts deep h n rest lt =
     ]
 
 call_again : (m : Named) (o : Span) (us : Parts) (ts : List Lexeme) → SpellsAll forms.Call us ts → ReadsAll forms.Call us ts → Goal Atom (Call m us) (ident m ∷ tok (Sign symbols.Open) o ∷ ts)
-unfolding read read_atom atom_at name_at
+unfolding read read_atom atom_at plain_at name_at
 call_again m o us ts d h = goal_atom (Call m us) (ident m ∷ tok (Sign symbols.Open) o ∷ ts) (λ n rest lt. rw (no_close d rest) (listed_again (Call m) forms.Call us ts refl h n rest lt))
 
 structure_again : (m : Named) (o : Span) (us : Parts) (ts : List Lexeme) → ReadsAll forms.Structure us ts → Goal Atom (Structure m us) (ident m ∷ tok (Sign symbols.OpenBrace) o ∷ ts)
-unfolding read read_atom atom_at name_at
+unfolding read read_atom atom_at plain_at name_at
 structure_again m o us ts h = goal_atom (Structure m us) (ident m ∷ tok (Sign symbols.OpenBrace) o ∷ ts) (λ n rest lt. listed_again (Structure m) forms.Structure us ts refl h n rest lt)
+
+variadic_again : (l : Kind) (op : ListOperator) (s o : Span) (us : Parts) (ts : List Lexeme) → list_operator_of l ≡ Some op → ReadsAll forms.Call us ts → Goal Atom (Variadic op s us) (tok l s ∷ tok (Sign symbols.Open) o ∷ ts)
+unfolding read read_atom atom_at operands_at
+variadic_again l op s o us ts at h = goal_atom (Variadic op s us) (tok l s ∷ tok (Sign symbols.Open) o ∷ ts) (λ n rest lt. rw at (listed_again (Variadic op s) forms.Call us ts refl h n rest lt))
 
 merge_again : (s : Span) (m : Named) (us : Parts) (ts : List Lexeme) → ReadsAll forms.Merge us ts → Goal Primary (Merge s m us) (tok (Keyword words.Merge) s ∷ ident m ∷ ts)
 unfolding read read_primary primary_at identifier_at
@@ -946,6 +958,7 @@ atom_shape (name n) = refl
 atom_shape (call_empty n o e) = refl
 atom_shape (call n o d) = refl
 atom_shape (structure n o d) = refl
+atom_shape (variadic l op s o at d) = refl
 atom_shape (parentheses s e d) = refl
 atom_shape (prefixed l op s h at d) = elim h [ ]
 atom_shape (bare h d) = elim h [ ]
@@ -1026,6 +1039,7 @@ mutual
   goal_of (call_empty n o e) = call_empty_again n o e
   goal_of (call n o {us} {ts} d) = call_again n o us ts d (all_of d)
   goal_of (structure n o {us} {ts} d) = structure_again n o us ts (all_of d)
+  goal_of (variadic l op s o {us} {ts} at d) = variadic_again l op s o us ts at (all_of d)
   goal_of (undotted {t} {ts} d) = goal_dots t ts (dots_first t ts (reads_of d (goal_of d).reads))
   goal_of (dotted s x {t} {ts} d) = goal_dots (Field t x) (ts ++ tok (Sign symbols.Dot) s ∷ ident x ∷ []) (dots_next t ts s x ((goal_of d).dots is_dotted))
   goal_of (primary {t} {ts} d) = primary_again t ts d (reads_of d (goal_of d).reads)

@@ -9,12 +9,13 @@ use Rattle.lus_syntax.specs.declared.token.Word.{Word}
 use Rattle.lus_syntax.specs.declared.token.Word.TheVariants as words
 use Rattle.lus_syntax.specs.declared.tree.Infix.{Infix}
 use Rattle.lus_syntax.specs.declared.tree.Infix.TheVariants as infixes
+use Rattle.lus_syntax.specs.declared.tree.ListOperator.TheVariants as list_operators
 use Rattle.lus_syntax.specs.declared.tree.Prefix.TheVariants as prefixes
 use Rattle.lus_syntax.specs.Lexemes.{Number, Sign, Keyword, Lexeme, tok}
 use Rattle.lus_syntax.specs.Places.{start}
-use Rattle.lus_syntax.specs.Trees.{Named, named, Boolean, Fails, Branch, Expression, Name, Merge, Parentheses, When, Unary, Binary, If, End, More}
+use Rattle.lus_syntax.specs.Trees.{Named, named, Boolean, Fails, Plain, Branch, Expression, Name, Merge, Variadic, Parentheses, When, Unary, Binary, If, End, More}
 use Rattle.lus_spelling.specs.Expressions.{Whole, Spells, depth, ident}
-use Rattle.lus_spelling.specs.Reading.{Syntax, Deep, found, Read, read, atom_at, dots_at, dotted_at, primary_at, prefixed_at, more_at, chain_at, branches_at, choice_at, arrow_at, whole_at, name_at, parentheses_at, identifier_at, label_at, closed_name_at, test_at, lead_at, part_at, parts_at, listed_at, read_atom, read_dotted, read_primary, read_signed, read_term, read_sum, read_comparison, read_negated, read_negation, read_conjunction, read_disjunction, read_implication, read_choice, read_else, read_arrow, read_whole}
+use Rattle.lus_spelling.specs.Reading.{Syntax, Deep, found, Read, read, atom_at, plain_at, operands_at, dots_at, dotted_at, primary_at, prefixed_at, more_at, chain_at, branches_at, choice_at, arrow_at, whole_at, name_at, parentheses_at, identifier_at, label_at, closed_name_at, test_at, lead_at, part_at, parts_at, listed_at, read_atom, read_dotted, read_primary, read_signed, read_term, read_sum, read_comparison, read_negated, read_negation, read_conjunction, read_disjunction, read_implication, read_choice, read_else, read_arrow, read_whole}
 use Rattle.lus_spelling.proofs.Sound.{read_sound}
 use Rattle.lus_spelling.proofs.Complete.{complete, outcome}
 
@@ -72,147 +73,166 @@ differences : List Lexeme
 differences = ident a ∷ sign symbols.Minus ∷ ident b ∷ sign symbols.Minus ∷ ident c ∷ []
 
 differences_group_left : Spells Whole (join infixes.Subtract (join infixes.Subtract (Name a) (Name b)) (Name c)) differences
-unfolding read atom_at dots_at dotted_at primary_at prefixed_at more_at chain_at branches_at choice_at arrow_at whole_at name_at parentheses_at read_atom read_dotted read_primary read_signed read_term read_sum read_comparison read_negated read_negation read_conjunction read_disjunction read_implication read_choice read_else read_arrow read_whole differences
+unfolding read atom_at plain_at operands_at dots_at dotted_at primary_at prefixed_at more_at chain_at branches_at choice_at arrow_at whole_at name_at parentheses_at read_atom read_dotted read_primary read_signed read_term read_sum read_comparison read_negated read_negation read_conjunction read_disjunction read_implication read_choice read_else read_arrow read_whole differences
 differences_group_left = spelt _ _ 9 3 refl
 
 quotients : List Lexeme
 quotients = ident a ∷ word words.Div ∷ ident b ∷ sign symbols.Star ∷ ident c ∷ []
 
 quotients_group_left : Spells Whole (join infixes.Multiply (join infixes.Divide (Name a) (Name b)) (Name c)) quotients
-unfolding read atom_at dots_at dotted_at primary_at prefixed_at more_at chain_at branches_at choice_at arrow_at whole_at name_at parentheses_at read_atom read_dotted read_primary read_signed read_term read_sum read_comparison read_negated read_negation read_conjunction read_disjunction read_implication read_choice read_else read_arrow read_whole quotients
+unfolding read atom_at plain_at operands_at dots_at dotted_at primary_at prefixed_at more_at chain_at branches_at choice_at arrow_at whole_at name_at parentheses_at read_atom read_dotted read_primary read_signed read_term read_sum read_comparison read_negated read_negation read_conjunction read_disjunction read_implication read_choice read_else read_arrow read_whole quotients
 quotients_group_left = spelt _ _ 9 3 refl
 
 arrows : List Lexeme
 arrows = ident a ∷ sign symbols.Arrow ∷ ident b ∷ sign symbols.Arrow ∷ ident c ∷ []
 
 arrows_group_right : Spells Whole (join infixes.Arrow (Name a) (join infixes.Arrow (Name b) (Name c))) arrows
-unfolding read atom_at dots_at dotted_at primary_at prefixed_at more_at chain_at branches_at choice_at arrow_at whole_at name_at parentheses_at read_atom read_dotted read_primary read_signed read_term read_sum read_comparison read_negated read_negation read_conjunction read_disjunction read_implication read_choice read_else read_arrow read_whole arrows
+unfolding read atom_at plain_at operands_at dots_at dotted_at primary_at prefixed_at more_at chain_at branches_at choice_at arrow_at whole_at name_at parentheses_at read_atom read_dotted read_primary read_signed read_term read_sum read_comparison read_negated read_negation read_conjunction read_disjunction read_implication read_choice read_else read_arrow read_whole arrows
 arrows_group_right = spelt _ _ 9 3 refl
 
 negation : List Lexeme
 negation = word words.Not ∷ ident a ∷ word words.And ∷ ident b ∷ []
 
 negation_binds_tighter : Spells Whole (join infixes.And (Unary prefixes.Not here (Name a)) (Name b)) negation
-unfolding read atom_at dots_at dotted_at primary_at prefixed_at more_at chain_at branches_at choice_at arrow_at whole_at name_at parentheses_at read_atom read_dotted read_primary read_signed read_term read_sum read_comparison read_negated read_negation read_conjunction read_disjunction read_implication read_choice read_else read_arrow read_whole negation
+unfolding read atom_at plain_at operands_at dots_at dotted_at primary_at prefixed_at more_at chain_at branches_at choice_at arrow_at whole_at name_at parentheses_at read_atom read_dotted read_primary read_signed read_term read_sum read_comparison read_negated read_negation read_conjunction read_disjunction read_implication read_choice read_else read_arrow read_whole negation
 negation_binds_tighter = spelt _ _ 9 3 refl
 
 minus : List Lexeme
 minus = sign symbols.Minus ∷ ident a ∷ sign symbols.Star ∷ ident b ∷ []
 
 minus_binds_tighter : Spells Whole (join infixes.Multiply (Unary prefixes.Negate here (Name a)) (Name b)) minus
-unfolding read atom_at dots_at dotted_at primary_at prefixed_at more_at chain_at branches_at choice_at arrow_at whole_at name_at parentheses_at read_atom read_dotted read_primary read_signed read_term read_sum read_comparison read_negated read_negation read_conjunction read_disjunction read_implication read_choice read_else read_arrow read_whole minus
+unfolding read atom_at plain_at operands_at dots_at dotted_at primary_at prefixed_at more_at chain_at branches_at choice_at arrow_at whole_at name_at parentheses_at read_atom read_dotted read_primary read_signed read_term read_sum read_comparison read_negated read_negation read_conjunction read_disjunction read_implication read_choice read_else read_arrow read_whole minus
 minus_binds_tighter = spelt _ _ 9 3 refl
 
 past : List Lexeme
 past = ident a ∷ sign symbols.Arrow ∷ word words.Pre ∷ ident b ∷ sign symbols.Plus ∷ ident c ∷ []
 
 past_binds_tightest : Spells Whole (join infixes.Arrow (Name a) (join infixes.Add (Unary prefixes.Pre here (Name b)) (Name c))) past
-unfolding read atom_at dots_at dotted_at primary_at prefixed_at more_at chain_at branches_at choice_at arrow_at whole_at name_at parentheses_at read_atom read_dotted read_primary read_signed read_term read_sum read_comparison read_negated read_negation read_conjunction read_disjunction read_implication read_choice read_else read_arrow read_whole past
+unfolding read atom_at plain_at operands_at dots_at dotted_at primary_at prefixed_at more_at chain_at branches_at choice_at arrow_at whole_at name_at parentheses_at read_atom read_dotted read_primary read_signed read_term read_sum read_comparison read_negated read_negation read_conjunction read_disjunction read_implication read_choice read_else read_arrow read_whole past
 past_binds_tightest = spelt _ _ 9 4 refl
 
 choice : List Lexeme
 choice = word words.If ∷ ident c ∷ word words.Then ∷ ident a ∷ word words.Else ∷ ident a ∷ sign symbols.Plus ∷ ident b ∷ []
 
 choice_reaches_far : Spells Whole (If here (Name c) (Name a) (join infixes.Add (Name a) (Name b))) choice
-unfolding read atom_at dots_at dotted_at primary_at prefixed_at more_at chain_at branches_at choice_at arrow_at whole_at name_at parentheses_at read_atom read_dotted read_primary read_signed read_term read_sum read_comparison read_negated read_negation read_conjunction read_disjunction read_implication read_choice read_else read_arrow read_whole choice
+unfolding read atom_at plain_at operands_at dots_at dotted_at primary_at prefixed_at more_at chain_at branches_at choice_at arrow_at whole_at name_at parentheses_at read_atom read_dotted read_primary read_signed read_term read_sum read_comparison read_negated read_negation read_conjunction read_disjunction read_implication read_choice read_else read_arrow read_whole choice
 choice_reaches_far = spelt _ _ 9 3 refl
 
 implication_of_or : List Lexeme
 implication_of_or = ident a ∷ word words.Or ∷ ident b ∷ sign symbols.Implies ∷ ident c ∷ []
 
 implication_binds_weakest : Spells Whole (join infixes.Implies (join infixes.Or (Name a) (Name b)) (Name c)) implication_of_or
-unfolding read atom_at dots_at dotted_at primary_at prefixed_at more_at chain_at branches_at choice_at arrow_at whole_at name_at parentheses_at read_atom read_dotted read_primary read_signed read_term read_sum read_comparison read_negated read_negation read_conjunction read_disjunction read_implication read_choice read_else read_arrow read_whole implication_of_or
+unfolding read atom_at plain_at operands_at dots_at dotted_at primary_at prefixed_at more_at chain_at branches_at choice_at arrow_at whole_at name_at parentheses_at read_atom read_dotted read_primary read_signed read_term read_sum read_comparison read_negated read_negation read_conjunction read_disjunction read_implication read_choice read_else read_arrow read_whole implication_of_or
 implication_binds_weakest = spelt _ _ 9 3 refl
 
 negated_right : List Lexeme
 negated_right = ident a ∷ word words.And ∷ word words.Not ∷ ident b ∷ []
 
 negation_inside_and : Spells Whole (join infixes.And (Name a) (Unary prefixes.Not here (Name b))) negated_right
-unfolding read atom_at dots_at dotted_at primary_at prefixed_at more_at chain_at branches_at choice_at arrow_at whole_at name_at parentheses_at read_atom read_dotted read_primary read_signed read_term read_sum read_comparison read_negated read_negation read_conjunction read_disjunction read_implication read_choice read_else read_arrow read_whole negated_right
+unfolding read atom_at plain_at operands_at dots_at dotted_at primary_at prefixed_at more_at chain_at branches_at choice_at arrow_at whole_at name_at parentheses_at read_atom read_dotted read_primary read_signed read_term read_sum read_comparison read_negated read_negation read_conjunction read_disjunction read_implication read_choice read_else read_arrow read_whole negated_right
 negation_inside_and = spelt _ _ 9 3 refl
 
 comparison_of_sums : List Lexeme
 comparison_of_sums = ident a ∷ sign symbols.Plus ∷ ident b ∷ sign symbols.Less ∷ ident c ∷ sign symbols.Star ∷ ident a ∷ []
 
 sums_in_comparisons : Spells Whole (join infixes.Less (join infixes.Add (Name a) (Name b)) (join infixes.Multiply (Name c) (Name a))) comparison_of_sums
-unfolding read atom_at dots_at dotted_at primary_at prefixed_at more_at chain_at branches_at choice_at arrow_at whole_at name_at parentheses_at read_atom read_dotted read_primary read_signed read_term read_sum read_comparison read_negated read_negation read_conjunction read_disjunction read_implication read_choice read_else read_arrow read_whole comparison_of_sums
+unfolding read atom_at plain_at operands_at dots_at dotted_at primary_at prefixed_at more_at chain_at branches_at choice_at arrow_at whole_at name_at parentheses_at read_atom read_dotted read_primary read_signed read_term read_sum read_comparison read_negated read_negation read_conjunction read_disjunction read_implication read_choice read_else read_arrow read_whole comparison_of_sums
 sums_in_comparisons = spelt _ _ 9 3 refl
 
 choice_as_operand : List Lexeme
 choice_as_operand = ident a ∷ sign symbols.Plus ∷ sign symbols.Open ∷ word words.If ∷ ident c ∷ word words.Then ∷ ident a ∷ word words.Else ∷ ident b ∷ sign symbols.Close ∷ []
 
 parentheses_are_kept : Spells Whole (join infixes.Add (Name a) (Parentheses here (If here (Name c) (Name a) (Name b)))) choice_as_operand
-unfolding read atom_at dots_at dotted_at primary_at prefixed_at more_at chain_at branches_at choice_at arrow_at whole_at name_at parentheses_at read_atom read_dotted read_primary read_signed read_term read_sum read_comparison read_negated read_negation read_conjunction read_disjunction read_implication read_choice read_else read_arrow read_whole choice_as_operand
+unfolding read atom_at plain_at operands_at dots_at dotted_at primary_at prefixed_at more_at chain_at branches_at choice_at arrow_at whole_at name_at parentheses_at read_atom read_dotted read_primary read_signed read_term read_sum read_comparison read_negated read_negation read_conjunction read_disjunction read_implication read_choice read_else read_arrow read_whole choice_as_operand
 parentheses_are_kept = spelt _ _ 9 4 refl
 
 second_choice : List Lexeme
 second_choice = word words.If ∷ ident c ∷ word words.Then ∷ ident a ∷ word words.Else ∷ word words.If ∷ ident b ∷ word words.Then ∷ ident b ∷ word words.Else ∷ ident c ∷ []
 
 chosen_after_else : Spells Whole (If here (Name c) (Name a) (If here (Name b) (Name b) (Name c))) second_choice
-unfolding read atom_at dots_at dotted_at primary_at prefixed_at more_at chain_at branches_at choice_at arrow_at whole_at name_at parentheses_at read_atom read_dotted read_primary read_signed read_term read_sum read_comparison read_negated read_negation read_conjunction read_disjunction read_implication read_choice read_else read_arrow read_whole second_choice
+unfolding read atom_at plain_at operands_at dots_at dotted_at primary_at prefixed_at more_at chain_at branches_at choice_at arrow_at whole_at name_at parentheses_at read_atom read_dotted read_primary read_signed read_term read_sum read_comparison read_negated read_negation read_conjunction read_disjunction read_implication read_choice read_else read_arrow read_whole second_choice
 chosen_after_else = spelt _ _ 9 3 refl
 
 followed : List Lexeme
 followed = ident a ∷ word words.Fby ∷ sign symbols.Open ∷ ident b ∷ word words.Fby ∷ ident c ∷ sign symbols.Close ∷ []
 
 followed_by_in_parentheses : Spells Whole (join infixes.Fby (Name a) (Parentheses here (join infixes.Fby (Name b) (Name c)))) followed
-unfolding read atom_at dots_at dotted_at primary_at prefixed_at more_at chain_at branches_at choice_at arrow_at whole_at name_at parentheses_at read_atom read_dotted read_primary read_signed read_term read_sum read_comparison read_negated read_negation read_conjunction read_disjunction read_implication read_choice read_else read_arrow read_whole followed
+unfolding read atom_at plain_at operands_at dots_at dotted_at primary_at prefixed_at more_at chain_at branches_at choice_at arrow_at whole_at name_at parentheses_at read_atom read_dotted read_primary read_signed read_term read_sum read_comparison read_negated read_negation read_conjunction read_disjunction read_implication read_choice read_else read_arrow read_whole followed
 followed_by_in_parentheses = spelt _ _ 9 4 refl
 
 sampled_negation : List Lexeme
 sampled_negation = ident a ∷ word words.When ∷ word words.Not ∷ sign symbols.Open ∷ ident c ∷ sign symbols.Close ∷ []
 
 sampled_in_parentheses : Spells Whole (When (Name a) (Fails here c)) sampled_negation
-unfolding read atom_at dots_at dotted_at primary_at prefixed_at more_at chain_at branches_at choice_at arrow_at whole_at name_at parentheses_at read_atom read_dotted read_primary read_signed read_term read_sum read_comparison read_negated read_negation read_conjunction read_disjunction read_implication read_choice read_else read_arrow read_whole test_at closed_name_at identifier_at sampled_negation
+unfolding read atom_at plain_at operands_at dots_at dotted_at primary_at prefixed_at more_at chain_at branches_at choice_at arrow_at whole_at name_at parentheses_at read_atom read_dotted read_primary read_signed read_term read_sum read_comparison read_negated read_negation read_conjunction read_disjunction read_implication read_choice read_else read_arrow read_whole test_at closed_name_at identifier_at sampled_negation
 sampled_in_parentheses = spelt _ _ 9 2 refl
 
 merged : List Lexeme
 merged = word words.Merge ∷ ident c ∷ sign symbols.Open ∷ word words.True ∷ sign symbols.Arrow ∷ ident a ∷ sign symbols.Close ∷ sign symbols.Open ∷ word words.False ∷ sign symbols.Arrow ∷ ident b ∷ sign symbols.Close ∷ []
 
 merge_by_branches : Spells Whole (Merge here c (More (Branch here (Boolean true here)) (Name a) (More (Branch here (Boolean false here)) (Name b) End))) merged
-unfolding read atom_at dots_at dotted_at primary_at prefixed_at more_at chain_at branches_at choice_at arrow_at whole_at name_at parentheses_at read_atom read_dotted read_primary read_signed read_term read_sum read_comparison read_negated read_negation read_conjunction read_disjunction read_implication read_choice read_else read_arrow read_whole listed_at parts_at part_at lead_at label_at identifier_at merged
+unfolding read atom_at plain_at operands_at dots_at dotted_at primary_at prefixed_at more_at chain_at branches_at choice_at arrow_at whole_at name_at parentheses_at read_atom read_dotted read_primary read_signed read_term read_sum read_comparison read_negated read_negation read_conjunction read_disjunction read_implication read_choice read_else read_arrow read_whole listed_at parts_at part_at lead_at label_at identifier_at merged
 merge_by_branches = spelt _ _ 9 2 refl
+
+at_most_one : List Lexeme
+at_most_one = sign symbols.Sharp ∷ sign symbols.Open ∷ ident a ∷ sign symbols.Comma ∷ ident b ∷ sign symbols.Close ∷ []
+
+at_most_one_of_two : Spells Whole (Variadic list_operators.AtMostOne here (More Plain (Name a) (More Plain (Name b) End))) at_most_one
+unfolding read atom_at plain_at operands_at dots_at dotted_at primary_at prefixed_at more_at chain_at branches_at choice_at arrow_at whole_at name_at parentheses_at read_atom read_dotted read_primary read_signed read_term read_sum read_comparison read_negated read_negation read_conjunction read_disjunction read_implication read_choice read_else read_arrow read_whole listed_at parts_at part_at lead_at at_most_one
+at_most_one_of_two = spelt _ _ 9 2 refl
+
+none_of_one : Spells Whole (Variadic list_operators.Nor here (More Plain (Name a) End)) (word words.Nor ∷ sign symbols.Open ∷ ident a ∷ sign symbols.Close ∷ [])
+unfolding read atom_at plain_at operands_at dots_at dotted_at primary_at prefixed_at more_at chain_at branches_at choice_at arrow_at whole_at name_at parentheses_at read_atom read_dotted read_primary read_signed read_term read_sum read_comparison read_negated read_negation read_conjunction read_disjunction read_implication read_choice read_else read_arrow read_whole listed_at parts_at part_at lead_at
+none_of_one = spelt _ _ 9 2 refl
 
 -- ---- right sides that spell none
 
 minus_before_fby : (t : Expression) → Spells Whole t (sign symbols.Minus ∷ tok (Number (pos 1)) here ∷ word words.Fby ∷ ident a ∷ []) → ⊥
-unfolding read atom_at dots_at dotted_at primary_at prefixed_at more_at chain_at branches_at choice_at arrow_at whole_at name_at parentheses_at read_atom read_dotted read_primary read_signed read_term read_sum read_comparison read_negated read_negation read_conjunction read_disjunction read_implication read_choice read_else read_arrow read_whole
+unfolding read atom_at plain_at operands_at dots_at dotted_at primary_at prefixed_at more_at chain_at branches_at choice_at arrow_at whole_at name_at parentheses_at read_atom read_dotted read_primary read_signed read_term read_sum read_comparison read_negated read_negation read_conjunction read_disjunction read_implication read_choice read_else read_arrow read_whole
 minus_before_fby = no_tree _ 9 tt
 
 or_beside_xor : (t : Expression) → Spells Whole t (ident a ∷ word words.Or ∷ ident b ∷ word words.Xor ∷ ident c ∷ []) → ⊥
-unfolding read atom_at dots_at dotted_at primary_at prefixed_at more_at chain_at branches_at choice_at arrow_at whole_at name_at parentheses_at read_atom read_dotted read_primary read_signed read_term read_sum read_comparison read_negated read_negation read_conjunction read_disjunction read_implication read_choice read_else read_arrow read_whole
+unfolding read atom_at plain_at operands_at dots_at dotted_at primary_at prefixed_at more_at chain_at branches_at choice_at arrow_at whole_at name_at parentheses_at read_atom read_dotted read_primary read_signed read_term read_sum read_comparison read_negated read_negation read_conjunction read_disjunction read_implication read_choice read_else read_arrow read_whole
 or_beside_xor = no_tree _ 9 tt
 
 chained_comparison : (t : Expression) → Spells Whole t (ident a ∷ sign symbols.Less ∷ ident b ∷ sign symbols.Less ∷ ident c ∷ []) → ⊥
-unfolding read atom_at dots_at dotted_at primary_at prefixed_at more_at chain_at branches_at choice_at arrow_at whole_at name_at parentheses_at read_atom read_dotted read_primary read_signed read_term read_sum read_comparison read_negated read_negation read_conjunction read_disjunction read_implication read_choice read_else read_arrow read_whole
+unfolding read atom_at plain_at operands_at dots_at dotted_at primary_at prefixed_at more_at chain_at branches_at choice_at arrow_at whole_at name_at parentheses_at read_atom read_dotted read_primary read_signed read_term read_sum read_comparison read_negated read_negation read_conjunction read_disjunction read_implication read_choice read_else read_arrow read_whole
 chained_comparison = no_tree _ 9 tt
 
+at_most_one_of_nothing : (t : Expression) → Spells Whole t (sign symbols.Sharp ∷ sign symbols.Open ∷ sign symbols.Close ∷ []) → ⊥
+unfolding read atom_at plain_at operands_at dots_at dotted_at primary_at prefixed_at more_at chain_at branches_at choice_at arrow_at whole_at name_at parentheses_at read_atom read_dotted read_primary read_signed read_term read_sum read_comparison read_negated read_negation read_conjunction read_disjunction read_implication read_choice read_else read_arrow read_whole listed_at parts_at part_at lead_at
+at_most_one_of_nothing = no_tree _ 9 tt
+
+none_of_without_parentheses : (t : Expression) → Spells Whole t (word words.Nor ∷ ident a ∷ []) → ⊥
+unfolding read atom_at plain_at operands_at dots_at dotted_at primary_at prefixed_at more_at chain_at branches_at choice_at arrow_at whole_at name_at parentheses_at read_atom read_dotted read_primary read_signed read_term read_sum read_comparison read_negated read_negation read_conjunction read_disjunction read_implication read_choice read_else read_arrow read_whole listed_at parts_at part_at lead_at
+none_of_without_parentheses = no_tree _ 9 tt
+
 two_fbys : (t : Expression) → Spells Whole t (ident a ∷ word words.Fby ∷ ident b ∷ word words.Fby ∷ ident c ∷ []) → ⊥
-unfolding read atom_at dots_at dotted_at primary_at prefixed_at more_at chain_at branches_at choice_at arrow_at whole_at name_at parentheses_at read_atom read_dotted read_primary read_signed read_term read_sum read_comparison read_negated read_negation read_conjunction read_disjunction read_implication read_choice read_else read_arrow read_whole
+unfolding read atom_at plain_at operands_at dots_at dotted_at primary_at prefixed_at more_at chain_at branches_at choice_at arrow_at whole_at name_at parentheses_at read_atom read_dotted read_primary read_signed read_term read_sum read_comparison read_negated read_negation read_conjunction read_disjunction read_implication read_choice read_else read_arrow read_whole
 two_fbys = no_tree _ 9 tt
 
 two_implications : (t : Expression) → Spells Whole t (ident a ∷ sign symbols.Implies ∷ ident b ∷ sign symbols.Implies ∷ ident c ∷ []) → ⊥
-unfolding read atom_at dots_at dotted_at primary_at prefixed_at more_at chain_at branches_at choice_at arrow_at whole_at name_at parentheses_at read_atom read_dotted read_primary read_signed read_term read_sum read_comparison read_negated read_negation read_conjunction read_disjunction read_implication read_choice read_else read_arrow read_whole
+unfolding read atom_at plain_at operands_at dots_at dotted_at primary_at prefixed_at more_at chain_at branches_at choice_at arrow_at whole_at name_at parentheses_at read_atom read_dotted read_primary read_signed read_term read_sum read_comparison read_negated read_negation read_conjunction read_disjunction read_implication read_choice read_else read_arrow read_whole
 two_implications = no_tree _ 9 tt
 
 choice_without_parentheses : (t : Expression) → Spells Whole t (ident a ∷ sign symbols.Plus ∷ word words.If ∷ ident c ∷ word words.Then ∷ ident a ∷ word words.Else ∷ ident b ∷ []) → ⊥
-unfolding read atom_at dots_at dotted_at primary_at prefixed_at more_at chain_at branches_at choice_at arrow_at whole_at name_at parentheses_at read_atom read_dotted read_primary read_signed read_term read_sum read_comparison read_negated read_negation read_conjunction read_disjunction read_implication read_choice read_else read_arrow read_whole
+unfolding read atom_at plain_at operands_at dots_at dotted_at primary_at prefixed_at more_at chain_at branches_at choice_at arrow_at whole_at name_at parentheses_at read_atom read_dotted read_primary read_signed read_term read_sum read_comparison read_negated read_negation read_conjunction read_disjunction read_implication read_choice read_else read_arrow read_whole
 choice_without_parentheses = no_tree _ 9 tt
 
 arrow_before_fby : (t : Expression) → Spells Whole t (ident a ∷ sign symbols.Arrow ∷ ident b ∷ word words.Fby ∷ ident c ∷ []) → ⊥
-unfolding read atom_at dots_at dotted_at primary_at prefixed_at more_at chain_at branches_at choice_at arrow_at whole_at name_at parentheses_at read_atom read_dotted read_primary read_signed read_term read_sum read_comparison read_negated read_negation read_conjunction read_disjunction read_implication read_choice read_else read_arrow read_whole
+unfolding read atom_at plain_at operands_at dots_at dotted_at primary_at prefixed_at more_at chain_at branches_at choice_at arrow_at whole_at name_at parentheses_at read_atom read_dotted read_primary read_signed read_term read_sum read_comparison read_negated read_negation read_conjunction read_disjunction read_implication read_choice read_else read_arrow read_whole
 arrow_before_fby = no_tree _ 9 tt
 
 pre_before_fby : (t : Expression) → Spells Whole t (word words.Pre ∷ ident a ∷ word words.Fby ∷ ident b ∷ []) → ⊥
-unfolding read atom_at dots_at dotted_at primary_at prefixed_at more_at chain_at branches_at choice_at arrow_at whole_at name_at parentheses_at read_atom read_dotted read_primary read_signed read_term read_sum read_comparison read_negated read_negation read_conjunction read_disjunction read_implication read_choice read_else read_arrow read_whole
+unfolding read atom_at plain_at operands_at dots_at dotted_at primary_at prefixed_at more_at chain_at branches_at choice_at arrow_at whole_at name_at parentheses_at read_atom read_dotted read_primary read_signed read_term read_sum read_comparison read_negated read_negation read_conjunction read_disjunction read_implication read_choice read_else read_arrow read_whole
 pre_before_fby = no_tree _ 9 tt
 
 negation_behind_comparison : (t : Expression) → Spells Whole t (ident a ∷ sign symbols.Equal ∷ word words.Not ∷ ident b ∷ []) → ⊥
-unfolding read atom_at dots_at dotted_at primary_at prefixed_at more_at chain_at branches_at choice_at arrow_at whole_at name_at parentheses_at read_atom read_dotted read_primary read_signed read_term read_sum read_comparison read_negated read_negation read_conjunction read_disjunction read_implication read_choice read_else read_arrow read_whole
+unfolding read atom_at plain_at operands_at dots_at dotted_at primary_at prefixed_at more_at chain_at branches_at choice_at arrow_at whole_at name_at parentheses_at read_atom read_dotted read_primary read_signed read_term read_sum read_comparison read_negated read_negation read_conjunction read_disjunction read_implication read_choice read_else read_arrow read_whole
 negation_behind_comparison = no_tree _ 9 tt
 
 arrow_behind_choice : (t : Expression) → Spells Whole t (word words.If ∷ ident c ∷ word words.Then ∷ ident a ∷ word words.Else ∷ ident b ∷ sign symbols.Arrow ∷ ident c ∷ []) → ⊥
-unfolding read atom_at dots_at dotted_at primary_at prefixed_at more_at chain_at branches_at choice_at arrow_at whole_at name_at parentheses_at read_atom read_dotted read_primary read_signed read_term read_sum read_comparison read_negated read_negation read_conjunction read_disjunction read_implication read_choice read_else read_arrow read_whole
+unfolding read atom_at plain_at operands_at dots_at dotted_at primary_at prefixed_at more_at chain_at branches_at choice_at arrow_at whole_at name_at parentheses_at read_atom read_dotted read_primary read_signed read_term read_sum read_comparison read_negated read_negation read_conjunction read_disjunction read_implication read_choice read_else read_arrow read_whole
 arrow_behind_choice = no_tree _ 9 tt
 
 -- ---- right sides that are too deep, and what is no tree however deep
@@ -222,21 +242,21 @@ reads : ℕ → List Lexeme → Read
 reads n ts = read n Whole ts
 
 whole_sum_too_deep : reads 1 (ident a ∷ sign symbols.Plus ∷ ident b ∷ []) ≡ Err Deep
-unfolding read atom_at dots_at dotted_at primary_at prefixed_at more_at chain_at branches_at choice_at arrow_at whole_at name_at parentheses_at read_atom read_dotted read_primary read_signed read_term read_sum read_comparison read_negated read_negation read_conjunction read_disjunction read_implication read_choice read_else read_arrow read_whole reads
+unfolding read atom_at plain_at operands_at dots_at dotted_at primary_at prefixed_at more_at chain_at branches_at choice_at arrow_at whole_at name_at parentheses_at read_atom read_dotted read_primary read_signed read_term read_sum read_comparison read_negated read_negation read_conjunction read_disjunction read_implication read_choice read_else read_arrow read_whole reads
 whole_sum_too_deep = refl
 
 sum_without_operand : reads 1 (ident a ∷ sign symbols.Plus ∷ sign symbols.Semicolon ∷ []) ≡ Err Syntax
-unfolding read atom_at dots_at dotted_at primary_at prefixed_at more_at chain_at branches_at choice_at arrow_at whole_at name_at parentheses_at read_atom read_dotted read_primary read_signed read_term read_sum read_comparison read_negated read_negation read_conjunction read_disjunction read_implication read_choice read_else read_arrow read_whole reads
+unfolding read atom_at plain_at operands_at dots_at dotted_at primary_at prefixed_at more_at chain_at branches_at choice_at arrow_at whole_at name_at parentheses_at read_atom read_dotted read_primary read_signed read_term read_sum read_comparison read_negated read_negation read_conjunction read_disjunction read_implication read_choice read_else read_arrow read_whole reads
 sum_without_operand = refl
 
 operand_too_deep : reads 1 (sign symbols.Open ∷ ident a ∷ []) ≡ Err Deep
-unfolding read atom_at dots_at dotted_at primary_at prefixed_at more_at chain_at branches_at choice_at arrow_at whole_at name_at parentheses_at read_atom read_dotted read_primary read_signed read_term read_sum read_comparison read_negated read_negation read_conjunction read_disjunction read_implication read_choice read_else read_arrow read_whole reads
+unfolding read atom_at plain_at operands_at dots_at dotted_at primary_at prefixed_at more_at chain_at branches_at choice_at arrow_at whole_at name_at parentheses_at read_atom read_dotted read_primary read_signed read_term read_sum read_comparison read_negated read_negation read_conjunction read_disjunction read_implication read_choice read_else read_arrow read_whole reads
 operand_too_deep = refl
 
 opening_alone : reads 1 (sign symbols.Open ∷ []) ≡ Err Syntax
-unfolding read atom_at dots_at dotted_at primary_at prefixed_at more_at chain_at branches_at choice_at arrow_at whole_at name_at parentheses_at read_atom read_dotted read_primary read_signed read_term read_sum read_comparison read_negated read_negation read_conjunction read_disjunction read_implication read_choice read_else read_arrow read_whole reads
+unfolding read atom_at plain_at operands_at dots_at dotted_at primary_at prefixed_at more_at chain_at branches_at choice_at arrow_at whole_at name_at parentheses_at read_atom read_dotted read_primary read_signed read_term read_sum read_comparison read_negated read_negation read_conjunction read_disjunction read_implication read_choice read_else read_arrow read_whole reads
 opening_alone = refl
 
 operand_of_another_rule : reads 1 (ident a ∷ sign symbols.Star ∷ word words.Not ∷ ident b ∷ []) ≡ Err Syntax
-unfolding read atom_at dots_at dotted_at primary_at prefixed_at more_at chain_at branches_at choice_at arrow_at whole_at name_at parentheses_at read_atom read_dotted read_primary read_signed read_term read_sum read_comparison read_negated read_negation read_conjunction read_disjunction read_implication read_choice read_else read_arrow read_whole reads
+unfolding read atom_at plain_at operands_at dots_at dotted_at primary_at prefixed_at more_at chain_at branches_at choice_at arrow_at whole_at name_at parentheses_at read_atom read_dotted read_primary read_signed read_term read_sum read_comparison read_negated read_negation read_conjunction read_disjunction read_implication read_choice read_else read_arrow read_whole reads
 operand_of_another_rule = refl

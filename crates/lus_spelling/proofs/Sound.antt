@@ -9,13 +9,14 @@ use Rattle.lus_syntax.specs.declared.token.Word.{Word}
 use Rattle.lus_syntax.specs.declared.token.Word.TheVariants as words
 use Rattle.lus_syntax.specs.declared.tree.Infix.{Infix}
 use Rattle.lus_syntax.specs.declared.tree.Infix.TheVariants as operators
+use Rattle.lus_syntax.specs.declared.tree.ListOperator.{ListOperator}
 use Rattle.lus_syntax.specs.declared.tree.Prefix.{Prefix}
 use Rattle.lus_spelling.specs.declared.form.Form.{Form}
 use Rattle.lus_spelling.specs.declared.form.Form.TheVariants as forms
 use Rattle.lus_syntax.specs.Lexemes.{Kind, Identifier, Number, Sign, Keyword, Lexeme, tok}
-use Rattle.lus_syntax.specs.Trees.{Named, named, Label, Constructor, Boolean, Test, Holds, Fails, Is, Lead, Plain, Of, Branch, Expression, Numeral, Truth, Name, Call, Structure, Merge, Field, Parentheses, When, Unary, Binary, If, Parts, End, parts_of}
-use Rattle.lus_spelling.specs.Expressions.{ident, label, depth, deepest, Level, Whole, Arrow, Else, Choice, Implication, Disjunction, Conjunction, Negation, Negated, Comparison, Sum, Term, Signed, Primary, Dotted, Atom, infix_of, may_join, prefix_of, Joins, implication, disjunction, conjunction, comparison, sum, term, Heads, negation, negated, signed, Spells, SpellsAll, SpellsPart, SpellsTest, Separates, Closes, holds, fails, fails_in, labelled, comma, semicolon, unparted, closed, braced, late, unclosed, number, truth, falsity, name, call_empty, call, structure, parentheses, undotted, dotted, primary, merge, prefixed, bare, first, next, choice, else_choice, else_value, arrow_choice, arrow_value, arrow, whole, fby, when, final, further, argument, init, branch}
-use Rattle.lus_spelling.specs.Reading.{Fault, Syntax, Deep, Found, found, Read, Reader, ◌>>=◌, place, word_place, is_lexeme, front, expected, expect, named_on, identifier_at, label_on, label_at, closed_name_at, denied, tested, test_on, test_at, after_argument, after_semicolon, after_init, after_branch, turn_at, Item, item, lead_on, lead_at, tail_at, part_at, Several, onward, parts_at, listed_at, after_open, parentheses_on, parentheses_at, truth_on, call_on, brace_on, name_on, name_at, atom_on, atom_at, no_dot, one_dot, dots_at, dotted_at, merge_on, primary_at, with_operand, prefix_at, prefixed_on, prefixed_at, join, two_on, allowed, infix_at, no_turn, one_turn, more_at, chain_at, branches_at, choice_on, choice_at, arrow_on, arrow_at, is_primary, when_on, fby_on, whole_at, refuse, read_atom, read_dotted, read_primary, read_signed, read_term, read_sum, read_comparison, read_negated, read_negation, read_conjunction, read_disjunction, read_implication, read_choice, read_else, read_arrow, read_whole, read, opening, entry, sampled as sampled_by}
+use Rattle.lus_syntax.specs.Trees.{Named, named, Label, Constructor, Boolean, Test, Holds, Fails, Is, Lead, Plain, Of, Branch, Expression, Numeral, Truth, Name, Call, Structure, Merge, Variadic, Field, Parentheses, When, Unary, Binary, If, Parts, End, parts_of}
+use Rattle.lus_spelling.specs.Expressions.{ident, label, depth, deepest, Level, Whole, Arrow, Else, Choice, Implication, Disjunction, Conjunction, Negation, Negated, Comparison, Sum, Term, Signed, Primary, Dotted, Atom, infix_of, may_join, prefix_of, list_operator_of, Joins, implication, disjunction, conjunction, comparison, sum, term, Heads, negation, negated, signed, Spells, SpellsAll, SpellsPart, SpellsTest, Separates, Closes, holds, fails, fails_in, labelled, comma, semicolon, unparted, closed, braced, late, unclosed, number, truth, falsity, name, call_empty, call, structure, variadic, parentheses, undotted, dotted, primary, merge, prefixed, bare, first, next, choice, else_choice, else_value, arrow_choice, arrow_value, arrow, whole, fby, when, final, further, argument, init, branch}
+use Rattle.lus_spelling.specs.Reading.{Fault, Syntax, Deep, Found, found, Read, Reader, ◌>>=◌, place, word_place, is_lexeme, front, expected, expect, named_on, identifier_at, label_on, label_at, closed_name_at, denied, tested, test_on, test_at, after_argument, after_semicolon, after_init, after_branch, turn_at, Item, item, lead_on, lead_at, tail_at, part_at, Several, onward, parts_at, listed_at, after_open, parentheses_on, parentheses_at, truth_on, call_on, brace_on, name_on, name_at, with_operator, list_operator_at, operands_on, operands_at, atom_on, plain_at, atom_or, atom_at, no_dot, one_dot, dots_at, dotted_at, merge_on, primary_at, with_operand, prefix_at, prefixed_on, prefixed_at, join, two_on, allowed, infix_at, no_turn, one_turn, more_at, chain_at, branches_at, choice_on, choice_at, arrow_on, arrow_at, is_primary, when_on, fby_on, whole_at, refuse, read_atom, read_dotted, read_primary, read_signed, read_term, read_sum, read_comparison, read_negated, read_negation, read_conjunction, read_disjunction, read_implication, read_choice, read_else, read_arrow, read_whole, read, opening, entry, sampled as sampled_by}
 
 -- ---- steps that may fail
 
@@ -46,7 +47,7 @@ never_begun false f e = cc
 -- ---- tokens at the front
 
 symbol_in : ℕ → Symbol
-symbol_in n = cond (eqb n 0) symbols.Open (cond (eqb n 1) symbols.Close (cond (eqb n 2) symbols.OpenBrace (cond (eqb n 3) symbols.CloseBrace (cond (eqb n 4) symbols.Comma (cond (eqb n 5) symbols.Semicolon (cond (eqb n 6) symbols.Colon (cond (eqb n 7) symbols.Dot (cond (eqb n 8) symbols.Equal (cond (eqb n 9) symbols.NotEqual (cond (eqb n 10) symbols.Less (cond (eqb n 11) symbols.AtMost (cond (eqb n 12) symbols.Greater (cond (eqb n 13) symbols.AtLeast (cond (eqb n 14) symbols.Arrow (cond (eqb n 15) symbols.Implies (cond (eqb n 16) symbols.Plus (cond (eqb n 17) symbols.Minus (cond (eqb n 18) symbols.Star symbols.Slash))))))))))))))))))
+symbol_in n = cond (eqb n 0) symbols.Open (cond (eqb n 1) symbols.Close (cond (eqb n 2) symbols.OpenBrace (cond (eqb n 3) symbols.CloseBrace (cond (eqb n 4) symbols.Comma (cond (eqb n 5) symbols.Semicolon (cond (eqb n 6) symbols.Colon (cond (eqb n 7) symbols.Dot (cond (eqb n 8) symbols.Equal (cond (eqb n 9) symbols.NotEqual (cond (eqb n 10) symbols.Less (cond (eqb n 11) symbols.AtMost (cond (eqb n 12) symbols.Greater (cond (eqb n 13) symbols.AtLeast (cond (eqb n 14) symbols.Arrow (cond (eqb n 15) symbols.Implies (cond (eqb n 16) symbols.Plus (cond (eqb n 17) symbols.Minus (cond (eqb n 18) symbols.Star (cond (eqb n 19) symbols.Slash symbols.Sharp)))))))))))))))))))
 
 symbol_in-place : (c : Symbol) → symbol_in (place c) ≡ c
 unfolding symbol_in
@@ -70,9 +71,10 @@ symbol_in-place symbols.Plus = refl
 symbol_in-place symbols.Minus = refl
 symbol_in-place symbols.Star = refl
 symbol_in-place symbols.Slash = refl
+symbol_in-place symbols.Sharp = refl
 
 word_in : ℕ → Word
-word_in n = cond (eqb n 0) words.Node (cond (eqb n 1) words.Function (cond (eqb n 2) words.Returns (cond (eqb n 3) words.Var (cond (eqb n 4) words.Let (cond (eqb n 5) words.Tel (cond (eqb n 6) words.Type (cond (eqb n 7) words.Const (cond (eqb n 8) words.Enum (cond (eqb n 9) words.Struct (cond (eqb n 10) words.Bool (cond (eqb n 11) words.Int (cond (eqb n 12) words.True (cond (eqb n 13) words.False (cond (eqb n 14) words.Not (cond (eqb n 15) words.And (cond (eqb n 16) words.Or (cond (eqb n 17) words.Xor (cond (eqb n 18) words.If (cond (eqb n 19) words.Then (cond (eqb n 20) words.Else (cond (eqb n 21) words.Div (cond (eqb n 22) words.Mod (cond (eqb n 23) words.Pre (cond (eqb n 24) words.Fby (cond (eqb n 25) words.When words.Merge)))))))))))))))))))))))))
+word_in n = cond (eqb n 0) words.Node (cond (eqb n 1) words.Function (cond (eqb n 2) words.Returns (cond (eqb n 3) words.Var (cond (eqb n 4) words.Let (cond (eqb n 5) words.Tel (cond (eqb n 6) words.Type (cond (eqb n 7) words.Const (cond (eqb n 8) words.Enum (cond (eqb n 9) words.Struct (cond (eqb n 10) words.Bool (cond (eqb n 11) words.Int (cond (eqb n 12) words.True (cond (eqb n 13) words.False (cond (eqb n 14) words.Not (cond (eqb n 15) words.And (cond (eqb n 16) words.Or (cond (eqb n 17) words.Xor (cond (eqb n 18) words.If (cond (eqb n 19) words.Then (cond (eqb n 20) words.Else (cond (eqb n 21) words.Div (cond (eqb n 22) words.Mod (cond (eqb n 23) words.Pre (cond (eqb n 24) words.Fby (cond (eqb n 25) words.When (cond (eqb n 26) words.Merge words.Nor))))))))))))))))))))))))))
 
 word_in-place : (c : Word) → word_in (word_place c) ≡ c
 unfolding word_in
@@ -103,6 +105,7 @@ word_in-place words.Pre = refl
 word_in-place words.Fby = refl
 word_in-place words.When = refl
 word_in-place words.Merge = refl
+word_in-place words.Nor = refl
 
 same_place : (c d : Symbol) → place c ≡ place d → c ≡ d
 same_place c d e = sym (symbol_in-place c) ∙ ap symbol_in e ∙ symbol_in-place d
@@ -139,6 +142,14 @@ prefix_is level (t ∷ ts) x e = go (prefix_of level t.kind) refl e
     go : (o : Option Prefix) → prefix_of level t.kind ≡ o → with_operand t ts o ≡ Some x → (l : Kind) × (prefix_of level l ≡ Some x.0) × (t ∷ ts ≡ tok l x.1 ∷ x.2)
     go None at h = absurd cc
     go (Some op) at h = let k : (op, t.span, ts) ≡ x = cc in subst (λ (y : Prefix × Span × List Lexeme). (l : Kind) × (prefix_of level l ≡ Some y.0) × (t ∷ ts ≡ tok l y.1 ∷ y.2)) k (t.kind, at, refl)
+
+pub list_operator_is : (ts : List Lexeme) (x : ListOperator × Span × List Lexeme) → list_operator_at ts ≡ Some x → (l : Kind) × (list_operator_of l ≡ Some x.0) × (ts ≡ tok l x.1 ∷ x.2)
+list_operator_is [] x e = absurd cc
+list_operator_is (t ∷ ts) x e = go (list_operator_of t.kind) refl e
+  where
+    go : (o : Option ListOperator) → list_operator_of t.kind ≡ o → with_operator t ts o ≡ Some x → (l : Kind) × (list_operator_of l ≡ Some x.0) × (t ∷ ts ≡ tok l x.1 ∷ x.2)
+    go None at h = absurd cc
+    go (Some op) at h = let k : (op, t.span, ts) ≡ x = cc in subst (λ (y : ListOperator × Span × List Lexeme). (l : Kind) × (list_operator_of l ≡ Some y.0) × (t ∷ ts ≡ tok l y.1 ∷ y.2)) k (t.kind, at, refl)
 
 pub infix_is : (level : Level) (left : Expression) (ts : List Lexeme) (x : Infix × List Lexeme) → infix_at level left ts ≡ Some x → (l : Kind) × (s : Span) × (infix_of level l ≡ Some x.0) × (may_join x.0 left ≡ true) × (ts ≡ tok l s ∷ x.1)
 infix_is level left [] x e = absurd cc
@@ -462,10 +473,23 @@ module _ (n : ℕ) (wholes : Reader) (sound : IsSound n Whole wholes) where
   atom_in t (Keyword w) ts f is e = true_in w t ts f is e
   atom_in t (Sign c) ts f is e = opens (t ∷ ts) f (front (Sign symbols.Open) (t ∷ ts)) refl e
 
+  plain_sound : IsSound (suc n) Atom (plain_at wholes)
+  unfolding plain_at
+  plain_sound [] f e = absurd cc
+  plain_sound (t ∷ ts) f e = atom_in t t.kind ts f refl e
+
+  -- an operator, and its operands
+  listed_in : (l : Kind) (op : ListOperator) (s : Span) (ts us : List Lexeme) (f : Found) (o : Option (Span × List Lexeme)) → list_operator_of l ≡ Some op → ts ≡ tok l s ∷ us → front (Sign symbols.Open) us ≡ o → operands_on wholes op s o ≡ Ok f → Spelt (suc n) Atom ts f
+  listed_in l op s ts us f None is at opened e = absurd cc
+  listed_in l op s ts us f (Some x) is at opened e = listed_sound (Variadic op s) forms.Call Atom (tok l s ∷ tok (Sign symbols.Open) x.0 ∷ []) (λ vs. refl) (λ vs text d. variadic l op s x.0 is d) ts x.1 f (at ∙ ap (λ (r : List Lexeme). tok l s ∷ r) (front_is (Sign symbols.Open) us x opened)) e
+
   pub atom_sound : IsSound (suc n) Atom (atom_at wholes)
-  unfolding atom_at
-  atom_sound [] f e = absurd cc
-  atom_sound (t ∷ ts) f e = atom_in t t.kind ts f refl e
+  unfolding atom_at operands_at
+  atom_sound ts f e = go (list_operator_at ts) refl e
+    where
+      go : (o : Option (ListOperator × Span × List Lexeme)) → list_operator_at ts ≡ o → atom_or wholes ts o ≡ Ok f → Spelt (suc n) Atom ts f
+      go None at h = plain_sound ts f h
+      go (Some x) at h = let k = list_operator_is ts x at in listed_in k.0 x.0 x.1 ts x.2 f (front (Sign symbols.Open) x.2) k.1 k.2 refl h
 
   pub primary_sound : (dots : Reader) → IsSound (suc n) Dotted dots → IsSound (suc n) Primary (primary_at wholes dots)
   unfolding primary_at
@@ -632,6 +656,7 @@ tight (name n) e = primary (undotted (name n))
 tight (call_empty n o c) e = primary (undotted (call_empty n o c))
 tight (call n o d) e = primary (undotted (call n o d))
 tight (structure n o d) e = primary (undotted (structure n o d))
+tight (variadic l op s o at d) e = primary (undotted (variadic l op s o at d))
 tight (parentheses s c d) e = primary (undotted (parentheses s c d))
 tight (undotted d) e = tight d e
 tight (dotted s x d) e = primary (dotted s x d)

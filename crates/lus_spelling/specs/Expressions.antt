@@ -6,10 +6,12 @@ use Rattle.lus_syntax.specs.declared.token.Symbol.TheVariants as symbols
 use Rattle.lus_syntax.specs.declared.token.Word.TheVariants as words
 use Rattle.lus_syntax.specs.declared.tree.Infix.{Infix}
 use Rattle.lus_syntax.specs.declared.tree.Infix.TheVariants as operators
+use Rattle.lus_syntax.specs.declared.tree.ListOperator.{ListOperator}
+use Rattle.lus_syntax.specs.declared.tree.ListOperator.TheVariants as list_operators
 use Rattle.lus_syntax.specs.declared.tree.Prefix.{Prefix}
 use Rattle.lus_syntax.specs.declared.tree.Prefix.TheVariants as prefixes
 use Rattle.lus_syntax.specs.Lexemes.{Kind, Identifier, Number, Sign, Keyword, Lexeme, tok}
-use Rattle.lus_syntax.specs.Trees.{Named, Label, Constructor, Boolean, Test, Holds, Fails, Is, Lead, Plain, Of, Branch, Expression, Numeral, Truth, Name, Call, Structure, Merge, Field, Parentheses, When, Unary, Binary, If, Parts, End, More}
+use Rattle.lus_syntax.specs.Trees.{Named, Label, Constructor, Boolean, Test, Holds, Fails, Is, Lead, Plain, Of, Branch, Expression, Numeral, Truth, Name, Call, Structure, Merge, Variadic, Field, Parentheses, When, Unary, Binary, If, Parts, End, More}
 use Rattle.lus_spelling.specs.declared.form.Form.{Form}
 use Rattle.lus_spelling.specs.declared.form.Form.TheVariants as forms
 use Rattle.lus_spelling.specs.declared.mixing.Mixing.{Mixing}
@@ -34,6 +36,7 @@ abbrev mutual
   depth (Call n us) = suc (deepest us)
   depth (Structure n us) = suc (deepest us)
   depth (Merge s n us) = suc (deepest us)
+  depth (Variadic op s us) = suc (deepest us)
   depth (Field t n) = suc (depth t)
   depth (Parentheses s t) = suc (depth t)
   depth (When t c) = suc (depth t)
@@ -129,6 +132,12 @@ prefix_of Signed (Keyword words.Pre) = Some prefixes.Pre
 prefix_of Signed (Sign symbols.Minus) = Some prefixes.Negate
 prefix_of _ _ = None
 
+-- which operators stand before a list of operands
+abbrev pub list_operator_of : Kind → Option ListOperator
+list_operator_of (Sign symbols.Sharp) = Some list_operators.AtMostOne
+list_operator_of (Keyword words.Nor) = Some list_operators.Nor
+list_operator_of _ = None
+
 -- a level with prefixes, the level of the operand after one, and the level without
 pub data Heads : Level → Level → Level → Type 0 where
   negation : Heads Negation Negated Comparison
@@ -158,7 +167,7 @@ pub data Closes : Form → List Lexeme → Type 0 where
 
 mutual
   pub data Spells : Level → Expression → List Lexeme → Type 0 where
-    -- atom = NUMBER | "true" | "false" | IDENT | IDENT "(" [ whole { "," whole } ] ")" | IDENT "{" init { ";" init } [ ";" ] "}" | "(" whole ")"
+    -- atom = NUMBER | "true" | "false" | IDENT | IDENT "(" [ whole { "," whole } ] ")" | IDENT "{" init { ";" init } [ ";" ] "}" | ( "#" | "nor" ) "(" whole { "," whole } ")" | "(" whole ")"
     number : (n : ℤ) (s : Span) → Spells Atom (Numeral n s) (tok (Number n) s ∷ [])
     truth : (s : Span) → Spells Atom (Truth true s) (tok (Keyword words.True) s ∷ [])
     falsity : (s : Span) → Spells Atom (Truth false s) (tok (Keyword words.False) s ∷ [])
@@ -166,6 +175,7 @@ mutual
     call_empty : (n : Named) (o e : Span) → Spells Atom (Call n End) (ident n ∷ tok (Sign symbols.Open) o ∷ tok (Sign symbols.Close) e ∷ [])
     call : (n : Named) (o : Span) {us : Parts} {ts : List Lexeme} → SpellsAll forms.Call us ts → Spells Atom (Call n us) (ident n ∷ tok (Sign symbols.Open) o ∷ ts)
     structure : (n : Named) (o : Span) {us : Parts} {ts : List Lexeme} → SpellsAll forms.Structure us ts → Spells Atom (Structure n us) (ident n ∷ tok (Sign symbols.OpenBrace) o ∷ ts)
+    variadic : (l : Kind) (op : ListOperator) (s o : Span) {us : Parts} {ts : List Lexeme} → list_operator_of l ≡ Some op → SpellsAll forms.Call us ts → Spells Atom (Variadic op s us) (tok l s ∷ tok (Sign symbols.Open) o ∷ ts)
     parentheses : (s e : Span) {t : Expression} {ts : List Lexeme} → Spells Whole t ts → Spells Atom (Parentheses s t) (tok (Sign symbols.Open) s ∷ (ts ++ tok (Sign symbols.Close) e ∷ []))
     -- primary = atom { "." IDENT } | merge, merge = "merge" IDENT branch { branch }
     undotted : {t : Expression} {ts : List Lexeme} → Spells Atom t ts → Spells Dotted t ts

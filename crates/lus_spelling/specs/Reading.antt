@@ -7,12 +7,13 @@ use Rattle.lus_syntax.specs.declared.token.Word.{Word}
 use Rattle.lus_syntax.specs.declared.token.Word.TheVariants as words
 use Rattle.lus_syntax.specs.declared.tree.Infix.{Infix}
 use Rattle.lus_syntax.specs.declared.tree.Infix.TheVariants as operators
+use Rattle.lus_syntax.specs.declared.tree.ListOperator.{ListOperator}
 use Rattle.lus_syntax.specs.declared.tree.Prefix.{Prefix}
 use Rattle.lus_syntax.specs.Lexemes.{Kind, Identifier, Number, Sign, Keyword, Lexeme}
-use Rattle.lus_syntax.specs.Trees.{Named, named, Label, Constructor, Boolean, Test, Holds, Fails, Is, Lead, Plain, Of, Branch, Expression, Numeral, Truth, Name, Call, Structure, Merge, Field, Parentheses, When, Unary, Binary, If, Parts, End, parts_of}
+use Rattle.lus_syntax.specs.Trees.{Named, named, Label, Constructor, Boolean, Test, Holds, Fails, Is, Lead, Plain, Of, Branch, Expression, Numeral, Truth, Name, Call, Structure, Merge, Variadic, Field, Parentheses, When, Unary, Binary, If, Parts, End, parts_of}
 use Rattle.lus_spelling.specs.declared.form.Form.{Form}
 use Rattle.lus_spelling.specs.declared.form.Form.TheVariants as forms
-use Rattle.lus_spelling.specs.Expressions.{Level, Whole, Arrow, Else, Choice, Implication, Disjunction, Conjunction, Negation, Negated, Comparison, Sum, Term, Signed, Primary, Dotted, Atom, infix_of, may_join, prefix_of}
+use Rattle.lus_spelling.specs.Expressions.{Level, Whole, Arrow, Else, Choice, Implication, Disjunction, Conjunction, Negation, Negated, Comparison, Sum, Term, Signed, Primary, Dotted, Atom, infix_of, may_join, prefix_of, list_operator_of}
 
 pub data Fault : Type 0 where
   Syntax : Fault
@@ -60,6 +61,7 @@ place symbols.Plus = 16
 place symbols.Minus = 17
 place symbols.Star = 18
 place symbols.Slash = 19
+place symbols.Sharp = 20
 
 abbrev pub word_place : Word → ℕ
 word_place words.Node = 0
@@ -89,6 +91,7 @@ word_place words.Pre = 23
 word_place words.Fby = 24
 word_place words.When = 25
 word_place words.Merge = 26
+word_place words.Nor = 27
 
 -- whether a token is this symbol or word
 abbrev pub is_lexeme : Kind → Kind → Bool
@@ -163,6 +166,8 @@ opening_of (Identifier n) = 5
 opening_of (Keyword words.True) = 5
 opening_of (Keyword words.False) = 5
 opening_of (Sign symbols.Open) = 5
+opening_of (Sign symbols.Sharp) = 5
+opening_of (Keyword words.Nor) = 5
 opening_of _ = 0
 
 abbrev pub opening : List Lexeme → ℕ
@@ -297,15 +302,40 @@ name_on whole n ts None = brace_on whole n ts (front (Sign symbols.OpenBrace) ts
 unfoldable pub name_at : Reader → Named → Reader
 name_at whole n ts = name_on whole n ts (front (Sign symbols.Open) ts)
 
+abbrev pub with_operator : Lexeme → List Lexeme → Option ListOperator → Option (ListOperator × Span × List Lexeme)
+with_operator t ts None = None
+with_operator t ts (Some op) = Some (op, t.span, ts)
+
+-- an operator before a list of operands at the front, its span, and the tokens after it
+abbrev pub list_operator_at : List Lexeme → Option (ListOperator × Span × List Lexeme)
+list_operator_at [] = None
+list_operator_at (t ∷ ts) = with_operator t ts (list_operator_of t.kind)
+
+abbrev pub operands_on : Reader → ListOperator → Span → Option (Span × List Lexeme) → Read
+operands_on whole op s None = Err Syntax
+operands_on whole op s (Some x) = listed_at (Variadic op s) forms.Call whole x.1
+
+-- the operands after an operator
+unfoldable pub operands_at : Reader → ListOperator → Span → Reader
+operands_at whole op s ts = operands_on whole op s (front (Sign symbols.Open) ts)
+
 abbrev pub atom_on : Reader → Lexeme → Kind → List Lexeme → Read
 atom_on whole t (Number n) ts = Ok (found (Numeral n t.span) 1 ts)
 atom_on whole t (Identifier n) ts = name_at whole (named n t.span) ts
 atom_on whole t (Keyword w) ts = truth_on w t.span ts
 atom_on whole t (Sign c) ts = parentheses_at whole (t ∷ ts)
 
+-- an atom that begins with no operator
+unfoldable pub plain_at : Reader → Reader
+plain_at whole [] = Err Syntax
+plain_at whole (t ∷ ts) = atom_on whole t t.kind ts
+
+abbrev pub atom_or : Reader → List Lexeme → Option (ListOperator × Span × List Lexeme) → Read
+atom_or whole ts None = plain_at whole ts
+atom_or whole ts (Some x) = operands_at whole x.0 x.1 x.2
+
 unfoldable pub atom_at : Reader → Reader
-atom_at whole [] = Err Syntax
-atom_at whole (t ∷ ts) = atom_on whole t t.kind ts
+atom_at whole ts = atom_or whole ts (list_operator_at ts)
 
 -- ---- fields and merge
 

@@ -1,6 +1,6 @@
 //! What parts belong to.
 
-/// A call's arguments, a structure's fields or a merge's branches.
+/// A call's arguments or an operator's operands, a structure's fields, or a merge's branches.
 #[derive(Clone, Copy, Debug, PartialEq, Eq)]
 pub enum Form {
     Call,

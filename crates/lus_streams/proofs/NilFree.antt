@@ -1,13 +1,13 @@
 -- Operators give no nil on operands without nil.
 use Rattle.std.proofs.Common.{◌≡◌, ℕ, zero, suc, Bool, true, false, not, cond, ◌||◌, ℤ, List, [], ◌∷◌, Option, Some, None, refl, sym, ap, ◌∙◌, subst, IsTrue, if◌then◌else◌}
 use Rattle.lus_values.specs.declared.operator.Op.{Op}
-use Rattle.lus_values.specs.declared.operator.Op.TheVariants.{Negate, Add, Subtract, Multiply, Divide, Remainder, Not, And, Or, Xor, Implies, Equal, NotEqual, Less, AtMost, Greater, AtLeast}
+use Rattle.lus_values.specs.declared.operator.Op.TheVariants.{Negate, Add, Subtract, Multiply, Divide, Remainder, Not, And, Or, Xor, Implies, Equal, NotEqual, Less, AtMost, Greater, AtLeast, AtMostOne, Nor}
 use Rattle.lus_values.specs.declared.operator.Operator.{Operator}
 use Rattle.lus_values.specs.declared.operator.Operator.TheVariants.{Compute, If, Structure, Field}
 use Rattle.lus_values.specs.Values.{Value, bool, int, struct, nil, Fields, end, field, fields_of}
 use Rattle.lus_values.specs.Lists.{Each}
 use Rattle.std.specs.Option.{option_and_then, option_map}
-use Rattle.lus_values.specs.Operators.{one_int, two_ints, one_bool, two_bools, two_values, on_int, on_ints, compare_ints, on_bools, compare, compute, choose, field_at, project, is_nil, any_nil, give, apply}
+use Rattle.lus_values.specs.Operators.{one_int, two_ints, one_bool, two_bools, two_values, count_true, on_int, on_ints, compare_ints, on_bools, on_count, compare, compute, choose, field_at, project, is_nil, any_nil, give, apply}
 pub use Rattle.lus_values.proofs.Equalities.{and_left, and_right, and_true}
 use Rattle.lus_streams.specs.Flags.{nil_free, nil_free_fields, IsNilFree}
 
@@ -40,6 +40,9 @@ compare_ints_nil_free f vs = map_nil_free (λ p. bool (f p.0 p.1)) (λ p. refl) 
 on_bools_nil_free : (f : Bool → Bool → Bool) (vs : List Value) → IsNilFree (on_bools f vs)
 on_bools_nil_free f vs = map_nil_free (λ p. bool (f p.0 p.1)) (λ p. refl) (two_bools vs)
 
+on_count_nil_free : (f : ℕ → Bool) (vs : List Value) → IsNilFree (on_count f vs)
+on_count_nil_free f vs = map_nil_free (λ n. bool (f n)) (λ n. refl) (count_true vs)
+
 compare_nil_free : (f : Value → Value → Bool) (vs : List Value) → IsNilFree (compare f vs)
 compare_nil_free f vs = map_nil_free (λ p. bool (f p.0 p.1)) (λ p. refl) (two_values vs)
 
@@ -61,6 +64,8 @@ compute_nil_free Less vs = compare_ints_nil_free _ vs
 compute_nil_free AtMost vs = compare_ints_nil_free _ vs
 compute_nil_free Greater vs = compare_ints_nil_free _ vs
 compute_nil_free AtLeast vs = compare_ints_nil_free _ vs
+compute_nil_free AtMostOne vs = on_count_nil_free _ vs
+compute_nil_free Nor vs = on_count_nil_free _ vs
 
 if_nil_free : (c : Bool) (a b : Value) → IsTrue (nil_free a) → IsTrue (nil_free b) → IsTrue (nil_free (if c then a else b))
 if_nil_free true a b h k = h

@@ -2,8 +2,8 @@
 use Rattle.std.proofs.Common.{◌≡◌, true, false, [], ◌∷◌, codes, Ok, Err, refl}
 use Rattle.std.specs.Prelude.{pos}
 use Rattle.lus_syntax.specs.declared.refusal.RefusalNumber.TheVariants.{Unsupported, Limit}
-use Rattle.lus_syntax.specs.declared.token.Symbol.TheVariants.{Arrow, Star}
-use Rattle.lus_syntax.specs.declared.token.Word.TheVariants.{Node, Merge}
+use Rattle.lus_syntax.specs.declared.token.Symbol.TheVariants.{Arrow, Star, Sharp}
+use Rattle.lus_syntax.specs.declared.token.Word.TheVariants.{Node, Merge, Nor}
 use Rattle.lus_syntax.specs.Gaps.{is_blank, opens}
 use Rattle.lus_syntax.specs.Lexemes.{Identifier, Number, Sign, Keyword}
 use Rattle.lus_syntax.specs.Places.{start, past, place_behind}
@@ -47,7 +47,11 @@ star_is : meaning (codes "*") ≡ Ok (Sign Star)
 unfolding meaning symbols
 star_is = refl
 
-sharp_is : meaning (codes "#") ≡ Err Unsupported
+nor_is : meaning (codes "nor") ≡ Ok (Keyword Nor)
+unfolding meaning words
+nor_is = refl
+
+sharp_is : meaning (codes "#") ≡ Ok (Sign Sharp)
 unfolding meaning symbols
 sharp_is = refl
 

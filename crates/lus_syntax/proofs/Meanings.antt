@@ -155,10 +155,9 @@ of_number_is : (o : Option ℕ) (number : RefusalNumber) → of_number o ≡ Err
 of_number_is None number e = inr cc
 of_number_is (Some n) number e = absurd cc
 
-of_symbol_is : (o : Option (Option Symbol)) (number : RefusalNumber) → is_some o ≡ true → of_symbol o ≡ Err number → (number ≡ Unsupported) ⊎ (number ≡ Limit)
+of_symbol_is : (o : Option Symbol) (number : RefusalNumber) → is_some o ≡ true → of_symbol o ≡ Err number → (number ≡ Unsupported) ⊎ (number ≡ Limit)
 of_symbol_is None number h e = absurd (false≢true h)
-of_symbol_is (Some None) number h e = inl cc
-of_symbol_is (Some (Some s)) number h e = absurd cc
+of_symbol_is (Some s) number h e = absurd cc
 
 pub no_meaning_is : (xs : List ℕ) (number : RefusalNumber) → is_text xs ≡ true → meaning xs ≡ Err number → (number ≡ Unsupported) ⊎ (number ≡ Limit)
 unfolding is_symbol

@@ -21,22 +21,21 @@ words =
     ∷ (codes "true", Some w.True) ∷ (codes "false", Some w.False) ∷ (codes "not", Some w.Not) ∷ (codes "and", Some w.And)
     ∷ (codes "or", Some w.Or) ∷ (codes "xor", Some w.Xor) ∷ (codes "if", Some w.If) ∷ (codes "then", Some w.Then)
     ∷ (codes "else", Some w.Else) ∷ (codes "div", Some w.Div) ∷ (codes "mod", Some w.Mod) ∷ (codes "pre", Some w.Pre)
-    ∷ (codes "fby", Some w.Fby) ∷ (codes "when", Some w.When) ∷ (codes "merge", Some w.Merge)
+    ∷ (codes "fby", Some w.Fby) ∷ (codes "when", Some w.When) ∷ (codes "merge", Some w.Merge) ∷ (codes "nor", Some w.Nor)
     -- kept back
     ∷ (codes "real", None) ∷ (codes "current", None) ∷ (codes "assert", None) ∷ (codes "extern", None) ∷ (codes "unsafe", None)
     ∷ (codes "condact", None) ∷ (codes "package", None) ∷ (codes "model", None) ∷ (codes "with", None) ∷ (codes "include", None)
-    ∷ (codes "operator", None) ∷ (codes "nor", None) ∷ []
+    ∷ (codes "operator", None) ∷ []
 
--- the symbols, likewise; a longer one stands before a shorter one
-unfoldable pub symbols : List (List ℕ × Option Symbol)
+-- the symbols, each with what it stands for; a longer one stands before a shorter one
+unfoldable pub symbols : List (List ℕ × Symbol)
 symbols =
-    (codes "<>", Some s.NotEqual) ∷ (codes "<=", Some s.AtMost) ∷ (codes ">=", Some s.AtLeast) ∷ (codes "->", Some s.Arrow)
-    ∷ (codes "=>", Some s.Implies) ∷ (codes "(", Some s.Open) ∷ (codes ")", Some s.Close) ∷ (codes "{", Some s.OpenBrace)
-    ∷ (codes "}", Some s.CloseBrace) ∷ (codes ",", Some s.Comma) ∷ (codes ";", Some s.Semicolon) ∷ (codes ":", Some s.Colon)
-    ∷ (codes ".", Some s.Dot) ∷ (codes "=", Some s.Equal) ∷ (codes "<", Some s.Less) ∷ (codes ">", Some s.Greater)
-    ∷ (codes "+", Some s.Plus) ∷ (codes "-", Some s.Minus) ∷ (codes "*", Some s.Star) ∷ (codes "/", Some s.Slash)
-    -- kept back
-    ∷ (codes "#", None) ∷ []
+    (codes "<>", s.NotEqual) ∷ (codes "<=", s.AtMost) ∷ (codes ">=", s.AtLeast) ∷ (codes "->", s.Arrow)
+    ∷ (codes "=>", s.Implies) ∷ (codes "(", s.Open) ∷ (codes ")", s.Close) ∷ (codes "{", s.OpenBrace)
+    ∷ (codes "}", s.CloseBrace) ∷ (codes ",", s.Comma) ∷ (codes ";", s.Semicolon) ∷ (codes ":", s.Colon)
+    ∷ (codes ".", s.Dot) ∷ (codes "=", s.Equal) ∷ (codes "<", s.Less) ∷ (codes ">", s.Greater)
+    ∷ (codes "+", s.Plus) ∷ (codes "-", s.Minus) ∷ (codes "*", s.Star) ∷ (codes "/", s.Slash)
+    ∷ (codes "#", s.Sharp) ∷ []
 
 -- what a table has for a text
 abbrev pub look_up : {A : Type 0} → List ℕ → List (List ℕ × A) → Option A
@@ -98,11 +97,10 @@ abbrev pub of_number : Option ℕ → Result Kind RefusalNumber
 of_number None = Err Limit
 of_number (Some n) = Ok (Number (pos n))
 
--- a symbol, one that is kept back, or none
-abbrev pub of_symbol : Option (Option Symbol) → Result Kind RefusalNumber
+-- a symbol, or none
+abbrev pub of_symbol : Option Symbol → Result Kind RefusalNumber
 of_symbol None = Err Lexical
-of_symbol (Some None) = Err Unsupported
-of_symbol (Some (Some s)) = Ok (Sign s)
+of_symbol (Some s) = Ok (Sign s)
 
 -- the token that a text spells, or what is wrong with it; its first byte tells its class
 unfoldable pub meaning : List ℕ → Result Kind RefusalNumber

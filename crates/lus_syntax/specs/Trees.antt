@@ -3,6 +3,7 @@ use Rattle.std.specs.Prelude.{ℤ, Bool, List, [], ◌∷◌, Option}
 use Rattle.lus_syntax.specs.declared.token.Span.{Span}
 use Rattle.lus_syntax.specs.declared.tree.Prefix.{Prefix}
 use Rattle.lus_syntax.specs.declared.tree.Infix.{Infix}
+use Rattle.lus_syntax.specs.declared.tree.ListOperator.{ListOperator}
 use Rattle.lus_syntax.specs.declared.tree.NodeKind.{NodeKind}
 use Rattle.lus_syntax.specs.Lexemes.{Text}
 
@@ -39,6 +40,7 @@ mutual
     Call : Named → Parts → Expression
     Structure : Named → Parts → Expression
     Merge : Span → Named → Parts → Expression
+    Variadic : ListOperator → Span → Parts → Expression
     Field : Expression → Named → Expression
     Parentheses : Span → Expression → Expression
     When : Expression → Test → Expression
@@ -46,7 +48,7 @@ mutual
     Binary : Infix → Expression → Expression → Expression
     If : Span → Expression → Expression → Expression → Expression
 
-  -- arguments, fields with their values, or branches
+  -- arguments, operands, fields with their values, or branches
   pub data Parts : Type 0 where
     End : Parts
     More : Lead → Expression → Parts → Parts

@@ -66,6 +66,7 @@ abbrev mutual
   expression_seen (exprs.Call' n shape row) = plain.Call (name_seen n.value) (parts_in row)
   expression_seen (exprs.Structure' n shape row) = plain.Structure (name_seen n.value) (parts_in row)
   expression_seen (exprs.Merge' s n shape row) = plain.Merge s (name_seen n.value) (parts_in row)
+  expression_seen (exprs.Variadic' op s shape row) = plain.Variadic op s (parts_in row)
   expression_seen (exprs.Field' p t n) = plain.Field (expression_seen t) (name_seen n)
   expression_seen (exprs.Parentheses' s p t) = plain.Parentheses s (expression_seen t)
   expression_seen (exprs.When' p t c) = plain.When (expression_seen t) (test_seen c.value)

@@ -39,6 +39,7 @@ static WORDS: [(&str, Option<Word>); 39] = [
     ("fby", Some(Word::Fby)),
     ("when", Some(Word::When)),
     ("merge", Some(Word::Merge)),
+    ("nor", Some(Word::Nor)),
     ("real", None),
     ("current", None),
     ("assert", None),
@@ -50,32 +51,31 @@ static WORDS: [(&str, Option<Word>); 39] = [
     ("with", None),
     ("include", None),
     ("operator", None),
-    ("nor", None),
 ];
 
-// The symbols, and one that is kept back. A longer one stands before a shorter one.
-pub(crate) static SYMBOLS: [(&str, Option<Symbol>); 21] = [
-    ("<>", Some(Symbol::NotEqual)),
-    ("<=", Some(Symbol::AtMost)),
-    (">=", Some(Symbol::AtLeast)),
-    ("->", Some(Symbol::Arrow)),
-    ("=>", Some(Symbol::Implies)),
-    ("(", Some(Symbol::Open)),
-    (")", Some(Symbol::Close)),
-    ("{", Some(Symbol::OpenBrace)),
-    ("}", Some(Symbol::CloseBrace)),
-    (",", Some(Symbol::Comma)),
-    (";", Some(Symbol::Semicolon)),
-    (":", Some(Symbol::Colon)),
-    (".", Some(Symbol::Dot)),
-    ("=", Some(Symbol::Equal)),
-    ("<", Some(Symbol::Less)),
-    (">", Some(Symbol::Greater)),
-    ("+", Some(Symbol::Plus)),
-    ("-", Some(Symbol::Minus)),
-    ("*", Some(Symbol::Star)),
-    ("/", Some(Symbol::Slash)),
-    ("#", None),
+// The symbols. A longer one stands before a shorter one.
+pub(crate) static SYMBOLS: [(&str, Symbol); 21] = [
+    ("<>", Symbol::NotEqual),
+    ("<=", Symbol::AtMost),
+    (">=", Symbol::AtLeast),
+    ("->", Symbol::Arrow),
+    ("=>", Symbol::Implies),
+    ("(", Symbol::Open),
+    (")", Symbol::Close),
+    ("{", Symbol::OpenBrace),
+    ("}", Symbol::CloseBrace),
+    (",", Symbol::Comma),
+    (";", Symbol::Semicolon),
+    (":", Symbol::Colon),
+    (".", Symbol::Dot),
+    ("=", Symbol::Equal),
+    ("<", Symbol::Less),
+    (">", Symbol::Greater),
+    ("+", Symbol::Plus),
+    ("-", Symbol::Minus),
+    ("*", Symbol::Star),
+    ("/", Symbol::Slash),
+    ("#", Symbol::Sharp),
 ];
 
 #[tactic(auto, unfolding(crate::specs::Texts::words))]
@@ -86,7 +86,7 @@ fn word_of(text: &str) -> Option<Option<Word>>
 }
 
 #[tactic(auto, unfolding(crate::specs::Texts::symbols))]
-fn symbol_of(text: &str) -> Option<Option<Symbol>>
+fn symbol_of(text: &str) -> Option<Symbol>
     ensures { result ≡ look_up text.now symbols }
 {
     look_up(&SYMBOLS, text)
@@ -128,8 +128,7 @@ fn kind_of_text(text: &str) -> Result<TokenKind<'_>, RefusalNumber>
     } else {
         match symbol_of(text) {
             None => Err(RefusalNumber::Lexical),
-            Some(None) => Err(RefusalNumber::Unsupported),
-            Some(Some(symbol)) => Ok(TokenKind::Punctuation(symbol)),
+            Some(symbol) => Ok(TokenKind::Punctuation(symbol)),
         }
     }
 }

@@ -24,6 +24,6 @@ pub use place::place_behind;
 pub use refusal::{Cycle, Refusal, RefusalNumber};
 pub use token::{Place, Span, Symbol, Token, TokenKind, Word};
 pub use tree::{
-    Constant, Definition, Equation, Expr, Fields, Group, Infix, Label, Lead, Literal, Name, Node,
-    NodeKind, Part, Prefix, Test, Tree, TypeDeclaration, TypeName,
+    Constant, Definition, Equation, Expr, Fields, Group, Infix, Label, Lead, ListOperator, Literal,
+    Name, Node, NodeKind, Part, Prefix, Test, Tree, TypeDeclaration, TypeName,
 };

@@ -64,6 +64,7 @@ pub enum Symbol {
     Minus,
     Star,
     Slash,
+    Sharp,
 }
 
 /// The words of the language.
@@ -96,6 +97,7 @@ pub enum Word {
     Fby,
     When,
     Merge,
+    Nor,
 }
 
 /// What a token is. A name is the slice of the source that spells it.

@@ -112,10 +112,19 @@ pub enum Infix {
     Remainder,
 }
 
+/// An operator before a list of operands.
+#[derive(Clone, Copy, PartialEq, Eq)]
+pub enum ListOperator {
+    /// The symbol `#`: at most one operand is true.
+    AtMostOne,
+    /// The word `nor`: no operand is true.
+    Nor,
+}
+
 /// What stands before the value of a part.
 #[derive(Drop)]
 pub enum Lead {
-    /// An argument.
+    /// An argument, or an operand of a list.
     Plain,
     /// A field's name.
     Field(Name),
@@ -123,7 +132,7 @@ pub enum Lead {
     Branch(Span, Box<Label>),
 }
 
-/// An argument of a call, a field's value of a structure, or a branch of a merge.
+/// An argument of a call, an operand of a list, a field's value of a structure, or a branch of a merge.
 #[cycle(tree)]
 #[derive(Drop)]
 pub struct Part {
@@ -142,6 +151,7 @@ pub enum Expr {
     Call(Box<Name>, Vec<Part>),
     Structure(Box<Name>, Vec<Part>),
     Merge(Span, Box<Name>, Vec<Part>),
+    Variadic(ListOperator, Span, Vec<Part>),
     Field(Box<Expr>, Name),
     Parentheses(Span, Box<Expr>),
     When(Box<Expr>, Box<Test>),

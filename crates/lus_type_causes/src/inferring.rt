@@ -3,7 +3,7 @@
 use crate::calls::call;
 use crate::kinds::Kind;
 use crate::merges::merge;
-use crate::operators::{binary, choice, unary};
+use crate::operators::{binary, choice, unary, variadic};
 use crate::scope::Scope;
 use crate::stop::{Inferred, Stop};
 use crate::structures::{field, structure};
@@ -51,6 +51,10 @@ pub fn infer(given: Given<'_>, expr: &Expr) -> Inferred {
         Expr::Merge(span, variable, parts) => {
             let kinds = infer_all(given, parts)?;
             merge(given, *span, variable, parts, &kinds)
+        }
+        Expr::Variadic(op, span, parts) => {
+            let kinds = infer_all(given, parts)?;
+            variadic(given, *op, *span, parts, &kinds)
         }
         Expr::Field(operand, name) => {
             let kind = infer(given, operand)?;

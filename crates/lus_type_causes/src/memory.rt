@@ -27,6 +27,7 @@ fn memory_of<'t>(given: Given<'t>, expr: &'t Expr) -> Option<Kept<'t>> {
         },
         Expr::Structure(_, parts) => memory_in(given, parts),
         Expr::Merge(_, _, parts) => memory_in(given, parts),
+        Expr::Variadic(_, _, parts) => memory_in(given, parts),
         Expr::Field(operand, _) => memory_of(given, operand),
         Expr::Parentheses(_, inner) => memory_of(given, inner),
         Expr::When(operand, _) => memory_of(given, operand),

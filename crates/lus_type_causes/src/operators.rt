@@ -4,7 +4,7 @@ use crate::inferring::Given;
 use crate::kinds::Kind;
 use crate::stop::{Clash, Inferred, Stop, ending, told_at};
 use lus_faults::{extent_of, start_of};
-use lus_syntax::{Expr, Infix, Prefix, Span};
+use lus_syntax::{Expr, Infix, ListOperator, Part, Prefix, Span};
 use std::alloc::AllocError;
 
 /// An operator's text.
@@ -137,6 +137,27 @@ pub fn unary(given: Given<'_>, op: Prefix, span: Span, operand: &Expr, kind: Kin
         return Err(wrong(given, told));
     }
     Ok(wanted)
+}
+
+/// An operator before a list of operands, with their types.
+pub fn variadic(
+    given: Given<'_>,
+    op: ListOperator,
+    span: Span,
+    operands: &[Part],
+    kinds: &[Kind],
+) -> Inferred {
+    let operator = match op {
+        ListOperator::AtMostOne => "#",
+        ListOperator::Nor => "nor",
+    };
+    for (operand, kind) in operands.iter().zip(kinds) {
+        if Kind::Bool.differs(*kind) {
+            let told = wrong_operand(given, span, operator, Kind::Bool, &operand.value, *kind);
+            return Err(wrong(given, told));
+        }
+    }
+    Ok(Kind::Bool)
 }
 
 /// An operator between its operands.

@@ -1,7 +1,8 @@
 -- Which operands an operator takes. Lustre V6 reference manual, "Predefined operators".
 use Rattle.std.specs.Prelude.{Bool, true, false, ◌&&◌, ◌||◌, nat_eq, List, [], ◌∷◌}
+use Rattle.std.specs.List.{list_all}
 use Rattle.lus_values.specs.declared.operator.Op.{Op}
-use Rattle.lus_values.specs.declared.operator.Op.TheVariants.{Negate, Add, Subtract, Multiply, Divide, Remainder, Not, And, Or, Xor, Implies, Equal, NotEqual, Less, AtMost, Greater, AtLeast}
+use Rattle.lus_values.specs.declared.operator.Op.TheVariants.{Negate, Add, Subtract, Multiply, Divide, Remainder, Not, And, Or, Xor, Implies, Equal, NotEqual, Less, AtMost, Greater, AtLeast, AtMostOne, Nor}
 use Rattle.lus_values.specs.Values.{Value, bool, int, enum, struct, Fields, end, field}
 use Rattle.lus_values.specs.Operators.{is_nil}
 
@@ -45,6 +46,10 @@ two_ints = two (λ a b. fits_int a && fits_int b)
 abbrev pub two_bools : List Value → Bool
 two_bools = two (λ a b. fits_bool a && fits_bool b)
 
+abbrev pub one_or_more : (Value → Bool) → List Value → Bool
+one_or_more f [] = false
+one_or_more f (v ∷ vs) = list_all f (v ∷ vs)
+
 -- the operands fit the operator, in number and in kind
 abbrev pub fits_op : Op → List Value → Bool
 fits_op Negate = one fits_int
@@ -64,3 +69,5 @@ fits_op Less = two_ints
 fits_op AtMost = two_ints
 fits_op Greater = two_ints
 fits_op AtLeast = two_ints
+fits_op AtMostOne = one_or_more fits_bool
+fits_op Nor = one_or_more fits_bool

@@ -1,9 +1,10 @@
 -- What operators give at an instant: a value, nil, or no value, which is a fault.
 -- Lustre V6 reference manual, "Predefined operators"; that a nil operand gives nil, and which results are faults, is this project's choice.
-use Rattle.std.specs.Prelude.{ℕ, zero, suc, Bool, true, false, not, ◌&&◌, ◌||◌, ℤ, ◌+ℤ◌, ◌-ℤ◌, ◌*ℤ◌, neg_ℤ, int_lt, int_le, List, [], ◌∷◌, Option, Some, None, if◌then◌else◌}
+use Rattle.std.specs.Prelude.{ℕ, zero, suc, Bool, true, false, not, ◌&&◌, ◌||◌, ℤ, ◌+ℤ◌, ◌-ℤ◌, ◌*ℤ◌, neg_ℤ, int_lt, int_le, nat_eq, nat_le, List, [], ◌∷◌, Option, Some, None, if◌then◌else◌}
+use Rattle.std.specs.List.{count_by, list_all}
 use Rattle.std.specs.Option.{option_and_then, option_map}
 use Rattle.lus_values.specs.declared.operator.Op.{Op}
-use Rattle.lus_values.specs.declared.operator.Op.TheVariants.{Negate, Add, Subtract, Multiply, Divide, Remainder, Not, And, Or, Xor, Implies, Equal, NotEqual, Less, AtMost, Greater, AtLeast}
+use Rattle.lus_values.specs.declared.operator.Op.TheVariants.{Negate, Add, Subtract, Multiply, Divide, Remainder, Not, And, Or, Xor, Implies, Equal, NotEqual, Less, AtMost, Greater, AtLeast, AtMostOne, Nor}
 use Rattle.lus_values.specs.declared.operator.Operator.{Operator}
 use Rattle.lus_values.specs.declared.operator.Operator.TheVariants.{Compute, If, Structure, Field}
 use Rattle.lus_values.specs.Values.{Value, bool, int, struct, nil, Fields, end, field, fields_of}
@@ -31,6 +32,19 @@ abbrev pub two_values : List Value → Option (Value × Value)
 two_values (a ∷ b ∷ []) = Some (a, b)
 two_values _ = None
 
+abbrev pub is_bool : Value → Bool
+is_bool (bool a) = true
+is_bool _ = false
+
+abbrev pub is_true : Value → Bool
+is_true (bool a) = a
+is_true _ = false
+
+-- how many operands are true, if they are one truth value or more
+abbrev pub count_true : List Value → Option ℕ
+count_true [] = None
+count_true (v ∷ vs) = if list_all is_bool (v ∷ vs) then Some (count_by is_true (v ∷ vs)) else None
+
 -- functions of such operands; no value at others
 abbrev pub on_int : (ℤ → Option ℤ) → List Value → Option Value
 on_int f vs = option_and_then (λ a. option_map int (f a)) (one_int vs)
@@ -50,7 +64,10 @@ on_bools f vs = option_map (λ p. bool (f p.0 p.1)) (two_bools vs)
 abbrev pub compare : (Value → Value → Bool) → List Value → Option Value
 compare f vs = option_map (λ p. bool (f p.0 p.1)) (two_values vs)
 
--- an operator on operands of which none is nil
+abbrev pub on_count : (ℕ → Bool) → List Value → Option Value
+on_count f vs = option_map (λ n. bool (f n)) (count_true vs)
+
+-- an operator on operands of which none is nil; `#` says that at most one operand is true, `nor` that none is
 abbrev pub compute : Op → List Value → Option Value
 compute Negate = on_int (λ a. in_range (neg_ℤ a))
 compute Add = on_ints (λ a b. in_range (a +ℤ b))
@@ -69,6 +86,8 @@ compute Less = compare_ints int_lt
 compute AtMost = compare_ints int_le
 compute Greater = compare_ints (λ a b. int_lt b a)
 compute AtLeast = compare_ints (λ a b. int_le b a)
+compute AtMostOne = on_count (λ n. nat_le n 1)
+compute Nor = on_count (λ n. nat_eq n 0)
 
 -- `if c then a else b`
 abbrev pub choose : List Value → Option Value

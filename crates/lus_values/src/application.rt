@@ -3,7 +3,7 @@
 ghost use Rattle.std.specs.Prelude.{◌≡◌, IsTrue, map};
 ghost use Rattle.std.specs.Option.{option_map};
 ghost use Rattle.lus_values.specs.Fitting.{fits_op};
-ghost use Rattle.lus_values.specs.Operators.{any_nil, apply, compute as value_computed, one_bool, one_int, two_bools, two_ints, two_values};
+ghost use Rattle.lus_values.specs.Operators.{any_nil, apply, compute as value_computed, count_true, one_bool, one_int, two_bools, two_ints, two_values};
 ghost use Rattle.lus_values.specs.Equality.{same};
 ghost use Rattle.lus_values.specs.declared.operator.Operator.TheVariants.{Compute};
 ghost use Rattle.lus_values.specs.View.{value_of};
@@ -79,6 +79,8 @@ fn compute(op: Op, operands: &[Value]) -> Option<Value>
         Op::AtMost => two_ints(operands).map(|(a, b)| Value::Bool(a <= b)),
         Op::Greater => two_ints(operands).map(|(a, b)| Value::Bool(a > b)),
         Op::AtLeast => two_ints(operands).map(|(a, b)| Value::Bool(a >= b)),
+        Op::AtMostOne => count_true(operands).map(|count| Value::Bool(count <= 1)),
+        Op::Nor => count_true(operands).map(|count| Value::Bool(count == 0)),
     }
 }
 
@@ -115,6 +117,25 @@ fn two_bools(operands: &[Value]) -> Option<(bool, bool)>
     match operands {
         [Value::Bool(a), Value::Bool(b)] => Some((*a, *b)),
         _ => None,
+    }
+}
+
+/// How many operands are true, if they are one truth value or more.
+fn count_true(operands: &[Value]) -> Option<usize>
+    ensures { result ≡ count_true (map value_of operands.now) }
+{
+    let mut count = 0;
+    for operand in operands {
+        match operand {
+            Value::Bool(true) => count += 1,
+            Value::Bool(false) => {}
+            _ => return None,
+        }
+    }
+    if operands.is_empty() {
+        None
+    } else {
+        Some(count)
     }
 }
 

@@ -1,6 +1,7 @@
 //! Which operands an operator takes.
 
 ghost use Rattle.std.specs.Prelude.{◌≡◌, map};
+ghost use Rattle.std.specs.List.{list_all};
 ghost use Rattle.lus_values.specs.Fitting.{alike, alike_fields, fit_equality, fits_bool, fits_int, fits_op};
 ghost use Rattle.lus_values.specs.Operators.{is_nil};
 ghost use Rattle.lus_values.specs.Values.{fields_of};
@@ -29,7 +30,19 @@ pub fn fits_op(op: Op, operands: &[Value]) -> bool
             matches!(operands, [a, b] if fits_bool(a) && fits_bool(b))
         }
         Op::Equal | Op::NotEqual => matches!(operands, [a, b] if fit_equality(a, b)),
+        Op::AtMostOne | Op::Nor => !operands.is_empty() && all_fit_bool(operands),
     }
+}
+
+fn all_fit_bool(operands: &[Value]) -> bool
+    ensures { result ≡ list_all fits_bool (map value_of operands.now) }
+{
+    for operand in operands {
+        if !fits_bool(operand) {
+            return false;
+        }
+    }
+    true
 }
 
 fn fits_int(value: &Value) -> bool

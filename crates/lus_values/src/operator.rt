@@ -22,6 +22,10 @@ pub enum Op {
     AtMost,
     Greater,
     AtLeast,
+    /// At most one of its operands, of which there is one or more, is true.
+    AtMostOne,
+    /// None of its operands, of which there is one or more, is true.
+    Nor,
 }
 
 /// An operator of the language, whatever its result.

@@ -2,12 +2,12 @@ use Rattle.std.proofs.Common.{rules, ◌≡◌, ◌∙◌, ap, arith, map, Some}
 use Rattle.std.proofs.lemmas.Grind.{common_steps}
 use Rattle.lus_syntax.specs.Trees.{parts_of}
 use Rattle.lus_syntax.specs.View.{expression_seen, part_seen, name_seen}
-use Rattle.lus_syntax.proofs.TreeViews.{seen_call, seen_structure, seen_merge}
+use Rattle.lus_syntax.proofs.TreeViews.{seen_call, seen_structure, seen_merge, seen_variadic}
 use Rattle.lus_program.specs.View.{expression_of, operands_of}
 use Rattle.lus_meaning.specs.Types.{kind_of, kinds_of}
 use Rattle.lus_meaning.specs.Meaning.{all_meant, meant}
 use Rattle.lus_meaning.specs.ScopeView.{scope_of}
-use Rattle.lus_elaboration.proofs.Meant.{all_meant_is, kind_of-call, kind_of-structure, kind_of-merge}
+use Rattle.lus_elaboration.proofs.Meant.{all_meant_is, kind_of-call, kind_of-structure, kind_of-merge, kind_of-variadic}
 use Rattle.lus_elaboration.proofs.elaboration.+elaborate.Goals as goal
 
 pub elaborate-returns-in_err-operands-in-Call-clause-refused : goal.elaborate-returns-in_err-operands-in-Call-clause-refused
@@ -108,6 +108,43 @@ elaborate-returns-in_ok-operands-in-Merge-clause-refused t c =
     let given : kinds_of s parts ≡ Some kinds = rw c.deref-in-Merge.ensures.value at c.in_ok-operands-in-Merge.ensures.typed in
     let kind : kind_of s (expression_seen c.args.source.now) ≡ _ = ap (kind_of s) e ∙ kind_of-merge s c.in-Merge.field-0 (name_seen c.in-Merge.variable.value) parts kinds given in
     let refused = rw (c.deref-in-Merge-2.ensures, c.deref-in-Merge-3.ensures.value, c.deref-in-Merge-4.ensures.value) at c.merge.ensures.refused in
+    rw kind refused
+
+pub elaborate-returns-in_err-operands-in-Variadic-clause-refused : goal.elaborate-returns-in_err-operands-in-Variadic-clause-refused
+elaborate-returns-in_err-operands-in-Variadic-clause-refused t c =
+    let e : expression_seen c.args.source.now ≡ _ = ap expression_seen c.in-Variadic.is ∙ seen_variadic c.in-Variadic.op c.in-Variadic.field-1 c.in-Variadic.arguments in
+    rw e (search rules)
+
+pub elaborate-returns-in_ok-operands-in-Variadic-clause-typed : goal.elaborate-returns-in_ok-operands-in-Variadic-clause-typed
+elaborate-returns-in_ok-operands-in-Variadic-clause-typed t c =
+    let e : expression_seen c.args.source.now ≡ _ = ap expression_seen c.in-Variadic.is ∙ seen_variadic c.in-Variadic.op c.in-Variadic.field-1 c.in-Variadic.arguments in
+    let s = scope_of c.args.scope.now in
+    let parts = parts_of (map part_seen c.in-Variadic.arguments.items) in
+    let kinds = c.in_ok-operands-in-Variadic.kinds.items in
+    let given : kinds_of s parts ≡ Some kinds = rw c.deref-in-Variadic.ensures.value at c.in_ok-operands-in-Variadic.ensures.typed in
+    let kind : kind_of s (expression_seen c.args.source.now) ≡ _ = ap (kind_of s) e ∙ kind_of-variadic s c.in-Variadic.op c.in-Variadic.field-1 parts kinds given in
+    let typed = rw (c.deref-in-Variadic-2.ensures.value, c.deref-in-Variadic-3.ensures.value) at c.variadic.ensures.typed in
+    rw kind typed
+
+pub elaborate-returns-in_ok-operands-in-Variadic-clause-meant : goal.elaborate-returns-in_ok-operands-in-Variadic-clause-meant
+elaborate-returns-in_ok-operands-in-Variadic-clause-meant t c =
+    let e : expression_seen c.args.source.now ≡ _ = ap expression_seen c.in-Variadic.is ∙ seen_variadic c.in-Variadic.op c.in-Variadic.field-1 c.in-Variadic.arguments in
+    let s = scope_of c.args.scope.now in
+    let parts = parts_of (map part_seen c.in-Variadic.arguments.items) in
+    let out = operands_of c.in_ok-operands-in-Variadic.operands.items in
+    let given : out ≡ all_meant s parts = rw c.deref-in-Variadic.ensures.value at c.in_ok-operands-in-Variadic.ensures.meant in
+    let built = rw given at c.variadic.ensures.meant in
+    rw e built
+
+pub elaborate-returns-in_ok-operands-in-Variadic-clause-refused : goal.elaborate-returns-in_ok-operands-in-Variadic-clause-refused
+elaborate-returns-in_ok-operands-in-Variadic-clause-refused t c =
+    let e : expression_seen c.args.source.now ≡ _ = ap expression_seen c.in-Variadic.is ∙ seen_variadic c.in-Variadic.op c.in-Variadic.field-1 c.in-Variadic.arguments in
+    let s = scope_of c.args.scope.now in
+    let parts = parts_of (map part_seen c.in-Variadic.arguments.items) in
+    let kinds = c.in_ok-operands-in-Variadic.kinds.items in
+    let given : kinds_of s parts ≡ Some kinds = rw c.deref-in-Variadic.ensures.value at c.in_ok-operands-in-Variadic.ensures.typed in
+    let kind : kind_of s (expression_seen c.args.source.now) ≡ _ = ap (kind_of s) e ∙ kind_of-variadic s c.in-Variadic.op c.in-Variadic.field-1 parts kinds given in
+    let refused = rw (c.deref-in-Variadic-2.ensures.value, c.deref-in-Variadic-3.ensures.value) at c.variadic.ensures.refused in
     rw kind refused
 
 pub elaborate_all-returns-clause-meant : goal.elaborate_all-returns-clause-meant

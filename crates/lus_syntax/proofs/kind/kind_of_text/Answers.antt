@@ -11,17 +11,9 @@ number_of-requires c = number_first c.args.text.now c.requires
     (rw c.as_bytes.ensures.value at (sym c.begins_name.ensures ∙ c.if-begins_name.false))
     (rw c.as_bytes.ensures.value at (sym c.is_ascii_digit.ensures.value ∙ c.if-is_ascii_digit.true))
 
-pub returns-in-Some-None-symbol_of : goal.returns-in-Some-None-symbol_of
-returns-in-Some-None-symbol_of c =
-    let e : look_up c.args.text.now symbols ≡ Some None = cc in
-    symbol_meaning c.args.text.now c.requires
-    (rw c.as_bytes.ensures.value at (sym c.begins_name.ensures ∙ c.if-begins_name.false))
-    (rw c.as_bytes.ensures.value at (sym c.is_ascii_digit.ensures.value ∙ c.if-is_ascii_digit.false))
-    ∙ ap of_symbol e
-
-pub returns-in-Some-Some-symbol_of : goal.returns-in-Some-Some-symbol_of
-returns-in-Some-Some-symbol_of c =
-    let e : look_up c.args.text.now symbols ≡ Some (Some c.in-Some-Some-symbol_of.symbol) = cc in
+pub returns-in-Some-symbol_of : goal.returns-in-Some-symbol_of
+returns-in-Some-symbol_of c =
+    let e : look_up c.args.text.now symbols ≡ Some c.in-Some-symbol_of.symbol = cc in
     symbol_meaning c.args.text.now c.requires
     (rw c.as_bytes.ensures.value at (sym c.begins_name.ensures ∙ c.if-begins_name.false))
     (rw c.as_bytes.ensures.value at (sym c.is_ascii_digit.ensures.value ∙ c.if-is_ascii_digit.false))
