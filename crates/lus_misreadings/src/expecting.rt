@@ -55,6 +55,9 @@ fn names_expected(
     if joins {
         names.push("an operator")?;
     }
+    if names.is_empty() && may_stand(alloc, declaration, TokenKind::Punctuation(Symbol::Open))? {
+        names.push("`(`")?;
+    }
     Ok(names)
 }
 
