@@ -3,4 +3,4 @@ use Rattle.lus_program.proofs.OperandViews.{seen_operate}
 use Rattle.lus_elaboration.proofs.parts.variadic.Goals as goal
 
 pub returns-clause-meant : goal.returns-clause-meant
-returns-clause-meant c = c.in_ok-boxed.ensures ∙ seen_operate c.operator c.args.operands ∙ search rules
+returns-clause-meant c = c.in_ok-boxed.ensures ∙ seen_operate _ c.args.operands ∙ search rules
