@@ -8,7 +8,7 @@ mod on_words;
 mod operation;
 mod place;
 
-pub use entries::{cell_at, copy_value, entry_at};
+pub use entries::{cell_at, copied, copy_value, entry_at};
 pub use instruction::{Instruction, Operand};
 pub use machine::run;
 pub use on_words::run_of_numbers;

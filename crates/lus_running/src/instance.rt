@@ -10,7 +10,7 @@ ghost use Rattle.lus_running.specs.Instances.{IsBack, IsCopy, IsReset, KeepsSame
 ghost use Rattle.lus_running.specs.OnClocks.{PassOnClocks};
 
 use crate::error::StepError;
-use crate::following::most_temporaries;
+use crate::following::{Room, as_much, room_for};
 use crate::resetting::{absent, copy_cells, copy_flags, empty_all, nils, set_all, set_flags};
 use crate::running::{part_of, place, run};
 use lus_flat_classes::{Class, Extent};
@@ -30,7 +30,7 @@ pub struct Instance {
     /// Room for the variables of an instant; what it holds between instants has no meaning.
     pub variables: Vec<Option<Value>>,
     /// Room for what instructions compute on the way; it has no meaning behind them.
-    pub temporaries: Vec<Option<Value>>,
+    pub room: Room,
 }
 
 impl Instance {
@@ -48,7 +48,7 @@ impl Instance {
         let next_cells = nils(alloc, extent.cells as usize)?;
         let next_firsts = set_flags(alloc, extent.firsts as usize)?;
         let variables = absent(alloc, extent.variables as usize)?;
-        let temporaries = absent(alloc, most_temporaries(classes))?;
+        let room = room_for(alloc, classes)?;
         Ok(Instance {
             alloc,
             node,
@@ -57,7 +57,7 @@ impl Instance {
             next_cells,
             next_firsts,
             variables,
-            temporaries,
+            room,
         })
     }
 
@@ -78,7 +78,7 @@ impl Instance {
         let next_cells = nils(self.alloc, self.next_cells.len())?;
         let next_firsts = set_flags(self.alloc, self.next_firsts.len())?;
         let variables = absent(self.alloc, self.variables.len())?;
-        let temporaries = absent(self.alloc, self.temporaries.len())?;
+        let room = as_much(self.alloc, &self.room)?;
         Ok(Instance {
             alloc: self.alloc,
             node: self.node,
@@ -87,7 +87,7 @@ impl Instance {
             next_cells,
             next_firsts,
             variables,
-            temporaries,
+            room,
         })
     }
 
@@ -145,7 +145,7 @@ impl Instance {
             &mut self.next_cells,
             &mut self.next_firsts,
             &mut self.variables,
-            &mut self.temporaries,
+            &mut self.room,
         )?;
         let answer = part_of(self.alloc, &self.variables, class.inputs as usize, outputs)?;
         swap(&mut self.cells, &mut self.next_cells);

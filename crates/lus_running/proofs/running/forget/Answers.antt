@@ -3,7 +3,7 @@ use Rattle.std.proofs.lemmas.List.{map-set, length-map}
 use Rattle.lus_values.specs.View.{entry_of}
 use Rattle.lus_running.specs.Instants.{forgotten}
 use Rattle.lus_running.proofs.Placing.{forgotten_length, forgotten_item, none_forgotten, all_taken}
-use Rattle.lus_running.proofs.Rests.{next_same}
+use Rattle.lus_instructions.proofs.OnWords.{next_same}
 use Rattle.lus_running.proofs.running.forget.Goals as goal
 
 pub loop-variable-init : goal.loop-variable-init

@@ -1,7 +1,7 @@
 use Rattle.std.proofs.Common.{◌≡◌, ◌∙◌, sym, ap, map, ◌<◌, ◌++◌, take, drop, length, slice_set, slice_index_or, add-one, arith}
 use Rattle.std.proofs.lemmas.List.{map-set, length-map, get_or-map}
 use Rattle.lus_values.specs.View.{value_of}
-use Rattle.lus_running.proofs.Rests.{next_same}
+use Rattle.lus_instructions.proofs.OnWords.{next_same}
 use Rattle.lus_running.proofs.running.rest_cells.Goals as goal
 
 pub loop-place-preserved : goal.loop-place-preserved
