@@ -1,5 +1,5 @@
 -- What an instance keeps, as contracts see it.
-use Rattle.std.proofs.Common.{◌≡◌, ◌∙◌, ◌+◌, ◌<◌, ◌≤◌, ℕ, List, Some, sym, ap, subst, true, length, map, arith}
+use Rattle.std.proofs.Common.{◌≡◌, ◌∙◌, ◌+◌, ◌<◌, ◌≤◌, ℕ, List, [], Some, sym, ap, subst, true, length, map, arith}
 use Rattle.std.specs.Prelude.{slice_get}
 use Rattle.std.proofs.lemmas.List.{length-map}
 use Rattle.std.proofs.lemmas.Option.{slice_get_within, same_Some}
@@ -15,11 +15,14 @@ use Rattle.lus_flat_classes.specs.declared.class.Class.{Class}
 use Rattle.lus_flat_classes.specs.Places.{state_in}
 use Rattle.lus_code.specs.SimulationSpecs.Checked.{IsChecked}
 use Rattle.lus_code.specs.SimulationSpecs.Nesting.{depth_of}
-use Rattle.lus_code.specs.Codes.{ProgramCode, program_of}
+use Rattle.lus_code.specs.SimulationSpecs.Lineages.{Lineage, HasLived}
+use Rattle.lus_code.proofs.SimulationProofs.Lived.{resets_lived}
+use Rattle.lus_classes.specs.States.{State}
+use Rattle.lus_code.specs.Codes.{ProgramCode, plain_classes, program_of}
 use Rattle.lus_running.specs.declared.instance.Instance.{Instance}
 use Rattle.lus_running.specs.Instances as instances
 use Rattle.lus_running.proofs.Placed.{resets_state}
-use Rattle.lus_eval.specs.Objects.{Kept, kept_by, IsEven, IsShaped, IsReset, IsStep}
+use Rattle.lus_eval.specs.Objects.{Kept, kept_by, IsEven, IsShaped, IsReset, IsStep, ObjectLived, state_of}
 
 module _ (c : ProgramCode) (classes : List Class) (same : classes ≡ c.classes) (o : Instance) where
   pub shaped_in_code : ((g : ℕ) (k : Class) → slice_get classes g ≡ Some k → k.extent.cells + k.extent.firsts ≤ item 0 c.cells g) → instances.IsShaped classes o → IsShaped c (kept_by o)
@@ -75,6 +78,30 @@ reset_kept o o' h = record {
   state = λ c.
       let d = depth_of (program_of c) in
       (λ j. state_in c.classes d (h.node j) (h.cells j) (h.firsts j)) ∙ resets_state c.classes d o.node (map value_of o.cells.items) o.firsts.items;
+}
+
+-- an object that is set back has the form that it had
+pub reset_shaped : (c : ProgramCode) (o o' : Kept) → IsReset o o' → IsShaped c o → IsShaped c o'
+reset_shaped c o o' is shaped = record {
+  class = shaped.class;
+  found = subst (λ f. slice_get c.classes f ≡ Some shaped.class) (sym is.node) shaped.found;
+  cells = is.cells ∙ shaped.cells;
+  firsts = is.firsts ∙ shaped.firsts;
+  variables = is.room ∙ shaped.variables;
+  few = (
+      let cells = is.cells in
+      let firsts = is.firsts in
+      let node = ap (item 0 c.cells) is.node in
+      let row = shaped.few in
+      omega (arith, cells, firsts, node, row));
+}
+
+-- and has lived through nothing, whatever it has lived through before
+pub reset_lived : (c : ProgramCode) (f : ℕ) (o o' : Kept) (lineage : Lineage) → IsReset o o' → ObjectLived c f o lineage → ObjectLived c f o' []
+reset_lived c f o o' lineage is lived = record {
+  node = is.node ∙ lived.node;
+  shaped = reset_shaped c o o' is lived.shaped;
+  lived = subst (λ (s : State). HasLived (program_of c) (plain_classes c) s f []) (sym (is.state c)) (resets_lived (program_of c) (plain_classes c) (state_of c o) f lineage lived.lived);
 }
 
 -- objects of a node have as much room

@@ -1,8 +1,9 @@
 //! Objects.
 
-ghost use Rattle.std.specs.Prelude.{◌≡◌, ◌↔◌, ◌<◌, [], IsTrue, length, IfOk, IfErr, OnErr};
+ghost use Rattle.std.specs.Prelude.{ℕ, ◌≡◌, ◌↔◌, ◌<◌, [], IsTrue, length, IfOk, IfErr, OnErr};
 ghost use Rattle.lus_code.specs.SimulationSpecs.Fitting.{has_shape, has_presence};
-ghost use Rattle.lus_code.specs.Codes.{program_of};
+ghost use Rattle.lus_code.specs.SimulationSpecs.Lineages.{Lineage};
+ghost use Rattle.lus_code.specs.Codes.{ProgramCode, program_of};
 ghost use Rattle.lus_eval.specs.Objects.{IsFault, IsReset, IsShaped, IsStep, ObjectLived};
 
 use crate::error::StepError;
@@ -113,9 +114,11 @@ impl Object {
         }
     }
 
-    /// As it was when it was fresh; takes no memory.
+    /// As it was when it was fresh: whatever inputs it has lived through, it has lived through none. Takes no memory.
     pub fn reset(&mut self)
-        ensures { IsReset self.old self.new }
+        ensures back { IsReset self.old self.new }
+        ensures lived { (code : ProgramCode) (f : ℕ) (lineage : Lineage)
+            → ObjectLived code f self.old lineage → ObjectLived code f self.new [] }
     {
         self.instance.reset();
     }

@@ -83,7 +83,8 @@ pub trait Shared {
         ensures full { tells ≡ true → IfErr result (λ e. e ≡ CallError.Full → length (standing seat.new).seen ≡ full) };
 
     /// The entries, where the seats' numbers are those of the callers, each once, and their shares as many as the entries; else
-    /// all as it was given.
+    /// the seats as they were given, and the node. Of a node whose calls don't tell, contracts see how many callers it has and
+    /// nothing else: that the node which comes back holds the machine that was given, with its entries, isn't promised.
     fn close(self, seats: Vec<Self::Seat>) -> Result<Journal, Strangers<Self>>
     where
         Self: Sized,

@@ -1,7 +1,13 @@
+-- An object that is set back, and what it has lived through then.
 use Rattle.std.proofs.Common.{subst}
 use Rattle.lus_eval.specs.Objects.{Kept, kept_by, IsReset}
-use Rattle.lus_eval.proofs.KeptRows.{reset_kept}
+use Rattle.lus_eval.proofs.KeptRows.{reset_kept, reset_lived}
 use Rattle.lus_eval.proofs.object.Object.reset.Goals as goal
 
-pub returns : goal.returns
-returns c = subst (λ (k : Kept). IsReset k (kept_by c.reset.new.self)) c.self.view_is (reset_kept c.self.inside.instance c.reset.new.self c.reset.ensures)
+pub returns-clause-back : goal.returns-clause-back
+returns-clause-back c = subst (λ (k : Kept). IsReset k (kept_by c.reset.new.self)) c.self.view_is (reset_kept c.self.inside.instance c.reset.new.self c.reset.ensures)
+
+pub returns-clause-lived : goal.returns-clause-lived
+returns-clause-lived c = λ code f lineage.
+    reset_lived code f c.args.self.now (kept_by c.reset.new.self) lineage
+    (subst (λ (k : Kept). IsReset k (kept_by c.reset.new.self)) c.self.view_is (reset_kept c.self.inside.instance c.reset.new.self c.reset.ensures))
