@@ -4,6 +4,7 @@ ghost use Rattle.std.specs.Prelude.{◌≡◌, ◌++◌, ◌∷◌, [], ℕ, IfO
 ghost use Rattle.lus_program.specs.Programs.{Program};
 ghost use Rattle.lus_play.specs.Plays.{entry_of};
 
+use lus_devices::Sink;
 use lus_requests::{Entry, Reply, Request};
 use lus_values::Memory;
 
@@ -19,6 +20,9 @@ pub trait Calls {
     /// The request that a line has.
     fn read(&self, line: &[u8]) -> Result<Option<Request>, Memory>
         ensures { IfOk result (λ o. reads self.now line.now o) };
+
+    /// Writes what is wrong with a line that has no request.
+    fn explain<F: Sink>(&self, line: &[u8], faults: &mut F);
 }
 
 /// What answers requests, and has a history that it need not store.

@@ -8,7 +8,7 @@ use crate::error::PlayError;
 use crate::parts::{Calls, Reacts, Speaks};
 use itoa::Buffer;
 use lus_devices::{Sink, Source, write_all};
-use lus_lines::{Reading, read_line};
+use lus_lines::{MOST_LINE_BYTES, Reading, read_line};
 use lus_requests::Entry;
 use std::alloc::Global;
 
@@ -103,16 +103,33 @@ fn take_turn<C: Calls, R: Reacts, T: Speaks, S: Source, O: Sink>(
     }
 }
 
-/// Says that the line of this number is no call. A line that can't be written changes nothing.
-fn tell_refused<F: Sink>(faults: &mut F, number: u64) {
+/// Begins to say of the line of this number that it is no call.
+fn begin_fault<F: Sink>(faults: &mut F, number: u64) {
     let mut digits = Buffer::new();
     let _ = write_all(faults, b"error S2 line ");
     let _ = write_all(faults, digits.format(number).as_bytes());
+    let _ = write_all(faults, b": ");
+}
+
+/// Says of the line of this number that it is no call, and what is wrong. What can't be written changes nothing.
+fn tell_refused<C: Calls, F: Sink>(calls: &C, faults: &mut F, number: u64, line: &[u8]) {
+    begin_fault(faults, number);
+    if line.len() > MOST_LINE_BYTES {
+        let _ = write_all(faults, b"it has more bytes than a line may have");
+    } else {
+        calls.explain(line, faults);
+    }
     let _ = write_all(faults, b"\n");
 }
 
+/// Says that the line of this number has no line feed.
+fn tell_unfinished<F: Sink>(faults: &mut F, number: u64) {
+    begin_fault(faults, number);
+    let _ = write_all(faults, b"the input ends in the middle of it\n");
+}
+
 /// Makes the call of each line and writes its entry, the first under this number, until no line is left. A line that is no call
-/// enters nothing, and `faults` is given its number. No more than one line, its call and its entry is kept.
+/// enters nothing, and `faults` is given its number and what is wrong. No more than one line, its call and its entry is kept.
 pub fn play<C: Calls, R: Reacts, T: Speaks, S: Source, O: Sink, F: Sink>(
     alloc: Global,
     calls: &C,
@@ -139,11 +156,11 @@ pub fn play<C: Calls, R: Reacts, T: Speaks, S: Source, O: Sink, F: Sink>(
         )? {
             Turn::Entered => {}
             Turn::Refused => {
-                tell_refused(faults, turn + 1);
+                tell_refused(calls, faults, turn + 1, &line);
                 refused += 1;
             }
             Turn::Unfinished => {
-                tell_refused(faults, turn + 1);
+                tell_unfinished(faults, turn + 1);
                 return Ok(Score {
                     entered: turn - refused,
                     refused: refused + 1,

@@ -3,7 +3,7 @@
 ghost use Rattle.std.specs.Prelude.{◌++◌, codes};
 ghost use Rattle.std.specs.Fmt.{decimal};
 
-use lus_devices::Source;
+use lus_devices::{Sink, Source, write_all};
 use lus_lines::{Buffered, MOST_LINE_BYTES};
 use lus_play::{Calls, PlayError, Reacts, Score, Speaks, play};
 use lus_requests::{Entry, Reply, Request};
@@ -23,6 +23,11 @@ impl Calls for Ticks {
         } else {
             Ok(None)
         }
+    }
+
+    fn explain<F: Sink>(&self, line: &[u8], faults: &mut F) {
+        let _ = write_all(faults, b"no tick: ");
+        let _ = write_all(faults, line);
     }
 }
 
@@ -101,7 +106,8 @@ fn lines_that_are_no_calls_enter_nothing(rt: HostRuntime) -> Result<(), Fail> {
     assert_eq!(rt; output.as_slice(), b"1 done\n2 done\n".as_slice());
     assert_eq!(rt;
         faults.as_slice(),
-        b"error S2 line 2\nerror S2 line 3\nerror S2 line 5\n".as_slice()
+        b"error S2 line 2: no tick: tock\nerror S2 line 3: no tick: \nerror S2 line 5: the input ends in the middle of it\n"
+            .as_slice()
     );
     Ok(())
 }
@@ -125,6 +131,6 @@ fn a_line_too_long_enters_nothing(rt: HostRuntime) -> Result<(), Fail> {
             }
     );
     assert_eq!(rt; output.as_slice(), b"1 done\n".as_slice());
-    assert_eq!(rt; faults.as_slice(), b"error S2 line 1\n".as_slice());
+    assert_eq!(rt; faults.as_slice(), b"error S2 line 1: it has more bytes than a line may have\n".as_slice());
     Ok(())
 }

@@ -1,0 +1,2 @@
+pub mod Reactions
+pub use Rattle.lus_play.specs as PlaySpecs

@@ -1,0 +1,53 @@
+//! The text of a journal of one instance that is named like its node, and of one caller.
+
+ghost use Rattle.std.specs.Prelude.{◌≡◌, ◌∷◌, [], IfOk, codes, map, string_bytes};
+ghost use Rattle.lus_devices.specs.Journals.{count_text, head_text, line_text};
+ghost use Rattle.lus_reactions.specs.Reactions.{journal_of, user};
+
+use lus_devices::push_line;
+use lus_play::Speaks;
+use lus_requests::Entry;
+use lus_values::{Memory, Names};
+use std::alloc::Global;
+
+/// Spells entries as the lines of a journal.
+#[derive(Drop)]
+pub(crate) struct JournalLines<'p> {
+    pub names: &'p Names,
+    pub callers: &'p [String],
+}
+
+impl Speaks for JournalLines<'_> {
+    ghost says = { λ s n e. line_text s.names.now (map string_bytes s.callers.now) n e };
+
+    fn push(&self, text: &mut String, number: u64, entry: &Entry) -> Result<(), Memory> {
+        push_line(text, self.names, self.callers, number, entry)
+    }
+}
+
+/// The names of the callers.
+pub(crate) fn callers(alloc: Global) -> Result<Vec<String>, Memory>
+    ensures { IfOk result (λ v. map string_bytes v.items ≡ user) }
+{
+    let mut callers = Vec::new(alloc);
+    callers.push(String::from_str(alloc, "user")?)?;
+    Ok(callers)
+}
+
+/// The first line of the journal.
+pub(crate) fn head(alloc: Global, name: &str) -> Result<String, Memory>
+    ensures { IfOk result (λ t. string_bytes t ≡ head_text (journal_of name.now [])) }
+{
+    let mut text = String::new(alloc);
+    write!(text, "instance {name} {name}\n")?;
+    Ok(text)
+}
+
+/// The last line of a journal of so many entries.
+pub(crate) fn count(alloc: Global, entries: u64) -> Result<String, Memory>
+    ensures { IfOk result (λ t. string_bytes t ≡ count_text entries) }
+{
+    let mut text = String::new(alloc);
+    write!(text, "entries {entries}\n")?;
+    Ok(text)
+}
