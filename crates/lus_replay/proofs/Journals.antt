@@ -1,14 +1,12 @@
 -- Journals that are replayed, line by line.
-use Rattle.std.proofs.Common.{◌≡◌, ◌∙◌, ◌+◌, ◌++◌, ℕ, refl, ap, sym, subst, List, [], ◌∷◌, length, map, Option, Some, None, Result, Ok, Err, IfOk, append_assoc, append-nil, arith, length-append}
+use Rattle.std.proofs.Common.{◌≡◌, ◌∙◌, ◌+◌, ◌++◌, ℕ, refl, ap, sym, subst, List, [], ◌∷◌, length, map, Option, Some, None, append_assoc, append-nil, arith, length-append}
 use Rattle.lus_values.specs.Names.{Text, Names}
 use Rattle.lus_requests.specs.declared.request.Entry.{Entry}
 use Rattle.lus_devices.specs.Devices.{Bytes, with_front}
 use Rattle.lus_devices.proofs.Laws.{with_front-more}
-use Rattle.lus_devices.specs.Journals.{count_text}
 use Rattle.lus_replay.specs.declared.replaying.Ending.{Ending}
 use Rattle.lus_replay.specs.declared.replaying.Ending.TheVariants as endings
-use Rattle.lus_replay.specs.declared.replaying.Replayed.{Replayed}
-use Rattle.lus_replay.specs.Replays.{EndsSo, HasReplayed, IsRight, LineIs, Replays, Said, TurnIs, entry_said, said_line, said_text}
+use Rattle.lus_replay.specs.Replays.{EndsSo, HasReplayed, LineIs, Replays, Said, TurnIs, entry_said, said_line, said_text}
 
 front_nothing : (left : Option Bytes) → left ≡ with_front [] left
 front_nothing None = refl

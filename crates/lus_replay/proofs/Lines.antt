@@ -1,6 +1,5 @@
 -- Lines that begin as the line of a request does, and lines that are compared with the right one.
-use Rattle.std.proofs.Common.{◌≡◌, ◌≢◌, ◌∙◌, ◌-◌, ◌++◌, ℕ, refl, ap, sym, Bool, true, List, [], ◌∷◌, length, take, drop, nat_eq, Option, Some, None, Result, Ok, Err, IfOk, Bor, append_assoc, codes, ◌+◌}
-use Rattle.std.specs.Fmt.{decimal}
+use Rattle.std.proofs.Common.{◌≡◌, ◌∙◌, ◌-◌, ◌++◌, ℕ, ap, sym, true, List, [], ◌∷◌, length, take, drop, Some, Result, Ok, Err, IfOk, Bor, append_assoc, codes, ◌+◌}
 use Rattle.std.proofs.lemmas.List.{append_cancel_right}
 use Rattle.std.proofs.Math.Dec.{eqb}
 use Rattle.std.specs.Cmp.Lexicographic.{pointwise}
@@ -11,11 +10,10 @@ use Rattle.lus_requests.specs.declared.request.Request.{Request}
 use Rattle.lus_requests.specs.declared.request.Reply.{Reply}
 use Rattle.lus_requests.specs.declared.request.Reply.TheVariants.{Done}
 use Rattle.lus_requests.specs.declared.request.Entry.{Entry}
-use Rattle.lus_devices.specs.Journals.{request_text}
 use Rattle.lus_play.specs.Plays.{entry_of}
 use Rattle.lus_replay.specs.declared.line.Verdict.{Verdict}
 use Rattle.lus_replay.specs.declared.line.Verdict.TheVariants as verdicts
-use Rattle.lus_replay.specs.Replays.{BeginsAs, BeginsAsked, IsCompared, IsJudged, Said, asked_text, line_of}
+use Rattle.lus_replay.specs.Replays.{BeginsAs, BeginsAsked, IsCompared, IsJudged, asked_text, line_of}
 
 done_line : (names : Names) (caller : Text) (n : ℕ) (r : Request) → line_of names caller n (entry_of r Done) ≡ asked_text names caller n r ++ codes "done\n"
 done_line names caller n r = append_assoc (asked_text names caller n r) (codes "done") (codes "\n")

@@ -6,7 +6,7 @@ use Rattle.lus_requests.specs.declared.request.Request.{Request}
 use Rattle.lus_requests.specs.declared.request.Reply.{Reply}
 use Rattle.lus_requests.specs.declared.request.Entry.{Entry}
 use Rattle.lus_devices.specs.Devices.{Bytes, with_front}
-use Rattle.lus_devices.specs.Journals.{caller_name, count_text, line_text, request_text}
+use Rattle.lus_devices.specs.Journals.{count_text, line_text, request_text}
 use Rattle.lus_lines.specs.Lines.{IsLast}
 use Rattle.lus_play.specs.Plays.{entry_of}
 use Rattle.lus_replay.specs.declared.line.Verdict.{Verdict}

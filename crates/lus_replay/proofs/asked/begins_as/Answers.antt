@@ -1,7 +1,7 @@
 -- By what `strip_suffix` and `starts_with` say.
 use Rattle.std.proofs.Common.{drop, length}
 use Rattle.std.proofs.lemmas.Bool.Decides.{Decides-eqb}
-use Rattle.std.proofs.lemmas.Slice.Eq.{starts_is, strip_suffix_is}
+use Rattle.std.proofs.lemmas.Slice.Eq.{starts_is}
 use Rattle.lus_replay.proofs.Lines.{ends_done}
 use Rattle.lus_replay.proofs.asked.begins_as.Goals as goal
 
