@@ -40,8 +40,8 @@ pub fn react<R: Reacts, S: Source, O: Sink, F: Sink>(
     faults: &mut F,
 ) -> Result<Score, PlayError>
     requires { R.history reactor.now ≡ [] }
-    ensures all { IfOk result (λ score. HasReacted (program_seen program.now) names.now node.0 name.now (S.left input.old) (S.left input.new)
-        (R.history reactor.new) (O.written output.old) (O.written output.new) score) }
+    ensures all { IfOk result (λ score. HasReacted (program_seen program.now) names.now node.0 name.now
+        (S.left input.old) (S.left input.new) (R.history reactor.new) (O.written output.old) (O.written output.new) score) }
     ensures begun { OnErr result (HasReactedSome (program_seen program.now) names.now node.0 name.now (S.left input.old)
         (R.history reactor.new) (O.written output.old) (O.written output.new)) }
     ensures same { (p : PlainProgram) (f : ℕ) → R.is_of reactor.old p f → R.is_of reactor.new p f }
