@@ -11,6 +11,6 @@ mod spelling;
 pub use edit::{Edit, edited, edited_lines};
 pub use extent::{extent_of, label_span, start_of};
 pub use finding::{Finding, Related};
-pub use lines::{bytes_at, line_at, offset_of, slice_of};
-pub use report::{further_marks, push_finding};
+pub use lines::{Lines, bytes_at, line_at, lines_of, offset_of, slice_of};
+pub use report::{further_marks, push_finding, push_marked};
 pub use spelling::{are_near, nearest};

@@ -1,6 +1,7 @@
 //! Lines and places of a source.
 
 use lus_syntax::Span;
+use std::alloc::{AllocError, Global};
 use std::str;
 
 /// The line of this number, from 1, if the text has so many.
@@ -38,4 +39,37 @@ pub fn slice_of(text: &str, span: Span) -> &str {
     let from = span.start.byte as usize;
     let to = from.saturating_add(span.length as usize);
     bytes_at(text, from, to).unwrap_or("")
+}
+
+/// The lines of a text, which are found by their numbers without a walk from its first one.
+#[derive(Drop)]
+pub struct Lines<'t> {
+    text: &'t str,
+    starts: Vec<usize>,
+}
+
+/// The lines of a text.
+pub fn lines_of(alloc: Global, text: &str) -> Result<Lines<'_>, AllocError> {
+    let mut starts = Vec::new(alloc);
+    starts.push(0)?;
+    for (place, byte) in text.as_bytes().iter().enumerate() {
+        if *byte == b'\n' {
+            starts.push(place.saturating_add(1))?;
+        }
+    }
+    Ok(Lines { text, starts })
+}
+
+impl<'t> Lines<'t> {
+    /// The line of this number, from 1, if the text has so many.
+    pub fn line(&self, number: u32) -> Option<&'t str> {
+        let place = (number as usize).saturating_sub(1);
+        let from = self.starts.get(place).copied()?;
+        let behind = match self.starts.get(place.saturating_add(1)) {
+            Some(next) => next.saturating_sub(1),
+            None => self.text.len(),
+        };
+        let line = bytes_at(self.text, from, behind)?;
+        Some(line.strip_suffix('\r').unwrap_or(line))
+    }
 }

@@ -2,7 +2,7 @@
 
 use crate::edit::{Edit, edited, edited_lines};
 use crate::finding::{Finding, Related};
-use crate::lines::line_at;
+use crate::lines::{Lines, lines_of};
 use std::alloc::{AllocError, Global};
 
 /// A caret for each further character of a line behind one at a column, over so many bytes with it: none behind the line's end.
@@ -30,6 +30,20 @@ pub fn further_marks(
     Ok(marks)
 }
 
+/// A line with marks under so many bytes from a column on, and line feeds behind both.
+pub fn push_marked(
+    alloc: Global,
+    text: &mut String,
+    line: &str,
+    column: u32,
+    length: u32,
+) -> Result<(), AllocError> {
+    write!(text, "{line}\n")?;
+    push_blanks(text, line, column)?;
+    let marks = further_marks(alloc, line, column, length)?;
+    write!(text, "^{marks}\n")
+}
+
 /// What stands before a mark under a column: a blank for each character, which is a tab under a tab.
 fn push_blanks(text: &mut String, line: &str, column: u32) -> Result<(), AllocError> {
     let mut at = 1u32;
@@ -50,7 +64,7 @@ fn push_related(
     alloc: Global,
     text: &mut String,
     name: &str,
-    source: &str,
+    lines: &Lines<'_>,
     related: &Related,
 ) -> Result<(), AllocError> {
     let place = related.span.start;
@@ -58,13 +72,10 @@ fn push_related(
     let column = place.column;
     let label = &related.label;
     write!(text, "{name}:{line}:{column}: note: {label}\n")?;
-    let Some(shown) = line_at(source, line) else {
+    let Some(shown) = lines.line(line) else {
         return Ok(());
     };
-    write!(text, "{shown}\n")?;
-    push_blanks(text, shown, column)?;
-    let marks = further_marks(alloc, shown, column, related.span.length)?;
-    write!(text, "^{marks}\n")
+    push_marked(alloc, text, shown, column, related.span.length)
 }
 
 /// Appends how the lines would read that a change is on.
@@ -83,6 +94,24 @@ fn push_edit(
     }
 }
 
+/// Appends the further places of a fault.
+fn push_places(
+    alloc: Global,
+    text: &mut String,
+    name: &str,
+    source: &str,
+    finding: &Finding,
+) -> Result<(), AllocError> {
+    if finding.related.is_empty() {
+        return Ok(());
+    }
+    let lines = lines_of(alloc, source)?;
+    for related in &finding.related {
+        push_related(alloc, text, name, &lines, related)?;
+    }
+    Ok(())
+}
+
 /// Appends what is said behind the line of a fault: further places, the note, and how the line would read.
 pub fn push_finding(
     alloc: Global,
@@ -91,9 +120,7 @@ pub fn push_finding(
     source: &str,
     finding: &Finding,
 ) -> Result<(), AllocError> {
-    for related in &finding.related {
-        push_related(alloc, text, name, source, related)?;
-    }
+    push_places(alloc, text, name, source, finding)?;
     if let Some(note) = &finding.note {
         write!(text, "{note}\n")?;
     }
