@@ -4,3 +4,4 @@ pub mod DistinctNames
 pub mod Values
 pub mod ReadScripts
 pub mod RequestLists
+mod Examples
