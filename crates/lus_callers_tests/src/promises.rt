@@ -1,15 +1,23 @@
 //! What a host relies on: each function makes one call, and its contract is what that call's contract says to a host.
-ghost use Rattle.std.specs.Prelude.{◌≡◌, ◌++◌, ◌∷◌, [], length, IfOk, IfErr};
+ghost use Rattle.std.specs.Arc.{arc_value};
 ghost use Rattle.std.specs.List.{All};
-ghost use Rattle.lus_shared.specs.MachineSpecs.Machines.{entry};
-ghost use Rattle.lus_shared.specs.Closing.{Closed};
-ghost use Rattle.lus_shared.specs.Trait.{EndsIn};
-ghost use Rattle.lus_shared.specs.Views.{Adds, Sees};
+ghost use Rattle.std.specs.Prelude.{◌≡◌, ◌<◌, ◌^◌, ◌++◌, ◌∷◌, [], true, length, IfOk, IfErr};
+ghost use Rattle.lus_callers.specs.CodeSpecs.Codes.{program_of};
+ghost use Rattle.lus_callers.specs.MachineSpecs.Machines.{entry};
+ghost use Rattle.lus_callers.specs.Scripts.{HasNodes, CallKnown, HaveFewCalls, scripts, shares, histories};
+ghost use Rattle.lus_callers.specs.Served.{AllCounted, AllServed};
+ghost use Rattle.lus_callers.specs.SharedSpecs.Closing.{Closed};
+ghost use Rattle.lus_callers.specs.SharedSpecs.Trait.{EndsIn};
+ghost use Rattle.lus_callers.specs.SharedSpecs.Views.{Adds, Sees};
 
+use lus_callers::lus_machine::{CallError, Machine, Program};
+use lus_callers::lus_shared::{Journal, Seat, SeatNode, Shared, Strangers, TryError};
+use lus_callers::{Caller, Gate, HostError, Journals, run_seated};
+use lus_program::NodeId;
 use lus_requests::{Reply, Request};
-use lus_shared::lus_machine::{CallError, Machine};
-use lus_shared::{Journal, Seat, SeatNode, Shared, Strangers, TryError};
-use std::sync::Wait;
+use std::alloc::Global;
+use std::sync::{Arc, Wait};
+use std::thread::Threads;
 
 /// One call at a machine of one's own: it is entered, with the reply that is given.
 pub fn call_machine(
@@ -69,4 +77,23 @@ pub fn close_seats(node: SeatNode, seats: Vec<Seat>) -> Result<Journal, Stranger
     ensures { IfOk result (λ j. Closed node seats.items j.entries.items) }
 {
     node.close(seats)
+}
+
+/// A run over seats: each entry is one of a caller's, and each caller made its calls up to one that it ran out at.
+pub fn run_served<G: Gate + Sync, R: Threads + Wait + Sync>(
+    rt: &R,
+    alloc: Global,
+    program: &Arc<Program>,
+    instances: &[NodeId],
+    callers: &[Caller],
+    gate: &G,
+) -> Result<Journals, HostError>
+    requires nodes { HasNodes (program_of (arc_value program.now)) instances.now }
+    requires known { CallKnown (length instances.now) callers.now }
+    requires few_calls { HaveFewCalls callers.now }
+    requires few { length callers.now < 2 ^ 32 }
+    ensures counted { IfOk result (λ r. AllCounted (length instances.now) (shares r) (histories r)) }
+    ensures served { IfOk result (λ r. AllServed true (scripts callers.now) r.wants.items (shares r) (histories r)) }
+{
+    run_seated(rt, alloc, program, instances, callers, gate)
 }

@@ -2,8 +2,8 @@
 ghost use Rattle.std.specs.Prelude.{◌≡◌};
 
 use crate::counters::{a_counter, a_step, counts};
+use lus_callers::lus_shared::{Busy, Seat, SeatNode, TryError};
 use lus_requests::Request;
-use lus_shared::{Busy, Seat, SeatNode, TryError};
 use std::sync::Wait;
 use std::sync::atomic::{AtomicU64, Ordering};
 use std::test::Fail;

@@ -2,7 +2,7 @@
 ghost use Rattle.std.specs.Prelude.{◌≡◌};
 
 use lus_requests::{Reply, Request};
-use lus_shared::{Seat, SeatNode, TryError};
+use lus_callers::lus_shared::{Seat, SeatNode, TryError};
 
 /// The replies to one request at two nodes, by a seat of each.
 pub fn call_both(

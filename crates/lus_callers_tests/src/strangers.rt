@@ -2,8 +2,8 @@
 ghost use Rattle.std.specs.Prelude.{◌≡◌, IfOk, IfSome};
 
 use crate::counters::{a_counter, a_step, counts};
-use crate::relied::{close_seats, count_entries};
-use lus_shared::{Seat, SeatNode, Strangers};
+use crate::promises::{close_seats, count_entries};
+use lus_callers::lus_shared::{Seat, SeatNode, Strangers};
 use lus_values::Memory;
 use std::alloc::Global;
 use std::test::Fail;

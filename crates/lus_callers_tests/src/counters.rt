@@ -1,15 +1,15 @@
 //! A node that counts its steps, with two seats.
 ghost use Rattle.std.specs.Prelude.{◌≡◌, [], IfOk};
 
+use lus_callers::lus_machine::{Machine, compile};
+use lus_callers::lus_shared::{Seat, SeatNode};
 use lus_program::NodeId;
 use lus_requests::{Reply, Request};
-use lus_shared::lus_machine::{Machine, compile};
-use lus_shared::{Seat, SeatNode};
 use lus_values::{Memory, Row, Value};
 use std::alloc::Global;
 use std::sync::Arc;
 
-/// A counter that was never stepped. Its text is right, so a refusal is a want of memory.
+/// A counter that was never stepped. Its text is right, so it is refused only where memory is out.
 pub(crate) fn a_machine(alloc: Global) -> Result<Machine, Memory>
     ensures { IfOk result (λ m. m.history ≡ []) }
 {

@@ -2,9 +2,9 @@
 
 use crate::calls::{call_both, found_taken};
 use crate::counters::{a_counter, a_machine, a_step, counts};
-use crate::relied::{call_machine, call_seat, call_shared, meet_seats};
+use crate::promises::{call_machine, call_seat, call_shared, meet_seats};
 use crate::strangers::{closed_with, given_back};
-use lus_shared::{Busy, LockedNode, Shared, TryError};
+use lus_callers::lus_shared::{Busy, LockedNode, Shared, TryError};
 use std::test::Fail;
 
 #[test]

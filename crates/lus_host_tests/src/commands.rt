@@ -1,7 +1,7 @@
 //! What clauses can't show: that commands succeed, and what is printed at each status.
 
 ghost use Rattle.std.specs.Prelude.{None, Some, option_map};
-ghost use Rattle.lus_cli_tests.specs.Files.{file_of};
+ghost use Rattle.lus_host_tests.specs.Files.{file_of};
 
 use lus_cli::command;
 use lus_devices::{Failure, Folder, Sink, Source};
