@@ -1,8 +1,8 @@
 //! Calls at two nodes, and at a node that may be taken.
 ghost use Rattle.std.specs.Prelude.{◌≡◌};
 
-use lus_requests::{Reply, Request};
 use lus_callers::lus_shared::{Seat, SeatNode, TryError};
+use lus_requests::{Reply, Request};
 
 /// The replies to one request at two nodes, by a seat of each.
 pub fn call_both(
