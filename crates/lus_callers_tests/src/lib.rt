@@ -1,16 +1,28 @@
-//! Tests of callers on threads, over both kinds of instances, a gate at which callers meet, and what a host relies on.
+//! Calls at nodes that are shared and callers on threads, over both kinds of instances: what a host relies on there, and tests.
 #![tactic(auto)]
 
 #[cfg(test)]
 mod callers;
+mod calls;
+#[cfg(test)]
+mod counters;
 #[cfg(test)]
 mod gates;
+#[cfg(test)]
+mod held;
+#[cfg(test)]
 mod meeting;
-mod relied;
+mod promises;
 #[cfg(test)]
 mod runs;
 #[cfg(test)]
 mod seats;
+#[cfg(test)]
+mod strangers;
+#[cfg(test)]
+mod turns;
 
-pub use meeting::Meeting;
-pub use relied::run_served;
+pub use calls::{call_both, found_taken};
+pub use promises::{
+    call_machine, call_seat, call_shared, close_seats, count_entries, meet_seats, run_served,
+};

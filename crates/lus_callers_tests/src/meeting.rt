@@ -7,7 +7,7 @@ use std::thread;
 /// Before its call each caller gives a sign and waits for the signs of all; then all but the last wait until the last one is
 /// answered. A wait ends after a million turns at most, and is then late.
 #[derive(Drop)]
-pub struct Meeting {
+pub(crate) struct Meeting {
     callers: u32,
     signs: AtomicU64,
     answered: AtomicU64,
@@ -16,7 +16,7 @@ pub struct Meeting {
 
 impl Meeting {
     /// A meeting of so many callers, each with one call.
-    pub fn of(callers: u32) -> Meeting {
+    pub(crate) fn of(callers: u32) -> Meeting {
         Meeting {
             callers,
             signs: AtomicU64::new(0),
@@ -26,7 +26,7 @@ impl Meeting {
     }
 
     /// Whether a caller waited in vain.
-    pub fn was_late(&self) -> bool {
+    pub(crate) fn was_late(&self) -> bool {
         self.late.load(Ordering::SeqCst) != 0
     }
 

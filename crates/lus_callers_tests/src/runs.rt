@@ -1,6 +1,6 @@
 //! Programs, callers, and what their runs leave.
 
-use crate::relied::run_served;
+use crate::promises::run_served;
 use lus_callers::lus_machine::{Program, compile};
 use lus_callers::lus_shared::{Journal, LockedNode};
 use lus_callers::{Call, Caller, Gate, HostError, Journals, fit, run_callers};
@@ -18,7 +18,7 @@ const TEXT: &str =
 pub(crate) const TWO: [NodeId; 2] = [NodeId(0), NodeId(1)];
 
 /// A program of a node that counts its steps, and one that counts those of its steps at which its input is true. The text is
-/// right, so a refusal is a want of memory.
+/// right, so it is refused only where memory is out.
 pub(crate) fn a_program(alloc: Global) -> Result<Arc<Program>, Memory> {
     let Ok(program) = compile(alloc, TEXT) else {
         return Err(Memory);

@@ -1,9 +1,16 @@
-//! Tests of devices, scripts, the text of journals and runs, in a crate of their own since those take long to prove.
+//! Tests of what is above machines: devices, scripts, lines, runs, the command line and diagrams. In a crate of their own, since a
+//! crate with tests is proved twice.
 #![tactic(auto)]
 
 #[cfg(test)]
+mod commands;
+#[cfg(test)]
 mod devices;
+#[cfg(test)]
+mod drawings;
 #[cfg(test)]
 mod overlap;
 #[cfg(test)]
-mod tests;
+mod plays;
+#[cfg(test)]
+mod texts;

@@ -1,12 +1,12 @@
 //! A run in which callers overlap.
 
-use lus_host::{Gate, run};
+use lus_cli::lus_host::{Gate, run};
 use std::sync::atomic::{AtomicU64, Ordering};
 use std::test::Fail;
 use std::thread;
 
 /// A gate at which two callers meet; then the first one waits until the second one is answered. A wait ends after a million
-/// turns at most, and is then late.
+/// turns at most, and is then late. (The gate of `lus_callers_tests` would be a second way down to all below `lus_callers`.)
 #[derive(Drop)]
 struct SecondFirst {
     signs: AtomicU64,

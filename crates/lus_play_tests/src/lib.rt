@@ -1,5 +1,0 @@
-//! Tests of plays over lines in memory.
-#![tactic(auto)]
-
-#[cfg(test)]
-mod tests;
