@@ -106,8 +106,7 @@ fn lines_that_are_no_calls_enter_nothing(rt: HostRuntime) -> Result<(), Fail> {
     assert_eq!(rt; output.as_slice(), b"1 done\n2 done\n".as_slice());
     assert_eq!(rt;
         faults.as_slice(),
-        b"error S2 line 2: no tick: tock\nerror S2 line 3: no tick: \nerror S2 line 5: the input ends in the middle of it\n"
-            .as_slice()
+        b"error S2 line 2: no tick: tock\nerror S2 line 3: no tick: \nerror S2 line 5: the input ends in the middle of it\n".as_slice()
     );
     Ok(())
 }
@@ -131,6 +130,9 @@ fn a_line_too_long_enters_nothing(rt: HostRuntime) -> Result<(), Fail> {
             }
     );
     assert_eq!(rt; output.as_slice(), b"1 done\n".as_slice());
-    assert_eq!(rt; faults.as_slice(), b"error S2 line 1: it has more bytes than a line may have\n".as_slice());
+    assert_eq!(rt;
+        faults.as_slice(),
+        b"error S2 line 1: it has more bytes than a line may have\n".as_slice()
+    );
     Ok(())
 }
