@@ -13,6 +13,7 @@ mod text;
 pub use checking::check;
 pub use error::RunError;
 pub use laws::headline;
+pub use lus_callers::lus_machine;
 pub use lus_callers::lus_machine::{CallError, Field, Formal, Machine, NodeId, Program, compile};
 pub use lus_callers::lus_shared::{
     Busy, LockedNode, LockedSeat, Seat, SeatNode, Shared, Strangers, TryError,
