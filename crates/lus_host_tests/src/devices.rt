@@ -2,8 +2,8 @@
 
 ghost use Rattle.std.specs.Prelude.{None};
 
+use lus_cli::lus_host::{OpenGate, RunError, run};
 use lus_devices::{Failure, Sink, Source};
-use lus_host::{OpenGate, RunError, run};
 use std::alloc::Global;
 use std::sync::Wait;
 use std::test::Fail;
