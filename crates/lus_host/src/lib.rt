@@ -13,13 +13,12 @@ mod text;
 pub use checking::check;
 pub use error::RunError;
 pub use laws::headline;
-pub use lus_callers::lus_machine;
 pub use lus_callers::lus_machine::{CallError, Field, Formal, Machine, NodeId, Program, compile};
 pub use lus_callers::lus_shared::{
     Busy, LockedNode, LockedSeat, Seat, SeatNode, Shared, Strangers, TryError,
 };
 pub use lus_callers::{
-    Call, Caller, Gate, HostError, Journals, OpenGate, fit, run_callers, run_seated,
+    Call, Caller, Gate, HostError, Journals, OpenGate, fit, lus_machine, run_callers, run_seated,
 };
 pub use lus_devices::{
     Failure, Input, Journal, Output, ReadError, Sink, Source, WriteError, read_at_most, write_all,
