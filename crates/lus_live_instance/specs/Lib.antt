@@ -1,0 +1,2 @@
+pub mod Lives
+pub use Rattle.lus_reactions.specs.PlaySpecs as PlaySpecs

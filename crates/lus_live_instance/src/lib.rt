@@ -1,0 +1,7 @@
+//! An instance of a program's node that stores no history, on which lines are played.
+#![tactic(auto)]
+
+mod live;
+
+pub use live::run_live;
+pub use lus_reactions::{PlayError, Score};
