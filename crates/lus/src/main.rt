@@ -8,7 +8,7 @@ use std::env;
 use std::io::ErrorKind;
 use std::process::ExitCode;
 
-/// The name under which the program was called, and the words behind it. Words that are no text ask for nothing.
+/// The name under which the program was called, and the words behind it. Words that are no text are unknown arguments.
 fn arguments(rt: &HostRuntime) -> Result<Vec<String>, Fault> {
     match env::args(rt) {
         Ok(arguments) => match arguments.collect(rt.alloc()) {

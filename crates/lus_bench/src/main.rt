@@ -60,7 +60,7 @@ fn tell(rt: &HostRuntime, program: &Program, reply: &Reply) -> Option<()> {
     Some(())
 }
 
-/// Does what the words ask for, or nothing where they ask for nothing that can be done.
+/// Does what the words ask for, or nothing where that can't be done.
 fn run(rt: &HostRuntime, name: &str, steps: &str) -> Option<()> {
     let steps: u32 = steps.parse().ok()?;
     let program = program_in(rt, name)?;

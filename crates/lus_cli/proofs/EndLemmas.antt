@@ -33,7 +33,7 @@ opened None left P holds p = tt
 opened (Some None) left P holds p = absurd holds
 opened (Some (Some bytes)) left P holds p = p
 
--- a refusal of a program is told as such, or as want of memory
+-- a refusal of a program is told as such, or as out of memory
 by_number : (T : Fault → Type 0) (e : Refusal) (n : RefusalNumber) → e.number ≡ n → T faults.Memory
     → (e.number ≢ numbers.Memory → T (faults.Program e)) → T (program_fault n e)
 by_number T e numbers.Memory is memory refused = memory

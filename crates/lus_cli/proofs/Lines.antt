@@ -5,7 +5,7 @@ use Rattle.clap.specs.Words.{App, Kinds, Row, fault_of, matches_of}
 use Rattle.lus_cli.specs.CommandLine.{Text, asked_of}
 use Rattle.lus_cli.specs.declared.words.WordsError.{WordsError}
 
--- a line with a fault asks for nothing
+-- a line with a fault is no task
 pub faulty_asks : {X : Type 0} (app : App) (said : List Row → Option X) (ws : List Text) → fault_of app ws ≢ [] → asked_of app said ws ≡ None
 unfolding asked_of
 faulty_asks {X} app said ws some = go (fault_of app ws) some

@@ -76,7 +76,7 @@ cycle_is name (x ∷ xs) cycle is some = rw (← is) (ap (λ t. codes " cycle" +
 piece_last : (n a l b c rest : Bytes) → n ++ a ++ l ++ b ++ c ++ rest ≡ (n ++ (a ++ (l ++ (b ++ (c ++ []))))) ++ rest
 piece_last n a l b c rest = simp (append_assoc, append-nil)
 
--- a refusal but for want of memory has its place behind its number, and then the cycle
+-- a refusal other than out of memory has its place behind its number, and then the cycle
 pub place_is : (n : RefusalNumber) (line column : Bytes) (l c : ℕ) (cycle : List Bytes) → n ≢ numbers.Memory → line ≡ decimal l → column ≡ decimal c
     → place_text n l c cycle ≡ (number_text n ++ (codes " line " ++ (line ++ (codes " column " ++ (column ++ []))))) ++ cycle_behind cycle
 place_is numbers.Memory line column l c cycle other is_line is_column = absurd (other refl)

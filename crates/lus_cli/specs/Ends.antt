@@ -46,7 +46,7 @@ WithFiles program scripts P = WithFile program (λ text. WithFile scripts (λ by
 abbrev pub RefusesScripts : ScriptRefusal → Bytes → Bytes → Type 0
 RefusesScripts e text bytes = (p : Program) × Accepted text p × ScriptsRefused p bytes e
 
--- how a run of a program with scripts ends; after want of memory nothing or a beginning of the journals is written, or all
+-- how a run of a program with scripts ends; out of memory, nothing or a beginning of the journals is written, or all
 -- of them, where a caller ran out
 abbrev pub RunEnds : (Known → Type 0) → Known → Known → Outcome → Change → Type 0
 RunEnds read_fails program scripts (Ok done) output =
@@ -91,7 +91,7 @@ SaysEnds {A = A} Says Fails (Err faults.Output) output =
     (done : A) × (text : Bytes) × Says done text × WritesBeginning output.old output.new text × HasFailed output
 SaysEnds {A = A} Says Fails (Err f) output = Fails f × IsUntouched output
 
--- where words ask for nothing, that is told, or want of memory
+-- unknown or missing arguments are told, or out of memory
 abbrev pub AskedEnds : {X A : Type 0} → (X → Result A Fault → Change → Type 0) → Option X → Result A Fault → Change → Type 0
 AskedEnds ends None outcome output = ((outcome ≡ Err faults.Words) ⊎ (outcome ≡ Err faults.Memory)) × IsUntouched output
 AskedEnds ends (Some asked) outcome output = ends asked outcome output

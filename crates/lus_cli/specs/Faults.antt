@@ -37,7 +37,7 @@ host_fault hosts.Memory = faults.Memory
 host_fault hosts.Start = faults.Start
 host_fault hosts.Seats = faults.Start
 
--- want of memory is one fault, whatever wanted it
+-- out of memory is one fault, whatever wanted it
 abbrev pub run_fault : RunError → Fault
 run_fault (runs.Program r) = program_fault r.number r
 run_fault (runs.Scripts r) = scripts_fault r
@@ -89,7 +89,7 @@ IsToldBy status f c = (status ≡ fault_status f) × Told (fault_line f) c
 abbrev pub Outcome : Type 0
 Outcome = Result (Unit {0}) Fault
 
--- a run in which a caller ran out is ended by want of memory, once its journals are written
+-- a run in which a caller ran out ends out of memory, once its journals are written
 abbrev pub run_outcome : Result Bool RunError → Outcome
 run_outcome (Ok true) = Ok tt
 run_outcome (Ok false) = Err faults.Memory

@@ -10,13 +10,13 @@ use lus_syntax::{Refusal, RefusalNumber};
 /// Why a command ended short.
 #[derive(Drop)]
 pub enum Fault {
-    /// The words ask for nothing that there is.
+    /// Unknown or missing arguments.
     Words,
     /// A file couldn't be opened or read.
     File,
     /// The output couldn't be written.
     Output,
-    /// Want of memory.
+    /// Out of memory.
     Memory,
     /// A caller had no thread, or an instance didn't get its seats back.
     Start,
@@ -30,7 +30,7 @@ pub enum Fault {
 
 impl Fault {
     /// The status of the process: 1 for a refused program, 2 for refused scripts, journals or words, 3 for a device that failed,
-    /// and 4 for want of memory or of a thread.
+    /// and 4 where there is no memory or no thread.
     pub fn status(&self) -> u8
         ensures { result ≡ fault_status self.now }
     {
@@ -68,7 +68,7 @@ impl From<WordsError> for Fault {
     }
 }
 
-/// Want of memory is one fault, whatever wanted it.
+/// Out of memory is one fault, whatever wanted it.
 impl From<RunError> for Fault {
     ghost from_gives = { λ e f. f ≡ run_fault e };
 

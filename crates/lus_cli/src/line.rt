@@ -45,7 +45,7 @@ fn write_cycle<F: Sink>(faults: &mut F, cycle: &Cycle) -> Result<(), Failure>
     write_names(faults, names)
 }
 
-/// Writes `E2 line 2 column 12`, and the cycle if there is one. Want of memory has no place.
+/// Writes `E2 line 2 column 12`, and the cycle if there is one. Out of memory has no place.
 fn write_refusal<F: Sink>(faults: &mut F, refusal: &Refusal) -> Result<(), Failure>
     ensures { Writes result (refusal_text refusal.now)
         (change (F.written faults.old) (F.written faults.new) (F.failures faults.old) (F.failures faults.new)) }

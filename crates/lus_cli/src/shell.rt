@@ -48,7 +48,7 @@ fn check_file<D: Folder, O: Sink>(
     Ok(())
 }
 
-/// How a run ended: one in which a caller ran out did so for want of memory.
+/// How a run ended: one in which a caller ended short did so out of memory.
 fn ended(ran: Result<bool, RunError>) -> Result<(), Fault>
     ensures { result ≡ run_outcome ran }
 {

@@ -20,7 +20,7 @@ pub enum Task<'a> {
 /// Why the words were refused.
 #[derive(Clone, Copy, Debug, Error)]
 pub enum WordsError {
-    #[error("the words ask for nothing that there is")]
+    #[error("unknown or missing arguments")]
     Mistaken,
     #[error("out of memory")]
     Memory,

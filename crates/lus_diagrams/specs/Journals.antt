@@ -99,7 +99,7 @@ nothing_read = record { whole = []; open_one = None }
 abbrev pub journals_of : Text → Result (List Journal) ℕ
 journals_of text = run 1 nothing_read (slice_split (λ b. b == 10) text)
 
--- ---- faults, but for want of memory
+-- ---- faults, except out of memory
 
 -- the nth line is what is at fault
 abbrev pub IsFault : {A : Type 0} → ℕ → JournalError → Option A → Type 0

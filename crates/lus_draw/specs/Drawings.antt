@@ -24,7 +24,7 @@ pub record Draws (svg : Bool) (bytes drawn : Text) : Type 0 where
   pub read : journals_of bytes ≡ Ok journals
   pub picture : svg ≡ true → IsPictureOf (flat_map journal_words journals) drawn
 
--- a journal whose node the program doesn't have, or has with other inputs or outputs; or want of memory
+-- a journal whose node the program doesn't have, or has with other inputs or outputs; or out of memory
 abbrev pub IsDiagramFault : Bool → Fault → Type 0
 IsDiagramFault named (faults.Journal n) = named ≡ true
 IsDiagramFault named faults.Memory = ⊤

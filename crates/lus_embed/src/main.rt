@@ -10,7 +10,7 @@ use std::sync::Arc;
 const COUNTER: &str =
     "node counter(passed: bool) returns (count: int); let count = (0 -> pre count) + (if passed then 1 else 0); tel";
 
-/// Steps the instance once and prints its output, or nothing where memory is wanting.
+/// Steps the instance once and prints its output, or nothing when out of memory.
 fn step(
     rt: &HostRuntime,
     program: &Program,

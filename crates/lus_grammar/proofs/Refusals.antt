@@ -39,7 +39,7 @@ refused_rightly limit ts numbers.Syntax h = λ t d. not_syntax (leb (tree_depth 
 refused_rightly limit ts numbers.Limit h = λ t d le. not_failed t Deep (sym (within_read limit ts t d le) ∙ h)
 refused_rightly limit ts _ h = h
 
--- a tree within the limit is refused for want of memory alone
+-- a tree within the limit is refused out of memory alone
 pub only_memory : (limit : ℕ) (ts : List Lexeme) (number : RefusalNumber) → RefusedAs number (program_at limit ts) → (t : Tree) → SpellsProgram t ts → tree_depth t ≤ limit → number ≡ numbers.Memory
 only_memory limit ts numbers.Memory h t d le = refl
 only_memory limit ts numbers.Syntax h t d le = absurd (not_failed t Syntax (sym (within_read limit ts t d le) ∙ h))

@@ -26,7 +26,7 @@ pub data ProgramRefused (bytes : Bytes) (e : Refusal) : Type 0 where
   is_no_text : IsNoText bytes e → ProgramRefused bytes e
   is_refused : length bytes ≤ most_bytes → RefusedWith bytes e → ProgramRefused bytes e
 
--- a program's refusal has the shape of one and, but for want of memory, is right for the bytes that a device had left, where they
+-- a program's refusal has the shape of one and, unless out of memory, is right for the bytes that a device had left, where they
 -- are known
 abbrev pub IsRightRefusal : Option Bytes → Refusal → Type 0
 IsRightRefusal left e = HasShape e × (e.number ≢ numbers.Memory → IfSome left (λ bytes. ProgramRefused bytes e))

@@ -36,6 +36,6 @@ FirstFails p numbers.Recursion = Counted p × Named p × (Loopless p → ⊥)
 FirstFails p numbers.Type = Counted p × Named p × Loopless p × Bounded p × (IsTyped p → ⊥)
 FirstFails p n = ⊥
 
--- a refusal by this number, which comes only where the fact fails; want of memory may come anywhere
+-- a refusal by this number, which comes only where the fact fails; out of memory may come anywhere
 abbrev pub RefusesFor : RefusalNumber → Type 0 → Refusal → Type 0
 RefusesFor number fact e = e.number ≢ numbers.Memory → (fact → ⊥) × (e.number ≡ number)

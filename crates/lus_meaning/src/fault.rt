@@ -1,4 +1,4 @@
-//! What stops a pass: want of memory, or a place at which its rule is broken.
+//! What stops a pass: out of memory, or a place at which its rule is broken.
 
 ghost use Rattle.std.specs.Prelude.{◌≡◌};
 ghost use Rattle.lus_meaning.specs.declared.fault.Fault.TheVariants.{Memory as OfMemory};

@@ -37,7 +37,7 @@ pub trait Reacts {
     // It is of this node of this program, and keeps to it.
     ghost is_of: { Self → Program → ℕ → Type 0 };
 
-    /// Answers a request, or leaves all as it was for want of memory.
+    /// Answers a request, or leaves all as it was when out of memory.
     fn call(&mut self, request: &Request) -> Result<Reply, Memory>
         ensures ok { IfOk result (λ a. history self.new ≡ history self.old ++ entry_of request.now a ∷ []) }
         ensures err { OnErr result (history self.new ≡ history self.old) }

@@ -40,7 +40,7 @@ meaning_of refusals.Form = codes "not the form of scripts"
 meaning_of refusals.Unknown = codes "an unknown name"
 meaning_of refusals.Double = codes "a doubled name"
 meaning_of refusals.Limit = codes "a limit is passed"
-meaning_of refusals.Memory = codes "want of memory"
+meaning_of refusals.Memory = codes "out of memory"
 
 -- what is wanted there, where a place was found
 abbrev pub wanted_text : Option Text → Text

@@ -22,7 +22,7 @@ AreLost read_fails known program (Some scripts) = IsLost read_fails (known progr
 abbrev pub with_status : ℕ → Text → Said
 with_status status text = record { text = text; status = status }
 
--- the verdict is written, and its status is that of the command; where a file is lost or memory is wanting, nothing is
+-- the verdict is written, and its status is that of the command; where a file is lost, or when out of memory, nothing is
 abbrev pub TaskEnds : (Known → Type 0) → (Text → Known) → Asked → Result ℕ Fault → Change → Type 0
 TaskEnds read_fails known asked =
     SaysEnds (λ status text. IsSaidOf known asked.program asked.scripts (with_status status text))

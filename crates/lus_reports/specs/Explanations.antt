@@ -11,7 +11,7 @@ use Rattle.lus_cli.specs.MachineSpecs.Acceptance.{RefusedWith}
 use Rattle.lus_cli.specs.HostSpecs.Sources.{IsNoText}
 use Rattle.lus_reports.specs.Lines.{blanks, line_at}
 
--- the bytes are no text, which has no lines to show, or a text whose refusal, but for want of memory, is its own, and the line
+-- the bytes are no text, which has no lines to show, or a text whose refusal, unless out of memory, is its own, and the line
 -- is that of the refusal
 pub data IsExplained (bytes : Text) (r : Refusal) : Option Text → Type 0 where
   is_no_text : IsNoText bytes r → IsExplained bytes r None

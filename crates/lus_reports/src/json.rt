@@ -6,7 +6,7 @@ use serde_json::Value;
 use std::alloc::Global;
 use std::str;
 
-/// Whether JSON may begin with these bytes: they are JSON, or the front of one. Nothing for want of memory.
+/// Whether JSON may begin with these bytes: they are JSON, or the front of one. Nothing when out of memory.
 fn may_begin(alloc: Global, bytes: &[u8]) -> Option<bool> {
     match Value::from_slice(alloc, bytes) {
         Ok(_) => Some(true),
@@ -15,7 +15,7 @@ fn may_begin(alloc: Global, bytes: &[u8]) -> Option<bool> {
     }
 }
 
-/// How many of these bytes JSON may begin with. Nothing for want of memory.
+/// How many of these bytes JSON may begin with. Nothing when out of memory.
 fn longest_front(alloc: Global, bytes: &[u8]) -> Option<usize>
     ensures { IfSome result (λ n. n ≤ length bytes.now) }
 {
@@ -59,7 +59,7 @@ fn offset_of(bytes: &[u8], line: usize, column: usize) -> usize {
 }
 
 /// How many bytes stand before the first that no JSON goes on with, where their reader stopped at this line and column, or before
-/// the string that is wrong as a whole, as half of a pair of codes is. Nothing for want of memory.
+/// the string that is wrong as a whole, as half of a pair of codes is. Nothing when out of memory.
 pub(crate) fn fault_at(alloc: Global, bytes: &[u8], line: usize, column: usize) -> Option<usize>
     ensures { IfSome result (λ n. n ≤ length bytes.now) }
 {

@@ -96,7 +96,7 @@ fn meaning_of(refusal: ScriptRefusal) -> &'static str
         ScriptRefusal::Unknown => "an unknown name",
         ScriptRefusal::Double => "a doubled name",
         ScriptRefusal::Limit => "a limit is passed",
-        ScriptRefusal::Memory => "want of memory",
+        ScriptRefusal::Memory => "out of memory",
     }
 }
 

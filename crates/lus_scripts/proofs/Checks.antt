@@ -51,7 +51,7 @@ module _ (p : Program) (names : Names) (f : Form) where
       → with_table p names f ≡ Ok (record { instances = instances; callers = caller_names f; calls = calls })
   all_read instances calls all known read = rw (all, known, read) refl
 
--- a refusal by one check is that of the whole, or want of memory
+-- a refusal by one check is that of the whole, or out of memory
 pub refused_by : {A : Type 0} (whole : Result A ScriptRefusal) (by e : ScriptRefusal) → (e ≡ by) ⊎ (e ≡ refusal.Memory) → (e ≡ by → whole ≡ Err by)
     → (e ≡ refusal.Memory) ⊎ (whole ≡ Err e)
 refused_by whole by e (inl same) is = inr (is same ∙ ap (λ r. Err r) (sym same))

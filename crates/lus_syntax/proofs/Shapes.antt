@@ -8,7 +8,7 @@ use Rattle.lus_syntax.specs.Refusals.{HasShape, out_of_memory}
 pub shaped_at : (r : Refusal) → r.number ≢ numbers.Memory → r.cycle ≡ [] → HasShape r
 shaped_at r other cycle = record { cycle = λ _. cycle; memory = λ memory. absurd (other memory) }
 
--- want of memory
+-- out of memory
 pub shaped_nowhere : (r : Refusal) → r.line ≡ 0 → r.column ≡ 0 → r.cycle ≡ [] → HasShape r
 shaped_nowhere r line column cycle = record { cycle = λ _. cycle; memory = λ _. (line, column) }
 

@@ -6,12 +6,12 @@ use Rattle.lus_syntax.specs.declared.refusal.RefusalNumber.{RefusalNumber}
 use Rattle.lus_syntax.specs.declared.refusal.RefusalNumber.TheVariants as numbers
 use Rattle.lus_syntax.specs.declared.refusal.Refusal.{Refusal}
 
--- only a causal cycle names variables, and want of memory has no place
+-- only a causal cycle names variables, and out of memory has no place
 pub record HasShape (r : Refusal) : Type 0 where
   pub cycle : r.number ≢ numbers.Cycle → r.cycle ≡ []
   pub memory : r.number ≡ numbers.Memory → (r.line ≡ 0) × (r.column ≡ 0)
 
--- the refusal for want of memory
+-- the refusal that says out of memory
 abbrev pub out_of_memory : Refusal
 out_of_memory = record { number = numbers.Memory; line = 0; column = 0; cycle = [] }
 
@@ -43,6 +43,6 @@ place_text numbers.Memory line column cycle = number_text numbers.Memory
 place_text number line column cycle =
     number_text number ++ codes " line " ++ decimal line ++ codes " column " ++ decimal column ++ cycle_behind cycle
 
--- the number, the place and the cycle; want of memory has no place
+-- the number, the place and the cycle; out of memory has no place
 abbrev pub refusal_text : Refusal → List ℕ
 refusal_text r = place_text r.number r.line r.column r.cycle

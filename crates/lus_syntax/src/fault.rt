@@ -11,7 +11,7 @@ use std::alloc::{AllocError, AllocFailed};
 /// Why a text has no tokens.
 #[derive(Drop)]
 pub(crate) enum LexError {
-    /// Want of memory.
+    /// Out of memory.
     Memory,
     /// What is wrong, and where.
     Fault(RefusalNumber, Place),

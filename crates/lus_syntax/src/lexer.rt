@@ -116,7 +116,7 @@ pub fn lex(alloc: Global, text: &str) -> Result<Vec<Token<'_>>, Refusal>
     // A text with a fault is refused with it, unless memory runs out.
     ensures refused { (number : RefusalNumber) (place : Place) → Faulty text.now number place
         → MatchResult result (λ _. ⊥) (λ e. e.number ≢ RefusalNumber.Memory → IsAt e number place) }
-    // Want of memory has no place, and no refusal has a cycle.
+    // Out of memory has no place, and no refusal has a cycle.
     ensures shaped { IfErr result HasShape }
     ensures cycle { IfErr result (λ e. e.cycle ≡ []) }
 

@@ -32,7 +32,7 @@ pub enum RefusalNumber {
     Recursion,
     /// A limit is passed.
     Limit,
-    /// Want of memory.
+    /// Out of memory.
     Memory,
 }
 
@@ -124,7 +124,7 @@ impl fmt::Display for Cycle {
     }
 }
 
-/// A refusal of a source. Lines and columns count from 1, columns in characters; want of memory has no position, and its
+/// A refusal of a source. Lines and columns count from 1, columns in characters; out of memory has no position, and its
 /// line and column are 0.
 #[derive(Debug, Drop)]
 pub struct Refusal {
@@ -165,7 +165,7 @@ impl Refusal {
         }
     }
 
-    /// Want of memory, which has no position.
+    /// Out of memory, which has no position.
     pub fn memory() -> Refusal
         ensures number { result.number ≡ RefusalNumber.Memory }
         ensures line { result.line ≡ 0 }
@@ -176,7 +176,7 @@ impl Refusal {
     }
 }
 
-/// Writes `E2 line 2 column 12`, `E7 line 1 column 50 cycle a b`, and for want of memory `E11` alone.
+/// Writes `E2 line 2 column 12`, `E7 line 1 column 50 cycle a b`, and out of memory `E11` alone.
 impl fmt::Display for Refusal {
     ghost output = { λ refusal. Some (refusal_text refusal) };
 

@@ -12,7 +12,7 @@ pub struct Clash {
     pub finding: Finding,
 }
 
-/// Why an expression has no type: a fault, or want of memory.
+/// Why an expression has no type: a fault, or out of memory.
 #[derive(Drop)]
 pub enum Stop {
     Memory,

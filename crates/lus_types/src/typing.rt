@@ -23,7 +23,7 @@ use std::alloc::Global;
 
 /// Checks a source against the limits of its declarations, then its names, recursion, the limits of sizes, types, and the
 /// limit of parts, each over the whole source; gives the program that it means. Refuses by the number of the
-/// first of these that fails (E10, E4, E9, E10, E5, E10) at a place of a fault of it, or for want of memory (E11).
+/// first of these that fails (E10, E4, E9, E10, E5, E10) at a place of a fault of it, or out of memory (E11).
 pub fn check_types(alloc: Global, tree: Tree) -> Result<Typed, Refusal>
     ensures ok { OnOk result (WellFormed (tree_seen tree)) }
     ensures means { IfOk result (λ typed. program_seen typed ≡ program_of (tree_seen tree)) }

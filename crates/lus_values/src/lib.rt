@@ -1,4 +1,4 @@
-//! Values of streams, what operators give, and want of memory.
+//! Values of streams, what operators give, and out of memory.
 #![tactic(auto)]
 
 mod application;

@@ -1,4 +1,4 @@
--- A refusal by a pass is one of the bytes, or want of memory.
+-- A refusal by a pass is one of the bytes, or out of memory.
 use Rattle.std.proofs.Common.{refl, subst}
 use Rattle.lus_cli.specs.MachineSpecs.Acceptance.{RefusedWith}
 use Rattle.lus_cli.specs.HostSpecs.Sources.{is_refused}
