@@ -3,7 +3,7 @@ ghost use Rattle.std.specs.Prelude.{◌≡◌, IfOk, IfSome};
 
 use crate::machines::a_machine;
 use crate::requests::{again, gives, step};
-use lus_host::{CallError, Reply, Request, Seat, SeatNode, TryError};
+use lus_host::{CallError, Reply, Request, Seat, SeatNode, Strangers, TryError};
 use lus_values::Memory;
 use std::alloc::Global;
 use std::sync::Wait;
@@ -104,7 +104,10 @@ fn is_played<R: Wait>(rt: &R, alloc: Global) -> Result<bool, Memory> {
     seats.push_reserved(second);
     match node.close(seats) {
         Ok(journal) => Ok(one && two && journal.entries.len() == 2),
-        Err(_) => Ok(false),
+        Err(strangers) => {
+            let Strangers { node: _, seats: _ } = strangers;
+            Ok(false)
+        }
     }
 }
 
