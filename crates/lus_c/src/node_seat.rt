@@ -150,9 +150,9 @@ impl Model for HeldSeat {
 
     ghost coded = { Prim.hlevel (codes, coded_row, coded_expression) };
 
-    ghost view = { λ h. record { id = (arc_value h.node).id; standing = h.held } };
+    ghost view = { λ h. record { id = (arc_value h.node).id; standing = h.held.standing } };
 
-    ghost invariant = { λ h. h.held.instance ≡ (arc_value h.node).node };
+    ghost invariant = { λ h. h.held.standing.instance ≡ (arc_value h.node).node };
 }
 
 impl HeldSeat {

@@ -16,6 +16,8 @@ const REFUSED: u64 = 2;
 
 const FREE: u64 = 3;
 
+const BEGUN: u64 = 2;
+
 // How far both threads are, and whether one waited in vain.
 #[derive(Drop)]
 struct Signs {
@@ -105,15 +107,83 @@ fn meets<R: Threads + Wait + Sync>(
     refused && !signs.is_late()
 }
 
+// Has the machine until the other seat's call begins, and some turns more.
+fn holds_on(node: &SeatNode, seat: Seat, signs: &Signs)
+    requires { seat.instance ≡ node.now }
+{
+    if let Ok(held) = node.hold(seat) {
+        signs.give(TAKEN);
+        signs.wait_for(BEGUN);
+        for _ in 0..1_000u32 {
+            thread::yield_now();
+        }
+        node.release(held);
+    }
+}
+
+// Whether a call that begins while the machine is taken is answered.
+fn is_answered<R: Wait>(
+    rt: &R,
+    node: &SeatNode,
+    mut seat: Seat,
+    request: &Request,
+    signs: &Signs,
+) -> bool
+    requires { seat.instance ≡ node.now }
+{
+    signs.wait_for(TAKEN);
+    signs.give(BEGUN);
+    match node.call(rt, &mut seat, request) {
+        Ok(reply) => counts(&reply, 0),
+        Err(_) => false,
+    }
+}
+
+// Both at once; whether the call waited for its reply.
+fn waits<R: Threads + Wait + Sync>(
+    rt: &R,
+    node: &SeatNode,
+    first: Seat,
+    second: Seat,
+    request: &Request,
+    signs: &Signs,
+) -> bool
+    requires first { first.instance ≡ node.now }
+    requires second { second.instance ≡ node.now }
+{
+    let (_, answered) = join(
+        rt,
+        || -> ()
+            requires { first.instance ≡ node.now }
+        { holds_on(node, first, signs) },
+        || -> bool
+            requires { second.instance ≡ node.now }
+        { is_answered(rt, node, second, request, signs) },
+    );
+    answered && !signs.is_late()
+}
+
+fn no_signs() -> Signs {
+    Signs {
+        reached: AtomicU64::new(0),
+        late: AtomicU64::new(0),
+    }
+}
+
+#[test]
+fn calls_wait_while_held(rt: HostRuntime) -> Result<(), Fail> {
+    let alloc = rt.alloc();
+    let (node, first, second) = a_counter(alloc)?;
+    let step = a_step(alloc);
+    assert!(&rt; waits(&rt, &node, first, second, &step, &no_signs()));
+    Ok(())
+}
+
 #[test]
 fn calls_are_refused_while_held(rt: HostRuntime) -> Result<(), Fail> {
     let alloc = rt.alloc();
     let (node, first, second) = a_counter(alloc)?;
     let step = a_step(alloc);
-    let signs = Signs {
-        reached: AtomicU64::new(0),
-        late: AtomicU64::new(0),
-    };
-    assert!(&rt; meets(&rt, &node, first, second, &step, &signs));
+    assert!(&rt; meets(&rt, &node, first, second, &step, &no_signs()));
     Ok(())
 }

@@ -1,6 +1,6 @@
 //! Files, read whole or up to a limit.
 
-ghost use Rattle.std.specs.Prelude.{◌≡◌, IfErr, IfOk, take};
+ghost use Rattle.std.specs.Prelude.{◌≡◌, Err, IfErr, IfOk, None, Some, take};
 ghost use Rattle.lus_devices.specs.Folders.{WithFile};
 ghost use Rattle.lus_cli.specs.Ends.{IsLost, IsReadingFault, ReadFails};
 
@@ -18,6 +18,7 @@ pub fn read_file<D: Folder>(
     ensures bytes { IfOk result (λ v. WithFile (D.known folder.now name.now) (λ bs. v.items ≡ take most bs)) }
     ensures fault { IfErr result (λ f. IsReadingFault
         (IsLost (ReadFails D.File D.File.left D.File.failures) (D.known folder.now name.now)) f) }
+    ensures missing { D.known folder.now name.now ≡ Some None → result ≡ Err Fault.File }
 {
     let Ok(mut file) = folder.open(name) else {
         return Err(Fault::File);

@@ -1,6 +1,6 @@
 //! The command line over a folder.
 
-ghost use Rattle.std.specs.Prelude.{◌≡◌, ◌⊎◌, map, string_bytes};
+ghost use Rattle.std.specs.Prelude.{◌≡◌, ◌⊎◌, Err, None, Some, map, string_bytes};
 ghost use Rattle.lus_cli.specs.Changes.{Writes, change};
 ghost use Rattle.lus_cli.specs.CommandLine.{asked};
 ghost use Rattle.lus_cli.specs.Ends.{AskedEnds, CheckEnds, Ends, ReadFails, RunEnds, TaskEnds};
@@ -38,8 +38,9 @@ fn check_file<D: Folder, O: Sink>(
     program: &str,
     output: &mut O,
 ) -> Result<(), Fault>
-    ensures { CheckEnds (ReadFails D.File D.File.left D.File.failures) (D.known folder.now program.now) result
+    ensures ends { CheckEnds (ReadFails D.File D.File.left D.File.failures) (D.known folder.now program.now) result
         (change (O.written output.old) (O.written output.new) (O.failures output.old) (O.failures output.new)) }
+    ensures missing { D.known folder.now program.now ≡ Some None → result ≡ Err Fault.File }
 {
     let Ok(mut program) = folder.open(program) else {
         return Err(Fault::File);
@@ -67,9 +68,10 @@ fn run_files<D: Folder, O: Sink, R: AllocGlobal + Threads + Wait + Sync>(
     scripts: &str,
     output: &mut O,
 ) -> Result<(), Fault>
-    ensures { RunEnds (ReadFails D.File D.File.left D.File.failures)
+    ensures ends { RunEnds (ReadFails D.File D.File.left D.File.failures)
         (D.known folder.now program.now) (D.known folder.now scripts.now) result
         (change (O.written output.old) (O.written output.new) (O.failures output.old) (O.failures output.new)) }
+    ensures missing { (D.known folder.now program.now ≡ Some None) ⊎ (D.known folder.now scripts.now ≡ Some None) → result ≡ Err Fault.File }
 {
     let Ok(mut program) = folder.open(program) else {
         return Err(Fault::File);

@@ -1,11 +1,11 @@
 -- Small histories, worked by computation: which replies are right, and of each refusal a reply in its place that is wrong.
-use Rattle.std.proofs.Common.{take, drop, is_some, Some, None, ◌≡◌, ℕ, true, false, pos, List, [], ◌∷◌, refl, sym, ap, ◌∙◌, rules, true≢false, suc-ne-zero, length, subst, arith}
+use Rattle.std.proofs.Common.{take, drop, is_some, Option, Some, None, ◌≡◌, ℕ, true, false, pos, List, [], ◌∷◌, refl, sym, ap, ◌∙◌, rules, true≢false, suc-ne-zero, length, subst, arith}
 use Rattle.lus_values.specs.declared.operator.Op.TheVariants.{Divide}
 use Rattle.lus_values.specs.declared.operator.Operator.TheVariants.{Compute}
 use Rattle.lus_values.specs.Lists.{item}
 use Rattle.lus_values.specs.Operators.{apply}
-use Rattle.lus_values.specs.Values.{Row}
-use Rattle.lus_program.specs.Programs.{arrow, operate, pre, variable, Program}
+use Rattle.lus_values.specs.Values.{Value, enum, Row}
+use Rattle.lus_program.specs.Programs.{arrow, enumeration, merge, operate, pre, variable, Program}
 use Rattle.lus_requests.specs.declared.request.Request.{Request}
 use Rattle.lus_requests.specs.declared.request.Request.TheVariants.{Step, Reset, Save, Restore, Burst}
 use Rattle.lus_requests.specs.declared.request.Reply.{Reply}
@@ -13,7 +13,7 @@ use Rattle.lus_requests.specs.declared.request.Reply.TheVariants.{Outputs, Rows,
 use Rattle.lus_requests.specs.declared.request.Why.TheVariants.{Shape, Presence, Fault, NoSave}
 use Rattle.lus_requests.specs.declared.request.Entry.{Entry}
 use Rattle.lus_streams.specs.Streams.{instant, World, Streams, with_operand, with_operands, value}
-use Rattle.lus_program.specs.declared.types.Kind.TheVariants.{Bool as BoolKind}
+use Rattle.lus_program.specs.declared.types.Kind.TheVariants.{Bool as BoolKind, Enum as EnumKind}
 use Rattle.lus_program.specs.Programs.{Variable}
 use Rattle.lus_streams.proofs.Examples.{at_base, plain, tested, node, equation, program, two, number, some, truth, summed, summed_at, divided_by_past, divided_by_past_at, nil_divides_without_fault}
 use Rattle.lus_streams.proofs.Lists.{item_take}
@@ -72,6 +72,50 @@ saves_are_restored =
 restored_lineage : lineage saving ≡ (some 2 ∷ []) ∷ (some 1 ∷ []) ∷ []
 restored_lineage = refl
 
+-- step 1, save 0, step 2, save 1, restore 0, step 10, reset, step 5, restore 1, step 4
+abbrev saving_twice : List Entry
+saving_twice =
+    entry (step 1) (gives 1) ∷ entry (Save 0) Done ∷ entry (step 2) (gives 3) ∷ entry (Save 1) Done ∷ entry (Restore 0) Done
+    ∷ entry (step 10) (gives 11) ∷ entry Reset Done ∷ entry (step 5) (gives 5) ∷ entry (Restore 1) Done ∷ entry (step 4) (gives 7) ∷ []
+
+sum_of_one_and_two : Gives sums 0 ((some 2 ∷ []) ∷ (some 1 ∷ []) ∷ []) (some 3 ∷ [])
+sum_of_one_and_two = sum_after_restore
+
+sum_of_eleven : Gives sums 0 ((some 10 ∷ []) ∷ (some 1 ∷ []) ∷ []) (some 11 ∷ [])
+sum_of_eleven = record { world = summed_at (pos 10) (pos 11) ∷ summed_at (pos 1) (pos 1) ∷ []; streams = search rules; last = refl }
+
+sum_after_reset : Gives sums 0 ((some 5 ∷ []) ∷ []) (some 5 ∷ [])
+sum_after_reset = record { world = summed_at (pos 5) (pos 5) ∷ []; streams = search rules; last = refl }
+
+sum_of_three : Gives sums 0 ((some 4 ∷ []) ∷ (some 2 ∷ []) ∷ (some 1 ∷ []) ∷ []) (some 7 ∷ [])
+sum_of_three = record { world = summed_at (pos 4) (pos 7) ∷ summed_at (pos 2) (pos 3) ∷ summed_at (pos 1) (pos 1) ∷ []; streams = search rules; last = refl }
+
+slots_are_kept : History sums 0 saving_twice
+slots_are_kept =
+    more (take 9 saving_twice) (entry (step 4) (gives 7))
+    (more (take 8 saving_twice) (entry (Restore 1) Done)
+    (more (take 7 saving_twice) (entry (step 5) (gives 5))
+    (more (take 6 saving_twice) (entry Reset Done)
+    (more (take 5 saving_twice) (entry (step 10) (gives 11))
+    (more (take 4 saving_twice) (entry (Restore 0) Done)
+    (more (take 3 saving_twice) (entry (Save 1) Done)
+    (more (take 2 saving_twice) (entry (step 2) (gives 3))
+    (more (take 1 saving_twice) (entry (Save 0) Done)
+    (more [] (entry (step 1) (gives 1)) empty (answered refl refl (some 1 ∷ []) first_sum))
+    refl)
+    (answered refl refl (some 3 ∷ []) sum_of_one_and_two))
+    refl)
+    refl)
+    (answered refl refl (some 11 ∷ []) sum_of_eleven))
+    refl)
+    (answered refl refl (some 5 ∷ []) sum_after_reset))
+    refl)
+    (answered refl refl (some 7 ∷ []) sum_of_three)
+
+-- neither the reset nor the other slot's restore changed slot 1
+second_slot : lineage (take 9 saving_twice) ≡ (some 2 ∷ []) ∷ (some 1 ∷ []) ∷ []
+second_slot = refl
+
 -- a slot that nothing was saved in doesn't reset
 empty_slot_resets : Right sums 0 (take 5 saving) (Restore 3) Done → ⊥
 empty_slot_resets h = cc
@@ -120,6 +164,42 @@ present_where_the_clock_is_not _ (misshapen shape) = absurd (true≢false shape)
 present_where_the_clock_is_not _ (misplaced shape presence) = refl
 present_where_the_clock_is_not _ (answered shape presence o g) = absurd (true≢false (sym presence))
 present_where_the_clock_is_not _ (faulted shape presence n) = absurd (true≢false (sym presence))
+
+-- ---- y = merge k (A -> a) (B -> b): an instant that is refused is in no lineage
+
+-- type e = enum { A, B }
+abbrev choices : Program
+choices = record {
+  types = enumeration ([] ∷ [] ∷ []) ∷ [];
+  nodes = node 3 1 (record { name = []; kind = EnumKind 0; test = None } ∷ tested 0 0 ∷ tested 0 1 ∷ plain ∷ []) (equation 3 (merge 0 (two (variable 1) (variable 2))) ∷ []) ∷ [];
+}
+
+abbrev chosen : ℕ → Option Value → Option Value → Row
+chosen k a b = Some (enum 0 k) ∷ a ∷ b ∷ []
+
+-- step A 1 -, step B 1 2, step B - 2
+abbrev choosing : List Entry
+choosing =
+    entry (Step (chosen 0 (some 1) None)) (gives 1) ∷ entry (Step (chosen 1 (some 1) (some 2))) (Refused Presence)
+    ∷ entry (Step (chosen 1 None (some 2))) (gives 2) ∷ []
+
+first_choice : Gives choices 0 (chosen 0 (some 1) None ∷ []) (some 1 ∷ [])
+first_choice = record { world = at_base (Some (enum 0 0) ∷ some 1 ∷ None ∷ some 1 ∷ []) ∷ []; streams = search rules; last = refl }
+
+second_choice : Gives choices 0 (chosen 1 None (some 2) ∷ chosen 0 (some 1) None ∷ []) (some 2 ∷ [])
+second_choice = record {
+  world = at_base (Some (enum 0 1) ∷ None ∷ some 2 ∷ some 2 ∷ []) ∷ at_base (Some (enum 0 0) ∷ some 1 ∷ None ∷ some 1 ∷ []) ∷ [];
+  streams = search rules;
+  last = refl;
+}
+
+choices_are_present : History choices 0 choosing
+choices_are_present =
+    more (take 2 choosing) (entry (Step (chosen 1 None (some 2))) (gives 2))
+    (more (take 1 choosing) (entry (Step (chosen 1 (some 1) (some 2))) (Refused Presence))
+    (more [] (entry (Step (chosen 0 (some 1) None)) (gives 1)) empty (answered refl refl (some 1 ∷ []) first_choice))
+    (misplaced refl refl))
+    (answered refl refl (some 2 ∷ []) second_choice)
 
 -- ---- y = 1 -> 10 div pre x: a refused instant isn't remembered
 

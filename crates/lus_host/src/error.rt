@@ -21,7 +21,7 @@ pub enum RunError {
     #[error("a write failed")]
     Write,
     /// The callers were not run to their ends.
-    #[error("callers were not run: {0:?}")]
+    #[error("callers were not run: {0}")]
     Host(HostError),
     #[error("out of memory")]
     Memory,

@@ -1,6 +1,6 @@
 //! Machines.
 
-ghost use Rattle.std.specs.Prelude.{◌≡◌, ◌<◌, ◌++◌, ◌∷◌, [], length, IfOk, IfErr};
+ghost use Rattle.std.specs.Prelude.{◌≡◌, ◌<◌, ◌++◌, ◌∷◌, [], length, Err, IfOk, IfErr};
 ghost use Rattle.std.specs.Arc.{arc_value};
 ghost use Rattle.lus_eval.specs.CodeSpecs.Codes.{program_of};
 ghost use Rattle.lus_machine.specs.Machines.{IsLegal, entry, full};
@@ -58,6 +58,7 @@ impl Machine {
     pub fn call(&mut self, caller: u32, request: &Request) -> Result<Reply, CallError>
         ensures ok { IfOk result (λ a. self.new ≡ record self.old { history = self.old.history ++ entry caller request.now a ∷ [] }) }
         ensures err { IfErr result (λ e. self.new ≡ self.old) }
+        ensures at_limit { length self.old.history ≡ full → result ≡ Err CallError.Full }
         ensures only_full { IfErr result (λ e. e ≡ CallError.Full → length self.old.history ≡ full) }
         ensures legal { IsLegal self.new }
     {

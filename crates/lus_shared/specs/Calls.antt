@@ -18,7 +18,7 @@ pub record Called (f : Facts) (m : Sat) (request : Request) (reply : Reply) : Ty
   pub short : length before < full
 
 abbrev pub Counts : TryError → ℕ → Type 0
-Counts Memory n = Unit {0}
+Counts Memory n = n < full
 Counts Full n = n ≡ full
 Counts (IsBusy b) n = b.0 ≡ n
 

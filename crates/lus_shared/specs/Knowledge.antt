@@ -61,3 +61,8 @@ pub record Standing : Type 0 where
   pub number : ℕ
   pub seen : List Entry
   pub mine : List Call
+
+-- what a contract sees of a seat that has the machine to itself: it is the taker
+pub record Holding : Type 0 where
+  pub standing : Standing
+  pub taker : Bool

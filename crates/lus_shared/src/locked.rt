@@ -7,7 +7,7 @@ ghost use Rattle.lus_shared.specs.Trait.{EachOnce, Gathered, untold};
 
 use crate::shared::{Journal, Shared, Strangers};
 use lus_machine::{CallError, Machine};
-use lus_requests::{Reply, Request};
+use lus_requests::{Entry, Reply, Request};
 use lus_values::Memory;
 use std::alloc::Global;
 use std::marker::Model;
@@ -70,10 +70,27 @@ fn shares(seats: &[LockedSeat]) -> u64
     sum
 }
 
-// Whether these are all seats of a node with so many entries.
-fn are_all(seats: &[LockedSeat], callers: u32, entries: usize) -> bool
+fn count_entries(entries: &[Entry], number: u32) -> usize
+    ensures { result ≡ count_by (λ e. e.caller == number) entries.now }
+{
+    entries
+        .iter()
+        .filter(|entry| entry.caller == number)
+        .count()
+}
+
+// Whether each seat made as many calls as there are entries of its number.
+fn have_entries(seats: &[LockedSeat], entries: &[Entry]) -> bool
+    ensures { IsTrue result → All (λ s. count_by (λ e. e.caller == s.number) entries.now ≡ s.share) seats.now }
+{
+    seats.iter().all(|seat| count_entries(entries, seat.number) == seat.share as usize)
+}
+
+// Whether these are all seats of a node, and made its entries.
+fn are_all(seats: &[LockedSeat], callers: u32, entries: &[Entry]) -> bool
     ensures all { IsTrue result → EachOnce (λ s. s.number) callers seats.now }
-    ensures counted { IsTrue result → sum_by (λ s. s.share) seats.now ≡ entries }
+    ensures counted { IsTrue result → sum_by (λ s. s.share) seats.now ≡ length entries.now }
+    ensures own { IsTrue result → All (λ s. count_by (λ e. e.caller == s.number) entries.now ≡ s.share) seats.now }
 {
     if !has_all(seats, callers) {
         return false;
@@ -84,7 +101,10 @@ fn are_all(seats: &[LockedSeat], callers: u32, entries: usize) -> bool
     if seats.len() >= 0x1_0000_0000 {
         return false;
     }
-    shares(seats) == entries as u64
+    if shares(seats) != entries.len() as u64 {
+        return false;
+    }
+    have_entries(seats, entries)
 }
 
 impl Shared for LockedNode {
@@ -143,7 +163,7 @@ impl Shared for LockedNode {
     {
         let LockedNode { machine, callers } = self;
         let machine = machine.into_inner();
-        if !are_all(seats.as_slice(), callers, machine.history().len()) {
+        if !are_all(seats.as_slice(), callers, machine.history()) {
             let machine = Mutex::new(machine);
             return Err(Strangers {
                 node: LockedNode { machine, callers },

@@ -1,5 +1,5 @@
 //! Seats at a table with one machine.
-ghost use Rattle.std.specs.Prelude.{◌≡◌, ◌==◌, ◌<◌, ℕ, [], length, map, IfOk, IfErr};
+ghost use Rattle.std.specs.Prelude.{◌≡◌, ◌==◌, ◌<◌, ℕ, [], true, length, map, IfOk, IfErr};
 ghost use Rattle.lus_shared.specs.Views.{Sees, Adds, fresh_seats};
 ghost use Rattle.lus_shared.specs.Knowledge.{origin_with};
 ghost use Rattle.lus_shared.specs.Told.{seat_at};
@@ -188,17 +188,17 @@ pub struct Held {
 }
 
 impl Model for Held {
-    ghost use Rattle.lus_shared.specs.Knowledge.{Standing};
+    ghost use Rattle.lus_shared.specs.Knowledge.{Holding};
     ghost use Rattle.lus_shared.specs.Views.{standing_of, facts_of, IsTaker};
     ghost use Rattle.std.specs.Coded.{codes};
     ghost use Rattle.lus_values.specs.Coded.{coded_row};
     ghost use Rattle.lus_machine.specs.HistorySpecs.CodedPrograms.{coded_expression};
 
-    ghost Value = { Standing };
+    ghost Value = { Holding };
 
     ghost coded = { Prim.hlevel (codes, coded_row, coded_expression) };
 
-    ghost view = { λ h. standing_of h.place.table_id (facts_of h.place.me.0.seats) };
+    ghost view = { λ h. record { standing = standing_of h.place.table_id (facts_of h.place.me.0.seats); taker = h.place.me.0.taker } };
 
     ghost invariant = { λ h. IsTaker h.place.table_id h.place.me h.number h.share h.found };
 }
@@ -215,10 +215,11 @@ impl SeatNode {
         Ok(reply)
     }
 
-    /// Takes the machine, where it is free, and makes no entry.
+    /// Takes the machine, where it is free, and makes no entry. Nobody else makes one until it is given back (`takers_are_alone`).
     pub fn hold(&self, seat: Seat) -> Result<Held, (Seat, Busy)>
         requires { seat.instance ≡ self.now }
-        ensures ok { IfOk result (λ h. Sees seat h (length h.seen)) }
+        ensures ok { IfOk result (λ h. Sees seat h.standing (length h.standing.seen)) }
+        ensures taker { IfOk result (λ h. h.taker ≡ true) }
         ensures err { IfErr result (λ e. Sees seat e.0 (length e.0.seen) × (e.1.0 ≡ length e.0.seen)) }
     {
         let Seat {
@@ -246,8 +247,8 @@ impl SeatNode {
 
     /// Gives the machine back as it was.
     pub fn release(&self, held: Held) -> Seat
-        requires { held.instance ≡ self.now }
-        ensures { result ≡ held }
+        requires { held.standing.instance ≡ self.now }
+        ensures { result ≡ held.standing }
     {
         let Held {
             mut place,
@@ -275,7 +276,7 @@ impl SeatNode {
         requires { seat.old.instance ≡ self.now }
         ensures ok { IfOk result (λ a. Adds seat.old seat.new request.now a) }
         ensures err { let seen = length seat.new.seen in
-            IfErr result (λ e. Sees seat.old seat.new seen × (e ≡ CallError.Full → seen ≡ full)) }
+            IfErr result (λ e. Sees seat.old seat.new seen × (e ≡ CallError.Full → seen ≡ full) × (e ≡ CallError.Memory → seen < full)) }
     {
         for _ in rt.forever() {
             match self.try_call(seat, request) {

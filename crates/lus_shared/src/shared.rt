@@ -82,8 +82,8 @@ pub trait Shared {
         ensures sees { tells ≡ true → OnErr result (IsLater (standing seat.old) (standing seat.new)) }
         ensures full { tells ≡ true → IfErr result (λ e. e ≡ CallError.Full → length (standing seat.new).seen ≡ full) };
 
-    /// The entries, where the seats' numbers are those of the callers, each once, and their shares as many as the entries; else
-    /// the seats as they were given, and the node. Of a node whose calls don't tell, contracts see how many callers it has and
+    /// The entries, where the seats' numbers are those of the callers, each once, and each seat's share as many as the entries of
+    /// its number; else the seats as they were given, and the node. Of a node whose calls don't tell, contracts see how many callers it has and
     /// nothing else: that the node which comes back holds the machine that was given, with its entries, isn't promised.
     fn close(self, seats: Vec<Self::Seat>) -> Result<Journal, Strangers<Self>>
     where

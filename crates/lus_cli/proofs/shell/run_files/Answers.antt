@@ -6,8 +6,8 @@ use Rattle.lus_cli.specs.Ends.{ReadFails, RunEnds}
 use Rattle.lus_cli.proofs.EndLemmas.{run_ended}
 use Rattle.lus_cli.proofs.shell.run_files.Goals as goal
 
-pub returns : goal.returns
-returns g c =
+pub returns-clause-ends : goal.returns-clause-ends
+returns-clause-ends g c =
     let left = g.D.File.Source.left in
     let failures = g.D.File.Source.failures in
     let read_fails : Known → Type 0 = ReadFails g.row.D-File.Denot left failures in

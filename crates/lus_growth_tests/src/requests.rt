@@ -1,0 +1,69 @@
+//! What is asked of an instance, and what is replied.
+
+use lus_host::{NodeId, Reply, Request, Rows};
+use lus_values::{Memory, Row, Value};
+use std::alloc::Global;
+
+/// A node that sums its inputs.
+pub(crate) const SUMS: &str = "node s(x: int) returns (y: int); let y = x + (0 -> pre y); tel\n";
+
+/// Its place in the program.
+pub(crate) const SUM: NodeId = NodeId(0);
+
+/// Whether the first of two answers is right, or the first had no memory and the second is right.
+pub(crate) fn again(first: Result<bool, Memory>, second: Result<bool, Memory>) -> bool {
+    match first {
+        Ok(is_right) => is_right,
+        Err(Memory) => second.unwrap_or(false),
+    }
+}
+
+fn row(alloc: Global, number: i64) -> Result<Row, Memory> {
+    let mut items = Vec::new(alloc);
+    items.push(Some(Value::Int(number)))?;
+    Ok(Row::new(items))
+}
+
+/// The next instant, with this input.
+pub(crate) fn step(alloc: Global, input: i64) -> Result<Request, Memory> {
+    Ok(Request::Step(row(alloc, input)?))
+}
+
+/// Three instants, with these inputs.
+pub(crate) fn burst(alloc: Global, inputs: [i64; 3]) -> Result<Request, Memory> {
+    let [first, second, third] = inputs;
+    let mut rows = Vec::new(alloc);
+    rows.push(row(alloc, first)?)?;
+    rows.push(row(alloc, second)?)?;
+    rows.push(row(alloc, third)?)?;
+    Ok(Request::Burst(Rows::new(rows)))
+}
+
+fn is_number(row: &Row, number: i64) -> bool {
+    match row.items() {
+        [Some(Value::Int(found))] => *found == number,
+        _ => false,
+    }
+}
+
+/// Whether a reply is this output.
+pub(crate) fn gives(reply: &Reply, number: i64) -> bool {
+    match reply {
+        Reply::Outputs(row) => is_number(row, number),
+        _ => false,
+    }
+}
+
+/// Whether a reply is these outputs of three rows.
+pub(crate) fn gives_three(reply: &Reply, numbers: [i64; 3]) -> bool {
+    let [one, two, three] = numbers;
+    match reply {
+        Reply::Rows(rows) => match rows.items() {
+            [first, second, third] => {
+                is_number(first, one) && is_number(second, two) && is_number(third, three)
+            }
+            _ => false,
+        },
+        _ => false,
+    }
+}

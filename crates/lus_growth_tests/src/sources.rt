@@ -1,0 +1,87 @@
+//! Sources that are compiled and scripts that are read.
+
+use crate::requests::{SUMS, again};
+use lus_host::{Program, ScriptRefusal, compile, read_scripts};
+use lus_syntax::{Refusal, RefusalNumber};
+use lus_values::Memory;
+use std::alloc::Global;
+use std::test::Fail;
+
+const CHOICES: &str =
+    "type e = enum { A, B }; node g(k: e; a: int when A(k); b: int when B(k)) returns (y: int); let y = merge k (A -> a) (B -> b); tel\n";
+
+const ROUND: &str = "node q(x: int) returns (a: int); var b: int; let a = b; b = a; tel\n";
+
+/// What a text is compiled to.
+fn answer(alloc: Global, text: &str) -> Result<Result<Program, Refusal>, Memory> {
+    match compile(alloc, text) {
+        Ok(program) => Ok(Ok(program)),
+        Err(refusal) => {
+            if refusal.number == RefusalNumber::Memory {
+                Err(Memory)
+            } else {
+                Ok(Err(refusal))
+            }
+        }
+    }
+}
+
+fn is_accepted(alloc: Global, text: &str) -> Result<bool, Memory> {
+    match answer(alloc, text)? {
+        Ok(program) => Ok(program.nodes() == 1),
+        Err(_) => Ok(false),
+    }
+}
+
+/// Whether a text is refused for a cycle of two variables, which is named.
+fn is_round(alloc: Global, text: &str) -> Result<bool, Memory> {
+    match answer(alloc, text)? {
+        Ok(_) => Ok(false),
+        Err(refusal) => {
+            let place = (refusal.line, refusal.column) == (1, 50);
+            match refusal.cycle.names() {
+                [a, b] => Ok(place && a.as_str() == "a" && b.as_str() == "b"),
+                _ => Ok(false),
+            }
+        }
+    }
+}
+
+#[test]
+fn sources_are_compiled(rt: HostRuntime) -> Result<(), Fail> {
+    let alloc = rt.alloc();
+    assert!(&rt; again(is_accepted(alloc, CHOICES), is_accepted(alloc, CHOICES)));
+    assert!(&rt; again(is_round(alloc, ROUND), is_round(alloc, ROUND)));
+    Ok(())
+}
+
+/// Whether scripts of one caller are read.
+fn are_read(alloc: Global, program: &Program, bytes: &[u8]) -> Result<bool, Memory> {
+    let source = program.source();
+    if source.nodes.len() >= 0x1_0000_0000 {
+        return Ok(false);
+    }
+    match read_scripts(alloc, source, program.names(), bytes) {
+        Ok(scripts) => Ok(scripts.instances.len() == 1 && scripts.callers.len() == 1),
+        Err(ScriptRefusal::Memory) => Err(Memory),
+        Err(_) => Ok(false),
+    }
+}
+
+#[test]
+fn scripts_are_read(rt: HostRuntime) -> Result<(), Fail> {
+    let alloc = rt.alloc();
+    let scripts =
+        r#"{"instances":[{"name":"k","node":"s"}],"callers":[{"name":"a","calls":[{"on":"k","step":[1]},{"on":"k","save":0},{"on":"k","burst":[[2],[3]]}]}]}"#;
+    let bytes = scripts.as_bytes();
+    let Ok(program) = compile(alloc, SUMS) else {
+        return Ok(());
+    };
+    assert!(&rt;
+        again(
+            are_read(alloc, &program, bytes),
+            are_read(alloc, &program, bytes)
+        )
+    );
+    Ok(())
+}
