@@ -1,8 +1,9 @@
 //! What is said of a fault of clocks.
 
-use crate::clock::clocks_of;
+use crate::clock::{Clocks, clocks_of};
 use crate::declared::wrong_clock;
 use crate::placing::{Looking, Misplaced, in_equation};
+use crate::sampling::{faster, sampled};
 use lus_faults::{Finding, extent_of, slice_of};
 use lus_syntax::{Equation, Node, Refusal, Tree};
 use std::alloc::{AllocError, Global};
@@ -20,11 +21,12 @@ fn node_at(tree: &Tree, line: u32, column: u32) -> Option<&Node> {
 }
 
 /// What is said of an expression that is on another clock than its place.
-fn told(
+fn told<'t>(
     alloc: Global,
     source: &str,
+    clocks: &Clocks<'t>,
     equation: &Equation,
-    found: Misplaced<'_>,
+    found: Misplaced<'t>,
 ) -> Result<Finding, AllocError> {
     let span = extent_of(source, found.expr);
     let text = slice_of(source, span);
@@ -35,6 +37,10 @@ fn told(
     if let Some(left) = equation.left.first() {
         let name = left.text.as_str();
         finding.relate(left.span, format!(in alloc; "the equation of `{name}`")?)?;
+    }
+    if let Some(tick) = faster(clocks, found) {
+        let test = tick.test(alloc)?;
+        return sampled(alloc, source, equation, found, &test, finding);
     }
     let note = match (found.has.newest, found.wanted.newest) {
         (None, Some(_)) => "Sample the faster side by `when`.",
@@ -68,7 +74,7 @@ pub fn clock_cause(
     };
     for equation in &node.equations {
         if let Some(found) = in_equation(looking, equation) {
-            return Ok(Some(told(alloc, source, equation, found)?));
+            return Ok(Some(told(alloc, source, &clocks, equation, found)?));
         }
     }
     Ok(None)

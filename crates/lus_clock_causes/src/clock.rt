@@ -57,18 +57,28 @@ impl<'t> Clock<'t> {
 
     /// The clock in words.
     pub fn told(self, alloc: Global) -> Result<String, AllocError> {
-        let Some(tick) = self.newest else {
-            return String::from_str(alloc, "on the base clock");
-        };
-        let variable = tick.variable.text.as_str();
-        let label = tick.label;
+        match self.newest {
+            Some(tick) => {
+                let test = tick.test(alloc)?;
+                format!(in alloc; "on `when {test}`")
+            }
+            None => String::from_str(alloc, "on the base clock"),
+        }
+    }
+}
+
+impl<'t> Tick<'t> {
+    /// The test, as it stands behind `when`.
+    pub fn test(self, alloc: Global) -> Result<String, AllocError> {
+        let variable = self.variable.text.as_str();
+        let label = self.label;
         if label == "true" {
-            return format!(in alloc; "on `when {variable}`");
+            return String::from_str(alloc, variable);
         }
         if label == "false" {
-            return format!(in alloc; "on `when not {variable}`");
+            return format!(in alloc; "not {variable}");
         }
-        format!(in alloc; "on `when {label}({variable})`")
+        format!(in alloc; "{label}({variable})")
     }
 }
 

@@ -5,5 +5,6 @@ mod cause;
 mod clock;
 mod declared;
 mod placing;
+mod sampling;
 
 pub use cause::clock_cause;

@@ -2,14 +2,42 @@
 
 use crate::clock::{Clock, Clocks, Tick, text_of_label};
 use lus_faults::start_of;
-use lus_syntax::{Equation, Expr, Lead, Name, Part};
+use lus_syntax::{Equation, Expr, Infix, Lead, Name, Part, Prefix};
 
-/// An expression that is on another clock than its place: of a variable, or by `when`.
+/// An expression that is on another clock than its place: of a variable, or by `when`; and the innermost `pre` or `fby` that it is
+/// remembered by, with the `->` before a `pre`.
 #[derive(Clone, Copy)]
 pub struct Misplaced<'t> {
     pub expr: &'t Expr,
+    pub memory: Option<&'t Expr>,
     pub has: Clock<'t>,
     pub wanted: Clock<'t>,
+}
+
+impl<'t> Misplaced<'t> {
+    /// The same, remembered by an expression where none inside remembers it.
+    fn remembered(self, memory: &'t Expr) -> Misplaced<'t> {
+        Misplaced {
+            memory: Some(self.memory.unwrap_or(memory)),
+            ..self
+        }
+    }
+
+    /// The same, where the `pre` that remembers it is the right side of a `->`.
+    fn begun(self, arrow: &'t Expr, right: &'t Expr) -> Misplaced<'t> {
+        let Some(memory) = self.memory else {
+            return self;
+        };
+        let is_right = matches!(right, Expr::Unary(_, _, _))
+            && start_of(memory).byte == start_of(right).byte;
+        if is_right {
+            return Misplaced {
+                memory: Some(arrow),
+                ..self
+            };
+        }
+        self
+    }
 }
 
 /// What is looked through: the clocks of a node's variables, and the place that is looked for.
@@ -25,7 +53,12 @@ impl<'t, 'c> Looking<'t, 'c> {
     fn compared(self, expr: &'t Expr, has: Clock<'t>, wanted: Clock<'t>) -> Option<Misplaced<'t>> {
         let start = start_of(expr);
         if start.line == self.line && start.column == self.column && !has.is(wanted) {
-            return Some(Misplaced { expr, has, wanted });
+            return Some(Misplaced {
+                expr,
+                memory: None,
+                has,
+                wanted,
+            });
         }
         None
     }
@@ -74,10 +107,23 @@ pub fn off_clock<'t>(
             let inside = looking.clocks.clock(tested.variable.text.as_str())?;
             off_clock(looking, operand, inside)
         }
-        Expr::Unary(_, _, operand) => off_clock(looking, operand, wanted),
-        Expr::Binary(_, left, right) => match off_clock(looking, left, wanted) {
+        Expr::Unary(prefix, _, operand) => {
+            let found = off_clock(looking, operand, wanted)?;
+            Some(match prefix {
+                Prefix::Pre => found.remembered(expr),
+                _ => found,
+            })
+        }
+        Expr::Binary(infix, left, right) => match off_clock(looking, left, wanted) {
             Some(found) => Some(found),
-            None => off_clock(looking, right, wanted),
+            None => {
+                let found = off_clock(looking, right, wanted)?;
+                Some(match infix {
+                    Infix::Fby => found.remembered(expr),
+                    Infix::Arrow => found.begun(expr, right),
+                    _ => found,
+                })
+            }
         },
         Expr::If(_, condition, left, right) => match off_clock(looking, condition, wanted) {
             Some(found) => Some(found),

@@ -128,21 +128,46 @@ fn clocked(declaration: &Declaration<'_>, found: &Token) -> Option<Form> {
     None
 }
 
-/// Several values in parentheses that are no arguments of a call.
-fn tuple(declaration: &Declaration<'_>, found: &Token) -> Option<Form> {
+/// A comma where a semicolon parts: behind the type of inputs, outputs or fields.
+fn typed(declaration: &Declaration<'_>, found: &Token) -> Option<Form> {
+    if !is_symbol(Some(found), Symbol::Comma) || !is_symbol(declaration.before(2), Symbol::Colon) {
+        return None;
+    }
+    let sentence = if is_word(declaration.tokens.first(), Word::Type) {
+        "fields are separated by `;`"
+    } else {
+        "inputs and outputs are separated by `;`"
+    };
+    Some(Form {
+        sentence,
+        note: "A comma stands between names that share one type, as in `a, b: int`.",
+        instead: Some((found.span.start.byte, found.span.length, ";")),
+    })
+}
+
+/// Several values in parentheses that are no arguments of a call, or in braces with commas between.
+fn listed(declaration: &Declaration<'_>, found: &Token) -> Option<Form> {
     if !is_symbol(Some(found), Symbol::Comma) {
         return None;
     }
     let mut depth = 0usize;
     for back in 1..200usize {
         let token = declaration.before(back)?;
-        if is_symbol(Some(token), Symbol::Close) {
+        let is_brace = is_symbol(Some(token), Symbol::OpenBrace);
+        if is_symbol(Some(token), Symbol::Close) || is_symbol(Some(token), Symbol::CloseBrace) {
             depth = depth.saturating_add(1);
         }
         if is_symbol(Some(token), Symbol::Semicolon) {
             return None;
         }
-        if is_symbol(Some(token), Symbol::Open) {
+        if is_brace || is_symbol(Some(token), Symbol::Open) {
+            if depth == 0 && is_brace {
+                return Some(Form {
+                    sentence: "fields are separated by `;`",
+                    note: "A structure is written `p { x = 1; y = 2 }`.",
+                    instead: Some((found.span.start.byte, found.span.length, ";")),
+                });
+            }
             if depth == 0 {
                 return told(
                     "several values in parentheses are left out, but for the results of one call",
@@ -155,6 +180,57 @@ fn tuple(declaration: &Declaration<'_>, found: &Token) -> Option<Form> {
     None
 }
 
+/// A comment that begins as in other languages.
+fn slashed(declaration: &Declaration<'_>, found: &Token) -> Option<Form> {
+    if !is_symbol(Some(found), Symbol::Slash) {
+        return None;
+    }
+    let (first, second) = match declaration.before(1) {
+        Some(before) if is_symbol(Some(before), Symbol::Slash) => (before, found),
+        _ => (found, declaration.behind(1)?),
+    };
+    let is_comment = is_symbol(Some(second), Symbol::Slash) && is_next(Some(first), Some(second));
+    if !is_comment {
+        return None;
+    }
+    let (byte, length) = across(first, second);
+    Some(Form {
+        sentence: "a comment begins with `--`",
+        note: "It goes on to the end of the line.",
+        instead: Some((byte, length, "--")),
+    })
+}
+
+/// A word of another language, before a name or behind a call, that is read as a name here.
+fn worded(source: &str, declaration: &Declaration<'_>, found: &Token) -> Option<Form> {
+    let is_name = matches!(found.kind, TokenKind::Identifier(_));
+    if !is_name || is_symbol(declaration.behind(1), Symbol::Equal) {
+        return None;
+    }
+    if slice_of(source, found.span) == "every" {
+        return told(
+            "`every` is left out: a call isn't reset",
+            "Give the node an input `reset`, and write `if reset then init else ..` round what it remembers.",
+        );
+    }
+    let before = declaration.before(1)?;
+    let word = slice_of(source, before.span);
+    if word == "last" {
+        return Some(Form {
+            sentence: "`last` is no word of the language",
+            note: "The value of the instant before is written `pre x`, with a first value: `init -> pre x`.",
+            instead: Some((before.span.start.byte, before.span.length, "pre")),
+        });
+    }
+    if word == "match" {
+        return told(
+            "`match` is no word of the language",
+            "An enumeration is matched by `merge`, a truth value by `if`.",
+        );
+    }
+    None
+}
+
 /// The first form that the tokens round a fault have.
 fn form_of(source: &str, declaration: &Declaration<'_>, found: &Token) -> Option<Form> {
     doubled(declaration, found)
@@ -163,7 +239,10 @@ fn form_of(source: &str, declaration: &Declaration<'_>, found: &Token) -> Option
         .or(joined(source, found))
         .or(computed(declaration, found))
         .or(clocked(declaration, found))
-        .or(tuple(declaration, found))
+        .or(typed(declaration, found))
+        .or(listed(declaration, found))
+        .or(slashed(declaration, found))
+        .or(worded(source, declaration, found))
 }
 
 /// The place behind the operand that begins at one.

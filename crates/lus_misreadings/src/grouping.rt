@@ -1,7 +1,7 @@
 //! Mixes of operators that need parentheses.
 
 use crate::declaration::Declaration;
-use crate::spelled::{compares, is_infix, is_word, leads};
+use crate::spelled::{compares, is_infix, is_word, leads, orders};
 use crate::trial::reach_of;
 use lus_faults::{Edit, Finding, bytes_at, slice_of};
 use lus_syntax::{Symbol, Token, TokenKind, Word};
@@ -240,12 +240,42 @@ fn sentence(
     }
 }
 
+/// What is said of two comparisons of order in a row: what stands between them is compared twice.
+fn chained(
+    alloc: Global,
+    source: &str,
+    declaration: &Declaration<'_>,
+) -> Result<Option<Finding>, AllocError> {
+    let openings = openings(alloc, declaration)?;
+    let nearest = openings.first().copied();
+    let (Some(found), Some(lead)) = (declaration.found(), lead_of(declaration, nearest)) else {
+        return Ok(None);
+    };
+    let between = text_between(source, declaration, nearest.unwrap_or(0), declaration.fault);
+    let (true, Some((_, operand))) = (orders(found) && orders(lead), between) else {
+        return Ok(None);
+    };
+    let edit = Edit {
+        byte: found.span.start.byte,
+        length: 0,
+        text: format!(in alloc; "and {operand} ")?,
+    };
+    let sentence = String::from_str(alloc, "comparisons aren't chained")?;
+    let note = "Each compares two values: `and` joins them.";
+    let finding = Finding::new(alloc, sentence, found.span.length).with_note(alloc, note)?;
+    Ok(Some(finding.with_edit(Some(edit))))
+}
+
 /// What is said where parentheses make a mix of operators readable.
 pub fn mixed(
     alloc: Global,
     source: &str,
     declaration: &Declaration<'_>,
 ) -> Result<Option<Finding>, AllocError> {
+    let chain = chained(alloc, source, declaration)?;
+    if chain.is_some() {
+        return Ok(chain);
+    }
     let Some((from, to)) = grouping(alloc, declaration)? else {
         return Ok(None);
     };

@@ -224,6 +224,14 @@ pub fn compares(token: &Token) -> bool {
     )
 }
 
+/// Whether a token is a comparison of order.
+pub fn orders(token: &Token) -> bool {
+    matches!(
+        token.kind,
+        TokenKind::Punctuation(Symbol::Less | Symbol::AtMost | Symbol::Greater | Symbol::AtLeast)
+    )
+}
+
 /// Whether a token is this symbol.
 pub fn is_symbol(token: Option<&Token>, symbol: Symbol) -> bool {
     match token {

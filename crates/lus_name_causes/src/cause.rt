@@ -2,7 +2,7 @@
 
 use crate::declared::{candidates, nodes, types, values, variables};
 use crate::doubled::{doubled, doubled_field, twice};
-use crate::equations::{undefined, wrong_left};
+use crate::equations::{undeclared, undefined, wrong_left};
 use crate::expressions::{Sought, in_expression, in_test, in_type};
 use crate::unknown::{Role, Use, unknown};
 use lus_faults::Finding;
@@ -140,6 +140,10 @@ fn node_cause(
     }
     match in_node(sought, node) {
         Some(used) => {
+            let found = undeclared(alloc, node, used)?;
+            if found.is_some() {
+                return Ok(found);
+            }
             let names = candidates(alloc, tree, Some(node), used.role)?;
             Ok(Some(unknown(alloc, used, &names)?))
         }

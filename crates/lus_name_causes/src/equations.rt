@@ -81,6 +81,32 @@ fn no_equation(alloc: Global, variable: &Name, what: &str) -> Result<Finding, Al
     finding.with_note(alloc, &note)
 }
 
+/// What is said of a variable that has an equation and no declaration, where a name is used as one.
+pub fn undeclared(
+    alloc: Global,
+    node: &Node,
+    found: Use<'_>,
+) -> Result<Option<Finding>, AllocError> {
+    if found.role != Role::Value && found.role != Role::Variable {
+        return Ok(None);
+    }
+    let text = found.name.text.as_str();
+    let start = found.name.span.start;
+    let place = Sought {
+        line: start.line,
+        column: start.column,
+    };
+    let names = lefts(alloc, node)?;
+    let Some(left) = named(&names, text, place) else {
+        return Ok(None);
+    };
+    let sentence = format!(in alloc; "`{text}` has an equation but isn't declared")?;
+    let mut finding = Finding::new(alloc, sentence, found.name.span.length);
+    finding.relate(left.span, format!(in alloc; "the equation of `{text}`")?)?;
+    let note = format!(in alloc; "Declare it before `let`: `var {text}: ..;`.")?;
+    Ok(Some(finding.with_note(alloc, &note)?))
+}
+
 /// The name on the left of an equation that stands at a place.
 pub fn wrong_left(
     alloc: Global,
