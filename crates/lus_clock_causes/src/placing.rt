@@ -15,10 +15,13 @@ pub struct Misplaced<'t> {
 }
 
 impl<'t> Misplaced<'t> {
-    /// The same, remembered by an expression where none inside remembers it.
-    fn remembered(self, memory: &'t Expr) -> Misplaced<'t> {
+    /// The same, remembered by an expression on a clock, where none inside remembers it and no other clock stands between.
+    fn remembered(self, memory: &'t Expr, clock: Clock<'t>) -> Misplaced<'t> {
+        if self.memory.is_some() || !self.wanted.is(clock) {
+            return self;
+        }
         Misplaced {
-            memory: Some(self.memory.unwrap_or(memory)),
+            memory: Some(memory),
             ..self
         }
     }
@@ -110,7 +113,7 @@ pub fn off_clock<'t>(
         Expr::Unary(prefix, _, operand) => {
             let found = off_clock(looking, operand, wanted)?;
             Some(match prefix {
-                Prefix::Pre => found.remembered(expr),
+                Prefix::Pre => found.remembered(expr, wanted),
                 _ => found,
             })
         }
@@ -119,7 +122,7 @@ pub fn off_clock<'t>(
             None => {
                 let found = off_clock(looking, right, wanted)?;
                 Some(match infix {
-                    Infix::Fby => found.remembered(expr),
+                    Infix::Fby => found.remembered(expr, wanted),
                     Infix::Arrow => found.begun(expr, right),
                     _ => found,
                 })

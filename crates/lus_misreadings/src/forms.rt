@@ -128,15 +128,19 @@ fn clocked(declaration: &Declaration<'_>, found: &Token) -> Option<Form> {
     None
 }
 
-/// A comma where a semicolon parts: behind the type of inputs, outputs or fields.
+/// A comma where a semicolon parts: behind the type of variables or fields.
 fn typed(declaration: &Declaration<'_>, found: &Token) -> Option<Form> {
     if !is_symbol(Some(found), Symbol::Comma) || !is_symbol(declaration.before(2), Symbol::Colon) {
         return None;
     }
-    let sentence = if is_word(declaration.tokens.first(), Word::Type) {
+    let opening = declaration.tokens.first();
+    if is_word(opening, Word::Const) {
+        return None;
+    }
+    let sentence = if is_word(opening, Word::Type) {
         "fields are separated by `;`"
     } else {
-        "inputs and outputs are separated by `;`"
+        "inputs, outputs and locals are separated by `;`"
     };
     Some(Form {
         sentence,
@@ -234,6 +238,7 @@ fn worded(source: &str, declaration: &Declaration<'_>, found: &Token) -> Option<
 /// The first form that the tokens round a fault have.
 fn form_of(source: &str, declaration: &Declaration<'_>, found: &Token) -> Option<Form> {
     doubled(declaration, found)
+        .or(slashed(declaration, found))
         .or(assigned(declaration, found))
         .or(pointed(declaration))
         .or(joined(source, found))
@@ -241,7 +246,6 @@ fn form_of(source: &str, declaration: &Declaration<'_>, found: &Token) -> Option
         .or(clocked(declaration, found))
         .or(typed(declaration, found))
         .or(listed(declaration, found))
-        .or(slashed(declaration, found))
         .or(worded(source, declaration, found))
 }
 

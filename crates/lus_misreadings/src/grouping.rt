@@ -1,7 +1,7 @@
 //! Mixes of operators that need parentheses.
 
 use crate::declaration::Declaration;
-use crate::spelled::{compares, is_infix, is_word, leads, orders};
+use crate::spelled::{compares, is_infix, is_word, leads, orders, reckons};
 use crate::trial::reach_of;
 use lus_faults::{Edit, Finding, bytes_at, slice_of};
 use lus_syntax::{Symbol, Token, TokenKind, Word};
@@ -240,6 +240,20 @@ fn sentence(
     }
 }
 
+/// The place behind a comparison of order, where nothing but sums and products stands from there up to the fault.
+fn compared_from(declaration: &Declaration<'_>, openings: &[usize]) -> Option<usize> {
+    for from in openings {
+        let lead = lead_of(declaration, Some(*from))?;
+        if orders(lead) {
+            return Some(*from);
+        }
+        if !reckons(lead) {
+            return None;
+        }
+    }
+    None
+}
+
 /// What is said of two comparisons of order in a row: what stands between them is compared twice.
 fn chained(
     alloc: Global,
@@ -247,12 +261,12 @@ fn chained(
     declaration: &Declaration<'_>,
 ) -> Result<Option<Finding>, AllocError> {
     let openings = openings(alloc, declaration)?;
-    let nearest = openings.first().copied();
-    let (Some(found), Some(lead)) = (declaration.found(), lead_of(declaration, nearest)) else {
+    let (Some(found), Some(from)) = (declaration.found(), compared_from(declaration, &openings))
+    else {
         return Ok(None);
     };
-    let between = text_between(source, declaration, nearest.unwrap_or(0), declaration.fault);
-    let (true, Some((_, operand))) = (orders(found) && orders(lead), between) else {
+    let between = text_between(source, declaration, from, declaration.fault);
+    let (true, Some((_, operand))) = (orders(found), between) else {
         return Ok(None);
     };
     let edit = Edit {

@@ -232,6 +232,15 @@ pub fn orders(token: &Token) -> bool {
     )
 }
 
+/// Whether a token reckons with integers.
+pub fn reckons(token: &Token) -> bool {
+    matches!(
+        token.kind,
+        TokenKind::Punctuation(Symbol::Plus | Symbol::Minus | Symbol::Star | Symbol::Slash)
+            | TokenKind::Keyword(Word::Div | Word::Mod)
+    )
+}
+
 /// Whether a token is this symbol.
 pub fn is_symbol(token: Option<&Token>, symbol: Symbol) -> bool {
     match token {
