@@ -3,29 +3,19 @@
 use lus_diagrams::{Column, Head};
 use std::alloc::{AllocError, Global};
 
-/// What stands at a time: the names of the events before its instant, and the instant's column. At the beginning and at the end
-/// there is no instant.
+/// What stands at a time: the names of the events before its instant, and the instant's number and values. At the beginning and at
+/// the end there is no instant.
 #[derive(Drop)]
-pub(crate) struct Frame<'t, 'a> {
+pub(crate) struct Frame<'a> {
     pub events: String,
-    pub instant: Option<&'t Column<'a>>,
+    pub number: Option<u64>,
+    pub values: Vec<&'a str>,
 }
 
-impl<'a> Frame<'_, 'a> {
-    /// The number of the instant in its lineage, if there is one.
-    pub(crate) fn number(&self) -> Option<u64> {
-        match self.instant?.head {
-            Head::Instant(number) => Some(number),
-            _ => None,
-        }
-    }
-
+impl<'a> Frame<'a> {
     /// The value of a row: `-` where it is absent.
     pub(crate) fn value(&self, row: usize) -> &'a str {
-        match self.instant {
-            Some(column) => column.cells.get(row).copied().unwrap_or("-"),
-            None => "-",
-        }
+        self.values.get(row).copied().unwrap_or("-")
     }
 }
 
@@ -37,22 +27,33 @@ fn push_event(events: &mut String, title: &str) -> Result<(), AllocError> {
     events.push_str(title)
 }
 
+/// The values of a column.
+fn values_of<'a>(alloc: Global, column: &Column<'a>) -> Result<Vec<&'a str>, AllocError> {
+    let mut values = Vec::new(alloc);
+    for value in &column.cells {
+        values.push(*value)?;
+    }
+    Ok(values)
+}
+
 /// The frames of a table: the beginning, each accepted instant, and the end.
-pub(crate) fn frames_of<'t, 'a>(
+pub(crate) fn frames_of<'a>(
     alloc: Global,
-    columns: &'t [Column<'a>],
-) -> Result<Vec<Frame<'t, 'a>>, AllocError> {
+    columns: &[Column<'a>],
+) -> Result<Vec<Frame<'a>>, AllocError> {
     let mut frames = Vec::new(alloc);
     frames.push(Frame {
         events: String::new(alloc),
-        instant: None,
+        number: None,
+        values: Vec::new(alloc),
     })?;
     let mut events = String::new(alloc);
     for column in columns {
-        if let Head::Instant(_) = column.head {
+        if let Head::Instant(number) = column.head {
             frames.push(Frame {
                 events,
-                instant: Some(column),
+                number: Some(number),
+                values: values_of(alloc, column)?,
             })?;
             events = String::new(alloc);
         } else {
@@ -61,7 +62,8 @@ pub(crate) fn frames_of<'t, 'a>(
     }
     frames.push(Frame {
         events,
-        instant: None,
+        number: None,
+        values: Vec::new(alloc),
     })?;
     Ok(frames)
 }
