@@ -1,10 +1,10 @@
 //! The words of the command line.
 
 ghost use Rattle.std.specs.Prelude.{◌≡◌, IfOk, Some, None, Err, map, option_map, string_bytes};
-ghost use Rattle.clap.specs.Words.{app_of};
+ghost use Rattle.clap.specs.Words.{app_of, with_rule};
 ghost use Rattle.lus_cli.specs.CommandLine.{is_true};
 ghost use Rattle.lus_cli.specs.declared.words.WordsError.TheVariants.{Mistaken};
-ghost use Rattle.lus_draw.specs.CommandLine.{asked, chosen, format_of, task_seen, the_command};
+ghost use Rattle.lus_draw.specs.CommandLine.{asked, bare, chosen, flag_rule, flagged, format_of, task_seen, the_command};
 
 use clap::{Arg, ArgAction, Command};
 use lus_cli::{WordsError, matches};
@@ -27,29 +27,43 @@ pub struct Task<'a> {
     pub program: Option<&'a str>,
 }
 
-fn command<'a>(alloc: Global) -> Result<Command<'a>, AllocError>
-    ensures shape { IfOk result (λ c. app_of c ≡ the_command) }
+/// The command before its arguments.
+fn bare<'a>(alloc: Global) -> Command<'a>
+    ensures { app_of result ≡ bare }
 {
-    let svg = Arg::new(alloc, "svg")
-        .long("svg")
-        .action(ArgAction::SetTrue);
-    let csv = Arg::new(alloc, "csv")
-        .long("csv")
-        .action(ArgAction::SetTrue);
-    let vcd = Arg::new(alloc, "vcd")
-        .long("vcd")
-        .action(ArgAction::SetTrue);
-    let journal = Arg::new(alloc, "JOURNAL").required(true);
-    let program = Arg::new(alloc, "PROGRAM");
     Command::new(alloc, "lus_draw")
         .no_binary_name(true)
         .disable_help_flag(true)
         .disable_version_flag(true)
-        .arg(svg)?
-        .arg(csv)?
-        .arg(vcd)?
-        .arg(journal)?
-        .arg(program)
+}
+
+/// The command with one more flag.
+fn with_flag<'a>(
+    alloc: Global,
+    command: Command<'a>,
+    name: &'a str,
+) -> Result<Command<'a>, AllocError>
+    ensures { IfOk result (λ c. app_of c ≡ with_rule (app_of command.entry) (flag_rule name.entry.now)) }
+{
+    let flag = Arg::new(alloc, name).long(name).action(ArgAction::SetTrue);
+    command.arg(flag)
+}
+
+/// The command with its flags.
+fn flagged<'a>(alloc: Global) -> Result<Command<'a>, AllocError>
+    ensures { IfOk result (λ c. app_of c ≡ flagged) }
+{
+    let svg = with_flag(alloc, bare(alloc), "svg")?;
+    let csv = with_flag(alloc, svg, "csv")?;
+    with_flag(alloc, csv, "vcd")
+}
+
+fn command<'a>(alloc: Global) -> Result<Command<'a>, AllocError>
+    ensures shape { IfOk result (λ c. app_of c ≡ the_command) }
+{
+    let journal = Arg::new(alloc, "JOURNAL").required(true);
+    let program = Arg::new(alloc, "PROGRAM");
+    flagged(alloc)?.arg(journal)?.arg(program)
 }
 
 /// What the words after the program's own name ask for.

@@ -5,8 +5,8 @@ use Rattle.lus_diagrams.specs.JournalView.{journal_seen}
 use Rattle.lus_draw.specs.Drawings.{IsShown}
 use Rattle.lus_draw.proofs.drawing.drawing.Goals as goal
 
-pub returns-in-Ok-clause-drawn : goal.returns-in-Ok-clause-drawn
-returns-in-Ok-clause-drawn c =
+pub returns-clause-drawn : goal.returns-clause-drawn
+returns-clause-drawn c =
     IfOk-weaker c.written.result _ _ (λ s shown. record {
       utf8 = c.in-Ok.ensures.utf8;
       journals = map journal_seen c.in-Ok.journals.items;
