@@ -9,7 +9,7 @@ ghost use Rattle.lus_audit.specs.Ends.{AuditFails, IsAudited, TaskEnds, audit_fa
 use crate::words::{Task, read_words};
 use lus_cli::{Fault, read_program, tell};
 use lus_devices::{Folder, Sink, write_all};
-use lus_lawful::{Audit, AuditError, Buffered, audit};
+use lus_lawful::{AuditError, Buffered, Report, audit};
 use std::alloc::Global;
 use std::sync::Arc;
 
@@ -24,9 +24,9 @@ fn fault_of(error: AuditError) -> Fault
 }
 
 /// Audits the journals of a file, of nodes of the program of another.
-fn audit_file<D: Folder>(alloc: Global, folder: &D, task: Task<'_>) -> Result<Audit, Fault>
-    ensures audited { IfOk result (λ a. IsAudited (D.known folder.now task.entry.program.now) (D.known folder.now task.entry.journal.now)
-        a.is_lawful a.report.items) }
+fn audit_file<D: Folder>(alloc: Global, folder: &D, task: Task<'_>) -> Result<Report, Fault>
+    ensures audited { IfOk result (λ r. IsAudited (D.known folder.now task.entry.program.now) (D.known folder.now task.entry.journal.now)
+        r.is_lawful r.text.items) }
     ensures fault { IfErr result (λ f. AuditFails (ReadFails D.File D.File.left D.File.failures) (D.known folder.now task.entry.program.now) f) }
 {
     let program = read_program(alloc, folder, task.program)?;
@@ -37,7 +37,7 @@ fn audit_file<D: Folder>(alloc: Global, folder: &D, task: Task<'_>) -> Result<Au
         return Err(Fault::File);
     };
     match audit(alloc, &program, &mut Buffered::new(journal)) {
-        Ok(audit) => Ok(audit),
+        Ok(report) => Ok(report),
         Err(error) => Err(fault_of(error)),
     }
 }
@@ -54,9 +54,9 @@ fn perform<D: Folder, O: Sink>(
         (change (O.written output.old) (O.written output.new) (O.failures output.old) (O.failures output.new)) }
 {
     let task = read_words(alloc, words)?;
-    let audit = audit_file(alloc, folder, task)?;
-    match write_all(output, &audit.report) {
-        Ok(()) => Ok(audit.is_lawful),
+    let report = audit_file(alloc, folder, task)?;
+    match write_all(output, &report.text) {
+        Ok(()) => Ok(report.is_lawful),
         Err(_) => Err(Fault::Output),
     }
 }

@@ -44,7 +44,7 @@ module _ (p : Program) (f : ℕ) (instance node : Text) (named : node_named p no
   abbrev journal : Journal
   journal = record { instance = instance; node = node; saids = lived.replayed.saids }
 
-  -- what stands behind its entries
+  -- what is behind its entries
   front_more : (tail : Text) → lived.replayed.mid ≡ with_front tail later
       → with_front front left ≡ with_front (front ++ said_text names 1 journal.saids ++ tail) later
   front_more tail is =

@@ -10,7 +10,7 @@ ghost use Rattle.lus_lawful.specs.Journals.{head_of};
 
 use crate::error::AuditError;
 use crate::head::{Head, read_head};
-use crate::report::{push_lawful, push_wrong};
+use crate::texts::{push_lawful, push_wrong};
 use lus_devices::Source;
 use lus_lines::{Reading, read_line};
 use lus_live_instance::lus_machine::{NodeId, Program};
@@ -19,11 +19,11 @@ use lus_replay::{Ending, Replayed, replay};
 use std::alloc::Global;
 use std::sync::Arc;
 
-/// Whether all journals are lawful, and what is reported of them.
+/// Whether all journals are lawful, and what there is to say of them.
 #[derive(Drop)]
-pub struct Audit {
+pub struct Report {
     pub is_lawful: bool,
-    pub report: Vec<u8>,
+    pub text: Vec<u8>,
 }
 
 /// What is where a journal would begin.
@@ -78,7 +78,7 @@ fn audit_journal<S: Source>(
     source: &mut S,
     report: &mut Vec<u8>,
 ) -> Result<Turn, AuditError>
-    requires { node_named (program_of (arc_value program.now)) head.entry.node.now ≡ Some node.0 }
+    requires { node_named (program_of (arc_value program.now)) head.node.now ≡ Some node.0 }
     ensures { IfOk result (λ turn. TurnIs turn (program_of (arc_value program.now)) lines
         (with_front (head_of head.entry.instance.now head.entry.node.now ++ codes "\n") (S.left source.old)) (S.left source.new)
         report.old.items report.new.items) }
@@ -147,24 +147,24 @@ pub fn audit<S: Source>(
     alloc: Global,
     program: &Arc<Program>,
     source: &mut S,
-) -> Result<Audit, AuditError>
-    ensures { IfOk result (λ a. HasAudited (program_of (arc_value program.now)) a.is_lawful (S.left source.old) a.report.items) }
+) -> Result<Report, AuditError>
+    ensures { IfOk result (λ r. HasAudited (program_of (arc_value program.now)) r.is_lawful (S.left source.old) r.text.items) }
 {
-    let mut report = Vec::new(alloc);
+    let mut text = Vec::new(alloc);
     let mut lines = 0u64;
     for _journal in 0..u64::MAX {
-        match audit_next(alloc, program, lines, source, &mut report)? {
+        match audit_next(alloc, program, lines, source, &mut text)? {
             Turn::Lawful(last) => lines = last,
             Turn::Wrong => {
-                return Ok(Audit {
+                return Ok(Report {
                     is_lawful: false,
-                    report,
+                    text,
                 });
             }
             Turn::End => {
-                return Ok(Audit {
+                return Ok(Report {
                     is_lawful: true,
-                    report,
+                    text,
                 });
             }
         }

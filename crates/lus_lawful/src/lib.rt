@@ -4,8 +4,8 @@
 mod auditing;
 mod error;
 mod head;
-mod report;
+mod texts;
 
-pub use auditing::{Audit, audit};
+pub use auditing::{Report, audit};
 pub use error::AuditError;
 pub use lus_lines::Buffered;

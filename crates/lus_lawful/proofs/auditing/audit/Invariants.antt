@@ -6,4 +6,4 @@ use Rattle.lus_lawful.proofs.auditing.audit.Given as goal
 
 abbrev pub invariant-loop-journal : goal.invariant-loop-journal
 invariant-loop-journal g l =
-    AreLawful (program_of (arc_value l.program)) (g.S.Source.left l.initial.source) (g.S.Source.left l.source) l.lines l.report.items
+    AreLawful (program_of (arc_value l.program)) (g.S.Source.left l.initial.source) (g.S.Source.left l.source) l.lines l.text.items
