@@ -2,9 +2,9 @@
 use Rattle.std.proofs.Common.{◌≡◌, ◌∙◌, ◌+◌, ◌++◌, ℕ, refl, ap, sym, subst, Bool, true, false, List, [], ◌∷◌, length, map, Option, Some, None, append_assoc, arith, codes}
 use Rattle.std.specs.List.{flat_map}
 use Rattle.std.proofs.lemmas.List.{flat_map_more}
-use Rattle.std.proofs.lemmas.List.Elements.{All-nil, All-push}
+use Rattle.std.proofs.lemmas.List.Elements.{All-push}
 use Rattle.std.proofs.lemmas.List.Sums.{sum_by_push}
-use Rattle.lus_values.specs.Names.{Text}
+use Rattle.lus_values.specs.Names.{Names, Text}
 use Rattle.lus_program.specs.Programs.{Program}
 use Rattle.lus_requests.specs.declared.request.Entry.{Entry}
 use Rattle.lus_devices.specs.Devices.{AtEnd, Bytes, with_front}
@@ -14,28 +14,31 @@ use Rattle.lus_lines.specs.Lines.{IsLast}
 use Rattle.lus_live_instance.specs.MachineSpecs.Constructors.{names_of}
 use Rattle.lus_live_instance.specs.MachineSpecs.Formals.{node_named}
 use Rattle.lus_live_instance.specs.MachineSpecs.HistorySpecs.Histories.{History}
-use Rattle.lus_replay.specs.Replays.{BeginsAsked, EndsSo, entry_said, said_line, said_text}
+use Rattle.lus_live_instance.specs.MachineSpecs.Machines.{Told}
+use Rattle.lus_live_instance.specs.Lives.{IsLive}
+use Rattle.lus_live_instance.proofs.LiveLaws.{lawful_of}
+use Rattle.lus_replay.specs.Replays.{BeginsAsked, EndsSo, HasReplayed, entry_said, said_line, said_text}
 use Rattle.lus_replay.specs.declared.replaying.Ending.TheVariants as endings
 use Rattle.lus_replay.specs.declared.replaying.Replayed.{Replayed}
-use Rattle.lus_lawful.specs.Audits.{AreLawful, HasAudited, HasReplayedLawfully, HasWrong, TurnIs}
+use Rattle.lus_lawful.specs.Audits.{AreLawful, HasReplayedLawfully, HasWrong, TurnIs}
 use Rattle.lus_lawful.specs.Journals.{IsLawfulJournal, Journal, entries_of, head_of, journal_text, lawful_text, line_count, wrong_text}
+use Rattle.lus_lawful.specs.declared.auditing.Turn.{Turn}
 use Rattle.lus_lawful.specs.declared.auditing.Turn.TheVariants as turns
-
--- a line that was split behind its beginning
-pub head_split : (line rest instance node : Text) → line ≡ codes "instance " ++ rest → rest ≡ instance ++ (codes " " ++ node) → line ≡ head_of instance node
-head_split line rest instance node begins split =
-    begins ∙ ap (λ t. codes "instance " ++ t) split ∙ sym (append_assoc (codes "instance ") instance (codes " " ++ node))
-    ∙ sym (append_assoc (codes "instance " ++ instance) (codes " ") node)
-
-front_nothing : (left : Option Bytes) → left ≡ with_front [] left
-front_nothing None = refl
-front_nothing (Some bs) = refl
 
 -- ---- a journal that was replayed on a new instance
 
+pub replayed_lawfully : (p : Program) (f : ℕ) (m : Told) (h : List Entry) (names : Names) (r : Replayed) (left later : Option Bytes) (line right : Text)
+    → IsLive p f m → h ≡ [] → names ≡ names_of p → HasReplayed names r left later h m.history line right → HasReplayedLawfully p f r left later line right
+replayed_lawfully p f m h names r left later line right live empty named replayed = record {
+  history = m.history;
+  lawful = lawful_of p f m live;
+  replayed = subst (λ ns. HasReplayed ns r left later [] m.history line right) named
+      (subst (λ es. HasReplayed names r left later es m.history line right) empty replayed);
+}
+
 module _ (p : Program) (f : ℕ) (instance node : Text) (named : node_named p node ≡ Some f) (left later : Option Bytes) (lines number : ℕ)
     (line right old new : Text) (r : Replayed) (lived : HasReplayedLawfully p f r left later line right) (place : number ≡ lines + r.entries + 2) where
-  abbrev names : _
+  abbrev names : Names
   names = names_of p
 
   abbrev front : Text
@@ -94,13 +97,11 @@ module _ (p : Program) (f : ℕ) (instance node : Text) (named : node_named p no
 -- ---- journals, one behind another
 
 module _ (p : Program) (left : Option Bytes) where
-  pub lawful_start : AreLawful p left left 0 []
-  lawful_start = record { journals = []; lawful = All-nil _; read = front_nothing left; counted = refl; reported = refl }
-
   module _ (mid : Option Bytes) (lines : ℕ) (report : Text) (so_far : AreLawful p left mid lines report) where
-    pub lawful_more : (later : Option Bytes) (last : ℕ) (new : Text) → TurnIs (turns.Lawful last) p lines mid later report new
+    pub lawful_more : (t : Turn) (later : Option Bytes) (last : ℕ) (new : Text) → t ≡ turns.Lawful last → TurnIs t p lines mid later report new
         → AreLawful p left later last new
-    lawful_more later last new turn =
+    lawful_more t later last new is turned =
+        let turn = subst (λ u. TurnIs u p lines mid later report new) is turned in
         let js = so_far.journals in
         let j = turn.0 in
         let texts = flat_map (journal_text (names_of p)) js in
@@ -112,10 +113,3 @@ module _ (p : Program) (left : Option Bytes) where
           counted = turn.3 ∙ ap (λ n. n + line_count j) so_far.counted ∙ sym (sum_by_push line_count js j);
           reported = turn.4 ∙ ap (λ t. t ++ lawful_text j.instance) so_far.reported ∙ flat_map_more (λ i. lawful_text i.instance) [] js j;
         }
-
-    pub audited_all : (end : Option Bytes) (new : Text) → TurnIs turns.End p lines mid end report new → HasAudited p true left new
-    audited_all end new turn = subst (HasAudited p true left) (sym turn.1)
-        (mid, lines, so_far, subst AtEnd (sym (turn.0.read ∙ sym (front_nothing end))) turn.0.over)
-
-    pub audited_wrong : (later : Option Bytes) (new : Text) → TurnIs turns.Wrong p lines mid later report new → HasAudited p false left new
-    audited_wrong later new turn = (mid, later, lines, report, turn.0, so_far, turn.1, turn.2)
