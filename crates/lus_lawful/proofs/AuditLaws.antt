@@ -1,5 +1,5 @@
 -- Journals that are replayed, one behind another.
-use Rattle.std.proofs.Common.{◌≡◌, ◌∙◌, ◌+◌, ◌++◌, ℕ, refl, ap, sym, subst, Bool, true, false, List, [], ◌∷◌, length, map, Option, Some, None, append_assoc, arith, codes}
+use Rattle.std.proofs.Common.{◌≡◌, ◌∙◌, ◌+◌, ◌++◌, ℕ, ap, sym, subst, List, [], ◌∷◌, length, Option, Some, arith, codes}
 use Rattle.std.specs.List.{flat_map}
 use Rattle.std.proofs.lemmas.List.{flat_map_more}
 use Rattle.std.proofs.lemmas.List.Elements.{All-push}
@@ -7,10 +7,9 @@ use Rattle.std.proofs.lemmas.List.Sums.{sum_by_push}
 use Rattle.lus_values.specs.Names.{Names, Text}
 use Rattle.lus_program.specs.Programs.{Program}
 use Rattle.lus_requests.specs.declared.request.Entry.{Entry}
-use Rattle.lus_devices.specs.Devices.{AtEnd, Bytes, with_front}
+use Rattle.lus_devices.specs.Devices.{Bytes, with_front}
 use Rattle.lus_devices.specs.Journals.{count_text}
 use Rattle.lus_devices.proofs.Laws.{with_front-more}
-use Rattle.lus_lines.specs.Lines.{IsLast}
 use Rattle.lus_live_instance.specs.MachineSpecs.Constructors.{names_of}
 use Rattle.lus_live_instance.specs.MachineSpecs.Formals.{node_named}
 use Rattle.lus_live_instance.specs.MachineSpecs.HistorySpecs.Histories.{History}
@@ -20,8 +19,8 @@ use Rattle.lus_live_instance.proofs.LiveLaws.{lawful_of}
 use Rattle.lus_replay.specs.Replays.{BeginsAsked, EndsSo, HasReplayed, entry_said, said_line, said_text}
 use Rattle.lus_replay.specs.declared.replaying.Ending.TheVariants as endings
 use Rattle.lus_replay.specs.declared.replaying.Replayed.{Replayed}
-use Rattle.lus_lawful.specs.Audits.{AreLawful, HasReplayedLawfully, HasWrong, TurnIs}
-use Rattle.lus_lawful.specs.Journals.{IsLawfulJournal, Journal, entries_of, head_of, journal_text, lawful_text, line_count, wrong_text}
+use Rattle.lus_lawful.specs.Audits.{AreLawful, HasReplayedLawfully, TurnIs}
+use Rattle.lus_lawful.specs.Journals.{IsLawfulJournal, Journal, head_of, journal_text, lawful_text, line_count, wrong_text}
 use Rattle.lus_lawful.specs.declared.auditing.Turn.{Turn}
 use Rattle.lus_lawful.specs.declared.auditing.Turn.TheVariants as turns
 
