@@ -1,9 +1,10 @@
 //! `lus --check PROGRAM` and `lus PROGRAM SCRIPTS`. By the name of another tool, through a link, the same program is that tool:
-//! `lus_explain`, `lus_draw`.
+//! `lus_explain`, `lus_draw`, `lus_live`.
 #![tactic(auto)]
 
 use lus_cli::{Fault, command, tell};
-use lus_devices::{Disk, Output};
+use lus_devices::{Disk, Input, Output};
+use lus_lines::Buffered;
 use std::env;
 use std::io::ErrorKind;
 use std::process::ExitCode;
@@ -45,6 +46,14 @@ fn main(rt: HostRuntime) -> ExitCode {
             ("lus_draw", words) => {
                 lus_draw::command(rt.alloc(), &disk, words, &mut output, &mut faults)
             }
+            ("lus_live", words) => lus_live::command(
+                rt.alloc(),
+                &disk,
+                words,
+                &mut Buffered::new(Input(rt.stdin())),
+                &mut output,
+                &mut faults,
+            ),
             (_, words) => command(&rt, &disk, words, &mut output, &mut faults),
         },
         Err(fault) => tell(&mut faults, fault),

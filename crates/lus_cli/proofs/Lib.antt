@@ -1,4 +1,5 @@
 pub mod EndLemmas
 pub mod Lines
 pub mod Pieces
+pub mod ProgramLemmas
 pub use Rattle.lus_host.proofs as HostProofs

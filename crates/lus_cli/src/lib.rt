@@ -4,11 +4,13 @@
 mod fault;
 mod files;
 mod line;
+mod program;
 mod shell;
 mod words;
 
 pub use fault::{Fault, script_text};
 pub use files::read_file;
 pub use lus_host;
+pub use program::read_program;
 pub use shell::{command, tell};
 pub use words::{Task, WordsError, matches, read_words};

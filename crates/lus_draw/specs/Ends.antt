@@ -29,28 +29,6 @@ abbrev pub IsProgramRefused : (Text → Known) → Option Text → Refusal → T
 IsProgramRefused known None e = ⊥
 IsProgramRefused known (Some program) e = WithFile (known program) (λ text. ProgramRefused text e)
 
--- bytes are refused as a program, or memory was wanting
-abbrev pub IsCompileFault : Text → Fault → Type 0
-IsCompileFault bytes (faults.Program e) = ProgramRefused bytes e
-IsCompileFault bytes faults.Memory = ⊤
-IsCompileFault bytes (faults.Journal n) = ⊥
-IsCompileFault bytes (faults.Scripts e) = ⊥
-IsCompileFault bytes faults.Words = ⊥
-IsCompileFault bytes faults.File = ⊥
-IsCompileFault bytes faults.Output = ⊥
-IsCompileFault bytes faults.Start = ⊥
-
--- why there are no names of a program: its file is lost, it is refused, or memory was wanting
-abbrev pub IsProgramFault : (Known → Type 0) → (Text → Known) → Option Text → Fault → Type 0
-IsProgramFault read_fails known program faults.File = IsProgramLost read_fails known program
-IsProgramFault read_fails known program (faults.Program e) = IsProgramRefused known program e
-IsProgramFault read_fails known program faults.Memory = ⊤
-IsProgramFault read_fails known program (faults.Journal n) = ⊥
-IsProgramFault read_fails known program (faults.Scripts e) = ⊥
-IsProgramFault read_fails known program faults.Words = ⊥
-IsProgramFault read_fails known program faults.Output = ⊥
-IsProgramFault read_fails known program faults.Start = ⊥
-
 -- why nothing is drawn of the journals of this name, perhaps with the names of a program
 abbrev pub DrawFails : (Known → Type 0) → (Text → Known) → Text → Option Text → Fault → Type 0
 DrawFails read_fails known journal program faults.File = IsLost read_fails (known journal) ⊎ IsProgramLost read_fails known program

@@ -1,45 +1,16 @@
 //! The command line over a folder.
 
 ghost use Rattle.std.specs.Prelude.{◌≡◌, IfErr, IfOk, Some, None, map, option_map, string_bytes};
-ghost use Rattle.lus_cli.specs.CodeSpecs.Codes.{program_of};
-ghost use Rattle.lus_cli.specs.MachineSpecs.Acceptance.{Accepted};
 ghost use Rattle.lus_cli.specs.Changes.{change};
 ghost use Rattle.lus_cli.specs.Ends.{AskedEnds, Ends, ReadFails, SaysEnds};
 ghost use Rattle.lus_draw.specs.CommandLine.{asked};
-ghost use Rattle.lus_draw.specs.Ends.{DrawFails, IsCompileFault, IsDrawn, IsNamed, IsProgramFault, TaskEnds};
+ghost use Rattle.lus_draw.specs.Ends.{DrawFails, IsDrawn, TaskEnds};
 
 use crate::drawing::drawing;
 use crate::words::{Format, Task, read_words};
-use lus_cli::lus_host::{Program, RunError, compile, text_of};
-use lus_cli::{Fault, read_file, tell};
+use lus_cli::{Fault, read_file, read_program, tell};
 use lus_devices::{Folder, Sink, write_all};
-use lus_syntax::MOST_BYTES;
 use std::alloc::Global;
-
-/// The program that bytes are the text of.
-fn compiled(alloc: Global, bytes: &[u8]) -> Result<Program, Fault>
-    ensures accepted { IfOk result (λ p. Accepted bytes.now (program_of p)) }
-    ensures fault { IfErr result (λ f. IsCompileFault bytes.now f) }
-{
-    let text = match text_of(bytes) {
-        Ok(text) => text,
-        Err(refusal) => return Err(Fault::from(RunError::Program(refusal))),
-    };
-    match compile(alloc, text) {
-        Ok(program) => Ok(program),
-        Err(refusal) => Err(Fault::from(RunError::Program(refusal))),
-    }
-}
-
-/// The program of a file. Its bytes are read to their end, or to the first that is one too many.
-fn read_program<D: Folder>(alloc: Global, folder: &D, name: &str) -> Result<Program, Fault>
-    ensures named { IfOk result (λ p. IsNamed (D.known folder.now) (Some name.now)) }
-    ensures fault { IfErr result (λ f. IsProgramFault (ReadFails D.File D.File.left D.File.failures)
-        (D.known folder.now) (Some name.now) f) }
-{
-    let bytes = read_file(alloc, folder, name, MOST_BYTES + 1)?;
-    compiled(alloc, &bytes)
-}
 
 /// Draws journals with the names of a program.
 fn draw_named<D: Folder>(

@@ -1,9 +1,10 @@
 -- What is drawn of the bytes that were read is drawn of the file's.
 use Rattle.std.proofs.Common.{◌<◌, subst, length, arith, Some, string_bytes}
 use Rattle.std.proofs.lemmas.Result.{IfOk-weaker}
+use Rattle.lus_cli.specs.CodeSpecs.Codes.{program_of}
 use Rattle.lus_cli.specs.Ends.{ReadFails}
 use Rattle.lus_draw.specs.Drawings.{Draws}
-use Rattle.lus_draw.proofs.Files.{drawn_of}
+use Rattle.lus_draw.proofs.Files.{drawn_of, named}
 use Rattle.lus_draw.proofs.shell.draw_named.Goals as goal
 
 pub returns-clause-drawn : goal.returns-clause-drawn
@@ -15,5 +16,5 @@ returns-clause-drawn g c =
       drawn_of (ReadFails g.row.D-File.Denot g.D.File.Source.left g.D.File.Source.failures) (g.D.Folder.known c.args.folder.now) c.args.journal.now
           (Some c.args.program.now) 18446744073709551615 read.items short c.in_ok-bytes.ensures.bytes (λ bs. Draws c.args.format bs (string_bytes s))
           (subst (λ bs. Draws c.args.format bs (string_bytes s)) c.deref.ensures.value drawn),
-      c.in_ok-program.ensures.named,
+      named (g.D.Folder.known c.args.folder.now) c.args.program.now (program_of c.in_ok-program.program) c.in_ok-program.ensures.accepted,
     )) c.drawing.ensures.drawn

@@ -1,9 +1,9 @@
 -- A refusal by a pass is one of the bytes, or want of memory.
 use Rattle.std.proofs.Common.{refl, subst}
-use Rattle.lus_cli.specs.MachineSpecs.Acceptance.{RefusedWith}
-use Rattle.lus_cli.specs.HostSpecs.Sources.{is_refused}
-use Rattle.lus_draw.proofs.Files.{refusal_fault}
-use Rattle.lus_draw.proofs.shell.compiled.Goals as goal
+use Rattle.lus_host.specs.MachineSpecs.Acceptance.{RefusedWith}
+use Rattle.lus_host.specs.Sources.{is_refused}
+use Rattle.lus_cli.proofs.ProgramLemmas.{refusal_fault}
+use Rattle.lus_cli.proofs.program.compiled.Goals as goal
 
 pub returns-in-Err-compile-clause-fault : goal.returns-in-Err-compile-clause-fault
 returns-in-Err-compile-clause-fault c =

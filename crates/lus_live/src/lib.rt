@@ -1,0 +1,8 @@
+//! `lus_live PROGRAM NODE` makes the calls that its input has, a line each, on an instance of the node, and writes its journal as it
+//! grows.
+#![tactic(auto)]
+
+mod shell;
+mod words;
+
+pub use shell::command;
