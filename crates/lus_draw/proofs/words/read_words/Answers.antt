@@ -1,9 +1,9 @@
-use Rattle.std.proofs.Common.{rules, ◌≡◌, ◌≢◌, ◌∙◌, ap, ap₂, sym, subst, Option, None, List, [], map, option_map, string_bytes, codes}
+use Rattle.std.proofs.Common.{rules, ◌≡◌, ◌≢◌, ◌∙◌, ap, ap₂, sym, subst, None, List, [], map, option_map, string_bytes, codes}
 use Rattle.std.proofs.lemmas.Result.{err_from_is_err_and}
 use Rattle.clap.specs.Words.{App, Row, app_of, found_of, first_of, first_value, matches_of, fault_of, rows_of}
 use Rattle.clap.proofs.WalkLemmas.{first_value-rows}
 use Rattle.lus_cli.specs.CommandLine.{Text, is_true}
-use Rattle.lus_draw.specs.CommandLine.{Asked, asked, chosen, format_of, is_set, said, task_seen, the_command}
+use Rattle.lus_draw.specs.CommandLine.{asked, chosen, format_of, is_set, said, task_seen, the_command}
 use Rattle.lus_cli.specs.declared.words.WordsError.TheVariants.{Mistaken}
 use Rattle.lus_cli.proofs.Lines.{err_part, faulty_asks, faultless_asks, ok_part}
 use Rattle.lus_draw.proofs.words.read_words.Goals as goal
