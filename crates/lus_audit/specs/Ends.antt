@@ -1,5 +1,5 @@
 -- How an audit ends: what was found of the journals, or which fault ended it.
-use Rattle.std.specs.Prelude.{◌≡◌, ◌⊎◌, ℕ, Bool, true, false, Some, Result, ⊤}
+use Rattle.std.specs.Prelude.{◌⊎◌, ℕ, Bool, true, false, Some, Result, ⊤}
 use Rattle.lus_program.specs.Programs.{Program}
 use Rattle.lus_devices.specs.Folders.{Known, WithFile}
 use Rattle.lus_cli.specs.HostSpecs.Sources.{ProgramRefused}
