@@ -3,8 +3,8 @@ use Rattle.std.proofs.Common.{◌≡◌, ◌+◌, refl, subst, take, None}
 use Rattle.std.proofs.lemmas.Result.{IfOk-weaker}
 use Rattle.lus_syntax.specs.Limits.{most_bytes}
 use Rattle.lus_reports.specs.Verdicts.{IsVerdict, named, verdict_seen}
-use Rattle.lus_reports.proofs.Left.{file_then, verdict_left}
-use Rattle.lus_reports.proofs.shell.judge_program.Goals as goal
+use Rattle.lus_explain.proofs.Left.{file_then, verdict_left}
+use Rattle.lus_explain.proofs.shell.judge_program.Goals as goal
 
 pub returns-clause-said : goal.returns-clause-said
 returns-clause-said g c =

@@ -4,16 +4,19 @@ use Rattle.lus_syntax.specs.Limits.{most_bytes}
 use Rattle.lus_syntax.specs.declared.refusal.Refusal.{Refusal}
 use Rattle.lus_syntax.specs.Lexemes.{Text}
 use Rattle.lus_program.specs.Programs.{Program}
-use Rattle.lus_cli.specs.MachineSpecs.Acceptance.{Accepted}
 use Rattle.lus_devices.specs.Devices.{Bytes}
 use Rattle.lus_devices.specs.Folders.{Known, WithFile}
-use Rattle.lus_cli.specs.HostSpecs.Sources.{no_utf8, too_long}
-use Rattle.lus_cli.proofs.HostProofs.Sources.{accepted_left, read_part, read_whole}
-use Rattle.lus_cli.proofs.HostProofs.ScriptErrors.{error_left, scripts_left}
-use Rattle.lus_cli.specs.Ends.{WithFiles}
+use Rattle.lus_reports.specs.CliSpecs.MachineSpecs.Acceptance.{Accepted}
+use Rattle.lus_reports.specs.CliSpecs.HostSpecs.Sources.{no_utf8, too_long}
+use Rattle.lus_reports.specs.CliSpecs.Ends.{WithFiles}
+use Rattle.lus_reports.proofs.CliProofs.HostProofs.Sources.{accepted_left, read_part, read_whole}
+use Rattle.lus_reports.proofs.CliProofs.HostProofs.ScriptErrors.{error_left, scripts_left}
 use Rattle.lus_reports.specs.Explanations.{IsExplained, is_no_text, is_refused}
 use Rattle.lus_reports.specs.Verdicts as verdicts
-use Rattle.lus_reports.specs.Verdicts.{AreJudged, IsVerdict, Named, Said, are_judged, are_refused, are_scripts, is_accepted, named}
+use Rattle.lus_reports.specs.Verdicts.{AreJudged, IsVerdict, Named, Said, SaysRefused, are_judged, are_refused, are_scripts, is_accepted, named}
+use Rattle.lus_explain.specs.Skeletons as skeletons
+use Rattle.lus_explain.specs.Skeletons.{IsAnswer, is_of}
+use Rattle.lus_explain.specs.declared.script.Script.{Script}
 
 module _ (m n : ℕ) (is : m ≡ most_bytes) (next : n ≡ m + 1) (bytes left : Bytes) (read : bytes ≡ take n left) where
   whole : length bytes ≤ most_bytes → bytes ≡ left
@@ -24,6 +27,17 @@ module _ (m n : ℕ) (is : m ≡ most_bytes) (next : n ≡ m + 1) (bytes left : 
   explained_left r (is_no_text (no_utf8 short wrong at)) = subst (λ bs. IsExplained bs r None) (whole short) (is_no_text (no_utf8 short wrong at))
   explained_left r {line = line} (is_refused short refused) = subst (λ bs. IsExplained bs r line) (whole short) (is_refused short refused)
 
+  refused_left : (name : Text) (said : Said) → SaysRefused (named name bytes) said → SaysRefused (named name left) said
+  refused_left name said r = record {
+    refusal = r.refusal;
+    line = r.line;
+    told = r.told;
+    other = r.other;
+    explained = explained_left r.refusal r.explained;
+    status = r.status;
+    text = r.text;
+  }
+
   accepted_so : (p : Program) → Accepted bytes p → Accepted left p
   accepted_so p a = let short : length bytes ≤ m = subst (λ k. length bytes ≤ k) is_back a.size in accepted_left m n next bytes left p read short a
     where
@@ -31,7 +45,7 @@ module _ (m n : ℕ) (is : m ≡ most_bytes) (next : n ≡ m + 1) (bytes left : 
       is_back = omega arith
 
   pub verdict_left : (name : Text) (said : Said) {scripts : Option Named} → IsVerdict (named name bytes) said scripts → IsVerdict (named name left) said scripts
-  verdict_left name said (verdicts.is_refused r line told other explained status text) = verdicts.is_refused r line told other (explained_left r explained) status text
+  verdict_left name said (verdicts.is_refused refused) = verdicts.is_refused (refused_left name said refused)
   verdict_left name said (is_accepted p a status) = is_accepted p (accepted_so p a) status
   verdict_left name said (are_judged p a judged) = are_judged p (accepted_so p a) judged
 
@@ -40,8 +54,12 @@ module _ (m n : ℕ) (is : m ≡ most_bytes) (next : n ≡ m + 1) (bytes left : 
   judged_left p name said (are_refused e other r status text) = are_refused e other (error_left m n is next p bytes left read e r) status text
 
   pub scripts_so : (program : Named) (name : Text) (said : Said) → IsVerdict program said (Some (named name bytes)) → IsVerdict program said (Some (named name left))
-  scripts_so program name said (verdicts.is_refused r line told other explained status text) = verdicts.is_refused r line told other explained status text
+  scripts_so program name said (verdicts.is_refused refused) = verdicts.is_refused refused
   scripts_so program name said (are_judged p a judged) = are_judged p a (judged_left p name said judged)
+
+  pub answer_left : (name node : Text) {s : Script} → IsAnswer (named name bytes) node s → IsAnswer (named name left) node s
+  answer_left name node (is_of p a script) = is_of p (accepted_so p a) script
+  answer_left name node (skeletons.is_refused v refused) = skeletons.is_refused v (refused_left name (verdicts.verdict_seen v) refused)
 
 -- what follows of a file's bytes
 pub file_then : (known : Known) (P Q : Bytes → Type 0) → ((bytes : Bytes) → P bytes → Q bytes) → WithFile known P → WithFile known Q
