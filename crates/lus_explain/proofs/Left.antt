@@ -1,5 +1,5 @@
 -- What is said of bytes that were read up to one more than there may be holds of those left.
-use Rattle.std.proofs.Common.{◌≡◌, subst, ℕ, ◌+◌, ◌<◌, ◌≤◌, length, take, arith, Option, Some, None}
+use Rattle.std.proofs.Common.{◌≡◌, subst, ℕ, ◌+◌, ◌<◌, ◌≤◌, length, take, arith, Bool, true, false, Option, Some, None}
 use Rattle.lus_syntax.specs.Limits.{most_bytes}
 use Rattle.lus_syntax.specs.declared.refusal.Refusal.{Refusal}
 use Rattle.lus_syntax.specs.Lexemes.{Text}
@@ -14,6 +14,8 @@ use Rattle.lus_reports.proofs.CliProofs.HostProofs.ScriptErrors.{error_left, scr
 use Rattle.lus_reports.specs.Explanations.{IsExplained, is_no_text, is_refused}
 use Rattle.lus_reports.specs.Verdicts as verdicts
 use Rattle.lus_reports.specs.Verdicts.{AreJudged, IsVerdict, Named, Said, SaysRefused, are_judged, are_refused, are_scripts, is_accepted, named}
+use Rattle.lus_explain.specs.Lines as lines
+use Rattle.lus_explain.specs.Lines.{AreJudgedInLines, IsVerdictAs, IsVerdictInLines}
 use Rattle.lus_explain.specs.Skeletons as skeletons
 use Rattle.lus_explain.specs.Skeletons.{IsAnswer, is_of}
 use Rattle.lus_explain.specs.declared.script.Script.{Script}
@@ -44,7 +46,7 @@ module _ (m n : ℕ) (is : m ≡ most_bytes) (next : n ≡ m + 1) (bytes left : 
       is_back : most_bytes ≡ m
       is_back = omega arith
 
-  pub verdict_left : (name : Text) (said : Said) {scripts : Option Named} → IsVerdict (named name bytes) said scripts → IsVerdict (named name left) said scripts
+  verdict_left : (name : Text) (said : Said) {scripts : Option Named} → IsVerdict (named name bytes) said scripts → IsVerdict (named name left) said scripts
   verdict_left name said (verdicts.is_refused refused) = verdicts.is_refused (refused_left name said refused)
   verdict_left name said (is_accepted p a status) = is_accepted p (accepted_so p a) status
   verdict_left name said (are_judged p a judged) = are_judged p (accepted_so p a) judged
@@ -53,9 +55,32 @@ module _ (m n : ℕ) (is : m ≡ most_bytes) (next : n ≡ m + 1) (bytes left : 
   judged_left p name said (are_scripts s a status text) = are_scripts s (scripts_left m n is next p bytes left read s a) status text
   judged_left p name said (are_refused e other r status text) = are_refused e other (error_left m n is next p bytes left read e r) status text
 
-  pub scripts_so : (program : Named) (name : Text) (said : Said) → IsVerdict program said (Some (named name bytes)) → IsVerdict program said (Some (named name left))
+  scripts_so : (program : Named) (name : Text) (said : Said) → IsVerdict program said (Some (named name bytes)) → IsVerdict program said (Some (named name left))
   scripts_so program name said (verdicts.is_refused refused) = verdicts.is_refused refused
   scripts_so program name said (are_judged p a judged) = are_judged p a (judged_left p name said judged)
+
+  lines_left : (name : Text) (said : Said) {scripts : Option Named} → IsVerdictInLines (named name bytes) said scripts → IsVerdictInLines (named name left) said scripts
+  lines_left name said (lines.is_refused r line other explained status text) = lines.is_refused r line other (explained_left r explained) status text
+  lines_left name said (lines.is_accepted p a status text) = lines.is_accepted p (accepted_so p a) status text
+  lines_left name said (lines.are_judged p a judged) = lines.are_judged p (accepted_so p a) judged
+
+  lines_judged_left : (p : Program) (name : Text) (said : Said) → AreJudgedInLines p (named name bytes) said → AreJudgedInLines p (named name left) said
+  lines_judged_left p name said (lines.are_scripts s a status text) = lines.are_scripts s (scripts_left m n is next p bytes left read s a) status text
+  lines_judged_left p name said (lines.are_refused e other r status text) = lines.are_refused e other (error_left m n is next p bytes left read e r) status text
+
+  lines_scripts_so : (program : Named) (name : Text) (said : Said) → IsVerdictInLines program said (Some (named name bytes)) → IsVerdictInLines program said (Some (named name left))
+  lines_scripts_so program name said (lines.is_refused r line other explained status text) = lines.is_refused r line other explained status text
+  lines_scripts_so program name said (lines.are_judged p a judged) = lines.are_judged p a (lines_judged_left p name said judged)
+
+  pub said_left : (is_json : Bool) (name : Text) (said : Said) {scripts : Option Named} → IsVerdictAs is_json (named name bytes) said scripts
+      → IsVerdictAs is_json (named name left) said scripts
+  said_left true = lines_left
+  said_left false = verdict_left
+
+  pub scripts_said_left : (is_json : Bool) (program : Named) (name : Text) (said : Said) → IsVerdictAs is_json program said (Some (named name bytes))
+      → IsVerdictAs is_json program said (Some (named name left))
+  scripts_said_left true = lines_scripts_so
+  scripts_said_left false = scripts_so
 
   pub answer_left : (name node : Text) {s : Script} → IsAnswer (named name bytes) node s → IsAnswer (named name left) node s
   answer_left name node (is_of p a script) = is_of p (accepted_so p a) script

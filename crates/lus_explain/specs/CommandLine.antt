@@ -1,8 +1,9 @@
 -- What the words of the command line ask for, by the meaning that clap's own specification gives to the command.
-use Rattle.std.specs.Prelude.{List, Option, Some, None, option_map, codes, true}
+use Rattle.std.specs.Prelude.{Bool, List, Option, Some, None, option_map, codes, true, false}
 use Rattle.clap.specs.Words.{App, Rule, new_app, new_rule, with_rule, first_of}
+use Rattle.clap.specs.declared.builder.ArgAction.TheVariants.{SetTrue}
 use Rattle.lus_syntax.specs.Lexemes.{Text}
-use Rattle.lus_reports.specs.CliSpecs.CommandLine.{asked_of, program_rule}
+use Rattle.lus_reports.specs.CliSpecs.CommandLine.{asked_of, is_true, program_rule}
 use Rattle.lus_explain.specs.declared.words.Task.{Task}
 use Rattle.lus_explain.specs.declared.words.Task.TheVariants as tasks
 
@@ -16,33 +17,37 @@ bare = record (new_app (codes "lus_explain")) {
   };
 }
 
+abbrev pub json_rule : Rule
+json_rule = record (new_rule (codes "json")) { long = Some (codes "json"); action = Some SetTrue }
+
 abbrev pub script_rule : Rule
 script_rule = record (new_rule (codes "script")) { long = Some (codes "script") }
 
--- an option `--script NODE`, a required PROGRAM and an optional SCRIPTS
+-- a flag `--json`, an option `--script NODE`, a required PROGRAM and an optional SCRIPTS
 abbrev pub the_command : App
-the_command = with_rule (with_rule (with_rule bare script_rule) program_rule) (new_rule (codes "SCRIPTS"))
+the_command = with_rule (with_rule (with_rule (with_rule bare json_rule) script_rule) program_rule) (new_rule (codes "SCRIPTS"))
 
--- a well formed line asks what there is to say of a program, and perhaps of scripts for it; or for scripts to begin from, for the
--- node of this name of a program
+-- a well formed line asks what there is to say of a program, and perhaps of scripts for it, as JSON or not; or for scripts to begin
+-- from, for the node of this name of a program
 pub data Asked : Type 0 where
-  explain : (program : Text) → (scripts : Option Text) → Asked
+  explain : (is_json : Bool) → (program : Text) → (scripts : Option Text) → Asked
   script : (node program : Text) → Asked
 
--- where a script is asked for there are none
-abbrev pub chosen : Option Text → Option Text → Option Text → Option Asked
-chosen None (Some program) scripts = Some (explain program scripts)
-chosen (Some node) (Some program) None = Some (script node program)
-chosen (Some node) (Some program) (Some scripts) = None
-chosen None None scripts = None
-chosen (Some node) None scripts = None
+-- where scripts to begin from are asked for there are no others, and no JSON is asked for
+abbrev pub chosen : Bool → Option Text → Option Text → Option Text → Option Asked
+chosen is_json None (Some program) scripts = Some (explain is_json program scripts)
+chosen false (Some node) (Some program) None = Some (script node program)
+chosen false (Some node) (Some program) (Some scripts) = None
+chosen true (Some node) (Some program) scripts = None
+chosen is_json None None scripts = None
+chosen is_json (Some node) None scripts = None
 
 -- what the words after the program's own name ask for, where they are well formed
 unfoldable pub asked : List Text → Option Asked
 asked =
-    asked_of the_command (λ m. chosen (first_of (codes "script") m) (first_of (codes "PROGRAM") m) (first_of (codes "SCRIPTS") m))
+    asked_of the_command (λ m. chosen (is_true (first_of (codes "json") m)) (first_of (codes "script") m) (first_of (codes "PROGRAM") m) (first_of (codes "SCRIPTS") m))
 
 -- a task as plain data
 abbrev pub task_seen : Task → Asked
-task_seen (tasks.Explain program scripts) = explain program.now (option_map (λ s. s.now) scripts)
+task_seen (tasks.Explain is_json program scripts) = explain is_json program.now (option_map (λ s. s.now) scripts)
 task_seen (tasks.Script node program) = script node.now program.now

@@ -8,23 +8,30 @@ ghost use Rattle.lus_reports.specs.Verdicts.{verdict_seen};
 ghost use Rattle.lus_explain.specs.CommandLine.{asked};
 ghost use Rattle.lus_explain.specs.Ends.{AreLost, CommandEnds, ExplainEnds, IsAnswerFor, IsSaidOf, ScriptEnds};
 
+use crate::lines::judge_as;
 use crate::script::{Script, script_for};
 use crate::words::{Task, read_words};
 use lus_devices::{Folder, Sink, write_all};
 use lus_reports::lus_cli::{Fault, read_file, tell};
-use lus_reports::{File, Verdict, judge};
+use lus_reports::{File, Verdict};
 use lus_syntax::MOST_BYTES;
 use std::alloc::Global;
 
 /// What is said of a program by itself. Of a file the bytes are read to their end, or to the first that is one too many.
-fn judge_program<D: Folder>(alloc: Global, folder: &D, name: &str) -> Result<Verdict, Fault>
-    ensures said { IfOk result (λ v. IsSaidOf (D.known folder.now) name.now None (verdict_seen v)) }
+fn judge_program<D: Folder>(
+    alloc: Global,
+    folder: &D,
+    is_json: bool,
+    name: &str,
+) -> Result<Verdict, Fault>
+    ensures said { IfOk result (λ v. IsSaidOf (D.known folder.now) is_json name.now None (verdict_seen v)) }
     ensures fault { IfErr result (λ f. IsReadingFault
         (AreLost (ReadFails D.File D.File.left D.File.failures) (D.known folder.now) name.now None) f) }
 {
     let program = read_file(alloc, folder, name, MOST_BYTES + 1)?;
-    judge(
+    judge_as(
         alloc,
+        is_json,
         File {
             name,
             bytes: &program,
@@ -37,17 +44,19 @@ fn judge_program<D: Folder>(alloc: Global, folder: &D, name: &str) -> Result<Ver
 fn judge_both<D: Folder>(
     alloc: Global,
     folder: &D,
+    is_json: bool,
     program_name: &str,
     scripts_name: &str,
 ) -> Result<Verdict, Fault>
-    ensures said { IfOk result (λ v. IsSaidOf (D.known folder.now) program_name.now (Some scripts_name.now) (verdict_seen v)) }
+    ensures said { IfOk result (λ v. IsSaidOf (D.known folder.now) is_json program_name.now (Some scripts_name.now) (verdict_seen v)) }
     ensures fault { IfErr result (λ f. IsReadingFault
         (AreLost (ReadFails D.File D.File.left D.File.failures) (D.known folder.now) program_name.now (Some scripts_name.now)) f) }
 {
     let program = read_file(alloc, folder, program_name, MOST_BYTES + 1)?;
     let scripts = read_file(alloc, folder, scripts_name, MOST_BYTES + 1)?;
-    judge(
+    judge_as(
         alloc,
+        is_json,
         File {
             name: program_name,
             bytes: &program,
@@ -63,16 +72,17 @@ fn judge_both<D: Folder>(
 fn judge_files<D: Folder>(
     alloc: Global,
     folder: &D,
+    is_json: bool,
     program: &str,
     scripts: Option<&str>,
 ) -> Result<Verdict, Fault>
-    ensures said { IfOk result (λ v. IsSaidOf (D.known folder.now) program.now (option_map (λ s. s.now) scripts.entry) (verdict_seen v)) }
+    ensures said { IfOk result (λ v. IsSaidOf (D.known folder.now) is_json program.now (option_map (λ s. s.now) scripts.entry) (verdict_seen v)) }
     ensures fault { IfErr result (λ f. IsReadingFault (AreLost (ReadFails D.File D.File.left D.File.failures)
         (D.known folder.now) program.now (option_map (λ s. s.now) scripts.entry)) f) }
 {
     match scripts {
-        Some(scripts) => judge_both(alloc, folder, program, scripts),
-        None => judge_program(alloc, folder, program),
+        Some(scripts) => judge_both(alloc, folder, is_json, program, scripts),
+        None => judge_program(alloc, folder, is_json, program),
     }
 }
 
@@ -89,15 +99,16 @@ fn write_verdict<O: Sink>(output: &mut O, verdict: &Verdict) -> Result<u8, Fault
 fn perform<D: Folder, O: Sink>(
     alloc: Global,
     folder: &D,
+    is_json: bool,
     program: &str,
     scripts: Option<&str>,
     output: &mut O,
 ) -> Result<u8, Fault>
-    ensures { ExplainEnds (ReadFails D.File D.File.left D.File.failures) (D.known folder.now) program.now
+    ensures { ExplainEnds (ReadFails D.File D.File.left D.File.failures) (D.known folder.now) is_json program.now
         (option_map (λ s. s.now) scripts.entry) result
         (change (O.written output.old) (O.written output.new) (O.failures output.old) (O.failures output.new)) }
 {
-    let verdict = judge_files(alloc, folder, program, scripts)?;
+    let verdict = judge_files(alloc, folder, is_json, program, scripts)?;
     write_verdict(output, &verdict)
 }
 
@@ -105,17 +116,18 @@ fn perform<D: Folder, O: Sink>(
 fn explain_files<D: Folder, O: Sink, F: Sink>(
     alloc: Global,
     folder: &D,
+    is_json: bool,
     program: &str,
     scripts: Option<&str>,
     output: &mut O,
     faults: &mut F,
 ) -> u8
-    ensures { Ends (λ s. s) (ExplainEnds (ReadFails D.File D.File.left D.File.failures) (D.known folder.now) program.now)
+    ensures { Ends (λ s. s) (ExplainEnds (ReadFails D.File D.File.left D.File.failures) (D.known folder.now) is_json program.now)
         (Some (option_map (λ s. s.now) scripts.entry))
         (change (O.written output.old) (O.written output.new) (O.failures output.old) (O.failures output.new))
         (change (F.written faults.old) (F.written faults.new) (F.failures faults.old) (F.failures faults.new)) result }
 {
-    match perform(alloc, folder, program, scripts, output) {
+    match perform(alloc, folder, is_json, program, scripts, output) {
         Ok(status) => status,
         Err(fault) => tell(faults, fault),
     }
@@ -191,9 +203,13 @@ pub fn command<D: Folder, O: Sink, F: Sink>(
         (asked (map string_bytes words.now)) }
 {
     match read_words(alloc, words) {
-        Ok(Task::Explain { program, scripts }) => {
-            explain_files(alloc, folder, program, scripts, output, faults)
-        }
+        Ok(
+            Task::Explain {
+                is_json,
+                program,
+                scripts,
+            },
+        ) => explain_files(alloc, folder, is_json, program, scripts, output, faults),
         Ok(Task::Script { node, program }) => {
             write_script(alloc, folder, node, program, output, faults)
         }

@@ -6,25 +6,23 @@ use Rattle.serde_json.specs.Written.{compact_text}
 use Rattle.lus_syntax.specs.Lexemes.{Text}
 use Rattle.lus_syntax.specs.Refusals.{number_text}
 use Rattle.lus_syntax.specs.declared.refusal.Refusal.{Refusal}
-use Rattle.lus_syntax.specs.declared.refusal.RefusalNumber.{RefusalNumber}
 
 -- a text as a string of JSON
-abbrev pub quoted : Text → Text
+unfoldable pub quoted : Text → Text
 quoted text = compact_text (string text)
 
--- the file, the number and the message
-abbrev pub head_json : Text → RefusalNumber → Text → Text
-head_json file number message =
-    codes "{\"file\":" ++ quoted file ++ codes ",\"number\":\"" ++ number_text number ++ codes "\",\"message\":" ++ quoted message
+-- the number, by its text
+abbrev pub number_json : Text → Text
+number_json number = codes ",\"number\":\"" ++ number ++ codes "\",\"message\":"
 
--- a place, by its line and its column
-abbrev pub place_json : ℕ → ℕ → Text
-place_json line column = codes "{\"line\":" ++ decimal line ++ codes ",\"column\":" ++ decimal column ++ codes "}"
+-- where it begins
+abbrev pub start_json : ℕ → ℕ → Text
+start_json line column = codes ",\"start\":{\"line\":" ++ decimal line ++ codes ",\"column\":" ++ decimal column ++ codes "}"
 
 -- an object on a line of its own: the file, the number, the message, where it begins, and what is told further
 abbrev pub fault_json : Text → Refusal → Text → Text → Text
 fault_json file r message more =
-    head_json file r.number message ++ codes ",\"start\":" ++ place_json r.line r.column ++ more ++ codes "}\n"
+    codes "{\"file\":" ++ quoted file ++ number_json (number_text r.number) ++ quoted message ++ start_json r.line r.column ++ (more ++ codes "}\n")
 
 -- a fault of this file is said, with some message
 abbrev pub SaysFault : Text → Refusal → Text → Type 0

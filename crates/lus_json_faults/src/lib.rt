@@ -5,4 +5,4 @@ mod line;
 mod members;
 mod ranges;
 
-pub use line::{fault_line, quoted};
+pub use line::{fault_line, push_number, push_string};

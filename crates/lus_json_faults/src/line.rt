@@ -1,7 +1,7 @@
 //! A fault as an object of JSON on a line of its own.
 
-ghost use Rattle.std.specs.Prelude.{◌≡◌, ◌++◌, IfOk, OnOk, codes, string_bytes};
-ghost use Rattle.lus_json_faults.specs.Lines.{SaysFault, head_json, place_json, quoted};
+ghost use Rattle.std.specs.Prelude.{◌≡◌, ◌++◌, IfOk, OnOk, string_bytes};
+ghost use Rattle.lus_json_faults.specs.Lines.{SaysFault, number_json, quoted, start_json};
 
 use crate::members::further_members;
 use lus_faults::Finding;
@@ -16,30 +16,25 @@ pub fn quoted(alloc: Global, text: &str) -> Result<String, AllocError>
     Value::try_from_str(alloc, text)?.to_string(alloc)
 }
 
-/// Appends the file, the number and the message.
-fn push_head(
-    alloc: Global,
-    text: &mut String,
-    file: &str,
-    refusal: &Refusal,
-    message: &str,
-) -> Result<(), AllocError>
-    ensures { OnOk result (string_bytes text.new
-        ≡ string_bytes text.old ++ head_json file.now refusal.now.number message.now) }
+/// Appends a text as a string of JSON.
+pub fn push_string(alloc: Global, line: &mut String, text: &str) -> Result<(), AllocError>
+    ensures { OnOk result (string_bytes line.new ≡ string_bytes line.old ++ quoted text.now) }
 {
-    let file = quoted(alloc, file)?;
-    let number = refusal.number.as_str();
-    let message = quoted(alloc, message)?;
-    write!(
-        text,
-        "{{\"file\":{file},\"number\":\"{number}\",\"message\":{message}"
-    )
+    let string = quoted(alloc, text)?;
+    line.push_str(string.as_str())
+}
+
+/// Appends a number behind the file, and the name of the message behind it.
+pub fn push_number(line: &mut String, number: &str) -> Result<(), AllocError>
+    ensures { OnOk result (string_bytes line.new ≡ string_bytes line.old ++ number_json number.now) }
+{
+    write!(line, ",\"number\":\"{number}\",\"message\":")
 }
 
 /// Appends where the fault begins.
 fn push_start(text: &mut String, refusal: &Refusal) -> Result<(), AllocError>
     ensures { OnOk result (string_bytes text.new
-        ≡ string_bytes text.old ++ codes ",\"start\":" ++ place_json refusal.now.line refusal.now.column) }
+        ≡ string_bytes text.old ++ start_json refusal.now.line refusal.now.column) }
 {
     let line = refusal.line;
     let column = refusal.column;
@@ -57,7 +52,10 @@ pub fn fault_line(
     ensures { IfOk result (λ line. SaysFault file.now refusal.now (string_bytes line)) }
 {
     let mut line = String::new(alloc);
-    push_head(alloc, &mut line, file, refusal, finding.sentence.as_str())?;
+    line.push_str("{\"file\":")?;
+    push_string(alloc, &mut line, file)?;
+    push_number(&mut line, refusal.number.as_str())?;
+    push_string(alloc, &mut line, finding.sentence.as_str())?;
     push_start(&mut line, refusal)?;
     let more = further_members(alloc, source, refusal, finding)?;
     write!(line, "{more}}}\n")?;

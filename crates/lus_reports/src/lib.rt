@@ -27,6 +27,6 @@ pub use lus_causes::lus_faults;
 pub use lus_cli;
 pub use outlining::outline;
 pub use reporting::report;
-pub use scripts::{Complaint, explain_scripts, report_scripts};
+pub use scripts::{Complaint, explain_scripts, meaning_of, report_scripts};
 pub use spot::Spot;
 pub use verdict::{File, Verdict, judge, judge_refused, refused_scripts};
