@@ -72,15 +72,15 @@ module _ (m n : ℕ) (is : m ≡ most_bytes) (next : n ≡ m + 1) (bytes left : 
   lines_scripts_so program name said (lines.is_refused r line other explained status text) = lines.is_refused r line other explained status text
   lines_scripts_so program name said (lines.are_judged p a judged) = lines.are_judged p a (lines_judged_left p name said judged)
 
-  pub said_left : (is_json : Bool) (name : Text) (said : Said) {scripts : Option Named} → IsVerdictAs is_json (named name bytes) said scripts
+  pub said_left : (is_json : Bool) (name : Text) (said : Said) (scripts : Option Named) → IsVerdictAs is_json (named name bytes) said scripts
       → IsVerdictAs is_json (named name left) said scripts
-  said_left true = lines_left
-  said_left false = verdict_left
+  said_left true name said scripts verdict = lines_left name said verdict
+  said_left false name said scripts verdict = verdict_left name said verdict
 
   pub scripts_said_left : (is_json : Bool) (program : Named) (name : Text) (said : Said) → IsVerdictAs is_json program said (Some (named name bytes))
       → IsVerdictAs is_json program said (Some (named name left))
-  scripts_said_left true = lines_scripts_so
-  scripts_said_left false = scripts_so
+  scripts_said_left true program name said verdict = lines_scripts_so program name said verdict
+  scripts_said_left false program name said verdict = scripts_so program name said verdict
 
   pub answer_left : (name node : Text) {s : Script} → IsAnswer (named name bytes) node s → IsAnswer (named name left) node s
   answer_left name node (is_of p a script) = is_of p (accepted_so p a) script

@@ -39,13 +39,15 @@ ExplainEnds read_fails known is_json program scripts =
 abbrev pub IsAnswerFor : (Text → Known) → Text → Text → Script → Type 0
 IsAnswerFor known node program s = WithFile (known program) (λ bytes. IsAnswer (named program bytes) node s)
 
--- scripts are written, whole or up to where the output failed, which is told; or nothing is, and it is told why there are none, or
--- that the file is lost or memory is out
+-- a text is written whole, or up to where the output failed, which is told
+pub data EndsWriting (text : Text) (output told : Change) (status : ℕ) : Type 0 where
+  is_whole : output.new ≡ with_text output.old text → IsSound output → IsUntouched told → status ≡ 0 → EndsWriting text output told status
+  is_cut : WritesBeginning output.old output.new text → HasFailed output → IsToldBy status faults.Output told → EndsWriting text output told status
+
+-- scripts are written; or nothing is, and it is told why there are none, or that the file is lost or memory is out
 pub data ScriptEnds (read_fails : Known → Type 0) (known : Text → Known) (node program : Text) (output told : Change) (status : ℕ) : Type 0 where
-  is_written : (text : _) → IsAnswerFor known node program (answers.Written text) → output.new ≡ with_text output.old (string_bytes text)
-      → IsSound output → IsUntouched told → status ≡ 0 → ScriptEnds read_fails known node program output told status
-  is_cut : (text : _) → IsAnswerFor known node program (answers.Written text) → WritesBeginning output.old output.new (string_bytes text)
-      → HasFailed output → IsToldBy status faults.Output told → ScriptEnds read_fails known node program output told status
+  is_written : (text : _) → IsAnswerFor known node program (answers.Written text) → EndsWriting (string_bytes text) output told status
+      → ScriptEnds read_fails known node program output told status
   is_refused : (v : Verdict) → IsAnswerFor known node program (answers.Refused v) → IsUntouched output → status ≡ v.status
       → Told (string_bytes v.text) told → ScriptEnds read_fails known node program output told status
   is_lost : (f : Fault) → IsReadingFault (IsLost read_fails (known program)) f → IsUntouched output → IsToldBy status f told

@@ -6,7 +6,7 @@ ghost use Rattle.lus_reports.specs.CliSpecs.Ends.{Ends, IsLost, IsReadingFault, 
 ghost use Rattle.lus_reports.specs.CliSpecs.Faults.{Told};
 ghost use Rattle.lus_reports.specs.Verdicts.{verdict_seen};
 ghost use Rattle.lus_explain.specs.CommandLine.{asked};
-ghost use Rattle.lus_explain.specs.Ends.{AreLost, CommandEnds, ExplainEnds, IsAnswerFor, IsSaidOf, ScriptEnds};
+ghost use Rattle.lus_explain.specs.Ends.{AreLost, CommandEnds, EndsWriting, ExplainEnds, IsAnswerFor, IsSaidOf, ScriptEnds};
 
 use crate::lines::judge_as;
 use crate::script::{Script, script_for};
@@ -155,6 +155,18 @@ fn script_of_file<D: Folder>(
     )
 }
 
+/// Writes a text, and gives the status: 0, or that of the fault where the output failed.
+fn write_text<O: Sink, F: Sink>(output: &mut O, faults: &mut F, text: &str) -> u8
+    ensures { EndsWriting text.now
+        (change (O.written output.old) (O.written output.new) (O.failures output.old) (O.failures output.new))
+        (change (F.written faults.old) (F.written faults.new) (F.failures faults.old) (F.failures faults.new)) result }
+{
+    match write_all(output, text.as_bytes()) {
+        Ok(()) => 0,
+        Err(_) => tell(faults, Fault::Output),
+    }
+}
+
 /// Tells why there are no scripts, and gives the status of that. A text that can't be written changes no status.
 fn tell_refused<F: Sink>(faults: &mut F, verdict: &Verdict) -> u8
     ensures status { result ≡ verdict.now.status }
@@ -179,10 +191,7 @@ fn write_script<D: Folder, O: Sink, F: Sink>(
         (change (F.written faults.old) (F.written faults.new) (F.failures faults.old) (F.failures faults.new)) result }
 {
     match script_of_file(alloc, folder, node, program) {
-        Ok(Script::Written(text)) => match write_all(output, text.as_bytes()) {
-            Ok(()) => 0,
-            Err(_) => tell(faults, Fault::Output),
-        },
+        Ok(Script::Written(text)) => write_text(output, faults, text.as_str()),
         Ok(Script::Refused(verdict)) => tell_refused(faults, &verdict),
         Err(fault) => tell(faults, fault),
     }

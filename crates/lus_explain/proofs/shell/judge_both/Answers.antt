@@ -18,7 +18,7 @@ returns-clause-said g c =
     IfOk-weaker c.judge_as.result _ _ (λ v verdict. files_then (known name) (known scripts) (λ bs. read ≡ take (most_bytes + 1) bs)
     (λ bs. others ≡ take (most_bytes + 1) bs) (λ text bytes. IsVerdictAs is_json (named name text) (verdict_seen v) (Some (named scripts bytes)))
     (λ text bytes same also. scripts_said_left most_bytes (most_bytes + 1) refl refl others bytes also is_json (named name text) scripts (verdict_seen v)
-    (said_left most_bytes (most_bytes + 1) refl refl read text same is_json name (verdict_seen v)
+    (said_left most_bytes (most_bytes + 1) refl refl read text same is_json name (verdict_seen v) (Some (named scripts others))
     (subst (λ bs. IsVerdictAs is_json (named name bs) (verdict_seen v) (Some (named scripts others))) c.deref.ensures.value
     (subst (λ bs. IsVerdictAs is_json (named name c.deref.result.now) (verdict_seen v) (Some (named scripts bs))) c.deref-2.ensures.value verdict))))
     c.in_ok-program.ensures.bytes c.in_ok-scripts.ensures.bytes) c.judge_as.ensures.verdict

@@ -14,6 +14,6 @@ returns-clause-said g c =
     let read = c.in_ok-program.program.items in
     IfOk-weaker c.judge_as.result _ _ (λ v verdict. file_then (g.D.Folder.known c.args.folder.now name) (λ bs. read ≡ take (most_bytes + 1) bs)
     (λ text. IsVerdictAs is_json (named name text) (verdict_seen v) None)
-    (λ text same. said_left most_bytes (most_bytes + 1) refl refl read text same is_json name (verdict_seen v)
+    (λ text same. said_left most_bytes (most_bytes + 1) refl refl read text same is_json name (verdict_seen v) None
     (subst (λ bs. IsVerdictAs is_json (named name bs) (verdict_seen v) None) c.deref.ensures.value verdict))
     c.in_ok-program.ensures.bytes) c.judge_as.ensures.verdict

@@ -16,5 +16,5 @@ returns-in-Ok-clause-verdict c =
     (IfOk-weaker c.accepted_program.result _ _ (λ v status. is_accepted (program_of c.in-Ok.accepted) c.in-Ok.ensures.accepted status)
     c.accepted_program.ensures.status)
 
-pub returns-in-Err-clause-verdict : goal.returns-in-Err-clause-verdict
-returns-in-Err-clause-verdict c = IfOk-weaker c.judge_refused.result _ _ (λ v said. is_refused said) c.judge_refused.ensures.said
+pub returns-clause-verdict : goal.returns-clause-verdict
+returns-clause-verdict c = IfOk-weaker c.judge_refused.result _ _ (λ v said. is_refused said) c.judge_refused.ensures.said
