@@ -22,5 +22,5 @@ returns-in-Ok-Refused g c =
     subst (IsAnswerFor (g.D.Folder.known c.args.folder.now) c.args.node.now c.args.program.now) c.in-Ok-Refused.field-0-is c.in-Ok-Refused.ensures.answer in
     is_refused c.in-Ok-Refused.verdict answer (refl, refl) c.tell_refused.ensures.status c.tell_refused.ensures.told
 
-pub returns : goal.returns
-returns g c = is_lost c.in-Err.fault c.in-Err.ensures.fault (refl, refl) c.tell.ensures
+pub returns-in-Err : goal.returns-in-Err
+returns-in-Err g c = is_lost c.in-Err.fault c.in-Err.ensures.fault (refl, refl) c.tell.ensures

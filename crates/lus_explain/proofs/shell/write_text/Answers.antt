@@ -10,8 +10,8 @@ returns-in-Ok g c =
     (subst (λ t. g.O.Sink.written c.write_all.new.sink ≡ with_text (g.O.Sink.written c.args.output.now) t) c.as_bytes.ensures.value c.in-Ok.ensures.whole)
     c.in-Ok.ensures.quiet (refl, refl) refl
 
-pub returns : goal.returns
-returns g c =
+pub returns-in-Err : goal.returns-in-Err
+returns-in-Err g c =
     is_cut
     (subst (WritesBeginning (g.O.Sink.written c.args.output.now) (g.O.Sink.written c.write_all.new.sink)) c.as_bytes.ensures.value c.in-Err.ensures.beginning)
     c.in-Err.ensures.failed c.tell.ensures
