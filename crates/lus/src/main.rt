@@ -41,7 +41,7 @@ fn main(rt: HostRuntime) -> ExitCode {
     let status = match arguments(&rt) {
         Ok(arguments) => match tool_and_words(&arguments) {
             ("lus_explain", words) => {
-                lus_reports::command(rt.alloc(), &disk, words, &mut output, &mut faults)
+                lus_explain::command(rt.alloc(), &disk, words, &mut output, &mut faults)
             }
             ("lus_draw", words) => {
                 lus_draw::command(rt.alloc(), &disk, words, &mut output, &mut faults)
