@@ -25,21 +25,22 @@ journal_rule = record (new_rule (codes "JOURNAL")) { required = true }
 
 -- the command with its flags, one for each format but text
 abbrev pub flagged : App
-flagged = with_rule (with_rule (with_rule bare (flag_rule (codes "svg"))) (flag_rule (codes "csv"))) (flag_rule (codes "vcd"))
+flagged =
+    with_rule (with_rule (with_rule (with_rule bare (flag_rule (codes "svg"))) (flag_rule (codes "waves"))) (flag_rule (codes "csv")))
+    (flag_rule (codes "vcd"))
 
 -- the flags, a required JOURNAL and an optional PROGRAM
 abbrev pub the_command : App
 the_command = with_rule (with_rule flagged journal_rule) (new_rule (codes "PROGRAM"))
 
--- the format that the flags for a picture, CSV and VCD ask for: of more than one there is none
-abbrev pub format_of : Bool → Bool → Bool → Option Format
-format_of false false false = Some formats.Text
-format_of true false false = Some formats.Svg
-format_of false true false = Some formats.Csv
-format_of false false true = Some formats.Vcd
-format_of false true true = None
-format_of true false true = None
-format_of true true vcd = None
+-- the format that the flags for a picture, waves, CSV and VCD ask for: of more than one there is none
+abbrev pub format_of : Bool → Bool → Bool → Bool → Option Format
+format_of false false false false = Some formats.Text
+format_of true false false false = Some formats.Svg
+format_of false true false false = Some formats.Waves
+format_of false false true false = Some formats.Csv
+format_of false false false true = Some formats.Vcd
+format_of svg waves csv vcd = None
 
 -- a format of journals, perhaps with the names of a program
 pub record Asked : Type 0 where
@@ -58,7 +59,7 @@ is_set name m = is_true (first_of name m)
 
 abbrev pub said : List Row → Option Asked
 said m =
-    chosen (format_of (is_set (codes "svg") m) (is_set (codes "csv") m) (is_set (codes "vcd") m))
+    chosen (format_of (is_set (codes "svg") m) (is_set (codes "waves") m) (is_set (codes "csv") m) (is_set (codes "vcd") m))
     (first_of (codes "JOURNAL") m) (first_of (codes "PROGRAM") m)
 
 -- what the words after the program's own name ask for, where they are well formed

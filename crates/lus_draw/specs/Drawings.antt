@@ -35,10 +35,11 @@ table_of t = (t.instance, t.columns)
 abbrev pub AreTablesOf : List Journal → Text → Type 0
 AreTablesOf journals written = (ts : List Trace) × (map table_of ts ≡ map journal_table journals) × (written ≡ csv_text ts)
 
--- what is written of journals: of text and of a value change dump nothing is said
+-- what is written of journals: of text, waves and a value change dump nothing is said
 abbrev pub IsShown : Format → List Journal → Text → Type 0
 IsShown formats.Text journals written = ⊤
 IsShown formats.Svg journals written = IsPictureOf (flat_map journal_words journals) written
+IsShown formats.Waves journals written = ⊤
 IsShown formats.Csv journals written = AreTablesOf journals written
 IsShown formats.Vcd journals written = ⊤
 

@@ -13,7 +13,7 @@ use crate::words::Format;
 use lus_cli::Fault;
 use lus_cli::lus_host::Program;
 use lus_diagrams::{Diagram, Journal, JournalError, draw, push_svg, push_text, read_journals};
-use lus_traces::{csv, vcd};
+use lus_traces::{csv, vcd, waves};
 use std::alloc::{AllocError, Global};
 use std::str;
 
@@ -146,6 +146,21 @@ fn picture(
     }
 }
 
+/// A picture of the waves of journals.
+fn wave_picture(
+    alloc: Global,
+    program: Option<&Program>,
+    journals: &[Journal<'_>],
+) -> Result<String, Fault>
+    ensures { IfErr result (λ f. IsDiagramFault (is_some program.entry) f) }
+{
+    let traces = traces(alloc, program, journals)?;
+    match waves(alloc, &traces) {
+        Ok(waves) => Ok(waves),
+        Err(_) => Err(Fault::Memory),
+    }
+}
+
 /// The tables of journals as CSV.
 fn tables(
     alloc: Global,
@@ -186,6 +201,7 @@ fn written(
     match format {
         Format::Text => text(alloc, program, journals),
         Format::Svg => picture(alloc, program, journals),
+        Format::Waves => wave_picture(alloc, program, journals),
         Format::Csv => tables(alloc, program, journals),
         Format::Vcd => dump(alloc, program, journals),
     }

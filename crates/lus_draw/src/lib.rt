@@ -1,4 +1,4 @@
-//! `lus_draw [--svg | --csv | --vcd] JOURNAL [PROGRAM]` draws the journals that `lus` printed, as text or as a picture, or writes them for
+//! `lus_draw [--svg | --waves | --csv | --vcd] JOURNAL [PROGRAM]` draws the journals that `lus` printed, as text or as a picture of tables or waves, or writes them for
 //! other programs, as CSV or as a value change dump.
 #![tactic(auto)]
 

@@ -10,11 +10,12 @@ use clap::{Arg, ArgAction, Command};
 use lus_cli::{WordsError, matches};
 use std::alloc::{AllocError, Global};
 
-/// What is written of journals: tables as text, a picture, tables as CSV, or a value change dump.
+/// What is written of journals: tables as text, a picture of them, a picture of waves, tables as CSV, or a value change dump.
 #[derive(Clone, Copy)]
 pub enum Format {
     Text,
     Svg,
+    Waves,
     Csv,
     Vcd,
 }
@@ -54,7 +55,8 @@ fn flagged<'a>(alloc: Global) -> Result<Command<'a>, AllocError>
     ensures { IfOk result (λ c. app_of c ≡ flagged) }
 {
     let svg = with_flag(alloc, bare(alloc), "svg")?;
-    let csv = with_flag(alloc, svg, "csv")?;
+    let waves = with_flag(alloc, svg, "waves")?;
+    let csv = with_flag(alloc, waves, "csv")?;
     with_flag(alloc, csv, "vcd")
 }
 
@@ -75,6 +77,7 @@ pub fn read_words<'a>(alloc: Global, words: &'a [String]) -> Result<Task<'a>, Wo
     choose(
         format_of(
             matches.get_str("svg"),
+            matches.get_str("waves"),
             matches.get_str("csv"),
             matches.get_str("vcd"),
         ),
@@ -95,15 +98,21 @@ fn is_set(flag: Option<&str>) -> bool
 }
 
 /// The format that flags ask for: of more than one there is none.
-fn format_of(svg: Option<&str>, csv: Option<&str>, vcd: Option<&str>) -> Option<Format>
-    ensures { result ≡ format_of (is_true (option_map (λ t. t.now) svg.entry)) (is_true (option_map (λ t. t.now) csv.entry))
-        (is_true (option_map (λ t. t.now) vcd.entry)) }
+fn format_of(
+    svg: Option<&str>,
+    waves: Option<&str>,
+    csv: Option<&str>,
+    vcd: Option<&str>,
+) -> Option<Format>
+    ensures { result ≡ format_of (is_true (option_map (λ t. t.now) svg.entry)) (is_true (option_map (λ t. t.now) waves.entry))
+        (is_true (option_map (λ t. t.now) csv.entry)) (is_true (option_map (λ t. t.now) vcd.entry)) }
 {
-    match (is_set(svg), is_set(csv), is_set(vcd)) {
-        (false, false, false) => Some(Format::Text),
-        (true, false, false) => Some(Format::Svg),
-        (false, true, false) => Some(Format::Csv),
-        (false, false, true) => Some(Format::Vcd),
+    match (is_set(svg), is_set(waves), is_set(csv), is_set(vcd)) {
+        (false, false, false, false) => Some(Format::Text),
+        (true, false, false, false) => Some(Format::Svg),
+        (false, true, false, false) => Some(Format::Waves),
+        (false, false, true, false) => Some(Format::Csv),
+        (false, false, false, true) => Some(Format::Vcd),
         _ => None,
     }
 }

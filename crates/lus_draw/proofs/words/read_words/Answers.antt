@@ -28,13 +28,14 @@ asked_is c =
     let found = found_of c.in_ok-matches.matches in
     let command_is : app_of c.in_ok-command.field-0 ≡ the_command = search rules in
     let value : (id : Text) → first_value found id ≡ first_of id (rows_of found) = first_value-rows found in
-    let format : c.format_of.result ≡ format_of (is_set (codes "svg") (rows_of found)) (is_set (codes "csv") (rows_of found)) (is_set (codes "vcd") (rows_of found)) =
+    let format : c.format_of.result
+    ≡ format_of (is_set (codes "svg") (rows_of found)) (is_set (codes "waves") (rows_of found)) (is_set (codes "csv") (rows_of found)) (is_set (codes "vcd") (rows_of found)) =
     c.format_of.ensures
-    ∙ ap₂ (λ f v. f (is_true v)) (ap₂ (λ s v. format_of (is_true s) (is_true v)) (c.get_str.ensures ∙ value (codes "svg")) (c.get_str-2.ensures ∙ value (codes "csv")))
-    (c.get_str-3.ensures ∙ value (codes "vcd")) in
+    ∙ ap₂ (λ f v. f (is_true v)) (ap₂ (λ f v. f (is_true v)) (ap₂ (λ s v. format_of (is_true s) (is_true v)) (c.get_str.ensures ∙ value (codes "svg")) (c.get_str-2.ensures ∙ value (codes "waves")))
+    (c.get_str-3.ensures ∙ value (codes "csv"))) (c.get_str-4.ensures ∙ value (codes "vcd")) in
     faultless (map string_bytes c.args.words.now) (app_of c.in_ok-command.field-0) (rows_of found) command_is c.in_ok-matches.ensures.right c.in_ok-matches.ensures.rows
     ∙ sym (c.choose.ensures
-    ∙ ap₂ (λ f p. f p) (ap₂ chosen format (c.get_str-4.ensures ∙ value (codes "JOURNAL"))) (c.get_str-5.ensures ∙ value (codes "PROGRAM")))
+    ∙ ap₂ (λ f p. f p) (ap₂ chosen format (c.get_str-5.ensures ∙ value (codes "JOURNAL"))) (c.get_str-6.ensures ∙ value (codes "PROGRAM")))
 
 pub returns-clause-ok : goal.returns-clause-ok
 returns-clause-ok c = ok_part task_seen Mistaken c.choose.result c.ok_or.result (asked (map string_bytes c.args.words.now)) c.ok_or.ensures.value (asked_is c)
