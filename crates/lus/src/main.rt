@@ -1,5 +1,5 @@
 //! `lus --check PROGRAM` and `lus PROGRAM SCRIPTS`. By the name of another tool, through a link, the same program is that tool:
-//! `lus_explain`, `lus_draw`, `lus_live`.
+//! `lus_explain`, `lus_draw`, `lus_audit`, `lus_live`.
 #![tactic(auto)]
 
 use lus_cli::{Fault, command, tell};
@@ -41,10 +41,13 @@ fn main(rt: HostRuntime) -> ExitCode {
     let status = match arguments(&rt) {
         Ok(arguments) => match tool_and_words(&arguments) {
             ("lus_explain", words) => {
-                lus_reports::command(rt.alloc(), &disk, words, &mut output, &mut faults)
+                lus_explain::command(rt.alloc(), &disk, words, &mut output, &mut faults)
             }
             ("lus_draw", words) => {
                 lus_draw::command(rt.alloc(), &disk, words, &mut output, &mut faults)
+            }
+            ("lus_audit", words) => {
+                lus_audit::command(rt.alloc(), &disk, words, &mut output, &mut faults)
             }
             ("lus_live", words) => lus_live::command(
                 rt.alloc(),

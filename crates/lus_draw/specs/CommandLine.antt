@@ -1,8 +1,10 @@
 -- What the words of the command line ask for, by the meaning that clap's own specification gives to the command.
-use Rattle.std.specs.Prelude.{Bool, List, Option, Some, None, option_map, codes, true}
-use Rattle.clap.specs.Words.{App, Rule, new_app, new_rule, with_rule, first_of}
+use Rattle.std.specs.Prelude.{Bool, List, Option, Some, None, option_map, codes, true, false}
+use Rattle.clap.specs.Words.{App, Row, Rule, new_app, new_rule, with_rule, first_of}
 use Rattle.clap.specs.declared.builder.ArgAction.TheVariants.{SetTrue}
 use Rattle.lus_cli.specs.CommandLine.{Text, asked_of, is_true}
+use Rattle.lus_draw.specs.declared.words.Format.{Format}
+use Rattle.lus_draw.specs.declared.words.Format.TheVariants as formats
 use Rattle.lus_draw.specs.declared.words.Task.{Task}
 
 -- the command before its arguments: no name of the program among the words, no help, no version
@@ -15,31 +17,55 @@ bare = record (new_app (codes "lus_draw")) {
   };
 }
 
-abbrev pub svg_rule : Rule
-svg_rule = record (new_rule (codes "svg")) { long = Some (codes "svg"); action = Some SetTrue }
+abbrev pub flag_rule : Text → Rule
+flag_rule name = record (new_rule name) { long = Some name; action = Some SetTrue }
 
 abbrev pub journal_rule : Rule
 journal_rule = record (new_rule (codes "JOURNAL")) { required = true }
 
--- a flag `--svg`, a required JOURNAL and an optional PROGRAM
-abbrev pub the_command : App
-the_command = with_rule (with_rule (with_rule bare svg_rule) journal_rule) (new_rule (codes "PROGRAM"))
+-- the command with its flags, one for each format but text
+abbrev pub flagged : App
+flagged =
+    with_rule (with_rule (with_rule (with_rule bare (flag_rule (codes "svg"))) (flag_rule (codes "waves"))) (flag_rule (codes "csv")))
+    (flag_rule (codes "vcd"))
 
--- a picture or text of journals, perhaps with the names of a program
+-- the flags, a required JOURNAL and an optional PROGRAM
+abbrev pub the_command : App
+the_command = with_rule (with_rule flagged journal_rule) (new_rule (codes "PROGRAM"))
+
+-- the format that the flags for a picture, waves, CSV and VCD ask for: of more than one there is none
+abbrev pub format_of : Bool → Bool → Bool → Bool → Option Format
+format_of false false false false = Some formats.Text
+format_of true false false false = Some formats.Svg
+format_of false true false false = Some formats.Waves
+format_of false false true false = Some formats.Csv
+format_of false false false true = Some formats.Vcd
+format_of svg waves csv vcd = None
+
+-- a format of journals, perhaps with the names of a program
 pub record Asked : Type 0 where
-  pub svg : Bool
+  pub format : Format
   pub journal : Text
   pub program : Option Text
 
-abbrev pub chosen : Bool → Option Text → Option Text → Option Asked
-chosen svg None program = None
-chosen svg (Some journal) program = Some (record { svg = svg; journal = journal; program = program })
+abbrev pub chosen : Option Format → Option Text → Option Text → Option Asked
+chosen None journal program = None
+chosen (Some format) None program = None
+chosen (Some format) (Some journal) program = Some (record { format = format; journal = journal; program = program })
+
+-- whether a flag is among the words
+abbrev pub is_set : Text → List Row → Bool
+is_set name m = is_true (first_of name m)
+
+abbrev pub said : List Row → Option Asked
+said m =
+    chosen (format_of (is_set (codes "svg") m) (is_set (codes "waves") m) (is_set (codes "csv") m) (is_set (codes "vcd") m))
+    (first_of (codes "JOURNAL") m) (first_of (codes "PROGRAM") m)
 
 -- what the words after the program's own name ask for, where they are well formed
 unfoldable pub asked : List Text → Option Asked
-asked =
-    asked_of the_command (λ m. chosen (is_true (first_of (codes "svg") m)) (first_of (codes "JOURNAL") m) (first_of (codes "PROGRAM") m))
+asked = asked_of the_command said
 
 -- a task as plain data
 abbrev pub task_seen : Task → Asked
-task_seen t = record { svg = t.svg; journal = t.journal.now; program = option_map (λ p. p.now) t.program }
+task_seen t = record { format = t.format; journal = t.journal.now; program = option_map (λ p. p.now) t.program }

@@ -1,5 +1,5 @@
 -- How drawing ends: what was drawn of the files, or which fault ended it.
-use Rattle.std.specs.Prelude.{◌⊎◌, Bool, Option, Some, None, Result, ⊤, is_some}
+use Rattle.std.specs.Prelude.{◌⊎◌, Option, Some, None, Result, ⊤, is_some}
 use Rattle.lus_syntax.specs.declared.refusal.Refusal.{Refusal}
 use Rattle.lus_program.specs.Programs.{Program}
 use Rattle.lus_cli.specs.MachineSpecs.Acceptance.{Accepted}
@@ -12,6 +12,7 @@ use Rattle.lus_cli.specs.declared.fault.Fault.{Fault}
 use Rattle.lus_cli.specs.declared.fault.Fault.TheVariants as faults
 use Rattle.lus_draw.specs.CommandLine.{Asked}
 use Rattle.lus_draw.specs.Drawings.{Draws, IsDrawingFault}
+use Rattle.lus_draw.specs.declared.words.Format.{Format}
 
 -- the program whose names are used is accepted, where its bytes are known
 abbrev pub IsNamed : (Text → Known) → Option Text → Type 0
@@ -41,11 +42,11 @@ DrawFails read_fails known journal program faults.Output = ⊥
 DrawFails read_fails known journal program faults.Start = ⊥
 
 -- the drawing of the journals of this name
-abbrev pub IsDrawn : (Text → Known) → Bool → Text → Option Text → Text → Type 0
-IsDrawn known svg journal program drawn = WithFile (known journal) (λ bytes. Draws svg bytes drawn) × IsNamed known program
+abbrev pub IsDrawn : (Text → Known) → Format → Text → Option Text → Text → Type 0
+IsDrawn known format journal program drawn = WithFile (known journal) (λ bytes. Draws format bytes drawn) × IsNamed known program
 
 -- the drawing is written; where there is none, nothing is
 abbrev pub TaskEnds : (Known → Type 0) → (Text → Known) → Asked → Result (Unit {0}) Fault → Change → Type 0
 TaskEnds read_fails known asked =
-    SaysEnds (λ done drawn. IsDrawn known asked.svg asked.journal asked.program drawn)
+    SaysEnds (λ done drawn. IsDrawn known asked.format asked.journal asked.program drawn)
     (DrawFails read_fails known asked.journal asked.program)

@@ -4,24 +4,18 @@ ghost use Rattle.std.specs.Prelude.{◌≡◌, IfErr, IfOk, IsUtf8, OnOk, Ok, fl
 ghost use Rattle.lus_diagrams.specs.Journals.{IsFaultOf, journals_of};
 ghost use Rattle.lus_diagrams.specs.JournalView.{journal_seen};
 ghost use Rattle.lus_diagrams.specs.Pictures.{diagram_words};
-ghost use Rattle.lus_draw.specs.Drawings.{Draws, IsDiagramFault, IsDrawingFault, IsPictureOf, journal_words};
+ghost use Rattle.lus_draw.specs.Drawings.{AreTablesOf, Draws, IsDiagramFault, IsDrawingFault, IsPictureOf, IsShown, journal_words};
 
-use crate::labels::{labels, node_named};
+use crate::labels::labels;
+use crate::nodes::node_of;
+use crate::tracing::traces;
+use crate::words::Format;
 use lus_cli::Fault;
 use lus_cli::lus_host::Program;
 use lus_diagrams::{Diagram, Journal, JournalError, draw, push_svg, push_text, read_journals};
-use lus_program::Node;
+use lus_traces::{csv, vcd, waves};
 use std::alloc::{AllocError, Global};
 use std::str;
-
-/// Whether the accepted instants of a journal have as many inputs and outputs as the node.
-fn fits(journal: &Journal<'_>, node: &Node) -> bool {
-    match journal.arity {
-        Some(arity) => arity.inputs == node.inputs as usize
-            && arity.outputs == node.outputs as usize,
-        None => true,
-    }
-}
 
 /// The diagram of a journal, with the names of the program's node.
 fn named_diagram<'a>(
@@ -32,12 +26,7 @@ fn named_diagram<'a>(
     ensures words { IfOk result (λ d. diagram_words d ≡ journal_words (journal_seen journal.now)) }
     ensures fault { IfErr result (λ f. IsDiagramFault true f) }
 {
-    let Some(node) = node_named(program, journal.node) else {
-        return Err(Fault::Journal(journal.line));
-    };
-    if !fits(journal, node) {
-        return Err(Fault::Journal(journal.line));
-    }
+    let node = node_of(program, journal)?;
     let Ok(labels) = labels(alloc, program.names(), node) else {
         return Err(Fault::Memory);
     };
@@ -130,25 +119,102 @@ fn journals_in(alloc: Global, bytes: &[u8]) -> Result<Vec<Journal<'_>>, JournalE
     }
 }
 
-/// A picture of diagrams, or their text.
-fn drawn(alloc: Global, svg: bool, diagrams: &[Diagram<'_>]) -> Result<String, AllocError>
-    ensures { IfOk result (λ s. svg ≡ true → IsPictureOf (flat_map diagram_words diagrams.now) (string_bytes s)) }
+/// The diagrams of journals as text.
+fn text(alloc: Global, program: Option<&Program>, journals: &[Journal<'_>]) -> Result<String, Fault>
+    ensures { IfErr result (λ f. IsDiagramFault (is_some program.entry) f) }
 {
-    if svg {
-        picture_of(alloc, diagrams)
-    } else {
-        text_of(alloc, diagrams)
+    let diagrams = diagrams(alloc, program, journals)?;
+    match text_of(alloc, &diagrams) {
+        Ok(text) => Ok(text),
+        Err(_) => Err(Fault::Memory),
     }
 }
 
-/// What is drawn of the bytes of journals.
+/// A picture of the diagrams of journals.
+fn picture(
+    alloc: Global,
+    program: Option<&Program>,
+    journals: &[Journal<'_>],
+) -> Result<String, Fault>
+    ensures words { IfOk result (λ s. IsPictureOf (flat_map journal_words (map journal_seen journals.now)) (string_bytes s)) }
+    ensures fault { IfErr result (λ f. IsDiagramFault (is_some program.entry) f) }
+{
+    let diagrams = diagrams(alloc, program, journals)?;
+    match picture_of(alloc, &diagrams) {
+        Ok(picture) => Ok(picture),
+        Err(_) => Err(Fault::Memory),
+    }
+}
+
+/// A picture of the waves of journals.
+fn wave_picture(
+    alloc: Global,
+    program: Option<&Program>,
+    journals: &[Journal<'_>],
+) -> Result<String, Fault>
+    ensures { IfErr result (λ f. IsDiagramFault (is_some program.entry) f) }
+{
+    let traces = traces(alloc, program, journals)?;
+    match waves(alloc, &traces) {
+        Ok(waves) => Ok(waves),
+        Err(_) => Err(Fault::Memory),
+    }
+}
+
+/// The tables of journals as CSV.
+fn tables(
+    alloc: Global,
+    program: Option<&Program>,
+    journals: &[Journal<'_>],
+) -> Result<String, Fault>
+    ensures tables { IfOk result (λ s. AreTablesOf (map journal_seen journals.now) (string_bytes s)) }
+    ensures fault { IfErr result (λ f. IsDiagramFault (is_some program.entry) f) }
+{
+    let traces = traces(alloc, program, journals)?;
+    match csv(alloc, &traces) {
+        Ok(tables) => Ok(tables),
+        Err(_) => Err(Fault::Memory),
+    }
+}
+
+/// A value change dump of journals.
+fn dump(alloc: Global, program: Option<&Program>, journals: &[Journal<'_>]) -> Result<String, Fault>
+    ensures { IfErr result (λ f. IsDiagramFault (is_some program.entry) f) }
+{
+    let traces = traces(alloc, program, journals)?;
+    match vcd(alloc, &traces) {
+        Ok(dump) => Ok(dump),
+        Err(_) => Err(Fault::Memory),
+    }
+}
+
+/// What a format writes of journals.
+fn written(
+    alloc: Global,
+    format: Format,
+    program: Option<&Program>,
+    journals: &[Journal<'_>],
+) -> Result<String, Fault>
+    ensures shown { IfOk result (λ s. IsShown format (map journal_seen journals.now) (string_bytes s)) }
+    ensures fault { IfErr result (λ f. IsDiagramFault (is_some program.entry) f) }
+{
+    match format {
+        Format::Text => text(alloc, program, journals),
+        Format::Svg => picture(alloc, program, journals),
+        Format::Waves => wave_picture(alloc, program, journals),
+        Format::Csv => tables(alloc, program, journals),
+        Format::Vcd => dump(alloc, program, journals),
+    }
+}
+
+/// What is written of the bytes of journals.
 pub fn drawing(
     alloc: Global,
-    svg: bool,
+    format: Format,
     program: Option<&Program>,
     bytes: &[u8],
 ) -> Result<String, Fault>
-    ensures drawn { IfOk result (λ s. Draws svg bytes.now (string_bytes s)) }
+    ensures drawn { IfOk result (λ s. Draws format bytes.now (string_bytes s)) }
     ensures fault { IfErr result (λ f. IsDrawingFault (is_some program.entry) bytes.now f) }
 {
     let journals = match journals_in(alloc, bytes) {
@@ -156,9 +222,5 @@ pub fn drawing(
         Err(JournalError::Line(line)) => return Err(Fault::Journal(line)),
         Err(JournalError::Memory) => return Err(Fault::Memory),
     };
-    let diagrams = diagrams(alloc, program, &journals)?;
-    match drawn(alloc, svg, &diagrams) {
-        Ok(drawn) => Ok(drawn),
-        Err(_) => Err(Fault::Memory),
-    }
+    written(alloc, format, program, &journals)
 }

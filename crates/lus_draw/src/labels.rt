@@ -1,19 +1,8 @@
 //! The labels of rows: the names and clocks of a node's inputs and outputs.
 
-use lus_cli::lus_host::Program;
 use lus_program::{Kind, Node, Test, Variable};
 use lus_values::Names;
 use std::alloc::{AllocError, Global};
-
-/// The node of this name, if the program has one.
-pub fn node_named<'p>(program: &'p Program, name: &str) -> Option<&'p Node> {
-    for node in &program.source().nodes {
-        if node.name.as_str() == name {
-            return Some(node);
-        }
-    }
-    None
-}
 
 /// A variable's name, with the newest test of its clock.
 fn label_with_test(

@@ -12,7 +12,7 @@ pub fn passing(alloc: Global, passed: bool) -> Result<Request, Memory> {
 }
 
 /// Prints the first output of a reply, if there is one.
-pub fn show(rt: &HostRuntime, program: &Program, reply: &Reply) -> Option<()> {
+pub fn show<R: AllocGlobal + Print>(rt: &R, program: &Program, reply: &Reply) -> Option<()> {
     let Reply::Outputs(outputs) = reply else {
         return None;
     };
@@ -24,14 +24,19 @@ pub fn show(rt: &HostRuntime, program: &Program, reply: &Reply) -> Option<()> {
 }
 
 /// Steps the counter once and prints its output.
-fn step(rt: &HostRuntime, program: &Program, counter: &mut Machine, passed: bool) -> Option<()> {
+fn step<R: AllocGlobal + Print>(
+    rt: &R,
+    program: &Program,
+    counter: &mut Machine,
+    passed: bool,
+) -> Option<()> {
     let request = passing(rt.alloc(), passed).ok()?;
     let reply = counter.call(0, &request).ok()?;
     show(rt, program, &reply)
 }
 
 /// Steps an instance of its own three times.
-pub fn count_alone(rt: &HostRuntime, program: &Arc<Program>) -> Option<()> {
+pub fn count_alone<R: AllocGlobal + Print>(rt: &R, program: &Arc<Program>) -> Option<()> {
     let node = program.node("counter")?;
     if !program.has(node) {
         return None;

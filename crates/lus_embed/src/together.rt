@@ -4,23 +4,30 @@ ghost use Rattle.std.specs.Prelude.{◌≡◌, IfSome};
 
 use crate::alone::{passing, show};
 use lus_host::{Machine, Program, Seat, SeatNode};
-use std::sync::Arc;
-use std::thread::join;
+use std::alloc::Global;
+use std::sync::{Arc, Wait};
+use std::thread::{Threads, join};
 
 /// Steps the counter twice. The seat is still one of the counter's.
-fn pass_twice(rt: &HostRuntime, counter: &SeatNode, mut seat: Seat) -> Option<Seat>
+fn pass_twice<R: Wait>(
+    rt: &R,
+    alloc: Global,
+    counter: &SeatNode,
+    mut seat: Seat,
+) -> Option<Seat>
     requires { seat.instance ≡ counter.now }
     ensures { IfSome result (λ s. s.instance ≡ counter.now) }
 {
-    let request = passing(rt.alloc(), true).ok()?;
+    let request = passing(alloc, true).ok()?;
     counter.call(rt, &mut seat, &request).ok()?;
     counter.call(rt, &mut seat, &request).ok()?;
     Some(seat)
 }
 
 /// Lets two callers step the counter at the same time.
-fn pass_together(
-    rt: &HostRuntime,
+fn pass_together<R: Threads + Wait + Sync>(
+    rt: &R,
+    alloc: Global,
     counter: &SeatNode,
     first: Seat,
     second: Seat,
@@ -35,17 +42,20 @@ fn pass_together(
         move ||
             requires { first.instance ≡ counter.now }
             ensures { IfSome result (λ s. s.instance ≡ counter.entry.now) }
-        { pass_twice(rt, counter, first) },
+        { pass_twice(rt, alloc, counter, first) },
         move ||
             requires { second.instance ≡ counter.now }
             ensures { IfSome result (λ s. s.instance ≡ counter.entry.now) }
-        { pass_twice(rt, counter, second) },
+        { pass_twice(rt, alloc, counter, second) },
     );
     Some((first?, second?))
 }
 
 /// Lets two callers share an instance, then one of them step it once more, and prints its output: each of the five calls counts.
-pub fn count_together(rt: &HostRuntime, program: &Arc<Program>) -> Option<()> {
+pub fn count_together<R: AllocGlobal + Print + Threads + Wait + Sync>(
+    rt: &R,
+    program: &Arc<Program>,
+) -> Option<()> {
     let node = program.node("counter")?;
     if !program.has(node) {
         return None;
@@ -54,7 +64,7 @@ pub fn count_together(rt: &HostRuntime, program: &Arc<Program>) -> Option<()> {
     let (counter, mut seats) = SeatNode::open(rt.alloc(), machine, 2).ok()?;
     let second = seats.pop()?;
     let first = seats.pop()?;
-    let (mut first, _second) = pass_together(rt, &counter, first, second)?;
+    let (mut first, _second) = pass_together(rt, rt.alloc(), &counter, first, second)?;
     let request = passing(rt.alloc(), true).ok()?;
     let reply = counter.call(rt, &mut first, &request).ok()?;
     show(rt, program, &reply)

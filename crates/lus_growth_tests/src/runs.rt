@@ -17,7 +17,7 @@ const FRONTS: [&str; 2] = [
     "instance k s\n1 a step(2) -> (2)\nentries 1\n",
 ];
 
-/// Whether a run ends as it always does, or for want of memory, with what may then be written.
+/// Whether a run ends as it always does, or out of memory, with what may then be written.
 fn is_right(answer: &Result<bool, RunError>, written: &[u8]) -> bool {
     match answer {
         Ok(true) => written == JOURNAL.as_bytes(),

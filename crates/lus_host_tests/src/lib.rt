@@ -1,4 +1,4 @@
-//! Tests of what is above machines: devices, scripts, lines, runs, the command line and diagrams. In a crate of their own, since a
+//! Tests of what is above machines: devices, scripts, lines, runs, the command line, diagrams and traces. In a crate of their own, since a
 //! crate with tests is proved twice.
 #![tactic(auto)]
 
@@ -14,3 +14,5 @@ mod overlap;
 mod plays;
 #[cfg(test)]
 mod texts;
+#[cfg(test)]
+mod traces;

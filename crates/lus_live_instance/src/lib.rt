@@ -3,5 +3,6 @@
 
 mod live;
 
-pub use live::run_live;
+pub use live::{Instance, new_instance, run_live};
+pub use lus_machine;
 pub use lus_reactions::{PlayError, Score};

@@ -16,8 +16,8 @@ use std::sync::Arc;
 
 /// An instance of a node. It stores no history.
 #[derive(Drop)]
-struct Instance {
-    reactor: Reactor,
+pub struct Instance {
+    pub reactor: Reactor,
 }
 
 impl Reacts for Instance {
@@ -31,7 +31,7 @@ impl Reacts for Instance {
 }
 
 /// An instance that was never called.
-fn new_instance(alloc: Global, program: &Arc<Program>, node: NodeId) -> Result<Instance, Memory>
+pub fn new_instance(alloc: Global, program: &Arc<Program>, node: NodeId) -> Result<Instance, Memory>
     requires { node.0 < length (program_of (arc_value program.now)).nodes }
     ensures empty { IfOk result (λ l. l.reactor.history ≡ []) }
     ensures live { IfOk result (λ l. IsLive (program_of (arc_value program.now)) node.0 l.reactor) }

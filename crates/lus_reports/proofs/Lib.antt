@@ -1,3 +1,3 @@
 pub mod Blanks
-pub mod Left
 pub mod Statuses
+pub use Rattle.lus_cli.proofs as CliProofs

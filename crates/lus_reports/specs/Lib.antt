@@ -2,6 +2,5 @@ pub mod Lines
 pub mod Explanations
 pub mod Details
 pub mod Complaints
-pub mod CommandLine
 pub mod Verdicts
-pub mod Ends
+pub use Rattle.lus_cli.specs as CliSpecs

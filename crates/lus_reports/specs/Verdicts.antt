@@ -34,11 +34,19 @@ pub data AreJudged (p : Program) (scripts : Named) (said : Said) : Type 0 where
   are_refused : (e : ScriptRefusal) → e ≢ refusals.Memory → AreRefused p scripts.bytes e → said.status ≡ 2
       → SaysRefusal scripts.name e said.text → AreJudged p scripts said
 
--- a program is refused, and its refusal is said, with the line of the source that it names; or it is accepted, and the scripts are
--- judged, if there are any
+-- a program is refused, which is said, with the line of the source that its refusal names
+pub record SaysRefused (program : Named) (said : Said) : Type 0 where
+  pub refusal : Refusal
+  pub line : Option Text
+  pub told : Telling
+  pub other : refusal.number ≢ numbers.Memory
+  pub explained : IsExplained program.bytes refusal line
+  pub status : said.status ≡ 1
+  pub text : said.text ≡ report_text program.name refusal line told
+
+-- a program is refused, which is said; or it is accepted, and the scripts are judged, if there are any
 pub data IsVerdict (program : Named) (said : Said) : Option Named → Type 0 where
-  is_refused : {scripts : Option Named} (r : Refusal) (line : Option Text) (told : Telling) → r.number ≢ numbers.Memory → IsExplained program.bytes r line
-      → said.status ≡ 1 → said.text ≡ report_text program.name r line told → IsVerdict program said scripts
+  is_refused : {scripts : Option Named} → SaysRefused program said → IsVerdict program said scripts
   is_accepted : (p : Program) → Accepted program.bytes p → said.status ≡ 0 → IsVerdict program said None
   are_judged : {scripts : Named} (p : Program) → Accepted program.bytes p → AreJudged p scripts said → IsVerdict program said (Some scripts)
 

@@ -71,33 +71,45 @@ fn tried(
     Ok(finding.with_edit(None))
 }
 
-/// What is told where nothing is known of the case.
-fn plain_detail(alloc: Global, refusal: &Refusal) -> Result<Detail, AllocError> {
-    let sentence = sentence_of(refusal.number);
-    Ok(Detail {
-        sentence: String::from_str(alloc, fault_of(refusal.number))?,
-        marks: String::new(alloc),
-        more: format!(in alloc; "{sentence}\n")?,
-    })
+/// What a refusal's number alone says.
+fn plain_finding(alloc: Global, refusal: &Refusal) -> Result<Finding, AllocError> {
+    let sentence = String::from_str(alloc, fault_of(refusal.number))?;
+    Finding::new(alloc, sentence, 1).with_note(alloc, sentence_of(refusal.number))
 }
 
-/// What is told of a finding.
-fn told(
+/// What is known of the case of a refusal of a program's bytes, or else of its number. A change of the text is told only where the
+/// changed text is accepted, or refused later; where there is neither a note nor a change, there is a note on the number.
+pub fn known_finding(
+    alloc: Global,
+    bytes: &[u8],
+    refusal: &Refusal,
+) -> Result<Finding, AllocError> {
+    let Ok(source) = text_of(bytes) else {
+        return plain_finding(alloc, refusal);
+    };
+    let Some(finding) = finding_of(alloc, source, refusal)? else {
+        return plain_finding(alloc, refusal);
+    };
+    let finding = tried(alloc, source, refusal, finding)?;
+    if finding.note.is_some() || finding.edit.is_some() {
+        return Ok(finding);
+    }
+    finding.with_note(alloc, sentence_of(refusal.number))
+}
+
+/// What is told of the case of a refusal of a program's bytes.
+pub fn detail_of(
     alloc: Global,
     name: &str,
-    source: &str,
+    bytes: &[u8],
     explanation: &Explanation<'_>,
-    finding: Finding,
 ) -> Result<Detail, AllocError> {
-    let refusal = &explanation.refusal;
+    let source = text_of(bytes).unwrap_or("");
+    let finding = known_finding(alloc, bytes, &explanation.refusal)?;
     let mut more = String::new(alloc);
     push_finding(alloc, &mut more, name, source, &finding)?;
-    if finding.note.is_none() && finding.edit.is_none() {
-        let sentence = sentence_of(refusal.number);
-        write!(more, "{sentence}\n")?;
-    }
     let marks = match explanation.line {
-        Some(line) => further_marks(alloc, line, refusal.column, finding.length)?,
+        Some(line) => further_marks(alloc, line, explanation.refusal.column, finding.length)?,
         None => String::new(alloc),
     };
     Ok(Detail {
@@ -105,25 +117,4 @@ fn told(
         marks,
         more,
     })
-}
-
-/// What is told of the case of a refusal of a program's bytes. A change of the text is told only where the changed text is
-/// accepted, or refused later.
-pub fn detail_of(
-    alloc: Global,
-    name: &str,
-    bytes: &[u8],
-    explanation: &Explanation<'_>,
-) -> Result<Detail, AllocError> {
-    let refusal = &explanation.refusal;
-    let Ok(source) = text_of(bytes) else {
-        return plain_detail(alloc, refusal);
-    };
-    match finding_of(alloc, source, refusal)? {
-        Some(finding) => {
-            let finding = tried(alloc, source, refusal, finding)?;
-            told(alloc, name, source, explanation, finding)
-        }
-        None => plain_detail(alloc, refusal),
-    }
 }

@@ -13,7 +13,7 @@ pub(crate) struct Source {
 }
 
 /// The name of a type, as it is declared.
-fn type_name(source: &Source, kind: Kind) -> &str {
+pub(crate) fn type_name(source: &Source, kind: Kind) -> &str {
     match kind {
         Kind::Bool => "bool",
         Kind::Int => "int",

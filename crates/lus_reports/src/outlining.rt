@@ -1,6 +1,7 @@
-//! What nodes an accepted program has.
+//! What nodes an accepted program has, and what types their inputs and outputs have.
 
 use crate::nodes::{Source, push_node};
+use crate::types::push_types;
 use lus_cells::cells_of_nodes;
 use lus_cli::lus_host::text_of;
 use lus_grammar::parse;
@@ -26,9 +27,10 @@ fn source_of(alloc: Global, text: &str) -> Result<Source, Refusal> {
     Ok(Source { types, typed })
 }
 
-/// The nodes, each with its state cells, its inputs and its outputs.
-fn nodes_text(alloc: Global, source: &Source, cells: &[u32]) -> Result<String, AllocError> {
+/// The types of inputs and outputs, and the nodes, each with its state cells, its inputs and its outputs.
+fn outline_text(alloc: Global, source: &Source, cells: &[u32]) -> Result<String, AllocError> {
     let mut text = String::new(alloc);
+    push_types(alloc, &mut text, source)?;
     for (place, node) in source.typed.program().nodes.iter().enumerate() {
         if place > 0 {
             text.push_str("\n")?;
@@ -39,10 +41,10 @@ fn nodes_text(alloc: Global, source: &Source, cells: &[u32]) -> Result<String, A
 }
 
 /// The nodes of an accepted program: of each its state cells, and its inputs and outputs with their types and clocks, as they
-/// are declared. Another one may be refused.
+/// are declared; before them these types, as they are declared. Another one may be refused.
 pub fn outline(alloc: Global, bytes: &[u8]) -> Result<String, Refusal> {
     let text = text_of(bytes)?;
     let source = source_of(alloc, text)?;
     let cells = cells_of_nodes(alloc, &source.typed)?;
-    Ok(nodes_text(alloc, &source, &cells)?)
+    Ok(outline_text(alloc, &source, &cells)?)
 }

@@ -87,7 +87,7 @@ fn find_in(program: &Program, scripts: &Value, refusal: ScriptRefusal) -> Option
 }
 
 /// What a refusal of scripts means.
-fn meaning_of(refusal: ScriptRefusal) -> &'static str
+pub fn meaning_of(refusal: ScriptRefusal) -> &'static str
     ensures { result.now ≡ meaning_of refusal }
 {
     match refusal {

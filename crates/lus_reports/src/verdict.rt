@@ -7,9 +7,9 @@ ghost use Rattle.lus_cli.specs.CodeSpecs.Codes.{program_of};
 ghost use Rattle.lus_scripts.specs.View.{scripts_seen};
 ghost use Rattle.lus_cli.specs.declared.fault.Fault.TheVariants as faults;
 ghost use Rattle.lus_reports.specs.Complaints.{SaysRefusal, counts_text};
-ghost use Rattle.lus_reports.specs.Explanations.{report_text};
+ghost use Rattle.lus_reports.specs.Explanations.{IsExplained, report_text};
 ghost use Rattle.lus_reports.specs.Details.{detail_seen};
-ghost use Rattle.lus_reports.specs.Verdicts.{AreJudged, IsVerdict, file_seen, verdict_seen};
+ghost use Rattle.lus_reports.specs.Verdicts.{AreJudged, IsVerdict, SaysRefused, file_seen, verdict_seen};
 
 use crate::detail::{Detail, detail_of};
 use crate::explanation::{Explanation, explain};
@@ -59,8 +59,24 @@ fn refused_program(
     }
 }
 
+/// What is said of a program's refusal.
+pub fn judge_refused(
+    alloc: Global,
+    program: File<'_>,
+    explanation: &Explanation<'_>,
+) -> Result<Verdict, Fault>
+    requires { IsExplained program.bytes.now explanation.now.refusal (option_map (λ line. line.now) explanation.now.line) }
+    ensures said { IfOk result (λ v. SaysRefused (file_seen program.entry) (verdict_seen v)) }
+    ensures memory { IfErr result (λ f. f ≡ faults.Memory) }
+{
+    match detail_of(alloc, program.name, program.bytes, explanation) {
+        Ok(detail) => refused_program(alloc, program.name, explanation, &detail),
+        Err(_) => Err(Fault::Memory),
+    }
+}
+
 /// Of refused scripts.
-fn refused_scripts(alloc: Global, name: &str, complaint: Complaint) -> Result<Verdict, Fault>
+pub fn refused_scripts(alloc: Global, name: &str, complaint: Complaint) -> Result<Verdict, Fault>
     ensures status { IfOk result (λ v. v.status ≡ 2) }
     ensures text { IfOk result (λ v. SaysRefusal name.now complaint.refusal (string_bytes v.text)) }
     ensures refusal { OnOk result (complaint.refusal ≢ refusals.Memory) }
@@ -122,9 +138,6 @@ pub fn judge(alloc: Global, program: File<'_>, scripts: Option<File<'_>>) -> Res
             Some(scripts) => judge_scripts(alloc, &accepted, scripts),
             None => accepted_program(alloc, program),
         },
-        Err(explanation) => match detail_of(alloc, program.name, program.bytes, &explanation) {
-            Ok(detail) => refused_program(alloc, program.name, &explanation, &detail),
-            Err(_) => Err(Fault::Memory),
-        },
+        Err(explanation) => judge_refused(alloc, program, &explanation),
     }
 }

@@ -114,7 +114,10 @@ pub fn push_value(
                 "false"
             })
         }
-        Kind::Int => write!(text, "{step}"),
+        Kind::Int => {
+            let number = step.saturating_add(1);
+            write!(text, "{number}")
+        }
         Kind::Enum(place) => push_constructor(text, program, place, choice(program, kind, step)),
         Kind::Struct(place) => {
             if levels == 0 {

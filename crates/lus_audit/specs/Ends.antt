@@ -1,0 +1,52 @@
+-- How an audit ends: what was found of the journals, or which fault ended it.
+use Rattle.std.specs.Prelude.{◌⊎◌, ℕ, Bool, true, false, Some, Result, ⊤}
+use Rattle.lus_program.specs.Programs.{Program}
+use Rattle.lus_devices.specs.Folders.{Known, WithFile}
+use Rattle.lus_cli.specs.HostSpecs.Sources.{ProgramRefused}
+use Rattle.lus_cli.specs.MachineSpecs.Acceptance.{Accepted}
+use Rattle.lus_cli.specs.Changes.{Change}
+use Rattle.lus_cli.specs.CommandLine.{Text}
+use Rattle.lus_cli.specs.Ends.{IsLost, SaysEnds}
+use Rattle.lus_cli.specs.declared.fault.Fault.{Fault}
+use Rattle.lus_cli.specs.declared.fault.Fault.TheVariants as faults
+use Rattle.lus_lawful.specs.Audits.{HasAudited}
+use Rattle.lus_lawful.specs.declared.error.AuditError.{AuditError}
+use Rattle.lus_lawful.specs.declared.error.AuditError.TheVariants as errors
+use Rattle.lus_audit.specs.CommandLine.{Asked}
+
+-- the program of the file is accepted, where its bytes are known
+abbrev pub IsOfFile : Known → Program → Type 0
+IsOfFile file p = WithFile file (λ text. Accepted text p)
+
+-- the journals of a file are audited by the program of another
+abbrev pub IsAudited : Known → Known → Bool → Text → Type 0
+IsAudited program journal is_lawful report =
+    (p : Program) × IsOfFile program p × WithFile journal (λ bytes. HasAudited p is_lawful (Some bytes) report)
+
+-- why nothing is found: the program's file is lost or it is refused; or it is accepted, and the journals' file is lost, or has a line
+-- that is none of a journal; or out of memory
+abbrev pub AuditFails : (Known → Type 0) → Known → Fault → Type 0
+AuditFails read_fails program faults.File = IsLost read_fails program ⊎ ((p : Program) × IsOfFile program p)
+AuditFails read_fails program (faults.Program e) = WithFile program (λ text. ProgramRefused text e)
+AuditFails read_fails program (faults.Journal n) = (p : Program) × IsOfFile program p
+AuditFails read_fails program faults.Memory = ⊤
+AuditFails read_fails program (faults.Scripts e) = ⊥
+AuditFails read_fails program faults.Words = ⊥
+AuditFails read_fails program faults.Output = ⊥
+AuditFails read_fails program faults.Start = ⊥
+
+abbrev pub audit_fault : AuditError → Fault
+audit_fault (errors.Line n) = faults.Journal n
+audit_fault errors.Read = faults.File
+audit_fault errors.Memory = faults.Memory
+
+-- what is reported is written; where nothing is found, nothing is
+abbrev pub TaskEnds : (Known → Type 0) → (Text → Known) → Asked → Result Bool Fault → Change → Type 0
+TaskEnds read_fails known asked =
+    SaysEnds (λ is_lawful report. IsAudited (known asked.program) (known asked.journal) is_lawful report)
+    (AuditFails read_fails (known asked.program))
+
+-- 0 where each journal is lawful
+abbrev pub audit_status : Bool → ℕ
+audit_status true = 0
+audit_status false = 2

@@ -1,0 +1,37 @@
+use Rattle.std.proofs.Common.{rules, ◌≡◌, ◌∙◌, ap, ap₂, true}
+use Rattle.std.proofs.lemmas.Result.{IfOk-weaker}
+use Rattle.clap.specs.Words.{App, app_of, rule_of, with_rule}
+use Rattle.clap.specs.Simple.{app_of_fields, on_top}
+use Rattle.lus_reports.specs.CliSpecs.CommandLine.{program_rule}
+use Rattle.lus_explain.specs.CommandLine.{bare, json_rule, script_rule}
+use Rattle.lus_explain.proofs.words.command.Goals as goal
+
+abbrev unnamed : App → App
+unnamed = on_top (λ s. record s { no_binary_name = true })
+
+abbrev helpless : App → App
+helpless = on_top (λ s. record s { disable_help_flag = true })
+
+abbrev versionless : App → App
+versionless = on_top (λ s. record s { disable_version_flag = true })
+
+pub returns : goal.returns
+returns c =
+    let json_is : rule_of c.action-json.result ≡ json_rule = search rules in
+    let script_is : rule_of c.long-script.result ≡ script_rule = search rules in
+    let program_is : rule_of c.required-program.result ≡ program_rule = search rules in
+    let bare_is : app_of c.disable_version_flag.result ≡ bare =
+    ap app_of_fields c.disable_version_flag.ensures
+    ∙ ap versionless (ap app_of_fields c.disable_help_flag.ensures
+    ∙ ap helpless (ap app_of_fields c.no_binary_name.ensures ∙ ap unnamed c.new-4.ensures.app)) in
+    let first_is : app_of c.in_ok-arg.field-0 ≡ with_rule bare json_rule =
+    c.in_ok-arg.ensures.shape (search rules) ∙ ap₂ with_rule bare_is json_is in
+    let second_is : app_of c.in_ok-arg-2.field-0 ≡ with_rule (with_rule bare json_rule) script_rule =
+    c.in_ok-arg-2.ensures.shape (search rules) ∙ ap₂ with_rule first_is script_is in
+    let third_is : app_of c.in_ok-arg-3.field-0 ≡ with_rule (with_rule (with_rule bare json_rule) script_rule) program_rule =
+    c.in_ok-arg-3.ensures.shape (search rules) ∙ ap₂ with_rule second_is program_is in
+    record {
+      shape = IfOk-weaker c.arg-4.result _ _
+          (λ m h. h.shape c.new-scripts.ensures.optional.1 ∙ ap₂ with_rule third_is c.new-scripts.ensures.rule)
+          c.arg-4.ensures;
+    }

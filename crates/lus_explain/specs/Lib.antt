@@ -1,0 +1,4 @@
+pub mod CommandLine
+pub mod Skeletons
+pub mod Lines
+pub mod Ends

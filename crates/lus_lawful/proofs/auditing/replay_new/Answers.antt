@@ -1,0 +1,12 @@
+-- What was replayed on an instance that is live is its lawful history.
+use Rattle.std.proofs.Common.{rules, ◌≡◌}
+use Rattle.std.specs.Arc.{arc_value}
+use Rattle.lus_live_instance.specs.MachineSpecs.CodeSpecs.Codes.{program_of}
+use Rattle.lus_live_instance.specs.MachineSpecs.Constructors.{names_of}
+use Rattle.lus_lawful.proofs.AuditLaws.{replayed_lawfully}
+use Rattle.lus_lawful.proofs.auditing.replay_new.Goals as goal
+
+pub returns : goal.returns
+returns g c =
+    let named : c.names.result.now ≡ names_of (program_of (arc_value c.args.program.now)) = search rules in
+    replayed_lawfully _ _ _ _ _ _ _ _ _ _ (c.replay.ensures.same _ _ c.in_ok-instance.ensures.live) c.in_ok-instance.ensures.empty named c.in_ok-replay.ensures.replayed

@@ -1,0 +1,61 @@
+-- What an audit of journals finds and reports.
+use Rattle.std.specs.Prelude.{◌≡◌, ◌≢◌, ◌+◌, ◌++◌, ℕ, Bool, true, false, List, [], ◌∷◌, length, Option, Some, codes}
+use Rattle.std.specs.List.{All, flat_map, sum_by}
+use Rattle.lus_values.specs.Names.{Text}
+use Rattle.lus_program.specs.Programs.{Program}
+use Rattle.lus_requests.specs.declared.request.Entry.{Entry}
+use Rattle.lus_devices.specs.Devices.{AtEnd, Bytes, with_front}
+use Rattle.lus_lines.specs.Lines.{IsLast}
+use Rattle.lus_live_instance.specs.MachineSpecs.Constructors.{names_of}
+use Rattle.lus_live_instance.specs.MachineSpecs.Formals.{node_named}
+use Rattle.lus_live_instance.specs.MachineSpecs.HistorySpecs.Histories.{History}
+use Rattle.lus_replay.specs.Replays.{BeginsAsked, HasReplayed, Said, entry_said, said_line, said_text}
+use Rattle.lus_replay.specs.declared.replaying.Replayed.{Replayed}
+use Rattle.lus_lawful.specs.Journals.{IsLawfulJournal, Journal, entries_of, head_of, journal_text, lawful_text, line_count, wrong_text}
+use Rattle.lus_lawful.specs.declared.auditing.Turn.{Turn}
+use Rattle.lus_lawful.specs.declared.auditing.Turn.TheVariants as turns
+
+-- lawful journals were read, of so many lines, and each is reported
+pub record AreLawful (p : Program) (left later : Option Bytes) (lines : ℕ) (report : Text) : Type 0 where
+  pub journals : List Journal
+  pub lawful : All (IsLawfulJournal p) journals
+  pub read : left ≡ with_front (flat_map (journal_text (names_of p)) journals) later
+  pub counted : lines ≡ sum_by line_count journals
+  pub reported : report ≡ flat_map (λ j. lawful_text j.instance) journals
+
+-- Behind so many lines a journal was begun, whose entries are right up to a line of a request. That line isn't the right one, which
+-- is reported with it.
+pub record HasWrong (p : Program) (left later : Option Bytes) (lines : ℕ) (report : Text) : Type 0 where
+  pub before : Journal
+  pub node : ℕ
+  pub line : Text
+  pub right : Said
+  pub named : node_named p before.node ≡ Some node
+  pub read : left ≡ with_front (head_of before.instance before.node ++ codes "\n" ++ said_text (names_of p) 1 before.saids ++ line) later
+  pub asked : BeginsAsked (names_of p) right.caller (length before.saids + 1) right.request line
+  pub lawful : History p node (entries_of before ++ entry_said right ∷ [])
+  pub differs : line ≢ said_line (names_of p) (length before.saids + 1) right
+  pub reported : report ≡ wrong_text before.instance (lines + line_count before) line (said_line (names_of p) (length before.saids + 1) right)
+
+-- the journals are lawful up to the end, or up to one with a wrong line
+abbrev pub HasAudited : Program → Bool → Option Bytes → Text → Type 0
+HasAudited p true left report = (end : Option Bytes) × (lines : ℕ) × AreLawful p left end lines report × AtEnd end
+HasAudited p false left report =
+    (mid later : Option Bytes) × (lines : ℕ) × (lawful wrong : Text) × AreLawful p left mid lines lawful × HasWrong p mid later lines wrong
+    × (report ≡ lawful ++ wrong)
+
+-- ---- one journal
+
+-- what was replayed on a new instance of a node is its lawful history
+pub record HasReplayedLawfully (p : Program) (f : ℕ) (r : Replayed) (left later : Option Bytes) (line right : Text) : Type 0 where
+  pub history : List Entry
+  pub lawful : History p f history
+  pub replayed : HasReplayed (names_of p) r left later [] history line right
+
+-- a journal was read, and what is reported of it
+abbrev pub TurnIs : Turn → Program → ℕ → Option Bytes → Option Bytes → Text → Text → Type 0
+TurnIs (turns.Lawful last) p lines left later old new =
+    (j : Journal) × IsLawfulJournal p j × (left ≡ with_front (journal_text (names_of p) j) later) × (last ≡ lines + line_count j)
+    × (new ≡ old ++ lawful_text j.instance)
+TurnIs turns.Wrong p lines left later old new = (wrong : Text) × HasWrong p left later lines wrong × (new ≡ old ++ wrong)
+TurnIs turns.End p lines left later old new = IsLast [] left later × (new ≡ old)

@@ -1,0 +1,24 @@
+//! The first line of a journal.
+
+ghost use Rattle.std.specs.Prelude.{◌≡◌, IfSome};
+ghost use Rattle.lus_lawful.specs.Journals.{head_of};
+
+use std::str::from_utf8;
+
+/// The names of an instance and of its node.
+#[derive(Clone, Copy)]
+pub(crate) struct Head<'a> {
+    pub instance: &'a str,
+    pub node: &'a str,
+}
+
+/// The names that a line has, without its line feed, if it is the first of a journal.
+pub(crate) fn read_head(line: &[u8]) -> Option<Head<'_>>
+    ensures { IfSome result (λ h. line.now ≡ head_of h.instance.now h.node.now) }
+{
+    let Ok(text) = from_utf8(line) else {
+        return None;
+    };
+    let (instance, node) = text.strip_prefix("instance ")?.split_once(" ")?;
+    Some(Head { instance, node })
+}
