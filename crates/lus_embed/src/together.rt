@@ -9,12 +9,7 @@ use std::sync::{Arc, Wait};
 use std::thread::{Threads, join};
 
 /// Steps the counter twice. The seat is still one of the counter's.
-fn pass_twice<R: Wait>(
-    rt: &R,
-    alloc: Global,
-    counter: &SeatNode,
-    mut seat: Seat,
-) -> Option<Seat>
+fn pass_twice<R: Wait>(rt: &R, alloc: Global, counter: &SeatNode, mut seat: Seat) -> Option<Seat>
     requires { seat.instance ≡ counter.now }
     ensures { IfSome result (λ s. s.instance ≡ counter.now) }
 {
