@@ -1,9 +1,9 @@
 //! Scripts to begin from, for a node of a program.
 
-ghost use Rattle.std.specs.Prelude.{◌≡◌, ◌≢◌, IfErr, IfOk, string_bytes};
+ghost use Rattle.std.specs.Prelude.{◌≡◌, IfErr, IfOk, string_bytes};
 ghost use Rattle.lus_reports.specs.CliSpecs.CodeSpecs.Codes.{program_of};
 ghost use Rattle.lus_reports.specs.CliSpecs.declared.fault.Fault.TheVariants as faults;
-ghost use Rattle.lus_reports.specs.Verdicts.{file_seen, verdict_seen};
+ghost use Rattle.lus_reports.specs.Verdicts.{file_seen};
 ghost use Rattle.lus_explain.specs.Skeletons.{IsAnswer, IsScriptOf, TriesScript, unknown_text};
 
 use lus_reports::lus_cli::Fault;
