@@ -33,5 +33,5 @@ abbrev pub histories : Journals → List (List Entry)
 histories r = map (λ j. j.entries.items) r.journals.items
 
 -- the journals are histories of these nodes of the program, in their order
-abbrev pub AreHistories : Program → List NodeId → List Journal → Type 0
-AreHistories p nodes journals = AllZip (λ f j. IsHistoryOf p f.0 j.entries.items) nodes journals
+abbrev pub AreJournalsOf : Program → List NodeId → List Journal → Type 0
+AreJournalsOf p nodes journals = AllZip (λ f j. IsHistoryOf p f.0 j.entries.items) nodes journals

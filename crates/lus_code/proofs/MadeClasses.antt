@@ -16,7 +16,7 @@ use Rattle.lus_simulation.proofs.Nested.{calls_nested}
 use Rattle.lus_flat_classes.specs.declared.class.Call.{Call}
 use Rattle.lus_flat_classes.specs.declared.class.Class.{Class}
 use Rattle.lus_flat_classes.specs.View.{class_of, classes_of, clock_from}
-use Rattle.lus_places.specs.Shaped.{AreNested, AreShaped, CallsClass}
+use Rattle.lus_places.specs.Shaped.{AreNested, CanAllBePlaced, CallsClass}
 use Rattle.lus_turns.specs.Turned.{CallsNode, IsTurned}
 use Rattle.lus_code.specs.Made.{AreFirstTurned, AreTurned, HasSource}
 
@@ -113,7 +113,7 @@ module _ (p : Program) (classes : List Class) (are : AreTurned p classes) where
   calls_classes (q ∷ qs) h = (call_class q h.0, calls_classes qs h.1)
 
   -- the classes have all that they need to be given places
-  pub classes_shaped : HasSource p → AreShaped classes
+  pub classes_shaped : HasSource p → CanAllBePlaced classes
   classes_shaped has g c here =
       let turned = are.each g c here in
       let inputs = turned.belongs.inputs in

@@ -15,7 +15,7 @@ use Rattle.lus_flat_classes.specs.declared.class.Class.{Class}
 use Rattle.lus_flat_classes.specs.View.{clock_from, class_of, classes_of}
 use Rattle.lus_code.specs.SimulationSpecs.Checked.{IsChecked}
 use Rattle.lus_code.specs.SimulationSpecs.Fitting.{has_shape, has_presence, all_below, same_truth}
-use Rattle.lus_code.specs.SimulationSpecs.LineageLaws.{StepsTo, Faults}
+use Rattle.lus_code.specs.SimulationSpecs.LineageLaws.{StepsTo, EndsStreams}
 use Rattle.lus_code.specs.SimulationSpecs.Lineages.{outputs_of}
 use Rattle.lus_code.specs.SimulationSpecs.Nesting.{depth_of}
 use Rattle.lus_code.proofs.SimulationProofs.FittingRows.{below_true, one_truth, rows_that_fit}
@@ -70,9 +70,9 @@ module _ (p : Program) (classes : List Class) (checked : IsChecked p) (code : Is
         subst (λ d. StepsTo p (classes_of classes) (instance_state classes d before) (instance_state classes d after) f i outputs) deep shown
 
     pub fault_follows : TakesStep classes depth (node_at p before.node).outputs before i (Err running.Fault) after
-        → Faults p (classes_of classes) (instance_state classes (depth_of p) before) before.node i
+        → EndsStreams p (classes_of classes) (instance_state classes (depth_of p) before) before.node i
     fault_follows takes =
-        subst (λ d. Faults p (classes_of classes) (instance_state classes d before) before.node i) deep
+        subst (λ d. EndsStreams p (classes_of classes) (instance_state classes d before) before.node i) deep
         ((faults_follow p (classes_of classes) checked).only (instance_state classes (suc depth) before) before.node i (takes k found))
 
 true_below : (n : ℕ) (t : ℕ → Bool) → ((x : ℕ) → x < n → t x ≡ true) → all_below n t ≡ true

@@ -22,10 +22,10 @@ use Rattle.lus_code.specs.Codes.{ProgramCode, plain_classes, program_of}
 use Rattle.lus_running.specs.declared.instance.Instance.{Instance}
 use Rattle.lus_running.specs.Instances as instances
 use Rattle.lus_running.proofs.Placed.{resets_state}
-use Rattle.lus_eval.specs.Objects.{Kept, kept_by, IsEven, IsShaped, IsReset, IsStep, ObjectLived, state_of}
+use Rattle.lus_eval.specs.Objects.{Kept, kept_by, IsEven, IsObjectOf, IsReset, MakesStep, ObjectLived, state_of}
 
 module _ (c : ProgramCode) (classes : List Class) (same : classes ≡ c.classes) (o : Instance) where
-  pub shaped_in_code : ((g : ℕ) (k : Class) → slice_get classes g ≡ Some k → k.extent.cells + k.extent.firsts ≤ item 0 c.cells g) → instances.IsShaped classes o → IsShaped c (kept_by o)
+  pub shaped_in_code : ((g : ℕ) (k : Class) → slice_get classes g ≡ Some k → k.extent.cells + k.extent.firsts ≤ item 0 c.cells g) → instances.HasRowsOfClass classes o → IsObjectOf c (kept_by o)
   shaped_in_code rows s = record {
     class = s.class;
     found = ap (λ l. slice_get l o.node) (sym same) ∙ s.found;
@@ -40,7 +40,7 @@ module _ (c : ProgramCode) (classes : List Class) (same : classes ≡ c.classes)
         omega (arith, long, cells, firsts, row));
   }
 
-  pub instance_shaped : IsEven o → IsShaped c (kept_by o) → instances.IsShaped classes o
+  pub instance_shaped : IsEven o → IsObjectOf c (kept_by o) → instances.HasRowsOfClass classes o
   instance_shaped even s =
       let cells = sym (length-map o.cells.items value_of) ∙ s.cells in
       record {
@@ -53,7 +53,7 @@ module _ (c : ProgramCode) (classes : List Class) (same : classes ≡ c.classes)
         variables = s.variables;
       }
 
-pub node_within : (c : ProgramCode) (o : Kept) → IsShaped c o → o.node < length c.classes
+pub node_within : (c : ProgramCode) (o : Kept) → IsObjectOf c o → o.node < length c.classes
 node_within c o s = slice_get_within c.classes o.node s.class s.found
 
 -- a program that is a code's source is checked as the source is
@@ -61,7 +61,7 @@ pub source_checked : (c : ProgramCode) (s : StoredProgram) → s ≡ c.source.pr
 source_checked c s same h = subst (λ (r : StoredProgram). IsChecked (program_seen r)) same h
 
 -- the node of an object, as its code's source has it
-pub source_node : (c : ProgramCode) (o : Kept) → IsShaped c o → (classes : List Class) → classes ≡ c.classes → length classes ≡ length (program_of c).nodes
+pub source_node : (c : ProgramCode) (o : Kept) → IsObjectOf c o → (classes : List Class) → classes ≡ c.classes → length classes ≡ length (program_of c).nodes
     → (s : StoredProgram) → s ≡ c.source.program → (n : StoredNode) → n ≡ item n s.nodes.items o.node → node_at (program_of c) o.node ≡ node_of n
 source_node c o shaped classes kept size s same n is =
     let fewer : o.node < length classes = subst (λ (l : List Class). o.node < length l) (sym kept) (node_within c o shaped) in
@@ -81,7 +81,7 @@ reset_kept o o' h = record {
 }
 
 -- an object that is set back has the form that it had
-pub reset_shaped : (c : ProgramCode) (o o' : Kept) → IsReset o o' → IsShaped c o → IsShaped c o'
+pub reset_shaped : (c : ProgramCode) (o o' : Kept) → IsReset o o' → IsObjectOf c o → IsObjectOf c o'
 reset_shaped c o o' is shaped = record {
   class = shaped.class;
   found = subst (λ f. slice_get c.classes f ≡ Some shaped.class) (sym is.node) shaped.found;
@@ -105,14 +105,14 @@ reset_lived c f o o' lineage is lived = record {
 }
 
 -- objects of a node have as much room
-pub same_room : (c : ProgramCode) (o o' : Kept) → IsShaped c o → IsShaped c o' → o'.node ≡ o.node → o'.room ≡ o.room
+pub same_room : (c : ProgramCode) (o o' : Kept) → IsObjectOf c o → IsObjectOf c o' → o'.node ≡ o.node → o'.room ≡ o.room
 same_room c o o' s s' node =
     let found : slice_get c.classes o'.node ≡ Some s.class = ap (slice_get c.classes) node ∙ s.found in
     s'.variables ∙ ap (λ (k : Class). k.extent.variables) (same_Some s'.class s.class (sym s'.found ∙ found)) ∙ sym s.variables
 
 module _ (s o' : Instance) (back : instances.IsBack s o') where
   -- an instance that goes back behind a step is as it was before it
-  pub back_to : (c : ProgramCode) (o : Instance) (i outputs : Row) → IsShaped c (kept_by o) → IsStep c (kept_by o) (kept_by s) i outputs → instances.LeavesBehind o s
+  pub back_to : (c : ProgramCode) (o : Instance) (i outputs : Row) → IsObjectOf c (kept_by o) → MakesStep c (kept_by o) (kept_by s) i outputs → instances.LeavesBehind o s
       → kept_by o' ≡ kept_by o
   back_to c o i outputs shaped is behind =
       let node : o'.node ≡ o.node = back.node ∙ is.node in

@@ -4,7 +4,7 @@ ghost use Rattle.std.specs.Prelude.{ℕ, ◌≡◌, ◌↔◌, ◌<◌, [], IsTr
 ghost use Rattle.lus_code.specs.SimulationSpecs.Fitting.{has_shape, has_presence};
 ghost use Rattle.lus_code.specs.SimulationSpecs.Lineages.{Lineage};
 ghost use Rattle.lus_code.specs.Codes.{ProgramCode, program_of};
-ghost use Rattle.lus_eval.specs.Objects.{IsFault, IsReset, IsShaped, IsStep, ObjectLived};
+ghost use Rattle.lus_eval.specs.Objects.{IsFault, IsReset, IsObjectOf, MakesStep, ObjectLived};
 
 use crate::error::StepError;
 use crate::shape::row_fits;
@@ -51,14 +51,14 @@ impl Object {
 
     /// Whether the object's rows are as long as those of its node in this code, and so no longer than the node's state cells.
     pub fn shaped(&self, code: &Code) -> bool
-        ensures { IsTrue result ↔ IsShaped code.now self.now }
+        ensures { IsTrue result ↔ IsObjectOf code.now self.now }
     {
         self.instance.is_shaped(code.classes())
     }
 
     /// Whether there are as many inputs as the node has, each a value of its type or absent.
     pub fn fits_shape(&self, code: &Code, inputs: &Row) -> bool
-        requires { IsShaped code.now self.now }
+        requires { IsObjectOf code.now self.now }
         ensures { result ≡ has_shape (program_of code.now) self.now.node inputs.now }
     {
         // There are as many nodes as classes, and the node of a shaped object has a class.
@@ -71,7 +71,7 @@ impl Object {
 
     /// Whether each input is present exactly where its clock is.
     pub fn fits_presence(&self, code: &Code, inputs: &Row) -> bool
-        requires { IsShaped code.now self.now }
+        requires { IsObjectOf code.now self.now }
         ensures { result ≡ has_presence (program_of code.now) self.now.node inputs.now }
     {
         // The program is checked, so that the class's clocks are those of the node.
@@ -83,10 +83,10 @@ impl Object {
     /// One more instant: its outputs, or a fault where the source has no streams for these inputs. After an error the object is
     /// as it was.
     pub fn step(&mut self, code: &Code, inputs: &Row) -> Result<Row, StepError>
-        requires shaped { IsShaped code.now self.old }
+        requires shaped { IsObjectOf code.now self.old }
         requires shape { IsTrue (has_shape (program_of code.now) self.old.node inputs.now) }
         requires presence { IsTrue (has_presence (program_of code.now) self.old.node inputs.now) }
-        ensures ok { IfOk result (λ outputs. IsStep code.now self.old self.new inputs.now outputs) }
+        ensures ok { IfOk result (λ outputs. MakesStep code.now self.old self.new inputs.now outputs) }
         ensures fault { IfErr result (λ e. e ≡ StepError.Fault → IsFault code.now self.old inputs.now) }
         ensures err { OnErr result (self.new ≡ self.old) }
     {
@@ -96,10 +96,10 @@ impl Object {
     /// One more instant as `step` makes it, with its outputs twice, of which the first takes no more memory than it needs. After an
     /// error the object is as it was, also where there is memory for the outputs only once.
     pub fn step_twice(&mut self, code: &Code, inputs: &Row) -> Result<(Row, Row), StepError>
-        requires shaped { IsShaped code.now self.old }
+        requires shaped { IsObjectOf code.now self.old }
         requires shape { IsTrue (has_shape (program_of code.now) self.old.node inputs.now) }
         requires presence { IsTrue (has_presence (program_of code.now) self.old.node inputs.now) }
-        ensures ok { IfOk result (λ both. IsStep code.now self.old self.new inputs.now both.0) }
+        ensures ok { IfOk result (λ both. MakesStep code.now self.old self.new inputs.now both.0) }
         ensures same { IfOk result (λ both. both.1 ≡ both.0) }
         ensures fault { IfErr result (λ e. e ≡ StepError.Fault → IsFault code.now self.old inputs.now) }
         ensures err { OnErr result (self.new ≡ self.old) }

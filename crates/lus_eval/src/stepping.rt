@@ -4,7 +4,7 @@ ghost use Rattle.std.specs.Prelude.{◌≡◌, IsTrue, IfOk, IfErr, OnErr, OnOk}
 ghost use Rattle.lus_code.specs.SimulationSpecs.Fitting.{has_shape, has_presence};
 ghost use Rattle.lus_code.specs.Codes.{program_of};
 ghost use Rattle.lus_running.specs.Instances.{LeavesBehind};
-ghost use Rattle.lus_eval.specs.Objects.{IsEven, IsFault, IsShaped, IsStep, kept_by};
+ghost use Rattle.lus_eval.specs.Objects.{IsEven, IsFault, IsObjectOf, MakesStep, kept_by};
 
 use crate::error::StepError;
 use lus_code::Code;
@@ -19,10 +19,10 @@ pub(crate) fn step_instance(
     inputs: &Row,
 ) -> Result<Row, StepError>
     requires even { IsEven instance.old }
-    requires shaped { IsShaped code.now (kept_by instance.old) }
+    requires shaped { IsObjectOf code.now (kept_by instance.old) }
     requires shape { IsTrue (has_shape (program_of code.now) instance.old.node inputs.now) }
     requires presence { IsTrue (has_presence (program_of code.now) instance.old.node inputs.now) }
-    ensures ok { IfOk result (λ outputs. IsStep code.now (kept_by instance.old) (kept_by instance.new) inputs.now outputs) }
+    ensures ok { IfOk result (λ outputs. MakesStep code.now (kept_by instance.old) (kept_by instance.new) inputs.now outputs) }
     ensures fault { IfErr result (λ e. e ≡ StepError.Fault → IsFault code.now (kept_by instance.old) inputs.now) }
     ensures err { OnErr result (kept_by instance.new ≡ kept_by instance.old) }
     ensures even { IsEven instance.new }

@@ -10,7 +10,7 @@ use Rattle.lus_history.specs.Replies.{AnswersStep, HasRefused, misshapen, mispla
 use Rattle.lus_history.specs.Keeping.{RunsThrough, Refuses}
 use Rattle.lus_history.proofs.Bursts.{runs_none, runs_more, refuses_behind}
 use Rattle.lus_eval.specs.CodeSpecs.Codes.{ProgramCode, program_of}
-use Rattle.lus_eval.specs.Objects.{Kept, IsShaped, ObjectLived, IsStep, IsFault}
+use Rattle.lus_eval.specs.Objects.{Kept, IsObjectOf, ObjectLived, MakesStep, IsFault}
 use Rattle.lus_machine.specs.Bursts.{AreRefused, GoesThrough}
 use Rattle.lus_machine.specs.declared.bursts.NoOutputs.{NoOutputs}
 use Rattle.lus_machine.specs.declared.bursts.NoOutputs.TheVariants as none
@@ -23,7 +23,7 @@ module _ (c : ProgramCode) (o : Kept) where
   Lived = ObjectLived c f
 
   -- before the first row
-  pub goes_nowhere : IsShaped c o → GoesThrough c o [] [] o
+  pub goes_nowhere : IsObjectOf c o → GoesThrough c o [] [] o
   goes_nowhere shaped = record { node = refl; shaped = shaped; runs = runs_none (program_of c) f Lived o }
 
   -- one row more, which the object behind the others steps through
@@ -64,7 +64,7 @@ module _ (c : ProgramCode) (o : Kept) where
     pub row_faults : has_shape (program_of c) f i ≡ true → has_presence (program_of c) f i ≡ true → IsFault c o i → IsRefused Fault
     row_faults h k faults = λ l lived. inl (faulted h k (faults.none l lived.lived))
 
-    pub row_goes : (outputs : Row) (o' : Kept) → has_shape (program_of c) f i ≡ true → has_presence (program_of c) f i ≡ true → IsStep c o o' i outputs
+    pub row_goes : (outputs : Row) (o' : Kept) → has_shape (program_of c) f i ≡ true → has_presence (program_of c) f i ≡ true → MakesStep c o o' i outputs
         → GoesThrough c o (i ∷ []) (outputs ∷ []) o'
     row_goes outputs o' h k is = record {
       node = is.node;

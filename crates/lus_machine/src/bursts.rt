@@ -1,7 +1,7 @@
 //! Rows tried as steps, one behind another.
 
 ghost use Rattle.std.specs.Prelude.{◌≡◌, ◌∷◌, [], IfOk, IfErr, OnErr};
-ghost use Rattle.lus_eval.specs.Objects.{IsShaped};
+ghost use Rattle.lus_eval.specs.Objects.{IsObjectOf};
 ghost use Rattle.lus_machine.specs.Bursts.{AreRefused, GoesThrough};
 ghost use Rattle.lus_machine.specs.declared.bursts.NoOutputs.TheVariants.{Memory as OfMemory};
 
@@ -32,7 +32,7 @@ impl<T: Drop> From<AllocFailed<T>> for NoOutputs {
 
 /// Tries a row as a step. After an error the object is as it was.
 pub(crate) fn step_row(code: &Code, object: &mut Object, row: &Row) -> Result<Row, NoOutputs>
-    requires { IsShaped code.now object.old }
+    requires { IsObjectOf code.now object.old }
     ensures ok { IfOk result (λ o. GoesThrough code.now object.old (row.now ∷ []) (o ∷ []) object.new) }
     ensures refused { IfErr result (AreRefused code.now object.old (row.now ∷ [])) }
     ensures err { OnErr result (object.new ≡ object.old) }
@@ -57,7 +57,7 @@ pub(crate) fn step_rows(
     object: &mut Object,
     rows: &[Row],
 ) -> Result<Rows, NoOutputs>
-    requires { IsShaped code.now object.old }
+    requires { IsObjectOf code.now object.old }
     ensures ok { IfOk result (λ outputs. GoesThrough code.now object.old rows.now outputs object.new) }
     ensures refused { IfErr result (AreRefused code.now object.old rows.now) }
 {

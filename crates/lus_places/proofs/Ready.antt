@@ -11,7 +11,7 @@ use Rattle.lus_flat_classes.specs.Places.{HasRoom, InOrder, IsPart}
 use Rattle.lus_flat_classes.specs.Turns.{AreMaking, AreReady, GivesSome, HasTurns, IsReady}
 use Rattle.lus_flat_classes.specs.View.{class_of, steps_of}
 use Rattle.lus_places.specs.Placing.{no_room, together, placed_calls, parts_end, room_with, EndsWithin, IsPlaced}
-use Rattle.lus_places.specs.Shaped.{AreShaped, CallsClass, IsShaped}
+use Rattle.lus_places.specs.Shaped.{CanAllBePlaced, CallsClass, CanBePlaced}
 use Rattle.lus_places.proofs.Placed.{placed_are_well}
 use Rattle.lus_places.proofs.Underway.{IsUnderway, class_seen}
 
@@ -36,7 +36,7 @@ turns_kept rooms c c' room is turns =
       every = λ n lt. subst (λ ss. AreMaking n ss) (sym steps) (turns.every n (subst (λ l. n < l) long lt));
     }
 
-module _ (old new : List Class) (rooms : List Extent) (done : List ℕ) (is : IsUnderway old new rooms done) (shaped : AreShaped old) where
+module _ (old new : List Class) (rooms : List Extent) (done : List ℕ) (is : IsUnderway old new rooms done) (shaped : CanAllBePlaced old) where
   module _ (c c' : Class) (room : Extent) (placed : IsPlaced rooms c c' room) where
     own : Extent
     own = parts_end rooms no_room c.calls.items
@@ -74,7 +74,7 @@ module _ (old new : List Class) (rooms : List Extent) (done : List ℕ) (is : Is
       parts_of (together from (item no_room rooms q.node)) qs calls.1 among.1 ends.1,
     )
 
-    room_of : IsShaped old c → Each (λ q. Contains done q.node) c.calls.items → HasRoom new c'
+    room_of : CanBePlaced old c → Each (λ q. Contains done q.node) c.calls.items → HasRoom new c'
     room_of shape among =
         let well = placed_are_well rooms no_room c.calls.items in
         let items : c'.calls.items ≡ placed_calls rooms no_room c.calls.items = ap (λ d. d.calls.items) placed.same ∙ placed.items in

@@ -12,7 +12,7 @@ use Rattle.lus_flat_classes.specs.declared.class.Class.{Class}
 use Rattle.lus_flat_classes.specs.declared.class.Extent.{Extent}
 use Rattle.lus_flat_classes.specs.View.{call_of, class_of, classes_of}
 use Rattle.lus_places.specs.Placing.{no_room, together, placed_calls, parts_end, room_with, IsPlaced}
-use Rattle.lus_places.specs.Shaped.{AreShaped, CallsClass, class_uses, nodes_of}
+use Rattle.lus_places.specs.Shaped.{CanAllBePlaced, CallsClass, class_uses, nodes_of}
 use Rattle.lus_places.proofs.CallOrders.{each_called, next_at, used_nodes}
 
 -- a write to one place
@@ -131,7 +131,7 @@ module _ (old new : List Class) (rooms : List Extent) (done : List ℕ) (is : Is
         }
 
 -- the nodes that a class calls are classes
-called_within : (classes : List Class) → AreShaped classes → (x : ℕ) (c : Class) → slice_get classes x ≡ Some c → (y : ℕ) → Contains (nodes_of c) y → y < length (class_uses classes)
+called_within : (classes : List Class) → CanAllBePlaced classes → (x : ℕ) (c : Class) → slice_get classes x ≡ Some c → (y : ℕ) → Contains (nodes_of c) y → y < length (class_uses classes)
 called_within classes shaped x c at y among =
     let long = length-map classes nodes_of in
     let low = each_contains c.calls.items (shaped x c at).calls y among in
@@ -157,7 +157,7 @@ underway_first classes rooms order width =
     }
 
 -- the class at the next place of an order got its places
-pub underway_step : (old new : List Class) (rooms : List Extent) (order : List ℕ) (i : ℕ) (c c' : Class) (room : Extent) → IsOrder (class_uses old) order → AreShaped old → i < length order
+pub underway_step : (old new : List Class) (rooms : List Extent) (order : List ℕ) (i : ℕ) (c c' : Class) (room : Extent) → IsOrder (class_uses old) order → CanAllBePlaced old → i < length order
     → IsUnderway old new rooms (take i order) → slice_get new (item 0 order i) ≡ Some c → IsPlaced rooms c c' room
     → IsUnderway old (set new (item 0 order i) c') (set rooms (item 0 order i) room) (take (i + 1) order)
 underway_step old new rooms order i c c' room ordered shaped lt is here placed =

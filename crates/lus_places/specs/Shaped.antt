@@ -16,13 +16,13 @@ pub record CallsClass (classes : List Class) (q : Call) : Type 0 where
 
 -- a class can be run once it has places: its outputs stand behind its inputs, its steps are made in their turns, and its calls
 -- are of classes
-pub record IsShaped (classes : List Class) (c : Class) : Type 0 where
+pub record CanBePlaced (classes : List Class) (c : Class) : Type 0 where
   pub outputs : c.inputs + c.outputs ≤ length c.tests.items
   pub turns : HasTurns c
   pub calls : Each (CallsClass classes) c.calls.items
 
-abbrev pub AreShaped : List Class → Type 0
-AreShaped classes = (g : ℕ) (c : Class) → slice_get classes g ≡ Some c → IsShaped classes c
+abbrev pub CanAllBePlaced : List Class → Type 0
+CanAllBePlaced classes = (g : ℕ) (c : Class) → slice_get classes g ≡ Some c → CanBePlaced classes c
 
 -- the calls of all classes are nested within some depth
 pub record AreNested (classes : List PlainClass) : Type 0 where

@@ -6,7 +6,7 @@ ghost use Rattle.lus_graph.specs.Walks.{uses_of};
 ghost use Rattle.lus_flat_classes.specs.Turns.{AreReady};
 ghost use Rattle.lus_flat_classes.specs.View.{classes_of};
 ghost use Rattle.lus_places.specs.Few.{AreAsLong, AreFew, KeepTo};
-ghost use Rattle.lus_places.specs.Shaped.{AreNested, AreShaped, class_uses};
+ghost use Rattle.lus_places.specs.Shaped.{AreNested, CanAllBePlaced, class_uses};
 
 use crate::room::place_class;
 use lus_flat_classes::{Call, Class, Extent};
@@ -51,7 +51,7 @@ fn order_of_classes(alloc: Global, classes: &[Class]) -> Result<Vec<usize>, Memo
 
 /// Gives the classes their places in an order in which each comes after those that it calls.
 fn place_in_order(alloc: Global, order: &[usize], classes: &mut [Class]) -> Result<(), Memory>
-    requires shaped { AreShaped classes.old }
+    requires shaped { CanAllBePlaced classes.old }
     requires order { IsOrder (class_uses classes.old) order.now }
     requires few { AreFew classes.old }
     ensures same { OnOk result (classes_of classes.new ≡ classes_of classes.old) }
@@ -74,7 +74,7 @@ fn place_in_order(alloc: Global, order: &[usize], classes: &mut [Class]) -> Resu
 /// Gives the parts of calls their places and the classes their extents, after which the classes can be run. Where each class
 /// keeps to a count, its part is no longer.
 pub fn place_classes(alloc: Global, classes: &mut [Class]) -> Result<(), Memory>
-    requires shaped { AreShaped classes.old }
+    requires shaped { CanAllBePlaced classes.old }
     requires nested { AreNested (classes_of classes.old) }
     requires few { AreFew classes.old }
     ensures same { OnOk result (classes_of classes.new ≡ classes_of classes.old) }

@@ -5,7 +5,7 @@ ghost use Rattle.lus_classes.specs.States.{WithinDepth};
 ghost use Rattle.lus_flat_classes.specs.Turns.{AreReady};
 ghost use Rattle.lus_flat_classes.specs.View.{classes_of};
 ghost use Rattle.lus_running.specs.Fits.{FitsPresence, OfClass};
-ghost use Rattle.lus_running.specs.Instances.{HasFormals, IsFresh, IsLong, IsShaped, TakesStep};
+ghost use Rattle.lus_running.specs.Instances.{HasFormals, IsFresh, IsLong, HasRowsOfClass, TakesStep};
 ghost use Rattle.lus_running.specs.Instances.{IsBack, IsCopy, IsReset, KeepsSame, LeavesBehind};
 ghost use Rattle.lus_running.specs.OnClocks.{PassOnClocks};
 
@@ -40,7 +40,7 @@ impl Instance {
         requires all { AreReady classes.now }
         ensures start { IfOk result (IsFresh classes.now node) }
         ensures node { IfOk result (λ o. o.node ≡ node) }
-        ensures shaped { IfOk result (λ o. IsShaped classes.now o) }
+        ensures shaped { IfOk result (λ o. HasRowsOfClass classes.now o) }
     {
         let extent = classes[node as usize].extent;
         let cells = nils(alloc, extent.cells as usize)?;
@@ -93,7 +93,7 @@ impl Instance {
 
     /// Whether the rows are as long as the part of the node among these classes.
     pub fn is_shaped(&self, classes: &[Class]) -> bool
-        ensures { IsTrue result ↔ IsShaped classes.now self.now }
+        ensures { IsTrue result ↔ HasRowsOfClass classes.now self.now }
     {
         match classes.get(self.node as usize) {
             Some(class) => self.is_long(class.extent),
@@ -122,14 +122,14 @@ impl Instance {
         outputs: usize,
     ) -> Result<Row, StepError>
         requires all { AreReady classes.now }
-        requires shaped { IsShaped classes.now self.old }
+        requires shaped { HasRowsOfClass classes.now self.old }
         requires depth { WithinDepth (classes_of classes.now) (suc depth) self.old.node }
         requires formals { OfClass classes.now self.old.node (HasFormals outputs inputs.now) }
         requires presence { OfClass classes.now self.old.node (λ c. FitsPresence c inputs.now) }
         requires passing { PassOnClocks classes.now }
         ensures step { TakesStep classes.now depth outputs self.old inputs.now result self.new }
         ensures node { self.new.node ≡ self.old.node }
-        ensures shaped { IsShaped classes.now self.new }
+        ensures shaped { HasRowsOfClass classes.now self.new }
         ensures err { OnErr result (KeepsSame self.old self.new) }
         ensures behind { OnOk result (LeavesBehind self.old self.new) }
     {

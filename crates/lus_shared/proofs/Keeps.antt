@@ -13,7 +13,7 @@ use Rattle.atomic_table.specs.Table.{State, Me, step, keeps, takes, gives, carri
 use Rattle.atomic_table.proofs.Lists.{at_set, set_here, set_else, at_snoc}
 use Rattle.lus_requests.specs.declared.request.Entry.{Entry}
 use Rattle.lus_machine.specs.Machines.{Told, full}
-use Rattle.lus_shared.specs.Knowledge.{Origin, IsLegal, machine_at, Facts, Sight, kept}
+use Rattle.lus_shared.specs.Knowledge.{Origin, IsLegalHistory, machine_at, Facts, Sight, kept}
 use Rattle.lus_values.specs.Lists.{Each}
 use Rattle.lus_shared.specs.Rule.{takers, times, holders, FitsOne, Fits, Sound, fresh, opening_sight}
 use Rattle.lus_shared.specs.Views.{facts_of}
@@ -55,7 +55,7 @@ module _ (o : Origin) where
   -- one view is renewed, with the same numbers
   renewed : (s : St) (r : Rule s) (id : ℕ) (v w : Sight) → get_elem? s.views id ≡ some v → ((k : ℕ) → times k w ≡ times k v) → (h : List Entry) (words' : List ℕ) (homes' : Homes)
       → length words' ≡ 1 → length homes' ≡ 1 → get_or words' 0 0 ≡ 2 * length h + takers (set s.views id w) → takers (set s.views id w) ≤ 1
-      → (takers (set s.views id w) ≡ 0 → get_elem? homes' 0 ≡ some (some ((machine_at o h)))) → IsLegal o h → length h ≤ full → Each (λ (e : Entry). e.caller < o.callers) h
+      → (takers (set s.views id w) ≡ 0 → get_elem? homes' 0 ≡ some (some ((machine_at o h)))) → IsLegalHistory o h → length h ≤ full → Each (λ (e : Entry). e.caller < o.callers) h
       → Fits o h w → ((j : ℕ) (u : Sight) → j ≢ id → get_elem? s.views j ≡ some u → Fits o h u) → Rule record { words = words'; homes = homes'; views = set s.views id w }
   renewed s r id v w at same h words' homes' one_word one_slot word most home legal short below mine others = record {
     history = h;
@@ -139,7 +139,7 @@ module _ (o : Origin) where
 
   -- the taker gives back a machine that has more entries of its own number, or no more
   pub gives_it : (slots id : ℕ) (me : Sat) (f : Facts) (rest h' : List Entry) (new : ℕ) → me ≡ (record { taker = true; seats = f ∷ [] }, (0, (machine_at f.origin h')) ∷ []) → h' ≡ f.seen ++ rest
-      → Each (λ (e : Entry). e.caller ≡ f.number) rest → IsLegal f.origin h' → length h' ≤ full → new ≡ 2 * length h' → Allows Rule slots id me 0 (λ _. new) (λ _. gave (step slots 0 new 0 none) me new)
+      → Each (λ (e : Entry). e.caller ≡ f.number) rest → IsLegalHistory f.origin h' → length h' ≤ full → new ≡ 2 * length h' → Allows Rule slots id me 0 (λ _. new) (λ _. gave (step slots 0 new 0 none) me new)
   gives_it slots id me f rest h' new is more by legal short up s r wide at' small =
       let v : Sight = record { taker = true; seats = f ∷ [] } in
       let cs : List (ℕ × Told) = (0, (machine_at f.origin h')) ∷ [] in
@@ -150,7 +150,7 @@ module _ (o : Origin) where
       let t = fits.taker refl in
       let whole : f.seen ≡ h = ap (λ (x : List Facts). seen_of f x) t.1 ∙ t.2 in
       let grown : h' ≡ h ++ rest = more ∙ ap (λ l. l ++ rest) whole in
-      let legal' : IsLegal o h' = subst (λ (x : Origin). IsLegal x h') origin legal in
+      let legal' : IsLegalHistory o h' = subst (λ (x : Origin). IsLegalHistory x h') origin legal in
       let long = r.one_word in let now = r.word in let most = r.at_most_one in
       let mine : Facts = record { origin = f.origin; number = f.number; seen = h'; mine = kept h' f.number } in
       let w : Sight = record { taker = false; seats = mine ∷ [] } in
@@ -256,7 +256,7 @@ module _ (o : Origin) where
   fresh_each i zero = tt
   fresh_each i (suc n) = (record { same = refl; seen = ([], refl); mine = refl; mine_seen = refl }, fresh_each (suc i) n)
 
-  pub starts : (slots : List Told) → slots ≡ (machine_at o []) ∷ [] → IsLegal o [] → Rule (opening (0 ∷ []) slots (opening_sight o))
+  pub starts : (slots : List Told) → slots ≡ (machine_at o []) ∷ [] → IsLegalHistory o [] → Rule (opening (0 ∷ []) slots (opening_sight o))
   starts slots is legal = subst (λ l. Rule (opening (0 ∷ []) l (opening_sight o))) (sym is) record {
     history = [];
     one_word = refl;

@@ -3,8 +3,8 @@ use Rattle.std.proofs.Common.{◌≡◌, ℕ, ◌+◌, ◌*◌, ◌≤◌, List,
 use mathlib.Core.Option.{none}
 use Rattle.atomic_table.specs.Table.{Me, step, rest, Allows}
 use Rattle.lus_requests.specs.declared.request.Entry.{Entry}
-use Rattle.lus_machine.specs.Machines.{Told, IsLegal as IsLegalMachine, full}
-use Rattle.lus_shared.specs.Knowledge.{Origin, IsLegal, machine_at, Facts, Sight}
+use Rattle.lus_machine.specs.Machines.{Told, IsLegal, full}
+use Rattle.lus_shared.specs.Knowledge.{Origin, IsLegalHistory, machine_at, Facts, Sight}
 use Rattle.lus_shared.specs.Plays.{Shown, looking, looked, gave}
 use Rattle.lus_shared.specs.Rule.{Sound}
 use Rattle.lus_shared.proofs.Keeps.{gives_it}
@@ -18,7 +18,7 @@ knows_shown : (o : Origin) (h : List Entry) (n : ℕ) (f : Facts) (m : Sat) → 
 knows_shown o h n f m is shown =
     let at : Shown o h n (seat_at f).0 = subst (λ (x : Sat). Shown o h n x.0) is shown in
     let fits = at.each.0 in record {
-      legal = subst (λ (x : Origin). IsLegal x h) (sym fits.same) at.legal;
+      legal = subst (λ (x : Origin). IsLegalHistory x h) (sym fits.same) at.legal;
       short = at.short;
       begins = fits.seen;
       own = fits.mine;
@@ -49,9 +49,9 @@ slot_after m m' f x y is e = e ∙ ap (λ (z : Sat). let w : Sat = (z.0, (0, y) 
 
 -- the machine with one more entry of the taker's number may be given back
 pub can_add : (f : Facts) (h : List Entry) (e : Entry) (found : ℕ) (m : Told) (g : Facts) → g ≡ with_seen h f → m ≡ machine_at f.origin (h ++ e ∷ []) → e.caller ≡ f.number
-    → IsLegalMachine m → found ≡ 2 * length h → CanGive g m (found + 2)
+    → IsLegal m → found ≡ 2 * length h → CanGive g m (found + 2)
 can_add f h e found m g is same by legal count =
-    let at = subst IsLegalMachine same legal in
+    let at = subst IsLegal same legal in
     subst (λ (x : Facts). CanGive x m (found + 2)) (sym is) record { rest = e ∷ []; same = same; by = (by, tt); legal = at; short = at.few; even = omega (arith, length-append h (e ∷ [])) }
 
 -- so may the machine as it was found
@@ -61,7 +61,7 @@ can_restore f h found m same knows count =
       rest = [];
       same = same ∙ ap (machine_at f.origin) (sym nil);
       by = tt;
-      legal = subst (IsLegal f.origin) (sym nil) knows.legal;
+      legal = subst (IsLegalHistory f.origin) (sym nil) knows.legal;
       short = subst (λ (l : List Entry). length l ≤ full) (sym nil) knows.short;
       even = count ∙ ap (λ (l : List Entry). 2 * length l) (sym nil);
     }

@@ -6,7 +6,7 @@ use Rattle.lus_requests.specs.declared.request.Reply.{Reply}
 use Rattle.lus_machine.specs.Machines.{full, entry}
 use Rattle.lus_shared.specs.declared.refusal.TryError.{TryError}
 use Rattle.lus_shared.specs.declared.refusal.TryError.TheVariants.{Memory, Full, Busy as IsBusy}
-use Rattle.lus_shared.specs.Knowledge.{IsLegal, Facts}
+use Rattle.lus_shared.specs.Knowledge.{IsLegalHistory, Facts}
 use Rattle.lus_shared.specs.Told.{Sat, seat_at, with_seen, Knows, given}
 
 -- the call stands behind the history that the seat then saw
@@ -14,7 +14,7 @@ pub record Called (f : Facts) (m : Sat) (request : Request) (reply : Reply) : Ty
   pub before : List Entry
   pub knows : Knows f before
   pub view : m ≡ seat_at (given f (before ++ entry f.number request reply ∷ []))
-  pub legal : IsLegal f.origin (before ++ entry f.number request reply ∷ [])
+  pub legal : IsLegalHistory f.origin (before ++ entry f.number request reply ∷ [])
   pub short : length before < full
 
 abbrev pub Counts : TryError → ℕ → Type 0

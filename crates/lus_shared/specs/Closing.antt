@@ -3,7 +3,7 @@ use Rattle.std.specs.Prelude.{◌≡◌, ◌==◌, ◌<◌, ◌≤◌, ℕ, List
 use Rattle.std.specs.List.{sum_by, count_by}
 use mathlib.Core.List.{IsPrefix}
 use Rattle.lus_requests.specs.declared.request.Entry.{Entry}
-use Rattle.lus_shared.specs.Knowledge.{IsLegal, Facts, Instance, Standing, kept}
+use Rattle.lus_shared.specs.Knowledge.{IsLegalHistory, Facts, Instance, Standing, kept}
 use Rattle.lus_values.specs.Lists.{Each}
 
 -- each number below n is one seat's
@@ -22,7 +22,7 @@ pub record IsPartOf (h : List Entry) (s : Standing) : Type 0 where
 
 -- the history of the instance, with the calls of its seats, which are these, and no others
 pub record Closed (i : Instance) (seats : List Standing) (h : List Entry) : Type 0 where
-  pub legal : IsLegal i.origin h
+  pub legal : IsLegalHistory i.origin h
   pub all : AreAll i.origin.callers seats
   pub parts : Each (IsPartOf h) seats
   pub shares : sum_by (λ s. length s.mine) seats ≡ length h

@@ -6,7 +6,7 @@ use Rattle.lus_program.specs.Programs.{Program}
 use Rattle.lus_requests.specs.declared.request.Request.{Request}
 use Rattle.lus_requests.specs.declared.request.Reply.{Reply}
 use Rattle.lus_requests.specs.declared.request.Entry.{Entry}
-use Rattle.lus_machine.specs.Machines.{Told, IsLegal as IsLegalMachine}
+use Rattle.lus_machine.specs.Machines.{Told, IsLegal}
 
 -- a request with its reply
 pub record Call : Type 0 where
@@ -35,8 +35,8 @@ abbrev pub machine_at : Origin → List Entry → Told
 machine_at o h = record { program = o.program; node = o.node; history = h }
 
 -- the entries are a history of the origin's node in its program, which is accepted
-abbrev pub IsLegal : Origin → List Entry → Type 0
-IsLegal o h = IsLegalMachine (machine_at o h)
+abbrev pub IsLegalHistory : Origin → List Entry → Type 0
+IsLegalHistory o h = IsLegal (machine_at o h)
 
 -- what one seat knows: the entries that it has seen, and its own calls
 pub record Facts : Type 0 where

@@ -3,7 +3,7 @@ use Rattle.std.specs.Prelude.{◌≡◌, ◌≢◌, ◌+◌, ◌*◌, ◌≤◌,
 use Rattle.atomic_table.specs.Table.{Me, Step}
 use Rattle.lus_requests.specs.declared.request.Entry.{Entry}
 use Rattle.lus_machine.specs.Machines.{Told, full}
-use Rattle.lus_shared.specs.Knowledge.{Origin, IsLegal, machine_at, Facts, Sight, kept}
+use Rattle.lus_shared.specs.Knowledge.{Origin, IsLegalHistory, machine_at, Facts, Sight, kept}
 use Rattle.lus_values.specs.Lists.{Each}
 use Rattle.lus_shared.specs.Rule.{FitsOne}
 
@@ -19,7 +19,7 @@ looking h v = record { taker = v.taker; seats = seeing h v.seats }
 
 -- the machine of this origin has these entries, which the word n counts
 pub record Shown (o : Origin) (h : List Entry) (n : ℕ) (v : Sight) : Type 0 where
-  pub legal : IsLegal o h
+  pub legal : IsLegalHistory o h
   pub short : length h ≤ full
   pub even : 2 * length h ≤ n
   pub odd : n ≤ 2 * length h + 1

@@ -8,7 +8,7 @@ use Rattle.atomic_table.specs.Table.{State}
 use Rattle.lus_requests.specs.declared.request.Entry.{Entry}
 use Rattle.lus_values.specs.Lists.{Each}
 use Rattle.lus_machine.specs.Machines.{Told, full}
-use Rattle.lus_shared.specs.Knowledge.{Origin, IsLegal, machine_at, Facts, Sight, kept}
+use Rattle.lus_shared.specs.Knowledge.{Origin, IsLegalHistory, machine_at, Facts, Sight, kept}
 
 -- how many seats are takers
 abbrev pub takers : List Sight → ℕ
@@ -42,7 +42,7 @@ pub record Sound (o : Origin) (s : State Told Sight) : Type 0 where
   pub at_most_one : takers s.views ≤ 1
   -- at 2n the machine at home has the n entries
   pub home : takers s.views ≡ 0 → get_elem? s.homes 0 ≡ some (some ((machine_at o history)))
-  pub legal : IsLegal o history
+  pub legal : IsLegalHistory o history
   pub short : length history ≤ full
   pub callers : Each (λ (e : Entry). e.caller < o.callers) history
   pub seats : (j : ℕ) (v : Sight) → get_elem? s.views j ≡ some v → Fits o history v

@@ -4,7 +4,7 @@ use mathlib.Core.List.{IsPrefix}
 use Rattle.atomic_table.specs.Table.{Me}
 use Rattle.lus_requests.specs.declared.request.Entry.{Entry}
 use Rattle.lus_machine.specs.Machines.{Told, full}
-use Rattle.lus_shared.specs.Knowledge.{IsLegal, machine_at, Facts, Sight, kept}
+use Rattle.lus_shared.specs.Knowledge.{IsLegalHistory, machine_at, Facts, Sight, kept}
 use Rattle.lus_values.specs.Lists.{Each}
 use Rattle.lus_shared.specs.Views.{facts_of}
 
@@ -33,7 +33,7 @@ with_seen h f = record { origin = f.origin; number = f.number; seen = h; mine = 
 
 -- the history h is legal and begins with what the seat has seen, and the seat's calls are those that it has of its number
 pub record Knows (f : Facts) (h : List Entry) : Type 0 where
-  pub legal : IsLegal f.origin h
+  pub legal : IsLegalHistory f.origin h
   pub short : length h ≤ full
   pub begins : IsPrefix f.seen h
   pub own : kept h f.number ≡ f.mine
@@ -58,7 +58,7 @@ pub record CanGive (f : Facts) (machine : Told) (word : ℕ) : Type 0 where
   pub rest : List Entry
   pub same : machine ≡ machine_at f.origin (f.seen ++ rest)
   pub by : Each (λ (e : Entry). e.caller ≡ f.number) rest
-  pub legal : IsLegal f.origin (f.seen ++ rest)
+  pub legal : IsLegalHistory f.origin (f.seen ++ rest)
   pub short : length (f.seen ++ rest) ≤ full
   pub even : word ≡ 2 * length (f.seen ++ rest)
 

@@ -7,7 +7,7 @@ use Rattle.lus_requests.specs.declared.request.Entry.{Entry}
 use Rattle.lus_requests.specs.declared.request.Request.{Request}
 use Rattle.lus_requests.specs.declared.request.Reply.{Reply}
 use Rattle.lus_machine.specs.Machines.{Told, full, entry}
-use Rattle.lus_shared.specs.Knowledge.{IsLegal, machine_at, Facts, Sight, Instance, Standing, kept}
+use Rattle.lus_shared.specs.Knowledge.{IsLegalHistory, machine_at, Facts, Sight, Instance, Standing, kept}
 
 -- no seat has these; they stand in where a view has no seat
 abbrev pub unknown : Facts
@@ -35,7 +35,7 @@ pub record Sees (v w : Standing) (n : ℕ) : Type 0 where
   pub mine : w.mine ≡ v.mine
   pub begins : IsPrefix v.seen w.seen
   pub count : length w.seen ≡ n
-  pub legal : IsLegal v.instance.origin w.seen
+  pub legal : IsLegalHistory v.instance.origin w.seen
   pub own : kept w.seen w.number ≡ w.mine
 
 -- the k-th seat of a node that was just opened
@@ -53,7 +53,7 @@ pub record Adds (v w : Standing) (request : Request) (reply : Reply) : Type 0 wh
   pub same_number : w.number ≡ v.number
   pub mine : w.mine ≡ v.mine ++ record { request = request; reply = reply } ∷ []
   pub ends : (before : List Entry) × IsPrefix v.seen before × (w.seen ≡ before ++ entry v.number request reply ∷ [])
-  pub legal : IsLegal v.instance.origin w.seen
+  pub legal : IsLegalHistory v.instance.origin w.seen
   pub own : kept w.seen w.number ≡ w.mine
 
 -- a seat that is the taker, where the word was 2n before
@@ -64,7 +64,7 @@ pub record IsTaker (table : TableId) (m : Me Told Sight) (number share found : �
   pub number_is : (facts_of m.0.seats).number ≡ number
   pub share_is : length (facts_of m.0.seats).mine ≡ share
   pub found_is : found ≡ 2 * length (facts_of m.0.seats).seen
-  pub legal : IsLegal (facts_of m.0.seats).origin (facts_of m.0.seats).seen
+  pub legal : IsLegalHistory (facts_of m.0.seats).origin (facts_of m.0.seats).seen
   pub short : length (facts_of m.0.seats).seen ≤ full
   pub own : kept (facts_of m.0.seats).seen (facts_of m.0.seats).number ≡ (facts_of m.0.seats).mine
 

@@ -4,14 +4,14 @@ use Rattle.lus_program.specs.View.{program_seen}
 use Rattle.lus_classes.specs.ClassesOf.{AreClassesOf}
 use Rattle.lus_flat_classes.specs.View.{classes_of}
 use Rattle.lus_places.specs.Few.{AreAsLong, AreFew, KeepTo}
-use Rattle.lus_places.specs.Shaped.{AreNested, AreShaped}
+use Rattle.lus_places.specs.Shaped.{AreNested, CanAllBePlaced}
 use Rattle.lus_code.proofs.KeptRows.{classes_few, classes_keep}
 use Rattle.lus_code.proofs.MadeClasses.{classes_belong, classes_nested, classes_shaped}
 use Rattle.lus_code.proofs.classes.classes_of_nodes.Goals as goal
 
 pub place_classes-requires-clause-shaped : goal.place_classes-requires-clause-shaped
 place_classes-requires-clause-shaped c =
-    subst AreShaped (sym c.deref_mut.ensures.value) (classes_shaped (program_seen c.args.program.now) c.in_ok-classes.classes.items c.in_ok-classes.ensures c.requires.source)
+    subst CanAllBePlaced (sym c.deref_mut.ensures.value) (classes_shaped (program_seen c.args.program.now) c.in_ok-classes.classes.items c.in_ok-classes.ensures c.requires.source)
 
 pub place_classes-requires-clause-nested : goal.place_classes-requires-clause-nested
 place_classes-requires-clause-nested c =

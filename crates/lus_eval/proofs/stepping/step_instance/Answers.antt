@@ -5,7 +5,7 @@ use Rattle.lus_program.specs.Programs.{Node, node_at}
 use Rattle.lus_classes.specs.States.{WithinDepth}
 use Rattle.lus_flat_classes.specs.declared.class.Class.{Class}
 use Rattle.lus_flat_classes.specs.View.{classes_of}
-use Rattle.lus_code.specs.SimulationSpecs.LineageLaws.{StepsTo, Faults}
+use Rattle.lus_code.specs.SimulationSpecs.LineageLaws.{StepsTo, EndsStreams}
 use Rattle.lus_code.specs.SimulationSpecs.Nesting.{depth_of}
 use Rattle.lus_code.specs.Codes.{program_of, plain_classes}
 use Rattle.lus_running.specs.declared.error.StepError.{StepError as RunningError}
@@ -82,9 +82,9 @@ returns-in_err-outputs-clause-fault c =
     let faults = λ (same : error ≡ running.Fault).
     let faulted = subst (λ (r : RunningError). TakesStep classes (length classes + 1) (node_at p o.node).outputs before i (Err r) after) same takes in
     let ended = fault_follows p classes checked c.classes-classes.ensures.code before after shaped.class found i (length classes + 1) deep faulted in
-    let seen = subst (λ (l : List Class). Faults p (classes_of l) (instance_state l (depth_of p) before) before.node i) c.classes-classes.ensures.same ended in
+    let seen = subst (λ (l : List Class). EndsStreams p (classes_of l) (instance_state l (depth_of p) before) before.node i) c.classes-classes.ensures.same ended in
     seen in
-    fault_passed (Faults p (plain_classes code) (state_of code o) o.node i) c.from_residual.result error c.from_residual.ensures.1 faults
+    fault_passed (EndsStreams p (plain_classes code) (state_of code o) o.node i) c.from_residual.result error c.from_residual.ensures.1 faults
 
 pub returns-clause-ok : goal.returns-clause-ok
 returns-clause-ok c =

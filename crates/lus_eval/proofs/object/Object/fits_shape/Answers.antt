@@ -7,7 +7,7 @@ use Rattle.lus_meaning.specs.Resolved.{input_kinds}
 use Rattle.lus_code.specs.SimulationSpecs.Fitting.{has_shape, row_fits}
 use Rattle.lus_code.proofs.SimulationProofs.Lived.{HasFormals, formals_at}
 use Rattle.lus_code.specs.Codes.{program_of}
-use Rattle.lus_eval.specs.Objects.{Kept, kept_by, IsShaped}
+use Rattle.lus_eval.specs.Objects.{Kept, kept_by, IsObjectOf}
 use Rattle.lus_eval.proofs.KeptRows.{source_checked, source_node}
 use Rattle.lus_eval.proofs.object.Object.fits_shape.Goals as goal
 
@@ -17,7 +17,7 @@ kind_in v = v.kind
 pub slice_bounds-variables-end : goal.slice_bounds-variables-end
 slice_bounds-variables-end c =
     let code = c.args.code.now in
-    let shaped = subst (IsShaped code) (sym c.self.view_is) c.requires in
+    let shaped = subst (IsObjectOf code) (sym c.self.view_is) c.requires in
     let o = kept_by c.self.inside.instance in
     let n = c.index-node.result.now in
     let vs = c.deref.result.now in
@@ -31,7 +31,7 @@ slice_bounds-variables-end c =
 pub returns : goal.returns
 returns c =
     let code = c.args.code.now in
-    let shaped = subst (IsShaped code) (sym c.self.view_is) c.requires in
+    let shaped = subst (IsObjectOf code) (sym c.self.view_is) c.requires in
     let o = kept_by c.self.inside.instance in
     let node = source_node code o shaped c.classes-classes.result.now c.classes-classes.ensures.same c.classes-classes.ensures.size c.program-program.result.now c.program-program.ensures.same c.index-node.result.now c.index-node.ensures in
     let p = program_of code in

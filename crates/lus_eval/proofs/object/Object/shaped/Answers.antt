@@ -1,5 +1,5 @@
 use Rattle.std.proofs.Common.{sym, subst}
-use Rattle.lus_eval.specs.Objects.{IsShaped}
+use Rattle.lus_eval.specs.Objects.{IsObjectOf}
 use Rattle.lus_eval.proofs.KeptRows.{shaped_in_code, instance_shaped}
 use Rattle.lus_eval.proofs.object.Object.shaped.Goals as goal
 
@@ -8,6 +8,6 @@ returns c =
     let code = c.args.code.now in
     let o = c.self.inside.instance in
     let same = c.classes.ensures.same in (
-      λ yes. subst (IsShaped code) c.self.view_is (shaped_in_code code c.classes.result.now same o c.classes.ensures.rows (c.is_shaped.ensures.0 yes)),
-      λ s. c.is_shaped.ensures.1 (instance_shaped code c.classes.result.now same o c.self.invariant (subst (IsShaped code) (sym c.self.view_is) s)),
+      λ yes. subst (IsObjectOf code) c.self.view_is (shaped_in_code code c.classes.result.now same o c.classes.ensures.rows (c.is_shaped.ensures.0 yes)),
+      λ s. c.is_shaped.ensures.1 (instance_shaped code c.classes.result.now same o c.self.invariant (subst (IsObjectOf code) (sym c.self.view_is) s)),
     )
