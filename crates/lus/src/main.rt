@@ -2,6 +2,9 @@
 //! `lus_explain`, `lus_draw`, `lus_audit`, `lus_live`.
 #![tactic(auto)]
 
+mod usage;
+
+use crate::usage::introduce;
 use lus_cli::{Fault, command, tell};
 use lus_devices::{Disk, Input, Output};
 use lus_lines::Buffered;
@@ -38,28 +41,30 @@ fn main(rt: HostRuntime) -> ExitCode {
     let disk = Disk(&rt);
     let mut output = Output(rt.stdout());
     let mut faults = Output(rt.stderr());
-    let status = match arguments(&rt) {
-        Ok(arguments) => match tool_and_words(&arguments) {
-            ("lus_explain", words) => {
-                lus_explain::command(rt.alloc(), &disk, words, &mut output, &mut faults)
-            }
-            ("lus_draw", words) => {
-                lus_draw::command(rt.alloc(), &disk, words, &mut output, &mut faults)
-            }
-            ("lus_audit", words) => {
-                lus_audit::command(rt.alloc(), &disk, words, &mut output, &mut faults)
-            }
-            ("lus_live", words) => lus_live::command(
+    let arguments = match arguments(&rt) {
+        Ok(arguments) => arguments,
+        Err(fault) => return ExitCode::from(tell(&mut faults, fault)),
+    };
+    let (tool, words) = tool_and_words(&arguments);
+    if let Some(status) = introduce(tool, words, &mut output, &mut faults) {
+        return ExitCode::from(status);
+    }
+    let status = match tool {
+        "lus_explain" => lus_explain::command(rt.alloc(), &disk, words, &mut output, &mut faults),
+        "lus_draw" => lus_draw::command(rt.alloc(), &disk, words, &mut output, &mut faults),
+        "lus_audit" => lus_audit::command(rt.alloc(), &disk, words, &mut output, &mut faults),
+        "lus_live" => {
+            let mut lines = Buffered::new(Input(rt.stdin()));
+            lus_live::command(
                 rt.alloc(),
                 &disk,
                 words,
-                &mut Buffered::new(Input(rt.stdin())),
+                &mut lines,
                 &mut output,
                 &mut faults,
-            ),
-            (_, words) => command(&rt, &disk, words, &mut output, &mut faults),
-        },
-        Err(fault) => tell(&mut faults, fault),
+            )
+        }
+        _ => command(&rt, &disk, words, &mut output, &mut faults),
     };
     ExitCode::from(status)
 }

@@ -1,0 +1,102 @@
+//! What the tools for people say of themselves: a usage text and a version. `lus` itself takes no such words.
+
+use lus_cli::{Fault, tell};
+use lus_devices::{Failure, Sink, write_all};
+
+const VERSION: &str = " 0.1.0\n";
+
+const EXPLAIN: &str = "usage: lus_explain [--json] PROGRAM [SCRIPTS]
+       lus_explain --script NODE PROGRAM
+
+Says why a program, or its scripts, are refused, and what to write; of an accepted program
+its types and nodes. It runs nothing.
+
+  --json         an object of JSON for each fault, on a line of its own
+  --script NODE  scripts to begin from, for an instance of NODE
+
+Status: 0 accepted, 1 the program is refused, 2 the scripts, 3 a file or the output fails, 4 out of memory.
+";
+
+const DRAW: &str = "usage: lus_draw [--svg | --waves | --csv | --vcd] JOURNAL [PROGRAM]
+
+Draws journals that lus or lus_live wrote: as a table, or
+
+  --svg    as a picture of that table
+  --waves  as a picture of lines over time, for long journals
+  --csv    as tables for spreadsheets
+  --vcd    as a value change dump, for viewers of waveforms
+
+PROGRAM gives the inputs and outputs their names. Status: 0 drawn, 1 to 4 as lus.
+";
+
+const AUDIT: &str = "usage: lus_audit PROGRAM JOURNAL
+
+Says whether each reply of a journal is the right one to its request, after those before it,
+by a new run of the program: `NAME lawful` for each instance, or the first wrong line with
+the right one.
+
+Status: 0 lawful, 1 the program is refused, 2 a wrong line, or no journal,
+3 a file or the output fails, 4 out of memory.
+";
+
+const LIVE: &str = "usage: lus_live PROGRAM NODE
+
+Runs a node in a pipe: reads calls from standard input, a line of JSON each, and writes the
+entry of each before it reads the next.
+
+  [18, 19, 22]                 a step with the inputs in their order, null for an absent one
+  {\"inputs\": {\"low\": 19, ..}}  a step with the inputs by their names
+  {\"reset\": true}, {\"save\": 0}, {\"restore\": 0}, {\"burst\": [[..], ..]}
+
+Status: 0 all lines were calls, 1 the program is refused, 2 some were no calls, 3 and 4 as lus.
+";
+
+/// The usage of a tool for people; `lus` is none.
+fn usage_of(tool: &str) -> Option<&'static str> {
+    match tool {
+        "lus_explain" => Some(EXPLAIN),
+        "lus_draw" => Some(DRAW),
+        "lus_audit" => Some(AUDIT),
+        "lus_live" => Some(LIVE),
+        _ => None,
+    }
+}
+
+/// The status where an answer was written, or told as a fault.
+fn status_of<F: Sink>(written: Result<(), Failure>, faults: &mut F) -> u8 {
+    match written {
+        Ok(()) => 0,
+        Err(_) => tell(faults, Fault::Output),
+    }
+}
+
+/// Answers `--help` and `--version` of a tool for people, and gives the status. Without words its usage is written beside the
+/// faults, and the tool goes on to refuse them.
+pub fn introduce<O: Sink, F: Sink>(
+    tool: &str,
+    words: &[String],
+    output: &mut O,
+    faults: &mut F,
+) -> Option<u8> {
+    let usage = usage_of(tool)?;
+    let Some(word) = words.first() else {
+        let _ = write_all(faults, usage.as_bytes());
+        return None;
+    };
+    if words.len() > 1 {
+        return None;
+    }
+    match word.as_str() {
+        "--help" => Some(status_of(write_all(output, usage.as_bytes()), faults)),
+        "--version" => {
+            let written = write_version(tool, output);
+            Some(status_of(written, faults))
+        }
+        _ => None,
+    }
+}
+
+fn write_version<O: Sink>(tool: &str, output: &mut O) -> Result<(), Failure> {
+    write_all(output, tool.as_bytes())?;
+    write_all(output, VERSION.as_bytes())
+}
