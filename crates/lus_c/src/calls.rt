@@ -1,7 +1,7 @@
 //! Nodes that are opened, and calls at them.
 ghost use Rattle.std.specs.Prelude.{◌≡◌, ◌⊎◌, length};
 ghost use Rattle.lus_c.specs.Held.{IsOkay, ContentSees, HeldSees};
-ghost use Rattle.lus_c.specs.Served.{IsEntered, ContentAdds, HeldAdds};
+ghost use Rattle.lus_c.specs.Served.{IsEntered, ContentAdds, ContentWaits, HeldAdds, HeldWaits};
 ghost use Rattle.lus_requests.specs.declared.request.Reply.{Reply as ReplyType};
 ghost use Rattle.lus_shared.specs.Views.{Adds, Sees};
 
@@ -184,7 +184,8 @@ fn call_in(
     answer: &mut Answer,
     outputs: &mut [Leaf],
 ) -> u32
-    ensures { IsEntered result → ContentAdds content.old content.new request.now }
+    ensures entered { IsEntered result → ContentAdds content.old content.new request.now }
+    ensures missed { IsEntered result ⊎ ((content.new ≡ content.old) ⊎ ContentWaits content.old content.new) }
 {
     match content {
         Content::Seat(seat) => call_at(seat, request, answer, outputs),
@@ -203,7 +204,8 @@ pub extern "C" fn lus_raw_try_call(
     answer: &mut Answer,
     outputs: &mut [Leaf],
 ) -> u32
-    ensures { IsEntered result → HeldAdds seat.old.kept.held seat.new.kept.held }
+    ensures entered { IsEntered result → HeldAdds seat.old.kept.held seat.new.kept.held }
+    ensures missed { IsEntered result ⊎ ((seat.new.kept.held ≡ seat.old.kept.held) ⊎ HeldWaits seat.old.kept.held seat.new.kept.held) }
 {
     answer.kind = 0;
     answer.why = 0;

@@ -109,6 +109,7 @@ pub extern "C" fn lus_raw_compile(
     names: &mut [u8],
 ) -> u32
     ensures accepted { IsOkay result → HeldAccepted text.now out.new.kept.held }
+    ensures refused { IsRefusal result → IsRefused text.now }
 {
     if !out.is_free() {
         return HANDLE;
