@@ -1,5 +1,5 @@
 -- What a call of C's leaves, by the number that it answers.
-use Rattle.std.specs.Prelude.{◌≡◌, ◌==◌, ◌||◌, ℕ, Option, None, Some, IsTrue, length}
+use Rattle.std.specs.Prelude.{◌≡◌, ◌==◌, ◌||◌, ℕ, Option, Some, IsTrue, length}
 use Rattle.lus_requests.specs.declared.request.Request.{Request}
 use Rattle.lus_requests.specs.declared.request.Reply.{Reply}
 use Rattle.lus_shared.specs.Views.{Adds, Sees}
