@@ -44,6 +44,10 @@ if [ -d "$here/bindings" ]; then
         rm -rf "$prefix/share/lus/rust"
         cp -R "$here/bindings/rust" "$prefix/share/lus/rust"
     fi
+    if [ -d "$here/bindings/examples" ]; then
+        rm -rf "$prefix/share/lus/bindings"
+        cp -R "$here/bindings/examples" "$prefix/share/lus/bindings"
+    fi
 fi
 put 644 share/lus "$here"/*.md "$here/LICENSE" "$here/VERSION"
 put 644 share/vim/vimfiles/syntax "$here/editors/lus.vim"

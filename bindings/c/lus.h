@@ -61,17 +61,17 @@ typedef struct { uint32_t kind, type; int64_t number; } lus_value;
 typedef struct { uint32_t kind, type, clocked, unused; uint64_t bytes; } lus_formal;
 
 /* Requests. */
-enum { LUS_STEP = 1, LUS_RESET = 2, LUS_SAVE = 3, LUS_RESTORE = 4 };
+enum { LUS_STEP = 1, LUS_RESET = 2, LUS_SAVE = 3, LUS_RESTORE = 4, LUS_BURST = 5 };
 /* Replies, and why a request is refused. */
-enum { LUS_OUTPUTS = 1, LUS_DONE = 2, LUS_NOT_DONE = 3 };
+enum { LUS_OUTPUTS = 1, LUS_DONE = 2, LUS_NOT_DONE = 3, LUS_ROWS = 4 };
 enum { LUS_SHAPE = 1, LUS_PRESENCE = 2, LUS_FAULT = 3, LUS_NO_SAVE = 4 };
 
 /* The reply to a request: one of the replies, why it was refused, and how many values the outputs are, heads of structures too.
  * After LUS_BUSY `count` is how many entries there are; after other errors it is 0. */
 typedef struct { uint32_t kind, why; uint64_t count; } lus_answer;
 
-/* An entry of a journal: the caller's number, the request and its slot, the reply and why it was refused, and how many values the
- * inputs and the outputs are. */
+/* An entry of a journal: the caller's number, the request and its slot, or how many rows a LUS_BURST has, the reply and why it was
+ * refused, and how many values the inputs and the outputs are. */
 typedef struct {
     uint32_t caller, request;
     uint64_t slot;
@@ -98,14 +98,23 @@ lus_status lus_row_text(lus_program *, const lus_value *, size_t n, char *text, 
 /* An instance of a node, with a seat for each of `count` callers: seats[k] is number k. */
 lus_status lus_open(lus_program *, uint32_t node, lus_seat *seats, uint32_t count);
 
-/* One call where the machine is free. On LUS_SHORT the call was made, and `lus_outputs` gives its outputs again. `inputs` are for
- * LUS_STEP, `slot` (0 to 7) is for LUS_SAVE and LUS_RESTORE. */
+/* One call where the machine is free. On LUS_SHORT the call was made, and `lus_outputs` gives its reply again. `inputs` are for
+ * LUS_STEP and LUS_BURST, `slot` (0 to 7) is for LUS_SAVE and LUS_RESTORE; of LUS_BURST it is how many rows the inputs are. */
 lus_status lus_try_call(lus_seat *, uint32_t request, uint64_t slot, const lus_value *inputs, size_t n, lus_answer *, lus_value *outputs,
                         size_t room);
 static inline lus_status lus_try_step(lus_seat *seat, const lus_value *inputs, size_t n, lus_answer *answer, lus_value *outputs,
                                       size_t room) {
     return lus_try_call(seat, LUS_STEP, 0, inputs, n, answer, outputs, room);
 }
+
+/* Several instants in one call: all of them or none, and one entry. `inputs` are `rows` rows of one length, one behind another,
+ * and so are the outputs of the reply LUS_ROWS. More than 1,000 rows are refused as LUS_SHAPE, more than 65,535 are LUS_VALUE. */
+static inline lus_status lus_try_burst(lus_seat *seat, uint64_t rows, const lus_value *inputs, size_t n, lus_answer *answer,
+                                       lus_value *outputs, size_t room) {
+    return lus_try_call(seat, LUS_BURST, rows, inputs, n, answer, outputs, room);
+}
+
+/* The reply to the seat's last call again; LUS_NO_SUCH before the first. */
 lus_status lus_outputs(lus_seat *, lus_answer *, lus_value *outputs, size_t room);
 lus_status lus_count(lus_seat *, uint64_t *entries);
 lus_status lus_number(lus_seat *, uint32_t *number);

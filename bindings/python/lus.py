@@ -15,10 +15,10 @@ import time
 
 OK, BUSY, MEMORY, FULL, REFUSED, NO_SUCH, VALUE, SHORT, HANDLE, SEATS, TEXT = range(11)
 _ABSENT, _BOOL, _INT, _ENUM, _STRUCT = range(5)
-_STEP, _RESET, _SAVE, _RESTORE = range(1, 5)
-_OUTPUTS, _DONE, _NOT_DONE = range(1, 4)
+_STEP, _RESET, _SAVE, _RESTORE, _BURST = range(1, 6)
+_OUTPUTS, _DONE, _NOT_DONE, _ROWS = range(1, 5)
 _WHY = ["", "shape", "presence", "fault", "nosave"]
-_REQUESTS = ["", "step", "reset", "save", "restore"]
+_REQUESTS = ["", "step", "reset", "save", "restore", "burst"]
 _STATUS = ["done", "another seat has the machine", "out of memory", "the history is full", "the text is refused",
            "there is none of this name or number", "these are no values", "an array is too short", "wrong use of a handle",
            "these are not all seats of one instance", "the bytes are not UTF-8"]
@@ -223,9 +223,13 @@ class _Types:
         return {name: self.read(values, field) for name, field in zip(fields.names, fields.kinds)}
 
     def row(self, formals, values):
-        """A row of numbers as a dict by names; as a list where it isn't as long as the formals."""
+        """A row of numbers as a dict by names."""
+        return self.rows(formals, values, 1)[0]
+
+    def rows(self, formals, values, count):
+        """So many rows of numbers, one behind another, as dicts by names."""
         left = iter(values)
-        return {name: self.read(left, kind) for name, kind in zip(formals.names, formals.kinds)}
+        return [{name: self.read(left, kind) for name, kind in zip(formals.names, formals.kinds)} for _ in range(count)]
 
 
 class Node:
@@ -312,6 +316,8 @@ class Seat(_Owner):
             raise NotDone(_WHY[answer.why])
         if answer.kind == _OUTPUTS:
             return self._program._types.row(self.node._outputs, outputs[: answer.count])
+        if answer.kind == _ROWS:
+            return self._program._types.rows(self.node._outputs, outputs[: answer.count], slot)
         return None
 
     def _row(self, inputs):
@@ -327,6 +333,17 @@ class Seat(_Owner):
         """The outputs at the next instant, by their names, or Busy; or NotDone, which is an entry too."""
         return self._call(_STEP, 0, self._row(inputs))
 
+    def _rows(self, rows):
+        values = []
+        for inputs in rows:
+            values += self._row(inputs)
+        return values
+
+    def try_burst(self, rows):
+        """The outputs at several instants, given the inputs of each as a dict by their names: all of them, or NotDone and none."""
+        rows = list(rows)
+        return self._call(_BURST, len(rows), self._rows(rows))
+
     def _again(self, request, slot, row):
         while True:
             try:
@@ -337,6 +354,11 @@ class Seat(_Owner):
     def step(self, **inputs):
         """As `try_step`, again while the machine is taken."""
         return self._again(_STEP, 0, self._row(inputs))
+
+    def burst(self, rows):
+        """As `try_burst`, again while the machine is taken."""
+        rows = list(rows)
+        return self._again(_BURST, len(rows), self._rows(rows))
 
     def reset(self):
         self._again(_RESET, 0, [])
@@ -408,7 +430,7 @@ def close(seats):
 
 class Entry:
     """One entry of a journal: the caller's number, the request, its inputs by name or its slot, and the outputs by name, None, or
-    why it was refused."""
+    why it was refused. A burst's inputs and outputs are lists."""
 
     def __init__(self, caller, request, inputs, slot, outputs, why):
         self.caller, self.request, self.inputs, self.slot = caller, request, inputs, slot
@@ -445,7 +467,11 @@ class Journal(_Owner):
         given, why = None, _WHY[entry.why]
         if entry.request == _STEP and why != "shape":
             given = types.row(node._inputs, inputs[: entry.inputs])
+        if entry.request == _BURST and why != "shape":
+            given = types.rows(node._inputs, inputs[: entry.inputs], entry.slot)
         told = types.row(node._outputs, outputs[: entry.outputs]) if entry.reply == _OUTPUTS else None
+        if entry.reply == _ROWS:
+            told = types.rows(node._outputs, outputs[: entry.outputs], entry.slot)
         slot = entry.slot if entry.request in (_SAVE, _RESTORE) else None
         return Entry(entry.caller, _REQUESTS[entry.request], given, slot, told, why)
 

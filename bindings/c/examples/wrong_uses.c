@@ -70,6 +70,10 @@ static void wrong_uses(lus_program *program, lus_seat *one) {
     GIVES(lus_try_step(one, &nil, 1, &answer, &out, 1), LUS_VALUE);
     GIVES(lus_try_step(one, &typed, 1, &answer, &out, 1), LUS_VALUE);
     GIVES(lus_try_call(one, 7, 0, 0, 0, &answer, 0, 0), LUS_VALUE);
+    lus_value three[3] = {passed, passed, passed};
+    GIVES(lus_try_burst(one, 2, three, 3, &answer, &out, 1), LUS_VALUE); /* no two rows of one length */
+    GIVES(lus_try_burst(one, 0, three, 3, &answer, &out, 1), LUS_VALUE);
+    GIVES(lus_try_burst(one, 65536, 0, 0, &answer, &out, 1), LUS_VALUE);
     /* seats that aren't all of one instance */
     MUST(lus_open(program, 0, two, 2));
     GIVES(lus_close(two, 1, &journal), LUS_SEATS);
@@ -127,6 +131,36 @@ static void structures(lus_program *program) {
     MUST(lus_free(&seat));
 }
 
+/* Three instants in one call; then three of which the second is no row of the node's, and none is made. */
+static void bursts(lus_program *program) {
+    lus_seat seat = LUS_NONE;
+    lus_journal journal = LUS_NONE;
+    lus_value in[3] = {{LUS_BOOL, 0, 1}, {LUS_BOOL, 0, 0}, {LUS_BOOL, 0, 1}}, out[3], again[3];
+    lus_answer answer;
+    lus_entry entry;
+    char line[128];
+    uint64_t bytes;
+    MUST(lus_open(program, 0, &seat, 1));
+    GIVES(lus_outputs(&seat, &answer, out, 3), LUS_NO_SUCH);
+    GIVES(lus_try_burst(&seat, 3, in, 3, &answer, out, 2), LUS_SHORT);
+    IS(answer.kind == LUS_ROWS && answer.count == 3);
+    MUST(lus_outputs(&seat, &answer, out, 3));
+    IS(out[0].number == 1 && out[1].number == 1 && out[2].number == 2);
+    in[1].kind = LUS_INT;
+    MUST(lus_try_burst(&seat, 3, in, 3, &answer, out, 3));
+    IS(answer.kind == LUS_NOT_DONE && answer.why == LUS_SHAPE);
+    MUST(lus_try_burst(&seat, 0, 0, 0, &answer, out, 3));
+    IS(answer.kind == LUS_ROWS && answer.count == 0);
+    MUST(lus_close(&seat, 1, &journal));
+    MUST(lus_entry_at(&journal, 0, &entry, in, 3, again, 3));
+    IS(entry.request == LUS_BURST && entry.slot == 3 && entry.inputs == 3 && entry.reply == LUS_ROWS && again[2].number == 2);
+    for (uint64_t k = 0; k < 3; k++) {
+        MUST(lus_entry_text(&journal, k, "panel", 6, line, sizeof line, &bytes));
+        printf("%.*s", (int)bytes, line);
+    }
+    MUST(lus_free(&journal));
+}
+
 static void save_and_restore(lus_seat *seat) {
     lus_value passed = {LUS_BOOL, 0, 1}, out = {9, 9, 9};
     lus_answer answer;
@@ -162,6 +196,7 @@ int main(void) {
     same(&one, 2);
     meetings(&program);
     structures(&program);
+    bursts(&program);
     save_and_restore(&one);
     MUST(lus_close(&one, 1, &journal));
     MUST(lus_entry_text(&journal, 8, "panel", 6, lines, sizeof lines, &bytes));

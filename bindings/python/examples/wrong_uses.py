@@ -63,6 +63,12 @@ print(uses, "wrong uses")
 
 swap, = program.open("swap")
 print(swap.step(p={"a": 41, "b": False}, l="Red"))
+counter, = program.open("counter")
+print(counter.burst({"passed": passed} for passed in (True, False, True)), counter.burst([]))
+raises(lus.NotDone, counter.burst, [{"passed": True}, {"passed": 1}])
+raises(ValueError, counter.burst, [{"gone": 1}])
+for entry in lus.close([counter]):
+    print(entry)
 sometimes, = program.open("sometimes")
 print(sometimes.step(c=True, x=5), sometimes.step(c=False))
 raises(lus.NotDone, sometimes.step, c=True)

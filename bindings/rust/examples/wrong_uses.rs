@@ -69,7 +69,9 @@ fn main() -> Result<(), Error> {
         deep = Value::Struct(vec![deep]);
     }
     uses.gives(one.step(&[Some(deep)]), Error::Value);
+    uses.gives(one.burst(vec![passed(true), vec![]]), Error::Value);
     uses.refused(one.step(&[]), Why::Shape);
+    uses.refused(one.burst(vec![passed(true), vec![None]]), Why::Presence);
     uses.refused(one.step(&[Some(Value::Int(1))]), Why::Shape);
     uses.refused(one.step(&[None]), Why::Presence);
     uses.refused(one.call(&Request::Save(8)), Why::Shape);
@@ -81,5 +83,6 @@ fn main() -> Result<(), Error> {
     let pair = Value::Struct(vec![Value::Int(41), Value::Bool(false)]);
     println!("{:?}", program.open(swap, 1)?[0].step(&[Some(pair), Some(Value::Enum(light, 0))])?);
     println!("{}", program.constructor(light, 1)?);
+    println!("{:?}", program.open(Node(0), 1)?[0].burst(vec![passed(true), passed(false), passed(true)])?);
     Ok(())
 }

@@ -45,7 +45,7 @@ impl Journal {
         Ok(Entry {
             caller: entry.caller,
             request: request_of(entry.request, entry.slot, &inputs[..entry.inputs as usize]),
-            reply: reply_of(entry.reply, entry.why, &outputs[..entry.outputs as usize]),
+            reply: reply_of(entry.reply, entry.why, &outputs[..entry.outputs as usize], entry.slot),
         })
     }
 

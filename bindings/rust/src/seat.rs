@@ -2,7 +2,7 @@
 use crate::error::{Error, SHORT, check};
 use crate::journal::Journal;
 use crate::raw::{self, Answer, Handle, Leaf};
-use crate::value::{Reply, Request, Value, numbers_of, reply_of};
+use crate::value::{Reply, Request, Row, Value, numbers_of, reply_of};
 use std::thread;
 
 /// A caller's place at an instance of a node. It may go to another thread.
@@ -39,7 +39,7 @@ impl Seat {
             status = unsafe { raw::lus_outputs(&mut self.handle, &mut answer, outputs.as_mut_ptr(), outputs.len()) };
         }
         check(status, answer.count)?;
-        Ok(reply_of(answer.kind, answer.why, &self.outputs[..answer.count as usize]))
+        Ok(reply_of(answer.kind, answer.why, &self.outputs[..answer.count as usize], slot))
     }
 
     /// One call, again while the machine is taken.
@@ -62,6 +62,11 @@ impl Seat {
                 reply => return reply,
             }
         }
+    }
+
+    /// Several instants, all of them or none, again while the machine is taken.
+    pub fn burst(&mut self, rows: Vec<Row>) -> Result<Reply, Error> {
+        self.call(&Request::Burst(rows))
     }
 
     /// How many entries there are: never fewer than the seat has seen.

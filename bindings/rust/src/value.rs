@@ -35,12 +35,15 @@ pub enum Request {
     /// Into a slot, 0 to 7.
     Save(u64),
     Restore(u64),
+    /// Several instants, one behind another: all of them or none. The rows are of one length.
+    Burst(Vec<Row>),
 }
 
 /// Why a request was refused.
 #[derive(Clone, Copy, Debug, PartialEq, Eq)]
 pub enum Why {
-    /// The inputs aren't as many as the node's, or one is no value of its type; or there is no slot of this number.
+    /// The inputs aren't as many as the node's, or one is no value of its type; or there is no slot of this number, or a burst has
+    /// more than 1,000 rows.
     Shape,
     /// An input isn't present exactly where its clock is.
     Presence,
@@ -54,6 +57,8 @@ pub enum Why {
 #[derive(Clone, Debug, PartialEq, Eq)]
 pub enum Reply {
     Outputs(Row),
+    /// Those at each instant of a burst.
+    Rows(Vec<Row>),
     Done,
     Refused(Why),
 }
@@ -109,6 +114,13 @@ pub(crate) fn row_of(leaves: &[Leaf]) -> Row {
     row
 }
 
+/// So many rows of one length, one behind another.
+pub(crate) fn rows_of(leaves: &[Leaf], count: u64) -> Vec<Row> {
+    let mut entries = row_of(leaves);
+    let width = entries.len().checked_div(count as usize).unwrap_or(0);
+    (0..count).map(|_| entries.drain(..width).collect()).collect()
+}
+
 pub(crate) fn why_of(number: u32) -> Why {
     match number {
         1 => Why::Shape,
@@ -118,13 +130,16 @@ pub(crate) fn why_of(number: u32) -> Why {
     }
 }
 
-/// The numbers of a request: its kind, its slot and its leaves.
+/// The numbers of a request: its kind, its slot or how many rows it has, and its leaves. Rows of several lengths are none: as a burst
+/// of more rows than there are entries, which the library refuses.
 pub(crate) fn numbers_of(request: &Request) -> (u32, u64, Vec<Leaf>) {
     match request {
         Request::Step(row) => (1, 0, leaves_of(row)),
         Request::Reset => (2, 0, Vec::new()),
         Request::Save(slot) => (3, *slot, Vec::new()),
         Request::Restore(slot) => (4, *slot, Vec::new()),
+        Request::Burst(rows) if rows.windows(2).any(|two| two[0].len() != two[1].len()) => (5, u64::MAX, Vec::new()),
+        Request::Burst(rows) => (5, rows.len() as u64, rows.iter().flat_map(|row| leaves_of(row)).collect()),
     }
 }
 
@@ -133,14 +148,17 @@ pub(crate) fn request_of(kind: u32, slot: u64, leaves: &[Leaf]) -> Request {
         1 => Request::Step(row_of(leaves)),
         2 => Request::Reset,
         3 => Request::Save(slot),
+        5 => Request::Burst(rows_of(leaves, slot)),
         _ => Request::Restore(slot),
     }
 }
 
-pub(crate) fn reply_of(kind: u32, why: u32, leaves: &[Leaf]) -> Reply {
+/// The reply of these numbers; `rows` is how many rows a burst has.
+pub(crate) fn reply_of(kind: u32, why: u32, leaves: &[Leaf], rows: u64) -> Reply {
     match kind {
         1 => Reply::Outputs(row_of(leaves)),
         2 => Reply::Done,
+        4 => Reply::Rows(rows_of(leaves, rows)),
         _ => Reply::Refused(why_of(why)),
     }
 }

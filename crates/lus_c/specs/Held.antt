@@ -1,5 +1,5 @@
 -- What handles hold after calls of C's.
-use Rattle.std.specs.Prelude.{◌≡◌, ◌==◌, ℕ, List, Option, None, Some, IsTrue}
+use Rattle.std.specs.Prelude.{◌==◌, ℕ, List, Option, None, Some, IsTrue}
 use Rattle.std.specs.Arc.{arc_value}
 use Rattle.lus_syntax.specs.Lexemes.{Text}
 use Rattle.lus_shared.specs.CodeSpecs.Codes.{program_of}

@@ -1,5 +1,5 @@
 -- What meeting, holding and releasing leave.
-use Rattle.std.specs.Prelude.{◌≡◌, Option, None, Some, length}
+use Rattle.std.specs.Prelude.{◌≡◌, Option, Some, length}
 use Rattle.lus_shared.specs.Views.{Sees}
 use Rattle.lus_c.specs.declared.content.Content.{Content as ContentType}
 use Rattle.lus_c.specs.declared.content.Content.TheVariants.{Seat as IsSeat, Held as IsHeld}

@@ -1,8 +1,8 @@
 -- What a call of C's leaves, by the number that it answers.
-use Rattle.std.specs.Prelude.{◌≡◌, ◌==◌, ◌||◌, ℕ, Option, None, Some, IsTrue}
+use Rattle.std.specs.Prelude.{◌≡◌, ◌==◌, ◌||◌, ℕ, Option, Some, IsTrue, length}
 use Rattle.lus_requests.specs.declared.request.Request.{Request}
 use Rattle.lus_requests.specs.declared.request.Reply.{Reply}
-use Rattle.lus_shared.specs.Views.{Adds}
+use Rattle.lus_shared.specs.Views.{Adds, Sees}
 use Rattle.lus_c.specs.declared.content.Content.{Content as ContentType}
 use Rattle.lus_c.specs.declared.content.Content.TheVariants.{Seat as IsSeat}
 use Rattle.lus_c.specs.Seated.{Seated}
@@ -23,3 +23,12 @@ ContentAdds _ _ request = ⊥
 abbrev pub HeldAdds : Option ContentType → Option ContentType → Type 0
 HeldAdds (Some a) (Some b) = (request : Request) × ContentAdds a b request
 HeldAdds _ _ = ⊥
+
+-- a seat that made no call: it may have seen more of a legal history
+abbrev pub ContentWaits : ContentType → ContentType → Type 0
+ContentWaits (IsSeat s) (IsSeat t) = (t.id ≡ s.id) × Sees s.standing t.standing (length t.standing.seen)
+ContentWaits _ _ = ⊥
+
+abbrev pub HeldWaits : Option ContentType → Option ContentType → Type 0
+HeldWaits (Some a) (Some b) = ContentWaits a b
+HeldWaits _ _ = ⊥

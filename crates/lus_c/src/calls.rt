@@ -1,7 +1,7 @@
 //! Nodes that are opened, and calls at them.
 ghost use Rattle.std.specs.Prelude.{◌≡◌, ◌⊎◌, length};
 ghost use Rattle.lus_c.specs.Held.{IsOkay, ContentSees, HeldSees};
-ghost use Rattle.lus_c.specs.Served.{IsEntered, ContentAdds, HeldAdds};
+ghost use Rattle.lus_c.specs.Served.{IsEntered, ContentAdds, ContentWaits, HeldAdds, HeldWaits};
 ghost use Rattle.lus_requests.specs.declared.request.Reply.{Reply as ReplyType};
 ghost use Rattle.lus_shared.specs.Views.{Adds, Sees};
 
@@ -10,18 +10,18 @@ use crate::handle::Handle;
 use crate::node_seat::NodeSeat;
 use crate::seat_group::{Opening, SeatGroup};
 use crate::status::{BUSY, FULL, HANDLE, MEMORY, NONE, OK, SHORT, VALUE};
-use lus_leaves::{Leaf, row_of, write_row};
-use lus_requests::{Reply, Request, Why};
+use lus_leaves::{Leaf, row_of, rows_of, write_row, write_rows};
+use lus_requests::{Reply, Request, Rows, Why};
 use lus_shared::TryError;
 use lus_shared::lus_machine::{Machine, NodeId, Program};
-use lus_values::{Memory, Row};
+use lus_values::Memory;
 use std::alloc::Global;
 use std::sync::Arc;
 
 /// What a call was answered.
 #[repr(C)]
 pub struct Answer {
-    /// 1 for outputs, 2 for done, 3 for refused; 0 where there is none.
+    /// 1 for outputs, 2 for done, 3 for refused, 4 for the rows of a burst; 0 where there is none.
     kind: u32,
     /// Why it was refused: 1 shape, 2 presence, 3 fault, 4 no save.
     why: u32,
@@ -116,16 +116,18 @@ fn request_of(
         2 => Ok(Some(Request::Reset)),
         3 => Ok(Some(Request::Save(slot))),
         4 => Ok(Some(Request::Restore(slot))),
+        5 => match rows_of(alloc, inputs, slot)? {
+            Some(rows) => Ok(Some(Request::Burst(Rows::new(rows)))),
+            None => Ok(None),
+        },
         _ => Ok(None),
     }
 }
 
-fn write_outputs(answer: &mut Answer, outputs: &mut [Leaf], row: &Row) -> u32
+/// Whether the outputs had room.
+fn fits(answer: &Answer, outputs: &[Leaf]) -> u32
     ensures { IsEntered result }
 {
-    answer.kind = 1;
-    answer.why = 0;
-    answer.count = write_row(outputs, row);
     if answer.count > outputs.len() as u64 {
         SHORT
     } else {
@@ -133,36 +135,27 @@ fn write_outputs(answer: &mut Answer, outputs: &mut [Leaf], row: &Row) -> u32
     }
 }
 
-fn write_reply(seat: &mut NodeSeat, reply: Reply, answer: &mut Answer, outputs: &mut [Leaf]) -> u32
-    ensures same { seat.new ≡ seat.old }
-    ensures answered { IsEntered result }
+fn write_reply(answer: &mut Answer, outputs: &mut [Leaf], reply: &Reply) -> u32
+    ensures { IsEntered result }
 {
+    answer.why = 0;
+    answer.count = 0;
     match reply {
         Reply::Outputs(row) => {
-            let status = write_outputs(answer, outputs, &row);
-            seat.keep(row);
-            status
+            answer.kind = 1;
+            answer.count = write_row(outputs, row);
         }
-        // C makes no bursts
-        Reply::Rows(_) => {
+        Reply::Rows(rows) => {
             answer.kind = 4;
-            answer.why = 0;
-            answer.count = 0;
-            OK
+            answer.count = write_rows(outputs, rows.items());
         }
-        Reply::Done => {
-            answer.kind = 2;
-            answer.why = 0;
-            answer.count = 0;
-            OK
-        }
+        Reply::Done => answer.kind = 2,
         Reply::Refused(why) => {
             answer.kind = 3;
-            answer.why = number_of(why);
-            answer.count = 0;
-            OK
+            answer.why = number_of(*why);
         }
     }
+    fits(answer, outputs)
 }
 
 fn call_at(seat: &mut NodeSeat, request: &Request, answer: &mut Answer, outputs: &mut [Leaf]) -> u32
@@ -171,7 +164,11 @@ fn call_at(seat: &mut NodeSeat, request: &Request, answer: &mut Answer, outputs:
     ensures missed { IsEntered result ⊎ Sees seat.old.standing seat.new.standing (length seat.new.standing.seen) }
 {
     match seat.try_call(request) {
-        Ok(reply) => write_reply(seat, reply, answer, outputs),
+        Ok(reply) => {
+            let status = write_reply(answer, outputs, &reply);
+            seat.keep(reply);
+            status
+        }
         Err(TryError::Memory) => MEMORY,
         Err(TryError::Full) => FULL,
         Err(TryError::Busy(busy)) => {
@@ -187,7 +184,8 @@ fn call_in(
     answer: &mut Answer,
     outputs: &mut [Leaf],
 ) -> u32
-    ensures { IsEntered result → ContentAdds content.old content.new request.now }
+    ensures entered { IsEntered result → ContentAdds content.old content.new request.now }
+    ensures missed { IsEntered result ⊎ ((content.new ≡ content.old) ⊎ ContentWaits content.old content.new) }
 {
     match content {
         Content::Seat(seat) => call_at(seat, request, answer, outputs),
@@ -195,7 +193,7 @@ fn call_in(
     }
 }
 
-/// One call where the machine is free: 1 is a step, 2 a reset, 3 a save and 4 a restore.
+/// One call where the machine is free: 1 is a step, 2 a reset, 3 a save, 4 a restore, and 5 a burst of as many rows as `slot` says.
 #[unsafe(no_mangle)]
 pub extern "C" fn lus_raw_try_call(
     alloc: Global,
@@ -206,7 +204,8 @@ pub extern "C" fn lus_raw_try_call(
     answer: &mut Answer,
     outputs: &mut [Leaf],
 ) -> u32
-    ensures { IsEntered result → HeldAdds seat.old.kept.held seat.new.kept.held }
+    ensures entered { IsEntered result → HeldAdds seat.old.kept.held seat.new.kept.held }
+    ensures missed { IsEntered result ⊎ ((seat.new.kept.held ≡ seat.old.kept.held) ⊎ HeldWaits seat.old.kept.held seat.new.kept.held) }
 {
     answer.kind = 0;
     answer.why = 0;
@@ -224,7 +223,7 @@ pub extern "C" fn lus_raw_try_call(
     status
 }
 
-/// The outputs of the seat's last step again.
+/// The reply to the seat's last call again.
 #[unsafe(no_mangle)]
 pub extern "C" fn lus_raw_outputs(
     alloc: Global,
@@ -237,7 +236,7 @@ pub extern "C" fn lus_raw_outputs(
     };
     let status = match &*content {
         Content::Seat(seat) => match seat.last() {
-            Some(row) => write_outputs(answer, outputs, row),
+            Some(reply) => write_reply(answer, outputs, reply),
             None => NONE,
         },
         _ => HANDLE,

@@ -4,6 +4,7 @@ ghost use Rattle.lus_syntax.specs.declared.refusal.RefusalNumber.TheVariants as 
 ghost use Rattle.lus_shared.specs.MachineSpecs.Acceptance.{IsRefused};
 ghost use Rattle.lus_c.specs.Holds.{has_content};
 ghost use Rattle.lus_c.specs.Held.{IsOkay, IsRefusal, HeldAccepted};
+ghost use Rattle.lus_c.specs.Refusals.{code, IsWritten, TellsRefusal};
 
 use crate::content::Content;
 use crate::handle::Handle;
@@ -28,7 +29,9 @@ pub struct Refused {
     bytes: u64,
 }
 
-fn number_of(number: RefusalNumber) -> u32 {
+fn number_of(number: RefusalNumber) -> u32
+    ensures { result ≡ code number }
+{
     match number {
         RefusalNumber::Lexical => 1,
         RefusalNumber::Syntax => 2,
@@ -44,7 +47,9 @@ fn number_of(number: RefusalNumber) -> u32 {
     }
 }
 
-fn write_refusal(refused: &mut Refused, names: &mut [u8], refusal: &Refusal) {
+fn write_refusal(refused: &mut Refused, names: &mut [u8], refusal: &Refusal)
+    ensures { IsWritten refusal.now refused.new }
+{
     refused.number = number_of(refusal.number);
     refused.line = refusal.line;
     refused.column = refusal.column;
@@ -62,6 +67,7 @@ fn write_refusal(refused: &mut Refused, names: &mut [u8], refusal: &Refusal) {
 // Writes why, where it isn't out of memory.
 fn write_why(refused: &mut Refused, names: &mut [u8], refusal: &Refusal) -> u32
     ensures why { IsRefusal result → refusal.now.number ≢ numbers.Memory }
+    ensures written { IsRefusal result → IsWritten refusal.now refused.new }
     ensures never { IsOkay result → ⊥ }
 {
     match refusal.number {
@@ -83,6 +89,7 @@ fn compile_in(
     requires { has_content out.old.kept.held ≡ false }
     ensures accepted { IsOkay result → HeldAccepted text.now out.new.kept.held }
     ensures refused { IsRefusal result → IsRefused text.now }
+    ensures told { IsRefusal result → TellsRefusal text.now refused.new }
 {
     match compile(alloc, text) {
         Ok(program) => {
@@ -109,6 +116,8 @@ pub extern "C" fn lus_raw_compile(
     names: &mut [u8],
 ) -> u32
     ensures accepted { IsOkay result → HeldAccepted text.now out.new.kept.held }
+    ensures refused { IsRefusal result → IsRefused text.now }
+    ensures told { IsRefusal result → TellsRefusal text.now refused.new }
 {
     if !out.is_free() {
         return HANDLE;

@@ -4,7 +4,7 @@ use crate::calls::number_of;
 use crate::content::Content;
 use crate::handle::Handle;
 use crate::status::{HANDLE, NONE, OK, SHORT};
-use lus_leaves::{Leaf, write_row};
+use lus_leaves::{Leaf, write_row, write_rows};
 use lus_requests::{Entry, Reply, Request};
 use std::alloc::Global;
 
@@ -14,6 +14,7 @@ pub struct EntryOut {
     caller: u32,
     /// As of a call.
     request: u32,
+    /// The slot, or how many rows a burst has.
     slot: u64,
     /// As of an answer.
     reply: u32,
@@ -57,8 +58,11 @@ fn write_request(out: &mut EntryOut, inputs: &mut [Leaf], request: &Request) {
             out.request = 4;
             out.slot = *slot;
         }
-        // C makes no bursts
-        Request::Burst(_) => out.request = 5,
+        Request::Burst(rows) => {
+            out.request = 5;
+            out.slot = rows.items().len() as u64;
+            out.inputs = write_rows(inputs, rows.items());
+        }
     }
 }
 
@@ -70,7 +74,10 @@ fn write_reply(out: &mut EntryOut, outputs: &mut [Leaf], reply: &Reply) {
             out.reply = 1;
             out.outputs = write_row(outputs, row);
         }
-        Reply::Rows(_) => out.reply = 4,
+        Reply::Rows(rows) => {
+            out.reply = 4;
+            out.outputs = write_rows(outputs, rows.items());
+        }
         Reply::Done => out.reply = 2,
         Reply::Refused(why) => {
             out.reply = 3;

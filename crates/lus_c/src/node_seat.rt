@@ -8,7 +8,6 @@ ghost use Rattle.lus_shared.specs.CodeSpecs.Codes.{program_of};
 use lus_requests::{Reply, Request};
 use lus_shared::lus_machine::{NodeId, Program};
 use lus_shared::{Busy, Held, Seat, SeatNode, TryError};
-use lus_values::Row;
 use std::marker::Model;
 use std::sync::Arc;
 
@@ -21,12 +20,12 @@ pub struct Opened {
     pub(crate) kind: NodeId,
 }
 
-/// A seat with its instance, and the outputs of its last step.
+/// A seat with its instance, and the reply to its last call.
 #[derive(Drop)]
 pub struct NodeSeat {
     pub(crate) node: Arc<Opened>,
     pub(crate) seat: Seat,
-    pub(crate) last: Option<Row>,
+    pub(crate) last: Option<Reply>,
 }
 
 impl Model for NodeSeat {
@@ -82,14 +81,14 @@ impl NodeSeat {
         self.node.node.try_call(&mut self.seat, request)
     }
 
-    /// Keeps the outputs of a step, so that they can be given again.
-    pub(crate) fn keep(&mut self, outputs: Row)
+    /// Keeps a reply, so that it can be given again.
+    pub(crate) fn keep(&mut self, reply: Reply)
         ensures { self.new ≡ self.old }
     {
-        self.last = Some(outputs);
+        self.last = Some(reply);
     }
 
-    pub(crate) fn last(&self) -> Option<&Row> {
+    pub(crate) fn last(&self) -> Option<&Reply> {
         self.last.as_ref()
     }
 
@@ -135,7 +134,7 @@ impl NodeSeat {
 pub struct HeldSeat {
     node: Arc<Opened>,
     held: Held,
-    last: Option<Row>,
+    last: Option<Reply>,
 }
 
 impl Model for HeldSeat {

@@ -7,5 +7,5 @@ mod reading;
 mod writing;
 
 pub use leaf::Leaf;
-pub use reading::row_of;
-pub use writing::write_row;
+pub use reading::{row_of, rows_of};
+pub use writing::{write_row, write_rows};

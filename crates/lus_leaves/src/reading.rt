@@ -7,6 +7,9 @@ use std::alloc::Global;
 /// The most structures in one another.
 const DEPTH: u32 = 64;
 
+/// The most rows at a time, far above what an instance takes.
+const MOST_ROWS: u64 = 65535;
+
 /// The entry that begins at a place, and the place behind it.
 #[derive(Drop)]
 enum Found {
@@ -118,9 +121,9 @@ fn read_fields(
     Ok(Some((fields, at)))
 }
 
-/// The row that these leaves are, or nothing: leaves that no values are, or structures more than 64 deep.
-pub fn row_of(alloc: Global, leaves: &[Leaf]) -> Result<Option<Row>, Memory> {
-    let mut items = Vec::new(alloc);
+/// The entries that these leaves are, or nothing: leaves that no values are, or structures more than 64 deep.
+fn entries_of(alloc: Global, leaves: &[Leaf]) -> Result<Option<Vec<Option<Value>>>, Memory> {
+    let mut entries = Vec::new(alloc);
     let mut at = 0;
     for _left in 0..leaves.len() {
         if at >= leaves.len() {
@@ -128,7 +131,7 @@ pub fn row_of(alloc: Global, leaves: &[Leaf]) -> Result<Option<Row>, Memory> {
         }
         match read(alloc, leaves, at, DEPTH)? {
             Found::At(entry, next) => {
-                items.push(entry)?;
+                entries.push(entry)?;
                 at = next;
             }
             Found::Wrong => return Ok(None),
@@ -137,5 +140,53 @@ pub fn row_of(alloc: Global, leaves: &[Leaf]) -> Result<Option<Row>, Memory> {
     if at != leaves.len() {
         return Ok(None);
     }
-    Ok(Some(Row::new(items)))
+    Ok(Some(entries))
+}
+
+/// The row that these leaves are, or nothing: leaves that no values are, or structures more than 64 deep.
+pub fn row_of(alloc: Global, leaves: &[Leaf]) -> Result<Option<Row>, Memory> {
+    match entries_of(alloc, leaves)? {
+        Some(entries) => Ok(Some(Row::new(entries))),
+        None => Ok(None),
+    }
+}
+
+/// Rows of so many entries each, of the last entries on; the rows come in the order of the entries.
+fn part(
+    alloc: Global,
+    entries: &mut Vec<Option<Value>>,
+    count: u64,
+    width: usize,
+) -> Result<Vec<Row>, Memory> {
+    let mut rows = Vec::new(alloc);
+    for _row in 0..count {
+        let mut items = Vec::new(alloc);
+        for _entry in 0..width {
+            if let Some(entry) = entries.pop() {
+                items.push(entry)?;
+            }
+        }
+        rows.push(Row::new(items))?;
+    }
+    Ok(rows)
+}
+
+/// The rows that these leaves are, so many and all of one length, or nothing: leaves that no such rows are, or more than 65,535 rows.
+pub fn rows_of(alloc: Global, leaves: &[Leaf], count: u64) -> Result<Option<Vec<Row>>, Memory> {
+    if count > MOST_ROWS {
+        return Ok(None);
+    }
+    let Some(mut entries) = entries_of(alloc, leaves)? else {
+        return Ok(None);
+    };
+    let width = if count == 0 {
+        0
+    } else {
+        entries.len() / count as usize
+    };
+    if entries.len() as u64 != count * width as u64 {
+        return Ok(None);
+    }
+    entries.reverse();
+    Ok(Some(part(alloc, &mut entries, count, width)?))
 }

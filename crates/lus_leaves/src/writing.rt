@@ -40,16 +40,37 @@ fn write(leaves: &mut [Leaf], at: usize, value: &Value) -> usize
     }
 }
 
-/// Writes a row, as far as the array has room, and answers how many leaves it is.
-pub fn write_row(leaves: &mut [Leaf], row: &Row) -> u64
+/// Writes a row's entries from a place on.
+fn write_entries(leaves: &mut [Leaf], start: usize, row: &Row) -> usize
     ensures { length leaves.new ≡ length leaves.old }
 {
-    let mut at = 0;
+    let mut at = start;
     for entry in row.items() {
         at = match entry {
             Some(value) => write(leaves, at, value),
             None => put(leaves, at, leaf_of(ABSENT, 0, 0)),
         };
     }
+    at
+}
+
+/// Writes a row, as far as the array has room, and answers how many leaves it is.
+pub fn write_row(leaves: &mut [Leaf], row: &Row) -> u64
+    ensures { length leaves.new ≡ length leaves.old }
+{
+    write_entries(leaves, 0, row);
     count_row(row)
+}
+
+/// Writes rows, one behind another, as far as the array has room, and answers how many leaves they are.
+pub fn write_rows(leaves: &mut [Leaf], rows: &[Row]) -> u64
+    ensures { length leaves.new ≡ length leaves.old }
+{
+    let mut at = 0;
+    let mut total = 0u64;
+    for row in rows {
+        at = write_entries(leaves, at, row);
+        total = total.saturating_add(count_row(row));
+    }
+    total
 }

@@ -2,7 +2,7 @@ use Rattle.std.proofs.Common.{◌≡◌, vec_len}
 use Rattle.std.specs.List.{All}
 use Rattle.std.specs.Arc.{arc_value}
 use Rattle.lus_shared.specs.Knowledge.{Standing}
-use Rattle.lus_c.specs.Seated.{Seated, IsAt}
+use Rattle.lus_c.specs.Seated.{IsAt}
 use Rattle.lus_c.proofs.seat_group.SeatGroup.open.Given as goal
 
 abbrev pub invariant-loop-seat : goal.invariant-loop-seat
