@@ -1,6 +1,6 @@
 //! What is said as JSON: an object for each fault, on a line of its own.
 
-ghost use Rattle.std.specs.Prelude.{◌≡◌, ◌≢◌, IfErr, IfOk, OnOk, option_map, string_bytes};
+ghost use Rattle.std.specs.Prelude.{◌≡◌, ◌≢◌, IfErr, IfOk, None, OnOk, Some, option_map, string_bytes};
 ghost use Rattle.lus_syntax.specs.declared.refusal.RefusalNumber.TheVariants as numbers;
 ghost use Rattle.lus_json_faults.specs.Lines.{SaysFault};
 ghost use Rattle.lus_scripts.specs.declared.refusal.ScriptRefusal.TheVariants as refusals;
@@ -9,23 +9,25 @@ ghost use Rattle.lus_reports.specs.CliSpecs.declared.fault.Fault.TheVariants as 
 ghost use Rattle.lus_reports.specs.Verdicts.{file_seen, verdict_seen};
 ghost use Rattle.lus_explain.specs.Lines.{AreJudgedInLines, IsVerdictAs, IsVerdictInLines, SaysComplaint};
 
-use lus_json_faults::{fault_line, push_number, push_string};
+use lus_json_faults::{fault_lines, push_number, push_string};
 use lus_reports::lus_cli::lus_host::{Program, text_of};
 use lus_reports::lus_cli::{Fault, script_text};
 use lus_reports::{
-    Complaint, File, Found, Verdict, explain, explain_scripts, judge, known_finding, meaning_of,
+    Complaint, File, Found, Verdict, accept, explain, explain_scripts, further_faults, judge,
+    known_finding, meaning_of,
 };
 use lus_scripts::ScriptRefusal;
 use lus_syntax::{Refusal, RefusalNumber};
 use std::alloc::{AllocError, Global};
 
-/// The line of a program's refusal.
-fn program_line(alloc: Global, program: File<'_>, refusal: &Refusal) -> Result<String, AllocError>
-    ensures { IfOk result (λ line. SaysFault program.entry.name.now refusal.now (string_bytes line)) }
+/// The line of a program's refusal, and those of its further faults.
+fn program_lines(alloc: Global, program: File<'_>, refusal: &Refusal) -> Result<String, Refusal>
+    ensures { IfOk result (λ lines. SaysFault program.entry.name.now refusal.now (string_bytes lines)) }
 {
     let source = text_of(program.bytes).unwrap_or("");
     let finding = known_finding(alloc, program.bytes, refusal)?;
-    fault_line(alloc, program.name, source, refusal, &finding)
+    let others = further_faults(alloc, program.bytes, refusal)?;
+    Ok(fault_lines(alloc, program.name, source, refusal, &finding, &others)?)
 }
 
 /// Of a refused program.
@@ -38,7 +40,7 @@ fn refused_program(alloc: Global, program: File<'_>, refusal: &Refusal) -> Resul
     if refusal.number == RefusalNumber::Memory {
         return Err(Fault::Memory);
     }
-    match program_line(alloc, program, refusal) {
+    match program_lines(alloc, program, refusal) {
         Ok(text) => Ok(Verdict { text, status: 1 }),
         Err(_) => Err(Fault::Memory),
     }
@@ -116,7 +118,32 @@ fn judge_scripts(alloc: Global, program: &Program, scripts: File<'_>) -> Result<
     }
 }
 
-/// Of a program, and of scripts for it if there are any: a line of the fault, and none where all is accepted.
+/// Of a program alone: a line for each fault, and none where it is accepted.
+fn judge_program(alloc: Global, program: File<'_>) -> Result<Verdict, Fault>
+    ensures verdict { IfOk result (λ v. IsVerdictInLines (file_seen program.entry) (verdict_seen v) None) }
+    ensures memory { IfErr result (λ f. f ≡ faults.Memory) }
+{
+    match accept(alloc, program.bytes) {
+        Ok(_) => Ok(Verdict {
+            text: String::new(alloc),
+            status: 0,
+        }),
+        Err(explanation) => refused_program(alloc, program, &explanation.refusal),
+    }
+}
+
+/// Of a program with scripts: a line for each fault of the program, or for that of the scripts, and none where all is accepted.
+fn judge_both(alloc: Global, program: File<'_>, scripts: File<'_>) -> Result<Verdict, Fault>
+    ensures verdict { IfOk result (λ v. IsVerdictInLines (file_seen program.entry) (verdict_seen v) (Some (file_seen scripts.entry))) }
+    ensures memory { IfErr result (λ f. f ≡ faults.Memory) }
+{
+    match explain(alloc, program.bytes) {
+        Ok(accepted) => judge_scripts(alloc, &accepted, scripts),
+        Err(explanation) => refused_program(alloc, program, &explanation.refusal),
+    }
+}
+
+/// Of a program, and of scripts for it if there are any: a line for each fault, and none where all is accepted.
 fn judge_in_lines(
     alloc: Global,
     program: File<'_>,
@@ -125,15 +152,9 @@ fn judge_in_lines(
     ensures verdict { IfOk result (λ v. IsVerdictInLines (file_seen program.entry) (verdict_seen v) (option_map file_seen scripts.entry)) }
     ensures memory { IfErr result (λ f. f ≡ faults.Memory) }
 {
-    match explain(alloc, program.bytes) {
-        Ok(accepted) => match scripts {
-            Some(scripts) => judge_scripts(alloc, &accepted, scripts),
-            None => Ok(Verdict {
-                text: String::new(alloc),
-                status: 0,
-            }),
-        },
-        Err(explanation) => refused_program(alloc, program, &explanation.refusal),
+    match scripts {
+        Some(scripts) => judge_both(alloc, program, scripts),
+        None => judge_program(alloc, program),
     }
 }
 

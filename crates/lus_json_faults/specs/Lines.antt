@@ -19,11 +19,11 @@ number_json number = codes ",\"number\":\"" ++ number ++ codes "\",\"message\":"
 abbrev pub start_json : ℕ → ℕ → Text
 start_json line column = codes ",\"start\":{\"line\":" ++ decimal line ++ codes ",\"column\":" ++ decimal column ++ codes "}"
 
--- an object on a line of its own: the file, the number, the message, where it begins, and what is told further
+-- an object on a line of its own: the file, the number, the message, where it begins, and what is told further, which other lines may be in
 abbrev pub fault_json : Text → Refusal → Text → Text → Text
 fault_json file r message more =
     codes "{\"file\":" ++ quoted file ++ number_json (number_text r.number) ++ quoted message ++ start_json r.line r.column ++ (more ++ codes "}\n")
 
--- a fault of this file is said, with some message
+-- a fault of this file is said first, with some message
 abbrev pub SaysFault : Text → Refusal → Text → Type 0
 SaysFault file r text = (message : Text) × (more : Text) × (text ≡ fault_json file r message more)

@@ -5,4 +5,4 @@ mod line;
 mod members;
 mod ranges;
 
-pub use line::{fault_line, push_number, push_string};
+pub use line::{fault_lines, push_number, push_string};

@@ -1,10 +1,11 @@
-//! A fault as an object of JSON on a line of its own.
+//! Faults as objects of JSON, each on a line of its own.
 
 ghost use Rattle.std.specs.Prelude.{◌≡◌, ◌++◌, IfOk, OnOk, string_bytes};
 ghost use Rattle.lus_json_faults.specs.Lines.{SaysFault, number_json, quoted, start_json};
 
 use crate::members::further_members;
 use lus_faults::Finding;
+use lus_further::Told;
 use lus_syntax::Refusal;
 use serde_json::Value;
 use std::alloc::{AllocError, Global};
@@ -41,15 +42,51 @@ fn push_start(text: &mut String, refusal: &Refusal) -> Result<(), AllocError>
     write!(text, ",\"start\":{{\"line\":{line},\"column\":{column}}}")
 }
 
-/// A fault of a source in the file of this name: its range, its number, what is said of it, and how the text would be changed.
-pub fn fault_line(
+/// Appends the object of a fault, but for the brace that closes it.
+fn push_object(
+    alloc: Global,
+    line: &mut String,
+    file: &str,
+    source: &str,
+    told: &Told,
+) -> Result<(), AllocError> {
+    line.push_str("{\"file\":")?;
+    push_string(alloc, line, file)?;
+    push_number(line, told.refusal.number.as_str())?;
+    push_string(alloc, line, told.finding.sentence.as_str())?;
+    push_start(line, &told.refusal)?;
+    let members = further_members(alloc, source, &told.refusal, &told.finding)?;
+    line.push_str(members.as_str())
+}
+
+/// What stands behind the start of a fault's object, and the objects of others, but for the brace that closes the last.
+fn further_text(
     alloc: Global,
     file: &str,
     source: &str,
     refusal: &Refusal,
     finding: &Finding,
+    others: &[Told],
+) -> Result<String, AllocError> {
+    let mut text = further_members(alloc, source, refusal, finding)?;
+    for told in others {
+        text.push_str("}\n")?;
+        push_object(alloc, &mut text, file, source, told)?;
+    }
+    Ok(text)
+}
+
+/// A fault of a source in the file of this name, and others, each on a line: its range, its number, what is said of it, and how the
+/// text would be changed.
+pub fn fault_lines(
+    alloc: Global,
+    file: &str,
+    source: &str,
+    refusal: &Refusal,
+    finding: &Finding,
+    others: &[Told],
 ) -> Result<String, AllocError>
-    ensures { IfOk result (λ line. SaysFault file.now refusal.now (string_bytes line)) }
+    ensures { IfOk result (λ lines. SaysFault file.now refusal.now (string_bytes lines)) }
 {
     let mut line = String::new(alloc);
     line.push_str("{\"file\":")?;
@@ -57,7 +94,7 @@ pub fn fault_line(
     push_number(&mut line, refusal.number.as_str())?;
     push_string(alloc, &mut line, finding.sentence.as_str())?;
     push_start(&mut line, refusal)?;
-    let more = further_members(alloc, source, refusal, finding)?;
+    let more = further_text(alloc, file, source, refusal, finding, others)?;
     write!(line, "{more}}}\n")?;
     Ok(line)
 }

@@ -1,10 +1,13 @@
 //! What is told of the case of a refusal.
 
 use crate::explanation::Explanation;
+use crate::further::{further_faults, push_faults};
 use crate::sentences::{fault_of, sentence_of};
 use lus_causes::finding_of;
-use lus_causes::lus_faults::{Edit, Finding, edited, further_marks, push_finding};
-use lus_cli::lus_host::{compile, text_of};
+use lus_causes::lus_faults::{Edit, Finding, edited, further_marks, offset_of, push_finding};
+use lus_cli::lus_host::text_of;
+use lus_further::{part_at, tried_part};
+use lus_machine::check;
 use lus_syntax::{Refusal, RefusalNumber};
 use std::alloc::{AllocError, Global};
 
@@ -43,12 +46,15 @@ fn is_later(found: &Refusal, refusal: &Refusal) -> bool {
     found.line > refusal.line || (found.line == refusal.line && found.column > refusal.column)
 }
 
-/// Whether a change of the text helps: the changed text is accepted, or refused later.
+/// Whether a change of the text helps: the declaration that it is in, with those that it needs, is accepted after it, or refused later.
 fn helps(alloc: Global, source: &str, refusal: &Refusal, edit: &Edit) -> Result<bool, AllocError> {
     let Some(changed) = edited(alloc, source, edit)? else {
         return Ok(false);
     };
-    match compile(alloc, &changed) {
+    let fault = offset_of(source, refusal.line, refusal.column);
+    let part = tried_part(alloc, &changed, refusal.number, fault, edit.byte as usize)?;
+    let text = part.as_deref().unwrap_or(&changed);
+    match check(alloc, text) {
         Ok(_) => Ok(true),
         Err(found) => Ok(is_later(&found, refusal)),
     }
@@ -77,17 +83,25 @@ fn plain_finding(alloc: Global, refusal: &Refusal) -> Result<Finding, AllocError
     Finding::new(alloc, sentence, 1).with_note(alloc, sentence_of(refusal.number))
 }
 
-/// What is known of the case of a refusal of a program's bytes, or else of its number. A change of the text is told only where the
-/// changed text is accepted, or refused later; where there is neither a note nor a change, there is a note on the number.
-pub fn known_finding(
+/// The finding of a refusal's case, by as much of the source as that needs.
+fn part_finding(
     alloc: Global,
-    bytes: &[u8],
+    source: &str,
+    refusal: &Refusal,
+) -> Result<Option<Finding>, AllocError> {
+    let fault = offset_of(source, refusal.line, refusal.column);
+    let part = part_at(alloc, source, refusal.number, fault)?;
+    finding_of(alloc, part.as_deref().unwrap_or(source), refusal)
+}
+
+/// What is known of the case of a refusal of a source, or else of its number. A change of the text is told only where it was tried
+/// and helps; where there is neither a note nor a change, there is a note on the number.
+pub(crate) fn source_finding(
+    alloc: Global,
+    source: &str,
     refusal: &Refusal,
 ) -> Result<Finding, AllocError> {
-    let Ok(source) = text_of(bytes) else {
-        return plain_finding(alloc, refusal);
-    };
-    let Some(finding) = finding_of(alloc, source, refusal)? else {
+    let Some(finding) = part_finding(alloc, source, refusal)? else {
         return plain_finding(alloc, refusal);
     };
     let finding = tried(alloc, source, refusal, finding)?;
@@ -97,17 +111,31 @@ pub fn known_finding(
     finding.with_note(alloc, sentence_of(refusal.number))
 }
 
-/// What is told of the case of a refusal of a program's bytes.
+/// What is known of the case of a refusal of a program's bytes.
+pub fn known_finding(
+    alloc: Global,
+    bytes: &[u8],
+    refusal: &Refusal,
+) -> Result<Finding, AllocError> {
+    match text_of(bytes) {
+        Ok(source) => source_finding(alloc, source, refusal),
+        Err(_) => plain_finding(alloc, refusal),
+    }
+}
+
+/// What is told of the case of a refusal of a program's bytes, and of its further faults.
 pub fn detail_of(
     alloc: Global,
     name: &str,
     bytes: &[u8],
     explanation: &Explanation<'_>,
-) -> Result<Detail, AllocError> {
+) -> Result<Detail, Refusal> {
     let source = text_of(bytes).unwrap_or("");
     let finding = known_finding(alloc, bytes, &explanation.refusal)?;
     let mut more = String::new(alloc);
     push_finding(alloc, &mut more, name, source, &finding)?;
+    let others = further_faults(alloc, bytes, &explanation.refusal)?;
+    push_faults(alloc, &mut more, name, source, &others)?;
     let marks = match explanation.line {
         Some(line) => further_marks(alloc, line, explanation.refusal.column, finding.length)?,
         None => String::new(alloc),

@@ -6,6 +6,7 @@ mod detail;
 mod explanation;
 mod finding;
 mod form;
+mod further;
 mod json;
 mod known;
 mod lines;
@@ -21,8 +22,9 @@ mod verdict;
 
 pub use check::Check;
 pub use detail::{Detail, detail_of, known_finding};
-pub use explanation::{Explanation, explain};
+pub use explanation::{Explanation, accept, explain};
 pub use finding::{Finding, Found};
+pub use further::further_faults;
 pub use lus_causes::lus_faults;
 pub use lus_cli;
 pub use outlining::outline;

@@ -1,6 +1,6 @@
 //! What is said of a program and of scripts for it, and the status that tells which of them is accepted.
 
-ghost use Rattle.std.specs.Prelude.{◌≡◌, ◌≢◌, IfErr, IfOk, OnOk, option_map, string_bytes};
+ghost use Rattle.std.specs.Prelude.{◌≡◌, ◌≢◌, IfErr, IfOk, None, OnOk, Some, option_map, string_bytes};
 ghost use Rattle.lus_syntax.specs.declared.refusal.RefusalNumber.TheVariants as numbers;
 ghost use Rattle.lus_scripts.specs.declared.refusal.ScriptRefusal.TheVariants as refusals;
 ghost use Rattle.lus_cli.specs.CodeSpecs.Codes.{program_of};
@@ -12,7 +12,7 @@ ghost use Rattle.lus_reports.specs.Details.{detail_seen};
 ghost use Rattle.lus_reports.specs.Verdicts.{AreJudged, IsVerdict, SaysRefused, file_seen, verdict_seen};
 
 use crate::detail::{Detail, detail_of};
-use crate::explanation::{Explanation, explain};
+use crate::explanation::{Explanation, accept, explain};
 use crate::outlining::outline;
 use crate::reporting::report;
 use crate::scripts::{Complaint, explain_scripts, report_scripts};
@@ -127,17 +127,36 @@ fn judge_scripts(alloc: Global, program: &Program, scripts: File<'_>) -> Result<
     }
 }
 
+/// Of a program alone, which is told by its nodes where it is accepted.
+fn judge_program(alloc: Global, program: File<'_>) -> Result<Verdict, Fault>
+    ensures verdict { IfOk result (λ v. IsVerdict (file_seen program.entry) (verdict_seen v) None) }
+    ensures memory { IfErr result (λ f. f ≡ faults.Memory) }
+{
+    match accept(alloc, program.bytes) {
+        Ok(_) => accepted_program(alloc, program),
+        Err(explanation) => judge_refused(alloc, program, &explanation),
+    }
+}
+
+/// Of a program with scripts, which are told by their counts where they are accepted.
+fn judge_both(alloc: Global, program: File<'_>, scripts: File<'_>) -> Result<Verdict, Fault>
+    ensures verdict { IfOk result (λ v. IsVerdict (file_seen program.entry) (verdict_seen v) (Some (file_seen scripts.entry))) }
+    ensures memory { IfErr result (λ f. f ≡ faults.Memory) }
+{
+    match explain(alloc, program.bytes) {
+        Ok(accepted) => judge_scripts(alloc, &accepted, scripts),
+        Err(explanation) => judge_refused(alloc, program, &explanation),
+    }
+}
+
 /// Of a program, and of scripts for it if there are any. A program that is accepted is told by its nodes, scripts that are
 /// accepted by their counts.
 pub fn judge(alloc: Global, program: File<'_>, scripts: Option<File<'_>>) -> Result<Verdict, Fault>
     ensures verdict { IfOk result (λ v. IsVerdict (file_seen program.entry) (verdict_seen v) (option_map file_seen scripts.entry)) }
     ensures memory { IfErr result (λ f. f ≡ faults.Memory) }
 {
-    match explain(alloc, program.bytes) {
-        Ok(accepted) => match scripts {
-            Some(scripts) => judge_scripts(alloc, &accepted, scripts),
-            None => accepted_program(alloc, program),
-        },
-        Err(explanation) => judge_refused(alloc, program, &explanation),
+    match scripts {
+        Some(scripts) => judge_both(alloc, program, scripts),
+        None => judge_program(alloc, program),
     }
 }

@@ -1,0 +1,148 @@
+//! Parts of a source.
+
+use crate::cutting::{Cut, blanked};
+use crate::naming::{cut_from, keep_from};
+use crate::pieces::{Piece, Pieces, pieces_of};
+use lus_faults::offset_of;
+use lus_syntax::{Refusal, RefusalNumber};
+use std::alloc::{AllocError, Global};
+
+/// The source without the declarations that aren't kept.
+fn kept(alloc: Global, pieces: &Pieces<'_>) -> Result<Option<String>, AllocError> {
+    let mut cuts = Vec::new(alloc);
+    for piece in &pieces.pieces {
+        if !piece.is_kept {
+            cuts.push(Cut {
+                start: piece.start,
+                end: piece.end,
+            })?;
+        }
+    }
+    blanked(alloc, pieces.source, &cuts, pieces.source.len())
+}
+
+/// The declaration at a byte and the one before it, without what stands behind: all that its grammar needs.
+fn window(alloc: Global, pieces: &Pieces<'_>, byte: usize) -> Result<Option<String>, AllocError> {
+    let place = pieces.place_at(byte).unwrap_or(0);
+    let Some(last) = pieces.pieces.get(place).copied() else {
+        return Ok(None);
+    };
+    let mut cuts = Vec::new(alloc);
+    if place > 1
+        && let Some(first) = pieces.pieces.get(place - 1)
+    {
+        let end = first.start;
+        cuts.push(Cut { start: 0, end })?;
+    }
+    blanked(alloc, pieces.source, &cuts, last.end)
+}
+
+/// Cuts the equations and the locals of a node.
+fn cut_body(pieces: &Pieces<'_>, piece: Piece, cuts: &mut Vec<Cut>) -> Result<(), AllocError> {
+    let mut start = None;
+    for place in piece.first..piece.behind {
+        let Some(word) = pieces.words.get(place).copied() else {
+            return Ok(());
+        };
+        match (pieces.word(place), start) {
+            ("var", None) => start = Some(word.start),
+            ("let", from) => {
+                if let Some(start) = from {
+                    let end = word.start;
+                    cuts.push(Cut { start, end })?;
+                }
+                start = Some(word.end);
+            }
+            ("tel", Some(start)) => {
+                let end = word.start;
+                cuts.push(Cut { start, end })?;
+                return Ok(());
+            }
+            _ => {}
+        }
+    }
+    Ok(())
+}
+
+/// The declaration at a byte with all others, but for the locals and the equations of other nodes.
+fn heads(alloc: Global, pieces: &Pieces<'_>, byte: usize) -> Result<Option<String>, AllocError> {
+    let Some(place) = pieces.place_at(byte) else {
+        return Ok(None);
+    };
+    let mut cuts = Vec::new(alloc);
+    for (other, piece) in pieces.pieces.iter().enumerate() {
+        if piece.is_node && other != place {
+            cut_body(pieces, *piece, &mut cuts)?;
+        }
+    }
+    blanked(alloc, pieces.source, &cuts, pieces.source.len())
+}
+
+/// The declaration at a byte with the nodes that it names, those that these name, and all types and constants.
+fn needed(
+    alloc: Global,
+    pieces: &mut Pieces<'_>,
+    byte: usize,
+) -> Result<Option<String>, AllocError> {
+    let Some(place) = pieces.place_at(byte) else {
+        return Ok(None);
+    };
+    keep_from(alloc, pieces, place)?;
+    kept(alloc, pieces)
+}
+
+/// What of a source is needed to say what is wrong at a byte, where all else is blank; nothing where that is all of it.
+pub fn part_at(
+    alloc: Global,
+    source: &str,
+    number: RefusalNumber,
+    byte: usize,
+) -> Result<Option<String>, AllocError> {
+    let mut pieces = pieces_of(alloc, source)?;
+    match number {
+        RefusalNumber::Lexical => window(alloc, &pieces, byte),
+        RefusalNumber::Unsupported => window(alloc, &pieces, byte),
+        RefusalNumber::Syntax => window(alloc, &pieces, byte),
+        RefusalNumber::Name => heads(alloc, &pieces, byte),
+        RefusalNumber::Limit => Ok(None),
+        RefusalNumber::Memory => Ok(None),
+        _ => needed(alloc, &mut pieces, byte),
+    }
+}
+
+/// What of a changed source shows whether a change at one byte helps against a refusal at another: what the declaration there
+/// needs, where all else is blank; nothing where that is all of it.
+pub fn tried_part(
+    alloc: Global,
+    changed: &str,
+    number: RefusalNumber,
+    fault: usize,
+    edit: usize,
+) -> Result<Option<String>, AllocError> {
+    let mut pieces = pieces_of(alloc, changed)?;
+    match number {
+        RefusalNumber::Lexical => window(alloc, &pieces, fault),
+        RefusalNumber::Unsupported => window(alloc, &pieces, fault),
+        RefusalNumber::Syntax => window(alloc, &pieces, fault),
+        RefusalNumber::Limit => Ok(None),
+        RefusalNumber::Memory => Ok(None),
+        _ if pieces.place_at(fault) == pieces.place_at(edit) => needed(alloc, &mut pieces, edit),
+        _ => Ok(None),
+    }
+}
+
+/// The source without the declaration that a refusal is in, nor those that name what it declares, nor those that name what these
+/// declare: blanks stand in their places. Nothing where the refusal is in no declaration.
+pub fn without_declaration(
+    alloc: Global,
+    source: &str,
+    refusal: &Refusal,
+) -> Result<Option<String>, AllocError> {
+    let mut pieces = pieces_of(alloc, source)?;
+    let byte = offset_of(source, refusal.line, refusal.column);
+    let Some(place) = pieces.place_at(byte) else {
+        return Ok(None);
+    };
+    cut_from(alloc, &mut pieces, place)?;
+    kept(alloc, &pieces)
+}
