@@ -1,0 +1,13 @@
+//! The instants of a node, evaluated over the source, slowly: to find the operation that has no value at an instant that was refused.
+#![tactic(auto)]
+
+mod evaluating;
+mod expanding;
+mod faulty;
+mod instants;
+mod terms;
+
+pub use expanding::expand;
+pub use faulty::Faulty;
+pub use instants::{Found, Instants};
+pub use terms::{Caller, Expanded};
