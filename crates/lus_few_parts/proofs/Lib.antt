@@ -1,0 +1,4 @@
+pub mod Weights
+pub mod TreeSizes
+pub mod MeantSizes
+pub mod SourceParts
