@@ -41,6 +41,22 @@ pub fn no_token(
     Ok(Some(finding.with_note(alloc, note)?))
 }
 
+/// Whether a text goes on as behind a name that is declared or given an equation.
+fn is_behind_name(text: &str) -> bool {
+    for character in text.chars() {
+        if !character.is_whitespace() {
+            return character == ':' || character == ',' || character == '=';
+        }
+    }
+    false
+}
+
+/// What is said of a word that is kept back and stands in the place of a name.
+fn no_name(alloc: Global, word: &str, length: u32) -> Result<Finding, AllocError> {
+    let sentence = format!(in alloc; "`{word}` is a word of Lustre, and no name")?;
+    Finding::new(alloc, sentence, length).with_note(alloc, "Choose another name.")
+}
+
 /// What is said of a word or a symbol that is kept back.
 pub fn kept_back(
     alloc: Global,
@@ -49,10 +65,15 @@ pub fn kept_back(
 ) -> Result<Option<Finding>, AllocError> {
     let start = offset_of(source, refusal.line, refusal.column);
     let text = bytes_at(source, start, source.len()).unwrap_or("");
-    match case_of(&KEPT, text) {
-        Some(case) => Ok(Some(finding_of(alloc, case, start.min(u32::MAX as usize) as u32)?)),
-        None => Ok(None),
+    let Some(case) = case_of(&KEPT, text) else {
+        return Ok(None);
+    };
+    if let Some((word, behind)) = text.split_at_checked(case.length as usize) {
+        if is_behind_name(behind) {
+            return Ok(Some(no_name(alloc, word, case.length)?));
+        }
     }
+    Ok(Some(finding_of(alloc, case, start.min(u32::MAX as usize) as u32)?))
 }
 
 /// What is said of a number that is past the limit.

@@ -20,6 +20,21 @@ pub(crate) struct JsonCalls<'p> {
     pub node: NodeId,
 }
 
+/// Why a value of JSON is no call, by how it begins.
+fn no_call(line: &[u8]) -> &'static str {
+    for byte in line {
+        match *byte {
+            b' ' | b'\t' | b'\r' => (),
+            b'[' =>
+                return "an input is a whole number in range, true, false, null, the name of a constructor, or an object of fields",
+            b'{' =>
+                return "a call has one of inputs (an object by their names), step, burst, reset, save and restore",
+            _ => return "a call is a list of inputs or an object",
+        }
+    }
+    "a call is a list of inputs or an object"
+}
+
 impl Calls for JsonCalls<'_> {
     ghost reads = { λ c line o. IsCallTo (program_seen c.program.now) c.names.now c.node.0 line o };
 
@@ -35,7 +50,7 @@ impl Calls for JsonCalls<'_> {
         let why = match read_request(self.alloc, self.program, self.names, self.node, line) {
             Err(ScriptRefusal::Json) => "it is no value of JSON",
             Err(ScriptRefusal::Memory) => "out of memory",
-            _ => "it is no call of the node",
+            _ => no_call(line),
         };
         let _ = write_all(faults, why.as_bytes());
     }
