@@ -102,6 +102,10 @@ impl Reasons {
         for row in rows {
             number = number.saturating_add(1);
             if let Some(found) = instants.step(alloc, row)? {
+                if rows.len() > 1 {
+                    let row = number.saturating_sub(count);
+                    write!(self.text, "row {row}, ")?;
+                }
                 let text = &mut self.text;
                 return push_fault(text, alloc, program, names, &instants, &found, number);
             }
@@ -145,7 +149,6 @@ impl Reasons {
             return Ok(());
         }
         if let Why::Fault = why {
-            self.text.push_str("a row of the burst, ")?;
             return self.push_fault_reason(alloc, program, names, node, rows.items());
         }
         let mut row = 0u64;
