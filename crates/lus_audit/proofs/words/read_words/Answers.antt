@@ -28,7 +28,7 @@ asked_is c =
     let found = found_of c.in_ok-matches.matches in
     let command_is : app_of c.in_ok-command.field-0 ≡ the_command = search rules in
     let value : (id : Text) → first_value found id ≡ first_of id (rows_of found) = first_value-rows found in
-    let why : c.is_why ≡ is_true (first_of (codes "why") (rows_of found)) = c.is_set.ensures ∙ ap is_true (c.get_str.ensures ∙ value (codes "why")) in
+    let why : c.is_set-is_why.result ≡ is_true (first_of (codes "why") (rows_of found)) = c.is_set-is_why.ensures ∙ ap is_true (c.get_str.ensures ∙ value (codes "why")) in
     faultless (map string_bytes c.args.words.now) (app_of c.in_ok-command.field-0) (rows_of found) command_is c.in_ok-matches.ensures.right c.in_ok-matches.ensures.rows
     ∙ sym (c.choose.ensures
     ∙ ap₂ (λ f j. f j) (ap₂ chosen why (c.get_str-2.ensures ∙ value (codes "PROGRAM"))) (c.get_str-3.ensures ∙ value (codes "JOURNAL")))
