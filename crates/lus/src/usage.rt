@@ -29,11 +29,14 @@ Draws journals that lus or lus_live wrote: as a table, or
 PROGRAM gives the inputs and outputs their names. Status: 0 drawn, 1 to 4 as lus.
 ";
 
-const AUDIT: &str = "usage: lus_audit PROGRAM JOURNAL
+const AUDIT: &str = "usage: lus_audit [--why] PROGRAM JOURNAL
 
 Says whether each reply of a journal is the right one to its request, after those before it,
 by a new run of the program: `NAME lawful` for each instance, or the first wrong line with
 the right one.
+
+  --why  why each request of a lawful journal that was refused is: which input, its type or
+         clock; or which operation has no value, with its operands and its place
 
 Status: 0 lawful, 1 the program is refused, 2 a wrong line, or no journal,
 3 a file or the output fails, 4 out of memory.

@@ -1,5 +1,5 @@
 -- How an audit ends: what was found of the journals, or which fault ended it.
-use Rattle.std.specs.Prelude.{◌⊎◌, ℕ, Bool, true, false, Some, Result, ⊤}
+use Rattle.std.specs.Prelude.{◌≡◌, ◌⊎◌, ◌++◌, ℕ, Bool, true, false, Some, Result, ⊤}
 use Rattle.lus_program.specs.Programs.{Program}
 use Rattle.lus_devices.specs.Folders.{Known, WithFile}
 use Rattle.lus_cli.specs.HostSpecs.Sources.{ProgramRefused}
@@ -18,10 +18,16 @@ use Rattle.lus_audit.specs.CommandLine.{Asked}
 abbrev pub IsOfFile : Known → Program → Type 0
 IsOfFile file p = WithFile file (λ text. Accepted text p)
 
+-- a report is what was found, with reasons of refusals behind it where they are asked
+abbrev pub HasReasons : Bool → Text → Text → Type 0
+HasReasons true found report = (reasons : Text) × (report ≡ found ++ reasons)
+HasReasons false found report = report ≡ found
+
 -- the journals of a file are audited by the program of another
-abbrev pub IsAudited : Known → Known → Bool → Text → Type 0
-IsAudited program journal is_lawful report =
-    (p : Program) × IsOfFile program p × WithFile journal (λ bytes. HasAudited p is_lawful (Some bytes) report)
+abbrev pub IsAudited : Known → Known → Bool → Bool → Text → Type 0
+IsAudited program journal is_why is_lawful report =
+    (p : Program) × IsOfFile program p
+    × ((found : Text) × WithFile journal (λ bytes. HasAudited p is_lawful (Some bytes) found) × HasReasons is_why found report)
 
 -- why nothing is found: the program's file is lost or it is refused; or it is accepted, and the journals' file is lost, or has a line
 -- that is none of a journal; or out of memory
@@ -43,7 +49,7 @@ audit_fault errors.Memory = faults.Memory
 -- what is reported is written; where nothing is found, nothing is
 abbrev pub TaskEnds : (Known → Type 0) → (Text → Known) → Asked → Result Bool Fault → Change → Type 0
 TaskEnds read_fails known asked =
-    SaysEnds (λ is_lawful report. IsAudited (known asked.program) (known asked.journal) is_lawful report)
+    SaysEnds (λ is_lawful report. IsAudited (known asked.program) (known asked.journal) asked.is_why is_lawful report)
     (AuditFails read_fails (known asked.program))
 
 -- 0 where each journal is lawful

@@ -1,10 +1,11 @@
 //! The command line over a folder.
 
-ghost use Rattle.std.specs.Prelude.{◌≡◌, IfErr, IfOk, map, string_bytes};
+ghost use Rattle.std.specs.Prelude.{◌≡◌, ◌++◌, IfErr, IfOk, map, string_bytes};
 ghost use Rattle.lus_cli.specs.Changes.{change};
 ghost use Rattle.lus_cli.specs.Ends.{AskedEnds, Ends, ReadFails};
+ghost use Rattle.lus_cli.specs.declared.fault.Fault.TheVariants as faults;
 ghost use Rattle.lus_audit.specs.CommandLine.{asked};
-ghost use Rattle.lus_audit.specs.Ends.{AuditFails, IsAudited, TaskEnds, audit_fault, audit_status};
+ghost use Rattle.lus_audit.specs.Ends.{AuditFails, HasReasons, IsAudited, TaskEnds, audit_fault, audit_status};
 
 use crate::words::{Task, read_words};
 use lus_cli::{Fault, read_program, tell};
@@ -23,10 +24,22 @@ fn fault_of(error: AuditError) -> Fault
     }
 }
 
+/// The report with its reasons behind it, where they are asked.
+fn with_reasons(report: Report, is_why: bool) -> Result<Report, Fault>
+    ensures ok { IfOk result (λ r. (r.is_lawful ≡ report.is_lawful) × HasReasons is_why report.text.items r.text.items) }
+    ensures memory { IfErr result (λ f. f ≡ faults.Memory) }
+{
+    let mut report = report;
+    if is_why && report.text.extend_from_slice(&report.reasons).is_err() {
+        return Err(Fault::Memory);
+    }
+    Ok(report)
+}
+
 /// Audits the journals of a file, of nodes of the program of another.
 fn audit_file<D: Folder>(alloc: Global, folder: &D, task: Task<'_>) -> Result<Report, Fault>
     ensures audited { IfOk result (λ r. IsAudited (D.known folder.now task.entry.program.now) (D.known folder.now task.entry.journal.now)
-        r.is_lawful r.text.items) }
+        task.entry.is_why r.is_lawful r.text.items) }
     ensures fault { IfErr result (λ f. AuditFails (ReadFails D.File D.File.left D.File.failures) (D.known folder.now task.entry.program.now) f) }
 {
     let program = read_program(alloc, folder, task.program)?;
@@ -36,10 +49,11 @@ fn audit_file<D: Folder>(alloc: Global, folder: &D, task: Task<'_>) -> Result<Re
     let Ok(journal) = folder.open(task.journal) else {
         return Err(Fault::File);
     };
-    match audit(alloc, &program, &mut Buffered::new(journal)) {
-        Ok(report) => Ok(report),
-        Err(error) => Err(fault_of(error)),
-    }
+    let report = match audit(alloc, &program, &mut Buffered::new(journal), task.is_why) {
+        Ok(report) => report,
+        Err(error) => return Err(fault_of(error)),
+    };
+    with_reasons(report, task.is_why)
 }
 
 /// Whether the journals that the words name are lawful. What is reported of them is written.

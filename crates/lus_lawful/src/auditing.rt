@@ -9,21 +9,31 @@ ghost use Rattle.lus_lawful.specs.Audits.{HasAudited, HasReplayedLawfully, TurnI
 ghost use Rattle.lus_lawful.specs.Journals.{head_of};
 
 use crate::error::AuditError;
+use crate::explained::{Explanation, new_explained};
 use crate::head::{Head, read_head};
 use crate::texts::{push_lawful, push_wrong};
 use lus_devices::Source;
 use lus_lines::{Reading, read_line};
 use lus_live_instance::lus_machine::{NodeId, Program};
-use lus_live_instance::new_instance;
+use lus_reasons::Reasons;
 use lus_replay::{Ending, Replayed, replay};
 use std::alloc::Global;
 use std::sync::Arc;
 
-/// Whether all journals are lawful, and what there is to say of them.
+/// Whether all journals are lawful, and what there is to say of them; and why the requests of lawful journals were refused, a line
+/// each, where that was asked.
 #[derive(Drop)]
 pub struct Report {
     pub is_lawful: bool,
     pub text: Vec<u8>,
+    pub reasons: Vec<u8>,
+}
+
+/// Whether reasons are asked, and those of the journals so far.
+#[derive(Drop)]
+struct Reasoned {
+    is_asked: bool,
+    text: Vec<u8>,
 }
 
 /// What is where a journal would begin.
@@ -37,7 +47,21 @@ enum Turn {
     End,
 }
 
-/// Replays the lines of a journal behind its first on a new instance of the node.
+/// Appends the reasons of an instance's refusals, where they were asked.
+fn push_reasons(explanation: &Explanation, said: &mut Vec<u8>) -> Result<(), AuditError> {
+    if explanation.is_lost {
+        return Err(AuditError::Memory);
+    }
+    if let Some(reasons) = &explanation.reasons
+        && said.extend_from_slice(reasons.text().as_bytes()).is_err()
+    {
+        return Err(AuditError::Memory);
+    }
+    Ok(())
+}
+
+/// Replays the lines of a journal behind its first on a new instance of the node, with the reasons of its refusals in `said`, where
+/// they are asked.
 fn replay_new<S: Source>(
     alloc: Global,
     program: &Arc<Program>,
@@ -45,13 +69,39 @@ fn replay_new<S: Source>(
     source: &mut S,
     line: &mut Vec<u8>,
     right: &mut String,
+    reasons: Option<Reasons>,
+    said: &mut Vec<u8>,
 ) -> Result<Replayed, AuditError>
     requires { node.0 < length (program_of (arc_value program.now)).nodes }
     ensures { IfOk result (λ r. HasReplayedLawfully (program_of (arc_value program.now)) node.0 r
         (S.left source.old) (S.left source.new) line.new.items (string_bytes right.new)) }
 {
-    let mut instance = new_instance(alloc, program, node)?;
-    Ok(replay(alloc, &mut instance, program.names(), source, line, right)?)
+    let mut explained = new_explained(alloc, program, node, reasons)?;
+    let replayed = replay(alloc, &mut explained, program.names(), source, line, right)?;
+    push_reasons(&explained.explanation, said)?;
+    Ok(replayed)
+}
+
+/// Reasons to be collected of an instance whose journal begins behind so many lines, where they are asked.
+fn reasons_of(
+    alloc: Global,
+    is_asked: bool,
+    instance: &str,
+    lines: u64,
+) -> Result<Option<Reasons>, AuditError> {
+    if !is_asked {
+        return Ok(None);
+    }
+    let reasons = Reasons::new(alloc, instance, next_line(lines, 1)?)?;
+    Ok(Some(reasons))
+}
+
+/// Adds the reasons of a lawful journal to those before it.
+fn add_reasons(reasoned: &mut Reasoned, said: &[u8]) -> Result<(), AuditError> {
+    match reasoned.text.extend_from_slice(said) {
+        Ok(()) => Ok(()),
+        Err(_) => Err(AuditError::Memory),
+    }
 }
 
 /// The number of the line so far behind so many lines.
@@ -77,6 +127,7 @@ fn audit_journal<S: Source>(
     lines: u64,
     source: &mut S,
     report: &mut Vec<u8>,
+    reasoned: &mut Reasoned,
 ) -> Result<Turn, AuditError>
     requires { node_named (program_of (arc_value program.now)) head.node.now ≡ Some node.0 }
     ensures { IfOk result (λ turn. TurnIs turn (program_of (arc_value program.now)) lines
@@ -85,11 +136,16 @@ fn audit_journal<S: Source>(
 {
     let mut line = Vec::new(alloc);
     let mut right = String::new(alloc);
-    let replayed = replay_new(alloc, program, node, source, &mut line, &mut right)?;
+    let mut said = Vec::new(alloc);
+    let reasons = reasons_of(alloc, reasoned.is_asked, head.instance, lines)?;
+    let replayed = replay_new(
+        alloc, program, node, source, &mut line, &mut right, reasons, &mut said,
+    )?;
     let number = ending_line(lines, replayed.entries)?;
     match replayed.ending {
         Ending::Whole => {
             push_lawful(report, head.instance)?;
+            add_reasons(reasoned, &said)?;
             Ok(Turn::Lawful(number))
         }
         Ending::Wrong => {
@@ -108,6 +164,7 @@ fn audit_behind<S: Source>(
     lines: u64,
     source: &mut S,
     report: &mut Vec<u8>,
+    reasoned: &mut Reasoned,
 ) -> Result<Turn, AuditError>
     ensures { IfOk result (λ turn. TurnIs turn (program_of (arc_value program.now)) lines
         (with_front (first.now ++ codes "\n") (S.left source.old)) (S.left source.new) report.old.items report.new.items) }
@@ -117,7 +174,7 @@ fn audit_behind<S: Source>(
         return Err(AuditError::Line(number));
     };
     match program.node(head.node) {
-        Some(node) => audit_journal(alloc, program, head, node, lines, source, report),
+        Some(node) => audit_journal(alloc, program, head, node, lines, source, report, reasoned),
         None => Err(AuditError::Line(number)),
     }
 }
@@ -129,42 +186,50 @@ fn audit_next<S: Source>(
     lines: u64,
     source: &mut S,
     report: &mut Vec<u8>,
+    reasoned: &mut Reasoned,
 ) -> Result<Turn, AuditError>
     ensures { IfOk result (λ turn. TurnIs turn (program_of (arc_value program.now)) lines
         (S.left source.old) (S.left source.new) report.old.items report.new.items) }
 {
     let mut first = Vec::new(alloc);
     match read_line(source, &mut first)? {
-        Reading::Line => audit_behind(alloc, program, &first, lines, source, report),
+        Reading::Line => audit_behind(alloc, program, &first, lines, source, report, reasoned),
         Reading::End => Ok(Turn::End),
         Reading::Long | Reading::Unfinished => Err(AuditError::Line(next_line(lines, 1)?)),
     }
 }
 
 /// Audits journals, one behind another: each is replayed on a new instance of its node, up to the first line that isn't right. No
-/// more is kept than an instance, a line and the report.
+/// more is kept than an instance, a line and the report; where reasons are asked, also each instance's inputs.
 pub fn audit<S: Source>(
     alloc: Global,
     program: &Arc<Program>,
     source: &mut S,
+    is_why: bool,
 ) -> Result<Report, AuditError>
     ensures { IfOk result (λ r. HasAudited (program_of (arc_value program.now)) r.is_lawful (S.left source.old) r.text.items) }
 {
     let mut text = Vec::new(alloc);
+    let mut reasoned = Reasoned {
+        is_asked: is_why,
+        text: Vec::new(alloc),
+    };
     let mut lines = 0u64;
     for _journal in 0..u64::MAX {
-        match audit_next(alloc, program, lines, source, &mut text)? {
+        match audit_next(alloc, program, lines, source, &mut text, &mut reasoned)? {
             Turn::Lawful(last) => lines = last,
             Turn::Wrong => {
                 return Ok(Report {
                     is_lawful: false,
                     text,
+                    reasons: reasoned.text,
                 });
             }
             Turn::End => {
                 return Ok(Report {
                     is_lawful: true,
                     text,
+                    reasons: reasoned.text,
                 });
             }
         }

@@ -3,6 +3,7 @@
 
 mod auditing;
 mod error;
+mod explained;
 mod head;
 mod texts;
 

@@ -19,4 +19,4 @@ pub returns-in-Wrong : goal.returns-in-Wrong
 returns-in-Wrong g c =
     journal_wrong _ _ _ _ c.requires _ _ _ _ _ _ _ _ _ c.in_ok-replayed.ensures c.in_ok-number.ensures c.in-Wrong.is
     (c.in_ok-push_wrong-in-Wrong.ensures
-    ∙ ap₂ (λ l r. c.args.report.now.items ++ wrong_text c.args.head.instance.now c.in_ok-number.number l r) c.deref.ensures.value c.deref-in-Wrong.ensures)
+    ∙ ap₂ (λ l r. c.args.report.now.items ++ wrong_text c.args.head.instance.now c.in_ok-number.number l r) c.deref-in-Wrong.ensures.value c.deref-in-Wrong-2.ensures)

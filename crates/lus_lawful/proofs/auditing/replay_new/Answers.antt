@@ -9,4 +9,4 @@ use Rattle.lus_lawful.proofs.auditing.replay_new.Goals as goal
 pub returns : goal.returns
 returns g c =
     let named : c.names.result.now ≡ names_of (program_of (arc_value c.args.program.now)) = search rules in
-    replayed_lawfully _ _ _ _ _ _ _ _ _ _ (c.replay.ensures.same _ _ c.in_ok-instance.ensures.live) c.in_ok-instance.ensures.empty named c.in_ok-replay.ensures.replayed
+    replayed_lawfully _ _ _ _ _ _ _ _ _ _ (c.replay.ensures.same _ _ c.in_ok-explained.ensures.live) c.in_ok-explained.ensures.empty named c.in_ok-replayed.ensures.replayed
