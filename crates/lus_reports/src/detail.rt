@@ -5,9 +5,9 @@ use crate::further::{further_faults, push_faults};
 use crate::sentences::{fault_of, sentence_of};
 use lus_causes::finding_of;
 use lus_causes::lus_faults::{Edit, Finding, edited, further_marks, offset_of, push_finding};
+use lus_cli::lus_host::lus_machine::check;
 use lus_cli::lus_host::text_of;
 use lus_further::{part_at, tried_part};
-use lus_cli::lus_host::lus_machine::check;
 use lus_syntax::{Refusal, RefusalNumber};
 use std::alloc::{AllocError, Global};
 

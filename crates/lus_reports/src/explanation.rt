@@ -6,8 +6,8 @@ ghost use Rattle.lus_cli.specs.MachineSpecs.Acceptance.{Accepted, AcceptedWith};
 ghost use Rattle.lus_reports.specs.Explanations.{IsExplained};
 
 use crate::lines::line_at;
-use lus_cli::lus_host::{Program, compile, text_of};
 use lus_cli::lus_host::lus_machine::check;
+use lus_cli::lus_host::{Program, compile, text_of};
 use lus_syntax::Refusal;
 use std::alloc::Global;
 
