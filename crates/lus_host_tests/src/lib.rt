@@ -13,6 +13,8 @@ mod overlap;
 #[cfg(test)]
 mod plays;
 #[cfg(test)]
+mod readings;
+#[cfg(test)]
 mod texts;
 #[cfg(test)]
 mod traces;

@@ -13,7 +13,8 @@ use Rattle.lus_requests.specs.declared.request.Entry.{Entry}
 use Rattle.lus_play.specs.Plays.{entry_of}
 use Rattle.lus_replay.specs.declared.line.Verdict.{Verdict}
 use Rattle.lus_replay.specs.declared.line.Verdict.TheVariants as verdicts
-use Rattle.lus_replay.specs.Replays.{BeginsAs, BeginsAsked, IsCompared, IsJudged, asked_text, line_of}
+use Rattle.lus_asked.specs.Asked.{asked_text}
+use Rattle.lus_replay.specs.Replays.{BeginsAs, BeginsAsked, IsCompared, IsJudged, line_of}
 
 done_line : (names : Names) (caller : Text) (n : ℕ) (r : Request) → line_of names caller n (entry_of r Done) ≡ asked_text names caller n r ++ codes "done\n"
 done_line names caller n r = append_assoc (asked_text names caller n r) (codes "done") (codes "\n")

@@ -1,12 +1,12 @@
 -- Journals that are replayed line by line: which lines are entries with the right replies, and what ended them.
 use Rattle.std.specs.Prelude.{◌≡◌, ◌≢◌, ◌+◌, ◌<◌, ◌++◌, ℕ, List, [], ◌∷◌, length, map, Option, Some, None, codes, ⊤}
-use Rattle.std.specs.Fmt.{decimal}
 use Rattle.lus_values.specs.Names.{Text, Names}
 use Rattle.lus_requests.specs.declared.request.Request.{Request}
 use Rattle.lus_requests.specs.declared.request.Reply.{Reply}
 use Rattle.lus_requests.specs.declared.request.Entry.{Entry}
 use Rattle.lus_devices.specs.Devices.{Bytes, with_front}
-use Rattle.lus_devices.specs.Journals.{count_text, line_text, request_text}
+use Rattle.lus_devices.specs.Journals.{count_text, line_text}
+use Rattle.lus_asked.specs.Asked.{asked_text}
 use Rattle.lus_lines.specs.Lines.{IsLast}
 use Rattle.lus_play.specs.Plays.{entry_of}
 use Rattle.lus_replay.specs.declared.line.Verdict.{Verdict}
@@ -36,10 +36,6 @@ said_line names n s = line_of names s.caller n (entry_said s)
 abbrev pub said_text : Names → ℕ → List Said → Text
 said_text names n [] = []
 said_text names n (s ∷ ss) = said_line names n s ++ said_text names (n + 1) ss
-
--- what stands in the nth line before the reply
-abbrev pub asked_text : Names → Text → ℕ → Request → Text
-asked_text names caller n r = decimal n ++ codes " " ++ caller ++ codes " " ++ request_text names r ++ codes " -> "
 
 -- a line begins as one of such a request
 abbrev pub BeginsAsked : Names → Text → ℕ → Request → Text → Type 0

@@ -1,40 +1,12 @@
-//! The caller and the request of an entry's line.
+//! The line of an entry, spelled, and what another line has of it.
 
 ghost use Rattle.std.specs.Prelude.{◌≡◌, IfOk, OnOk, string_bytes, true};
 ghost use Rattle.lus_replay.specs.Replays.{BeginsAs, BeginsAsked, line_of};
 
-use crate::request::read_request;
 use lus_devices::push_line;
-use lus_requests::{Entry, Reply, Request};
+use lus_requests::{Entry, Reply};
 use lus_values::{Memory, Names};
 use std::alloc::Global;
-use std::str::from_utf8;
-
-/// The parts of a line that are a caller's name and a request, if it has these.
-fn parts(line: &[u8]) -> Option<(&str, &str)> {
-    let Ok(text) = from_utf8(line) else {
-        return None;
-    };
-    let (_, later) = text.split_once(' ')?;
-    let (caller, call) = later.split_once(' ')?;
-    let (request, _) = call.split_once(" -> ")?;
-    Some((caller, request))
-}
-
-/// The caller and the request that a line has, if it has these. Whether the line spells them is asked later.
-pub(crate) fn read_asked<'a>(
-    alloc: Global,
-    names: &Names,
-    line: &'a [u8],
-) -> Result<Option<(&'a str, Request)>, Memory> {
-    let Some((caller, text)) = parts(line) else {
-        return Ok(None);
-    };
-    match read_request(alloc, names, text)? {
-        Some(request) => Ok(Some((caller, request))),
-        None => Ok(None),
-    }
-}
 
 /// Spells the line of an entry of a caller of this name. After `Memory` any text may stand.
 pub(crate) fn spell(

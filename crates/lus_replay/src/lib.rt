@@ -4,8 +4,6 @@
 mod asked;
 mod line;
 mod replaying;
-mod request;
-mod value;
 
 pub use line::{Verdict, replay_line};
 pub use replaying::{Ending, Replayed, replay};

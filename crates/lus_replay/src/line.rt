@@ -4,7 +4,8 @@ ghost use Rattle.std.specs.Prelude.{◌≡◌, ℕ, IfOk, string_bytes};
 ghost use Rattle.lus_program.specs.Programs.{Program};
 ghost use Rattle.lus_replay.specs.Replays.{IsCompared, IsJudged};
 
-use crate::asked::{asks, read_asked, spell};
+use crate::asked::{asks, spell};
+use lus_asked::read_asked;
 use lus_play::Reacts;
 use lus_requests::Entry;
 use lus_values::{Memory, Names};

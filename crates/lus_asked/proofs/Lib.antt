@@ -1,0 +1,5 @@
+pub mod Pieces
+pub mod Numbers
+pub mod Lists
+pub mod Values
+pub mod Requests

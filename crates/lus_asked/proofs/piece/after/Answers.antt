@@ -1,0 +1,10 @@
+-- By what `strip_prefix` says.
+use Rattle.std.proofs.lemmas.Bool.Decides.{Decides-eqb}
+use Rattle.std.proofs.lemmas.Slice.Eq.{strip_prefix_is}
+use Rattle.lus_asked.proofs.Pieces.{after_stripped}
+use Rattle.lus_asked.proofs.piece.after.Goals as goal
+
+pub returns : goal.returns
+returns c =
+    after_stripped c.args.front.now c.args.text.now c.strip_prefix.result
+    (strip_prefix_is Decides-eqb c.args.text.now c.args.front.now c.strip_prefix.result c.strip_prefix.ensures.cases)
