@@ -1,5 +1,5 @@
 -- Values are read back from their texts.
-use Rattle.std.proofs.Common.{◌≡◌, ◌∙◌, ◌++◌, ◌==◌, ◌&&◌, ◌||◌, ◌+◌, ◌<◌, ◌≤◌, ◌^◌, ◌⊎◌, inl, inr, ℕ, zero, suc, ℤ, pos, negsuc, refl, ap, sym, Bool, true, false, not, List, [], ◌∷◌, length, Option, Some, None, option_map, codes, append_assoc, if◌then◌else◌, arith}
+use Rattle.std.proofs.Common.{◌≡◌, ◌∙◌, ◌++◌, ◌==◌, ◌&&◌, ◌||◌, ◌+◌, ◌-◌, ◌<◌, ◌≤◌, ◌^◌, ◌⊎◌, inl, inr, ℕ, zero, suc, ℤ, pos, negsuc, refl, ap, sym, Bool, true, false, not, List, [], ◌∷◌, length, Option, Some, None, option_map, codes, append_assoc, if◌then◌else◌, arith}
 use Rattle.std.specs.Prelude.{⊤, FitsSigned, nat_le, is_some, option_and_then, unwrap_or}
 use Rattle.std.specs.Int.{w64, is_in_range}
 use Rattle.std.specs.Char.{is_ascii, is_ascii_alphabetic, is_ascii_digit}
@@ -103,7 +103,7 @@ continues_small b is = elim (or_cases (begins_identifier b) (is_ascii_digit b) i
 by_table : (p q : ℕ → Bool) (b : ℕ) → b < 128 → ((c : ℕ) → c < 128 → (p c && not (q c)) ≡ false) → p b ≡ true → q b ≡ true
 by_table p q b small table is = elim (and_cases (p b) (not (q b)) (table b small)) [
       inl out ↦ absurd (true≢false (sym is ∙ out))
-    | inr no ↦ not-false (q b) no ]
+    | inr stays ↦ not-false (q b) stays ]
 
 continues_inside : (b : ℕ) → continues_identifier b ≡ true → is_inside b ≡ true
 continues_inside b is =
