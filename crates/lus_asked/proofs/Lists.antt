@@ -1,5 +1,5 @@
 -- Lists are read back from their items' texts, with separators between them.
-use Rattle.std.proofs.Common.{◌≡◌, ◌∙◌, ◌++◌, ◌==◌, ◌+◌, ◌-◌, ◌<◌, ◌≤◌, ℕ, zero, suc, refl, ap, sym, Bool, true, false, List, [], ◌∷◌, length, Option, Some, None, option_map, append_assoc, length-append, arith}
+use Rattle.std.proofs.Common.{◌≡◌, ◌∙◌, ◌++◌, ◌==◌, ◌+◌, ◌-◌, ◌<◌, ◌≤◌, ℕ, zero, suc, refl, ap, sym, true, false, List, [], ◌∷◌, length, Option, Some, None, append_assoc, length-append, arith}
 use Rattle.std.specs.Prelude.{option_and_then, flat_map}
 use Rattle.lus_values.specs.Lists.{Each}
 use Rattle.lus_values.specs.Names.{Text}

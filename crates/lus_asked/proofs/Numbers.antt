@@ -1,5 +1,5 @@
 -- Numbers are read back from their texts.
-use Rattle.std.proofs.Common.{◌≡◌, ◌∙◌, ◌++◌, ◌==◌, ◌&&◌, ◌||◌, ◌+◌, ◌<◌, ◌≤◌, ◌^◌, ℕ, suc, ℤ, pos, negsuc, refl, ap, ap₂, sym, Bool, true, false, not, List, [], ◌∷◌, length, Option, Some, None, option_map, Result, Ok, Err, get_or, if◌then◌else◌, arith}
+use Rattle.std.proofs.Common.{◌≡◌, ◌∙◌, ◌==◌, ◌&&◌, ◌||◌, ◌+◌, ◌<◌, ◌^◌, ℕ, suc, ℤ, pos, negsuc, refl, ap, sym, Bool, true, false, [], ◌∷◌, length, Option, Some, None, option_map, Result, Ok, Err, get_or, if◌then◌else◌, arith}
 use Rattle.std.specs.Prelude.{neg_ℤ, nat_lt, FitsSigned}
 use Rattle.std.specs.Int.{w64}
 use Rattle.std.specs.Char.{is_ascii, is_ascii_digit}

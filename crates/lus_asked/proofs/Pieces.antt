@@ -1,5 +1,5 @@
 -- What stands behind a front; words; texts of ASCII.
-use Rattle.std.proofs.Common.{Result, Ok, Err, ◌≡◌, ◌≢◌, ◌∙◌, ◌++◌, ◌==◌, ◌&&◌, ◌+◌, ◌<◌, ◌≤◌, ℕ, suc, refl, ap, ap₂, sym, Bool, true, false, not, List, [], ◌∷◌, length, take, drop, Option, Some, None, option_map, Bor, if◌then◌else◌, arith}
+use Rattle.std.proofs.Common.{Result, Ok, Err, ◌≡◌, ◌≢◌, ◌∙◌, ◌++◌, ◌==◌, ◌+◌, ◌<◌, ◌≤◌, ℕ, suc, refl, ap, ap₂, sym, Bool, true, false, not, [], ◌∷◌, length, take, drop, Option, Some, None, option_map, Bor, if◌then◌else◌, arith}
 use Rattle.std.proofs.Math.Seq.{take-append_seam, drop-append_seam}
 use Rattle.std.proofs.lemmas.Str.{IsUtf8-from_ascii}
 use Rattle.std.proofs.lemmas.Str.Ascii.{IsAscii-nil, IsAscii-cons}

@@ -1,7 +1,6 @@
 -- Rows, requests and the lines of entries are read back from their texts.
-use Rattle.std.proofs.Common.{◌≡◌, ◌∙◌, ◌++◌, ◌==◌, ◌&&◌, ◌/◌, ◌%◌, ◌+◌, ◌<◌, ◌^◌, ℕ, zero, suc, refl, ap, sym, Bool, true, false, not, List, [], ◌∷◌, length, take, drop, Option, Some, None, option_map, codes, append_assoc, inl, inr, Bor, if◌then◌else◌, arith}
-use Rattle.std.specs.Prelude.{⊤, IsUtf8, option_and_then}
-use Rattle.std.specs.Char.{is_ascii}
+use Rattle.std.proofs.Common.{◌≡◌, ◌∙◌, ◌++◌, ◌==◌, ◌/◌, ◌%◌, ◌+◌, ◌<◌, ◌^◌, ℕ, zero, suc, refl, ap, Bool, true, false, not, List, [], ◌∷◌, length, take, drop, Option, Some, None, option_map, codes, append_assoc, inl, inr, if◌then◌else◌, arith}
+use Rattle.std.specs.Prelude.{option_and_then}
 use Rattle.std.specs.Fmt.{decimal, digit_glyph, digits, digits_onto}
 use Rattle.std.specs.List.{list_all, prefix_len}
 use Rattle.std.proofs.Math.Seq.{take-append_seam, drop-append_seam}
@@ -9,12 +8,12 @@ use Rattle.std.proofs.lemmas.Bool.{agree_below_at, and_from, and_parts, cond_bot
 use Rattle.std.proofs.lemmas.Option.{same_Some}
 use Rattle.lus_values.specs.Lists.{Each}
 use Rattle.lus_values.specs.Names.{Text, Names}
-use Rattle.lus_values.specs.Text.{fields_text, text_of}
+use Rattle.lus_values.specs.Text.{text_of}
 use Rattle.lus_values.specs.Values.{Value, struct, Fields, Row}
 use Rattle.lus_requests.specs.declared.request.Request.{Request}
 use Rattle.lus_requests.specs.declared.request.Request.TheVariants.{Step, Reset, Save, Restore, Burst}
-use Rattle.lus_devices.specs.Journals.{item_text, items_text, later_item_text, later_row_text, listed_rows_text, request_text, row_text}
-use Rattle.lus_asked.specs.Asked.{IsCaller, IsItemTold, IsRead, IsRowTold, IsSpelled, IsTold, asked_text, is_unbroken, most_levels}
+use Rattle.lus_devices.specs.Journals.{item_text, items_text, listed_rows_text, request_text, row_text}
+use Rattle.lus_asked.specs.Asked.{IsCaller, IsItemTold, IsRowTold, IsSpelled, IsTold, asked_text, is_unbroken, most_levels}
 use Rattle.lus_asked.specs.Reading.{after, arrow_behind, ascii, asked_at, blank_place, call_at, call_by, first_as, inner_row_at, is_absent, is_no_blank, item_at, item_by, list_at, number_below, other_at, other_by, parted, past_word, request_at, request_by, row_at, rows_at, slot_at, split_blank, value_at, with_rest, word_len, word_of}
 use Rattle.lus_asked.proofs.Pieces.{IsBehind, after_front, after_other, ascii_is, past_is, word_is}
 use Rattle.lus_asked.proofs.Numbers.{decimal_digits, digits_ascii, digits_inside, number_is}
@@ -29,8 +28,9 @@ struct_absent names fs rest = refl
 
 present : (names : Names) (v : Value) → IsTold most_levels names v → (rest : Text) → IsBehind rest → is_absent (word_of (text_of names v ++ rest)) ≡ false
 present names v told rest behind = elim (word_or most_levels names v told) [
-      inl w ↦ ap is_absent (word_is (text_of names v) rest w.inside behind) ∙ w.no_dash
-    | inr s ↦ ap (λ (u : Value). is_absent (word_of (text_of names u ++ rest))) s.1 ∙ struct_absent names s.0 rest ]
+  | inl w ↦ ap is_absent (word_is (text_of names v) rest w.inside behind) ∙ w.no_dash
+  | inr s ↦ ap (λ (u : Value). is_absent (word_of (text_of names u ++ rest))) s.1 ∙ struct_absent names s.0 rest
+]
 
 item_back : (names : Names) (item : Option Value) (rest : Text) → IsItemTold names item → IsBehind rest → item_at names (item_text names item ++ rest) ≡ Some (item, rest)
 unfolding item_at

@@ -1,6 +1,6 @@
 -- Values are read back from their texts.
-use Rattle.std.proofs.Common.{◌≡◌, ◌∙◌, ◌++◌, ◌==◌, ◌&&◌, ◌||◌, ◌+◌, ◌<◌, ◌≤◌, ◌^◌, ◌⊎◌, inl, inr, ℕ, zero, suc, ℤ, pos, negsuc, refl, ap, sym, Bool, true, false, not, List, [], ◌∷◌, length, Option, Some, None, option_map, codes, append_assoc, if◌then◌else◌, arith}
-use Rattle.std.specs.Prelude.{⊤, FitsSigned, nat_le, is_some, option_and_then, unwrap_or}
+use Rattle.std.proofs.Common.{◌≡◌, ◌∙◌, ◌++◌, ◌==◌, ◌&&◌, ◌||◌, ◌+◌, ◌-◌, ◌<◌, ◌≤◌, ◌^◌, ◌⊎◌, inl, inr, ℕ, zero, suc, ℤ, pos, negsuc, refl, ap, sym, Bool, true, false, not, List, [], ◌∷◌, length, Option, Some, None, option_map, codes, append_assoc, if◌then◌else◌, arith}
+use Rattle.std.specs.Prelude.{FitsSigned, nat_le, is_some, option_and_then, unwrap_or}
 use Rattle.std.specs.Int.{w64, is_in_range}
 use Rattle.std.specs.Char.{is_ascii, is_ascii_alphabetic, is_ascii_digit}
 use Rattle.std.specs.Fmt.{decimal, signed_decimal}
@@ -9,11 +9,11 @@ use Rattle.std.specs.Str.{all_ascii_digits, bytes_eq}
 use Rattle.std.proofs.lemmas.Bool.{agree_below_at, and_cases, and_from, and_parts, eqb-true, leb-true, not-false, not-true, or_cases, or_parts, true≢false}
 use Rattle.std.proofs.lemmas.Fmt.{decimal_nonempty}
 use Rattle.lus_values.specs.Lists.{Each}
-use Rattle.lus_values.specs.Names.{Text, Names, name_of, numbers_of}
+use Rattle.lus_values.specs.Names.{Text, Names, numbers_of}
 use Rattle.lus_values.specs.Text.{fields_text, text_of}
 use Rattle.lus_values.specs.Values.{Value, bool, int, enum, struct, nil, Fields, end, field, fields_of}
 use Rattle.lus_asked.specs.Asked.{AreTold, IsFound, IsTold, begins_identifier, continues_identifier, is_identifier}
-use Rattle.lus_asked.specs.Reading.{after, ascii, begins_number, first_as, integer, is_inside, list_at, named, past_word, scalar, scalar_at, value_at, value_by, with_rest, word_of}
+use Rattle.lus_asked.specs.Reading.{after, ascii, begins_number, first_as, integer, is_inside, list_at, named, past_word, scalar, scalar_at, value_at, value_by, with_rest}
 use Rattle.lus_asked.proofs.Pieces.{IsBehind, after_front, after_other, apart_word, ascii_is, past_is, word_is}
 use Rattle.lus_asked.proofs.Numbers.{begins_integer, decimal_digits, digit_no_sign, digits_ascii, digits_inside, integer_is}
 use Rattle.lus_asked.proofs.Lists.{ReadsBack, later_text, list_back, list_text}
@@ -89,21 +89,25 @@ in_range_most lo hi b is = leb-true b hi (and_parts (nat_le lo b) (nat_le b hi) 
 
 begins_small : (b : ℕ) → begins_identifier b ≡ true → b < 128
 begins_small b is = elim (or_cases (is_ascii_alphabetic b) (b == 95) is) [
-      inl letter ↦ elim (or_cases (is_in_range 65 90 b) (is_in_range 97 122 b) letter) [
-    inl upper ↦ (let most : b ≤ 90 = in_range_most 65 90 b upper in omega arith)
-      | inr lower ↦ (let most : b ≤ 122 = in_range_most 97 122 b lower in omega arith) ]
-    | inr line ↦ (let same : b ≡ 95 = eqb-true b 95 line in omega arith) ]
+  | inl letter ↦ elim (or_cases (is_in_range 65 90 b) (is_in_range 97 122 b) letter) [
+    | inl upper ↦ (let most : b ≤ 90 = in_range_most 65 90 b upper in omega arith)
+    | inr lower ↦ (let most : b ≤ 122 = in_range_most 97 122 b lower in omega arith)
+  ]
+  | inr line ↦ (let same : b ≡ 95 = eqb-true b 95 line in omega arith)
+]
 
 continues_small : (b : ℕ) → continues_identifier b ≡ true → b < 128
 continues_small b is = elim (or_cases (begins_identifier b) (is_ascii_digit b) is) [
-      inl begins ↦ begins_small b begins
-    | inr digit ↦ (let most : b ≤ 57 = in_range_most 48 57 b digit in omega arith) ]
+  | inl begins ↦ begins_small b begins
+  | inr digit ↦ (let most : b ≤ 57 = in_range_most 48 57 b digit in omega arith)
+]
 
 -- what holds of each byte that passes a test, by a table
 by_table : (p q : ℕ → Bool) (b : ℕ) → b < 128 → ((c : ℕ) → c < 128 → (p c && not (q c)) ≡ false) → p b ≡ true → q b ≡ true
 by_table p q b small table is = elim (and_cases (p b) (not (q b)) (table b small)) [
-      inl out ↦ absurd (true≢false (sym is ∙ out))
-    | inr no ↦ not-false (q b) no ]
+  | inl out ↦ absurd (true≢false (sym is ∙ out))
+  | inr stays ↦ not-false (q b) stays
+]
 
 continues_inside : (b : ℕ) → continues_identifier b ≡ true → is_inside b ≡ true
 continues_inside b is =
@@ -236,8 +240,9 @@ word_back levels names v word rest is behind =
 pub value_apart : (f : ℕ) → is_inside f ≡ false → (123 == f) ≡ false → (levels : ℕ) (names : Names) (v : Value) → IsTold levels names v → (rest : Text)
     → after (f ∷ []) (text_of names v ++ rest) ≡ None
 value_apart f out brace levels names v told rest = elim (word_or levels names v told) [
-      inl w ↦ apart_word f [] (text_of names v) rest out w.inside w.some
-    | inr s ↦ ap (λ (u : Value). after (f ∷ []) (text_of names u ++ rest)) s.1 ∙ after_other f 123 [] ((fields_text names [] s.0 ++ codes "}") ++ rest) brace ]
+  | inl w ↦ apart_word f [] (text_of names v) rest out w.inside w.some
+  | inr s ↦ ap (λ (u : Value). after (f ∷ []) (text_of names u ++ rest)) s.1 ∙ after_other f 123 [] ((fields_text names [] s.0 ++ codes "}") ++ rest) brace
+]
 
 -- ---- structures
 

@@ -1,5 +1,5 @@
 -- What a journal says of a request, and which requests it spells so that they can be read back.
-use Rattle.std.specs.Prelude.{◌≡◌, ◌<◌, ◌^◌, ◌==◌, ◌&&◌, ◌||◌, ℕ, zero, suc, Bool, false, not, List, [], ◌∷◌, ◌++◌, codes, Option, Some, None, IsUtf8, FitsSigned, true, ⊤}
+use Rattle.std.specs.Prelude.{◌≡◌, ◌<◌, ◌^◌, ◌==◌, ◌&&◌, ◌||◌, ℕ, zero, suc, Bool, false, not, [], ◌∷◌, ◌++◌, codes, Option, Some, None, IsUtf8, FitsSigned, true, ⊤}
 use Rattle.std.specs.Fmt.{decimal}
 use Rattle.std.specs.Int.{w64}
 use Rattle.std.specs.Borrow.{Bor}

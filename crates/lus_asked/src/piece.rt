@@ -41,7 +41,8 @@ pub(crate) fn separate<'a>(close: &[u8], separator: &[u8], text: &'a [u8]) -> Se
 fn ends_word(byte: u8) -> bool
     ensures { result ≡ ends_word byte }
 {
-    byte == b' ' || (byte == b')' || (byte == b',' || (byte == b';' || (byte == b'{' || byte == b'}'))))
+    byte == b' '
+        || (byte == b')' || (byte == b',' || (byte == b';' || (byte == b'{' || byte == b'}'))))
 }
 
 #[tactic(auto, unfolding(crate::specs::Reading::word_len))]

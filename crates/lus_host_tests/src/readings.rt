@@ -7,14 +7,13 @@ use lus_values::Names;
 use std::alloc::Global;
 use std::test::Fail;
 
-/// The names of an enumeration behind a type that is none.
+/// The names of one enumeration.
 fn names(alloc: Global) -> Result<Names, Fail> {
-    let mut sides = Vec::new(alloc);
-    sides.push(String::from_str(alloc, "Left")?)?;
-    sides.push(String::from_str(alloc, "right_2")?)?;
-    Ok(Names::new(alloc)
-        .with_type(alloc, &[])?
-        .with_type(alloc, &sides)?)
+    let sides = [
+        String::from_str(alloc, "Left")?,
+        String::from_str(alloc, "right_2")?,
+    ];
+    Ok(Names::new(alloc).with_type(alloc, &sides)?)
 }
 
 /// The line of the 12th entry whose request is that of this line, answered by `done`; empty if it has none.

@@ -1,5 +1,5 @@
 -- The items are those that the text has, one by one.
-use Rattle.std.proofs.Common.{◌≡◌, ◌∙◌, ◌++◌, ◌∷◌, [], ap, sym, map, codes, rules, Some, None}
+use Rattle.std.proofs.Common.{◌≡◌, ◌++◌, ◌∷◌, [], ap, map, codes, rules, Some, None}
 use Rattle.std.proofs.lemmas.List.{map_push}
 use Rattle.lus_values.specs.View.{entry_of}
 use Rattle.lus_asked.specs.Reading.{after, inner_row_at, item_at}

@@ -1,5 +1,5 @@
 -- The rows are those that the text has, one by one.
-use Rattle.std.proofs.Common.{◌≡◌, ◌∙◌, ◌++◌, ◌∷◌, [], ap, sym, map, codes, rules, Some, None}
+use Rattle.std.proofs.Common.{◌≡◌, ◌++◌, ◌∷◌, [], codes, rules, Some, None}
 use Rattle.lus_asked.specs.Reading.{after, row_at, rows_at}
 use Rattle.lus_asked.proofs.Lists.{begun_list, empty_list, last_item, more_item, none_item, spent_item, stuck_item}
 use Rattle.lus_asked.proofs.request.take_rows.Goals as goal
