@@ -23,9 +23,8 @@ use Rattle.lus_code.proofs.SimulationProofs.Lived.{formals_at, steps_follow, fau
 use Rattle.lus_code.proofs.SimulationProofs.Nested.{calls_nested}
 use Rattle.lus_code.specs.Codes.{IsCodeOf}
 use Rattle.lus_running.specs.declared.error.StepError.TheVariants as running
-use Rattle.lus_running.specs.declared.instance.Instance.{Instance}
 use Rattle.lus_running.specs.Fits.{FitsPresence}
-use Rattle.lus_running.specs.Instances.{HasFormals, TakesStep}
+use Rattle.lus_running.specs.Instances.{HasFormals, Seen, TakesStep}
 use Rattle.lus_running.specs.Instances.{state_of as instance_state}
 use Rattle.lus_running.proofs.Placed.{class_found}
 
@@ -56,7 +55,7 @@ module _ (p : Program) (classes : List Class) (checked : IsChecked p) (code : Is
       pub has_formals : HasFormals (node_at p f).outputs i k
       has_formals = (((rows_that_fit p checked).fits f i shape presence).long ∙ sym same_inputs, subst (λ n. n + (node_at p f).outputs ≤ length k.tests.items) (sym same_inputs) room)
 
-  module _ (before after : Instance) (k : Class) (found : slice_get classes before.node ≡ Some k) (i : Row) (depth : ℕ) (deep : suc depth ≡ depth_of p) where
+  module _ (before after : Seen) (k : Class) (found : slice_get classes before.node ≡ Some k) (i : Row) (depth : ℕ) (deep : suc depth ≡ depth_of p) where
     pub step_follows : (outputs : Row) → IsTrue (has_shape p before.node i) → IsTrue (has_presence p before.node i)
         → TakesStep classes depth (node_at p before.node).outputs before i (Ok outputs) after
         → StepsTo p (classes_of classes) (instance_state classes (depth_of p) before) (instance_state classes (depth_of p) after) before.node i outputs

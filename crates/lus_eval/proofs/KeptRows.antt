@@ -1,11 +1,10 @@
 -- What an instance keeps, as contracts see it.
-use Rattle.std.proofs.Common.{◌≡◌, ◌∙◌, ◌+◌, ◌<◌, ◌≤◌, ℕ, List, [], Some, sym, ap, subst, true, length, map, arith}
+use Rattle.std.proofs.Common.{◌≡◌, ◌∙◌, ◌+◌, ◌<◌, ◌≤◌, ℕ, List, [], Some, sym, ap, subst, true, length, arith}
 use Rattle.std.specs.Prelude.{slice_get}
 use Rattle.std.proofs.lemmas.List.{length-map}
 use Rattle.std.proofs.lemmas.Option.{slice_get_within, same_Some}
 use Rattle.lus_values.specs.Lists.{item}
 use Rattle.lus_values.specs.Values.{nil, Row}
-use Rattle.lus_values.specs.View.{value_of}
 use Rattle.lus_program.specs.declared.node.Node.{Node as StoredNode}
 use Rattle.lus_program.specs.declared.node.Program.{Program as StoredProgram}
 use Rattle.lus_program.specs.Programs.{node_at}
@@ -21,37 +20,31 @@ use Rattle.lus_classes.specs.States.{State}
 use Rattle.lus_code.specs.Codes.{ProgramCode, plain_classes, program_of}
 use Rattle.lus_running.specs.declared.instance.Instance.{Instance}
 use Rattle.lus_running.specs.Instances as instances
+use Rattle.lus_running.specs.Instances.{seen}
 use Rattle.lus_running.proofs.Placed.{resets_state}
 use Rattle.lus_eval.specs.Objects.{Kept, kept_by, IsEven, IsObjectOf, IsReset, MakesStep, ObjectLived, state_of}
 
 module _ (c : ProgramCode) (classes : List Class) (same : classes ≡ c.classes) (o : Instance) where
-  pub shaped_in_code : ((g : ℕ) (k : Class) → slice_get classes g ≡ Some k → k.extent.cells + k.extent.firsts ≤ item 0 c.cells g) → instances.HasRowsOfClass classes o → IsObjectOf c (kept_by o)
+  pub shaped_in_code : ((g : ℕ) (k : Class) → slice_get classes g ≡ Some k → k.extent.cells + k.extent.firsts ≤ item 0 c.cells g) → instances.HasRowsOfClass classes (seen o) → IsObjectOf c (kept_by o)
   shaped_in_code rows s = record {
     class = s.class;
     found = ap (λ l. slice_get l o.node) (sym same) ∙ s.found;
-    cells = length-map o.cells.items value_of ∙ s.cells;
-    firsts = s.firsts;
-    variables = s.variables;
+    cells = s.long.cells;
+    firsts = s.long.firsts;
+    variables = s.long.variables;
     few = (
-        let long = length-map o.cells.items value_of in
-        let cells = s.cells in
-        let firsts = s.firsts in
+        let cells = s.long.cells in
+        let firsts = s.long.firsts in
         let row = rows o.node s.class s.found in
-        omega (arith, long, cells, firsts, row));
+        omega (arith, cells, firsts, row));
   }
 
-  pub instance_shaped : IsEven o → IsObjectOf c (kept_by o) → instances.HasRowsOfClass classes o
-  instance_shaped even s =
-      let cells = sym (length-map o.cells.items value_of) ∙ s.cells in
-      record {
-        class = s.class;
-        found = ap (λ l. slice_get l o.node) same ∙ s.found;
-        cells = cells;
-        firsts = s.firsts;
-        next_cells = even.cells ∙ cells;
-        next_firsts = even.firsts ∙ s.firsts;
-        variables = s.variables;
-      }
+  pub instance_shaped : IsEven o → IsObjectOf c (kept_by o) → instances.HasRowsOfClass classes (seen o)
+  instance_shaped even s = record {
+    class = s.class;
+    found = ap (λ l. slice_get l o.node) same ∙ s.found;
+    long = record { cells = s.cells; firsts = s.firsts; next_cells = even.cells ∙ s.cells; next_firsts = even.firsts ∙ s.firsts; variables = s.variables };
+  }
 
 pub node_within : (c : ProgramCode) (o : Kept) → IsObjectOf c o → o.node < length c.classes
 node_within c o s = slice_get_within c.classes o.node s.class s.found
@@ -69,15 +62,15 @@ source_node c o shaped classes kept size s same n is =
     let within : o.node < length s.nodes.items = omega arith in
     ap (λ (r : StoredProgram). node_at (program_seen r) o.node) (sym same) ∙ node_here s o.node n within is
 
-pub reset_kept : (o o' : Instance) → instances.IsReset o o' → IsReset (kept_by o) (kept_by o')
+pub reset_kept : (o o' : Instance) → instances.IsReset (seen o) (seen o') → IsReset (kept_by o) (kept_by o')
 reset_kept o o' h = record {
   node = h.node;
-  room = ap (λ v. length v.items) h.variables;
-  cells = ap length h.cells ∙ length-map (map value_of o.cells.items) (λ v. nil);
-  firsts = ap length h.firsts ∙ length-map o.firsts.items (λ b. true);
+  room = h.variables;
+  cells = ap length h.cells ∙ length-map (seen o).cells (λ v. nil);
+  firsts = ap length h.firsts ∙ length-map (seen o).firsts (λ b. true);
   state = λ c.
       let d = depth_of (program_of c) in
-      (λ j. state_in c.classes d (h.node j) (h.cells j) (h.firsts j)) ∙ resets_state c.classes d o.node (map value_of o.cells.items) o.firsts.items;
+      (λ j. state_in c.classes d (h.node j) (h.cells j) (h.firsts j)) ∙ resets_state c.classes d o.node (seen o).cells (seen o).firsts;
 }
 
 -- an object that is set back has the form that it had
@@ -110,19 +103,19 @@ same_room c o o' s s' node =
     let found : slice_get c.classes o'.node ≡ Some s.class = ap (slice_get c.classes) node ∙ s.found in
     s'.variables ∙ ap (λ (k : Class). k.extent.variables) (same_Some s'.class s.class (sym s'.found ∙ found)) ∙ sym s.variables
 
-module _ (s o' : Instance) (back : instances.IsBack s o') where
+module _ (s o' : Instance) (back : instances.IsBack (seen s) (seen o')) where
   -- an instance that goes back behind a step is as it was before it
-  pub back_to : (c : ProgramCode) (o : Instance) (i outputs : Row) → IsObjectOf c (kept_by o) → MakesStep c (kept_by o) (kept_by s) i outputs → instances.LeavesBehind o s
+  pub back_to : (c : ProgramCode) (o : Instance) (i outputs : Row) → IsObjectOf c (kept_by o) → MakesStep c (kept_by o) (kept_by s) i outputs → instances.LeavesBehind (seen o) (seen s)
       → kept_by o' ≡ kept_by o
   back_to c o i outputs shaped is behind =
       let node : o'.node ≡ o.node = back.node ∙ is.node in
-      let cells : map value_of o'.cells.items ≡ map value_of o.cells.items = ap (λ v. map value_of v.items) (back.cells ∙ behind.cells) in
-      let firsts : o'.firsts.items ≡ o.firsts.items = ap (λ v. v.items) (back.firsts ∙ behind.firsts) in
-      let room : length o'.variables.items ≡ length o.variables.items = ap (λ v. length v.items) back.variables ∙ same_room c (kept_by o) (kept_by s) shaped is.shaped is.node in
+      let cells : (seen o').cells ≡ (seen o).cells = back.cells ∙ behind.cells in
+      let firsts : (seen o').firsts ≡ (seen o).firsts = back.firsts ∙ behind.firsts in
+      let room : (seen o').variables ≡ (seen o).variables = back.variables ∙ same_room c (kept_by o) (kept_by s) shaped is.shaped is.node in
       λ j. record { node = node j; cells = cells j; firsts = firsts j; room = room j }
 
   pub back_even : IsEven s → IsEven o'
   back_even even = record {
-    cells = ap (λ v. length v.items) back.next_cells ∙ sym even.cells ∙ sym (ap (λ v. length v.items) back.cells);
-    firsts = ap (λ v. length v.items) back.next_firsts ∙ sym even.firsts ∙ sym (ap (λ v. length v.items) back.firsts);
+    cells = ap length back.next_cells ∙ sym even.cells ∙ sym (ap length back.cells);
+    firsts = ap length back.next_firsts ∙ sym even.firsts ∙ sym (ap length back.firsts);
   }

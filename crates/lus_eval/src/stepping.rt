@@ -3,7 +3,7 @@
 ghost use Rattle.std.specs.Prelude.{◌≡◌, IsTrue, IfOk, IfErr, OnErr, OnOk};
 ghost use Rattle.lus_code.specs.SimulationSpecs.Fitting.{has_shape, has_presence};
 ghost use Rattle.lus_code.specs.Codes.{program_of};
-ghost use Rattle.lus_running.specs.Instances.{LeavesBehind};
+ghost use Rattle.lus_running.specs.Instances.{LeavesBehind, seen};
 ghost use Rattle.lus_eval.specs.Objects.{IsEven, IsFault, IsObjectOf, MakesStep, kept_by};
 
 use crate::error::StepError;
@@ -26,7 +26,7 @@ pub(crate) fn step_instance(
     ensures fault { IfErr result (λ e. e ≡ StepError.Fault → IsFault code.now (kept_by instance.old) inputs.now) }
     ensures err { OnErr result (kept_by instance.new ≡ kept_by instance.old) }
     ensures even { IsEven instance.new }
-    ensures behind { OnOk result (LeavesBehind instance.old instance.new) }
+    ensures behind { OnOk result (LeavesBehind (seen instance.old) (seen instance.new)) }
 {
     let classes = code.classes();
     let node = &code.program().nodes[instance.node as usize];

@@ -1,21 +1,38 @@
-//! Copies of what variables and cells hold.
+//! Copies of what variables hold.
 
-ghost use Rattle.std.specs.Prelude.{◌≡◌, IfOk, map};
-ghost use Rattle.lus_values.specs.View.{entry_of};
+ghost use Rattle.std.specs.Prelude.{◌≡◌, IfOk, None, map};
+ghost use Rattle.lus_values.specs.Lists.{item};
 ghost use Rattle.lus_classes.specs.Steps.{atom_in};
 ghost use Rattle.lus_flat_classes.specs.View.{atom_of};
 
 use lus_flat_classes::Atom;
-use lus_instructions::{copy_value, entry_at};
-use lus_values::{Memory, Value};
+use lus_following::{Held, Stop};
+use lus_instructions::copy_value;
+use lus_values::Memory;
+use lus_words::Word;
 use std::alloc::Global;
 
+/// What a variable holds; past the row it is absent.
+#[inline(always)]
+pub fn held_at<T: Held>(alloc: Global, row: &[T], variable: usize) -> Result<T, Memory>
+    ensures { IfOk result (λ h. T.entry h ≡ item None (map T.entry row.now) variable) }
+{
+    match row.get(variable) {
+        Some(held) => held.copied(alloc),
+        None => Ok(T::of_word(Word::Absent)),
+    }
+}
+
 /// What an atom holds.
-pub fn atom_in(alloc: Global, atom: &Atom, row: &[Option<Value>]) -> Result<Option<Value>, Memory>
-    ensures { IfOk result (λ v. entry_of v ≡ atom_in (atom_of atom.now) (map entry_of row.now)) }
+#[inline(always)]
+pub fn atom_in<T: Held>(alloc: Global, atom: &Atom, row: &[T]) -> Result<T, Stop>
+    ensures { IfOk result (λ h. T.entry h ≡ atom_in (atom_of atom.now) (map T.entry row.now)) }
 {
     match atom {
-        Atom::Constant(value) => copy_value(alloc, value),
-        Atom::Variable(variable) => entry_at(alloc, row, *variable as usize),
+        Atom::Constant(value) => {
+            let constant = copy_value(alloc, value)?;
+            T::of_entry(constant)
+        }
+        Atom::Variable(variable) => Ok(held_at(alloc, row, *variable as usize)?),
     }
 }

@@ -10,7 +10,7 @@ use Rattle.lus_code.specs.SimulationSpecs.Nesting.{depth_of}
 use Rattle.lus_code.specs.Codes.{program_of, plain_classes}
 use Rattle.lus_running.specs.declared.error.StepError.{StepError as RunningError}
 use Rattle.lus_running.specs.declared.error.StepError.TheVariants as running
-use Rattle.lus_running.specs.Instances.{HasFormals, TakesStep}
+use Rattle.lus_running.specs.Instances.{HasFormals, TakesStep, seen}
 use Rattle.lus_running.specs.Instances.{state_of as instance_state}
 use Rattle.lus_eval.specs.Objects.{kept_by, state_of}
 use Rattle.lus_eval.proofs.Following.{nested, has_formals, presence_told, step_follows, fault_follows}
@@ -67,9 +67,9 @@ returns-in_err-outputs-clause-fault c =
     let code = c.args.code.now in
     let p = program_of code in
     let i = c.args.inputs.now in
-    let before = c.args.instance.now in
-    let after = c.step.new.self in
-    let o = kept_by before in
+    let before = seen c.args.instance.now in
+    let after = seen c.step.new.self in
+    let o = kept_by c.args.instance.now in
     let classes = c.classes-classes.result.now in
     let checked = source_checked code c.program.result.now c.program.ensures.same c.program.ensures.checked in
     let size = c.classes-classes.ensures.size in
@@ -91,10 +91,10 @@ returns-clause-ok c =
     let code = c.args.code.now in
     let p = program_of code in
     let i = c.args.inputs.now in
-    let before = c.args.instance.now in
-    let after = c.step.new.self in
+    let before = seen c.args.instance.now in
+    let after = seen c.step.new.self in
     let outputs = c.in_ok-outputs.outputs in
-    let o = kept_by before in
+    let o = kept_by c.args.instance.now in
     let classes = c.classes-classes.result.now in
     let checked = source_checked code c.program.result.now c.program.ensures.same c.program.ensures.checked in
     let size = c.classes-classes.ensures.size in
@@ -109,6 +109,6 @@ returns-clause-ok c =
     let seen = subst (λ (l : List Class). StepsTo p (classes_of l) (instance_state l (depth_of p) before) (instance_state l (depth_of p) after) before.node i outputs) c.classes-classes.ensures.same steps in
     record {
       node = c.step.ensures.node;
-      shaped = shaped_in_code code classes c.classes-classes.ensures.same after c.classes-classes.ensures.rows c.step.ensures.shaped;
+      shaped = shaped_in_code code classes c.classes-classes.ensures.same c.step.new.self c.classes-classes.ensures.rows c.step.ensures.shaped;
       steps = seen;
     }

@@ -1,8 +1,7 @@
 use Rattle.std.proofs.Common.{◌≡◌, map, drop}
-use Rattle.lus_values.specs.View.{entry_of}
 use Rattle.lus_flat_classes.specs.Looks.{short_of}
 use Rattle.lus_running.specs.Comes.{received}
 use Rattle.lus_running.proofs.instant.receive_all.Given as goal
 
 abbrev pub invariant-loop-target : goal.invariant-loop-target
-invariant-loop-target l = received (short_of l.class) (map entry_of l.answer) (drop l.target-index l.targets) (map entry_of l.row) ≡ received (short_of l.class) (map entry_of l.answer) l.targets (map entry_of l.initial.row)
+invariant-loop-target g l = received (short_of l.class) (map g.T.Held.entry l.answer) (drop l.target-index l.targets) (map g.T.Held.entry l.row) ≡ received (short_of l.class) (map g.T.Held.entry l.answer) l.targets (map g.T.Held.entry l.initial.row)

@@ -1,6 +1,5 @@
 use Rattle.std.proofs.Common.{◌≡◌, ◌∙◌, sym, ap, map, ◌++◌, ◌<◌, take, drop, length, slice_set, slice_index_or, add-one, arith, false, None, refl}
 use Rattle.std.proofs.lemmas.List.{length-map, get_or-map}
-use Rattle.lus_values.specs.View.{entry_of}
 use Rattle.lus_classes.specs.Steps.{flags_after}
 use Rattle.lus_flat_classes.specs.Looks.{newest}
 use Rattle.lus_running.specs.Kept.{flag_after}
@@ -8,12 +7,12 @@ use Rattle.lus_running.proofs.KeptPlaces.{next_flag}
 use Rattle.lus_running.proofs.keeping.clear.Goals as goal
 
 pub loop-place-preserved : goal.loop-place-preserved
-loop-place-preserved c =
+loop-place-preserved g c =
     let i = c.loop-place.place in
     let ks = map newest c.args.firsts.now in
     let bs = c.args.before.now in
     let ns = c.args.after.now in
-    let r = map entry_of c.args.row.now in
+    let r = map g.T.Held.entry c.args.row.now in
     let k = slice_index_or c.args.firsts.now i None in
     let b = slice_index_or bs i false in
     let lt : i < length c.args.firsts.now = c.loop-place-test.true in

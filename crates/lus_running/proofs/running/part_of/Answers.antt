@@ -5,14 +5,14 @@ use Rattle.lus_running.proofs.Placing.{one_more, nothing_taken, taken_between}
 use Rattle.lus_running.proofs.running.part_of.Goals as goal
 
 pub loop-variable-init : goal.loop-variable-init
-loop-variable-init c = ap (map entry_of) c.in_ok-part.ensures.items ∙ sym (nothing_taken c.args.from (map entry_of c.args.variables.now))
+loop-variable-init g c = ap (map entry_of) c.in_ok-part.ensures.items ∙ sym (nothing_taken c.args.from (map g.T.Held.entry c.args.variables.now))
 
 pub loop-variable-preserved : goal.loop-variable-preserved
-loop-variable-preserved c =
+loop-variable-preserved g c =
     let n = c.loop-variable.variable in
-    let r = map entry_of c.args.variables.now in
+    let r = map g.T.Held.entry c.args.variables.now in
     let e = c.in_ok-entry.entry in
-    let lt : n < length r = rw (length-map c.args.variables.now entry_of) (omega arith) in
+    let lt : n < length r = rw (length-map c.args.variables.now g.T.Held.entry) (omega arith) in
     let le : c.args.from ≤ n = c.loop-variable.auto.variable in
     rw add-one
     (ap (map entry_of) c.in_ok-push.ensures.items
@@ -22,6 +22,6 @@ loop-variable-preserved c =
     ∙ one_more c.args.from n r le lt)
 
 pub returns : goal.returns
-returns c =
-    let r = map entry_of c.args.variables.now in
+returns g c =
+    let r = map g.T.Held.entry c.args.variables.now in
     c.loop-variable.invariant ∙ taken_between c.args.from c.args.count c.loop-variable.variable r (omega arith)

@@ -3,4 +3,4 @@ use Rattle.lus_values.specs.View.{entry_of}
 use Rattle.lus_running.proofs.running.part_of.Given as goal
 
 abbrev pub invariant-loop-variable : goal.invariant-loop-variable
-invariant-loop-variable l = map entry_of l.part.items ≡ drop l.from (take l.variable (map entry_of l.variables))
+invariant-loop-variable g l = map entry_of l.part.items ≡ drop l.from (take l.variable (map g.T.Held.entry l.variables))

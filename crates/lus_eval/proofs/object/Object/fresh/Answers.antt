@@ -6,7 +6,7 @@ use Rattle.lus_code.specs.SimulationSpecs.Lineages.{HasLived}
 use Rattle.lus_code.specs.SimulationSpecs.Nesting.{depth_of}
 use Rattle.lus_code.proofs.SimulationProofs.Lived.{starts_lived}
 use Rattle.lus_code.specs.Codes.{program_of}
-use Rattle.lus_running.specs.Instances.{state_of}
+use Rattle.lus_running.specs.Instances.{seen, state_of}
 use Rattle.lus_eval.proofs.Following.{nested}
 use Rattle.lus_eval.proofs.KeptRows.{source_checked, shaped_in_code}
 use Rattle.lus_eval.proofs.object.Object.fresh.Goals as goal
@@ -26,5 +26,5 @@ returns c =
     record {
       node = c.in_ok-instance.ensures.node;
       shaped = shaped_in_code code classes c.classes.ensures.same c.in_ok-instance.instance c.classes.ensures.rows c.in_ok-instance.ensures.shaped;
-      lived = subst (λ (l : List Class). HasLived p (classes_of l) (state_of l depth c.in_ok-instance.instance) f []) c.classes.ensures.same lived;
+      lived = subst (λ (l : List Class). HasLived p (classes_of l) (state_of l depth (seen c.in_ok-instance.instance)) f []) c.classes.ensures.same lived;
     }
