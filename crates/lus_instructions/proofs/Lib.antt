@@ -1,4 +1,2 @@
 pub mod Fields
-pub mod Putting
 pub mod Following
-pub mod OnWords

@@ -1,3 +1,2 @@
 pub mod Executed
-pub mod Followed
 pub mod Played

@@ -1,7 +1,6 @@
-//! Copies of what variables and cells hold.
+//! Copies of values.
 
-ghost use Rattle.std.specs.Prelude.{◌≡◌, IfOk, None, Some, map, slice_get};
-ghost use Rattle.lus_values.specs.Lists.{item};
+ghost use Rattle.std.specs.Prelude.{◌≡◌, IfOk, Some, map, slice_get};
 ghost use Rattle.lus_values.specs.View.{value_of, entry_of};
 
 use lus_values::{Memory, Value, copy};
@@ -9,7 +8,7 @@ use std::alloc::Global;
 
 /// An equal value; only a structure is walked.
 #[inline(always)]
-pub fn copied(alloc: Global, value: &Value) -> Result<Value, Memory>
+fn copied(alloc: Global, value: &Value) -> Result<Value, Memory>
     ensures { IfOk result (λ v. value_of v ≡ value_of value.now) }
 {
     match value {
@@ -30,37 +29,15 @@ pub fn copy_value(alloc: Global, value: &Value) -> Result<Option<Value>, Memory>
     Ok(Some(value_copy))
 }
 
-/// An equal entry.
-#[inline(always)]
-fn copied_entry(alloc: Global, entry: &Option<Value>) -> Result<Option<Value>, Memory>
-    ensures { IfOk result (λ e. entry_of e ≡ entry_of entry.now) }
-{
-    match entry {
-        Some(value) => copy_value(alloc, value),
-        None => Ok(None),
-    }
-}
-
-/// What a variable holds; past the row it is absent.
-#[inline(always)]
-pub fn entry_at(
+/// A copy of the value at a place; past the values there is nothing.
+pub(crate) fn copy_at(
     alloc: Global,
-    row: &[Option<Value>],
-    variable: usize,
+    values: &[Value],
+    place: usize,
 ) -> Result<Option<Value>, Memory>
-    ensures { IfOk result (λ e. entry_of e ≡ item None (map entry_of row.now) variable) }
+    ensures { IfOk result (λ v. entry_of v ≡ slice_get (map value_of values.now) place) }
 {
-    match row.get(variable) {
-        Some(entry) => copied_entry(alloc, entry),
-        None => Ok(None),
-    }
-}
-
-/// What a cell keeps; past the cells there is nothing.
-pub fn cell_at(alloc: Global, cells: &[Value], cell: usize) -> Result<Option<Value>, Memory>
-    ensures { IfOk result (λ v. entry_of v ≡ slice_get (map value_of cells.now) cell) }
-{
-    match cells.get(cell) {
+    match values.get(place) {
         Some(value) => copy_value(alloc, value),
         None => Ok(None),
     }

@@ -7,7 +7,7 @@ ghost use Rattle.lus_values.specs.View.{value_of, entry_of};
 ghost use Rattle.lus_classes.specs.Steps.{chosen};
 ghost use Rattle.lus_words.specs.Applied.{applied};
 
-use crate::entries::{cell_at, copy_value};
+use crate::entries::{copy_at, copy_value};
 use lus_values::{Memory, Operator, Value, any_nil, try_apply};
 use std::alloc::Global;
 
@@ -52,7 +52,7 @@ fn project(alloc: Global, field: usize, value: &Value) -> Result<Option<Value>, 
     ensures { IfOk result (λ v. entry_of v ≡ project field (value_of value.now ∷ [])) }
 {
     match value {
-        Value::Struct(fields) => cell_at(alloc, fields, field),
+        Value::Struct(fields) => copy_at(alloc, fields, field),
         Value::Bool(_) => Ok(None),
         Value::Int(_) => Ok(None),
         Value::Enum(_, _) => Ok(None),

@@ -13,4 +13,4 @@ returns-in-Struct c =
     let seen : value_of c.args.value.now ≡ _ = ap value_of c.in-Struct.is ∙ struct_fields fields in
     let found : slice_get (map value_of c.deref.result.now) n ≡ project n (value_of c.args.value.now ∷ []) =
     ap (λ l. slice_get (map value_of l) n) c.deref.ensures.value ∙ sym (ap (λ v. project n (v ∷ [])) seen ∙ field_in (map value_of fields.items) n) in
-    subst (λ (o : Option Value). IfOk c.cell_at.result (λ v. entry_of v ≡ o)) found c.cell_at.ensures
+    subst (λ (o : Option Value). IfOk c.copy_at.result (λ v. entry_of v ≡ o)) found c.copy_at.ensures
