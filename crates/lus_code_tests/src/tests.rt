@@ -1,4 +1,4 @@
-//! Classes, places and state cells of small programs.
+//! Classes, places and state cells of small programs. That too many cells are refused is in `rows/`.
 
 use lus_clocks::{check_clocks, check_nil};
 use lus_code::{Code, translate};
@@ -7,7 +7,7 @@ use lus_grammar::parse;
 use lus_normal::normalise;
 use lus_order::order;
 use lus_program::NodeId;
-use lus_syntax::{Refusal, RefusalNumber, lex};
+use lus_syntax::{Refusal, lex};
 use lus_types::check_types;
 use std::alloc::Global;
 use std::test::Fail;
@@ -96,23 +96,6 @@ fn state_cells_are_counted(rt: HostRuntime) -> Result<(), Fail> {
     assert_eq!(rt; code.nodes(), 2);
     assert_eq!(rt; code.cells(NodeId(0)), 2);
     assert_eq!(rt; code.cells(NodeId(1)), 4);
-    Ok(())
-}
-
-#[test]
-fn too_many_state_cells_are_refused(rt: HostRuntime) -> Result<(), Fail> {
-    let mut text = format!(in rt.alloc();
-        "node a0() returns (n: int); let n = 0 -> pre n + 1; tel\n"
-    )?;
-    for level in 1u32..17 {
-        let called = level - 1;
-        text = format!(in rt.alloc();
-            "{text}node a{level}() returns (n: int); let n = a{called}() + a{called}(); tel\n"
-        )?;
-    }
-    let refusal = code_of(rt.alloc(), &text).err().ok_or("accepted")?;
-    assert_eq!(rt; refusal.number, RefusalNumber::Limit);
-    assert_eq!(rt; refusal.line, 17);
     Ok(())
 }
 

@@ -1,12 +1,10 @@
-//! What later passes rely on, and tests of values, orders, texts, trees and normal forms. A crate of its own, since a crate with tests
-//! is proved twice.
+//! What later passes rely on, and tests of values, orders, tokens and normal forms. In a crate of their own, since a crate with tests is
+//! proved twice. Which texts are read, and what operators give in programs, is tested by `rows/`, of which nothing is proved anew.
 #![tactic(auto)]
 
 mod counting;
 #[cfg(test)]
 mod normal_forms;
-#[cfg(test)]
-mod openings;
 #[cfg(test)]
 mod operators;
 #[cfg(test)]
@@ -16,8 +14,6 @@ mod promises;
 mod refusals;
 #[cfg(test)]
 mod tokens;
-#[cfg(test)]
-mod trees;
 #[cfg(test)]
 mod values;
 

@@ -1,4 +1,4 @@
-//! What clauses can't show: that commands succeed, and what is printed at each status.
+//! What clauses can't show of commands over devices that fail: their status, and what is written. How they end over files is in `rows/`.
 
 ghost use Rattle.std.specs.Prelude.{None, Some, option_map};
 ghost use Rattle.lus_host_tests.specs.Files.{file_of};
@@ -157,30 +157,6 @@ fn ended<R: AllocGlobal + Threads + Wait + Sync>(
         output: output.bytes,
         line: faults.bytes,
     })
-}
-
-#[test]
-fn each_end_has_its_status_and_its_texts(rt: HostRuntime) -> Result<(), Fail> {
-    let accepted = Some(PROGRAM);
-    let refused = Some("node (*");
-    let scripts = Some(SCRIPTS);
-    for (words, program, scripts, status, output, line) in [
-        (CHECK, accepted, None, 0u8, "accepted 1\n", ""),
-        (RUN, accepted, scripts, 0, JOURNAL, ""),
-        (CHECK, refused, None, 1, "", "error E1 line 1 column 6\n"),
-        (RUN, refused, Some(""), 1, "", "error E1 line 1 column 6\n"),
-        (RUN, accepted, Some(""), 2, "", "error S1\n"),
-        (&CHECK[1..], accepted, scripts, 2, "", "error words\n"),
-        (CHECK, None, scripts, 3, "", "error file\n"),
-        (RUN, None, scripts, 3, "", "error file\n"),
-        (RUN, refused, None, 3, "", "error file\n"),
-    ] {
-        let end = ended(&rt, words, &ample(program, scripts))?;
-        assert_eq!(rt; end.status, status, "at {line}");
-        assert_eq!(rt; end.output.as_slice(), output.as_bytes());
-        assert_eq!(rt; end.line.as_slice(), line.as_bytes());
-    }
-    Ok(())
 }
 
 #[test]

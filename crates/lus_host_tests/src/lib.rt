@@ -1,13 +1,12 @@
-//! Tests of what is above machines: devices, scripts, lines, runs, the command line, diagrams and traces. In a crate of their own, since a
-//! crate with tests is proved twice.
+//! Tests of what is above machines: devices that fail, lines, texts of journals, plays, runs in which callers overlap, the command line over
+//! such devices, and traces. In a crate of their own, since a crate with tests is proved twice. What the program makes of scripts and of
+//! journals is tested by `rows/` and `checks/journals`, of which nothing is proved anew.
 #![tactic(auto)]
 
 #[cfg(test)]
 mod commands;
 #[cfg(test)]
 mod devices;
-#[cfg(test)]
-mod drawings;
 #[cfg(test)]
 mod overlap;
 #[cfg(test)]

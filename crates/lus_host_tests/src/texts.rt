@@ -1,14 +1,11 @@
 //! What clauses can't show: printed texts, that calls succeed, and devices that give and take a byte at a time and fail.
 
-ghost use Rattle.std.specs.Prelude.{◌≡◌, IfOk, None, Some, length};
+ghost use Rattle.std.specs.Prelude.{None, Some};
 
 use lus_devices::{
     Failure, Journal, ReadError, Sink, Source, WriteError, read_at_most, write_all, write_journals,
 };
-use lus_program::{Kind, Node, Program, Variable};
 use lus_requests::{Entry, Reply, Request};
-use lus_scripts::{ScriptRefusal, read_scripts};
-use lus_syntax::{NodeKind, Place};
 use lus_values::{Names, Row, Value};
 use std::alloc::Global;
 use std::test::Fail;
@@ -171,94 +168,5 @@ fn no_more_is_read_than_was_asked(rt: HostRuntime) -> Result<(), Fail> {
     };
     let bytes = read_at_most(rt.alloc(), &mut source, 3)?;
     assert_eq!(rt; bytes.as_slice(), b"nod".as_slice());
-    Ok(())
-}
-
-fn number(alloc: Global, name: &str) -> Result<Variable, Fail> {
-    Ok(Variable {
-        name: String::from_str(alloc, name)?,
-        place: NOWHERE,
-        kind: Kind::Int,
-        test: None,
-    })
-}
-
-const NOWHERE: Place = Place {
-    byte: 0,
-    line: 1,
-    column: 1,
-};
-
-/// A program of one node m, with two numbers as inputs and one as its output.
-fn program(alloc: Global) -> Result<Program, Fail>
-    ensures { IfOk result (λ p. length p.nodes.items ≡ 1) }
-{
-    let mut variables = Vec::new(alloc);
-    for name in ["a", "b", "y"] {
-        variables.push(number(alloc, name)?)?;
-    }
-    let mut nodes = Vec::new(alloc);
-    nodes.push(Node {
-        kind: NodeKind::Node,
-        name: String::from_str(alloc, "m")?,
-        place: NOWHERE,
-        inputs: 2,
-        outputs: 1,
-        variables,
-        equations: Vec::new(alloc),
-    })?;
-    Ok(Program {
-        types: Vec::new(alloc),
-        nodes,
-    })
-}
-
-fn refused(alloc: Global, text: &str) -> Result<Option<ScriptRefusal>, Fail> {
-    let program = program(alloc)?;
-    let answer = read_scripts(alloc, &program, &Names::new(alloc), text.as_bytes());
-    Ok(answer.err())
-}
-
-#[test]
-fn scripts_are_read_or_refused(rt: HostRuntime) -> Result<(), Fail> {
-    for (text, want) in [
-        (
-            r#"{"instances":[{"name":"k","node":"m"}],"callers":[{"name":"a","calls":[{"on":"k","step":[2,3]},{"on":"k","step":[-4,5]}]}]}"#,
-            None,
-        ),
-        ("", Some(ScriptRefusal::Json)),
-        ("{}", Some(ScriptRefusal::Form)),
-        (
-            r#"{"instances":[{"name":"k","node":"zz"}],"callers":[{"name":"a","calls":[]}]}"#,
-            Some(ScriptRefusal::Unknown),
-        ),
-        (
-            r#"{"instances":[{"name":"k","node":"m"}],"callers":[{"name":"a","calls":[{"on":"j","step":[2,3]}]}]}"#,
-            Some(ScriptRefusal::Unknown),
-        ),
-        (
-            r#"{"instances":[{"name":"k","node":"m"}],"callers":[{"name":"a","calls":[]},{"name":"a","calls":[]}]}"#,
-            Some(ScriptRefusal::Double),
-        ),
-        (
-            r#"{"instances":[{"name":"k","node":"m"},{"name":"l","node":"m"}],"callers":[{"name":"a","calls":[{"on":"l","step":[2,3]},{"on":"k","reset":true}]},{"name":"k","calls":[{"on":"k","save":0},{"on":"l","restore":1}]}]}"#,
-            None,
-        ),
-        (r#"{"instances":[],"callers":[]}"#, None),
-        (
-            r#"{"instances":[{"name":"k","node":"m"},{"name":"k","node":"m"}],"callers":[]}"#,
-            Some(ScriptRefusal::Double),
-        ),
-        (
-            r#"{"instances":[{"name":"k","node":"m"}],"callers":[{"name":"a","calls":[{"on":"k","reset":false}]}]}"#,
-            Some(ScriptRefusal::Form),
-        ),
-        (
-            r#"{"instances":[{"name":"k","node":"m"}],"callers":[{"name":"a","calls":[{"on":"k","step":[2,1.5]}]}]}"#,
-            Some(ScriptRefusal::Form),
-        ),
-    ] {
-        assert_eq!(rt; refused(rt.alloc(), text)?, want, "at {text}");
-    }
     Ok(())
 }
