@@ -64,18 +64,43 @@ fn cut_body(pieces: &Pieces<'_>, piece: Piece, cuts: &mut Vec<Cut>) -> Result<()
     Ok(())
 }
 
-/// The declaration at a byte with all others, but for the locals and the equations of other nodes.
-fn heads(alloc: Global, pieces: &Pieces<'_>, byte: usize) -> Result<Option<String>, AllocError> {
-    let Some(place) = pieces.place_at(byte) else {
-        return Ok(None);
-    };
+/// All declarations, but for the locals and the equations of nodes that aren't kept.
+fn heads(alloc: Global, pieces: &Pieces<'_>) -> Result<Option<String>, AllocError> {
     let mut cuts = Vec::new(alloc);
-    for (other, piece) in pieces.pieces.iter().enumerate() {
-        if piece.is_node && other != place {
+    for piece in &pieces.pieces {
+        if piece.is_node && !piece.is_kept {
             cut_body(pieces, *piece, &mut cuts)?;
         }
     }
     blanked(alloc, pieces.source, &cuts, pieces.source.len())
+}
+
+/// The declaration at a byte with the heads of all others.
+fn among_heads(
+    alloc: Global,
+    pieces: &mut Pieces<'_>,
+    byte: usize,
+) -> Result<Option<String>, AllocError> {
+    let Some(place) = pieces.place_at(byte) else {
+        return Ok(None);
+    };
+    if let Some(piece) = pieces.pieces.get_mut(place) {
+        piece.is_kept = true;
+    }
+    heads(alloc, pieces)
+}
+
+/// The declaration at a byte and the nodes that it names, directly or by others, with the heads of all others.
+fn needed_among_heads(
+    alloc: Global,
+    pieces: &mut Pieces<'_>,
+    byte: usize,
+) -> Result<Option<String>, AllocError> {
+    let Some(place) = pieces.place_at(byte) else {
+        return Ok(None);
+    };
+    keep_from(alloc, pieces, place)?;
+    heads(alloc, pieces)
 }
 
 /// The declaration at a byte with the nodes that it names, those that these name, and all types and constants.
@@ -103,8 +128,8 @@ pub fn part_at(
         RefusalNumber::Lexical => window(alloc, &pieces, byte),
         RefusalNumber::Unsupported => window(alloc, &pieces, byte),
         RefusalNumber::Syntax => window(alloc, &pieces, byte),
-        RefusalNumber::Name => heads(alloc, &pieces, byte),
-        RefusalNumber::Limit => Ok(None),
+        RefusalNumber::Name => among_heads(alloc, &mut pieces, byte),
+        RefusalNumber::Limit => needed_among_heads(alloc, &mut pieces, byte),
         RefusalNumber::Memory => Ok(None),
         _ => needed(alloc, &mut pieces, byte),
     }

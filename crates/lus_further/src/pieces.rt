@@ -23,18 +23,21 @@ pub(crate) struct Pieces<'t> {
     pub pieces: Vec<Piece>,
 }
 
-/// Whether a word opens a declaration, and that of a node.
-fn opened_by(text: &str) -> Option<bool> {
-    match text {
+/// The text of a word.
+fn text_of<'t>(source: &'t str, word: Word) -> &'t str {
+    bytes_at(source, word.start, word.end).unwrap_or("")
+}
+
+/// Whether a word opens a declaration, and that of a node. Most words are ruled out by their first byte.
+fn opened_by(source: &str, word: Word) -> Option<bool> {
+    let Some(b'n' | b'f' | b't' | b'c') = source.as_bytes().get(word.start) else {
+        return None;
+    };
+    match text_of(source, word) {
         "node" | "function" => Some(true),
         "type" | "const" => Some(false),
         _ => None,
     }
-}
-
-/// The text of a word.
-pub(crate) fn text_of<'t>(source: &'t str, word: Word) -> &'t str {
-    bytes_at(source, word.start, word.end).unwrap_or("")
 }
 
 /// Closes the newest declaration, before a word and a byte.
@@ -50,7 +53,7 @@ pub(crate) fn pieces_of(alloc: Global, source: &str) -> Result<Pieces<'_>, Alloc
     let words = words_of(alloc, source)?;
     let mut pieces: Vec<Piece> = Vec::new(alloc);
     for (place, word) in words.iter().enumerate() {
-        if let Some(is_node) = opened_by(text_of(source, *word)) {
+        if let Some(is_node) = opened_by(source, *word) {
             close(&mut pieces, place, word.start);
             pieces.push(Piece {
                 first: place,
@@ -94,12 +97,5 @@ impl<'t> Pieces<'t> {
     /// The name of a node.
     pub fn name(&self, piece: Piece) -> &'t str {
         self.word(piece.first.saturating_add(1))
-    }
-
-    /// Keeps a declaration, or keeps it no more.
-    pub fn keep(&mut self, place: usize, is_kept: bool) {
-        if let Some(piece) = self.pieces.get_mut(place) {
-            piece.is_kept = is_kept;
-        }
     }
 }

@@ -1,11 +1,13 @@
 //! Which limit is passed, by what stands at the place of the refusal.
 
 use crate::counts::{is_at, parts_of, variable_at, variables_of};
+use crate::depths::depth_of;
 use lus_faults::Finding;
 use lus_grammar::parse;
 use lus_syntax::{
     MOST_CALLS_DEEP, MOST_CELLS, MOST_CONSTRUCTORS, MOST_DECLARATIONS, MOST_DEPTH, MOST_FIELDS,
-    MOST_LEAVES, MOST_NESTING, MOST_VARIABLES, Name, Refusal, RefusalNumber, Tree, lex,
+    MOST_LEAVES, MOST_NESTING, MOST_VARIABLES, Name, Node, Refusal, RefusalNumber, Token, Tree,
+    lex,
 };
 use std::alloc::{AllocError, Global};
 
@@ -53,10 +55,38 @@ fn large_type(
     Ok(None)
 }
 
+/// What is said of a node that has too much in it: variables, calls in calls, or state cells.
+fn full_node(
+    alloc: Global,
+    tree: &Tree,
+    tokens: &[Token],
+    place: usize,
+    node: &Node,
+) -> Result<Finding, AllocError> {
+    let name = &node.name;
+    let text = name.text.as_str();
+    let count = variables_of(node);
+    if count > MOST_VARIABLES {
+        return too_many(alloc, name, "variables", count, MOST_VARIABLES);
+    }
+    let most = MOST_CALLS_DEEP.saturating_add(1);
+    if depth_of(alloc, tree, tokens, place, most)? >= most {
+        let sentence = format!(in alloc; "calls nest in `{text}` deeper than {MOST_CALLS_DEEP}")?;
+        let note =
+            "A node without calls counts 1, each other one 1 more than the deepest that it calls.";
+        return Finding::new(alloc, sentence, name.span.length).with_note(alloc, note);
+    }
+    let sentence = format!(in alloc; "`{text}` keeps more than {MOST_CELLS} state cells")?;
+    let note =
+        "Each call keeps the cells of the node that it calls: call it less often, or keep less in it.";
+    Finding::new(alloc, sentence, name.span.length).with_note(alloc, note)
+}
+
 /// What is said of a node that is too large, or one too many.
 fn large_node(
     alloc: Global,
     tree: &Tree,
+    tokens: &[Token],
     refusal: &Refusal,
 ) -> Result<Option<Finding>, AllocError> {
     for (place, node) in tree.nodes.iter().enumerate() {
@@ -66,11 +96,7 @@ fn large_node(
                 let count = tree.nodes.len();
                 return Ok(Some(too_many(alloc, name, "nodes", count, MOST_DECLARATIONS)?));
             }
-            let text = name.text.as_str();
-            let sentence = format!(in alloc;
-                "calls nest in `{text}` deeper than {MOST_CALLS_DEEP}, or it keeps more than {MOST_CELLS} state cells"
-            )?;
-            return Ok(Some(Finding::new(alloc, sentence, name.span.length)));
+            return Ok(Some(full_node(alloc, tree, tokens, place, node)?));
         }
         if let Some(variable) = variable_at(node, refusal.line, refusal.column) {
             let count = variables_of(node);
@@ -89,7 +115,12 @@ fn too_deep(alloc: Global) -> Result<Finding, AllocError> {
 }
 
 /// What is said of a limit that a tree passes.
-fn of_tree(alloc: Global, tree: &Tree, refusal: &Refusal) -> Result<Option<Finding>, AllocError> {
+fn of_tree(
+    alloc: Global,
+    tree: &Tree,
+    tokens: &[Token],
+    refusal: &Refusal,
+) -> Result<Option<Finding>, AllocError> {
     for (place, constant) in tree.constants.iter().enumerate() {
         if place >= MOST_DECLARATIONS && is_at(&constant.name, refusal.line, refusal.column) {
             let count = tree.constants.len();
@@ -101,7 +132,7 @@ fn of_tree(alloc: Global, tree: &Tree, refusal: &Refusal) -> Result<Option<Findi
     if found.is_some() {
         return Ok(found);
     }
-    large_node(alloc, tree, refusal)
+    large_node(alloc, tree, tokens, refusal)
 }
 
 /// What is said of a limit that is passed; nothing where it is none of declarations, of types and nodes, or of depth.
@@ -114,7 +145,7 @@ pub fn limit_cause(
         return Ok(None);
     };
     match parse(alloc, &tokens) {
-        Ok(tree) => of_tree(alloc, &tree, refusal),
+        Ok(tree) => of_tree(alloc, &tree, &tokens, refusal),
         Err(found) if found.number == RefusalNumber::Limit => Ok(Some(too_deep(alloc)?)),
         Err(_) => Ok(None),
     }

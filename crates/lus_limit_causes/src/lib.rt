@@ -3,5 +3,6 @@
 
 mod cause;
 mod counts;
+mod depths;
 
 pub use cause::limit_cause;
