@@ -6,4 +6,5 @@ mod journal;
 mod reacting;
 
 pub use lus_play::{PlayError, Reacts, Score};
-pub use reacting::react;
+pub use journal::head;
+pub use reacting::{react, react_on};

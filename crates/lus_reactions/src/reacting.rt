@@ -4,7 +4,7 @@ ghost use Rattle.std.specs.Prelude.{◌≡◌, [], ℕ, IfOk, OnErr, OnOk};
 ghost use Rattle.lus_devices.specs.Devices.{WritesBeginning, with_text};
 ghost use Rattle.lus_program.specs.Programs.{Program as PlainProgram};
 ghost use Rattle.lus_program.specs.View.{program_seen};
-ghost use Rattle.lus_reactions.specs.Reactions.{HasReacted, HasReactedSome};
+ghost use Rattle.lus_reactions.specs.Reactions.{HasReacted, HasReactedOn, HasReactedSome, HasReactedSomeOn};
 
 use crate::calls::JsonCalls;
 use crate::journal::{JournalLines, callers, count, head};
@@ -22,6 +22,48 @@ fn write_text<O: Sink>(output: &mut O, text: &str) -> Result<(), PlayError>
         Ok(()) => Ok(()),
         Err(_) => Err(PlayError::Write),
     }
+}
+
+/// Makes the call of each line on an instance that has so many entries already, of this node of a program with these names of
+/// constructors, and writes on in its journal: the line of each entry, numbered on, before the next call is read, and how many entries
+/// there are of all where no line is left. The caller is `user`. A line that is no call enters nothing, and `faults` is given its number
+/// and what is wrong. What is kept is one line, its call and its entry, however many there were.
+pub fn react_on<R: Reacts, S: Source, O: Sink, F: Sink>(
+    alloc: Global,
+    program: &Program,
+    names: &Names,
+    node: NodeId,
+    entries: u64,
+    reactor: &mut R,
+    input: &mut S,
+    output: &mut O,
+    faults: &mut F,
+) -> Result<Score, PlayError>
+    ensures all { IfOk result (λ score. HasReactedOn (program_seen program.now) names.now node.0 entries (S.left input.old) (S.left input.new)
+        (R.history reactor.old) (R.history reactor.new) (O.written output.old) (O.written output.new) score) }
+    ensures begun { OnErr result (HasReactedSomeOn (program_seen program.now) names.now node.0 entries (S.left input.old)
+        (R.history reactor.old) (R.history reactor.new) (O.written output.old) (O.written output.new)) }
+    ensures same { (p : PlainProgram) (f : ℕ) → R.is_of reactor.old p f → R.is_of reactor.new p f }
+{
+    let callers = callers(alloc)?;
+    let lines = JournalLines {
+        names,
+        callers: &callers,
+    };
+    let calls = JsonCalls {
+        alloc,
+        program,
+        names,
+        node,
+    };
+    let first = entries.checked_add(1).ok_or(PlayError::Full)?;
+    let score = play(
+        alloc, &calls, reactor, &lines, first, input, output, faults,
+    )?;
+    let all = entries.checked_add(score.entered).ok_or(PlayError::Full)?;
+    let last = count(alloc, all)?;
+    write_text(output, &last)?;
+    Ok(score)
 }
 
 /// Makes the call of each line on an instance that was never called, of this node of a program with these names of constructors, and
@@ -46,21 +88,9 @@ pub fn react<R: Reacts, S: Source, O: Sink, F: Sink>(
         (R.history reactor.new) (O.written output.old) (O.written output.new)) }
     ensures same { (p : PlainProgram) (f : ℕ) → R.is_of reactor.old p f → R.is_of reactor.new p f }
 {
-    let callers = callers(alloc)?;
-    let lines = JournalLines {
-        names,
-        callers: &callers,
-    };
-    let calls = JsonCalls {
-        alloc,
-        program,
-        names,
-        node,
-    };
     let first = head(alloc, name)?;
     write_text(output, &first)?;
-    let score = play(alloc, &calls, reactor, &lines, 1, input, output, faults)?;
-    let last = count(alloc, score.entered)?;
-    write_text(output, &last)?;
-    Ok(score)
+    react_on(
+        alloc, program, names, node, 0, reactor, input, output, faults,
+    )
 }

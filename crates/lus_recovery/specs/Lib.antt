@@ -1,0 +1,2 @@
+pub mod Recoveries
+pub use Rattle.lus_reactions.specs as ReactionSpecs
