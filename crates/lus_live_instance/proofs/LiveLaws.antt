@@ -10,7 +10,7 @@ use Rattle.lus_machine.specs.HistorySpecs.Histories.{History, empty}
 use Rattle.lus_machine.specs.Machines.{Told}
 use Rattle.std.specs.Str.{bytes_eq}
 use Rattle.lus_reactions.specs.PlaySpecs.declared.playing.Score.{Score}
-use Rattle.lus_reactions.specs.Reactions.{HasReacted, HasReactedSome}
+use Rattle.lus_reactions.specs.Reactions.{HasReacted, HasReactedSome, IsCallTo}
 use Rattle.lus_reactions.proofs.ReactionLaws.{not_begun}
 use Rattle.lus_recovery.specs.Recoveries.{HasRecovered, HasResumed, HasResumedSome}
 use Rattle.lus_recovery.specs.declared.recovering.Start.{Start}
@@ -67,11 +67,11 @@ module _ (p : Program) (f : ℕ) (name : Text) (left : Option Bytes) (w w' : Opt
   -- ---- behind the history of a journal
 
   module _ (start : Start) (h : List Entry) where
-    pub all_resumed : (end : Option Bytes) (score : Score) → HasResumed q names f name start left end h m.history w w' score
+    pub all_resumed : (end : Option Bytes) (score : Score) → HasResumed (IsCallTo q names f) names name start left end h m.history w w' score
         → HasLivedOn p f name start left end h w w' score
     all_resumed end score resumed =
-        let r = subst (λ ns. HasResumed p ns f name start left end h m.history w w' score) named
-            (subst (λ x. HasResumed x names f name start left end h m.history w w' score) same resumed) in
+        let r = subst (λ ns. HasResumed (IsCallTo p ns f) ns name start left end h m.history w w' score) named
+            (subst (λ x. HasResumed (IsCallTo x names f) names name start left end h m.history w w' score) same resumed) in
         record {
           entries = r.entries;
           lawful = subst (History p f) r.entered (lawful_of p f m live);
@@ -79,10 +79,10 @@ module _ (p : Program) (f : ℕ) (name : Text) (left : Option Bytes) (w w' : Opt
           wrote = r.wrote;
         }
 
-    pub some_resumed : HasResumedSome q names f name start left h m.history w w' → HasLivedSomeOn p f name start left h w w'
+    pub some_resumed : HasResumedSome (IsCallTo q names f) names name start left h m.history w w' → HasLivedSomeOn p f name start left h w w'
     some_resumed resumed =
-        let r = subst (λ ns. HasResumedSome p ns f name start left h m.history w w') named
-            (subst (λ x. HasResumedSome x names f name start left h m.history w w') same resumed) in
+        let r = subst (λ ns. HasResumedSome (IsCallTo p ns f) ns name start left h m.history w w') named
+            (subst (λ x. HasResumedSome (IsCallTo x names f) names name start left h m.history w w') same resumed) in
         record {
           entries = r.entries;
           lawful = subst (History p f) r.entered (lawful_of p f m live);

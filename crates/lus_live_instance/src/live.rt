@@ -10,8 +10,7 @@ ghost use Rattle.lus_live_instance.specs.Lives.{HasLived, HasLivedOn, HasLivedSo
 
 use lus_devices::{Sink, Source};
 use lus_machine::{NodeId, Program, Reactor};
-use lus_reactions::{PlayError, Reacts, Score, react};
-use lus_recovery::{RecoveryError, Start, recover, resume};
+use lus_reactions::{PlayError, Reacts, RecoveryError, Score, Start, react, react_on, recover};
 use lus_requests::{Reply, Request};
 use lus_values::Memory;
 use std::alloc::Global;
@@ -120,7 +119,7 @@ pub fn resume_live<S: Source, O: Sink, F: Sink>(
         (S.left input.old) recovered.instance.reactor.history (O.written output.old) (O.written output.new)) }
 {
     let mut recovered = recovered;
-    resume(
+    react_on(
         alloc,
         program.source(),
         program.names(),

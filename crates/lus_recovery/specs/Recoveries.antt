@@ -1,7 +1,7 @@
 -- Where a run goes on in a journal, and what comes of it.
 use Rattle.std.specs.Prelude.{◌≡◌, ◌<◌, ◌++◌, ℕ, List, [], ◌∷◌, length, map, take, drop, codes, Option}
 use Rattle.lus_values.specs.Names.{Names, Text}
-use Rattle.lus_program.specs.Programs.{Program}
+use Rattle.lus_requests.specs.declared.request.Request.{Request}
 use Rattle.lus_requests.specs.declared.request.Entry.{Entry}
 use Rattle.lus_devices.specs.Devices.{Bytes, WritesBeginning, with_front, with_text}
 use Rattle.lus_devices.specs.Journals.{caller_name, head_text}
@@ -12,7 +12,7 @@ use Rattle.lus_replay.specs.Replays.{Item, Told, Counted, CutShort, Replays, cut
 use Rattle.lus_replay.specs.declared.replaying.Ending.{Ending}
 use Rattle.lus_replay.specs.declared.replaying.Ending.TheVariants as endings
 use Rattle.lus_replay.specs.declared.replaying.Replayed.{Replayed}
-use Rattle.lus_reactions.specs.Reactions.{IsCallTo, journal_of, more_text, user}
+use Rattle.lus_recovery.specs.Journals.{journal_of, more_text, user}
 use Rattle.lus_recovery.specs.declared.recovering.Start.{Start}
 use Rattle.lus_recovery.specs.declared.recovering.Start.TheVariants as starts
 
@@ -62,18 +62,18 @@ abbrev pub added : Names → Text → Start → List Entry → Text
 added names name start es = start_text name start ++ more_text names (entries_at start) es
 
 -- All lines were read up to the end. The calls among them are new in the history, and are written on in the journal.
-pub record HasResumed (p : Program) (names : Names) (f : ℕ) (name : Text) (start : Start) (left end : Option Bytes) (h h' : List Entry)
+pub record HasResumed (R : Bytes → Option Request → Type 0) (names : Names) (name : Text) (start : Start) (left end : Option Bytes) (h h' : List Entry)
     (w w' : Option Bytes) (score : Score) : Type 0 where
   pub entries : List Entry
-  pub asks : AsksAll (IsCallTo p names f) left end entries score
+  pub asks : AsksAll R left end entries score
   pub entered : h' ≡ h ++ entries
   pub wrote : w' ≡ with_text w (added names name start entries)
 
 -- Some lines were read. The calls among them are new in the history, and a beginning of what is to be written of them is.
-pub record HasResumedSome (p : Program) (names : Names) (f : ℕ) (name : Text) (start : Start) (left : Option Bytes) (h h' : List Entry)
+pub record HasResumedSome (R : Bytes → Option Request → Type 0) (names : Names) (name : Text) (start : Start) (left : Option Bytes) (h h' : List Entry)
     (w w' : Option Bytes) : Type 0 where
   pub entries : List Entry
-  pub asks : AsksSome (IsCallTo p names f) left entries
+  pub asks : AsksSome R left entries
   pub entered : h' ≡ h ++ entries
   pub wrote : WritesBeginning w w' (added names name start entries)
 

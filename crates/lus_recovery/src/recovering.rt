@@ -5,10 +5,10 @@ ghost use Rattle.lus_program.specs.Programs.{Program};
 ghost use Rattle.lus_recovery.specs.Recoveries.{BeginsHead, HasRecovered, StartsAt};
 
 use crate::error::RecoveryError;
+use crate::journal::head;
 use lus_devices::Source;
 use lus_lines::{Whole, read_whole_line};
 use lus_play::Reacts;
-use lus_reactions::head;
 use lus_replay::{Ending, Replayed, replay};
 use lus_values::Names;
 use std::alloc::Global;

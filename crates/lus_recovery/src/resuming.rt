@@ -2,15 +2,14 @@
 
 ghost use Rattle.std.specs.Prelude.{◌≡◌, ℕ, IfOk, OnErr, OnOk, drop};
 ghost use Rattle.lus_devices.specs.Devices.{WritesBeginning, with_text};
-ghost use Rattle.lus_program.specs.Programs.{Program as PlainProgram};
-ghost use Rattle.lus_program.specs.View.{program_seen};
+ghost use Rattle.lus_program.specs.Programs.{Program};
 ghost use Rattle.lus_recovery.specs.Recoveries.{HasResumed, HasResumedSome, entries_at, start_text};
 
+use crate::journal::head;
 use crate::recovering::Start;
-use lus_devices::{Sink, Source, write_all};
-use lus_play::Reacts;
-use lus_program::{NodeId, Program};
-use lus_reactions::{PlayError, Score, head, react_on};
+use crate::writing::{write_bytes, write_on};
+use lus_devices::{Sink, Source};
+use lus_play::{Calls, PlayError, Reacts, Score};
 use lus_values::Names;
 use std::alloc::Global;
 
@@ -35,16 +34,6 @@ fn behind(bytes: &[u8], count: usize) -> &[u8]
     }
 }
 
-fn write_bytes<O: Sink>(output: &mut O, bytes: &[u8]) -> Result<(), PlayError>
-    ensures whole { OnOk result (O.written output.new ≡ with_text (O.written output.old) bytes.now) }
-    ensures beginning { OnErr result (WritesBeginning (O.written output.old) (O.written output.new) bytes.now) }
-{
-    match write_all(output, bytes) {
-        Ok(()) => Ok(()),
-        Err(_) => Err(PlayError::Write),
-    }
-}
-
 /// Writes what comes before the next entry: the rest of the first line, or the mark of a line that was cut short.
 fn write_start<O: Sink>(
     alloc: Global,
@@ -65,14 +54,13 @@ fn write_start<O: Sink>(
     }
 }
 
-/// Makes the call of each line on the instance, and writes on in its journal from where it was recovered: what is missing there, the line
+/// Makes the call of each line on an instance, and writes on in its journal from where it was recovered: what is missing there, the line
 /// of each entry, numbered on, before the next call is read, and how many entries there are of all where no line is left. A line that
 /// is no call enters nothing, and `faults` is given its number and what is wrong.
-pub fn resume<R: Reacts, S: Source, O: Sink, F: Sink>(
+pub fn resume<C: Calls, R: Reacts, S: Source, O: Sink, F: Sink>(
     alloc: Global,
-    program: &Program,
+    calls: &C,
     names: &Names,
-    node: NodeId,
     name: &str,
     start: Start,
     reactor: &mut R,
@@ -80,22 +68,15 @@ pub fn resume<R: Reacts, S: Source, O: Sink, F: Sink>(
     output: &mut O,
     faults: &mut F,
 ) -> Result<Score, PlayError>
-    ensures all { IfOk result (λ score. HasResumed (program_seen program.now) names.now node.0 name.now start (S.left input.old) (S.left input.new)
+    ensures all { IfOk result (λ score. HasResumed (C.reads calls.now) names.now name.now start (S.left input.old) (S.left input.new)
         (R.history reactor.old) (R.history reactor.new) (O.written output.old) (O.written output.new) score) }
-    ensures begun { OnErr result (HasResumedSome (program_seen program.now) names.now node.0 name.now start (S.left input.old)
+    ensures begun { OnErr result (HasResumedSome (C.reads calls.now) names.now name.now start (S.left input.old)
         (R.history reactor.old) (R.history reactor.new) (O.written output.old) (O.written output.new)) }
-    ensures same { (p : PlainProgram) (f : ℕ) → R.is_of reactor.old p f → R.is_of reactor.new p f }
+    ensures same { (p : Program) (f : ℕ) → R.is_of reactor.old p f → R.is_of reactor.new p f }
 {
     write_start(alloc, name, start, output)?;
-    react_on(
-        alloc,
-        program,
-        names,
-        node,
-        entries_at(start),
-        reactor,
-        input,
-        output,
-        faults,
+    let entries = entries_at(start);
+    write_on(
+        alloc, calls, names, entries, reactor, input, output, faults,
     )
 }

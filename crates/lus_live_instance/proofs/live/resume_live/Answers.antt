@@ -12,14 +12,14 @@ pub returns-clause-all : goal.returns-clause-all
 returns-clause-all g c =
     let same : program_seen c.source.result.now ≡ program_of (arc_value c.args.program.now) = search rules in
     let named : c.names.result.now ≡ names_of (program_of (arc_value c.args.program.now)) = search rules in
-    IfOk-weaker c.resume.result _ _
-    (λ score resumed. all_resumed _ _ _ _ _ _ _ (c.resume.ensures.same _ _ c.requires) _ _ same named _ _ _ score resumed)
-    c.resume.ensures.all
+    IfOk-weaker c.react_on.result _ _
+    (λ score resumed. all_resumed _ _ _ _ _ _ _ (c.react_on.ensures.same _ _ c.requires) _ _ same named _ _ _ score resumed)
+    c.react_on.ensures.all
 
 pub returns-clause-begun : goal.returns-clause-begun
 returns-clause-begun g c =
     let same : program_seen c.source.result.now ≡ program_of (arc_value c.args.program.now) = search rules in
     let named : c.names.result.now ≡ names_of (program_of (arc_value c.args.program.now)) = search rules in
-    on_err_weaker c.resume.result
-    (some_resumed _ _ _ _ _ _ _ (c.resume.ensures.same _ _ c.requires) _ _ same named _ _)
-    c.resume.ensures.begun
+    on_err_weaker c.react_on.result
+    (some_resumed _ _ _ _ _ _ _ (c.react_on.ensures.same _ _ c.requires) _ _ same named _ _)
+    c.react_on.ensures.begun

@@ -2,7 +2,7 @@
 
 ghost use Rattle.std.specs.Prelude.{◌≡◌, ◌∷◌, [], IfOk, codes, map, string_bytes};
 ghost use Rattle.lus_devices.specs.Journals.{count_text, head_text, line_text};
-ghost use Rattle.lus_reactions.specs.Reactions.{journal_of, user};
+ghost use Rattle.lus_recovery.specs.Journals.{journal_of, user};
 
 use lus_devices::push_line;
 use lus_play::Speaks;
