@@ -1,6 +1,6 @@
 //! The journal of an instance, line by line.
 
-ghost use Rattle.std.specs.Prelude.{◌≡◌, ◌+◌, ◌<◌, ◌^◌, ℕ, IfOk, string_bytes, true};
+ghost use Rattle.std.specs.Prelude.{◌≡◌, ◌+◌, ◌<◌, ◌≤◌, ◌^◌, ℕ, IfOk, string_bytes, true};
 ghost use Rattle.lus_program.specs.Programs.{Program};
 ghost use Rattle.lus_devices.specs.Journals.{count_text};
 ghost use Rattle.lus_lines.specs.Lines.{IsWholeLine};
@@ -100,12 +100,14 @@ fn judge<R: Reacts>(
     ensures same { (p : Program) (f : ℕ) → R.is_of reactor.old p f → R.is_of reactor.new p f }
 {
     if is_cut_short(line) {
+        reactor.pass();
         return Ok(Turn::Item(Kind::CutShort));
     }
     if begins_journal(line) {
         return Ok(Turn::Ended(Ending::Next));
     }
     if counts(alloc, entries, line)? {
+        reactor.pass();
         return Ok(Turn::Item(Kind::Count));
     }
     match replay_line(alloc, reactor, names, entries + 1, line, right)? {
@@ -143,7 +145,8 @@ fn take_turn<R: Reacts, S: Source>(
 
 /// How many entries an item tells.
 fn told_by(kind: Kind) -> u64
-    ensures { result ≡ told_by kind }
+    ensures told { result ≡ told_by kind }
+    ensures few { result ≤ 1 }
 {
     match kind {
         Kind::Entry => 1,
