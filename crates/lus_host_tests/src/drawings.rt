@@ -115,12 +115,20 @@ fn a_picture_has_the_words_of_its_table(rt: HostRuntime) -> Result<(), Fail> {
 }
 
 /// Texts, and the number of their first line that is none of a journal there.
-const MISTAKEN: [(&str, u64); 16] = [
+const MISTAKEN: [(&str, u64); 21] = [
+    ("", 1),
     ("entries 0\n", 1),
     ("instance k\n", 1),
     ("instance k m", 1),
     ("instance k m\n", 2),
     ("instance k m\nentries 1\n", 2),
+    ("instance k m\nentries 0\n1 a reset -> done\n", 4),
+    ("instance k m\nentries 0\n1 a re# cut short\n", 4),
+    ("instance k m\n1 a reset -> done\ninstance l m\nentries 0\n", 3),
+    (
+        "instance k m\n1 a re# cut short\n1 a reset -> done\nentries 0\n",
+        4,
+    ),
     (
         "instance k m\n1 a step(2, 3) -> (7)\n3 a reset -> done\nentries 2\n",
         3,
