@@ -124,7 +124,10 @@ const MISTAKEN: [(&str, u64); 21] = [
     ("instance k m\nentries 1\n", 2),
     ("instance k m\nentries 0\n1 a reset -> done\n", 4),
     ("instance k m\nentries 0\n1 a re# cut short\n", 4),
-    ("instance k m\n1 a reset -> done\ninstance l m\nentries 0\n", 3),
+    (
+        "instance k m\n1 a reset -> done\ninstance l m\nentries 0\n",
+        3,
+    ),
     (
         "instance k m\n1 a re# cut short\n1 a reset -> done\nentries 0\n",
         4,

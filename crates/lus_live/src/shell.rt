@@ -16,7 +16,9 @@ use lus_cli::{Fault, read_program, tell};
 use lus_devices::{Folder, Sink, Source, write_all};
 use lus_lines::Buffered;
 use lus_live_instance::lus_machine::{NodeId, Program};
-use lus_live_instance::{PlayError, RecoveryError, Score, Start, recover_live, resume_live, run_live};
+use lus_live_instance::{
+    PlayError, RecoveryError, Score, Start, recover_live, resume_live, run_live,
+};
 use std::alloc::Global;
 use std::sync::Arc;
 
@@ -80,15 +82,19 @@ fn go_on<D: Folder, S: Source, O: Sink, F: Sink>(
     let mut line = Vec::new(alloc);
     let mut right = String::new(alloc);
     let recovered = match recover_live(
-        alloc, program, node, name, &mut source, &mut line, &mut right,
+        alloc,
+        program,
+        node,
+        name,
+        &mut source,
+        &mut line,
+        &mut right,
     ) {
         Ok(recovered) => recovered,
         Err(error) => return Err(refuse(error, &line, right.as_bytes(), faults)),
     };
     tell_start(faults, recovered.start);
-    Ok(resume_live(
-        alloc, program, node, name, recovered, input, output, faults,
-    ))
+    Ok(resume_live(alloc, program, node, name, recovered, input, output, faults))
 }
 
 /// Plays the lines of the input on the node. An error is of a fault before the first line, or of the play itself.

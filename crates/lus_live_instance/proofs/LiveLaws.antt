@@ -71,7 +71,7 @@ module _ (p : Program) (f : ℕ) (name : Text) (left : Option Bytes) (w w' : Opt
         → HasLivedOn p f name start left end h w w' score
     all_resumed end score resumed =
         let r = subst (λ ns. HasResumed (IsCallTo p ns f) ns name start left end h m.history w w' score) named
-            (subst (λ x. HasResumed (IsCallTo x names f) names name start left end h m.history w w' score) same resumed) in
+        (subst (λ x. HasResumed (IsCallTo x names f) names name start left end h m.history w w' score) same resumed) in
         record {
           entries = r.entries;
           lawful = subst (History p f) r.entered (lawful_of p f m live);
@@ -82,7 +82,7 @@ module _ (p : Program) (f : ℕ) (name : Text) (left : Option Bytes) (w w' : Opt
     pub some_resumed : HasResumedSome (IsCallTo q names f) names name start left h m.history w w' → HasLivedSomeOn p f name start left h w w'
     some_resumed resumed =
         let r = subst (λ ns. HasResumedSome (IsCallTo p ns f) ns name start left h m.history w w') named
-            (subst (λ x. HasResumedSome (IsCallTo x names f) names name start left h m.history w w') same resumed) in
+        (subst (λ x. HasResumedSome (IsCallTo x names f) names name start left h m.history w w') same resumed) in
         record {
           entries = r.entries;
           lawful = subst (History p f) r.entered (lawful_of p f m live);

@@ -90,7 +90,7 @@ pub fn recover_live<J: Source>(
     line: &mut Vec<u8>,
     right: &mut String,
 ) -> Result<Recovered, RecoveryError>
-    requires { node.0 < length (program_of (arc_value program.now)).nodes }
+    requires { node_named (program_of (arc_value program.now)) name.now ≡ Some node.0 }
     ensures live { IfOk result (λ r. IsLive (program_of (arc_value program.now)) node.0 r.instance.reactor) }
     ensures recovered { IfOk result (λ r. HasRecovered r.start (names_of (program_of (arc_value program.now))) name.now
         (J.left journal.old) [] r.instance.reactor.history) }

@@ -5,7 +5,7 @@ use Rattle.lus_requests.specs.declared.request.Request.{Request}
 use Rattle.lus_requests.specs.declared.request.Entry.{Entry}
 use Rattle.lus_devices.specs.Devices.{Bytes, WritesBeginning, with_front, with_text}
 use Rattle.lus_devices.specs.Journals.{count_text, line_text, lines_text}
-use Rattle.lus_devices.proofs.Laws.{Reaches, reaches_began, reaches_end, reaches_same, reaches_start, reaches_step, reaches_stop}
+use Rattle.lus_devices.proofs.Laws.{Reaches, reaches_began, reaches_end, reaches_same, reaches_start, reaches_step, reaches_stop, with_text-nothing}
 use Rattle.lus_play.specs.Plays.{AsksSome, HasPlayed, HasPlayedAll, texts}
 use Rattle.lus_play.specs.declared.playing.Score.{Score}
 use Rattle.lus_recovery.specs.Journals.{HasWritten, HasWrittenSome, more_text, user}
@@ -44,7 +44,7 @@ module _ (R : Bytes → Option Request → Type 0) (names : Names) (left : Optio
           ∙ ap (λ t. t ++ count_text (k + length es)) (texts_lines names user (k + 1) es)
 
       to_write : (es : List Entry) → Reaches w w (more_text names k es) (texts says n es ++ count_text (k + length es))
-      to_write es = ([], reaches_start w (more_text names k es).1, sym (whole es))
+      to_write es = ([], with_text-nothing w, sym (whole es))
 
       -- the lines were not played to their end
       pub lines_begun : (h' : List Entry) (w2 : Option Bytes) → HasPlayed R says n left h h' w w2 → IsSomeOn h' w2

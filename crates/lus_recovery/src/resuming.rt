@@ -76,7 +76,5 @@ pub fn resume<C: Calls, R: Reacts, S: Source, O: Sink, F: Sink>(
 {
     write_start(alloc, name, start, output)?;
     let entries = entries_at(start);
-    write_on(
-        alloc, calls, names, entries, reactor, input, output, faults,
-    )
+    write_on(alloc, calls, names, entries, reactor, input, output, faults)
 }

@@ -48,9 +48,7 @@ pub fn write_on<C: Calls, R: Reacts, S: Source, O: Sink, F: Sink>(
         callers: &callers,
     };
     let first = entries.checked_add(1).ok_or(PlayError::Full)?;
-    let score = play(
-        alloc, calls, reactor, &lines, first, input, output, faults,
-    )?;
+    let score = play(alloc, calls, reactor, &lines, first, input, output, faults)?;
     let all = entries.checked_add(score.entered).ok_or(PlayError::Full)?;
     let last = count(alloc, all)?;
     write_bytes(output, last.as_bytes())?;
