@@ -7,6 +7,7 @@ use Rattle.std.specs.Option.{option_map_or}
 use Rattle.std.specs.Str.{bytes_eq}
 use Rattle.std.proofs.lemmas.Bool.{and_parts, ne_eqb, false≢true, ltb-true, eqb-true, not-false}
 use Rattle.std.proofs.lemmas.Grind.{flat_map-append}
+use Rattle.std.proofs.lemmas.List.Elements.{All-pop}
 use Rattle.std.proofs.lemmas.List.Splits.{join_with_byte-slice_split}
 use Rattle.std.proofs.lemmas.List.Sums.{split_at_first, prefix_len_stops}
 use Rattle.std.proofs.lemmas.Option.{none-some, same_Some, cond_some, option_and_then_some}
@@ -40,8 +41,7 @@ not-true true h = absurd (false≢true h)
 not-true false h = refl
 
 plain_parts : (js : List Journal) (j : Journal) → All IsPlain (js ++ j ∷ []) → All IsPlain js × IsPlain j
-plain_parts [] j all = (tt, all.0)
-plain_parts (k ∷ js) j all = let rest = plain_parts js j all.1 in ((all.0, rest.0), rest.1)
+plain_parts js j all = All-pop IsPlain (js ++ j ∷ []) js (Some j) refl all
 
 -- a text is what stands before its mark, the mark, and what stands behind it
 cut_text : (mark : ℕ) (t : Text) (p : Text × Text) → cut mark t ≡ Some p → t ≡ p.0 ++ mark ∷ p.1
