@@ -14,7 +14,7 @@ use Rattle.lus_recovery.specs.declared.recovering.Start.TheVariants as starts
 -- further entries, and how many there are of all
 ended_text : (names : Names) (k : ℕ) (es : List Entry) → items_text names k (ended es) ≡ more_text names k es
 ended_text names k [] =
-    let same : k ≡ k + length [] = omega arith in
+    let same : k ≡ k + 0 = omega arith in
     append-nil (count_text k) ∙ ap count_text same
 ended_text names k (e ∷ es) =
     let same : k + 1 + length es ≡ k + length (e ∷ es) = omega arith in
@@ -25,7 +25,7 @@ ended_text names k (e ∷ es) =
 items_append : (names : Names) (k : ℕ) (is js : List Item)
     → items_text names k (is ++ js) ≡ items_text names k is ++ items_text names (k + length (saids_of is)) js
 items_append names k [] js =
-    let same : k ≡ k + length [] = omega arith in
+    let same : k ≡ k + 0 = omega arith in
     ap (λ n. items_text names n js) same
 items_append names k (i ∷ is) js =
     let same : k + length (said_in i) + length (saids_of is) ≡ k + length (saids_of (i ∷ is)) = omega (arith, length-append (said_in i) (saids_of is)) in
@@ -50,7 +50,7 @@ module _ (names : Names) (k : ℕ) (items : List Item) (es : List Entry) (counte
 
   cut_item : (tail : Bytes) → items_text names k (CutShort tail ∷ ended es) ≡ tail ++ (cut_mark ++ more_text names k es)
   cut_item tail =
-      let same : k + length [] ≡ k = omega arith in
+      let same : k + 0 ≡ k = omega arith in
       ap (λ n. (tail ++ cut_mark) ++ items_text names n (ended es)) same
       ∙ append_assoc tail cut_mark (items_text names k (ended es))
       ∙ ap (λ t. tail ++ (cut_mark ++ t)) (ended_text names k es)

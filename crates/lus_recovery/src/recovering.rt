@@ -1,6 +1,6 @@
 //! Reading a journal, up to where a run goes on.
 
-ghost use Rattle.std.specs.Prelude.{◌≡◌, ℕ, IfOk};
+ghost use Rattle.std.specs.Prelude.{◌≡◌, ℕ, IfOk, OnOk};
 ghost use Rattle.lus_program.specs.Programs.{Program};
 ghost use Rattle.lus_recovery.specs.Recoveries.{BeginsHead, HasRecovered, StartsAt};
 
@@ -30,6 +30,17 @@ fn start_in_head(first: &[u8], bytes: &[u8]) -> Result<Start, RecoveryError>
 {
     if first.starts_with(bytes) {
         Ok(Start::Head(bytes.len()))
+    } else {
+        Err(RecoveryError::Line(1))
+    }
+}
+
+/// Sees whether a line is the first of the journal.
+fn check_first(first: &[u8], line: &[u8]) -> Result<(), RecoveryError>
+    ensures { OnOk result (line.now ≡ first.now) }
+{
+    if line == first {
+        Ok(())
     } else {
         Err(RecoveryError::Line(1))
     }
@@ -67,12 +78,10 @@ pub fn recover<R: Reacts, J: Source>(
     let first = head(alloc, name)?;
     match read_whole_line(journal, line)? {
         Whole::End => return Ok(Start::Head(0)),
-        Whole::Unfinished => return start_in_head(first.as_bytes(), line),
+        Whole::Unfinished => return start_in_head(first.as_bytes(), line.as_slice()),
         Whole::Line => {}
     }
-    if line.as_slice() != first.as_bytes() {
-        return Err(RecoveryError::Line(1));
-    }
+    check_first(first.as_bytes(), line.as_slice())?;
     let replayed = replay(alloc, reactor, names, journal, line, right)?;
     start_behind(replayed)
 }

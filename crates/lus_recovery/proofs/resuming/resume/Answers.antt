@@ -16,7 +16,7 @@ returns-clause-all g c =
     (λ score written. resumed_all _ _ _ _ _ _ _ _ c.in_ok-write_start.ensures.whole _ _ _ score
     (subst (λ k. HasWritten (g.C.Calls.reads c.args.calls.now) c.args.names.now k (g.S.Source.left c.args.input.now) (g.S.Source.left c.write_on.new.input)
     (g.R.Reacts.history c.args.reactor.now) (g.R.Reacts.history c.write_on.new.reactor) (g.O.Sink.written c.write_start.new.output)
-    (g.O.Sink.written c.write_on.new.output) score) c.entries_at.ensures written))
+    (g.O.Sink.written c.write_on.new.output) score) c.entries_at-entries.ensures written))
     c.write_on.ensures.all
 
 pub returns-clause-begun : goal.returns-clause-begun
@@ -25,5 +25,5 @@ returns-clause-begun g c =
     (λ written. resumed_some _ _ _ _ _ _ _ _ c.in_ok-write_start.ensures.whole _ _
     (subst (λ k. HasWrittenSome (g.C.Calls.reads c.args.calls.now) c.args.names.now k (g.S.Source.left c.args.input.now)
     (g.R.Reacts.history c.args.reactor.now) (g.R.Reacts.history c.write_on.new.reactor) (g.O.Sink.written c.write_start.new.output)
-    (g.O.Sink.written c.write_on.new.output)) c.entries_at.ensures written))
+    (g.O.Sink.written c.write_on.new.output)) c.entries_at-entries.ensures written))
     c.write_on.ensures.begun
