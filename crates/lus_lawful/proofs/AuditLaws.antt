@@ -1,5 +1,5 @@
 -- Journals that are replayed, one behind another.
-use Rattle.std.proofs.Common.{◌≡◌, ◌∙◌, ◌+◌, ◌++◌, ℕ, true, false, refl, ap, sym, subst, List, [], ◌∷◌, length, Option, Some, None, arith, codes}
+use Rattle.std.proofs.Common.{◌≡◌, ◌∙◌, ◌+◌, ◌++◌, ℕ, Bool, true, false, refl, ap, sym, subst, List, [], ◌∷◌, length, Option, Some, None, arith, codes}
 use Rattle.std.specs.List.{flat_map}
 use Rattle.std.proofs.lemmas.List.{flat_map_more}
 use Rattle.std.proofs.lemmas.List.Elements.{All-nil, All-push}
@@ -9,7 +9,9 @@ use Rattle.lus_program.specs.Programs.{Program}
 use Rattle.lus_requests.specs.declared.request.Entry.{Entry}
 use Rattle.lus_devices.specs.Devices.{AtEnd, Bytes, with_front}
 use Rattle.lus_devices.proofs.Laws.{with_front-more}
-use Rattle.lus_lines.specs.Lines.{IsLast}
+use Rattle.lus_lines.specs.Lines.{HasReadWhole}
+use Rattle.lus_lines.specs.declared.whole.Whole.{Whole}
+use Rattle.lus_lines.specs.declared.whole.Whole.TheVariants as wholes
 use Rattle.lus_live_instance.specs.MachineSpecs.Constructors.{names_of}
 use Rattle.lus_live_instance.specs.MachineSpecs.Formals.{node_named}
 use Rattle.lus_live_instance.specs.MachineSpecs.HistorySpecs.Histories.{History}
@@ -99,16 +101,16 @@ module _ (p : Program) (f : ℕ) (instance node : Text) (named : node_named p no
         end_before lived.replayed.mid later ends.0.read ends.0.over,
       )
 
-  pub journal_wrong : r.ending ≡ endings.Wrong → new ≡ old ++ wrong_text instance (behind + 1) line right
+  pub journal_wrong : (number : ℕ) → number ≡ behind + 1 → r.ending ≡ endings.Wrong → new ≡ old ++ wrong_text instance number line right
       → TurnIs turns.Wrong p lines (with_front front left) later line old new
-  journal_wrong is reported =
+  journal_wrong number next is reported =
       let d = lived.replayed in
       let ends = ended endings.Wrong is in
       let wrong = ends.1 in
       let count = length (saids_of journal.items) in
       let n : r.entries + 1 ≡ count + 1 = ap (λ k. k + 1) d.entries in
       let spelled : right ≡ said_line names (count + 1) wrong.said = wrong.spelled ∙ ap (λ k. said_line names k wrong.said) n in (
-        wrong_text instance (behind + 1) line right,
+        wrong_text instance number line right,
         record {
           before = journal;
           node = f;
@@ -120,7 +122,7 @@ module _ (p : Program) (f : ℕ) (instance node : Text) (named : node_named p no
           asked = subst (λ k. BeginsAsked names wrong.said.caller k wrong.said.request line) n wrong.asked;
           lawful = subst (History p f) (wrong.entered ∙ ap (λ es. es ++ entry_said wrong.said ∷ []) d.replays.entered) lived.lawful;
           differs = λ same. wrong.differs (same ∙ sym spelled);
-          reported = ap (λ k. wrong_text instance (k + 1) line right) lines_are
+          reported = ap (λ k. wrong_text instance k line right) (next ∙ ap (λ k. k + 1) lines_are)
               ∙ ap (wrong_text instance (lines + line_count journal + 1) line) spelled;
         },
         reported,
@@ -186,7 +188,14 @@ module _ (p : Program) (left : Option Bytes) where
           turn.2,
         )
 
+-- what was found behind the first line is found of all
+pub line_audited : (p : Program) (is_lawful : Bool) (left mid : Option Bytes) (first report : Text) (w : Whole) → w ≡ wholes.Line
+    → HasReadWhole w first left mid → HasAudited p is_lawful (with_front first mid) report → HasAudited p is_lawful left report
+line_audited p is_lawful left mid first report w is read audited =
+    let line = subst (λ x. HasReadWhole x first left mid) is read in subst (λ l. HasAudited p is_lawful l report) (sym line.1) audited
+
 -- there is no journal
-pub none_audited : (p : Program) (left later : Option Bytes) (report : Text) → IsLast [] left later → report ≡ [] → HasAudited p true left report
-none_audited p left later report last none =
-    (left, 0, none_yet p left report none, end_before left later last.read last.over)
+pub none_audited : (p : Program) (left later : Option Bytes) (first report : Text) (w : Whole) → w ≡ wholes.End → HasReadWhole w first left later → report ≡ []
+    → HasAudited p true left report
+none_audited p left later first report w is read none =
+    let last = subst (λ x. HasReadWhole x first left later) is read in (left, 0, none_yet p left report none, end_before left later last.read last.over)

@@ -1,6 +1,6 @@
 //! Audits.
 
-ghost use Rattle.std.specs.Prelude.{◌≡◌, ◌+◌, ◌<◌, ◌++◌, IfOk, OnOk, Some, [], codes, length, string_bytes};
+ghost use Rattle.std.specs.Prelude.{◌≡◌, ◌+◌, ◌<◌, ◌++◌, IfOk, OnOk, Some, [], codes, length, string_bytes, true};
 ghost use Rattle.std.specs.Arc.{arc_value};
 ghost use Rattle.lus_devices.specs.Devices.{with_front};
 ghost use Rattle.lus_live_instance.specs.MachineSpecs.CodeSpecs.Codes.{program_of};
@@ -112,6 +112,24 @@ fn lines_behind(lines: u64, further: u64) -> Result<u64, AuditError>
     lines.checked_add(further).ok_or(AuditError::Memory)
 }
 
+/// How many lines these are, a journal's first and so many behind it.
+fn lines_with(lines: u64, items: u64) -> Result<u64, AuditError>
+    ensures { IfOk result (λ n. n ≡ lines + items + 1) }
+{
+    lines_behind(lines_behind(lines, items)?, 1)
+}
+
+/// A journal ends with the number of its entries; else this is the line that isn't right.
+fn check_counted(is_counted: bool, line: u64) -> Result<(), AuditError>
+    ensures { OnOk result (is_counted ≡ true) }
+{
+    if is_counted {
+        Ok(())
+    } else {
+        Err(AuditError::Line(line))
+    }
+}
+
 /// Reports a lawful journal, and adds the reasons of its refusals.
 fn report_lawful(
     instance: &str,
@@ -148,22 +166,24 @@ fn audit_journal<S: Source>(
     let replayed = replay_new(
         alloc, program, node, source, line, &mut right, reasons, &mut said,
     )?;
-    let behind = lines_behind(lines_behind(lines, replayed.lines)?, 1)?;
+    let behind = lines_with(lines, replayed.lines)?;
     let number = lines_behind(behind, 1)?;
     match replayed.ending {
         Ending::Wrong => {
             push_wrong(report, head.instance, number, line, &right)?;
             Ok(Turn::Wrong)
         }
-        Ending::Next if replayed.is_counted => {
+        Ending::Next => {
+            check_counted(replayed.is_counted, number)?;
             report_lawful(head.instance, &said, report, reasoned)?;
             Ok(Turn::Next(behind))
         }
-        Ending::End if replayed.is_counted => {
+        Ending::End => {
+            check_counted(replayed.is_counted, number)?;
             report_lawful(head.instance, &said, report, reasoned)?;
             Ok(Turn::Last)
         }
-        Ending::Next | Ending::End | Ending::Cut | Ending::NoEntry => Err(AuditError::Line(number)),
+        Ending::Cut | Ending::NoEntry => Err(AuditError::Line(number)),
     }
 }
 
@@ -202,7 +222,7 @@ fn audit_all<S: Source>(
     reasoned: &mut Reasoned,
     report: &mut Vec<u8>,
 ) -> Result<bool, AuditError>
-    requires { report.now.items ≡ [] }
+    requires { report.old.items ≡ [] }
     ensures { IfOk result (λ is_lawful. HasAudited (program_of (arc_value program.now)) is_lawful
         (with_front first.items (S.left source.old)) report.new.items) }
 {
@@ -240,14 +260,20 @@ pub fn audit<S: Source>(
         is_asked: is_why,
         text: Vec::new(alloc),
     };
-    let is_lawful = match read_whole_line(source, &mut first)? {
-        Whole::Line => audit_all(alloc, program, first, source, &mut reasoned, &mut text)?,
-        Whole::Unfinished => return Err(AuditError::Line(1)),
-        Whole::End => true,
-    };
-    Ok(Report {
-        is_lawful,
-        text,
-        reasons: reasoned.text,
-    })
+    match read_whole_line(source, &mut first)? {
+        Whole::Line => {
+            let is_lawful = audit_all(alloc, program, first, source, &mut reasoned, &mut text)?;
+            Ok(Report {
+                is_lawful,
+                text,
+                reasons: reasoned.text,
+            })
+        }
+        Whole::Unfinished => Err(AuditError::Line(1)),
+        Whole::End => Ok(Report {
+            is_lawful: true,
+            text,
+            reasons: reasoned.text,
+        }),
+    }
 }

@@ -10,13 +10,15 @@ use Rattle.lus_requests.specs.declared.request.Entry.{Entry}
 use Rattle.lus_devices.specs.Devices.{Bytes, with_front}
 use Rattle.lus_devices.proofs.Laws.{with_front-more}
 use Rattle.lus_lines.specs.Lines.{IsPlain, IsWholeLine}
+use Rattle.lus_replay.specs.declared.line.Verdict.{Verdict}
+use Rattle.lus_replay.specs.declared.line.Verdict.TheVariants as verdicts
 use Rattle.lus_replay.specs.declared.replaying.Ending.{Ending}
 use Rattle.lus_replay.specs.declared.replaying.Ending.TheVariants as endings
 use Rattle.lus_replay.specs.declared.replaying.Kind.{Kind}
 use Rattle.lus_replay.specs.declared.replaying.Kind.TheVariants as kinds
 use Rattle.lus_replay.specs.declared.replaying.Turn.{Turn}
 use Rattle.lus_replay.specs.declared.replaying.Turn.TheVariants as turns
-use Rattle.lus_replay.specs.Replays.{BeginsJournal, Counted, CutShort, EndsSo, HasReplayed, IsCutShort, IsItem, IsItemLine, IsRight, Item, LineIs, Replays, Said, Told, TurnIs, cut_mark, ends_counted, entry_said, is_count, item_text, items_text, kind_of, said_in, saids_of, told_by}
+use Rattle.lus_replay.specs.Replays.{BeginsJournal, Counted, CutShort, EndsSo, HasReplayed, IsCutShort, IsItem, IsItemLine, IsJudged, Item, LineIs, Replays, Said, Told, TurnIs, cut_mark, ends_counted, entry_said, is_count, item_text, items_text, kind_of, said_in, saids_of, told_by}
 
 front_nothing : (left : Option Bytes) → left ≡ with_front [] left
 front_nothing None = refl
@@ -67,26 +69,27 @@ tail_plain line tail whole is =
     (sym whole.ended ∙ is ∙ sym (append_assoc tail (codes "# cut short") (10 ∷ []))) in
     plain_left tail (codes "# cut short") (subst IsPlain same whole.plain)
 
-pub cut_line : (names : Names) (k : ℕ) (line right : Text) (h : List Entry) → IsWholeLine line → IsCutShort line
-    → LineIs (turns.Item kinds.CutShort) names k line right h h
-cut_line names k line right h whole cut =
-    record { item = CutShort cut.0; kind_is = refl; spelled = cut.1; entered = sym (append-nil h); plain = tail_plain line cut.0 whole cut.1 }
+pub cut_line : (names : Names) (k : ℕ) (line right : Text) (h h' : List Entry) → IsWholeLine line → IsCutShort line → h' ≡ h
+    → LineIs (turns.Item kinds.CutShort) names k line right h h'
+cut_line names k line right h h' whole cut still =
+    record { item = CutShort cut.0; kind_is = refl; spelled = cut.1; entered = still ∙ sym (append-nil h); plain = tail_plain line cut.0 whole cut.1 }
 
 pub count_line : (names : Names) (k : ℕ) (line right : Text) (h : List Entry) → line ≡ item_text names k Counted
     → LineIs (turns.Item kinds.Count) names k line right h h
 count_line names k line right h is = record { item = Counted; kind_is = refl; spelled = is; entered = sym (append-nil h); plain = tt }
 
-pub entry_line : (names : Names) (k : ℕ) (line right : Text) (h h' : List Entry) → IsRight names (k + 1) line h h'
-    → LineIs (turns.Item kinds.Entry) names k line right h h'
-entry_line names k line right h h' is =
-    record { item = Told is.said; kind_is = refl; spelled = is.spelled; entered = is.entered; plain = tt }
+pub entry_line : (names : Names) (k : ℕ) (line right : Text) (h h' : List Entry) (v : Verdict) → v ≡ verdicts.Right
+    → IsJudged v names (k + 1) line right h h' → LineIs (turns.Item kinds.Entry) names k line right h h'
+entry_line names k line right h h' v is judged =
+    let entry = subst (λ w. IsJudged w names (k + 1) line right h h') is judged in
+    record { item = Told entry.said; kind_is = refl; spelled = entry.spelled; entered = entry.entered; plain = tt }
 
 -- a line that was read and is judged
 pub turned : (names : Names) (k : ℕ) (left later : Option Bytes) (h h' : List Entry) (line right : Text) (t : Turn) → IsWholeLine line
     → left ≡ with_front line later → LineIs t names k line right h h' → TurnIs t names k left later h h' line right
 turned names k left later h h' line right (turns.Item kind) whole read is = (read, is)
 turned names k left later h h' line right (turns.Ended endings.End) whole read is = absurd is
-turned names k left later h h' line right (turns.Ended endings.Next) whole read is = (read, whole, is)
+turned names k left later h h' line right (turns.Ended endings.Next) whole read is = (read, whole, is.0, is.1)
 turned names k left later h h' line right (turns.Ended endings.Cut) whole read is = absurd is
 turned names k left later h h' line right (turns.Ended endings.Wrong) whole read is = (read, is)
 turned names k left later h h' line right (turns.Ended endings.NoEntry) whole read is = tt
@@ -109,8 +112,8 @@ module _ (names : Names) (left mid : Option Bytes) (h m : List Entry) (k n : ℕ
       let i = item.item in
       let told : told_by kind ≡ length (said_in i) = ap told_by item.kind_is ∙ told_of i in
       let entries = so_far.1 in
-      let lines = so_far.2.1 in
-      let so = so_far.2.2.2 in
+      let lines = so_far.2 in
+      let so = so_far.4 in
       let more : k + told_by kind ≡ length (saids_of (is ++ i ∷ [])) =
       ap₂ (λ x y. x + y) entries told ∙ sym (length-append (saids_of is) (said_in i)) ∙ ap length (sym (saids_more is i)) in
       let longer : n + 1 ≡ length (is ++ i ∷ []) = omega (arith, length-append is (i ∷ []), lines) in
@@ -144,8 +147,8 @@ module _ (names : Names) (left mid : Option Bytes) (h m : List Entry) (k n : ℕ
     mid = mid;
     past = m;
     entries = so_far.1;
-    lines = so_far.2.1;
-    counted = so_far.2.2.1;
-    replays = so_far.2.2.2;
+    lines = so_far.2;
+    counted = so_far.3;
+    replays = so_far.4;
     ends = subst (λ x. TurnIs x names k mid later m h' line right) is turn;
   }
