@@ -1,6 +1,6 @@
 -- Journals that are replayed, line by line.
-use Rattle.std.proofs.Common.{◌≡◌, ◌∙◌, ◌+◌, ◌++◌, ℕ, Bool, refl, ap, ap₂, sym, subst, List, [], ◌∷◌, length, map, Option, Some, None, append_assoc, append-nil, arith, length-append, true, codes, not, nat_eq}
-use Rattle.std.specs.List.{All, list_all}
+use Rattle.std.proofs.Common.{◌≡◌, ◌∙◌, ◌+◌, ◌++◌, ℕ, Bool, refl, ap, ap₂, sym, subst, List, [], ◌∷◌, length, map, Option, Some, None, append_assoc, append-nil, arith, length-append, codes, not, nat_eq}
+use Rattle.std.specs.List.{list_all}
 use Rattle.std.proofs.lemmas.List.{append_cancel_right, map-append}
 use Rattle.std.proofs.lemmas.List.Elements.{All-nil, All-push}
 use Rattle.std.proofs.lemmas.List.Folds.{list_all-append}
@@ -18,7 +18,7 @@ use Rattle.lus_replay.specs.declared.replaying.Kind.{Kind}
 use Rattle.lus_replay.specs.declared.replaying.Kind.TheVariants as kinds
 use Rattle.lus_replay.specs.declared.replaying.Turn.{Turn}
 use Rattle.lus_replay.specs.declared.replaying.Turn.TheVariants as turns
-use Rattle.lus_replay.specs.Replays.{BeginsJournal, Counted, CutShort, EndsSo, HasReplayed, IsCutShort, IsItem, IsItemLine, IsJudged, Item, LineIs, Replays, Said, Told, TurnIs, cut_mark, ends_counted, entry_said, is_count, item_text, items_text, kind_of, said_in, saids_of, told_by}
+use Rattle.lus_replay.specs.Replays.{Counted, CutShort, HasReplayed, IsCutShort, IsItem, IsItemLine, IsJudged, Item, LineIs, Replays, Told, TurnIs, cut_mark, ends_counted, entry_said, is_count, item_text, items_text, kind_of, said_in, saids_of, told_by}
 
 front_nothing : (left : Option Bytes) → left ≡ with_front [] left
 front_nothing None = refl
@@ -69,9 +69,9 @@ tail_plain line tail whole is =
     (sym whole.ended ∙ is ∙ sym (append_assoc tail (codes "# cut short") (10 ∷ []))) in
     plain_left tail (codes "# cut short") (subst IsPlain same whole.plain)
 
-pub cut_line : (names : Names) (k : ℕ) (line right : Text) (h h' : List Entry) → IsWholeLine line → IsCutShort line → h' ≡ h
-    → LineIs (turns.Item kinds.CutShort) names k line right h h'
-cut_line names k line right h h' whole cut still =
+pub cut_line : (names : Names) (k : ℕ) (line : Text) (h h' : List Entry) → IsWholeLine line → IsCutShort line → h' ≡ h
+    → IsItemLine kinds.CutShort names k line h h'
+cut_line names k line h h' whole cut still =
     record { item = CutShort cut.0; kind_is = refl; spelled = cut.1; entered = still ∙ sym (append-nil h); plain = tail_plain line cut.0 whole cut.1 }
 
 pub count_line : (names : Names) (k : ℕ) (line right : Text) (h : List Entry) → line ≡ item_text names k Counted
@@ -117,7 +117,8 @@ module _ (names : Names) (left mid : Option Bytes) (h m : List Entry) (k n : ℕ
       let more : k + told_by kind ≡ length (saids_of (is ++ i ∷ [])) =
       ap₂ (λ x y. x + y) entries told ∙ sym (length-append (saids_of is) (said_in i)) ∙ ap length (sym (saids_more is i)) in
       let longer : n + 1 ≡ length (is ++ i ∷ []) = omega (arith, length-append is (i ∷ []), lines) in
-      let spelled : line ≡ item_text names (0 + length (saids_of is)) i = item.spelled ∙ ap (λ j. item_text names j i) entries in (
+      let place : k ≡ 0 + length (saids_of is) = omega (arith, entries) in
+      let spelled : line ≡ item_text names (0 + length (saids_of is)) i = item.spelled ∙ ap (λ j. item_text names j i) place in (
         is ++ i ∷ [],
         more,
         longer,

@@ -1,5 +1,5 @@
 -- By what `ends_with` says.
-use Rattle.std.proofs.Common.{◌-◌, ◌++◌, ◌∙◌, ap, drop, length, take}
+use Rattle.std.proofs.Common.{◌-◌, ◌++◌, ◌∙◌, ap, length, take}
 use Rattle.std.proofs.lemmas.Bool.Decides.{Decides-eqb}
 use Rattle.std.proofs.lemmas.Slice.Eq.{ends_is}
 use Rattle.lus_replay.proofs.replaying.is_cut_short.Goals as goal
