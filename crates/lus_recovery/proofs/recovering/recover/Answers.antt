@@ -10,7 +10,7 @@ use Rattle.lus_recovery.proofs.recovering.recover.Goals as goal
 pub returns-in-Unfinished-clause-recovered : goal.returns-in-Unfinished-clause-recovered
 returns-in-Unfinished-clause-recovered g c =
     let read = subst (λ r. HasReadWhole r c.read_whole_line.new.line.items (g.J.Source.left c.args.journal.now) (g.J.Source.left c.read_whole_line.new.source))
-        c.in-Unfinished.is c.in_ok-read_whole_line.ensures in
+    c.in-Unfinished.is c.in_ok-read_whole_line.ensures in
     IfOk-weaker c.start_in_head.result _ _
     (λ start begins. head_recovered start _ _ _ _ _ _ _ (c.as_bytes.ensures.value ∙ c.in_ok-first.ensures)
     (subst (λ bytes. IsLast bytes (g.J.Source.left c.args.journal.now) (g.J.Source.left c.read_whole_line.new.source)) (sym c.as_slice.ensures.value) read.0)
@@ -20,7 +20,7 @@ returns-in-Unfinished-clause-recovered g c =
 pub returns-clause-recovered : goal.returns-clause-recovered
 returns-clause-recovered g c =
     let read = subst (λ r. HasReadWhole r c.read_whole_line.new.line.items (g.J.Source.left c.args.journal.now) (g.J.Source.left c.read_whole_line.new.source))
-        c.in-Line.is c.in_ok-read_whole_line.ensures in
+    c.in-Line.is c.in_ok-read_whole_line.ensures in
     let same : c.read_whole_line.new.line.items ≡ head_of c.args.name.now =
     sym c.as_slice-2.ensures.value ∙ c.in_ok-check_first.ensures ∙ c.as_bytes-2.ensures.value ∙ c.in_ok-first.ensures in
     IfOk-weaker c.start_behind.result _ _
