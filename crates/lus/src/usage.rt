@@ -42,16 +42,18 @@ Status: 0 lawful, 1 the program is refused, 2 a wrong line, or no journal,
 3 a file or the output fails, 4 out of memory.
 ";
 
-const LIVE: &str = "usage: lus_live PROGRAM NODE
+const LIVE: &str = "usage: lus_live PROGRAM NODE [JOURNAL]
 
 Runs a node in a pipe: reads calls from standard input, a line of JSON each, and writes the
-entry of each before it reads the next.
+entry of each before it reads the next. It goes on behind JOURNAL, which it replays first:
+`lus_live PROGRAM NODE log < calls >> log`, also after a kill at any moment.
 
   [18, 19, 22]                 a step with the inputs in their order, null for an absent one
   {\"inputs\": {\"low\": 19, ..}}  a step with the inputs by their names
   {\"reset\": true}, {\"save\": 0}, {\"restore\": 0}, {\"burst\": [[..], ..]}
 
-Status: 0 all lines were calls, 1 the program is refused, 2 some were no calls, 3 and 4 as lus.
+Status: 0 all lines were calls, 1 the program is refused, 2 some were no calls, or a line of
+JOURNAL isn't right, 3 and 4 as lus.
 ";
 
 /// The usage of a tool for people; `lus` is none.

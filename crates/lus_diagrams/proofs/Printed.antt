@@ -1,12 +1,13 @@
 -- What is read of a text has that text.
-use Rattle.std.proofs.Common.{◌≡◌, ◌+◌, ◌<◌, ◌==◌, ◌&&◌, ℕ, List, [], ◌∷◌, ◌++◌, ap, sym, refl, ◌∙◌, length, get_or, arith, Bool, true, false, Result, Ok, Err, Option, Some, None, append_assoc, append-nil}
-use Rattle.std.specs.Prelude.{if◌then◌else◌, codes, nat_lt, not, is_none, option_map}
+use Rattle.std.proofs.Common.{subst, ◌≡◌, ◌+◌, ◌<◌, ◌==◌, ◌&&◌, ℕ, List, [], ◌∷◌, ◌++◌, ap, sym, refl, ◌∙◌, length, get_or, arith, Bool, true, false, Result, Ok, Err, Option, Some, None, append_assoc, append-nil}
+use Rattle.std.specs.Prelude.{if◌then◌else◌, codes, nat_lt, not, is_some, option_map}
 use Rattle.std.specs.Fmt.{decimal}
-use Rattle.std.specs.List.{position_or_len, join_with_byte, slice_split}
+use Rattle.std.specs.List.{All, position_or_len, join_with_byte, slice_split}
 use Rattle.std.specs.Option.{option_map_or}
 use Rattle.std.specs.Str.{bytes_eq}
 use Rattle.std.proofs.lemmas.Bool.{and_parts, ne_eqb, false≢true, ltb-true, eqb-true, not-false}
 use Rattle.std.proofs.lemmas.Grind.{flat_map-append}
+use Rattle.std.proofs.lemmas.List.Elements.{All-pop}
 use Rattle.std.proofs.lemmas.List.Splits.{join_with_byte-slice_split}
 use Rattle.std.proofs.lemmas.List.Sums.{split_at_first, prefix_len_stops}
 use Rattle.std.proofs.lemmas.Option.{none-some, same_Some, cond_some, option_and_then_some}
@@ -18,9 +19,9 @@ use Rattle.lus_diagrams.specs.Rows.{are_rows}
 use Rattle.lus_diagrams.specs.Accepted.{accepted_rows}
 use Rattle.lus_diagrams.specs.Entries.{Entry, Request, Reply, step, burst, reset, save, restore, outputs, rows, done, refused, agree, step_request, burst_request, opened_request, slot_request, worded_request, other_request, request_at, request_of, is_refusal, outputs_reply, rows_reply, opened_reply, plain_reply, other_reply, reply_at, reply_of, call_of, entry_of}
 use Rattle.lus_diagrams.specs.Journals as journals
-use Rattle.lus_diagrams.specs.Journals.{Journal, Reading, head_of, is_count, is_count_at, arity_over, begun, with_entry, opened, step_within, step_at, ended, run, nothing_read, journals_of}
+use Rattle.lus_diagrams.specs.Journals.{Journal, Reading, head_of, is_count, is_count_at, is_cut_short, arity_over, begun, with_entry, opened, next_opened, gone_on, step_within, step_at, closed, ended, run, nothing_read, journals_of}
 use Rattle.lus_diagrams.proofs.Ends.{end_text}
-use Rattle.lus_diagrams.specs.Printed.{in_row, request_text, reply_text, entry_line, entries_text, head_line, opening_text, journal_text, journals_text}
+use Rattle.lus_diagrams.specs.Printed.{in_row, request_text, reply_text, entry_line, entries_text, head_line, opening_text, journal_text, journals_text, IsPlain}
 
 -- ---- tests
 
@@ -34,6 +35,13 @@ if_cases false x z y h f g = g refl h
 no_text : (t : Text) → (length t == 0) ≡ true → t ≡ []
 no_text [] h = refl
 no_text (b ∷ bs) h = absurd (omega (arith, eqb-true (length (b ∷ bs)) 0 h))
+
+not-true : (b : Bool) → not b ≡ true → b ≡ false
+not-true true h = absurd (false≢true h)
+not-true false h = refl
+
+plain_parts : (js : List Journal) (j : Journal) → All IsPlain (js ++ j ∷ []) → All IsPlain js × IsPlain j
+plain_parts js j all = All-pop IsPlain (js ++ j ∷ []) js (Some j) refl all
 
 -- a text is what stands before its mark, the mark, and what stands behind it
 cut_text : (mark : ℕ) (t : Text) (p : Text × Text) → cut mark t ≡ Some p → t ≡ p.0 ++ mark ∷ p.1
@@ -224,85 +232,205 @@ entries_more n (x ∷ es) e =
     ∙ ap (λ t. entry_line n x ++ 10 ∷ (t ++ (entry_line (n + length (x ∷ es)) e ++ 10 ∷ []))) (sym (append-nil _))
     ∙ sym (append_assoc (entry_line n x) (10 ∷ (entries_text (n + 1) es ++ [])) (entry_line (n + length (x ∷ es)) e ++ 10 ∷ []))
 
+-- what is read of its last line so far
+abbrev count_part : Bool → Journal → Text
+count_part true j = codes "entries " ++ (decimal (length j.entries) ++ 10 ∷ [])
+count_part false j = []
+
 abbrev opening_part : Option Journal → Text
 opening_part None = []
-opening_part (Some j) = opening_text j
+opening_part (Some j) = opening_text j ++ count_part j.is_counted j
 
 -- the text of what was read so far
 abbrev reading_text : Reading → Text
 reading_text r = journals_text r.whole ++ opening_part r.open_one
 
-begun_text : (n : ℕ) (line : Text) (j : Journal) → begun n line ≡ Some j → opening_text j ≡ line ++ 10 ∷ []
-begun_text n line j h =
-    option_map_some _ (head_of line) j h (λ p head is. ap opening_text (sym is) ∙ ap (λ t. t ++ 10 ∷ []) (sym (head_text line p head)))
+-- no line was skipped so far
+abbrev PlainOpen : Option Journal → Type 0
+PlainOpen None = Unit {0}
+PlainOpen (Some j) = IsPlain j
 
-longer_text : (j k : Journal) (line : Text) → with_entry j line ≡ Some k → opening_text k ≡ opening_text j ++ (line ++ 10 ∷ [])
-longer_text j k line h =
+abbrev Plain : Reading → Type 0
+Plain r = All IsPlain r.whole × PlainOpen r.open_one
+
+begun_text : (n : ℕ) (line : Text) (j : Journal) → begun n line ≡ Some j → opening_part (Some j) ≡ line ++ 10 ∷ []
+begun_text n line j h =
+    option_map_some _ (head_of line) j h (λ p head is.
+    ap (λ k. opening_part (Some k)) (sym is) ∙ append-nil _ ∙ ap (λ t. t ++ 10 ∷ []) (sym (head_text line p head)))
+
+-- a journal that isn't counted has no last line yet
+not_counted : (j : Journal) → j.is_counted ≡ false → opening_part (Some j) ≡ opening_text j
+not_counted j h = ap (λ b. opening_text j ++ count_part b j) h ∙ append-nil _
+
+longer_text : (j k : Journal) (line : Text) → with_entry j line ≡ Some k → IsPlain k → opening_part (Some k) ≡ opening_part (Some j) ++ (line ++ 10 ∷ [])
+longer_text j k line h plain =
     option_and_then_some _ (entry_of (length j.entries + 1) line) k h (λ e read g.
     option_and_then_some _ (arity_over j.arity (accepted_rows e)) k g (λ a fits is.
     let says : entry_line (1 + length j.entries) e ≡ line = ap (λ m. entry_line m e) (omega arith) ∙ sym (line_text (length j.entries + 1) line e read) in
-    ap opening_text (sym (same_Some _ _ is))
+    let both : (j.is_plain && not j.is_counted) ≡ true = ap (λ x. x.is_plain) (same_Some _ _ is) ∙ plain in
+    let fresh : j.is_counted ≡ false = not-true _ (and_parts _ _ both).1 in
+    ap (λ x. opening_part (Some x)) (sym (same_Some _ _ is))
+    ∙ append-nil _
     ∙ ap (λ t. head_line j ++ 10 ∷ (t ++ [])) (entries_more 1 j.entries e)
     ∙ ap (λ t. head_line j ++ 10 ∷ t) (append-nil _)
     ∙ ap (λ l. head_line j ++ 10 ∷ (entries_text 1 j.entries ++ (l ++ 10 ∷ []))) says
     ∙ ap (λ t. head_line j ++ 10 ∷ (t ++ (line ++ 10 ∷ []))) (sym (append-nil (entries_text 1 j.entries)))
-    ∙ sym (append_assoc (head_line j) (10 ∷ (entries_text 1 j.entries ++ [])) (line ++ 10 ∷ []))))
+    ∙ sym (append_assoc (head_line j) (10 ∷ (entries_text 1 j.entries ++ [])) (line ++ 10 ∷ []))
+    ∙ ap (λ t. t ++ (line ++ 10 ∷ [])) (sym (not_counted j fresh))))
 
-opened_text : (js : List Journal) (o : Option Journal) (s : Reading) (t : Text) → opened js o ≡ Some s
-    → ((j : Journal) → o ≡ Some j → opening_text j ≡ t) → reading_text s ≡ journals_text js ++ t
-opened_text js o s t h goes = option_map_some _ o s h (λ j is made. ap reading_text (sym made) ∙ ap (λ u. journals_text js ++ u) (goes j is))
+opened_text : (js : List Journal) (o : Option Journal) (s : Reading) (t : Text) → opened js o ≡ Some s → Plain s
+    → ((j : Journal) → o ≡ Some j → IsPlain j → opening_part (Some j) ≡ t) → reading_text s ≡ journals_text js ++ t
+opened_text js o s t h plain goes =
+    option_map_some _ o s h (λ j is made.
+    ap reading_text (sym made) ∙ ap (λ u. journals_text js ++ u) (goes j is (subst PlainOpen (ap (λ r. r.open_one) (sym made)) plain.1)))
 
-ends_text : (js : List Journal) (j : Journal) (line : Text) → line ≡ codes "entries " ++ decimal (length j.entries)
-    → journals_text (js ++ j ∷ []) ≡ (journals_text js ++ opening_text j) ++ (line ++ 10 ∷ [])
-ends_text js j line h =
+-- a journal that is counted has its whole text
+counted_text : (js : List Journal) (j : Journal) → j.is_counted ≡ true → journals_text (js ++ j ∷ []) ≡ journals_text js ++ opening_part (Some j)
+counted_text js j h =
     flat_map-append journal_text js (j ∷ [])
     ∙ ap (λ t. journals_text js ++ t) (append-nil (journal_text j))
-    ∙ ap (λ t. journals_text js ++ (opening_text j ++ t)) (sym (append_assoc (codes "entries ") (decimal (length j.entries)) (10 ∷ [])))
-    ∙ ap (λ l. journals_text js ++ (opening_text j ++ (l ++ 10 ∷ []))) (sym h)
-    ∙ sym (append_assoc (journals_text js) (opening_text j) (line ++ 10 ∷ []))
+    ∙ ap (λ b. journals_text js ++ (opening_text j ++ count_part b j)) (sym h)
 
-step_text_at : (n : ℕ) (js : List Journal) (o : Option Journal) (line : Text) (s : Reading) → step_at n js o line ≡ Some s
+-- the last line of a journal
+count_text_at : (j : Journal) (line : Text) → IsPlain (journals.counted j) → is_count (length j.entries) line ≡ true
+    → opening_part (Some (journals.counted j)) ≡ opening_part (Some j) ++ (line ++ 10 ∷ [])
+count_text_at j line plain is =
+    let fresh : j.is_counted ≡ false = not-true _ (and_parts _ _ plain).1 in
+    ap (λ t. opening_text j ++ t) (sym (append_assoc (codes "entries ") (decimal (length j.entries)) (10 ∷ [])))
+    ∙ ap (λ l. opening_text j ++ (l ++ 10 ∷ [])) (sym (count_at_text (length j.entries) line (cut 32 line) refl is))
+    ∙ ap (λ t. t ++ (line ++ 10 ∷ [])) (sym (not_counted j fresh))
+
+gone_on_text : (js : List Journal) (j : Journal) (line : Text) (s : Reading) → gone_on js j line ≡ Some s → Plain s
+    → reading_text s ≡ (journals_text js ++ opening_part (Some j)) ++ (line ++ 10 ∷ [])
+gone_on_text js j line s h plain =
+    if_cases (is_count (length j.entries) line) (opened js (Some (journals.counted j))) (opened js (with_entry j line)) (Some s) h
+    (λ last is.
+    opened_text js (Some (journals.counted j)) s (opening_part (Some j) ++ (line ++ 10 ∷ [])) is plain (λ k same known.
+    let k_is = same_Some _ _ same in
+    ap (λ x. opening_part (Some x)) (sym k_is) ∙ count_text_at j line (subst IsPlain (sym k_is) known) last)
+    ∙ sym (append_assoc (journals_text js) (opening_part (Some j)) (line ++ 10 ∷ [])))
+    (λ further is.
+    opened_text js (with_entry j line) s (opening_part (Some j) ++ (line ++ 10 ∷ [])) is plain (λ k same known. longer_text j k line same known)
+    ∙ sym (append_assoc (journals_text js) (opening_part (Some j)) (line ++ 10 ∷ [])))
+
+next_text : (n : ℕ) (js : List Journal) (j : Journal) (line : Text) (s : Reading) → next_opened n js j line ≡ Some s → Plain s
+    → reading_text s ≡ (journals_text js ++ opening_part (Some j)) ++ (line ++ 10 ∷ [])
+next_text n js j line s h plain =
+    if_cases j.is_counted (opened (js ++ j ∷ []) (begun n line)) None (Some s) h
+    (λ whole is.
+    opened_text (js ++ j ∷ []) (begun n line) s (line ++ 10 ∷ []) is plain (λ k same known. begun_text n line k same)
+    ∙ ap (λ t. t ++ (line ++ 10 ∷ [])) (counted_text js j whole))
+    (λ part e. absurd (none-some s e))
+
+-- a line that a crash cut short is skipped
+cut_text_at : {P : Type 0} (js : List Journal) (j : Journal) (s : Reading) → opened js (Some (journals.cut_short j)) ≡ Some s → Plain s → P
+cut_text_at js j s h plain =
+    let made = same_Some _ _ h in
+    absurd (false≢true (subst PlainOpen (ap (λ r. r.open_one) (sym made)) plain.1))
+
+within_text : (n : ℕ) (js : List Journal) (j : Journal) (line : Text) (s : Reading) → step_within n js j line ≡ Some s → Plain s
+    → reading_text s ≡ (journals_text js ++ opening_part (Some j)) ++ (line ++ 10 ∷ [])
+within_text n js j line s h plain =
+    if_cases (is_cut_short line) (opened js (Some (journals.cut_short j))) _ (Some s) h
+    (λ cut is. cut_text_at js j s is plain)
+    (λ whole g. if_cases (is_some (head_of line)) (next_opened n js j line) (gone_on js j line) (Some s) g
+    (λ head is. next_text n js j line s is plain)
+    (λ inner is. gone_on_text js j line s is plain))
+
+step_text_at : (n : ℕ) (js : List Journal) (o : Option Journal) (line : Text) (s : Reading) → step_at n js o line ≡ Some s → Plain s
     → reading_text s ≡ (journals_text js ++ opening_part o) ++ (line ++ 10 ∷ [])
-step_text_at n js None line s h =
-    opened_text js (begun n line) s (line ++ 10 ∷ []) h (λ j is. begun_text n line j is) ∙ ap (λ t. t ++ (line ++ 10 ∷ [])) (sym (append-nil _))
-step_text_at n js (Some j) line s h =
-    if_cases (is_count (length j.entries) line) (Some (record { whole = js ++ j ∷ []; open_one = None })) (opened js (with_entry j line)) (Some s) h
-    (λ count is.
-    ap reading_text (sym (same_Some _ _ is)) ∙ append-nil _ ∙ ends_text js j line (count_at_text (length j.entries) line (cut 32 line) refl count))
-    (λ other more.
-    opened_text js (with_entry j line) s (opening_text j ++ (line ++ 10 ∷ [])) more (λ k is. longer_text j k line is)
-    ∙ sym (append_assoc (journals_text js) (opening_text j) (line ++ 10 ∷ [])))
+step_text_at n js None line s h plain =
+    opened_text js (begun n line) s (line ++ 10 ∷ []) h plain (λ k same known. begun_text n line k same)
+    ∙ ap (λ t. t ++ (line ++ 10 ∷ [])) (sym (append-nil (journals_text js)))
+step_text_at n js (Some j) line s h plain = within_text n js j line s h plain
 
-nothing_open : (o : Option Journal) → is_none o ≡ true → opening_part o ≡ []
-nothing_open None h = refl
-nothing_open (Some j) h = absurd (false≢true h)
+-- ---- what is skipped stays known
+
+opened_plain : {P : Type 0} (js : List Journal) (o : Option Journal) (s : Reading) → opened js o ≡ Some s → Plain s
+    → ((j : Journal) → o ≡ Some j → All IsPlain js → IsPlain j → P) → P
+opened_plain js o s h plain goes =
+    option_map_some _ o s h (λ j is made.
+    goes j is (subst (All IsPlain) (ap (λ r. r.whole) (sym made)) plain.0) (subst PlainOpen (ap (λ r. r.open_one) (sym made)) plain.1))
+
+entry_plain : (j k : Journal) (line : Text) → with_entry j line ≡ Some k → IsPlain k → IsPlain j
+entry_plain j k line h plain =
+    option_and_then_some _ (entry_of (length j.entries + 1) line) k h (λ e read g.
+    option_and_then_some _ (arity_over j.arity (accepted_rows e)) k g (λ a fits is.
+    let both : (j.is_plain && not j.is_counted) ≡ true = ap (λ x. x.is_plain) (same_Some _ _ is) ∙ plain in
+    (and_parts _ _ both).0))
+
+step_plain : (n : ℕ) (js : List Journal) (o : Option Journal) (line : Text) (s : Reading) → step_at n js o line ≡ Some s → Plain s
+    → All IsPlain js × PlainOpen o
+step_plain n js None line s h plain = opened_plain js (begun n line) s h plain (λ j is all one. (all, tt))
+step_plain n js (Some j) line s h plain =
+    if_cases (is_cut_short line) (opened js (Some (journals.cut_short j))) _ (Some s) h
+    (λ cut is. cut_text_at js j s is plain)
+    (λ whole g. if_cases (is_some (head_of line)) (next_opened n js j line) (gone_on js j line) (Some s) g
+    (λ head is. if_cases j.is_counted (opened (js ++ j ∷ []) (begun n line)) None (Some s) is
+    (λ last e. opened_plain (js ++ j ∷ []) (begun n line) s e plain (λ k same all one. plain_parts js j all))
+    (λ part e. absurd (none-some s e)))
+    (λ inner is. if_cases (is_count (length j.entries) line) (opened js (Some (journals.counted j))) (opened js (with_entry j line)) (Some s) is
+    (λ last e. opened_plain js (Some (journals.counted j)) s e plain (λ k same all one.
+    (all, (and_parts _ _ (subst IsPlain (sym (same_Some _ _ same)) one)).0)))
+    (λ further e. opened_plain js (with_entry j line) s e plain (λ k same all one. (all, entry_plain j k line same one)))))
+
+closed_plain : (n : ℕ) (ks : List Journal) (o : Option Journal) (js : List Journal) → closed n ks o ≡ Ok js → All IsPlain js → All IsPlain ks × PlainOpen o
+closed_plain n ks None js h all = absurd (err-ok n js h)
+closed_plain n ks (Some j) js h all =
+    if_cases j.is_counted (Ok (ks ++ j ∷ [])) (Err n) (Ok js) h
+    (λ last is. plain_parts ks j (subst (All IsPlain) (sym (same_Ok _ _ is)) all))
+    (λ part is. absurd (err-ok n js is))
+
+ended_plain : (n : ℕ) (r : Reading) (line : Text) (js : List Journal) → ended n r line ≡ Ok js → All IsPlain js → Plain r
+ended_plain n r line js h all =
+    if_cases (length line == 0) (closed n r.whole r.open_one) (Err n) (Ok js) h
+    (λ over is. closed_plain n r.whole r.open_one js is all)
+    (λ more is. absurd (err-ok n js is))
+
+closed_text : (n : ℕ) (ks : List Journal) (o : Option Journal) (js : List Journal) → closed n ks o ≡ Ok js → journals_text ks ++ opening_part o ≡ journals_text js
+closed_text n ks None js h = absurd (err-ok n js h)
+closed_text n ks (Some j) js h =
+    if_cases j.is_counted (Ok (ks ++ j ∷ [])) (Err n) (Ok js) h
+    (λ last is. sym (counted_text ks j last) ∙ ap journals_text (same_Ok _ _ is))
+    (λ part is. absurd (err-ok n js is))
 
 ended_text : (n : ℕ) (r : Reading) (line : Text) (js : List Journal) → ended n r line ≡ Ok js → reading_text r ++ line ≡ journals_text js
 ended_text n r line js h =
-    if_cases (is_none r.open_one && length line == 0) (Ok r.whole) (Err n) (Ok js) h
-    (λ over is.
-    let both = and_parts _ _ over in
-    (λ i. (journals_text r.whole ++ nothing_open r.open_one both.0 i) ++ no_text line both.1 i)
-    ∙ append-nil _ ∙ append-nil _ ∙ ap journals_text (same_Ok _ _ is))
-    (λ over is. absurd (err-ok _ _ is))
+    if_cases (length line == 0) (closed n r.whole r.open_one) (Err n) (Ok js) h
+    (λ over is. ap (λ t. reading_text r ++ t) (no_text line over) ∙ append-nil _ ∙ closed_text n r.whole r.open_one js is)
+    (λ more is. absurd (err-ok n js is))
 
 map_or_cases : {A B P : Type 0} (f : A → B) (o : Option A) (d y : B) → option_map_or f o d ≡ y → (d ≡ y → P) → ((x : A) → o ≡ Some x → f x ≡ y → P) → P
 map_or_cases f None d y h nothing goes = nothing h
 map_or_cases f (Some x) d y h nothing goes = goes x refl h
 
-run_text : (n : ℕ) (r : Reading) (ls : List Text) (js : List Journal) → run n r ls ≡ Ok js → reading_text r ++ join_with_byte 10 ls ≡ journals_text js
-run_text n r [] js h = absurd (err-ok n js h)
-run_text n r (l ∷ []) js h = ended_text n r l js h
-run_text n r (l ∷ m ∷ ls) js h =
+-- a line that others follow
+goes_on : (n : ℕ) (r : Reading) (l m : Text) (ls : List Text) (js : List Journal) → run n r (l ∷ m ∷ ls) ≡ Ok js
+    → option_map_or (λ s. run (n + 1) s (m ∷ ls)) (journals.step n r l) (Err n) ≡ Ok js
+goes_on n r l m ls js h =
     let others : (length (m ∷ ls) == 0) ≡ false = ne_eqb (length (m ∷ ls)) 0 (λ e. absurd (omega (arith, e))) in
-    let goes = ap (λ b. if b then ended n r l else option_map_or (λ s. run (n + 1) s (m ∷ ls)) (journals.step n r l) (Err n)) (sym others) ∙ h in
-    map_or_cases (λ s. run (n + 1) s (m ∷ ls)) (journals.step n r l) (Err n) (Ok js) goes
+    ap (λ b. if b then ended n r l else option_map_or (λ s. run (n + 1) s (m ∷ ls)) (journals.step n r l) (Err n)) (sym others) ∙ h
+
+run_plain : (n : ℕ) (r : Reading) (ls : List Text) (js : List Journal) → run n r ls ≡ Ok js → All IsPlain js → Plain r
+run_plain n r [] js h all = absurd (err-ok n js h)
+run_plain n r (l ∷ []) js h all = ended_plain n r l js h all
+run_plain n r (l ∷ m ∷ ls) js h all =
+    map_or_cases (λ s. run (n + 1) s (m ∷ ls)) (journals.step n r l) (Err n) (Ok js) (goes_on n r l m ls js h)
+    (λ e. absurd (err-ok n js e))
+    (λ s read rest. step_plain n r.whole r.open_one l s read (run_plain (n + 1) s (m ∷ ls) js rest all))
+
+run_text : (n : ℕ) (r : Reading) (ls : List Text) (js : List Journal) → run n r ls ≡ Ok js → All IsPlain js
+    → reading_text r ++ join_with_byte 10 ls ≡ journals_text js
+run_text n r [] js h all = absurd (err-ok n js h)
+run_text n r (l ∷ []) js h all = ended_text n r l js h
+run_text n r (l ∷ m ∷ ls) js h all =
+    map_or_cases (λ s. run (n + 1) s (m ∷ ls)) (journals.step n r l) (Err n) (Ok js) (goes_on n r l m ls js h)
     (λ e. absurd (err-ok n js e))
     (λ s read rest.
     ap (λ t. reading_text r ++ t) (sym (append_assoc l (10 ∷ []) (join_with_byte 10 (m ∷ ls))))
     ∙ sym (append_assoc (reading_text r) (l ++ 10 ∷ []) (join_with_byte 10 (m ∷ ls)))
-    ∙ ap (λ t. t ++ join_with_byte 10 (m ∷ ls)) (sym (step_text_at n r.whole r.open_one l s read))
-    ∙ run_text (n + 1) s (m ∷ ls) js rest)
+    ∙ ap (λ t. t ++ join_with_byte 10 (m ∷ ls)) (sym (step_text_at n r.whole r.open_one l s read (run_plain (n + 1) s (m ∷ ls) js rest all)))
+    ∙ run_text (n + 1) s (m ∷ ls) js rest all)
 
-pub read_text : (text : Text) (js : List Journal) → journals_of text ≡ Ok js → journals_text js ≡ text
-read_text text js h = sym (run_text 1 nothing_read (slice_split (λ b. b == 10) text) js h) ∙ join_with_byte-slice_split 10 text
+pub read_text : (text : Text) (js : List Journal) → journals_of text ≡ Ok js → All IsPlain js → journals_text js ≡ text
+read_text text js h all = sym (run_text 1 nothing_read (slice_split (λ b. b == 10) text) js h all) ∙ join_with_byte-slice_split 10 text

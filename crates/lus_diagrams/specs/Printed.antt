@@ -1,5 +1,5 @@
 -- The text of journals, from what is read of it.
-use Rattle.std.specs.Prelude.{ℕ, ◌+◌, List, [], ◌∷◌, ◌++◌, length, flat_map, codes}
+use Rattle.std.specs.Prelude.{◌≡◌, ℕ, ◌+◌, true, List, [], ◌∷◌, ◌++◌, length, flat_map, codes}
 use Rattle.std.specs.Fmt.{decimal}
 use Rattle.lus_diagrams.specs.Texts.{Text}
 use Rattle.lus_diagrams.specs.Entries.{Entry, Request, Reply, step, burst, reset, save, restore, outputs, rows, done, refused}
@@ -46,3 +46,7 @@ journal_text j = in_row (opening_text j ∷ codes "entries " ∷ decimal (length
 
 abbrev pub journals_text : List Journal → Text
 journals_text js = flat_map journal_text js
+
+-- no line of it was skipped
+abbrev pub IsPlain : Journal → Type 0
+IsPlain j = j.is_plain ≡ true

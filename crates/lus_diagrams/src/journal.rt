@@ -1,12 +1,12 @@
 //! Journals, read line by line.
 
 ghost use Rattle.std.specs.Prelude.{◌≡◌, ◌<◌, ◌^◌, ◌-◌, IfOk, IfErr, Ok, Some, map, option_map};
-ghost use Rattle.lus_diagrams.specs.Journals.{IsFault, IsFaultOf, begun, head_of, is_count, ended, journals_of, arity_of, arity_over, arity_with, step, with_entry};
+ghost use Rattle.lus_diagrams.specs.Journals.{IsFault, IsFaultOf, begun, counted, cut_short, head_of, is_count, is_cut_short, ended, journals_of, next_opened, arity_of, arity_over, arity_with, step, step_within, with_entry};
 ghost use Rattle.lus_diagrams.specs.Accepted.{row_seen};
 ghost use Rattle.lus_diagrams.specs.JournalView.{journal_seen, reading};
 
 use crate::accepted::{Row, accepted_rows};
-use crate::cutting::{cut, parts};
+use crate::cutting::{before_end, cut, parts};
 use crate::entry::{Entry, read_entry};
 use crate::error::JournalError;
 use crate::items::item_count;
@@ -21,7 +21,8 @@ pub struct Arity {
 }
 
 /// The history of an instance of a node. The line of its first line is counted from 1; without an accepted instant
-/// it has no arity.
+/// it has no arity. It is counted if its last line so far has the number of its entries, and plain if no line of it was skipped: none
+/// that a crash cut short, and no number of entries that others follow.
 #[derive(Drop)]
 pub struct Journal<'a> {
     pub line: u64,
@@ -29,6 +30,8 @@ pub struct Journal<'a> {
     pub node: &'a str,
     pub arity: Option<Arity>,
     pub entries: Vec<Entry<'a>>,
+    pub is_counted: bool,
+    pub is_plain: bool,
 }
 
 /// The names in the first line of a journal.
@@ -99,6 +102,8 @@ fn begin<'a>(alloc: Global, number: u64, line: &'a str) -> Result<Journal<'a>, J
             node,
             arity: None,
             entries: Vec::new(alloc),
+            is_counted: false,
+            is_plain: true,
         }),
         None => Err(JournalError::Line(number)),
     }
@@ -122,11 +127,84 @@ fn with_entry<'a>(
         return Err(JournalError::Line(number));
     };
     journal.arity = arity;
+    journal.is_plain = journal.is_plain && !journal.is_counted;
+    journal.is_counted = false;
     journal.entries.push(entry)?;
     Ok(journal)
 }
 
-/// Reads the next line, where a journal may be unfinished: gives the one that is unfinished behind it.
+/// Whether a line is what a crash left of one, with the mark of a run that went on behind it.
+fn is_cut_short(line: &str) -> bool
+    ensures { result ≡ is_cut_short line.now }
+{
+    before_end(line, "# cut short").is_some()
+}
+
+/// The journal behind a line that a crash cut short.
+fn cut_short(mut journal: Journal<'_>) -> Journal<'_>
+    ensures { journal_seen result ≡ cut_short (journal_seen journal.entry) }
+{
+    journal.is_counted = false;
+    journal.is_plain = false;
+    journal
+}
+
+/// The journal behind the number of its entries.
+fn counted(mut journal: Journal<'_>) -> Journal<'_>
+    ensures { journal_seen result ≡ counted (journal_seen journal.entry) }
+{
+    journal.is_plain = journal.is_plain && !journal.is_counted;
+    journal.is_counted = true;
+    journal
+}
+
+/// Ends a journal, and begins the next one with its first line.
+fn begin_next<'a>(
+    alloc: Global,
+    whole: &mut Vec<Journal<'a>>,
+    journal: Journal<'a>,
+    number: u64,
+    line: &'a str,
+) -> Result<Journal<'a>, JournalError>
+    ensures ok { IfOk result (λ j. next_opened number (map journal_seen whole.old.items) (journal_seen journal.entry) line.now
+        ≡ Some (reading whole.new (Some j))) }
+    ensures refused { IfErr result (λ e. IsFault number e
+        (next_opened number (map journal_seen whole.old.items) (journal_seen journal.entry) line.now)) }
+{
+    if !journal.is_counted {
+        return Err(JournalError::Line(number));
+    }
+    let next = begin(alloc, number, line)?;
+    whole.push(journal)?;
+    Ok(next)
+}
+
+/// Reads the next line of a journal or the first of one behind it: gives the one that may go on.
+fn read_within<'a>(
+    alloc: Global,
+    whole: &mut Vec<Journal<'a>>,
+    journal: Journal<'a>,
+    number: u64,
+    line: &'a str,
+) -> Result<Journal<'a>, JournalError>
+    ensures ok { IfOk result (λ j. step_within number (map journal_seen whole.old.items) (journal_seen journal.entry) line.now
+        ≡ Some (reading whole.new (Some j))) }
+    ensures refused { IfErr result (λ e. IsFault number e
+        (step_within number (map journal_seen whole.old.items) (journal_seen journal.entry) line.now)) }
+{
+    if is_cut_short(line) {
+        return Ok(cut_short(journal));
+    }
+    if read_head(line).is_some() {
+        return begin_next(alloc, whole, journal, number, line);
+    }
+    if is_count(journal.entries.len() as u64, line) {
+        return Ok(counted(journal));
+    }
+    with_entry(alloc, journal, number, line)
+}
+
+/// Reads the next line, where a journal may go on: gives the one that may do so behind it.
 fn read_line<'a>(
     alloc: Global,
     whole: &mut Vec<Journal<'a>>,
@@ -137,19 +215,15 @@ fn read_line<'a>(
     ensures ok { IfOk result (λ later. step number (reading whole.old unfinished.entry) line.now ≡ Some (reading whole.new later)) }
     ensures refused { IfErr result (λ e. IsFault number e (step number (reading whole.old unfinished.entry) line.now)) }
 {
-    let Some(journal) = unfinished else {
-        return Ok(Some(begin(alloc, number, line)?));
-    };
-    if is_count(journal.entries.len() as u64, line) {
-        whole.push(journal)?;
-        return Ok(None);
+    match unfinished {
+        None => Ok(Some(begin(alloc, number, line)?)),
+        Some(journal) => Ok(Some(read_within(alloc, whole, journal, number, line)?)),
     }
-    Ok(Some(with_entry(alloc, journal, number, line)?))
 }
 
 /// The journals, where nothing stands behind the last line feed.
 fn finish<'a>(
-    whole: Vec<Journal<'a>>,
+    mut whole: Vec<Journal<'a>>,
     unfinished: Option<Journal<'a>>,
     number: u64,
     line: &str,
@@ -157,15 +231,20 @@ fn finish<'a>(
     ensures ok { IfOk result (λ v. ended number (reading whole.entry unfinished.entry) line.now ≡ Ok (map journal_seen v.items)) }
     ensures refused { IfErr result (λ e. IsFaultOf e (ended number (reading whole.entry unfinished.entry) line.now)) }
 {
-    if unfinished.is_none() && line.is_empty() {
-        Ok(whole)
-    } else {
-        Err(JournalError::Line(number))
+    if !line.is_empty() {
+        return Err(JournalError::Line(number));
+    }
+    match unfinished {
+        Some(journal) if journal.is_counted => {
+            whole.push(journal)?;
+            Ok(whole)
+        }
+        _ => Err(JournalError::Line(number)),
     }
 }
 
 /// The journals of a text, or the first line that is none of a journal there. A text that ends within a journal lacks the
-/// line behind its last.
+/// line behind its last, and one without any its first.
 pub fn read_journals<'a>(alloc: Global, text: &'a str) -> Result<Vec<Journal<'a>>, JournalError>
     ensures ok { IfOk result (λ v. journals_of text.now ≡ Ok (map journal_seen v.items)) }
     ensures refused { IfErr result (λ e. IsFaultOf e (journals_of text.now)) }

@@ -1,17 +1,16 @@
 -- What an audit of journals finds and reports.
-use Rattle.std.specs.Prelude.{◌≡◌, ◌≢◌, ◌+◌, ◌++◌, ℕ, Bool, true, false, List, [], ◌∷◌, length, Option, Some, codes}
+use Rattle.std.specs.Prelude.{◌≡◌, ◌≢◌, ◌+◌, ◌++◌, ℕ, Bool, true, false, List, [], ◌∷◌, length, Option, Some}
 use Rattle.std.specs.List.{All, flat_map, sum_by}
 use Rattle.lus_values.specs.Names.{Text}
 use Rattle.lus_program.specs.Programs.{Program}
 use Rattle.lus_requests.specs.declared.request.Entry.{Entry}
 use Rattle.lus_devices.specs.Devices.{AtEnd, Bytes, with_front}
-use Rattle.lus_lines.specs.Lines.{IsLast}
 use Rattle.lus_live_instance.specs.MachineSpecs.Constructors.{names_of}
 use Rattle.lus_live_instance.specs.MachineSpecs.Formals.{node_named}
 use Rattle.lus_live_instance.specs.MachineSpecs.HistorySpecs.Histories.{History}
-use Rattle.lus_replay.specs.Replays.{BeginsAsked, HasReplayed, Said, entry_said, said_line, said_text}
+use Rattle.lus_replay.specs.Replays.{BeginsAsked, HasReplayed, IsItem, Said, entry_said, items_text, said_line, saids_of}
 use Rattle.lus_replay.specs.declared.replaying.Replayed.{Replayed}
-use Rattle.lus_lawful.specs.Journals.{IsLawfulJournal, Journal, entries_of, head_of, journal_text, lawful_text, line_count, wrong_text}
+use Rattle.lus_lawful.specs.Journals.{IsLawfulJournal, Journal, entries_of, journal_text, lawful_text, line_count, wrong_text}
 use Rattle.lus_lawful.specs.declared.auditing.Turn.{Turn}
 use Rattle.lus_lawful.specs.declared.auditing.Turn.TheVariants as turns
 
@@ -31,11 +30,13 @@ pub record HasWrong (p : Program) (left later : Option Bytes) (lines : ℕ) (rep
   pub line : Text
   pub right : Said
   pub named : node_named p before.node ≡ Some node
-  pub read : left ≡ with_front (head_of before.instance before.node ++ codes "\n" ++ said_text (names_of p) 1 before.saids ++ line) later
-  pub asked : BeginsAsked (names_of p) right.caller (length before.saids + 1) right.request line
+  pub plain : All IsItem before.items
+  pub read : left ≡ with_front (journal_text (names_of p) before ++ line) later
+  pub asked : BeginsAsked (names_of p) right.caller (length (saids_of before.items) + 1) right.request line
   pub lawful : History p node (entries_of before ++ entry_said right ∷ [])
-  pub differs : line ≢ said_line (names_of p) (length before.saids + 1) right
-  pub reported : report ≡ wrong_text before.instance (lines + line_count before) line (said_line (names_of p) (length before.saids + 1) right)
+  pub differs : line ≢ said_line (names_of p) (length (saids_of before.items) + 1) right
+  pub reported : report
+      ≡ wrong_text before.instance (lines + line_count before + 1) line (said_line (names_of p) (length (saids_of before.items) + 1) right)
 
 -- the journals are lawful up to the end, or up to one with a wrong line
 abbrev pub HasAudited : Program → Bool → Option Bytes → Text → Type 0
@@ -52,10 +53,16 @@ pub record HasReplayedLawfully (p : Program) (f : ℕ) (r : Replayed) (left late
   pub lawful : History p f history
   pub replayed : HasReplayed (names_of p) r left later [] history line right
 
--- a journal was read, and what is reported of it
-abbrev pub TurnIs : Turn → Program → ℕ → Option Bytes → Option Bytes → Text → Text → Type 0
-TurnIs (turns.Lawful last) p lines left later old new =
-    (j : Journal) × IsLawfulJournal p j × (left ≡ with_front (journal_text (names_of p) j) later) × (last ≡ lines + line_count j)
-    × (new ≡ old ++ lawful_text j.instance)
-TurnIs turns.Wrong p lines left later old new = (wrong : Text) × HasWrong p left later lines wrong × (new ≡ old ++ wrong)
-TurnIs turns.End p lines left later old new = IsLast [] left later × (new ≡ old)
+-- a lawful journal was read, up to the line so far, and is reported
+pub record IsReported (p : Program) (lines behind : ℕ) (left later : Option Bytes) (old new : Text) : Type 0 where
+  pub journal : Journal
+  pub lawful : IsLawfulJournal p journal
+  pub read : left ≡ with_front (journal_text (names_of p) journal) later
+  pub counted : behind ≡ lines + line_count journal
+  pub reported : new ≡ old ++ lawful_text journal.instance
+
+-- what was found of a journal, and what is reported of it
+abbrev pub TurnIs : Turn → Program → ℕ → Option Bytes → Option Bytes → Text → Text → Text → Type 0
+TurnIs (turns.Next behind) p lines left later line old new = IsReported p lines behind left (with_front line later) old new
+TurnIs turns.Last p lines left later line old new = (behind : ℕ) × (end : Option Bytes) × IsReported p lines behind left end old new × AtEnd end
+TurnIs turns.Wrong p lines left later line old new = (wrong : Text) × HasWrong p left later lines wrong × (new ≡ old ++ wrong)

@@ -1,23 +1,24 @@
 //! Audits.
 
-ghost use Rattle.std.specs.Prelude.{◌≡◌, ◌+◌, ◌<◌, ◌++◌, IfOk, Some, codes, length, string_bytes};
+ghost use Rattle.std.specs.Prelude.{◌≡◌, ◌+◌, ◌<◌, ◌++◌, IfOk, OnOk, Some, [], codes, length, string_bytes, true};
 ghost use Rattle.std.specs.Arc.{arc_value};
 ghost use Rattle.lus_devices.specs.Devices.{with_front};
 ghost use Rattle.lus_live_instance.specs.MachineSpecs.CodeSpecs.Codes.{program_of};
 ghost use Rattle.lus_live_instance.specs.MachineSpecs.Formals.{node_named};
 ghost use Rattle.lus_lawful.specs.Audits.{HasAudited, HasReplayedLawfully, TurnIs};
-ghost use Rattle.lus_lawful.specs.Journals.{head_of};
+ghost use Rattle.lus_lawful.specs.Journals.{head_of, lawful_text};
 
 use crate::error::AuditError;
 use crate::explained::{Explanation, new_explained};
 use crate::head::{Head, read_head};
 use crate::texts::{push_lawful, push_wrong};
 use lus_devices::Source;
-use lus_lines::{Reading, read_line};
+use lus_lines::{Whole, read_whole_line};
 use lus_live_instance::lus_machine::{NodeId, Program};
 use lus_reasons::Reasons;
 use lus_replay::{Ending, Replayed, replay};
 use std::alloc::Global;
+use std::mem::swap;
 use std::sync::Arc;
 
 /// Whether all journals are lawful, and what there is to say of them; and why the requests of lawful journals were refused, a line
@@ -36,15 +37,15 @@ struct Reasoned {
     text: Vec<u8>,
 }
 
-/// What is where a journal would begin.
+/// What was found of a journal.
 #[derive(Clone, Copy)]
 enum Turn {
-    /// A lawful journal, whose last line has this number.
-    Lawful(u64),
-    /// A journal of which a line isn't the right one.
+    /// It is lawful, and ends behind so many lines of all. The first line of the next journal was read.
+    Next(u64),
+    /// It is lawful, and the last.
+    Last,
+    /// A line of it isn't the right one.
     Wrong,
-    /// The end.
-    End,
 }
 
 /// Appends the reasons of an instance's refusals, where they were asked.
@@ -92,7 +93,7 @@ fn reasons_of(
     if !is_asked {
         return Ok(None);
     }
-    let reasons = Reasons::new(alloc, instance, next_line(lines, 1)?)?;
+    let reasons = Reasons::new(alloc, instance, lines_behind(lines, 1)?)?;
     Ok(Some(reasons))
 }
 
@@ -104,21 +105,45 @@ fn add_reasons(reasoned: &mut Reasoned, said: &[u8]) -> Result<(), AuditError> {
     }
 }
 
-/// The number of the line so far behind so many lines.
-fn next_line(lines: u64, further: u64) -> Result<u64, AuditError>
+/// How many lines these are and so many further ones.
+fn lines_behind(lines: u64, further: u64) -> Result<u64, AuditError>
     ensures { IfOk result (λ n. n ≡ lines + further) }
 {
-    lines.checked_add(further).ok_or(AuditError::Line(u64::MAX))
+    lines.checked_add(further).ok_or(AuditError::Memory)
 }
 
-/// The number of the line behind so many lines, a journal's first and so many entries.
-fn ending_line(lines: u64, entries: u64) -> Result<u64, AuditError>
-    ensures { IfOk result (λ n. n ≡ lines + entries + 2) }
+/// How many lines these are, a journal's first and so many behind it.
+fn lines_with(lines: u64, items: u64) -> Result<u64, AuditError>
+    ensures { IfOk result (λ n. n ≡ lines + items + 1) }
 {
-    next_line(next_line(lines, entries)?, 2)
+    lines_behind(lines_behind(lines, items)?, 1)
 }
 
-/// Audits a journal whose first line was read, behind so many lines, and reports on it.
+/// A journal ends with the number of its entries; else this is the line that isn't right.
+fn check_counted(is_counted: bool, line: u64) -> Result<(), AuditError>
+    ensures { OnOk result (is_counted ≡ true) }
+{
+    if is_counted {
+        Ok(())
+    } else {
+        Err(AuditError::Line(line))
+    }
+}
+
+/// Reports a lawful journal, and adds the reasons of its refusals.
+fn report_lawful(
+    instance: &str,
+    said: &[u8],
+    report: &mut Vec<u8>,
+    reasoned: &mut Reasoned,
+) -> Result<(), AuditError>
+    ensures { OnOk result (report.new.items ≡ report.old.items ++ lawful_text instance.now) }
+{
+    push_lawful(report, instance)?;
+    add_reasons(reasoned, said)
+}
+
+/// Audits a journal whose first line was read, behind so many lines, and reports on it. What ended it is then in `line`.
 fn audit_journal<S: Source>(
     alloc: Global,
     program: &Arc<Program>,
@@ -126,81 +151,101 @@ fn audit_journal<S: Source>(
     node: NodeId,
     lines: u64,
     source: &mut S,
+    line: &mut Vec<u8>,
     report: &mut Vec<u8>,
     reasoned: &mut Reasoned,
 ) -> Result<Turn, AuditError>
     requires { node_named (program_of (arc_value program.now)) head.node.now ≡ Some node.0 }
     ensures { IfOk result (λ turn. TurnIs turn (program_of (arc_value program.now)) lines
         (with_front (head_of head.entry.instance.now head.entry.node.now ++ codes "\n") (S.left source.old)) (S.left source.new)
-        report.old.items report.new.items) }
+        line.new.items report.old.items report.new.items) }
 {
-    let mut line = Vec::new(alloc);
     let mut right = String::new(alloc);
     let mut said = Vec::new(alloc);
     let reasons = reasons_of(alloc, reasoned.is_asked, head.instance, lines)?;
     let replayed = replay_new(
-        alloc, program, node, source, &mut line, &mut right, reasons, &mut said,
+        alloc, program, node, source, line, &mut right, reasons, &mut said,
     )?;
-    let number = ending_line(lines, replayed.entries)?;
+    let behind = lines_with(lines, replayed.lines)?;
+    let number = lines_behind(behind, 1)?;
     match replayed.ending {
-        Ending::Whole => {
-            push_lawful(report, head.instance)?;
-            add_reasons(reasoned, &said)?;
-            Ok(Turn::Lawful(number))
-        }
         Ending::Wrong => {
-            push_wrong(report, head.instance, number, &line, &right)?;
+            push_wrong(report, head.instance, number, line, &right)?;
             Ok(Turn::Wrong)
         }
-        Ending::Open | Ending::Cut | Ending::NoEntry => Err(AuditError::Line(number)),
+        Ending::Next => {
+            check_counted(replayed.is_counted, number)?;
+            report_lawful(head.instance, &said, report, reasoned)?;
+            Ok(Turn::Next(behind))
+        }
+        Ending::End => {
+            check_counted(replayed.is_counted, number)?;
+            report_lawful(head.instance, &said, report, reasoned)?;
+            Ok(Turn::Last)
+        }
+        Ending::Cut | Ending::NoEntry => Err(AuditError::Line(number)),
     }
 }
 
-/// Audits the journal whose first line this is, behind so many lines.
+/// Audits the journal whose first line this is, with its line feed, behind so many lines.
 fn audit_behind<S: Source>(
     alloc: Global,
     program: &Arc<Program>,
     first: &[u8],
     lines: u64,
     source: &mut S,
+    line: &mut Vec<u8>,
     report: &mut Vec<u8>,
     reasoned: &mut Reasoned,
 ) -> Result<Turn, AuditError>
     ensures { IfOk result (λ turn. TurnIs turn (program_of (arc_value program.now)) lines
-        (with_front (first.now ++ codes "\n") (S.left source.old)) (S.left source.new) report.old.items report.new.items) }
+        (with_front first.now (S.left source.old)) (S.left source.new) line.new.items report.old.items report.new.items) }
 {
-    let number = next_line(lines, 1)?;
+    let number = lines_behind(lines, 1)?;
     let Some(head) = read_head(first) else {
         return Err(AuditError::Line(number));
     };
     match program.node(head.node) {
-        Some(node) => audit_journal(alloc, program, head, node, lines, source, report, reasoned),
+        Some(node) => audit_journal(
+            alloc, program, head, node, lines, source, line, report, reasoned,
+        ),
         None => Err(AuditError::Line(number)),
     }
 }
 
-/// Audits the next journal, behind so many lines.
-fn audit_next<S: Source>(
+/// Audits the journals of which the first line was read, one behind another.
+fn audit_all<S: Source>(
     alloc: Global,
     program: &Arc<Program>,
-    lines: u64,
+    first: Vec<u8>,
     source: &mut S,
-    report: &mut Vec<u8>,
     reasoned: &mut Reasoned,
-) -> Result<Turn, AuditError>
-    ensures { IfOk result (λ turn. TurnIs turn (program_of (arc_value program.now)) lines
-        (S.left source.old) (S.left source.new) report.old.items report.new.items) }
+    report: &mut Vec<u8>,
+) -> Result<bool, AuditError>
+    requires { report.old.items ≡ [] }
+    ensures { IfOk result (λ is_lawful. HasAudited (program_of (arc_value program.now)) is_lawful
+        (with_front first.items (S.left source.old)) report.new.items) }
 {
-    let mut first = Vec::new(alloc);
-    match read_line(source, &mut first)? {
-        Reading::Line => audit_behind(alloc, program, &first, lines, source, report, reasoned),
-        Reading::End => Ok(Turn::End),
-        Reading::Long | Reading::Unfinished => Err(AuditError::Line(next_line(lines, 1)?)),
+    let mut first = first;
+    let mut line = Vec::new(alloc);
+    let mut lines = 0u64;
+    for _journal in 0..u64::MAX {
+        match audit_behind(
+            alloc, program, &first, lines, source, &mut line, report, reasoned,
+        )? {
+            Turn::Next(behind) => {
+                lines = behind;
+                swap(&mut first, &mut line);
+            }
+            Turn::Last => return Ok(true),
+            Turn::Wrong => return Ok(false),
+        }
     }
+    Err(AuditError::Memory)
 }
 
 /// Audits journals, one behind another: each is replayed on a new instance of its node, up to the first line that isn't right. No
-/// more is kept than an instance, a line and the report; where reasons are asked, also each instance's inputs.
+/// more is kept than an instance, two lines and the report; where reasons are asked, also each instance's inputs.
 pub fn audit<S: Source>(
     alloc: Global,
     program: &Arc<Program>,
@@ -209,30 +254,26 @@ pub fn audit<S: Source>(
 ) -> Result<Report, AuditError>
     ensures { IfOk result (λ r. HasAudited (program_of (arc_value program.now)) r.is_lawful (S.left source.old) r.text.items) }
 {
+    let mut first = Vec::new(alloc);
     let mut text = Vec::new(alloc);
     let mut reasoned = Reasoned {
         is_asked: is_why,
         text: Vec::new(alloc),
     };
-    let mut lines = 0u64;
-    for _journal in 0..u64::MAX {
-        match audit_next(alloc, program, lines, source, &mut text, &mut reasoned)? {
-            Turn::Lawful(last) => lines = last,
-            Turn::Wrong => {
-                return Ok(Report {
-                    is_lawful: false,
-                    text,
-                    reasons: reasoned.text,
-                });
-            }
-            Turn::End => {
-                return Ok(Report {
-                    is_lawful: true,
-                    text,
-                    reasons: reasoned.text,
-                });
-            }
+    match read_whole_line(source, &mut first)? {
+        Whole::Line => {
+            let is_lawful = audit_all(alloc, program, first, source, &mut reasoned, &mut text)?;
+            Ok(Report {
+                is_lawful,
+                text,
+                reasons: reasoned.text,
+            })
         }
+        Whole::Unfinished => Err(AuditError::Line(1)),
+        Whole::End => Ok(Report {
+            is_lawful: true,
+            text,
+            reasons: reasoned.text,
+        }),
     }
-    Err(AuditError::Line(lines))
 }

@@ -75,6 +75,13 @@ fn note(
     }
 }
 
+/// Goes on behind a line that is no entry.
+fn pass(explanation: &mut Explanation) {
+    if let Some(reasons) = &mut explanation.reasons {
+        reasons.pass();
+    }
+}
+
 impl Reacts for Explained {
     ghost history = { λ e. e.instance.reactor.history };
 
@@ -91,5 +98,9 @@ impl Reacts for Explained {
             &reply,
         );
         Ok(reply)
+    }
+
+    fn pass(&mut self) {
+        pass(&mut self.explanation);
     }
 }

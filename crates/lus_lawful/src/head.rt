@@ -1,6 +1,6 @@
 //! The first line of a journal.
 
-ghost use Rattle.std.specs.Prelude.{◌≡◌, IfSome};
+ghost use Rattle.std.specs.Prelude.{◌≡◌, ◌++◌, IfSome, codes};
 ghost use Rattle.lus_lawful.specs.Journals.{head_of};
 
 use std::str::from_utf8;
@@ -12,13 +12,14 @@ pub(crate) struct Head<'a> {
     pub node: &'a str,
 }
 
-/// The names that a line has, without its line feed, if it is the first of a journal.
+/// The names that a line has, with its line feed, if it is the first of a journal.
 pub(crate) fn read_head(line: &[u8]) -> Option<Head<'_>>
-    ensures { IfSome result (λ h. line.now ≡ head_of h.instance.now h.node.now) }
+    ensures { IfSome result (λ h. line.now ≡ head_of h.instance.now h.node.now ++ codes "\n") }
 {
     let Ok(text) = from_utf8(line) else {
         return None;
     };
-    let (instance, node) = text.strip_prefix("instance ")?.split_once(" ")?;
+    let names = text.strip_prefix("instance ")?.strip_suffix("\n")?;
+    let (instance, node) = names.split_once(" ")?;
     Some(Head { instance, node })
 }

@@ -4,8 +4,10 @@ use Rattle.std.specs.List.{list_all}
 use Rattle.std.proofs.lemmas.List.Folds.{list_all-append}
 use Rattle.lus_devices.specs.Devices.{AtEnd, Bytes, with_front}
 use Rattle.lus_devices.proofs.Laws.{with_front-more}
-use Rattle.lus_lines.specs.Lines.{HasRead, HasSkipped, IsBegun, IsLast, IsNext, IsPlain, last_reading, long_reading, most_line_bytes}
+use Rattle.lus_lines.specs.Lines.{HasRead, HasSkipped, HasReadWhole, IsBegun, IsLast, IsNext, IsPlain, last_reading, last_whole, long_reading, most_line_bytes}
 use Rattle.lus_lines.specs.declared.line.Reading.{Reading}
+use Rattle.lus_lines.specs.declared.whole.Whole.{Whole}
+use Rattle.lus_lines.specs.declared.whole.Whole.TheVariants as wholes
 
 with_nothing : (left : Option Bytes) → left ≡ with_front [] left
 with_nothing None = refl
@@ -78,3 +80,20 @@ one_byte n (x ∷ y ∷ bs) one few some = absurd (omega (arith, one))
 one_byte zero (x ∷ []) one few some = absurd (some refl)
 one_byte (suc zero) (x ∷ []) one few some = refl
 one_byte (suc (suc n)) (x ∷ []) one few some = absurd (omega (arith, few))
+
+-- ---- lines of any length
+
+-- a line feed was read behind the bytes of a line
+pub whole_line : (bs grown : Bytes) (b : ℕ) (left old new : Option Bytes) → IsBegun bs left old → old ≡ with_front (b ∷ []) new
+    → b ≡ 10 → grown ≡ bs ++ b ∷ [] → HasReadWhole wholes.Line grown left new
+whole_line bs grown b left old new begun given feed is =
+    let whole : grown ≡ bs ++ 10 ∷ [] = is ∙ ap (λ c. bs ++ c ∷ []) feed in (
+      record { bytes = bs; ended = whole; plain = begun.plain },
+      front_append left old new bs (10 ∷ []) begun.read (given ∙ ap (λ c. with_front (c ∷ []) new) feed) ∙ ap (λ t. with_front t new) (sym whole),
+    )
+
+pub last_reads_whole : (bs : Bytes) (left new : Option Bytes) (r : Whole) → IsLast bs left new → r ≡ last_whole bs → HasReadWhole r bs left new
+last_reads_whole [] left new r last is = rw is last
+last_reads_whole (b ∷ bs) left new r last is =
+    let some : 0 < length (b ∷ bs) = omega arith in
+    rw is (last, some)

@@ -4,6 +4,8 @@ use Rattle.std.specs.List.{list_all}
 use Rattle.lus_devices.specs.Devices.{AtEnd, Bytes, with_front}
 use Rattle.lus_lines.specs.declared.line.Reading.{Reading}
 use Rattle.lus_lines.specs.declared.line.Reading.TheVariants.{Line, Long, Unfinished, End}
+use Rattle.lus_lines.specs.declared.whole.Whole.{Whole}
+use Rattle.lus_lines.specs.declared.whole.Whole.TheVariants as wholes
 
 -- the most bytes of a line that is given
 abbrev pub most_line_bytes : ℕ
@@ -48,3 +50,21 @@ last_reading (b ∷ bs) = Unfinished
 abbrev pub long_reading : Bool → Reading
 long_reading true = Long
 long_reading false = Unfinished
+
+-- ---- lines of any length
+
+-- bytes up to a line feed, and that too
+pub record IsWholeLine (line : Bytes) : Type 0 where
+  pub bytes : Bytes
+  pub ended : line ≡ bytes ++ 10 ∷ []
+  pub plain : IsPlain bytes
+
+-- a line was read with its line feed, however long, or what stood before the end
+abbrev pub HasReadWhole : Whole → Bytes → Option Bytes → Option Bytes → Type 0
+HasReadWhole wholes.Line line left later = IsWholeLine line × (left ≡ with_front line later)
+HasReadWhole wholes.Unfinished tail left later = IsLast tail left later × (0 < length tail)
+HasReadWhole wholes.End line left later = IsLast [] left later
+
+abbrev pub last_whole : Bytes → Whole
+last_whole [] = wholes.End
+last_whole (b ∷ bs) = wholes.Unfinished

@@ -1,18 +1,101 @@
 //! The command line over a folder and an input.
 
-ghost use Rattle.std.specs.Prelude.{◌≡◌, OnErr, map, string_bytes};
+ghost use Rattle.std.specs.Prelude.{◌≡◌, IfErr, Some, map, string_bytes};
+ghost use Rattle.std.specs.Arc.{arc_value};
 ghost use Rattle.lus_cli.specs.Changes.{change};
+ghost use Rattle.lus_cli.specs.CodeSpecs.Codes.{program_of};
 ghost use Rattle.lus_cli.specs.Ends.{AskedEnds, ReadFails};
+ghost use Rattle.lus_cli.specs.MachineSpecs.Formals.{node_named};
 ghost use Rattle.lus_live.specs.CommandLine.{asked, task_seen};
-ghost use Rattle.lus_live.specs.Ends.{Ends, TaskEnds, play_fault, score_status};
+ghost use Rattle.lus_live.specs.Ends.{Ends, GoesOn, IsQuiet, TaskEnds, play_fault, recovery_fault, score_status};
 
 use crate::words::{Task, read_words};
+use itoa::Buffer;
 use lus_cli::lus_host::ScriptRefusal;
 use lus_cli::{Fault, read_program, tell};
-use lus_devices::{Folder, Sink, Source};
-use lus_live_instance::{PlayError, Score, run_live};
+use lus_devices::{Folder, Sink, Source, write_all};
+use lus_lines::Buffered;
+use lus_live_instance::lus_machine::{NodeId, Program};
+use lus_live_instance::{
+    PlayError, RecoveryError, Score, Start, recover_live, resume_live, run_live,
+};
 use std::alloc::Global;
 use std::sync::Arc;
+
+/// Says what is written and what would be right. What can't be written changes nothing.
+fn tell_wrong<F: Sink>(faults: &mut F, line: &[u8], right: &[u8]) {
+    let _ = write_all(faults, b"written ");
+    let _ = write_all(faults, line);
+    let _ = write_all(faults, b"right   ");
+    let _ = write_all(faults, right);
+}
+
+/// Says that the line of this number was cut short, where it was.
+fn tell_start<F: Sink>(faults: &mut F, start: Start) {
+    if let Start::Cut(_, number) = start {
+        let mut digits = Buffer::new();
+        let _ = write_all(faults, b"note: line ");
+        let _ = write_all(faults, digits.format(number).as_bytes());
+        let _ = write_all(faults, b" of the journal was cut short, and is no entry\n");
+    }
+}
+
+/// Why a journal isn't gone on from. A reply that isn't right is shown beside the right one.
+fn refuse<F: Sink>(error: RecoveryError, line: &[u8], right: &[u8], faults: &mut F) -> Fault
+    ensures fault { result ≡ recovery_fault error }
+    ensures quiet { IsQuiet result (change (F.written faults.old) (F.written faults.new) (F.failures faults.old) (F.failures faults.new)) }
+{
+    match error {
+        RecoveryError::Line(number) => Fault::Journal(number),
+        RecoveryError::Wrong(number) => {
+            tell_wrong(faults, line, right);
+            Fault::Journal(number)
+        }
+        RecoveryError::Read => Fault::File,
+        RecoveryError::Memory => Fault::Memory,
+    }
+}
+
+/// Reads a journal, replays it, and plays the lines of the input behind it.
+fn go_on<D: Folder, S: Source, O: Sink, F: Sink>(
+    alloc: Global,
+    folder: &D,
+    program: &Arc<Program>,
+    node: NodeId,
+    name: &str,
+    journal: &str,
+    input: &mut S,
+    output: &mut O,
+    faults: &mut F,
+) -> Result<Result<Score, PlayError>, Fault>
+    requires { node_named (program_of (arc_value program.now)) name.now ≡ Some node.0 }
+    ensures ends { GoesOn (D.known folder.now journal.now) (program_of (arc_value program.now)) node.0 name.now
+        (S.left input.old) (S.left input.new) result
+        (change (O.written output.old) (O.written output.new) (O.failures output.old) (O.failures output.new)) }
+    ensures quiet { IfErr result (λ f. IsQuiet f
+        (change (F.written faults.old) (F.written faults.new) (F.failures faults.old) (F.failures faults.new))) }
+{
+    let Ok(file) = folder.open(journal) else {
+        return Err(Fault::File);
+    };
+    let mut source = Buffered::new(file);
+    let mut line = Vec::new(alloc);
+    let mut right = String::new(alloc);
+    let recovered = match recover_live(
+        alloc,
+        program,
+        node,
+        name,
+        &mut source,
+        &mut line,
+        &mut right,
+    ) {
+        Ok(recovered) => recovered,
+        Err(error) => return Err(refuse(error, &line, right.as_bytes(), faults)),
+    };
+    tell_start(faults, recovered.start);
+    Ok(resume_live(alloc, program, node, name, recovered, input, output, faults))
+}
 
 /// Plays the lines of the input on the node. An error is of a fault before the first line, or of the play itself.
 fn play_on<D: Folder, S: Source, O: Sink, F: Sink>(
@@ -26,7 +109,8 @@ fn play_on<D: Folder, S: Source, O: Sink, F: Sink>(
     ensures ends { TaskEnds (ReadFails D.File D.File.left D.File.failures) (D.known folder.now) (S.left input.old) (S.left input.new)
         (task_seen task.entry) result
         (change (O.written output.old) (O.written output.new) (O.failures output.old) (O.failures output.new)) }
-    ensures quiet { OnErr result ((F.written faults.new ≡ F.written faults.old) × (F.failures faults.new ≡ F.failures faults.old)) }
+    ensures quiet { IfErr result (λ f. IsQuiet f
+        (change (F.written faults.old) (F.written faults.new) (F.failures faults.old) (F.failures faults.new))) }
 {
     let program = read_program(alloc, folder, task.program)?;
     let Some(node) = program.node(task.node) else {
@@ -35,7 +119,12 @@ fn play_on<D: Folder, S: Source, O: Sink, F: Sink>(
     let Ok(program) = Arc::new(alloc, program) else {
         return Err(Fault::Memory);
     };
-    Ok(run_live(alloc, &program, node, task.node, input, output, faults))
+    match task.journal {
+        None => Ok(run_live(alloc, &program, node, task.node, input, output, faults)),
+        Some(journal) => go_on(
+            alloc, folder, &program, node, task.node, journal, input, output, faults,
+        ),
+    }
 }
 
 fn perform<D: Folder, S: Source, O: Sink, F: Sink>(
@@ -49,7 +138,8 @@ fn perform<D: Folder, S: Source, O: Sink, F: Sink>(
     ensures ends { AskedEnds (TaskEnds (ReadFails D.File D.File.left D.File.failures) (D.known folder.now)
         (S.left input.old) (S.left input.new)) (asked (map string_bytes words.now)) result
         (change (O.written output.old) (O.written output.new) (O.failures output.old) (O.failures output.new)) }
-    ensures quiet { OnErr result ((F.written faults.new ≡ F.written faults.old) × (F.failures faults.new ≡ F.failures faults.old)) }
+    ensures quiet { IfErr result (λ f. IsQuiet f
+        (change (F.written faults.old) (F.written faults.new) (F.failures faults.old) (F.failures faults.new))) }
 {
     let task = read_words(alloc, words)?;
     play_on(alloc, folder, task, input, output, faults)
@@ -74,8 +164,8 @@ fn fault_of(error: PlayError) -> Fault
 }
 
 /// Makes the call of each line of the input on the node that the words name, and writes the journal: each entry before the next line
-/// is read. Gives the status of the process: 0 where all lines were read and each was a call, 2 where one was none, which `faults` is
-/// given with its number, else that of the fault.
+/// is read. With a journal among the words that is read and replayed first, and written on. Gives the status of the process: 0 where
+/// all lines were read and each was a call, 2 where one was none, which `faults` is given with its number, else that of the fault.
 pub fn command<D: Folder, S: Source, O: Sink, F: Sink>(
     alloc: Global,
     folder: &D,

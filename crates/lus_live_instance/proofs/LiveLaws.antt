@@ -10,9 +10,11 @@ use Rattle.lus_machine.specs.HistorySpecs.Histories.{History, empty}
 use Rattle.lus_machine.specs.Machines.{Told}
 use Rattle.std.specs.Str.{bytes_eq}
 use Rattle.lus_reactions.specs.PlaySpecs.declared.playing.Score.{Score}
-use Rattle.lus_reactions.specs.Reactions.{HasReacted, HasReactedSome}
+use Rattle.lus_reactions.specs.Reactions.{HasReacted, HasReactedSome, IsCallTo}
 use Rattle.lus_reactions.proofs.ReactionLaws.{not_begun}
-use Rattle.lus_live_instance.specs.Lives.{HasLived, HasLivedSome, IsLive}
+use Rattle.lus_recovery.specs.Recoveries.{HasRecovered, HasResumed, HasResumedSome}
+use Rattle.lus_recovery.specs.declared.recovering.Start.{Start}
+use Rattle.lus_live_instance.specs.Lives.{HasLived, HasLivedOn, HasLivedSome, HasLivedSomeOn, IsLive}
 
 pub lawful_of : (p : Program) (f : ℕ) (m : Told) → IsLive p f m → History p f m.history
 lawful_of p f m live =
@@ -61,3 +63,35 @@ module _ (p : Program) (f : ℕ) (name : Text) (left : Option Bytes) (w w' : Opt
     reacted = subst (λ ns. HasReactedSome p ns f name left m.history w w') named
         (subst (λ r. HasReactedSome r names f name left m.history w w') same reacted);
   }
+
+  -- ---- behind the history of a journal
+
+  module _ (start : Start) (h : List Entry) where
+    pub all_resumed : (end : Option Bytes) (score : Score) → HasResumed (IsCallTo q names f) names name start left end h m.history w w' score
+        → HasLivedOn p f name start left end h w w' score
+    all_resumed end score resumed =
+        let r = subst (λ ns. HasResumed (IsCallTo p ns f) ns name start left end h m.history w w' score) named
+        (subst (λ x. HasResumed (IsCallTo x names f) names name start left end h m.history w w' score) same resumed) in
+        record {
+          entries = r.entries;
+          lawful = subst (History p f) r.entered (lawful_of p f m live);
+          asks = r.asks;
+          wrote = r.wrote;
+        }
+
+    pub some_resumed : HasResumedSome (IsCallTo q names f) names name start left h m.history w w' → HasLivedSomeOn p f name start left h w w'
+    some_resumed resumed =
+        let r = subst (λ ns. HasResumedSome (IsCallTo p ns f) ns name start left h m.history w w') named
+        (subst (λ x. HasResumedSome (IsCallTo x names f) names name start left h m.history w w') same resumed) in
+        record {
+          entries = r.entries;
+          lawful = subst (History p f) r.entered (lawful_of p f m live);
+          asks = r.asks;
+          wrote = r.wrote;
+        }
+
+-- what was replayed on an instance that was empty
+pub recovered_new : (start : Start) (names known : Names) (name : Text) (left : Option Bytes) (h h' : List Entry) → h ≡ [] → names ≡ known
+    → HasRecovered start names name left h h' → HasRecovered start known name left [] h'
+recovered_new start names known name left h h' empty same recovered =
+    subst (λ ns. HasRecovered start ns name left [] h') same (subst (λ es. HasRecovered start names name left es h') empty recovered)

@@ -3,6 +3,6 @@
 
 mod live;
 
-pub use live::{Instance, new_instance, run_live};
+pub use live::{Instance, Recovered, new_instance, recover_live, resume_live, run_live};
 pub use lus_machine;
-pub use lus_reactions::{PlayError, Score};
+pub use lus_reactions::{PlayError, RecoveryError, Score, Start};

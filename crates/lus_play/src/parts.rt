@@ -42,6 +42,12 @@ pub trait Reacts {
         ensures ok { IfOk result (λ a. history self.new ≡ history self.old ++ entry_of request.now a ∷ []) }
         ensures err { OnErr result (history self.new ≡ history self.old) }
         ensures same { (p : Program) (f : ℕ) → is_of self.old p f → is_of self.new p f };
+
+    /// Goes on behind a line of a journal that is no entry.
+    fn pass(&mut self)
+        ensures still { history self.new ≡ history self.old }
+        ensures same { (p : Program) (f : ℕ) → is_of self.old p f → is_of self.new p f }
+    {}
 }
 
 /// How entries are spelled.

@@ -1,27 +1,20 @@
 -- What comes of lines that are played as calls of a node: a history, and its journal.
-use Rattle.std.specs.Prelude.{◌≡◌, ℕ, List, [], ◌∷◌, Option, Some, None, IsUtf8, codes, slice_get}
+use Rattle.std.specs.Prelude.{◌≡◌, ℕ, List, Option, Some, None, IsUtf8, slice_get}
 use Rattle.lus_values.specs.Names.{Names, Text}
 use Rattle.lus_program.specs.Programs.{Program}
 use Rattle.lus_requests.specs.declared.request.Request.{Request}
 use Rattle.lus_requests.specs.declared.request.Entry.{Entry}
 use Rattle.lus_scripts.specs.Requests.{request_in}
 use Rattle.lus_devices.specs.Devices.{Bytes, WritesBeginning, with_text}
-use Rattle.lus_devices.specs.Journals.{Journal, journal_text}
+use Rattle.lus_devices.specs.Journals.{journal_text}
 use Rattle.lus_play.specs.Plays.{AsksAll, AsksSome}
 use Rattle.lus_play.specs.declared.playing.Score.{Score}
+use Rattle.lus_recovery.specs.Journals.{journal_of, user}
 
 -- the request to a node that a line is, if it is one
 abbrev pub IsCallTo : Program → Names → ℕ → Bytes → Option Request → Type 0
 IsCallTo p names f line (Some r) = IsUtf8 line × (request_in p names (slice_get p.nodes f) line ≡ Some r)
 IsCallTo p names f line None = IsUtf8 line → request_in p names (slice_get p.nodes f) line ≡ None
-
--- the names of the callers
-abbrev pub user : List Text
-user = codes "user" ∷ []
-
--- the journal of an instance that is named like its node
-abbrev pub journal_of : Text → List Entry → Journal
-journal_of name h = record { instance = name; node = name; entries = h }
 
 abbrev pub live_text : Names → Text → List Entry → Text
 live_text names name h = journal_text names user (journal_of name h)

@@ -2,8 +2,8 @@
 #![tactic(auto)]
 
 mod calls;
-mod journal;
 mod reacting;
 
 pub use lus_play::{PlayError, Reacts, Score};
-pub use reacting::react;
+pub use lus_recovery::{RecoveryError, Start, recover};
+pub use reacting::{react, react_on};

@@ -1,27 +1,52 @@
-//! Playing lines on an instance.
+//! Playing lines of JSON on an instance.
 
-ghost use Rattle.std.specs.Prelude.{◌≡◌, [], ℕ, IfOk, OnErr, OnOk};
-ghost use Rattle.lus_devices.specs.Devices.{WritesBeginning, with_text};
+ghost use Rattle.std.specs.Prelude.{◌≡◌, [], ℕ, IfOk, OnErr};
 ghost use Rattle.lus_program.specs.Programs.{Program as PlainProgram};
 ghost use Rattle.lus_program.specs.View.{program_seen};
-ghost use Rattle.lus_reactions.specs.Reactions.{HasReacted, HasReactedSome};
+ghost use Rattle.lus_recovery.specs.Recoveries.{HasResumed, HasResumedSome};
+ghost use Rattle.lus_reactions.specs.Reactions.{HasReacted, HasReactedSome, IsCallTo};
 
 use crate::calls::JsonCalls;
-use crate::journal::{JournalLines, callers, count, head};
-use lus_devices::{Sink, Source, write_all};
-use lus_play::{PlayError, Reacts, Score, play};
+use lus_devices::{Sink, Source};
+use lus_play::{PlayError, Reacts, Score};
 use lus_program::{NodeId, Program};
+use lus_recovery::{Start, resume};
 use lus_values::Names;
 use std::alloc::Global;
 
-fn write_text<O: Sink>(output: &mut O, text: &str) -> Result<(), PlayError>
-    ensures whole { OnOk result (O.written output.new ≡ with_text (O.written output.old) text.now) }
-    ensures beginning { OnErr result (WritesBeginning (O.written output.old) (O.written output.new) text.now) }
+/// Makes the call of each line on an instance of this node of a program with these names of constructors, and writes on in its journal
+/// from where it was recovered: what is missing there, the line of each entry, numbered on, before the next call is read, and how many
+/// entries there are of all where no line is left. The instance is named like its node, and the caller is `user`. A line that is no
+/// call enters nothing, and `faults` is given its number and what is wrong. What is kept is one line, its call and its entry, however
+/// many there were.
+pub fn react_on<R: Reacts, S: Source, O: Sink, F: Sink>(
+    alloc: Global,
+    program: &Program,
+    names: &Names,
+    node: NodeId,
+    name: &str,
+    start: Start,
+    reactor: &mut R,
+    input: &mut S,
+    output: &mut O,
+    faults: &mut F,
+) -> Result<Score, PlayError>
+    ensures all { IfOk result (λ score. HasResumed (IsCallTo (program_seen program.now) names.now node.0) names.now name.now start
+        (S.left input.old) (S.left input.new) (R.history reactor.old) (R.history reactor.new) (O.written output.old) (O.written output.new)
+        score) }
+    ensures begun { OnErr result (HasResumedSome (IsCallTo (program_seen program.now) names.now node.0) names.now name.now start
+        (S.left input.old) (R.history reactor.old) (R.history reactor.new) (O.written output.old) (O.written output.new)) }
+    ensures same { (p : PlainProgram) (f : ℕ) → R.is_of reactor.old p f → R.is_of reactor.new p f }
 {
-    match write_all(output, text.as_bytes()) {
-        Ok(()) => Ok(()),
-        Err(_) => Err(PlayError::Write),
-    }
+    let calls = JsonCalls {
+        alloc,
+        program,
+        names,
+        node,
+    };
+    resume(
+        alloc, &calls, names, name, start, reactor, input, output, faults,
+    )
 }
 
 /// Makes the call of each line on an instance that was never called, of this node of a program with these names of constructors, and
@@ -46,21 +71,8 @@ pub fn react<R: Reacts, S: Source, O: Sink, F: Sink>(
         (R.history reactor.new) (O.written output.old) (O.written output.new)) }
     ensures same { (p : PlainProgram) (f : ℕ) → R.is_of reactor.old p f → R.is_of reactor.new p f }
 {
-    let callers = callers(alloc)?;
-    let lines = JournalLines {
-        names,
-        callers: &callers,
-    };
-    let calls = JsonCalls {
-        alloc,
-        program,
-        names,
-        node,
-    };
-    let first = head(alloc, name)?;
-    write_text(output, &first)?;
-    let score = play(alloc, &calls, reactor, &lines, 1, input, output, faults)?;
-    let last = count(alloc, score.entered)?;
-    write_text(output, &last)?;
-    Ok(score)
+    let start = Start::Head(0);
+    react_on(
+        alloc, program, names, node, name, start, reactor, input, output, faults,
+    )
 }

@@ -58,6 +58,11 @@ impl Reasons {
         })
     }
 
+    /// Goes on behind a line that is no entry.
+    pub fn pass(&mut self) {
+        self.line = self.line.saturating_add(1);
+    }
+
     /// The reasons so far, a line each.
     pub fn text(&self) -> &str {
         self.text.as_str()

@@ -1,5 +1,6 @@
 -- Journals that are replayed line by line: which lines are entries with the right replies, and what ended them.
-use Rattle.std.specs.Prelude.{◌≡◌, ◌≢◌, ◌+◌, ◌<◌, ◌++◌, ℕ, List, [], ◌∷◌, length, map, Option, Some, None, codes, ⊤}
+use Rattle.std.specs.Prelude.{◌≡◌, ◌≢◌, ◌+◌, ◌<◌, ◌++◌, ℕ, Bool, true, false, List, [], ◌∷◌, length, map, Option, codes, ⊤}
+use Rattle.std.specs.List.{All}
 use Rattle.lus_values.specs.Names.{Text, Names}
 use Rattle.lus_requests.specs.declared.request.Request.{Request}
 use Rattle.lus_requests.specs.declared.request.Reply.{Reply}
@@ -7,13 +8,17 @@ use Rattle.lus_requests.specs.declared.request.Entry.{Entry}
 use Rattle.lus_devices.specs.Devices.{Bytes, with_front}
 use Rattle.lus_devices.specs.Journals.{count_text, line_text}
 use Rattle.lus_asked.specs.Asked.{asked_text}
-use Rattle.lus_lines.specs.Lines.{IsLast}
+use Rattle.lus_lines.specs.Lines.{IsLast, IsPlain, IsWholeLine}
 use Rattle.lus_play.specs.Plays.{entry_of}
 use Rattle.lus_replay.specs.declared.line.Verdict.{Verdict}
 use Rattle.lus_replay.specs.declared.line.Verdict.TheVariants as verdicts
 use Rattle.lus_replay.specs.declared.replaying.Ending.{Ending}
 use Rattle.lus_replay.specs.declared.replaying.Ending.TheVariants as endings
+use Rattle.lus_replay.specs.declared.replaying.Kind.{Kind}
+use Rattle.lus_replay.specs.declared.replaying.Kind.TheVariants as kinds
 use Rattle.lus_replay.specs.declared.replaying.Replayed.{Replayed}
+use Rattle.lus_replay.specs.declared.replaying.Turn.{Turn}
+use Rattle.lus_replay.specs.declared.replaying.Turn.TheVariants as turns
 
 -- the nth line of a journal, of an entry whose caller has this name
 abbrev pub line_of : Names → Text → ℕ → Entry → Text
@@ -32,10 +37,78 @@ entry_said s = entry_of s.request s.reply
 abbrev pub said_line : Names → ℕ → Said → Text
 said_line names n s = line_of names s.caller n (entry_said s)
 
--- lines, the first of which is the nth
-abbrev pub said_text : Names → ℕ → List Said → Text
-said_text names n [] = []
-said_text names n (s ∷ ss) = said_line names n s ++ said_text names (n + 1) ss
+-- ---- the lines of a journal behind its first
+
+-- an entry; how many entries there are so far, where a run ended; or what a crash left of a line
+pub data Item : Type 0 where
+  Told : Said → Item
+  Counted : Item
+  CutShort : Text → Item
+
+-- the mark behind what a crash left, which ends that line
+abbrev pub cut_mark : Text
+cut_mark = codes "# cut short\n"
+
+-- how an item is spelled behind k entries
+abbrev pub item_text : Names → ℕ → Item → Text
+item_text names k (Told s) = said_line names (k + 1) s
+item_text names k Counted = count_text k
+item_text names k (CutShort t) = t ++ cut_mark
+
+-- what an item tells
+abbrev pub said_in : Item → List Said
+said_in (Told s) = s ∷ []
+said_in Counted = []
+said_in (CutShort t) = []
+
+-- the entries with the names of their callers
+abbrev pub saids_of : List Item → List Said
+saids_of [] = []
+saids_of (i ∷ is) = said_in i ++ saids_of is
+
+-- how items are spelled behind k entries
+abbrev pub items_text : Names → ℕ → List Item → Text
+items_text names k [] = []
+items_text names k (i ∷ is) = item_text names k i ++ items_text names (k + length (said_in i)) is
+
+-- what is left of a line has no line feed
+abbrev pub IsItem : Item → Type 0
+IsItem (Told s) = ⊤
+IsItem Counted = ⊤
+IsItem (CutShort t) = IsPlain t
+
+abbrev pub kind_of : Item → Kind
+kind_of (Told s) = kinds.Entry
+kind_of Counted = kinds.Count
+kind_of (CutShort t) = kinds.CutShort
+
+-- whether an item is the number of entries
+abbrev pub is_count : Kind → Bool
+is_count kinds.Entry = false
+is_count kinds.Count = true
+is_count kinds.CutShort = false
+
+-- how many entries an item of such a kind tells
+abbrev pub told_by : Kind → ℕ
+told_by kinds.Entry = 1
+told_by kinds.Count = 0
+told_by kinds.CutShort = 0
+
+-- whether the last item is the number of entries
+abbrev pub ends_counted : List Item → Bool
+ends_counted [] = false
+ends_counted (i ∷ []) = is_count (kind_of i)
+ends_counted (i ∷ j ∷ is) = ends_counted (j ∷ is)
+
+-- a line is what a crash left of one, with its mark
+abbrev pub IsCutShort : Text → Type 0
+IsCutShort line = (tail : Text) × (line ≡ tail ++ cut_mark)
+
+-- the word that a journal's first line begins with
+abbrev pub BeginsJournal : Text → Type 0
+BeginsJournal line = (rest : Text) × (line ≡ codes "instance " ++ rest)
+
+-- ---- lines that are replayed
 
 -- a line begins as one of such a request
 abbrev pub BeginsAsked : Names → Text → ℕ → Request → Text → Type 0
@@ -74,38 +147,49 @@ IsJudged verdicts.Right names n line right h h' = IsRight names n line h h'
 IsJudged verdicts.Wrong names n line right h h' = IsWrong names n line right h h'
 IsJudged verdicts.NoEntry names n line right h h' = ⊤
 
--- the lines of entries were read, which are new in the history
-pub record Replays (names : Names) (left later : Option Bytes) (h h' : List Entry) (saids : List Said) : Type 0 where
-  pub read : left ≡ with_front (said_text names 1 saids) later
-  pub entered : h' ≡ h ++ map entry_said saids
+-- items were read, whose entries are new in the history
+pub record Replays (names : Names) (left later : Option Bytes) (h h' : List Entry) (items : List Item) : Type 0 where
+  pub read : left ≡ with_front (items_text names 0 items) later
+  pub entered : h' ≡ h ++ map entry_said (saids_of items)
+  pub plain : All IsItem items
+
+-- a line behind k entries is an item of this kind
+pub record IsItemLine (kind : Kind) (names : Names) (k : ℕ) (line : Text) (h h' : List Entry) : Type 0 where
+  pub item : Item
+  pub kind_is : kind ≡ kind_of item
+  pub spelled : line ≡ item_text names k item
+  pub entered : h' ≡ h ++ map entry_said (said_in item)
+  pub plain : IsItem item
 
 -- what ended a journal behind k entries
 abbrev pub EndsSo : Ending → Names → ℕ → Option Bytes → Option Bytes → List Entry → List Entry → Text → Text → Type 0
-EndsSo endings.Whole names k left later h h' line right = (left ≡ with_front (count_text k) later) × (h' ≡ h)
-EndsSo endings.Open names k left later h h' line right = IsLast [] left later × (h' ≡ h)
-EndsSo endings.Cut names k left later h h' line right = (tail : Bytes) × IsLast tail left later × (0 < length tail) × (h' ≡ h)
+EndsSo endings.End names k left later h h' line right = IsLast [] left later × (h' ≡ h)
+EndsSo endings.Next names k left later h h' line right = (left ≡ with_front line later) × IsWholeLine line × BeginsJournal line × (h' ≡ h)
+EndsSo endings.Cut names k left later h h' line right = IsLast line left later × (0 < length line) × (h' ≡ h)
 EndsSo endings.Wrong names k left later h h' line right = (left ≡ with_front line later) × IsWrong names (k + 1) line right h h'
 EndsSo endings.NoEntry names k left later h h' line right = ⊤
 
--- a line behind k entries is one more, or ends the journal
-abbrev pub LineIs : Option Ending → Names → ℕ → Text → Text → List Entry → List Entry → Type 0
-LineIs None names k line right h h' = IsRight names (k + 1) line h h'
-LineIs (Some endings.Whole) names k line right h h' = (line ≡ count_text k) × (h' ≡ h)
-LineIs (Some endings.Open) names k line right h h' = ⊥
-LineIs (Some endings.Cut) names k line right h h' = ⊥
-LineIs (Some endings.Wrong) names k line right h h' = IsWrong names (k + 1) line right h h'
-LineIs (Some endings.NoEntry) names k line right h h' = ⊤
+-- a line behind k entries is an item more, or ends the journal
+abbrev pub LineIs : Turn → Names → ℕ → Text → Text → List Entry → List Entry → Type 0
+LineIs (turns.Item kind) names k line right h h' = IsItemLine kind names k line h h'
+LineIs (turns.Ended endings.End) names k line right h h' = ⊥
+LineIs (turns.Ended endings.Next) names k line right h h' = BeginsJournal line × (h' ≡ h)
+LineIs (turns.Ended endings.Cut) names k line right h h' = ⊥
+LineIs (turns.Ended endings.Wrong) names k line right h h' = IsWrong names (k + 1) line right h h'
+LineIs (turns.Ended endings.NoEntry) names k line right h h' = ⊤
 
--- what was read behind k entries is one more, or ends the journal
-abbrev pub TurnIs : Option Ending → Names → ℕ → Option Bytes → Option Bytes → List Entry → List Entry → Text → Text → Type 0
-TurnIs None names k left later h h' line right = (left ≡ with_front line later) × IsRight names (k + 1) line h h'
-TurnIs (Some ending) names k left later h h' line right = EndsSo ending names k left later h h' line right
+-- what was read behind k entries is an item more, or ends the journal
+abbrev pub TurnIs : Turn → Names → ℕ → Option Bytes → Option Bytes → List Entry → List Entry → Text → Text → Type 0
+TurnIs (turns.Item kind) names k left later h h' line right = (left ≡ with_front line later) × IsItemLine kind names k line h h'
+TurnIs (turns.Ended ending) names k left later h h' line right = EndsSo ending names k left later h h' line right
 
--- lines of entries were replayed, and then the journal ended
+-- items were read and their entries replayed, and then the journal ended
 pub record HasReplayed (names : Names) (r : Replayed) (left later : Option Bytes) (h h' : List Entry) (line right : Text) : Type 0 where
-  pub saids : List Said
+  pub items : List Item
   pub mid : Option Bytes
   pub past : List Entry
-  pub counted : r.entries ≡ length saids
-  pub replays : Replays names left mid h past saids
+  pub entries : r.entries ≡ length (saids_of items)
+  pub lines : r.lines ≡ length items
+  pub counted : r.is_counted ≡ ends_counted items
+  pub replays : Replays names left mid h past items
   pub ends : EndsSo r.ending names r.entries mid later past h' line right

@@ -1,11 +1,12 @@
--- A node is played on, or the program lacks it.
+-- A node is played on, perhaps behind what a journal has, or the program lacks it.
 use Rattle.std.proofs.Common.{◌≡◌, ◌∙◌, ap, refl, subst, sym, None, Some}
 use Rattle.std.specs.Arc.{arc_value}
 use Rattle.std.specs.Option.{option_map}
 use Rattle.lus_cli.specs.CodeSpecs.Codes.{program_of}
 use Rattle.lus_cli.specs.MachineSpecs.Formals.{node_named}
+use Rattle.lus_live.specs.CommandLine.{task_seen}
 use Rattle.lus_live.specs.Ends.{IsOfFile}
-use Rattle.lus_live.proofs.EndLemmas.{lived}
+use Rattle.lus_live.proofs.EndLemmas.{lived, quiet_nothing, task_behind, task_fresh}
 use Rattle.lus_live.proofs.shell.play_on.Goals as goal
 
 pub returns-in_default-clause-ends : goal.returns-in_default-clause-ends
@@ -13,15 +14,12 @@ returns-in_default-clause-ends g c =
     let none : node_named (program_of c.in_ok-program.program) c.args.task.node.now ≡ None = sym c.node.ensures ∙ ap (option_map _) c.in_default.is in
     ((refl, (program_of c.in_ok-program.program, c.in_ok-program.ensures.accepted, none)), refl, (refl, refl))
 
-pub returns-clause-ends : goal.returns-clause-ends
-returns-clause-ends g c =
+pub returns-in-None-clause-ends : goal.returns-in-None-clause-ends
+returns-in-None-clause-ends g c =
     let same : program_of c.in_ok-program.program ≡ program_of (arc_value c.in-Ok.program) = ap program_of (sym c.in-Ok.ensures.ok) in
     let named : node_named (program_of c.in_ok-program.program) c.args.task.node.now ≡ Some c.in-Some.node.0 =
     sym c.node.ensures ∙ ap (option_map _) c.in-Some.is in
-    record {
-      program = program_of (arc_value c.in-Ok.program);
-      accepted = subst (IsOfFile (g.D.Folder.known c.args.folder.now c.args.task.program.now)) same c.in_ok-program.ensures.accepted;
-      node = c.in-Some.node.0;
-      named = subst (λ p. node_named p c.args.task.node.now ≡ Some c.in-Some.node.0) same named;
-      lived = lived _ _ _ _ _ _ _ c.run_live.ensures.all c.run_live.ensures.begun;
-    }
+    task_fresh _ _ _ _ (task_seen c.args.task) (program_of (arc_value c.in-Ok.program)) c.in-Some.node.0 _
+    (subst (IsOfFile (g.D.Folder.known c.args.folder.now c.args.task.program.now)) same c.in_ok-program.ensures.accepted)
+    (subst (λ p. node_named p c.args.task.node.now ≡ Some c.in-Some.node.0) same named) _ (ap (option_map _) c.in-None.is)
+    (lived _ _ _ _ _ _ _ c.run_live.ensures.all c.run_live.ensures.begun)

@@ -2,7 +2,7 @@
 
 ghost use Rattle.std.specs.Prelude.{◌≡◌, ◌∷◌, [], IfOk, codes, map, string_bytes};
 ghost use Rattle.lus_devices.specs.Journals.{count_text, head_text, line_text};
-ghost use Rattle.lus_reactions.specs.Reactions.{journal_of, user};
+ghost use Rattle.lus_recovery.specs.Journals.{journal_of, user};
 
 use lus_devices::push_line;
 use lus_play::Speaks;
@@ -34,8 +34,8 @@ pub(crate) fn callers(alloc: Global) -> Result<Vec<String>, Memory>
     Ok(callers)
 }
 
-/// The first line of the journal.
-pub(crate) fn head(alloc: Global, name: &str) -> Result<String, Memory>
+/// The first line of the journal of an instance of this name, which is that of its node.
+pub fn head(alloc: Global, name: &str) -> Result<String, Memory>
     ensures { IfOk result (λ t. string_bytes t ≡ head_text (journal_of name.now [])) }
 {
     let mut text = String::new(alloc);

@@ -1,0 +1,4 @@
+pub mod JoinLaws
+pub mod RecoveryLaws
+pub mod ResumeLaws
+pub mod WriteLaws

@@ -1,0 +1,3 @@
+pub mod Journals
+pub mod Recoveries
+pub use Rattle.lus_play.specs as PlaySpecs
