@@ -18,7 +18,6 @@ use lus_live_instance::lus_machine::{NodeId, Program};
 use lus_reasons::Reasons;
 use lus_replay::{Ending, Replayed, replay};
 use std::alloc::Global;
-use std::mem::swap;
 use std::sync::Arc;
 
 /// Whether all journals are lawful, and what there is to say of them; and why the requests of lawful journals were refused, a line
@@ -235,7 +234,8 @@ fn audit_all<S: Source>(
         )? {
             Turn::Next(behind) => {
                 lines = behind;
-                swap(&mut first, &mut line);
+                first = line;
+                line = Vec::new(alloc);
             }
             Turn::Last => return Ok(true),
             Turn::Wrong => return Ok(false),
