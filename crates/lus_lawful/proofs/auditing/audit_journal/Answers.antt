@@ -1,5 +1,5 @@
 -- The journal is the one that was replayed.
-use Rattle.std.proofs.Common.{◌∙◌, ◌++◌, ap}
+use Rattle.std.proofs.Common.{◌∙◌, ◌++◌, ap₂}
 use Rattle.std.specs.Arc.{arc_value}
 use Rattle.lus_live_instance.specs.MachineSpecs.CodeSpecs.Codes.{program_of}
 use Rattle.lus_live_instance.proofs.LiveLaws.{named_within}
@@ -24,4 +24,4 @@ pub returns-in-Wrong : goal.returns-in-Wrong
 returns-in-Wrong g c =
     journal_wrong _ _ _ _ c.requires _ _ _ _ _ _ _ _ _ c.in_ok-replayed.ensures c.in_ok-behind.ensures _ c.in_ok-number.ensures c.in-Wrong.is
     (c.in_ok-push_wrong-in-Wrong.ensures
-    ∙ ap (λ r. c.args.report.now.items ++ wrong_text c.args.head.instance.now c.in_ok-number.number c.replay_new.new.line.items r) c.deref-in-Wrong.ensures)
+    ∙ ap₂ (λ l r. c.args.report.now.items ++ wrong_text c.args.head.instance.now c.in_ok-number.number l r) c.deref.ensures.value c.deref-in-Wrong.ensures)
