@@ -8,7 +8,9 @@ pub(crate) struct Handle {
     kept: *mut u8,
 }
 
-// A handle may go to another thread; one call at a time has it, by `&mut`.
+// SAFETY: the library asks that a handle is in one place and given to one call at a time, and that it goes to another thread behind
+// a start or join of a thread, a lock or a channel. A `Handle` is moved and never copied, a call has it by `&mut`, and safe Rust hands
+// values to threads in no other way. It isn't `Sync`: two threads that have it by `&` have no call that takes it so.
 unsafe impl Send for Handle {}
 
 impl Handle {

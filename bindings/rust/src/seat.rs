@@ -5,7 +5,8 @@ use crate::raw::{self, Answer, Handle, Leaf};
 use crate::value::{Reply, Request, Row, Value, numbers_of, reply_of};
 use std::thread;
 
-/// A caller's place at an instance of a node. It may go to another thread.
+/// A caller's place at an instance of a node. It may go to another thread, since it is moved and a call has it by `&mut`: so one call
+/// at a time has it, which is all that the library asks. Each thread has a seat of its own.
 pub struct Seat {
     handle: Handle,
     outputs: Vec<Leaf>,
@@ -15,6 +16,14 @@ pub struct Seat {
 pub struct HeldSeat {
     seat: Seat,
 }
+
+// This is compiled only where they may go to another thread.
+const _: () = {
+    const fn goes<T: Send>() {}
+    goes::<Seat>();
+    goes::<HeldSeat>();
+    goes::<Journal>();
+};
 
 impl Seat {
     pub(crate) fn new(handle: Handle) -> Seat {

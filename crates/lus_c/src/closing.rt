@@ -1,136 +1,38 @@
 //! Seats that are gathered, and the end of their instance.
-ghost use Rattle.std.specs.Prelude.{◌≡◌, false};
-ghost use Rattle.lus_c.specs.Holds.{has_content};
-ghost use Rattle.lus_c.specs.Held.{IsOkay, ContentLeaves, HeldLeaves};
-ghost use Rattle.lus_c.specs.Owed.{ContentTells, HeldTells, BothTell};
+ghost use Rattle.std.specs.Prelude.{◌≡◌, None};
+ghost use Rattle.lus_foreign.specs.Held.{IsOkay, HeldEnds, HeldGathers, HeldIsEmpty};
+ghost use Rattle.lus_foreign.specs.Owed.{BothTell};
 
-use crate::content::Content;
-use crate::handle::Handle;
-use crate::seat_group::{Ended, SeatGroup};
-use crate::status::{HANDLE, MEMORY, NONE, OK, SEATS};
+use lus_foreign::Handle;
 use std::alloc::Global;
-use std::mem;
 
 /// The last of the seats that are together, in `seat`.
 #[unsafe(no_mangle)]
 pub extern "C" fn lus_raw_pop(alloc: Global, gather: &mut Handle, seat: &mut Handle) -> u32 {
-    if !seat.is_free() {
-        return HANDLE;
-    }
-    let Some(mut content) = gather.take(alloc) else {
-        return HANDLE;
-    };
-    let status = match &mut *content {
-        Content::Group(seats) => pop_in(alloc, seats, seat),
-        _ => HANDLE,
-    };
-    gather.put(content);
-    status
-}
-
-// The box is made first, so that no seat is lost where there is no memory for it.
-fn pop_in(alloc: Global, seats: &mut SeatGroup, seat: &mut Handle) -> u32
-    requires { has_content seat.old.kept.held ≡ false }
-{
-    let Ok(mut content) = Box::new(alloc, Content::Group(SeatGroup::empty(alloc))) else {
-        return MEMORY;
-    };
-    let Some(last) = seats.pop() else {
-        return NONE;
-    };
-    *content = Content::Seat(last);
-    seat.put(content);
-    OK
-}
-
-fn push_in(seats: &mut SeatGroup, content: Content) -> Result<(), (Content, u32)>
-    requires { ContentTells seats.old content }
-{
-    let Content::Seat(seat) = content else {
-        return Err((content, HANDLE));
-    };
-    if !seats.is_mate(&seat) {
-        return Err((Content::Seat(seat), SEATS));
-    }
-    match seats.push(seat) {
-        Ok(()) => Ok(()),
-        Err(seat) => Err((Content::Seat(seat), MEMORY)),
-    }
-}
-
-fn gather_in(alloc: Global, seats: &mut SeatGroup, seat: &mut Handle) -> u32
-    requires { HeldTells seats.old seat.old.kept.held }
-{
-    let Some(mut content) = seat.take(alloc) else {
-        return HANDLE;
-    };
-    let held = mem::replace(&mut *content, Content::Group(SeatGroup::empty(alloc)));
-    match push_in(seats, held) {
-        Ok(()) => OK,
-        Err((held, status)) => {
-            *content = held;
-            seat.put(content);
-            status
-        }
-    }
+    lus_foreign::pop(alloc, gather, seat)
 }
 
 /// No seats yet, in `gather`.
 #[unsafe(no_mangle)]
-pub extern "C" fn lus_raw_gather_none(alloc: Global, gather: &mut Handle) -> u32 {
-    if !gather.is_free() {
-        return HANDLE;
-    }
-    match Box::new(alloc, Content::Group(SeatGroup::empty(alloc))) {
-        Ok(content) => {
-            gather.put(content);
-            OK
-        }
-        Err(_) => MEMORY,
-    }
+pub extern "C" fn lus_raw_gather_none(alloc: Global, gather: &mut Handle) -> u32
+    ensures { IsOkay result → HeldIsEmpty gather.new.kept.held }
+{
+    lus_foreign::gather_none(alloc, gather)
 }
 
 /// Puts a seat to those that are together.
 #[unsafe(no_mangle)]
 pub extern "C" fn lus_raw_gather(alloc: Global, gather: &mut Handle, seat: &mut Handle) -> u32
     requires { BothTell gather.old.kept.held seat.old.kept.held }
+    ensures { IsOkay result → HeldGathers gather.old.kept.held seat.old.kept.held gather.new.kept.held × (seat.new.kept.held ≡ None) }
 {
-    let Some(mut content) = gather.take(alloc) else {
-        return HANDLE;
-    };
-    let status = match &mut *content {
-        Content::Group(seats) => gather_in(alloc, seats, seat),
-        _ => HANDLE,
-    };
-    gather.put(content);
-    status
-}
-
-fn close_in(alloc: Global, content: Content) -> (Content, u32)
-    ensures { IsOkay result.1 → ContentLeaves result.0 }
-{
-    let Content::Group(seats) = content else {
-        return (content, HANDLE);
-    };
-    match seats.close(alloc) {
-        Ended::Closed(closed) => (Content::Journal(closed), OK),
-        Ended::Strangers(seats) => (Content::Group(seats), SEATS),
-        Ended::Memory(seats) => (Content::Group(seats), MEMORY),
-        Ended::Lost => (Content::Group(SeatGroup::empty(alloc)), SEATS),
-    }
+    lus_foreign::gather(alloc, gather, seat)
 }
 
 /// Closes the instance of the seats that are together, where they are all of its seats: then the handle holds its entries.
 #[unsafe(no_mangle)]
 pub extern "C" fn lus_raw_close(alloc: Global, gather: &mut Handle) -> u32
-    ensures { IsOkay result → HeldLeaves gather.new.kept.held }
+    ensures { IsOkay result → HeldEnds gather.old.kept.held gather.new.kept.held }
 {
-    let Some(mut content) = gather.take(alloc) else {
-        return HANDLE;
-    };
-    let held = mem::replace(&mut *content, Content::Group(SeatGroup::empty(alloc)));
-    let (held, status) = close_in(alloc, held);
-    *content = held;
-    gather.put(content);
-    status
+    lus_foreign::close(alloc, gather)
 }

@@ -1,15 +1,10 @@
-//! What C calls: the library's calls behind handles. The header is `lus.h`; `lus.c` tests for null first.
+//! What C calls: the calls of `lus_foreign` by C's names. The header is `lus.h`; `lus.c` tests for null first.
 #![tactic(auto)]
 
 mod calls;
 mod closing;
 mod compiling;
-mod content;
-mod handle;
 mod holding;
 mod journals;
-mod node_seat;
 mod programs;
-mod seat_group;
-mod status;
 mod texts;

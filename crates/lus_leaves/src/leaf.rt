@@ -1,4 +1,6 @@
 //! Values as C has them: a structure is a leaf with the number of its fields, and then the fields.
+ghost use Rattle.std.specs.Prelude.{◌≡◌};
+ghost use Rattle.lus_leaves.specs.Leaves.{leaf};
 
 /// One value of C's, or the head of a structure. What a value doesn't use is 0.
 #[repr(C)]
@@ -24,6 +26,8 @@ pub(crate) const STRUCT: u32 = 4;
 /// What no output is, and no input can be.
 pub(crate) const NIL: u32 = 5;
 
-pub(crate) fn leaf_of(kind: u32, of: u32, number: i64) -> Leaf {
+pub(crate) fn leaf_of(kind: u32, of: u32, number: i64) -> Leaf
+    ensures { result ≡ leaf kind of number }
+{
     Leaf { kind, of, number }
 }

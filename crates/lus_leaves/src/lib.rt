@@ -1,7 +1,6 @@
 //! Rows as C has them, an array of numbers, and back.
 #![tactic(auto)]
 
-mod counting;
 mod leaf;
 mod reading;
 mod writing;

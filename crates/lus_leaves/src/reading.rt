@@ -1,4 +1,8 @@
 //! Leaves become rows.
+ghost use Rattle.std.specs.Prelude.{◌≡◌, ◌++◌, pos, length, reverse, map, IfOk, IfSome};
+ghost use Rattle.lus_values.specs.View.{entry_of};
+ghost use Rattle.lus_leaves.specs.Leaves.{row_leaves};
+ghost use Rattle.lus_leaves.specs.Reading.{IsSingle, IsFound, AreFields, AreRows};
 
 use crate::leaf::{ABSENT, BOOL, ENUM, INT, Leaf, STRUCT};
 use lus_values::{Memory, Row, Value};
@@ -18,7 +22,9 @@ enum Found {
 }
 
 /// A number that a count or a constructor can be.
-fn small(number: i64) -> Option<u32> {
+fn small(number: i64) -> Option<u32>
+    ensures { IfSome result (λ n. number ≡ pos n) }
+{
     if number < 0 {
         return None;
     }
@@ -36,15 +42,9 @@ enum Single {
     Wrong,
 }
 
-fn truth(leaf: Leaf) -> Single {
-    match leaf.number {
-        0 => Single::Entry(Some(Value::Bool(false))),
-        1 => Single::Entry(Some(Value::Bool(true))),
-        _ => Single::Wrong,
-    }
-}
-
-fn read_leaf(leaf: Leaf) -> Single {
+fn read_leaf(leaf: Leaf) -> Single
+    ensures { IsSingle leaf result }
+{
     if leaf.kind == ENUM {
         return match small(leaf.number) {
             Some(constructor) => Single::Entry(Some(Value::Enum(leaf.of, constructor))),
@@ -57,8 +57,11 @@ fn read_leaf(leaf: Leaf) -> Single {
     if leaf.kind == INT {
         return Single::Entry(Some(Value::Int(leaf.number)));
     }
-    if leaf.kind == BOOL {
-        return truth(leaf);
+    if leaf.kind == BOOL && leaf.number == 0 {
+        return Single::Entry(Some(Value::Bool(false)));
+    }
+    if leaf.kind == BOOL && leaf.number == 1 {
+        return Single::Entry(Some(Value::Bool(true)));
     }
     if leaf.kind == STRUCT {
         return match small(leaf.number) {
@@ -74,7 +77,9 @@ fn read_leaf(leaf: Leaf) -> Single {
 
 /// The entry that begins at a place.
 #[cycle(read)]
-fn read(alloc: Global, leaves: &[Leaf], at: usize, depth: u32) -> Result<Found, Memory> {
+fn read(alloc: Global, leaves: &[Leaf], at: usize, depth: u32) -> Result<Found, Memory>
+    ensures { IfOk result (λ f. IsFound leaves.now at f) }
+{
     let Some(leaf) = leaves.get(at) else {
         return Ok(Found::Wrong);
     };
@@ -103,7 +108,9 @@ fn read_fields(
     start: usize,
     count: u32,
     depth: u32,
-) -> Result<Option<(Vec<Value>, usize)>, Memory> {
+) -> Result<Option<(Vec<Value>, usize)>, Memory>
+    ensures { IfOk result (λ r. IfSome r (λ f. AreFields leaves.now start count f.0.items f.1)) }
+{
     let mut fields = Vec::new(alloc);
     let mut at = start;
     for _field in 0..count {
@@ -122,7 +129,9 @@ fn read_fields(
 }
 
 /// The entries that these leaves are, or nothing: leaves that no values are, or structures more than 64 deep.
-fn entries_of(alloc: Global, leaves: &[Leaf]) -> Result<Option<Vec<Option<Value>>>, Memory> {
+fn entries_of(alloc: Global, leaves: &[Leaf]) -> Result<Option<Vec<Option<Value>>>, Memory>
+    ensures { IfOk result (λ r. IfSome r (λ es. row_leaves (map entry_of es.items) ≡ leaves.now)) }
+{
     let mut entries = Vec::new(alloc);
     let mut at = 0;
     for _left in 0..leaves.len() {
@@ -144,35 +153,38 @@ fn entries_of(alloc: Global, leaves: &[Leaf]) -> Result<Option<Vec<Option<Value>
 }
 
 /// The row that these leaves are, or nothing: leaves that no values are, or structures more than 64 deep.
-pub fn row_of(alloc: Global, leaves: &[Leaf]) -> Result<Option<Row>, Memory> {
+pub fn row_of(alloc: Global, leaves: &[Leaf]) -> Result<Option<Row>, Memory>
+    ensures { IfOk result (λ r. IfSome r (λ row. row_leaves row ≡ leaves.now)) }
+{
     match entries_of(alloc, leaves)? {
         Some(entries) => Ok(Some(Row::new(entries))),
         None => Ok(None),
     }
 }
 
-/// Rows of so many entries each, of the last entries on; the rows come in the order of the entries.
-fn part(
+/// The next row of so many entries, of which the last comes first; nothing where there are fewer.
+fn next_row(
     alloc: Global,
     entries: &mut Vec<Option<Value>>,
-    count: u64,
     width: usize,
-) -> Result<Vec<Row>, Memory> {
-    let mut rows = Vec::new(alloc);
-    for _row in 0..count {
-        let mut items = Vec::new(alloc);
-        for _entry in 0..width {
-            if let Some(entry) = entries.pop() {
-                items.push(entry)?;
-            }
-        }
-        rows.push(Row::new(items))?;
+) -> Result<Option<Row>, Memory>
+    ensures { IfOk result (λ r. IfSome r (λ row. (length row ≡ width)
+        × (map entry_of (reverse entries.old.items) ≡ row ++ map entry_of (reverse entries.new.items)))) }
+{
+    let mut items = Vec::new(alloc);
+    for _entry in 0..width {
+        let Some(entry) = entries.pop() else {
+            return Ok(None);
+        };
+        items.push(entry)?;
     }
-    Ok(rows)
+    Ok(Some(Row::new(items)))
 }
 
 /// The rows that these leaves are, so many and all of one length, or nothing: leaves that no such rows are, or more than 65,535 rows.
-pub fn rows_of(alloc: Global, leaves: &[Leaf], count: u64) -> Result<Option<Vec<Row>>, Memory> {
+pub fn rows_of(alloc: Global, leaves: &[Leaf], count: u64) -> Result<Option<Vec<Row>>, Memory>
+    ensures { IfOk result (λ r. IfSome r (λ rows. AreRows leaves.now count rows.items)) }
+{
     if count > MOST_ROWS {
         return Ok(None);
     }
@@ -184,9 +196,17 @@ pub fn rows_of(alloc: Global, leaves: &[Leaf], count: u64) -> Result<Option<Vec<
     } else {
         entries.len() / count as usize
     };
-    if entries.len() as u64 != count * width as u64 {
-        return Ok(None);
-    }
     entries.reverse();
-    Ok(Some(part(alloc, &mut entries, count, width)?))
+    let mut rows = Vec::new(alloc);
+    for _row in 0..count {
+        let Some(row) = next_row(alloc, &mut entries, width)? else {
+            return Ok(None);
+        };
+        rows.push(row)?;
+    }
+    if entries.is_empty() {
+        Ok(Some(rows))
+    } else {
+        Ok(None)
+    }
 }

@@ -1,4 +1,5 @@
 use Rattle.std.proofs.Common.{◌+◌, ◌*◌}
+use Rattle.lus_leaves.specs.Reading.{AreFields}
 use Rattle.lus_leaves.proofs.reading.+read.Given as goal
 
 abbrev pub decreases-read : goal.decreases-read
@@ -6,3 +7,6 @@ decreases-read l = 2 * l.depth
 
 abbrev pub decreases-read_fields : goal.decreases-read_fields
 decreases-read_fields l = 2 * l.depth + 1
+
+abbrev pub invariant-read_fields-loop-field : goal.invariant-read_fields-loop-field
+invariant-read_fields-loop-field l = AreFields l.leaves l.start l._field l.fields.items l.at

@@ -1,0 +1,24 @@
+-- What a handle keeps and its parts own what a box at the same types owns.
+use mir.Syntax.{impl, tnil, dnil}
+use denote.Signature.{Slot, plain}
+use Rattle.std_alloc.proofs.BoxSteps.Form.{Bx}
+use Rattle.std_heap.specs.contracts.Global as Heap
+use Rattle.std_heap.specs.contracts.GlobalAllocator.TheImpl.{ghosts, dict}
+use Rattle.std_heap.proofs.Global.TheLaws as heap
+use Rattle.lus_foreign.specs.contracts.content.Content as Content
+use Rattle.lus_foreign.proofs.content.Content.TheLaws as content
+use Rattle.lus_foreign.specs.contracts.handle.parts.Parts as Parts
+use Rattle.lus_foreign.specs.contracts.handle.kept.Kept as Kept
+use mathlib.Core.List.{[]}
+
+abbrev pub E : Bx
+E = record { row = Content.the_row; laws = content.the_row_laws; al = record { row = Heap.the_row; laws = heap.the_row_laws; g = ghosts; d = dict; drops = impl [] tnil dnil } }
+
+abbrev pub FromParts : Slot 0
+FromParts = plain (λ _. Parts.the_row Content.the_row Heap.the_row ghosts)
+
+abbrev pub FromKept : Slot 0
+FromKept = plain (λ _. Kept.the_row)
+
+abbrev pub FromHeap : Slot 0
+FromHeap = plain (λ _. Heap.the_row)

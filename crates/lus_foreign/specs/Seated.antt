@@ -1,0 +1,40 @@
+-- What C has of an instance: a seat with the number of its instance.
+use Rattle.std.specs.Prelude.{◌≡◌, ℕ, List, [], ◌∷◌, map}
+use Rattle.std.specs.List.{All}
+use Rattle.lus_shared.specs.Knowledge.{Instance, Standing}
+
+pub record Seated : Type 0 where
+  pub id : ℕ
+  pub standing : Standing
+
+abbrev pub standings : List Seated → List Standing
+standings ss = map (λ (s : Seated). s.standing) ss
+
+-- both are seats of one node, and so they are told
+pub record AreMates (s t : Seated) : Type 0 where
+  pub id : t.id ≡ s.id
+  pub instance : t.standing.instance ≡ s.standing.instance
+
+-- all are seats of the first's node
+abbrev pub Together : List Seated → Type 0
+Together [] = Unit {0}
+Together (s ∷ ss) = All (AreMates s) ss
+
+-- the seat is told to be of the node of the first
+abbrev pub IsMate : List Seated → Seated → Type 0
+IsMate [] t = Unit {0}
+IsMate (s ∷ ss) t = s.id ≡ t.id
+
+-- the seat is of the node of the first
+abbrev pub Belongs : List Seated → Seated → Type 0
+Belongs [] t = Unit {0}
+Belongs (s ∷ ss) t = AreMates s t
+
+-- seats that are told to be of one node are: what C's numbers owe
+abbrev pub NumbersTell : List Seated → Seated → Type 0
+NumbersTell [] t = Unit {0}
+NumbersTell (s ∷ ss) t = s.id ≡ t.id → t.standing.instance ≡ s.standing.instance
+
+-- the seat is of this instance, told by this number
+abbrev pub IsAt : ℕ → Instance → Seated → Type 0
+IsAt n i s = (s.id ≡ n) × (s.standing.instance ≡ i)

@@ -1,0 +1,33 @@
+//! What a handle holds.
+ghost use Rattle.std.specs.Prelude.{◌≡◌};
+
+use crate::node_seat::{HeldSeat, NodeSeat};
+use crate::seat_group::{ClosedNode, SeatGroup};
+use lus_shared::lus_machine::Program;
+use std::sync::Arc;
+
+/// What is behind a handle of C's.
+#[derive(Drop)]
+pub enum Content {
+    Program(Arc<Program>),
+    Seat(NodeSeat),
+    /// A seat that has the machine to itself.
+    Held(HeldSeat),
+    /// Seats of one node, on their way to or from an array of C's.
+    Group(SeatGroup),
+    Journal(ClosedNode),
+}
+
+/// Takes what may go to another thread.
+fn send<T: Send>(value: T) -> T
+    ensures { result ≡ value }
+{
+    value
+}
+
+/// A seat as a handle holds it, which may go to another thread with its handle: that this is proved is all that it is for.
+pub fn sent(seat: NodeSeat) -> NodeSeat
+    ensures { result ≡ seat }
+{
+    send(seat)
+}

@@ -1,0 +1,3 @@
+pub mod Leaves
+pub mod Reading
+pub mod Writing
