@@ -1,33 +1,13 @@
 //! Forms of other languages, and of the full language, by their tokens.
 
 use crate::declaration::Declaration;
+use crate::form::{Form, across, finding_of, told};
+use crate::heads::{ended, misplaced};
+use crate::lists::{branched, merged, paired};
 use crate::spelled::{compares, is_infix, is_next, is_symbol, is_word};
 use lus_faults::{Edit, Finding, bytes_at, slice_of};
 use lus_syntax::{Symbol, Token, TokenKind, Word};
 use std::alloc::{AllocError, Global};
-
-/// A form that is told by its tokens: what is said, a note, and the bytes that another text takes the place of.
-#[derive(Clone, Copy)]
-struct Form {
-    sentence: &'static str,
-    note: &'static str,
-    instead: Option<(u32, u32, &'static str)>,
-}
-
-/// A form without another text.
-fn told(sentence: &'static str, note: &'static str) -> Option<Form> {
-    Some(Form {
-        sentence,
-        note,
-        instead: None,
-    })
-}
-
-/// Where two tokens stand, from the first one's first byte to the second one's last.
-fn across(first: &Token, second: &Token) -> (u32, u32) {
-    let start = first.span.start.byte;
-    (start, second.span.end().byte.saturating_sub(start))
-}
 
 /// Two symbols that make one in other languages.
 fn doubled(declaration: &Declaration<'_>, found: &Token) -> Option<Form> {
@@ -70,10 +50,13 @@ fn assigned(declaration: &Declaration<'_>, found: &Token) -> Option<Form> {
     })
 }
 
-/// A number with a point.
-fn pointed(declaration: &Declaration<'_>) -> Option<Form> {
-    let point = declaration.before(1)?;
-    let number = declaration.before(2)?;
+/// A number with a point, at the point or behind it.
+fn pointed(declaration: &Declaration<'_>, found: &Token) -> Option<Form> {
+    let (number, point) = if is_symbol(Some(found), Symbol::Dot) {
+        (declaration.before(1)?, found)
+    } else {
+        (declaration.before(2)?, declaration.before(1)?)
+    };
     let is_number = matches!(number.kind, TokenKind::Number(_));
     if is_number && is_symbol(Some(point), Symbol::Dot) && is_next(Some(number), Some(point)) {
         return told(
@@ -232,6 +215,18 @@ fn worded(source: &str, declaration: &Declaration<'_>, found: &Token) -> Option<
             "An enumeration is matched by `merge`, a truth value by `if`.",
         );
     }
+    if word == "automaton" || word == "state" {
+        return told(
+            "automata are left out",
+            "Keep the state in a variable of an enumeration, as in `state = Off fby next;`, and choose by `merge` or `if`.",
+        );
+    }
+    if word == "reset" {
+        return told(
+            "`reset` is left out: a call isn't reset",
+            "Give the node an input `reset`, and write `if reset then init else ..` round what it remembers.",
+        );
+    }
     None
 }
 
@@ -240,13 +235,14 @@ fn form_of(source: &str, declaration: &Declaration<'_>, found: &Token) -> Option
     doubled(declaration, found)
         .or(slashed(declaration, found))
         .or(assigned(declaration, found))
-        .or(pointed(declaration))
+        .or(pointed(declaration, found))
         .or(joined(source, found))
         .or(computed(declaration, found))
         .or(clocked(declaration, found))
         .or(typed(declaration, found))
         .or(listed(declaration, found))
         .or(worded(source, declaration, found))
+        .or(misplaced(source, declaration, found))
 }
 
 /// The place behind the operand that begins at one.
@@ -295,7 +291,7 @@ fn unlabelled(
     let Some(found) = declaration.found() else {
         return Ok(None);
     };
-    if !is_merge || is_symbol(Some(found), Symbol::Open) {
+    if !is_merge || matches!(found.kind, TokenKind::Punctuation(_)) {
         return Ok(None);
     }
     let middle = operand_end(declaration, declaration.fault);
@@ -358,21 +354,6 @@ fn bracketed(
     Ok(Some(Finding::new(alloc, sentence, length).with_edit(Some(edit))))
 }
 
-/// What is said of a form, with the other text where there is one.
-fn finding_of(alloc: Global, form: Form, length: u32) -> Result<Finding, AllocError> {
-    let sentence = String::from_str(alloc, form.sentence)?;
-    let finding = Finding::new(alloc, sentence, length).with_note(alloc, form.note)?;
-    let Some((byte, taken, text)) = form.instead else {
-        return Ok(finding);
-    };
-    let edit = Edit {
-        byte,
-        length: taken,
-        text: String::from_str(alloc, text)?,
-    };
-    Ok(finding.with_edit(Some(edit)))
-}
-
 /// What is said of a form of another language, or of the full one.
 pub fn foreign(
     alloc: Global,
@@ -380,7 +361,10 @@ pub fn foreign(
     declaration: &Declaration<'_>,
 ) -> Result<Option<Finding>, AllocError> {
     let Some(found) = declaration.found() else {
-        return Ok(None);
+        return match ended(source, declaration) {
+            Some(form) => Ok(Some(finding_of(alloc, form, 1)?)),
+            None => Ok(None),
+        };
     };
     let clock = bracketed(alloc, source, declaration)?;
     if clock.is_some() {
@@ -389,6 +373,18 @@ pub fn foreign(
     let merge = unlabelled(alloc, source, declaration)?;
     if merge.is_some() {
         return Ok(merge);
+    }
+    let list = merged(alloc, source, declaration)?;
+    if list.is_some() {
+        return Ok(list);
+    }
+    let branches = branched(alloc, source, declaration)?;
+    if branches.is_some() {
+        return Ok(branches);
+    }
+    let pairs = paired(alloc, source, declaration)?;
+    if pairs.is_some() {
+        return Ok(pairs);
     }
     match form_of(source, declaration, found) {
         Some(form) => Ok(Some(finding_of(alloc, form, found.span.length)?)),

@@ -164,15 +164,71 @@ fn takes_all(lead: Option<&Token>) -> bool {
     }
 }
 
+/// How close an operator holds its operands together, least first, where readers agree on it.
+fn closeness(token: &Token) -> usize {
+    if reckons(token) {
+        return 4;
+    }
+    if compares(token) {
+        return 3;
+    }
+    match token.kind {
+        TokenKind::Keyword(Word::And) => 2,
+        TokenKind::Keyword(Word::Or | Word::Xor) => 1,
+        _ => 0,
+    }
+}
+
+/// Whether a `when` stands among the tokens from a place up to the fault.
+fn samples_before(declaration: &Declaration<'_>, from: Option<&usize>) -> bool {
+    let first = from.copied().unwrap_or(declaration.fault);
+    let before = declaration
+        .tokens
+        .get(first..declaration.fault)
+        .unwrap_or(&[]);
+    before.iter().any(|token| is_word(Some(token), Word::When))
+}
+
+/// Whether a `when` samples the nearest operand alone: another operand of its expression is sampled by itself, or the operator
+/// behind its clock is a closer one than that before the operand.
+fn samples_nearest(declaration: &Declaration<'_>, openings: &[usize], closings: &[usize]) -> bool {
+    let Some(lead) = lead_of(declaration, openings.first().copied()) else {
+        return false;
+    };
+    if !is_infix(lead) {
+        return false;
+    }
+    if samples_before(declaration, openings.last()) {
+        return true;
+    }
+    match closings.first() {
+        Some(place) => match declaration.tokens.get(*place) {
+            Some(next) => closeness(next) > closeness(lead),
+            None => false,
+        },
+        None => false,
+    }
+}
+
+/// The nearest place behind a token that takes all that follows.
+fn outer_of(declaration: &Declaration<'_>, openings: &[usize]) -> Option<usize> {
+    for from in openings {
+        if takes_all(lead_of(declaration, Some(*from))) {
+            return Some(*from);
+        }
+    }
+    None
+}
+
 /// Where parentheses belong, before the fault's operator or round what it joins, so that more is read.
 fn grouping(
     alloc: Global,
     declaration: &Declaration<'_>,
+    openings: &[usize],
 ) -> Result<Option<(usize, usize)>, AllocError> {
     let Some(found) = declaration.found() else {
         return Ok(None);
     };
-    let openings = openings(alloc, declaration)?;
     let closings = closings(alloc, declaration)?;
     if is_word(Some(found), Word::If) {
         return last_closing_from(alloc, declaration, declaration.fault, &closings);
@@ -186,7 +242,9 @@ fn grouping(
     let nearest = openings.first().copied();
     let lead = lead_of(declaration, nearest);
     let from = nearest.unwrap_or(0);
-    if takes_all(lead) {
+    let outer = outer_of(declaration, openings);
+    if takes_all(lead) || (takes_all(Some(found)) && outer.is_some()) {
+        let from = outer.unwrap_or(from);
         let whole = last_closing_from(alloc, declaration, from, &closings)?;
         if whole.is_some() {
             return Ok(whole);
@@ -198,7 +256,13 @@ fn grouping(
             return Ok(compared);
         }
     }
-    opening_before(alloc, declaration, &openings)
+    if is_word(Some(found), Word::When) && samples_nearest(declaration, openings, &closings) {
+        let sampled = closing_from(alloc, declaration, from, &closings)?;
+        if sampled.is_some() {
+            return Ok(sampled);
+        }
+    }
+    opening_before(alloc, declaration, openings)
 }
 
 /// The text of a source from a token on up to the end of the one before another.
@@ -254,14 +318,21 @@ fn compared_from(declaration: &Declaration<'_>, openings: &[usize]) -> Option<us
     None
 }
 
+/// What is said of a mix of operators, and the change that makes it readable, or its first part.
+#[derive(Drop)]
+pub struct Mix {
+    pub finding: Finding,
+    pub edit: Edit,
+}
+
 /// What is said of two comparisons of order in a row: what stands between them is compared twice.
 fn chained(
     alloc: Global,
     source: &str,
     declaration: &Declaration<'_>,
-) -> Result<Option<Finding>, AllocError> {
-    let openings = openings(alloc, declaration)?;
-    let (Some(found), Some(from)) = (declaration.found(), compared_from(declaration, &openings))
+    openings: &[usize],
+) -> Result<Option<Mix>, AllocError> {
+    let (Some(found), Some(from)) = (declaration.found(), compared_from(declaration, openings))
     else {
         return Ok(None);
     };
@@ -277,37 +348,47 @@ fn chained(
     let sentence = String::from_str(alloc, "comparisons aren't chained")?;
     let note = "Each compares two values: `and` joins them.";
     let finding = Finding::new(alloc, sentence, found.span.length).with_note(alloc, note)?;
-    Ok(Some(finding.with_edit(Some(edit))))
+    Ok(Some(Mix { finding, edit }))
 }
 
-/// What is said where parentheses make a mix of operators readable.
-pub fn mixed(
+/// What is said of operators that parentheses part.
+fn parted(
     alloc: Global,
     source: &str,
     declaration: &Declaration<'_>,
-) -> Result<Option<Finding>, AllocError> {
-    let chain = chained(alloc, source, declaration)?;
-    if chain.is_some() {
-        return Ok(chain);
-    }
-    let Some((from, to)) = grouping(alloc, declaration)? else {
-        return Ok(None);
-    };
-    let (Some(found), Some((start, inner))) = (
+    openings: &[usize],
+) -> Result<Option<Mix>, AllocError> {
+    let (Some(found), Some((from, to))) = (
         declaration.found(),
-        text_between(source, declaration, from, to),
+        grouping(alloc, declaration, openings)?,
     ) else {
         return Ok(None);
     };
-    let openings = openings(alloc, declaration)?;
-    let other = other_of(declaration, openings.first().copied());
-    let sentence = sentence(alloc, source, found, other)?;
+    let Some((start, inner)) = text_between(source, declaration, from, to) else {
+        return Ok(None);
+    };
     let edit = Edit {
         byte: start,
         length: inner.len().min(u32::MAX as usize) as u32,
         text: format!(in alloc; "({inner})")?,
     };
+    let other = other_of(declaration, openings.first().copied());
+    let sentence = sentence(alloc, source, found, other)?;
     let note = "Readers and tools guess differently how these group: parentheses say it.";
     let finding = Finding::new(alloc, sentence, found.span.length).with_note(alloc, note)?;
-    Ok(Some(finding.with_edit(Some(edit))))
+    Ok(Some(Mix { finding, edit }))
+}
+
+/// What is said of the mix of operators at a fault, with the change that has more read.
+pub fn mix_at(
+    alloc: Global,
+    source: &str,
+    declaration: &Declaration<'_>,
+) -> Result<Option<Mix>, AllocError> {
+    let openings = openings(alloc, declaration)?;
+    let chain = chained(alloc, source, declaration, &openings)?;
+    if chain.is_some() {
+        return Ok(chain);
+    }
+    parted(alloc, source, declaration, &openings)
 }

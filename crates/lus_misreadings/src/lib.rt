@@ -5,12 +5,17 @@
 mod case;
 mod declaration;
 mod expecting;
+mod form;
 mod forms;
 mod grouping;
+mod heads;
 mod kept;
 mod lexical;
+mod lists;
 mod misreading;
+mod mixes;
 mod repairing;
+mod respelling;
 mod spelled;
 mod symbols;
 mod trial;

@@ -3,9 +3,10 @@
 use crate::declaration::declaration_at;
 use crate::expecting::unexpected;
 use crate::forms::foreign;
-use crate::grouping::mixed;
 use crate::lexical::{great_number, kept_back, no_token};
+use crate::mixes::mixed;
 use crate::repairing::repaired;
+use crate::respelling::respelled;
 use lus_faults::Finding;
 use lus_syntax::{Refusal, RefusalNumber, lex};
 use std::alloc::{AllocError, Global};
@@ -26,6 +27,10 @@ fn misspelt(alloc: Global, source: &str, refusal: &Refusal) -> Result<Option<Fin
     let mix = mixed(alloc, source, &declaration)?;
     if mix.is_some() {
         return Ok(mix);
+    }
+    let word = respelled(alloc, source, &declaration)?;
+    if word.is_some() {
+        return Ok(word);
     }
     let repair = repaired(alloc, source, &declaration)?;
     if repair.is_some() {

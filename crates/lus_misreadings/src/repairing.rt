@@ -1,10 +1,10 @@
 //! A token that is missing, too much, or a word where a name belongs.
 
 use crate::declaration::Declaration;
-use crate::spelled::{MISSING, Spelled};
+use crate::spelled::{MISSING, Spelled, is_symbol, is_word};
 use crate::trial::{Reach, reach_of, token_of};
 use lus_faults::{Edit, Finding, slice_of};
-use lus_syntax::{Token, TokenKind, Word};
+use lus_syntax::{Symbol, Token, TokenKind, Word};
 use std::alloc::{AllocError, Global};
 
 /// How a declaration is repaired at its fault.
@@ -15,14 +15,73 @@ enum Repair {
     Rename,
 }
 
+/// How far tokens are to be read with a repair: behind the first semicolon from the fault on, which ends what it is in.
+fn end_wanted(declaration: &Declaration<'_>) -> Reach {
+    let most = declaration.next();
+    let behind = declaration.tokens.get(declaration.fault..).unwrap_or(&[]);
+    for token in behind {
+        if is_symbol(Some(token), Symbol::Semicolon) {
+            let end = place_of(token);
+            return if end.is_behind(most) { end } else { most };
+        }
+    }
+    most
+}
+
+fn place_of(token: &Token) -> Reach {
+    Reach {
+        line: token.span.start.line,
+        column: token.span.start.column,
+    }
+}
+
+/// Whether what isn't read any more is a parenthesis or a brace that closes, which tells of a repair that breaks something else.
+fn is_broken(declaration: &Declaration<'_>, reached: Reach) -> bool {
+    for token in declaration.tokens {
+        let is_there = token.span.start.line == reached.line
+            && token.span.start.column == reached.column;
+        if is_there {
+            return is_symbol(Some(token), Symbol::Close)
+                || is_symbol(Some(token), Symbol::CloseBrace);
+        }
+    }
+    false
+}
+
+/// Whether the equation or the declaration of a fault has an equals sign before it.
+fn is_equated(declaration: &Declaration<'_>) -> bool {
+    for back in 1..declaration.tokens.len() {
+        let token = declaration.before(back);
+        if is_symbol(token, Symbol::Semicolon) || is_word(token, Word::Let) || token.is_none() {
+            return false;
+        }
+        if is_symbol(token, Symbol::Equal) {
+            return true;
+        }
+    }
+    false
+}
+
+/// The repair with which most is read, the first of those that are as good, and how far; none that leaves what it is in unread.
+fn good_of(alloc: Global, declaration: &Declaration<'_>) -> Result<Option<Repair>, AllocError> {
+    match best_of(alloc, declaration)? {
+        Some((repair, reached)) if !is_broken(declaration, reached) => Ok(Some(repair)),
+        _ => Ok(None),
+    }
+}
+
 /// The repair with which most is read, the first of those that are as good, and how far.
 fn best_of(
     alloc: Global,
     declaration: &Declaration<'_>,
 ) -> Result<Option<(Repair, Reach)>, AllocError> {
     let mut best = None;
-    let mut most = declaration.next();
+    let mut most = end_wanted(declaration);
+    let is_equated = is_equated(declaration);
     for missing in &MISSING {
+        if is_equated && missing.text == "=" {
+            continue;
+        }
         let tried = declaration.spliced(alloc, 0, &[token_of(missing.kind)])?;
         let reached = reach_of(alloc, &tried);
         if reached.is_behind(most) {
@@ -131,10 +190,10 @@ pub fn repaired(
     source: &str,
     declaration: &Declaration<'_>,
 ) -> Result<Option<Finding>, AllocError> {
-    match best_of(alloc, declaration)? {
-        Some((Repair::Insert(missing), _)) => missing_token(alloc, source, declaration, missing),
-        Some((Repair::Remove, _)) => needless_token(alloc, source, declaration),
-        Some((Repair::Rename, _)) => taken_word(alloc, source, declaration),
+    match good_of(alloc, declaration)? {
+        Some(Repair::Insert(missing)) => missing_token(alloc, source, declaration, missing),
+        Some(Repair::Remove) => needless_token(alloc, source, declaration),
+        Some(Repair::Rename) => taken_word(alloc, source, declaration),
         None => Ok(None),
     }
 }

@@ -3,7 +3,7 @@
 use crate::case::Case;
 
 /// What is said of each, a longer text before a shorter one.
-pub static SYMBOLS: [(&str, Case); 24] = [
+pub static SYMBOLS: [(&str, Case); 26] = [
     (
         "(*",
         Case {
@@ -73,7 +73,7 @@ pub static SYMBOLS: [(&str, Case); 24] = [
             length: 1,
             sentence: "`|` joins arrays, which are left out",
             note: "`or` says that one of two conditions holds.",
-            instead: None,
+            instead: Some("or"),
         },
     ),
     (
@@ -83,6 +83,24 @@ pub static SYMBOLS: [(&str, Case); 24] = [
             sentence: "`%` is no operator",
             note: "`mod` is what a division leaves.",
             instead: Some("mod"),
+        },
+    ),
+    (
+        "?",
+        Case {
+            length: 1,
+            sentence: "`?` is no operator",
+            note: "A choice is written `if c then x else y`.",
+            instead: None,
+        },
+    ),
+    (
+        "@",
+        Case {
+            length: 1,
+            sentence: "`@` begins no token",
+            note: "Contracts and pragmas are left out: keep them in comments.",
+            instead: None,
         },
     ),
     (
@@ -125,8 +143,8 @@ pub static SYMBOLS: [(&str, Case); 24] = [
         "'",
         Case {
             length: 1,
-            sentence: "`'` begins no token",
-            note: "Names have letters of ASCII, digits and `_`.",
+            sentence: "`'` begins no token: there are no characters",
+            note: "Names have letters of ASCII, digits and `_`; for values that have names write an enumeration.",
             instead: None,
         },
     ),

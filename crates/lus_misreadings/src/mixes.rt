@@ -1,0 +1,129 @@
+//! Mixes of operators, with all the parentheses that their expression needs.
+
+use crate::declaration::{Declaration, declaration_at};
+use crate::grouping::{Mix, mix_at};
+use lus_faults::{Edit, Finding, bytes_at, edited};
+use lus_grammar::parse;
+use lus_syntax::{RefusalNumber, lex};
+use std::alloc::{AllocError, Global};
+
+/// The most further changes that are put together with a first one.
+const MOST_FURTHER: usize = 5;
+
+/// A change of a text, and one of what it makes, as one change.
+fn joined(
+    alloc: Global,
+    changed: &str,
+    first: &Edit,
+    second: &Edit,
+) -> Result<Option<Edit>, AllocError> {
+    let made = (first.byte as usize).saturating_add(first.text.len());
+    let start = (first.byte as usize).min(second.byte as usize);
+    let taken = (second.byte as usize).saturating_add(second.length as usize);
+    let end = made.max(taken);
+    let (Some(before), Some(behind)) = (
+        bytes_at(changed, start, second.byte as usize),
+        bytes_at(changed, taken, end),
+    ) else {
+        return Ok(None);
+    };
+    let text = &second.text;
+    let length = end
+        .saturating_sub(made)
+        .saturating_add(first.byte as usize)
+        .saturating_add(first.length as usize)
+        .saturating_sub(start);
+    Ok(Some(Edit {
+        byte: start.min(u32::MAX as usize) as u32,
+        length: length.min(u32::MAX as usize) as u32,
+        text: format!(in alloc; "{before}{text}{behind}")?,
+    }))
+}
+
+/// Whether nothing ends an equation between a change of a text and a place behind it.
+fn is_of_same(changed: &str, edit: &Edit, place: u32) -> bool {
+    let made = (edit.byte as usize).saturating_add(edit.text.len());
+    match bytes_at(changed, made, place as usize) {
+        Some(between) => !between.as_bytes().iter().any(|byte| *byte == b';'),
+        None => true,
+    }
+}
+
+/// The change of a text together with the next one that its expression needs, where there is one.
+fn with_next(alloc: Global, text: &str, edit: &Edit) -> Result<Option<Edit>, AllocError> {
+    let Some(changed) = edited(alloc, text, edit)? else {
+        return Ok(None);
+    };
+    let Ok(tokens) = lex(alloc, &changed) else {
+        return Ok(None);
+    };
+    let Err(refusal) = parse(alloc, &tokens) else {
+        return Ok(None);
+    };
+    if refusal.number != RefusalNumber::Syntax {
+        return Ok(None);
+    }
+    let Some(declaration) = declaration_at(&tokens, refusal.line, refusal.column) else {
+        return Ok(None);
+    };
+    next_of(alloc, &changed, &declaration, edit)
+}
+
+/// The change that made a text together with the one that the expression of its fault needs, if it is the same expression.
+fn next_of(
+    alloc: Global,
+    changed: &str,
+    declaration: &Declaration<'_>,
+    edit: &Edit,
+) -> Result<Option<Edit>, AllocError> {
+    let Some(found) = declaration.found() else {
+        return Ok(None);
+    };
+    if !is_of_same(changed, edit, found.span.start.byte) {
+        return Ok(None);
+    }
+    match mix_at(alloc, changed, declaration)? {
+        Some(mix) => joined(alloc, changed, edit, &mix.edit),
+        None => Ok(None),
+    }
+}
+
+/// A change of a text with all further ones that its expression needs.
+fn whole(alloc: Global, text: &str, first: Edit) -> Result<Edit, AllocError> {
+    let mut edit = first;
+    for _turn in 0..MOST_FURTHER {
+        match with_next(alloc, text, &edit)? {
+            Some(further) => edit = further,
+            None => return Ok(edit),
+        }
+    }
+    Ok(edit)
+}
+
+/// The text of a declaration's tokens, and where it begins.
+fn text_of<'s>(source: &'s str, declaration: &Declaration<'_>) -> Option<(u32, &'s str)> {
+    let start = declaration.tokens.first()?.span.start.byte;
+    let end = declaration.tokens.last()?.span.end().byte;
+    Some((start, bytes_at(source, start as usize, end as usize)?))
+}
+
+/// What is said where parentheses, or `and` between comparisons, make a mix of operators readable: all that its expression needs.
+pub fn mixed(
+    alloc: Global,
+    source: &str,
+    declaration: &Declaration<'_>,
+) -> Result<Option<Finding>, AllocError> {
+    let (Some(Mix { finding, edit }), Some((start, text))) = (
+        mix_at(alloc, source, declaration)?,
+        text_of(source, declaration),
+    ) else {
+        return Ok(None);
+    };
+    let here = Edit {
+        byte: edit.byte.saturating_sub(start),
+        ..edit
+    };
+    let whole = whole(alloc, text, here)?;
+    let byte = whole.byte.saturating_add(start);
+    Ok(Some(finding.with_edit(Some(Edit { byte, ..whole }))))
+}
