@@ -13,3 +13,6 @@ returns-clause-recovered g c =
 
 pub new_instance-requires : goal.new_instance-requires
 new_instance-requires g c = named_within (program_of (arc_value c.args.program.now)) c.args.name.now c.args.node.0 c.requires
+
+pub returns-clause-live : goal.returns-clause-live
+returns-clause-live g c = c.in_ok-start.ensures.same (program_of (arc_value c.args.program.now)) c.args.node.0 c.in_ok-instance.ensures.live
