@@ -1,5 +1,5 @@
 -- A fault is told behind what was said before.
-use Rattle.std.proofs.Common.{rules, Err}
+use Rattle.std.proofs.Common.{Err}
 use Rattle.lus_live.proofs.EndLemmas.{told_alone}
 use Rattle.lus_live.proofs.shell.command.Goals as goal
 

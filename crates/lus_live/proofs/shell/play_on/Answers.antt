@@ -8,7 +8,7 @@ use Rattle.lus_cli.specs.Ends.{ReadFails}
 use Rattle.lus_cli.specs.MachineSpecs.Formals.{node_named}
 use Rattle.lus_live.specs.CommandLine.{task_seen}
 use Rattle.lus_live.specs.Ends.{IsOfFile}
-use Rattle.lus_live.proofs.EndLemmas.{lived, quiet_nothing, task_behind, task_fresh}
+use Rattle.lus_live.proofs.EndLemmas.{lived, task_fresh}
 use Rattle.lus_live.proofs.shell.play_on.Goals as goal
 
 pub returns-in_default-clause-ends : goal.returns-in_default-clause-ends
