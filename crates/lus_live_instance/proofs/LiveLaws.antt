@@ -3,6 +3,7 @@ use Rattle.std.proofs.Common.{◌≡◌, ◌+◌, ◌<◌, ℕ, Bool, true, fals
 use Rattle.std.specs.List.{position_from}
 use Rattle.lus_values.specs.Names.{Names, Text}
 use Rattle.lus_program.specs.Programs.{Node, Program}
+use Rattle.lus_requests.specs.declared.request.Entry.{Entry}
 use Rattle.lus_devices.specs.Devices.{Bytes}
 use Rattle.lus_machine.specs.Constructors.{names_of}
 use Rattle.lus_machine.specs.Formals.{node_named}
@@ -93,5 +94,5 @@ module _ (p : Program) (f : ℕ) (name : Text) (left : Option Bytes) (w w' : Opt
 -- what was replayed on an instance that was empty
 pub recovered_new : (start : Start) (names known : Names) (name : Text) (left : Option Bytes) (h h' : List Entry) → h ≡ [] → names ≡ known
     → HasRecovered start names name left h h' → HasRecovered start known name left [] h'
-recovered_new start names known name left h h' empty same recovered =
-    subst (λ ns. HasRecovered start ns name left [] h') same (subst (λ es. HasRecovered start names name left es h') empty recovered)
+recovered_new start names known name left h h' none same recovered =
+    subst (λ ns. HasRecovered start ns name left [] h') same (subst (λ es. HasRecovered start names name left es h') none recovered)

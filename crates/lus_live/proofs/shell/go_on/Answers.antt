@@ -9,4 +9,4 @@ returns-in-Err-clause-ends g c = (subst IsRecoveryFault (sym c.refuse.ensures.fa
 
 pub returns-clause-ends : goal.returns-clause-ends
 returns-clause-ends g c =
-    gone_on _ _ _ _ _ _ _ _ _ _ _ _ c.in-Ok.ensures.opened c.new.ensures c.in-Ok-recover_live.ensures.recovered c.resume_live.ensures.all c.resume_live.ensures.begun
+    gone_on _ _ _ _ _ _ _ _ _ _ _ _ c.in-Ok.ensures.opened c.new-source.ensures c.in-Ok-recover_live.ensures.recovered c.resume_live.ensures.all c.resume_live.ensures.begun
