@@ -8,7 +8,7 @@ use Rattle.lus_cli.specs.Ends.{ReadFails}
 use Rattle.lus_cli.specs.MachineSpecs.Formals.{node_named}
 use Rattle.lus_live.specs.CommandLine.{task_seen}
 use Rattle.lus_live.specs.Ends.{IsOfFile}
-use Rattle.lus_live.proofs.EndLemmas.{lived, task_fresh}
+use Rattle.lus_live.proofs.EndLemmas.{lived, task_behind, task_fresh}
 use Rattle.lus_live.proofs.shell.play_on.Goals as goal
 
 pub returns-in_default-clause-ends : goal.returns-in_default-clause-ends
@@ -27,3 +27,15 @@ returns-in-None-clause-ends g c =
     (subst (IsOfFile (g.D.Folder.known c.args.folder.now c.args.task.program.now)) same c.in_ok-program.ensures.accepted)
     (subst (λ p. node_named p c.args.task.node.now ≡ Some c.in-Some.node.0) same named) c.run_live.result (ap (option_map _) c.in-None.is)
     (lived _ _ _ _ _ _ _ c.run_live.ensures.all c.run_live.ensures.begun)
+
+pub returns-clause-ends : goal.returns-clause-ends
+returns-clause-ends g c =
+    let same : program_of c.in_ok-program.program ≡ program_of (arc_value c.in-Ok.program) = ap program_of (sym c.in-Ok.ensures.ok) in
+    let named : node_named (program_of c.in_ok-program.program) c.args.task.node.now ≡ Some c.in-Some.node.0 =
+    sym c.node.ensures ∙ ap (option_map _) c.in-Some.is in
+    task_behind (ReadFails g.row.D-File.Denot g.D.File.Source.left g.D.File.Source.failures) (g.D.Folder.known c.args.folder.now)
+    (g.S.Source.left c.args.input.now) (g.S.Source.left c.go_on.new.input) (task_seen c.args.task) (program_of (arc_value c.in-Ok.program)) c.in-Some.node.0
+    (change (g.O.Sink.written c.args.output.now) (g.O.Sink.written c.go_on.new.output) (g.O.Sink.failures c.args.output.now) (g.O.Sink.failures c.go_on.new.output))
+    (subst (IsOfFile (g.D.Folder.known c.args.folder.now c.args.task.program.now)) same c.in_ok-program.ensures.accepted)
+    (subst (λ p. node_named p c.args.task.node.now ≡ Some c.in-Some.node.0) same named) c.in-Some-journal.journal.now c.go_on.result
+    (ap (option_map _) c.in-Some-journal.is) c.go_on.ensures.ends
