@@ -28,7 +28,7 @@ pub record Asked : Type 0 where
   pub journal : Option Text
 
 abbrev pub chosen : Option Text → Option Text → Option Text → Option Asked
-chosen None node journal = None
+chosen None _ journal = None
 chosen (Some program) None journal = None
 chosen (Some program) (Some node) journal = Some (record { program = program; node = node; journal = journal })
 
