@@ -22,6 +22,12 @@ pub(crate) struct Kept {
     pub is_begun: bool,
 }
 
+/// What was kept at an instant, to go back to.
+#[derive(Drop)]
+pub struct Mark {
+    kept: Vec<Kept>,
+}
+
 /// A node that was written out, at its instants so far.
 #[derive(Drop)]
 pub struct Instants {
@@ -40,6 +46,33 @@ impl Instants {
             })?;
         }
         Ok(Instants { expanded, kept })
+    }
+
+    /// Before the first instant again.
+    pub fn begin_again(&mut self) {
+        for kept in &mut self.kept {
+            kept.last = None;
+            kept.is_begun = false;
+        }
+    }
+
+    /// What is kept now.
+    pub fn mark(&self, alloc: Global) -> Result<Mark, Memory> {
+        let mut kept = Vec::new(alloc);
+        for term in &self.kept {
+            let last = match &term.last {
+                Some(value) => Some(copy(alloc, value)?),
+                None => None,
+            };
+            let is_begun = term.is_begun;
+            kept.push(Kept { last, is_begun })?;
+        }
+        Ok(Mark { kept })
+    }
+
+    /// Goes back to the instant of a mark.
+    pub fn go_back(&mut self, mark: Mark) {
+        self.kept = mark.kept;
     }
 
     /// The node of a call, by its place among the program's, and where it was called.

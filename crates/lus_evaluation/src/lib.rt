@@ -9,5 +9,5 @@ mod terms;
 
 pub use expanding::expand;
 pub use faulty::Faulty;
-pub use instants::{Found, Instants};
+pub use instants::{Found, Instants, Mark};
 pub use terms::{Caller, Expanded};

@@ -1,6 +1,7 @@
 //! Operations that have no value, in words.
 
-use lus_evaluation::{Caller, Faulty, Found, Instants};
+use crate::reached::Fault;
+use lus_evaluation::{Caller, Faulty, Instants};
 use lus_program::Program;
 use lus_values::{Memory, Names, Op, Value, push_value};
 use std::alloc::Global;
@@ -110,16 +111,16 @@ fn push_path(
     Ok(())
 }
 
-/// Appends which operation has no value, where, and why, at the instant of a number.
+/// Appends which operation has no value, where, why, and at which instant.
 pub(crate) fn push_fault(
     text: &mut String,
     alloc: Global,
     program: &Program,
     names: &Names,
     instants: &Instants,
-    found: &Found,
-    number: u64,
+    fault: &Fault,
 ) -> Result<(), Memory> {
+    let (found, number) = (&fault.found, fault.number);
     push_operation(text, names, &found.faulty)?;
     let (line, column) = (found.place.line, found.place.column);
     let cause = cause(found.faulty.op(), found.faulty.operands());

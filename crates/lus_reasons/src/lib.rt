@@ -4,6 +4,7 @@
 mod faults;
 mod inputs;
 mod lineage;
+mod reached;
 mod reasons;
 mod types;
 

@@ -76,13 +76,21 @@ impl Lineage {
         Ok(())
     }
 
-    /// The places of the lineage's inputs, the newest first.
-    pub(crate) fn places(&self, alloc: Global) -> Result<Vec<usize>, Memory> {
+    /// The places of the lineage's inputs behind one that was reached, the newest first, and whether it is one of the lineage; if it
+    /// isn't, they are the places of all.
+    pub(crate) fn places_behind(
+        &self,
+        alloc: Global,
+        reached: Option<usize>,
+    ) -> Result<(Vec<usize>, bool), Memory> {
         let mut places = Vec::new(alloc);
         let mut end = self.end;
-        for _instant in 0..self.accepted.len() {
+        for _instant in 0..=self.accepted.len() {
+            if end == reached {
+                return Ok((places, true));
+            }
             let Some(place) = end else {
-                return Ok(places);
+                return Ok((places, false));
             };
             places.push(place)?;
             end = match self.accepted.get(place) {
@@ -90,7 +98,7 @@ impl Lineage {
                 None => None,
             };
         }
-        Ok(places)
+        Ok((places, false))
     }
 
     pub(crate) fn inputs(&self, place: usize) -> Option<&Row> {

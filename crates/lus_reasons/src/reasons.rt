@@ -3,7 +3,7 @@
 use crate::faults::push_fault;
 use crate::inputs::{push_presence, push_shape};
 use crate::lineage::Lineage;
-use lus_evaluation::{Instants, expand};
+use crate::reached::Reached;
 use lus_program::Program;
 use lus_requests::{Reply, Request, Rows, Why};
 use lus_values::{Memory, Names, Row};
@@ -12,12 +12,21 @@ use std::alloc::Global;
 /// The most rows of a burst.
 const MOST_ROWS: usize = 1000;
 
+/// The evaluation of a node, which begins at its first fault.
+#[derive(Drop)]
+enum Evaluation {
+    Unasked,
+    TooLarge,
+    Begun(Reached),
+}
+
 /// The reasons of an instance's refused requests so far, a line each, with the inputs that its lineage has.
 #[derive(Drop)]
 pub struct Reasons {
     instance: String,
     line: u64,
     lineage: Lineage,
+    evaluation: Evaluation,
     text: String,
 }
 
@@ -54,6 +63,7 @@ impl Reasons {
             instance,
             line,
             lineage: Lineage::new(alloc),
+            evaluation: Evaluation::Unasked,
             text: String::new(alloc),
         })
     }
@@ -68,26 +78,15 @@ impl Reasons {
         self.text.as_str()
     }
 
-    /// The node's instants behind the lineage, if they can be evaluated, and how many they are.
-    fn instants(
-        &self,
-        alloc: Global,
-        program: &Program,
-        node: usize,
-    ) -> Result<Option<(Instants, u64)>, Memory> {
-        let Some(expanded) = expand(alloc, program, node)? else {
-            return Ok(None);
-        };
-        let mut instants = Instants::new(alloc, expanded)?;
-        let places = self.lineage.places(alloc)?;
-        let count = places.len() as u64;
-        for place in places.iter().rev() {
-            let Some(inputs) = self.lineage.inputs(*place) else {
-                return Ok(None);
+    /// Begins the evaluation, where it isn't begun.
+    fn begin(&mut self, alloc: Global, program: &Program, node: usize) -> Result<(), Memory> {
+        if let Evaluation::Unasked = self.evaluation {
+            self.evaluation = match Reached::new(alloc, program, node)? {
+                Some(reached) => Evaluation::Begun(reached),
+                None => Evaluation::TooLarge,
             };
-            instants.step(alloc, inputs)?;
         }
-        Ok(Some((instants, count)))
+        Ok(())
     }
 
     /// Appends which operation has no value at the first of these rows that has one.
@@ -99,23 +98,21 @@ impl Reasons {
         node: usize,
         rows: &[Row],
     ) -> Result<(), Memory> {
-        let Some((mut instants, count)) = self.instants(alloc, program, node)? else {
-            self.text.push_str("the node is too large to look into")?;
+        self.begin(alloc, program, node)?;
+        let text = &mut self.text;
+        let Evaluation::Begun(reached) = &mut self.evaluation else {
+            text.push_str("the node is too large to look into")?;
             return Ok(());
         };
-        let mut number = count;
-        for row in rows {
-            number = number.saturating_add(1);
-            if let Some(found) = instants.step(alloc, row)? {
-                if rows.len() > 1 {
-                    let row = number.saturating_sub(count);
-                    write!(self.text, "row {row}, ")?;
-                }
-                let text = &mut self.text;
-                return push_fault(text, alloc, program, names, &instants, &found, number);
-            }
+        reached.go_on(alloc, &self.lineage)?;
+        let Some(fault) = reached.find(alloc, rows)? else {
+            return Ok(());
+        };
+        if rows.len() > 1 {
+            let row = fault.number.saturating_sub(reached.count());
+            write!(text, "row {row}, ")?;
         }
-        Ok(())
+        push_fault(text, alloc, program, names, reached.instants(), &fault)
     }
 
     fn push_step_reason(
