@@ -1,11 +1,8 @@
 -- Journals that are replayed, line by line.
-use Rattle.std.proofs.Common.{◌≡◌, ◌∙◌, ◌+◌, ◌++◌, ℕ, Bool, refl, ap, ap₂, sym, subst, List, [], ◌∷◌, length, map, Option, Some, None, append_assoc, append-nil, arith, length-append, codes, not, nat_eq}
-use Rattle.std.specs.List.{list_all}
+use Rattle.std.proofs.Common.{◌≡◌, ◌∙◌, ◌+◌, ◌++◌, ℕ, Bool, refl, ap, ap₂, sym, subst, List, [], ◌∷◌, length, map, Option, Some, None, append_assoc, append-nil, arith, length-append, codes}
 use Rattle.std.proofs.lemmas.List.{append_cancel_right, map-append}
 use Rattle.std.proofs.lemmas.List.Elements.{All-nil, All-push}
-use Rattle.std.proofs.lemmas.List.Folds.{list_all-append}
 use Rattle.lus_values.specs.Names.{Text, Names}
-use Rattle.lus_values.proofs.Equalities.{and_left}
 use Rattle.lus_requests.specs.declared.request.Entry.{Entry}
 use Rattle.lus_devices.specs.Devices.{Bytes, with_front}
 use Rattle.lus_devices.proofs.Laws.{with_front-more}
@@ -18,7 +15,8 @@ use Rattle.lus_replay.specs.declared.replaying.Kind.{Kind}
 use Rattle.lus_replay.specs.declared.replaying.Kind.TheVariants as kinds
 use Rattle.lus_replay.specs.declared.replaying.Turn.{Turn}
 use Rattle.lus_replay.specs.declared.replaying.Turn.TheVariants as turns
-use Rattle.lus_replay.specs.Replays.{Counted, CutShort, HasReplayed, IsCutShort, IsItem, IsItemLine, IsJudged, Item, LineIs, Replays, Told, TurnIs, cut_mark, ends_counted, entry_said, is_count, item_text, items_text, kind_of, said_in, saids_of, told_by}
+use Rattle.lus_replay.specs.Replays.{AreItemsRead, AsksOnly, AsksSo, Counted, CutShort, HasReplayed, IsCutShort, IsItem, IsItemLine, IsItemRead, IsJudged, Item, LineIs, Replays, Told, TurnIs, cut_mark, ends_counted, entry_said, is_count, item_text, items_text, kind_of, said_in, saids_of, told_by}
+use Rattle.lus_replay.proofs.Splits.{plain_left}
 
 front_nothing : (left : Option Bytes) → left ≡ with_front [] left
 front_nothing None = refl
@@ -54,12 +52,18 @@ told_of Counted = refl
 told_of (CutShort t) = refl
 
 pub replays_start : (names : Names) (left : Option Bytes) (h : List Entry) → Replays names left left h h []
-replays_start names left h = record { read = front_nothing left; entered = sym (append-nil h); plain = All-nil IsItem }
+replays_start names left h = record { read = front_nothing left; entered = sym (append-nil h); plain = All-nil IsItem; told = tt }
+
+read_more : (names : Names) (k : ℕ) (is : List Item) (i : Item) → AreItemsRead names k is → IsItemRead names (k + length (saids_of is)) i
+    → AreItemsRead names k (is ++ i ∷ [])
+read_more names k [] i so_far item =
+    let same : k + 0 ≡ k = omega arith in (subst (λ n. IsItemRead names n i) same item, tt)
+read_more names k (j ∷ is) i so_far item =
+    let n = k + length (said_in j) in
+    let same : k + length (saids_of (j ∷ is)) ≡ n + length (saids_of is) = omega (arith, length-append (said_in j) (saids_of is)) in
+    (so_far.0, read_more names n is i so_far.1 (subst (λ m. IsItemRead names m i) same item))
 
 -- ---- a line that is judged
-
-plain_left : (xs bs : Bytes) → IsPlain (xs ++ bs) → IsPlain xs
-plain_left xs bs all = and_left (list_all (λ c. not (nat_eq c 10)) xs) (list_all (λ c. not (nat_eq c 10)) bs) (sym (list_all-append (λ c. not (nat_eq c 10)) xs bs) ∙ all)
 
 -- what a crash left of a line with its line feed is plain
 tail_plain : (line tail : Text) → IsWholeLine line → line ≡ tail ++ cut_mark → IsPlain tail
@@ -72,27 +76,34 @@ tail_plain line tail whole is =
 pub cut_line : (names : Names) (k : ℕ) (line : Text) (h h' : List Entry) → IsWholeLine line → IsCutShort line → h' ≡ h
     → IsItemLine kinds.CutShort names k line h h'
 cut_line names k line h h' whole cut still =
-    record { item = CutShort cut.0; kind_is = refl; spelled = cut.1; entered = still ∙ sym (append-nil h); plain = tail_plain line cut.0 whole cut.1 }
+    record { item = CutShort cut.0; kind_is = refl; spelled = cut.1; entered = still ∙ sym (append-nil h); plain = tail_plain line cut.0 whole cut.1; asks = tt }
 
 pub count_line : (names : Names) (k : ℕ) (line right : Text) (h : List Entry) → line ≡ item_text names k Counted
     → LineIs (turns.Item kinds.Count) names k line right h h
-count_line names k line right h is = record { item = Counted; kind_is = refl; spelled = is; entered = sym (append-nil h); plain = tt }
+count_line names k line right h is = record { item = Counted; kind_is = refl; spelled = is; entered = sym (append-nil h); plain = tt; asks = tt }
 
 pub entry_line : (names : Names) (k : ℕ) (line right : Text) (h h' : List Entry) (v : Verdict) → v ≡ verdicts.Right
     → IsJudged v names (k + 1) line right h h' → LineIs (turns.Item kinds.Entry) names k line right h h'
 entry_line names k line right h h' v is judged =
     let entry = subst (λ w. IsJudged w names (k + 1) line right h h') is judged in
-    record { item = Told entry.said; kind_is = refl; spelled = entry.spelled; entered = entry.entered; plain = tt }
+    record {
+      item = Told entry.said;
+      kind_is = refl;
+      spelled = entry.spelled;
+      entered = entry.entered;
+      plain = tt;
+      asks = subst (λ l. AsksOnly names (k + 1) l entry.said.caller entry.said.request) entry.spelled entry.only;
+    }
 
 -- a line that was read and is judged
 pub turned : (names : Names) (k : ℕ) (left later : Option Bytes) (h h' : List Entry) (line right : Text) (t : Turn) → IsWholeLine line
     → left ≡ with_front line later → LineIs t names k line right h h' → TurnIs t names k left later h h' line right
-turned names k left later h h' line right (turns.Item kind) whole read is = (read, is)
+turned names k left later h h' line right (turns.Item kind) whole read is = (read, is, whole)
 turned names k left later h h' line right (turns.Ended endings.End) whole read is = absurd is
-turned names k left later h h' line right (turns.Ended endings.Next) whole read is = (read, whole, is.0, is.1)
+turned names k left later h h' line right (turns.Ended endings.Next) whole read is = (read, whole, is.0, is.1, is.2)
 turned names k left later h h' line right (turns.Ended endings.Cut) whole read is = absurd is
-turned names k left later h h' line right (turns.Ended endings.Wrong) whole read is = (read, is)
-turned names k left later h h' line right (turns.Ended endings.NoEntry) whole read is = tt
+turned names k left later h h' line right (turns.Ended endings.Wrong) whole read is = (read, is.0, whole, is.1)
+turned names k left later h h' line right (turns.Ended endings.NoEntry) whole read is = (read, whole, is)
 
 -- ---- the journal
 
@@ -130,6 +141,8 @@ module _ (names : Names) (left mid : Option Bytes) (h m : List Entry) (k n : ℕ
               ∙ append_assoc h (map entry_said (saids_of is)) (map entry_said (said_in i))
               ∙ ap (λ es. h ++ es) (sym (map-append entry_said (saids_of is) (said_in i)) ∙ ap (map entry_said) (sym (saids_more is i)));
           plain = All-push IsItem is i so.plain item.plain;
+          told = read_more names 0 is i so.told
+              (record { whole = subst IsWholeLine spelled turn.2; asks = subst (λ j. AsksSo names j i) place item.asks });
         },
       )
 

@@ -1,5 +1,6 @@
 -- Lines that begin as the line of a request does, and lines that are compared with the right one.
-use Rattle.std.proofs.Common.{◌≡◌, ◌∙◌, ◌-◌, ◌++◌, ℕ, ap, sym, true, List, [], ◌∷◌, length, take, drop, Some, Result, Ok, Err, IfOk, Bor, append_assoc, codes, ◌+◌}
+use Rattle.std.proofs.Common.{◌≡◌, ◌∙◌, ◌-◌, ◌++◌, ℕ, Bool, ap, sym, subst, true, List, [], ◌∷◌, length, take, drop, Some, Result, Ok, Err, IfOk, Bor, append_assoc, codes, ◌+◌}
+use Rattle.std.specs.Bool.{Decides}
 use Rattle.std.proofs.lemmas.List.{append_cancel_right}
 use Rattle.std.proofs.Math.Dec.{eqb}
 use Rattle.std.specs.Cmp.Lexicographic.{pointwise}
@@ -14,40 +15,49 @@ use Rattle.lus_play.specs.Plays.{entry_of}
 use Rattle.lus_replay.specs.declared.line.Verdict.{Verdict}
 use Rattle.lus_replay.specs.declared.line.Verdict.TheVariants as verdicts
 use Rattle.lus_asked.specs.Asked.{asked_text}
-use Rattle.lus_replay.specs.Replays.{BeginsAs, BeginsAsked, IsCompared, IsJudged, line_of}
+use Rattle.lus_replay.specs.Replays.{AsksOnly, BeginsAs, BeginsAsked, IsCompared, IsJudged, line_of}
 
 done_line : (names : Names) (caller : Text) (n : ℕ) (r : Request) → line_of names caller n (entry_of r Done) ≡ asked_text names caller n r ++ codes "done\n"
 done_line names caller n r = append_assoc (asked_text names caller n r) (codes "done") (codes "\n")
 
--- a line that begins as that of a request with the reply `done` does
-pub begins_asked : (names : Names) (caller : Text) (n : ℕ) (r : Request) (line done : Text) → done ≡ line_of names caller n (entry_of r Done)
-    → BeginsAs line done → BeginsAsked names caller n r line
-begins_asked names caller n r line done is begins =
-    let same : begins.front ≡ asked_text names caller n r =
-    append_cancel_right begins.front (asked_text names caller n r) (codes "done\n") (sym begins.spelled ∙ is ∙ done_line names caller n r) in
-    (begins.given, begins.begins ∙ ap (λ t. t ++ begins.given) same)
+-- a line begins as one of a request exactly where it begins as that with the reply `done`
+pub begins_asked : (names : Names) (caller : Text) (n : ℕ) (r : Request) (line done : Text) (b : Bool) → done ≡ line_of names caller n (entry_of r Done)
+    → Decides b (BeginsAs line done) → Decides b (BeginsAsked names caller n r line)
+begins_asked names caller n r line done b is decides = (
+  λ t.
+      (let begins = decides.0 t in
+      let same : begins.front ≡ asked_text names caller n r =
+      append_cancel_right begins.front (asked_text names caller n r) (codes "done\n") (sym begins.spelled ∙ is ∙ done_line names caller n r) in
+      (begins.given, begins.begins ∙ ap (λ x. x ++ begins.given) same)),
+  λ asked. decides.1
+      (record { front = asked_text names caller n r; given = asked.0; spelled = is ∙ done_line names caller n r; begins = asked.1 }),
+)
 
 -- a line that was compared with the right one, whose entry is new
 pub judged : (names : Names) (caller : Text) (n : ℕ) (r : Request) (a : Reply) (line right here : Text) (h h' : List Entry) (v : Verdict)
-    → IsCompared v names caller n r line here → here ≡ right → right ≡ line_of names caller n (entry_of r a) → h' ≡ h ++ entry_of r a ∷ []
-    → IsJudged v names n line right h h'
-judged names caller n r a line right here h h' verdicts.Right is same spelled entered =
-    record { said = record { caller = caller; request = r; reply = a }; spelled = is ∙ same ∙ spelled; entered = entered }
-judged names caller n r a line right here h h' verdicts.Wrong is same spelled entered =
+    → AsksOnly names n line caller r → IsCompared v names caller n r line here → here ≡ right → right ≡ line_of names caller n (entry_of r a)
+    → h' ≡ h ++ entry_of r a ∷ [] → IsJudged v names n line right h h'
+judged names caller n r a line right here h h' verdicts.Right only is same spelled entered =
+    record { said = record { caller = caller; request = r; reply = a }; only = only; spelled = is ∙ same ∙ spelled; entered = entered }
+judged names caller n r a line right here h h' verdicts.Wrong only is same spelled entered =
     record {
       said = record { caller = caller; request = r; reply = a };
       asked = is.0;
+      only = only;
       differs = λ e. is.1 (e ∙ sym same);
       spelled = spelled;
       entered = entered;
     }
-judged names caller n r a line right here h h' verdicts.NoEntry is same spelled entered = tt
+judged names caller n r a line right here h h' verdicts.NoEntry only is same spelled entered =
+    λ c q is_caller is_spelled begins.
+    (let same = only c q is_caller is_spelled begins in
+    is (subst (λ x. BeginsAsked names x n r line) (sym same.0) (subst (λ x. BeginsAsked names c n x line) (sym same.1) begins)))
 
 pub judged_ok : {E : Type 0} (names : Names) (caller : Text) (n : ℕ) (r : Request) (a : Reply) (line right here : Text) (h h' : List Entry) (result : Result Verdict E)
-    → IfOk result (λ v. IsCompared v names caller n r line here) → here ≡ right → right ≡ line_of names caller n (entry_of r a) → h' ≡ h ++ entry_of r a ∷ []
-    → IfOk result (λ v. IsJudged v names n line right h h')
-judged_ok names caller n r a line right here h h' (Ok v) is same spelled entered = judged names caller n r a line right here h h' v is same spelled entered
-judged_ok names caller n r a line right here h h' (Err e) is same spelled entered = tt
+    → AsksOnly names n line caller r → IfOk result (λ v. IsCompared v names caller n r line here) → here ≡ right
+    → right ≡ line_of names caller n (entry_of r a) → h' ≡ h ++ entry_of r a ∷ [] → IfOk result (λ v. IsJudged v names n line right h h')
+judged_ok names caller n r a line right here h h' (Ok v) only is same spelled entered = judged names caller n r a line right here h h' v only is same spelled entered
+judged_ok names caller n r a line right here h h' (Err e) only is same spelled entered = tt
 
 -- what is left of a text without such an end
 pub ends_done : (done p : Text) (x : Bor Text) → p ≡ codes "done\n"

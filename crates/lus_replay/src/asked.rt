@@ -1,6 +1,7 @@
 //! The line of an entry, spelled, and what another line has of it.
 
-ghost use Rattle.std.specs.Prelude.{◌≡◌, IfOk, OnOk, string_bytes, true};
+ghost use Rattle.std.specs.Prelude.{◌≡◌, IfOk, OnOk, string_bytes};
+ghost use Rattle.std.specs.Bool.{Decides};
 ghost use Rattle.lus_replay.specs.Replays.{BeginsAs, BeginsAsked, line_of};
 
 use lus_devices::push_line;
@@ -26,7 +27,7 @@ pub(crate) fn spell(
 
 /// Whether a line begins as another does up to its `done`.
 fn begins_as(line: &[u8], done: &[u8]) -> bool
-    ensures { result ≡ true → BeginsAs line.now done.now }
+    ensures { Decides result (BeginsAs line.now done.now) }
 {
     match done.strip_suffix(b"done\n".as_slice()) {
         Some(front) => line.starts_with(front),
@@ -43,7 +44,7 @@ pub(crate) fn asks(
     entry: Entry,
     line: &[u8],
 ) -> Result<bool, Memory>
-    ensures { IfOk result (λ b. b ≡ true → BeginsAsked names.now caller.now number entry.request line.now) }
+    ensures { IfOk result (λ b. Decides b (BeginsAsked names.now caller.now number entry.request line.now)) }
 {
     let mut asked = entry;
     asked.caller = 0;

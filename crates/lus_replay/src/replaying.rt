@@ -1,10 +1,11 @@
 //! The journal of an instance, line by line.
 
-ghost use Rattle.std.specs.Prelude.{◌≡◌, ◌+◌, ◌<◌, ◌≤◌, ◌^◌, ℕ, IfOk, string_bytes, true};
+ghost use Rattle.std.specs.Prelude.{◌≡◌, ◌+◌, ◌<◌, ◌≤◌, ◌^◌, ℕ, IfOk, string_bytes};
+ghost use Rattle.std.specs.Bool.{Decides};
 ghost use Rattle.lus_program.specs.Programs.{Program};
 ghost use Rattle.lus_devices.specs.Journals.{count_text};
 ghost use Rattle.lus_lines.specs.Lines.{IsWholeLine};
-ghost use Rattle.lus_replay.specs.Replays.{BeginsJournal, HasReplayed, IsCutShort, LineIs, TurnIs, is_count, told_by};
+ghost use Rattle.lus_replay.specs.Replays.{BeginsJournal, HasReplayed, IsCutShort, LineIs, ReadsBack, TurnIs, is_count, told_by};
 
 use crate::line::{Verdict, replay_line};
 use lus_devices::Source;
@@ -60,21 +61,21 @@ enum Turn {
 
 /// Whether a line is what a crash left of one.
 fn is_cut_short(line: &[u8]) -> bool
-    ensures { result ≡ true → IsCutShort line.now }
+    ensures { Decides result (IsCutShort line.now) }
 {
     line.ends_with(b"# cut short\n".as_slice())
 }
 
 /// Whether a line begins as the first of a journal does.
 fn begins_journal(line: &[u8]) -> bool
-    ensures { result ≡ true → BeginsJournal line.now }
+    ensures { Decides result (BeginsJournal line.now) }
 {
     line.starts_with(b"instance ".as_slice())
 }
 
 /// Whether a line is the number of entries of a journal with so many.
 fn counts(alloc: Global, count: u64, line: &[u8]) -> Result<bool, Memory>
-    ensures { IfOk result (λ b. b ≡ true → line.now ≡ count_text count) }
+    ensures { IfOk result (λ b. Decides b (line.now ≡ count_text count)) }
 {
     if !line.starts_with(b"entries ".as_slice()) {
         return Ok(false);
@@ -177,6 +178,8 @@ pub fn replay<R: Reacts, S: Source>(
     right: &mut String,
 ) -> Result<Replayed, LineError>
     ensures replayed { IfOk result (λ r. HasReplayed names.now r (S.left source.old) (S.left source.new)
+        (R.history reactor.old) (R.history reactor.new) line.new.items (string_bytes right.new)) }
+    ensures complete { IfOk result (λ r. ReadsBack names.now r (S.left source.old) (S.left source.new)
         (R.history reactor.old) (R.history reactor.new) line.new.items (string_bytes right.new)) }
     ensures same { (p : Program) (f : ℕ) → R.is_of reactor.old p f → R.is_of reactor.new p f }
 {

@@ -4,4 +4,4 @@ use Rattle.lus_replay.proofs.Lines.{begins_asked}
 use Rattle.lus_replay.proofs.asked.asks.Goals as goal
 
 pub returns : goal.returns
-returns c = λ t. begins_asked _ _ _ _ _ _ (c.as_bytes.ensures.value ∙ c.in_ok-spell.ensures) (c.begins_as.ensures t)
+returns c = begins_asked _ _ _ _ _ _ _ (c.as_bytes.ensures.value ∙ c.in_ok-spell.ensures) c.begins_as.ensures

@@ -1,6 +1,7 @@
 -- One more line is an item.
 use Rattle.std.proofs.Common.{◌≤◌, ◌+◌, arith}
-use Rattle.lus_replay.proofs.Journals.{replays_more}
+use Rattle.lus_replay.proofs.Follows.{reads_back}
+use Rattle.lus_replay.proofs.Journals.{replayed, replays_more}
 use Rattle.lus_replay.proofs.replaying.replay.Goals as goal
 
 pub loop-lines-preserved : goal.loop-lines-preserved
@@ -13,3 +14,7 @@ loop-lines-preserved g c =
           c.in_ok-kind.ensures.taken,
       λ p f of. c.take_turn.ensures.same p f (c.loop-lines.invariant.2 p f of),
     )
+
+pub returns-in-Ended-clause-complete : goal.returns-in-Ended-clause-complete
+returns-in-Ended-clause-complete g c =
+    reads_back _ _ _ _ _ _ _ _ (replayed _ _ _ _ _ _ _ _ c.loop-lines.invariant.1 _ _ _ _ _ _ c.in-Ended.is c.in_ok-kind.ensures.taken)
