@@ -20,7 +20,7 @@ pub fields_more : (vs : List StoredValue) (v : StoredValue) → fields_leaves (f
 fields_more [] v = append-nil (value_leaves (value_of v))
 fields_more (u ∷ us) v = ap (λ (ls : List Leaf). value_leaves (value_of u) ++ ls) (fields_more us v) ∙ sym (append_assoc (value_leaves (value_of u)) (fields_leaves (fields_of (map value_of us))) (value_leaves (value_of v)))
 
-count_fields : (vs : List Value) → count (fields_of vs) ≡ length vs
+pub count_fields : (vs : List Value) → count (fields_of vs) ≡ length vs
 count_fields [] = refl
 count_fields (v ∷ vs) = ap suc (count_fields vs)
 

@@ -1,2 +1,4 @@
 pub mod Leaves
 pub mod Writes
+pub mod Only
+pub mod OnlyRows

@@ -1,8 +1,10 @@
 //! Leaves become rows.
-ghost use Rattle.std.specs.Prelude.{◌≡◌, ◌++◌, pos, length, reverse, map, IfOk, IfSome};
-ghost use Rattle.lus_values.specs.View.{entry_of};
-ghost use Rattle.lus_leaves.specs.Leaves.{row_leaves};
-ghost use Rattle.lus_leaves.specs.Reading.{IsSingle, IsFound, AreFields, AreRows};
+ghost use Rattle.std.specs.Prelude.{◌≡◌, ◌≤◌, ◌<◌, ◌/◌, ◌++◌, pos, List, length, reverse, map, Some, IfOk, IfSome, MatchOption};
+ghost use Rattle.lus_values.specs.Values.{Row as PlainRow, fields_of};
+ghost use Rattle.lus_values.specs.View.{value_of, entry_of};
+ghost use Rattle.lus_leaves.specs.Leaves.{leaf, row_leaves};
+ghost use Rattle.lus_leaves.specs.Fits.{FieldsFit, RowFits, RowsFit, small_of, bool_piece, absent_piece, piece, piece_of};
+ghost use Rattle.lus_leaves.specs.Reading.{IsSingle, SingleFits, IsFound, FoundFits, IsOnly, AreFields, AreOnly, AreRows};
 
 use crate::leaf::{ABSENT, BOOL, ENUM, INT, Leaf, STRUCT};
 use lus_values::{Memory, Row, Value};
@@ -23,7 +25,8 @@ enum Found {
 
 /// A number that a count or a constructor can be.
 fn small(number: i64) -> Option<u32>
-    ensures { IfSome result (λ n. number ≡ pos n) }
+    ensures same { IfSome result (λ n. number ≡ pos n) }
+    ensures exact { result ≡ small_of number }
 {
     if number < 0 {
         return None;
@@ -42,8 +45,35 @@ enum Single {
     Wrong,
 }
 
+fn read_bool(number: i64) -> Single
+    ensures single { IsSingle (leaf 1 0 number) result }
+    ensures exact { bool_piece number ≡ piece_of result }
+    ensures fits { SingleFits result }
+{
+    if number == 0 {
+        return Single::Entry(Some(Value::Bool(false)));
+    }
+    if number == 1 {
+        return Single::Entry(Some(Value::Bool(true)));
+    }
+    Single::Wrong
+}
+
+fn read_absent(number: i64) -> Single
+    ensures single { IsSingle (leaf 0 0 number) result }
+    ensures exact { absent_piece number ≡ piece_of result }
+    ensures fits { SingleFits result }
+{
+    if number == 0 {
+        return Single::Entry(None);
+    }
+    Single::Wrong
+}
+
 fn read_leaf(leaf: Leaf) -> Single
-    ensures { IsSingle leaf result }
+    ensures single { IsSingle leaf result }
+    ensures exact { piece leaf ≡ piece_of result }
+    ensures fits { SingleFits result }
 {
     if leaf.kind == ENUM {
         return match small(leaf.number) {
@@ -57,11 +87,8 @@ fn read_leaf(leaf: Leaf) -> Single
     if leaf.kind == INT {
         return Single::Entry(Some(Value::Int(leaf.number)));
     }
-    if leaf.kind == BOOL && leaf.number == 0 {
-        return Single::Entry(Some(Value::Bool(false)));
-    }
-    if leaf.kind == BOOL && leaf.number == 1 {
-        return Single::Entry(Some(Value::Bool(true)));
+    if leaf.kind == BOOL {
+        return read_bool(leaf.number);
     }
     if leaf.kind == STRUCT {
         return match small(leaf.number) {
@@ -69,8 +96,8 @@ fn read_leaf(leaf: Leaf) -> Single
             None => Single::Wrong,
         };
     }
-    if leaf.kind == ABSENT && leaf.number == 0 {
-        return Single::Entry(None);
+    if leaf.kind == ABSENT {
+        return read_absent(leaf.number);
     }
     Single::Wrong
 }
@@ -78,7 +105,9 @@ fn read_leaf(leaf: Leaf) -> Single
 /// The entry that begins at a place.
 #[cycle(read)]
 fn read(alloc: Global, leaves: &[Leaf], at: usize, depth: u32) -> Result<Found, Memory>
-    ensures { IfOk result (λ f. IsFound leaves.now at f) }
+    ensures found { IfOk result (λ f. IsFound leaves.now at f) }
+    ensures fits { IfOk result (λ f. FoundFits depth f) }
+    ensures only { IfOk result (λ f. IsOnly depth leaves.now at f) }
 {
     let Some(leaf) = leaves.get(at) else {
         return Ok(Found::Wrong);
@@ -89,12 +118,10 @@ fn read(alloc: Global, leaves: &[Leaf], at: usize, depth: u32) -> Result<Found, 
             if depth == 0 {
                 return Ok(Found::Wrong);
             }
-            Ok(
-                match read_fields(alloc, leaves, at + 1, count, depth - 1)? {
-                    Some((fields, next)) => Found::At(Some(Value::Struct(fields)), next),
-                    None => Found::Wrong,
-                },
-            )
+            match read_fields(alloc, leaves, at + 1, count, depth - 1)? {
+                Some((fields, next)) => Ok(Found::At(Some(Value::Struct(fields)), next)),
+                None => Ok(Found::Wrong),
+            }
         }
         Single::Wrong => Ok(Found::Wrong),
     }
@@ -109,7 +136,9 @@ fn read_fields(
     count: u32,
     depth: u32,
 ) -> Result<Option<(Vec<Value>, usize)>, Memory>
-    ensures { IfOk result (λ r. IfSome r (λ f. AreFields leaves.now start count f.0.items f.1)) }
+    ensures leaves { IfOk result (λ r. IfSome r (λ f. AreFields leaves.now start count f.0.items f.1)) }
+    ensures fits { IfOk result (λ r. IfSome r (λ f. FieldsFit depth (fields_of (map value_of f.0.items)))) }
+    ensures only { IfOk result (λ r. AreOnly depth leaves.now start count r) }
 {
     let mut fields = Vec::new(alloc);
     let mut at = start;
@@ -130,14 +159,13 @@ fn read_fields(
 
 /// The entries that these leaves are, or nothing: leaves that no values are, or structures more than 64 deep.
 fn entries_of(alloc: Global, leaves: &[Leaf]) -> Result<Option<Vec<Option<Value>>>, Memory>
-    ensures { IfOk result (λ r. IfSome r (λ es. row_leaves (map entry_of es.items) ≡ leaves.now)) }
+    ensures leaves { IfOk result (λ r. IfSome r (λ es. row_leaves (map entry_of es.items) ≡ leaves.now)) }
+    ensures fits { IfOk result (λ r. IfSome r (λ es. RowFits (map entry_of es.items))) }
+    ensures only { IfOk result (λ r. (row : PlainRow) → RowFits row → row_leaves row ≡ leaves.now → MatchOption r ⊥ (λ es. map entry_of es.items ≡ row)) }
 {
     let mut entries = Vec::new(alloc);
     let mut at = 0;
-    for _left in 0..leaves.len() {
-        if at >= leaves.len() {
-            break;
-        }
+    while at < leaves.len() {
         match read(alloc, leaves, at, DEPTH)? {
             Found::At(entry, next) => {
                 entries.push(entry)?;
@@ -146,15 +174,14 @@ fn entries_of(alloc: Global, leaves: &[Leaf]) -> Result<Option<Vec<Option<Value>
             Found::Wrong => return Ok(None),
         }
     }
-    if at != leaves.len() {
-        return Ok(None);
-    }
     Ok(Some(entries))
 }
 
 /// The row that these leaves are, or nothing: leaves that no values are, or structures more than 64 deep.
 pub fn row_of(alloc: Global, leaves: &[Leaf]) -> Result<Option<Row>, Memory>
-    ensures { IfOk result (λ r. IfSome r (λ row. row_leaves row ≡ leaves.now)) }
+    ensures leaves { IfOk result (λ r. IfSome r (λ row. row_leaves row ≡ leaves.now)) }
+    ensures fits { IfOk result (λ r. IfSome r RowFits) }
+    ensures only { IfOk result (λ r. (row : PlainRow) → RowFits row → row_leaves row ≡ leaves.now → r ≡ Some row) }
 {
     match entries_of(alloc, leaves)? {
         Some(entries) => Ok(Some(Row::new(entries))),
@@ -168,8 +195,9 @@ fn next_row(
     entries: &mut Vec<Option<Value>>,
     width: usize,
 ) -> Result<Option<Row>, Memory>
-    ensures { IfOk result (λ r. IfSome r (λ row. (length row ≡ width)
+    ensures leaves { IfOk result (λ r. IfSome r (λ row. (length row ≡ width)
         × (map entry_of (reverse entries.old.items) ≡ row ++ map entry_of (reverse entries.new.items)))) }
+    ensures short { IfOk result (λ r. MatchOption r (length entries.old.items < width) (λ row. width ≤ length entries.old.items)) }
 {
     let mut items = Vec::new(alloc);
     for _entry in 0..width {
@@ -181,9 +209,22 @@ fn next_row(
     Ok(Some(Row::new(items)))
 }
 
+/// How long each of so many rows of one length is.
+fn width_of(entries: usize, count: u64) -> usize
+    ensures { 0 < count → result ≡ entries / count }
+{
+    if count == 0 {
+        0
+    } else {
+        entries / count as usize
+    }
+}
+
 /// The rows that these leaves are, so many and all of one length, or nothing: leaves that no such rows are, or more than 65,535 rows.
 pub fn rows_of(alloc: Global, leaves: &[Leaf], count: u64) -> Result<Option<Vec<Row>>, Memory>
-    ensures { IfOk result (λ r. IfSome r (λ rows. AreRows leaves.now count rows.items)) }
+    ensures leaves { IfOk result (λ r. IfSome r (λ rows. AreRows leaves.now count rows.items)) }
+    ensures fits { IfOk result (λ r. IfSome r (λ rows. RowsFit rows.items × (count ≤ 65535))) }
+    ensures only { IfOk result (λ r. (rows : List PlainRow) → RowsFit rows → count ≤ 65535 → AreRows leaves.now count rows → MatchOption r ⊥ (λ found. found.items ≡ rows)) }
 {
     if count > MOST_ROWS {
         return Ok(None);
@@ -191,11 +232,7 @@ pub fn rows_of(alloc: Global, leaves: &[Leaf], count: u64) -> Result<Option<Vec<
     let Some(mut entries) = entries_of(alloc, leaves)? else {
         return Ok(None);
     };
-    let width = if count == 0 {
-        0
-    } else {
-        entries.len() / count as usize
-    };
+    let width = width_of(entries.len(), count);
     entries.reverse();
     let mut rows = Vec::new(alloc);
     for _row in 0..count {
