@@ -8,6 +8,7 @@ Inputs and outputs are Python values by name: bool, int, the name of a construct
 where a clock is absent. Each thread has a seat of its own; seats of one instance may be called at the same time. A seat takes
 one call at a time: a lock of its own sees to that.
 """
+import contextlib
 import ctypes as c
 import os
 import threading
@@ -329,7 +330,7 @@ class Seat(_Owner):
             self._program._types.write(row, inputs.get(name), kind)
         return row
 
-    def try_step(self, **inputs):
+    def try_step(self, /, **inputs):
         """The outputs at the next instant, by their names, or Busy; or NotDone, which is an entry too."""
         return self._call(_STEP, 0, self._row(inputs))
 
@@ -351,7 +352,7 @@ class Seat(_Owner):
             except Busy:
                 time.sleep(0)
 
-    def step(self, **inputs):
+    def step(self, /, **inputs):
         """As `try_step`, again while the machine is taken."""
         return self._again(_STEP, 0, self._row(inputs))
 
@@ -391,13 +392,16 @@ class Seat(_Owner):
             _must(_lus.lus_meet(self._handle, other._handle))
 
     def hold(self):
-        """Takes the machine for this seat alone, until `release`, or Busy."""
+        """Takes the machine for this seat alone, until `release` or the end of a `with`, or Busy."""
         count = c.c_uint64()
         with self._lock:
             status = _lus.lus_hold(self._handle, count)
         if status == BUSY:
             raise Busy(count.value)
         _must(status)
+        held = contextlib.ExitStack()
+        held.callback(self.release)
+        return held
 
     def release(self):
         with self._lock:
@@ -454,8 +458,13 @@ class Journal(_Owner):
         return count.value
 
     def __getitem__(self, place):
-        if not 0 <= place < len(self):
+        """The entry at a place from 0, or from the end where it is negative; of a slice the entries at its places."""
+        if isinstance(place, slice):
+            return [self[k] for k in range(*place.indices(len(self)))]
+        count = len(self)
+        if not -count <= place < count:
             raise IndexError(place)
+        place %= count
         entry, inputs, outputs = _Entry(), (_Value * 8)(), (_Value * 8)()
         with self._lock:
             status = _lus.lus_entry_at(self._handle, place, entry, inputs, 8, outputs, 8)

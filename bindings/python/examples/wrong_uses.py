@@ -53,10 +53,14 @@ raises(lus.Busy, two[1].hold)
 raises(lus.HANDLE, two[0].try_step, passed=True)
 raises(lus.HANDLE, lus.close, two)
 two[0].release()
+with two[1].hold():
+    raises(lus.Busy, two[0].try_step, passed=True)
 two[0].step(passed=True)
 two[0].meet(two[1])
 assert two[1].step(passed=False) == {"count": 1} and two[1].count() == 2 and two[1].number() == 1
-assert len(lus.close(two)) == 2
+journal = lus.close(two)
+assert len(journal) == 2 and journal[-1].outputs == {"count": 1} and [entry.caller for entry in journal[:2]] == [0, 1]
+raises(IndexError, journal.__getitem__, 2)
 raises(lus.HANDLE, two[0].step, passed=True)
 assert one.count() == 4 and one.step(passed=True) == {"count": 2}
 print(uses, "wrong uses")

@@ -60,6 +60,7 @@ fn main() -> Result<(), Error> {
     uses.gives(program.name(Node(7)), Error::NoSuch);
     uses.gives(program.inputs(Node(7)), Error::NoSuch);
     uses.gives(program.constructor(0, 0), Error::NoSuch);
+    uses.gives(program.row(Node(0), &[("gone", true.into())]), Error::NoSuch);
     uses.gives(program.open(Node(7), 1), Error::NoSuch);
     uses.gives(program.open(Node(0), 0), Error::Handle);
     uses.gives(close(Vec::new()).map_err(|(_, error)| error), Error::Handle);
@@ -83,6 +84,10 @@ fn main() -> Result<(), Error> {
     let pair = Value::Struct(vec![Value::Int(41), Value::Bool(false)]);
     println!("{:?}", program.open(swap, 1)?[0].step(&[Some(pair), Some(Value::Enum(light, 0))])?);
     println!("{}", program.constructor(light, 1)?);
+    assert_eq!(program.value(light, "Green")?, Value::Enum(light, 1));
+    assert_eq!(program.row(Node(0), &[("passed", true.into())])?, passed(true));
+    let told = program.open(Node(0), 1)?[0].step(&passed(true))?.outputs().expect("a step");
+    assert_eq!(program.named(Node(0), told)?, [("count".to_string(), Some(Value::Int(1)))]);
     println!("{:?}", program.open(Node(0), 1)?[0].burst(vec![passed(true), passed(false), passed(true)])?);
     Ok(())
 }

@@ -49,6 +49,12 @@ impl Journal {
         })
     }
 
+    /// The entries in their order.
+    pub fn entries(&mut self) -> Result<impl Iterator<Item = Result<Entry, Error>>, Error> {
+        let count = self.count()?;
+        Ok((0..count).map(|place| self.entry(place)))
+    }
+
     /// The text of the journal, as `lus` prints it and `lus_draw` reads it.
     pub fn text(&mut self, instance: &str, callers: &[&str]) -> Result<String, Error> {
         let names: String = callers.iter().flat_map(|name| [*name, "\0"]).collect();

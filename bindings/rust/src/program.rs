@@ -2,6 +2,7 @@
 use crate::error::{Error, REFUSED, Refusal, SHORT, check};
 use crate::raw::{self, Handle, Refused};
 use crate::seat::Seat;
+use crate::value::{Row, Value};
 use std::sync::{Mutex, MutexGuard, PoisonError};
 
 /// The kind of an input's, an output's or a field's values; a type has a number among the program's types.
@@ -167,6 +168,31 @@ impl Program {
         text_of(|bytes, room| unsafe {
             raw::lus_constructor(&mut handle, enumeration, constructor, bytes, room.as_mut_ptr(), room.len())
         })
+    }
+
+    /// The constructor of this name, as a value of the enumeration of this number.
+    pub fn value(&self, enumeration: u32, name: &str) -> Result<Value, Error> {
+        let mut number = 0;
+        while self.constructor(enumeration, number)? != name {
+            number += 1;
+        }
+        Ok(Value::Enum(enumeration, number))
+    }
+
+    /// The row of a node's inputs, given by their names: one that isn't given is absent.
+    pub fn row(&self, node: Node, given: &[(&str, Value)]) -> Result<Row, Error> {
+        let inputs = self.inputs(node)?;
+        if given.iter().any(|(name, _)| inputs.iter().all(|input| input.name != *name)) {
+            return Err(Error::NoSuch);
+        }
+        let value = |input: &Formal| given.iter().find(|(name, _)| input.name == *name).map(|(_, value)| value.clone());
+        Ok(inputs.iter().map(value).collect())
+    }
+
+    /// A row of a node's outputs with their names.
+    pub fn named(&self, node: Node, outputs: Row) -> Result<Vec<(String, Option<Value>)>, Error> {
+        let names = self.outputs(node)?.into_iter().map(|output| output.name);
+        Ok(names.zip(outputs).collect())
     }
 
     /// An instance of a node, with a seat for each of so many callers, which have the numbers from 0 on.

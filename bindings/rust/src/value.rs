@@ -63,6 +63,16 @@ pub enum Reply {
     Refused(Why),
 }
 
+impl Reply {
+    /// The outputs, where a step was made.
+    pub fn outputs(self) -> Option<Row> {
+        match self {
+            Reply::Outputs(row) => Some(row),
+            _ => None,
+        }
+    }
+}
+
 fn write(leaves: &mut Vec<Leaf>, value: &Value) {
     let (kind, of, number) = match value {
         Value::Bool(truth) => (1, 0, i64::from(*truth)),
