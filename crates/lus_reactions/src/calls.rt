@@ -11,9 +11,9 @@ use lus_scripts::{ScriptRefusal, read_request};
 use lus_values::{Memory, Names};
 use std::alloc::Global;
 
-/// Reads a line as a call of a node.
+/// Reads a line as a call of a node of a program with these names of constructors.
 #[derive(Drop)]
-pub(crate) struct JsonCalls<'p> {
+pub struct JsonCalls<'p> {
     pub alloc: Global,
     pub program: &'p Program,
     pub names: &'p Names,

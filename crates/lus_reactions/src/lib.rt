@@ -4,6 +4,7 @@
 mod calls;
 mod reacting;
 
+pub use calls::JsonCalls;
 pub use lus_play::{PlayError, Reacts, Score};
 pub use lus_recovery::{RecoveryError, Start, recover};
 pub use reacting::{react, react_on};
