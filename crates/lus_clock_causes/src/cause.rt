@@ -1,6 +1,7 @@
 //! What is said of a fault of clocks.
 
 use crate::clock::{Clocks, clocks_of};
+use crate::completing::{completed, slower};
 use crate::declared::wrong_clock;
 use crate::placing::{Looking, Misplaced, in_equation};
 use crate::sampling::{faster, sampled};
@@ -41,6 +42,12 @@ fn told<'t>(
     if let Some(tick) = faster(clocks, found) {
         let test = tick.test(alloc)?;
         return sampled(alloc, source, equation, found, &test, finding);
+    }
+    if let Some(tick) = slower(clocks, found) {
+        let note =
+            "Complete the slower side by `merge`, with a value for the other instants, or declare the left side on its clock.";
+        let edit = completed(alloc, source, clocks, equation, found, tick)?;
+        return Ok(finding.with_note(alloc, note)?.with_edit(edit));
     }
     let note = match (found.has.newest, found.wanted.newest) {
         (None, Some(_)) => "Sample the faster side by `when`.",

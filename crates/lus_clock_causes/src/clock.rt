@@ -1,7 +1,7 @@
 //! Clocks of a node's variables.
 
 use indexmap::IndexMap;
-use lus_syntax::{Group, Label, Name, Node, Test, Tree};
+use lus_syntax::{Group, Label, Name, Node, Test, Tree, TypeName};
 use std::alloc::{AllocError, Global};
 
 /// The newest test of a clock: a variable, and the constructor or the truth value that it has.
@@ -17,10 +17,13 @@ pub struct Clock<'t> {
     pub newest: Option<Tick<'t>>,
 }
 
-/// The variables of a node, by their names, with their clocks; and the nodes whose inputs and outputs all are on the base clock.
+/// The variables of a node, by their names, with their clocks and their types; the nodes whose inputs and outputs all are on the
+/// base clock; and the tree that declares them.
 #[derive(Drop)]
 pub struct Clocks<'t> {
+    pub tree: &'t Tree,
     of: IndexMap<String, Clock<'t>>,
+    types: IndexMap<String, &'t TypeName>,
     plain: IndexMap<String, bool>,
 }
 
@@ -100,6 +103,7 @@ fn add<'t>(clocks: &mut Clocks<'t>, groups: &'t [Group]) -> Result<(), AllocErro
         };
         for name in &group.names {
             clocks.of.insert(name.text.clone()?, clock)?;
+            clocks.types.insert(name.text.clone()?, &group.type_name)?;
         }
     }
     Ok(())
@@ -122,7 +126,9 @@ pub fn clocks_of<'t>(
     node: &'t Node,
 ) -> Result<Clocks<'t>, AllocError> {
     let mut clocks = Clocks {
+        tree,
         of: IndexMap::new(alloc),
+        types: IndexMap::new(alloc),
         plain: IndexMap::new(alloc),
     };
     add(&mut clocks, &node.inputs)?;
@@ -139,6 +145,11 @@ impl<'t> Clocks<'t> {
     /// The clock of a variable.
     pub fn clock(&self, name: &str) -> Option<Clock<'t>> {
         self.of.get(name).copied()
+    }
+
+    /// The name of a variable's type.
+    pub fn type_name(&self, name: &str) -> Option<&'t TypeName> {
+        self.types.get(name).copied()
     }
 
     /// Whether a node has all its inputs and outputs on the base clock.

@@ -3,6 +3,7 @@
 
 mod cause;
 mod clock;
+mod completing;
 mod declared;
 mod placing;
 mod sampling;

@@ -39,7 +39,7 @@ fn first_byte(bytes: &[u8]) -> u8 {
 }
 
 /// Whether an expression is all that stands in its parentheses, between their commas, or on the right of its equation.
-fn is_whole(source: &str, equation: &Equation, span: Span) -> bool {
+pub fn is_whole(source: &str, equation: &Equation, span: Span) -> bool {
     let bytes = source.as_bytes();
     let start = span.start.byte;
     let end = span.end().byte;
