@@ -2,9 +2,11 @@
 
 use lus_syntax::{Token, TokenKind, Word};
 
-/// Tokens of a declaration, and the place among them of the one that isn't read; their count where they end too early.
+/// Tokens of a declaration, among all of its source, and the place among them of the one that isn't read; their count where they
+/// end too early.
 #[derive(Clone, Copy)]
 pub struct Declaration<'t> {
+    pub all: &'t [Token<'t>],
     pub tokens: &'t [Token<'t>],
     pub fault: usize,
     pub line: u32,
@@ -74,6 +76,7 @@ pub fn declaration_at<'t>(
         return None;
     }
     Some(Declaration {
+        all: tokens,
         tokens: tokens.get(start..end)?,
         fault: before,
         line,

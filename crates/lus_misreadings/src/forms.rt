@@ -1,15 +1,21 @@
 //! Forms of other languages, and of the full language, by their tokens.
 
+use crate::calls::is_variable;
 use crate::declaration::Declaration;
 use crate::form::{Form, across, finding_of, told};
+use crate::habits::{
+    braced_values, floored, initial, local_among, paired_signs, signed, spelled_number, unsigned,
+};
 use crate::heads::{ended, misplaced};
+use crate::items::{operand_end, text_of, tried};
 use crate::lists::{branched, merged, paired};
 use crate::spelled::{compares, is_infix, is_next, is_symbol, is_word};
-use lus_faults::{Edit, Finding, bytes_at, slice_of};
+use crate::words::{begun, outermost, worded};
+use lus_faults::{Edit, Finding, slice_of};
 use lus_syntax::{Symbol, Token, TokenKind, Word};
 use std::alloc::{AllocError, Global};
 
-/// Two symbols that make one in other languages.
+/// An equals sign twice.
 fn doubled(declaration: &Declaration<'_>, found: &Token) -> Option<Form> {
     let before = declaration.before(1)?;
     if !is_next(Some(before), Some(found)) {
@@ -23,14 +29,49 @@ fn doubled(declaration: &Declaration<'_>, found: &Token) -> Option<Form> {
             instead: Some((byte, length, "=")),
         });
     }
-    let is_static = is_symbol(Some(before), Symbol::Less) && is_symbol(Some(found), Symbol::Less);
-    if is_static {
-        return told(
-            "static parameters, in `<<` and `>>`, are left out",
-            "Write a node for each, or give the value as an input.",
-        );
+    None
+}
+
+/// How many tokens before the fault the first of two such symbols stands, side by side, where the fault is one of them.
+fn first_of_two(declaration: &Declaration<'_>, symbol: Symbol) -> Option<usize> {
+    let found = declaration.found();
+    let before = declaration.before(1);
+    let behind = declaration.behind(1);
+    if !is_symbol(found, symbol) {
+        return None;
+    }
+    if is_symbol(before, symbol) && is_next(before, found) {
+        return Some(1);
+    }
+    if is_symbol(behind, symbol) && is_next(found, behind) {
+        return Some(0);
     }
     None
+}
+
+/// Static parameters, or a shift.
+fn shifted(source: &str, declaration: &Declaration<'_>) -> Option<Form> {
+    if first_of_two(declaration, Symbol::Greater).is_some() {
+        return told(
+            "`>>` is no operator",
+            "A shift to the right is a quotient, as `x / 4` for two places; it is rounded toward zero.",
+        );
+    }
+    let back = first_of_two(declaration, Symbol::Less)?;
+    let callee = declaration.before(back.saturating_add(1))?;
+    let is_call = matches!(callee.kind, TokenKind::Identifier(_))
+        && is_next(Some(callee), declaration.before(back))
+        && !is_variable(source, declaration, slice_of(source, callee.span));
+    if is_call {
+        return told(
+            "nodes have no static parameters",
+            "Give the value as an input, or declare it as a `const` of the program.",
+        );
+    }
+    told(
+        "`<<` is no operator",
+        "A shift to the left is a product, as `x * 4` for two places.",
+    )
 }
 
 /// An equation that is written as an assignment.
@@ -188,51 +229,25 @@ fn slashed(declaration: &Declaration<'_>, found: &Token) -> Option<Form> {
     })
 }
 
-/// A word of another language, before a name or behind a call, that is read as a name here.
-fn worded(source: &str, declaration: &Declaration<'_>, found: &Token) -> Option<Form> {
-    let is_name = matches!(found.kind, TokenKind::Identifier(_));
-    if !is_name || is_symbol(declaration.behind(1), Symbol::Equal) {
-        return None;
-    }
-    if slice_of(source, found.span) == "every" {
-        return told(
-            "`every` is left out: a call isn't reset",
-            "Give the node an input `reset`, and write `if reset then init else ..` round what it remembers.",
-        );
-    }
-    let before = declaration.before(1)?;
-    let word = slice_of(source, before.span);
-    if word == "last" {
-        return Some(Form {
-            sentence: "`last` is no word of the language",
-            note: "The value of the instant before is written `pre x`, with a first value: `init -> pre x`.",
-            instead: Some((before.span.start.byte, before.span.length, "pre")),
-        });
-    }
-    if word == "match" {
-        return told(
-            "`match` is no word of the language",
-            "An enumeration is matched by `merge`, a truth value by `if`.",
-        );
-    }
-    if word == "automaton" || word == "state" {
-        return told(
-            "automata are left out",
-            "Keep the state in a variable of an enumeration, as in `state = Off fby next;`, and choose by `merge` or `if`.",
-        );
-    }
-    if word == "reset" {
-        return told(
-            "`reset` is left out: a call isn't reset",
-            "Give the node an input `reset`, and write `if reset then init else ..` round what it remembers.",
-        );
-    }
-    None
+/// The first form that declarations, numbers and signs of another language have.
+fn habitual(source: &str, declaration: &Declaration<'_>, found: &Token) -> Option<Form> {
+    outermost(source, declaration, found)
+        .or(begun(source, declaration, found))
+        .or(local_among(declaration, found))
+        .or(initial(source, declaration, found))
+        .or(unsigned(source, declaration, found))
+        .or(signed(declaration, found))
+        .or(paired_signs(declaration, found))
+        .or(floored(declaration, found))
+        .or(spelled_number(source, declaration, found))
+        .or(braced_values(declaration, found))
 }
 
 /// The first form that the tokens round a fault have.
 fn form_of(source: &str, declaration: &Declaration<'_>, found: &Token) -> Option<Form> {
     doubled(declaration, found)
+        .or(habitual(source, declaration, found))
+        .or(shifted(source, declaration))
         .or(slashed(declaration, found))
         .or(assigned(declaration, found))
         .or(pointed(declaration, found))
@@ -245,40 +260,17 @@ fn form_of(source: &str, declaration: &Declaration<'_>, found: &Token) -> Option
         .or(misplaced(source, declaration, found))
 }
 
-/// The place behind the operand that begins at one.
-fn operand_end(declaration: &Declaration<'_>, from: usize) -> usize {
-    let mut depth = 0usize;
-    for (place, token) in declaration.tokens.iter().enumerate() {
-        if place >= from {
-            let opens = is_symbol(Some(token), Symbol::Open);
-            let closes = is_symbol(Some(token), Symbol::Close);
-            let goes_on = place > from && (opens || is_symbol(Some(token), Symbol::Dot))
-                || is_symbol(declaration.tokens.get(place.saturating_sub(1)), Symbol::Dot)
-                || place == from;
-            if depth == 0 && !goes_on {
-                return place;
-            }
-            if opens {
-                depth = depth.saturating_add(1);
-            }
-            if closes {
-                depth = depth.saturating_sub(1);
-            }
-        }
+/// The place behind the operand that begins at one, with the `when` and the clock that sample it.
+fn sampled_end(declaration: &Declaration<'_>, from: usize) -> usize {
+    let end = operand_end(declaration, from);
+    if !is_word(declaration.tokens.get(end), Word::When) {
+        return end;
     }
-    declaration.tokens.len()
-}
-
-/// The text of the tokens from one place up to another.
-fn text_of<'s>(
-    source: &'s str,
-    declaration: &Declaration<'_>,
-    from: usize,
-    to: usize,
-) -> Option<&'s str> {
-    let start = declaration.tokens.get(from)?.span.start.byte;
-    let end = declaration.tokens.get(to.checked_sub(1)?)?.span.end().byte;
-    bytes_at(source, start as usize, end as usize)
+    let clock = end.saturating_add(1);
+    if is_word(declaration.tokens.get(clock), Word::Not) {
+        return operand_end(declaration, clock.saturating_add(1));
+    }
+    operand_end(declaration, clock)
 }
 
 /// What is said of a `merge` whose branches have no labels.
@@ -294,8 +286,8 @@ fn unlabelled(
     if !is_merge || matches!(found.kind, TokenKind::Punctuation(_)) {
         return Ok(None);
     }
-    let middle = operand_end(declaration, declaration.fault);
-    let end = operand_end(declaration, middle);
+    let middle = sampled_end(declaration, declaration.fault);
+    let end = sampled_end(declaration, middle);
     let (Some(first), Some(second), Some(last)) = (
         text_of(source, declaration, declaration.fault, middle),
         text_of(source, declaration, middle, end),
@@ -312,7 +304,7 @@ fn unlabelled(
     let sentence = String::from_str(alloc, "each branch of a `merge` has a label")?;
     let note = "Of a `bool` the labels are `true` and `false`, of an enumeration its constructors.";
     let finding = Finding::new(alloc, sentence, found.span.length).with_note(alloc, note)?;
-    Ok(Some(finding.with_edit(Some(edit))))
+    Ok(Some(finding.with_edit(tried(alloc, source, Some(edit))?)))
 }
 
 /// What is said of a clock in parentheses: it stands without them.

@@ -9,7 +9,8 @@ use lus_syntax::{Symbol, Token, TokenKind, Word};
 /// How many tokens before a fault are looked at.
 const MOST_BEFORE: usize = 400;
 
-fn is_name(token: Option<&Token>) -> bool {
+/// Whether a token is a name.
+pub fn is_name(token: Option<&Token>) -> bool {
     match token {
         Some(token) => matches!(token.kind, TokenKind::Identifier(_)),
         None => false,
@@ -17,15 +18,22 @@ fn is_name(token: Option<&Token>) -> bool {
 }
 
 /// Whether a word stands in the declaration before its fault.
-fn is_behind_word(declaration: &Declaration<'_>, word: Word) -> bool {
+pub fn is_behind_word(declaration: &Declaration<'_>, word: Word) -> bool {
     let before = declaration.tokens.get(..declaration.fault).unwrap_or(&[]);
     before.iter().any(|token| is_word(Some(token), word))
 }
 
 /// Whether the declaration is that of a node or of a function.
-fn is_of_node(declaration: &Declaration<'_>) -> bool {
+pub fn is_of_node(declaration: &Declaration<'_>) -> bool {
     let opening = declaration.tokens.first();
     is_word(opening, Word::Node) || is_word(opening, Word::Function)
+}
+
+/// Whether the token so many before the fault ends an equation, or is the `let` before all of them.
+pub fn starts_equation(declaration: &Declaration<'_>, back: usize) -> bool {
+    let before = declaration.before(back);
+    let is_start = is_symbol(before, Symbol::Semicolon) || is_word(before, Word::Let);
+    is_start && is_behind_word(declaration, Word::Let)
 }
 
 /// A comment that begins as in shells.
@@ -132,6 +140,14 @@ fn without_else(declaration: &Declaration<'_>, found: &Token) -> Option<Form> {
         } else if depth == 0 && is_word(token, Word::Else) {
             others = others.saturating_add(1);
         } else if depth == 0 && is_word(token, Word::Then) {
+            if others == 0 && is_word(declaration.behind(1), Word::Else) {
+                return replaced(
+                    "the `;` before `else` ends the equation",
+                    "An `if` with its `else` is one expression.",
+                    found,
+                    "",
+                );
+            }
             if others == 0 {
                 return told(
                     "this `if` has no `else`",

@@ -2,6 +2,7 @@
 
 use crate::case::{Case, finding_of};
 use crate::kept::KEPT;
+use crate::signs::{apart, told_by_signs};
 use crate::symbols::SYMBOLS;
 use lus_faults::{Finding, bytes_at, offset_of};
 use lus_syntax::Refusal;
@@ -28,8 +29,14 @@ pub fn no_token(
     let Some(first) = text.chars().next() else {
         return Ok(None);
     };
+    let byte = start.min(u32::MAX as usize) as u32;
+    let known = told_by_signs(alloc, source, start)?;
+    if known.is_some() {
+        return Ok(known);
+    }
     if let Some(case) = case_of(&SYMBOLS, text) {
-        return Ok(Some(finding_of(alloc, case, start.min(u32::MAX as usize) as u32)?));
+        let finding = finding_of(alloc, case, byte)?;
+        return Ok(Some(apart(alloc, source, finding)?));
     }
     let sentence = format!(in alloc; "no token begins with `{first}`")?;
     let finding = Finding::new(alloc, sentence, 1);

@@ -1,113 +1,11 @@
 //! Lists in parentheses, where other languages have them: values of several variables, and the operands of a `merge`.
 
 use crate::declaration::Declaration;
+use crate::items::{Items, MOST_TOKENS, change, items_from, open_before, operand, text_of, tried};
 use crate::spelled::{is_next, is_symbol, is_word};
-use lus_faults::{Edit, Finding, bytes_at, edited, offset_of};
-use lus_grammar::parse;
-use lus_syntax::{Symbol, Token, Word, lex};
+use lus_faults::Finding;
+use lus_syntax::{Symbol, Word};
 use std::alloc::{AllocError, Global};
-
-/// How many tokens of a list are looked at.
-const MOST_TOKENS: usize = 400;
-
-/// The items of a list in parentheses: where each begins, and the place behind its last token. The parenthesis behind it is at `close`.
-#[derive(Drop)]
-struct Items {
-    items: Vec<(usize, usize)>,
-    close: usize,
-}
-
-/// How deep a token leaves the parentheses and braces that it stands in, from so deep on; nothing where it closes the outermost.
-fn depth_behind(token: &Token, depth: usize) -> Option<usize> {
-    let token = Some(token);
-    if is_symbol(token, Symbol::Open) || is_symbol(token, Symbol::OpenBrace) {
-        return depth.checked_add(1);
-    }
-    if is_symbol(token, Symbol::Close) || is_symbol(token, Symbol::CloseBrace) {
-        return depth.checked_sub(1);
-    }
-    Some(depth)
-}
-
-/// The items of the list whose parenthesis opens at a place.
-fn items_from(
-    alloc: Global,
-    declaration: &Declaration<'_>,
-    open: usize,
-) -> Result<Option<Items>, AllocError> {
-    let mut items = Vec::new(alloc);
-    let mut depth = 0usize;
-    let first = open.saturating_add(1);
-    let mut start = first;
-    for (steps, token) in declaration
-        .tokens
-        .iter()
-        .skip(first)
-        .take(MOST_TOKENS)
-        .enumerate()
-    {
-        let place = first.saturating_add(steps);
-        let parts = is_symbol(Some(token), Symbol::Comma)
-            || is_symbol(Some(token), Symbol::Semicolon);
-        if depth == 0 && parts {
-            items.push((start, place))?;
-            start = place.saturating_add(1);
-        }
-        match depth_behind(token, depth) {
-            Some(next) => depth = next,
-            None => {
-                items.push((start, place))?;
-                return Ok(Some(Items {
-                    items,
-                    close: place,
-                }));
-            }
-        }
-    }
-    Ok(None)
-}
-
-/// The text from a token up to the one before another.
-fn text_of<'s>(
-    source: &'s str,
-    declaration: &Declaration<'_>,
-    from: usize,
-    to: usize,
-) -> Option<&'s str> {
-    let start = declaration.tokens.get(from)?.span.start.byte;
-    let end = declaration.tokens.get(to.checked_sub(1)?)?.span.end().byte;
-    bytes_at(source, start as usize, end as usize)
-}
-
-/// The change by which a text takes the place of tokens, from one to the last.
-fn change(declaration: &Declaration<'_>, from: usize, last: usize, text: String) -> Option<Edit> {
-    let start = declaration.tokens.get(from)?.span.start.byte;
-    let end = declaration.tokens.get(last)?.span.end().byte;
-    Some(Edit {
-        byte: start,
-        length: end.saturating_sub(start),
-        text,
-    })
-}
-
-/// A change, if the text is read with it up to the change's end and further.
-fn tried(alloc: Global, source: &str, edit: Option<Edit>) -> Result<Option<Edit>, AllocError> {
-    let Some(edit) = edit else {
-        return Ok(None);
-    };
-    let Some(changed) = edited(alloc, source, &edit)? else {
-        return Ok(None);
-    };
-    let Ok(tokens) = lex(alloc, &changed) else {
-        return Ok(None);
-    };
-    let end = (edit.byte as usize).saturating_add(edit.text.len());
-    match parse(alloc, &tokens) {
-        Ok(_) => Ok(Some(edit)),
-        Err(found) if offset_of(&changed, found.line, found.column) > end => Ok(Some(edit)),
-        Err(_) => Ok(None),
-    }
-}
 
 /// Whether a list that a parenthesis opens is the whole right side of an equation, and where its left side's last token is.
 fn left_end(declaration: &Declaration<'_>, open: usize, close: usize) -> Option<usize> {
@@ -125,24 +23,6 @@ fn left_start(declaration: &Declaration<'_>, end: usize) -> Option<usize> {
         let before = declaration.tokens.get(place.checked_sub(1)?);
         if is_symbol(before, Symbol::Semicolon) || is_word(before, Word::Let) {
             return Some(place);
-        }
-    }
-    None
-}
-
-/// The place of the parenthesis before the fault that is open there.
-fn open_before(declaration: &Declaration<'_>) -> Option<usize> {
-    let mut depth = 0usize;
-    for back in 1..MOST_TOKENS {
-        let token = Some(declaration.before(back)?);
-        if is_symbol(token, Symbol::Close) {
-            depth = depth.saturating_add(1);
-        }
-        if is_symbol(token, Symbol::Open) {
-            if depth == 0 {
-                return declaration.fault.checked_sub(back);
-            }
-            depth = depth.saturating_sub(1);
         }
     }
     None
@@ -228,6 +108,39 @@ pub fn paired(
     Ok(Some(finding.with_edit(edit)))
 }
 
+/// Whether each item but the first begins with a label and a colon.
+fn is_labelled(declaration: &Declaration<'_>, items: &[(usize, usize)]) -> bool {
+    for (place, (from, _)) in items.iter().enumerate() {
+        let sign = declaration.tokens.get(from.saturating_add(1));
+        if place > 0 && !is_symbol(sign, Symbol::Colon) {
+            return false;
+        }
+    }
+    true
+}
+
+/// A clock and branches, of items that begin with a label and a colon but for the first.
+fn labelled_branches(
+    alloc: Global,
+    source: &str,
+    declaration: &Declaration<'_>,
+    items: &[(usize, usize)],
+    blank: &str,
+) -> Result<String, AllocError> {
+    let mut text = String::from_str(alloc, blank)?;
+    for (place, (from, to)) in items.iter().enumerate() {
+        let sign = from.saturating_add(1);
+        let label = text_of(source, declaration, *from, sign).unwrap_or("");
+        let value = text_of(source, declaration, sign.saturating_add(1), *to).unwrap_or("");
+        if place == 0 {
+            text.push_str(label)?;
+        } else {
+            write!(text, " ({label} -> {value})")?;
+        }
+    }
+    Ok(text)
+}
+
 /// What is said of a `merge` whose operands stand in one pair of parentheses, the clock first.
 pub fn merged(
     alloc: Global,
@@ -258,7 +171,11 @@ pub fn merged(
     };
     let is_next = is_next(declaration.before(1), declaration.found());
     let blank = if is_next { " " } else { "" };
-    let text = format!(in alloc; "{blank}{clock} (true -> {first}) (false -> {second})")?;
+    let text = if is_labelled(declaration, &items) {
+        labelled_branches(alloc, source, declaration, &items, blank)?
+    } else {
+        format!(in alloc; "{blank}{clock} (true -> {first}) (false -> {second})")?
+    };
     let edit = tried(
         alloc,
         source,
@@ -325,15 +242,4 @@ pub fn branched(
     let finding = Finding::new(alloc, sentence, found.span.length).with_note(alloc, note)?;
     let edit = tried(alloc, source, change(declaration, open, last, text))?;
     Ok(Some(finding.with_edit(edit)))
-}
-
-/// The text of an item.
-fn operand<'s>(
-    source: &'s str,
-    declaration: &Declaration<'_>,
-    items: &[(usize, usize)],
-    place: usize,
-) -> Option<&'s str> {
-    let (from, to) = items.get(place).copied()?;
-    text_of(source, declaration, from, to)
 }

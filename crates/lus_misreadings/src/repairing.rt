@@ -1,9 +1,11 @@
 //! A token that is missing, too much, or a word where a name belongs.
 
+use crate::blanks::{with_missing, without};
+use crate::calls::side_by_side;
 use crate::declaration::Declaration;
 use crate::spelled::{MISSING, Spelled, is_symbol, is_word};
 use crate::trial::{Reach, reach_of, token_of};
-use lus_faults::{Edit, Finding, slice_of};
+use lus_faults::{Finding, slice_of};
 use lus_syntax::{Symbol, Token, TokenKind, Word};
 use std::alloc::{AllocError, Global};
 
@@ -49,7 +51,7 @@ fn is_broken(declaration: &Declaration<'_>, reached: Reach) -> bool {
 }
 
 /// Whether the equation or the declaration of a fault has an equals sign before it.
-fn is_equated(declaration: &Declaration<'_>) -> bool {
+pub fn is_equated(declaration: &Declaration<'_>) -> bool {
     for back in 1..declaration.tokens.len() {
         let token = declaration.before(back);
         if is_symbol(token, Symbol::Semicolon) || is_word(token, Word::Let) || token.is_none() {
@@ -60,6 +62,23 @@ fn is_equated(declaration: &Declaration<'_>) -> bool {
         }
     }
     false
+}
+
+/// Whether an arrow may be missing: before `pre`, or behind the label of a branch.
+fn lacks_arrow(declaration: &Declaration<'_>) -> bool {
+    let is_branch = is_symbol(declaration.before(2), Symbol::Open)
+        && (is_symbol(declaration.before(3), Symbol::Close)
+            || is_word(declaration.before(4), Word::Merge));
+    is_branch || is_word(declaration.found(), Word::Pre)
+}
+
+/// Whether a token may be missing: no second equals sign, and an arrow only where one belongs.
+fn may_lack(declaration: &Declaration<'_>, missing: Spelled) -> bool {
+    match missing.kind {
+        TokenKind::Punctuation(Symbol::Equal) => !is_equated(declaration),
+        TokenKind::Punctuation(Symbol::Arrow) => lacks_arrow(declaration),
+        _ => true,
+    }
 }
 
 /// The repair with which most is read, the first of those that are as good, and how far; none that leaves what it is in unread.
@@ -77,9 +96,8 @@ fn best_of(
 ) -> Result<Option<(Repair, Reach)>, AllocError> {
     let mut best = None;
     let mut most = end_wanted(declaration);
-    let is_equated = is_equated(declaration);
     for missing in &MISSING {
-        if is_equated && missing.text == "=" {
+        if !may_lack(declaration, *missing) {
             continue;
         }
         let tried = declaration.spliced(alloc, 0, &[token_of(missing.kind)])?;
@@ -113,18 +131,6 @@ fn is_keyword(token: Option<&Token>) -> bool {
     }
 }
 
-/// How a missing token is written behind the one before it.
-fn written(alloc: Global, missing: Spelled) -> Result<String, AllocError> {
-    let text = missing.text;
-    match missing.kind {
-        TokenKind::Keyword(Word::Tel | Word::Let) => format!(in alloc; "\n{text}"),
-        TokenKind::Keyword(_) => format!(in alloc; " {text}"),
-        TokenKind::Punctuation(_) => String::from_str(alloc, text),
-        TokenKind::Identifier(_) => String::from_str(alloc, text),
-        TokenKind::Number(_) => String::from_str(alloc, text),
-    }
-}
-
 /// What is said of a missing token.
 fn missing_token(
     alloc: Global,
@@ -142,11 +148,7 @@ fn missing_token(
         Some(found) => found.span.length,
         None => 1,
     };
-    let edit = Edit {
-        byte: before.span.end().byte,
-        length: 0,
-        text: written(alloc, missing)?,
-    };
+    let edit = with_missing(alloc, source, missing, before, declaration.found())?;
     Ok(Some(Finding::new(alloc, sentence, length).with_edit(Some(edit))))
 }
 
@@ -161,11 +163,7 @@ fn needless_token(
     };
     let text = slice_of(source, found.span);
     let sentence = format!(in alloc; "`{text}` is too much here")?;
-    let edit = Edit {
-        byte: found.span.start.byte,
-        length: found.span.length,
-        text: String::new(alloc),
-    };
+    let edit = without(alloc, source, declaration, found);
     Ok(Some(Finding::new(alloc, sentence, found.span.length).with_edit(Some(edit))))
 }
 
@@ -192,8 +190,21 @@ pub fn repaired(
 ) -> Result<Option<Finding>, AllocError> {
     match good_of(alloc, declaration)? {
         Some(Repair::Insert(missing)) => missing_token(alloc, source, declaration, missing),
-        Some(Repair::Remove) => needless_token(alloc, source, declaration),
+        Some(Repair::Remove) => needless(alloc, source, declaration),
         Some(Repair::Rename) => taken_word(alloc, source, declaration),
-        None => Ok(None),
+        None => side_by_side(alloc, source, declaration),
     }
+}
+
+/// What is said of a token that is too much: an operand without an operator before it, or another one.
+fn needless(
+    alloc: Global,
+    source: &str,
+    declaration: &Declaration<'_>,
+) -> Result<Option<Finding>, AllocError> {
+    let pair = side_by_side(alloc, source, declaration)?;
+    if pair.is_some() {
+        return Ok(pair);
+    }
+    needless_token(alloc, source, declaration)
 }

@@ -263,6 +263,11 @@ pub fn is_word(token: Option<&Token>, word: Word) -> bool {
     }
 }
 
+/// Whether a token is one of the types that need no declaration.
+pub fn is_type(token: Option<&Token>) -> bool {
+    is_word(token, Word::Bool) || is_word(token, Word::Int)
+}
+
 /// Whether a token stands right behind another, with no blank between.
 pub fn is_next(first: Option<&Token>, second: Option<&Token>) -> bool {
     match (first, second) {
