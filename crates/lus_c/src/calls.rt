@@ -1,10 +1,11 @@
 //! Instances that are opened, and calls at them.
-ghost use Rattle.std.specs.Prelude.{◌≡◌, ◌⊎◌, ◌≤◌, length};
+ghost use Rattle.std.specs.Prelude.{◌≡◌, ◌⊎◌, ◌≤◌, ◌<◌, length};
 ghost use Rattle.lus_foreign.specs.Held.{IsOkay, HeldSees};
-ghost use Rattle.lus_foreign.specs.Served.{IsEntered, HeldEnters, HeldWaits};
+ghost use Rattle.lus_foreign.specs.Opened.{HeldOpens, HeldLacks};
+ghost use Rattle.lus_foreign.specs.Served.{IsEntered, IsBusy, IsFull, IsNone, IsShort, IsValue, NoneSpelled, HeldEnters, HeldWaits, HeldMisses, HeldTold, HeldUntold, HeldNumbered};
 
-use lus_foreign::{Answer, Handle};
-use lus_leaves::Leaf;
+use lus_foreign::Handle;
+use lus_leaves::{Answer, Leaf};
 use std::alloc::Global;
 
 /// An instance of a node, with the number that tells it from others: all of its seats, in `out`.
@@ -16,7 +17,12 @@ pub extern "C" fn lus_raw_open(
     callers: u32,
     id: u64,
     out: &mut Handle,
-) -> u32 {
+) -> u32
+    ensures opened { IsOkay result → HeldOpens program.old.kept.held node callers id out.new.kept.held }
+    ensures none { IsNone result → HeldLacks program.old.kept.held node }
+    ensures missed { IsOkay result ⊎ (out.new.kept.held ≡ out.old.kept.held) }
+    ensures same { program.new.kept.held ≡ program.old.kept.held }
+{
     lus_foreign::open(alloc, program, node, callers, id, out)
 }
 
@@ -34,6 +40,9 @@ pub extern "C" fn lus_raw_try_call(
     ensures entered { IsEntered result → HeldEnters seat.old.kept.held seat.new.kept.held kind slot inputs.now answer.new outputs.old outputs.new }
     ensures room { IsOkay result → answer.new.count ≤ length outputs.new }
     ensures missed { IsEntered result ⊎ ((seat.new.kept.held ≡ seat.old.kept.held) ⊎ HeldWaits seat.old.kept.held seat.new.kept.held) }
+    ensures busy { IsBusy result → HeldMisses seat.old.kept.held seat.new.kept.held answer.new.count }
+    ensures full { IsFull result → HeldMisses seat.old.kept.held seat.new.kept.held 4294967295 }
+    ensures valued { IsValue result → NoneSpelled kind slot inputs.now × (seat.new.kept.held ≡ seat.old.kept.held) }
 {
     lus_foreign::try_call(alloc, seat, kind, slot, inputs, answer, outputs)
 }
@@ -45,7 +54,13 @@ pub extern "C" fn lus_raw_outputs(
     seat: &mut Handle,
     answer: &mut Answer,
     outputs: &mut [Leaf],
-) -> u32 {
+) -> u32
+    ensures told { IsEntered result → HeldTold seat.old.kept.held answer.new outputs.old outputs.new }
+    ensures room { IsOkay result → answer.new.count ≤ length outputs.new }
+    ensures short { IsShort result → length outputs.new < answer.new.count }
+    ensures none { IsNone result → HeldUntold seat.old.kept.held }
+    ensures same { seat.new.kept.held ≡ seat.old.kept.held }
+{
     lus_foreign::outputs(alloc, seat, answer, outputs)
 }
 
@@ -59,6 +74,9 @@ pub extern "C" fn lus_raw_count(alloc: Global, seat: &mut Handle, count: &mut u6
 
 /// The seat's number.
 #[unsafe(no_mangle)]
-pub extern "C" fn lus_raw_number(alloc: Global, seat: &mut Handle, number: &mut u32) -> u32 {
+pub extern "C" fn lus_raw_number(alloc: Global, seat: &mut Handle, number: &mut u32) -> u32
+    ensures number { IsOkay result → HeldNumbered seat.old.kept.held number.new }
+    ensures same { seat.new.kept.held ≡ seat.old.kept.held }
+{
     lus_foreign::number(alloc, seat, number)
 }

@@ -1,6 +1,7 @@
 //! Seats that are gathered, and the end of their instance.
-ghost use Rattle.std.specs.Prelude.{◌≡◌, None};
+ghost use Rattle.std.specs.Prelude.{◌≡◌, ◌⊎◌, None};
 ghost use Rattle.lus_foreign.specs.Held.{IsOkay, HeldEnds, HeldGathers, HeldIsEmpty};
+ghost use Rattle.lus_foreign.specs.Opened.{HeldPops};
 ghost use Rattle.lus_foreign.specs.Owed.{BothTell};
 
 use lus_foreign::Handle;
@@ -8,7 +9,10 @@ use std::alloc::Global;
 
 /// The last of the seats that are together, in `seat`.
 #[unsafe(no_mangle)]
-pub extern "C" fn lus_raw_pop(alloc: Global, gather: &mut Handle, seat: &mut Handle) -> u32 {
+pub extern "C" fn lus_raw_pop(alloc: Global, gather: &mut Handle, seat: &mut Handle) -> u32
+    ensures popped { IsOkay result → HeldPops gather.old.kept.held gather.new.kept.held seat.new.kept.held }
+    ensures missed { IsOkay result ⊎ ((gather.new.kept.held ≡ gather.old.kept.held) × (seat.new.kept.held ≡ seat.old.kept.held)) }
+{
     lus_foreign::pop(alloc, gather, seat)
 }
 

@@ -1,10 +1,13 @@
 -- Seats that are together are of one instance.
-use Rattle.std.proofs.Common.{◌≡◌, ℕ, zero, suc, ◌<◌, List, [], ◌∷◌, length, refl, sym, ◌∙◌, arith, slice_index_or}
+use Rattle.std.proofs.Common.{◌≡◌, ℕ, zero, suc, ◌<◌, List, [], ◌∷◌, ◌++◌, length, reverse, refl, sym, ap, ◌∙◌, append_assoc, arith, slice_index_or}
+use Rattle.std.proofs.lemmas.List.{reverse-append}
 use Rattle.std.proofs.lemmas.List.Elements.{All-nil}
 use Rattle.std.specs.List.{All}
-use Rattle.lus_shared.specs.Knowledge.{Instance}
+use Rattle.lus_shared.specs.Knowledge.{Instance, Standing, origin_with}
+use Rattle.lus_shared.specs.Views.{fresh_seats}
+use Rattle.lus_machine.specs.Machines.{Told}
 use Rattle.lus_shared.specs.Trait.{untold}
-use Rattle.lus_foreign.specs.Seated.{Seated, AreMates, Together, Belongs, IsMate, NumbersTell, IsAt}
+use Rattle.lus_foreign.specs.Seated.{Seated, standings, AreOpened, AreMates, Together, Belongs, IsMate, NumbersTell, IsAt}
 
 with_first : (s : Seated) (ss : List Seated) → All (AreMates s) ss → (k : ℕ) (d : Seated) → k < length (s ∷ ss) → (slice_index_or (s ∷ ss) k d).standing.instance ≡ s.standing.instance
 with_first s ss t zero d lt = refl
@@ -23,3 +26,12 @@ together n i (s ∷ ss) h = λ k d lt.
 pub belongs : (ss : List Seated) (t : Seated) → IsMate ss t → NumbersTell ss t → Belongs ss t
 belongs [] t m e = tt
 belongs (s ∷ ss) t m e = record { id = sym m; instance = e m }
+
+-- the last of the seats that are left goes behind those that are told the last first
+pub handed : (all seats rest : List Standing) (places : List Seated) (p : Seated) → all ≡ seats ++ standings (reverse places) → seats ≡ rest ++ p.standing ∷ [] → all ≡ rest ++ standings (reverse (places ++ p ∷ []))
+handed all seats rest places p e q =
+    e ∙ ap (λ (l : List Standing). l ++ standings (reverse places)) q ∙ append_assoc rest (p.standing ∷ []) (standings (reverse places))
+    ∙ ap (λ (l : List Seated). rest ++ standings l) (sym (reverse-append places (p ∷ [])))
+
+pub opened : (machine : Told) (callers id : ℕ) (i : Instance) (ss : List Seated) → i.origin ≡ origin_with machine callers → fresh_seats i 0 callers ≡ standings (reverse ss) → All (IsAt id i) ss → AreOpened machine callers id ss
+opened machine callers id i ss o s a = record { instance = i; origin = o; seats = sym s; ids = λ k d lt. (a k d lt).0 }

@@ -5,3 +5,5 @@ pub mod Served
 pub mod Held
 pub mod Refusals
 pub mod Met
+pub mod Opened
+pub mod Kept

@@ -7,7 +7,7 @@ use Rattle.lus_foreign.specs.Seated.{Seated}
 
 -- the same seat, which may have seen more, a legal history, and made no call
 abbrev pub Waits : Seated → Seated → Type 0
-Waits s t = (t.id ≡ s.id) × Sees s.standing t.standing (length t.standing.seen)
+Waits s t = (t.id ≡ s.id) × Sees s.standing t.standing (length t.standing.seen) × (t.last ≡ s.last)
 
 -- both seats have seen one history
 abbrev pub ContentsMeet : ContentType → ContentType → ContentType → ContentType → Type 0

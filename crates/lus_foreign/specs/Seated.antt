@@ -1,11 +1,15 @@
--- What C has of an instance: a seat with the number of its instance.
-use Rattle.std.specs.Prelude.{◌≡◌, ℕ, List, [], ◌∷◌, map}
+-- What C has of an instance: a seat with the number of its instance, and the reply to its last call.
+use Rattle.std.specs.Prelude.{◌≡◌, ℕ, List, [], ◌∷◌, map, reverse, Option}
 use Rattle.std.specs.List.{All}
-use Rattle.lus_shared.specs.Knowledge.{Instance, Standing}
+use Rattle.lus_requests.specs.declared.request.Reply.{Reply}
+use Rattle.lus_machine.specs.Machines.{Told}
+use Rattle.lus_shared.specs.Knowledge.{Instance, Standing, origin_with}
+use Rattle.lus_shared.specs.Views.{fresh_seats}
 
 pub record Seated : Type 0 where
   pub id : ℕ
   pub standing : Standing
+  pub last : Option Reply
 
 abbrev pub standings : List Seated → List Standing
 standings ss = map (λ (s : Seated). s.standing) ss
@@ -38,3 +42,10 @@ NumbersTell (s ∷ ss) t = s.id ≡ t.id → t.standing.instance ≡ s.standing.
 -- the seat is of this instance, told by this number
 abbrev pub IsAt : ℕ → Instance → Seated → Type 0
 IsAt n i s = (s.id ≡ n) × (s.standing.instance ≡ i)
+
+-- all seats of a new instance of this machine, told by this number (the last first)
+pub record AreOpened (machine : Told) (callers id : ℕ) (ss : List Seated) : Type 0 where
+  pub instance : Instance
+  pub origin : instance.origin ≡ origin_with machine callers
+  pub seats : standings (reverse ss) ≡ fresh_seats instance 0 callers
+  pub ids : All (λ (s : Seated). s.id ≡ id) ss

@@ -1,17 +1,11 @@
 -- What a call of C's leaves, by the number that it answers.
-use Rattle.std.specs.Prelude.{◌≡◌, ◌==◌, ◌||◌, ◌≤◌, ℕ, List, [], Option, Some, IsTrue, length, min}
+use Rattle.std.specs.Prelude.{◌≡◌, ◌==◌, ◌||◌, ℕ, List, Option, Some, None, IsTrue, length}
 use Rattle.lus_requests.specs.declared.request.Request.{Request}
-use Rattle.lus_requests.specs.declared.request.Request.TheVariants.{Step, Reset, Save, Restore, Burst}
 use Rattle.lus_requests.specs.declared.request.Reply.{Reply}
-use Rattle.lus_requests.specs.declared.request.Reply.TheVariants.{Outputs, Rows, Done, Refused}
-use Rattle.lus_requests.specs.declared.request.Why.{Why}
-use Rattle.lus_requests.specs.declared.request.Why.TheVariants.{Shape, Presence, Fault, NoSave}
 use Rattle.lus_leaves.specs.declared.leaf.Leaf.{Leaf}
-use Rattle.lus_leaves.specs.Leaves.{row_leaves, rows_leaves}
-use Rattle.lus_leaves.specs.Reading.{AreRows}
-use Rattle.lus_leaves.specs.Writing.{most, over}
+use Rattle.lus_leaves.specs.declared.requests.Answer.{Answer}
+use Rattle.lus_leaves.specs.Requests.{Spells, RequestFits, IsTold}
 use Rattle.lus_shared.specs.Views.{Adds, Sees}
-use Rattle.lus_foreign.specs.declared.calls.Answer.{Answer}
 use Rattle.lus_foreign.specs.declared.content.Content.{Content as ContentType}
 use Rattle.lus_foreign.specs.declared.content.Content.TheVariants.{Seat as IsSeat}
 
@@ -19,46 +13,30 @@ use Rattle.lus_foreign.specs.declared.content.Content.TheVariants.{Seat as IsSea
 abbrev pub IsEntered : ℕ → Type 0
 IsEntered n = IsTrue ((n == 0) || (n == 7))
 
--- the request that C's numbers spell
-abbrev pub Spells : (kind slot : ℕ) → List Leaf → Request → Type 0
-Spells kind slot inputs (Step row) = (kind ≡ 1) × (row_leaves row ≡ inputs)
-Spells kind slot inputs Reset = kind ≡ 2
-Spells kind slot inputs (Save n) = (kind ≡ 3) × (n ≡ slot)
-Spells kind slot inputs (Restore n) = (kind ≡ 4) × (n ≡ slot)
-Spells kind slot inputs (Burst rows) = (kind ≡ 5) × AreRows inputs slot rows
+-- the numbers BUSY, FULL, NONE, VALUE and SHORT
+abbrev pub IsBusy : ℕ → Type 0
+IsBusy n = IsTrue (n == 1)
 
--- the numbers that spell a reply
-abbrev pub reply_code : Reply → ℕ
-reply_code (Outputs row) = 1
-reply_code Done = 2
-reply_code (Refused why) = 3
-reply_code (Rows rows) = 4
+abbrev pub IsFull : ℕ → Type 0
+IsFull n = IsTrue (n == 3)
 
-abbrev pub why_code : Why → ℕ
-why_code Shape = 1
-why_code Presence = 2
-why_code Fault = 3
-why_code NoSave = 4
+abbrev pub IsNone : ℕ → Type 0
+IsNone n = IsTrue (n == 5)
 
-abbrev pub refusal_code : Reply → ℕ
-refusal_code (Refused why) = why_code why
-refusal_code _ = 0
+abbrev pub IsValue : ℕ → Type 0
+IsValue n = IsTrue (n == 6)
 
-abbrev pub reply_leaves : Reply → List Leaf
-reply_leaves (Outputs row) = row_leaves row
-reply_leaves (Rows rows) = rows_leaves rows
-reply_leaves _ = []
+abbrev pub IsShort : ℕ → Type 0
+IsShort n = IsTrue (n == 7)
 
--- C is told the reply: its leaves stand in the array, as far as that has room
-pub record IsTold (reply : Reply) (answer : Answer) (olds news : List Leaf) : Type 0 where
-  pub kind : answer.kind ≡ reply_code reply
-  pub why : answer.why ≡ refusal_code reply
-  pub count : answer.count ≡ min (length (reply_leaves reply)) most
-  pub outputs : news ≡ over olds (reply_leaves reply)
+-- no request that could be read is spelled by C's numbers
+abbrev pub NoneSpelled : (kind slot : ℕ) → List Leaf → Type 0
+NoneSpelled kind slot inputs = (request : Request) → RequestFits request → Spells kind slot inputs request → ⊥
 
--- the seat has seen a legal history that begins with what it had seen and ends in its call, which its own calls have gained
+-- the seat has seen a legal history that begins with what it had seen and ends in its call, which its own calls have gained, and
+-- keeps the reply
 abbrev pub ContentAdds : ContentType → ContentType → Request → Reply → Type 0
-ContentAdds (IsSeat s) (IsSeat t) request reply = (t.id ≡ s.id) × Adds s.standing t.standing request reply
+ContentAdds (IsSeat s) (IsSeat t) request reply = (t.id ≡ s.id) × Adds s.standing t.standing request reply × (t.last ≡ Some reply)
 ContentAdds _ _ _ _ = ⊥
 
 -- the handle held a seat, and holds it after its call: the request is what C's numbers spell, and C is told the reply
@@ -69,9 +47,45 @@ HeldEnters _ _ _ _ _ _ _ _ = ⊥
 
 -- a seat that made no call: it may have seen more of a legal history
 abbrev pub ContentWaits : ContentType → ContentType → Type 0
-ContentWaits (IsSeat s) (IsSeat t) = (t.id ≡ s.id) × Sees s.standing t.standing (length t.standing.seen)
+ContentWaits (IsSeat s) (IsSeat t) = (t.id ≡ s.id) × Sees s.standing t.standing (length t.standing.seen) × (t.last ≡ s.last)
 ContentWaits _ _ = ⊥
 
 abbrev pub HeldWaits : Option ContentType → Option ContentType → Type 0
 HeldWaits (Some a) (Some b) = ContentWaits a b
 HeldWaits _ _ = ⊥
+
+-- the seat that made no call has seen so many entries
+abbrev pub ContentMisses : ContentType → ContentType → ℕ → Type 0
+ContentMisses (IsSeat s) (IsSeat t) n = ContentWaits (IsSeat s) (IsSeat t) × (length t.standing.seen ≡ n)
+ContentMisses _ _ n = ⊥
+
+abbrev pub HeldMisses : Option ContentType → Option ContentType → ℕ → Type 0
+HeldMisses (Some a) (Some b) n = ContentMisses a b n
+HeldMisses _ _ n = ⊥
+
+-- C is told the reply that the seat keeps
+abbrev pub ContentTold : ContentType → Answer → (olds news : List Leaf) → Type 0
+ContentTold (IsSeat s) answer olds news = (reply : Reply) × (s.last ≡ Some reply) × IsTold reply answer olds news
+ContentTold _ answer olds news = ⊥
+
+abbrev pub HeldTold : Option ContentType → Answer → (olds news : List Leaf) → Type 0
+HeldTold (Some a) answer olds news = ContentTold a answer olds news
+HeldTold None answer olds news = ⊥
+
+-- the seat has made no call
+abbrev pub ContentUntold : ContentType → Type 0
+ContentUntold (IsSeat s) = s.last ≡ None
+ContentUntold _ = ⊥
+
+abbrev pub HeldUntold : Option ContentType → Type 0
+HeldUntold (Some a) = ContentUntold a
+HeldUntold None = ⊥
+
+-- the seat has this number
+abbrev pub ContentNumbered : ContentType → ℕ → Type 0
+ContentNumbered (IsSeat s) n = s.standing.number ≡ n
+ContentNumbered _ n = ⊥
+
+abbrev pub HeldNumbered : Option ContentType → ℕ → Type 0
+HeldNumbered (Some a) n = ContentNumbered a n
+HeldNumbered None n = ⊥

@@ -1,7 +1,12 @@
 //! Nodes that are opened, and calls at them.
-ghost use Rattle.std.specs.Prelude.{◌≡◌, ◌⊎◌, ◌≤◌, length, IfOk, IfSome};
+ghost use Rattle.std.specs.Prelude.{◌≡◌, ◌⊎◌, ◌≤◌, ◌<◌, [], length, Some, None, IfOk, MatchOption};
+ghost use Rattle.std.specs.Arc.{arc_value};
 ghost use Rattle.lus_foreign.specs.Held.{IsOkay, ContentSees, HeldSees};
-ghost use Rattle.lus_foreign.specs.Served.{IsEntered, Spells, why_code, IsTold, ContentAdds, ContentWaits, HeldEnters, HeldWaits};
+ghost use Rattle.lus_foreign.specs.Served.{IsEntered, IsBusy, IsFull, IsNone, IsValue, IsShort, NoneSpelled, ContentAdds, ContentWaits, ContentMisses, ContentTold, ContentUntold, ContentNumbered, HeldEnters, HeldWaits, HeldMisses, HeldTold, HeldUntold, HeldNumbered};
+ghost use Rattle.lus_leaves.specs.Requests.{IsTold};
+ghost use Rattle.lus_foreign.specs.Seated.{AreOpened};
+ghost use Rattle.lus_foreign.specs.Opened.{ContentOpened, ContentLacks, HeldOpens, HeldLacks};
+ghost use Rattle.lus_shared.specs.CodeSpecs.Codes.{program_of};
 ghost use Rattle.lus_requests.specs.declared.request.Reply.{Reply as ReplyType};
 ghost use Rattle.lus_shared.specs.Views.{Adds, Sees};
 
@@ -10,24 +15,13 @@ use crate::handle::Handle;
 use crate::node_seat::NodeSeat;
 use crate::seat_group::{Opening, SeatGroup};
 use crate::status::{BUSY, FULL, HANDLE, MEMORY, NONE, OK, SHORT, VALUE};
-use lus_leaves::{Leaf, row_of, rows_of, write_row, write_rows};
-use lus_requests::{Reply, Request, Rows, Why};
+use lus_leaves::{Answer, Leaf, request_of, write_reply};
+use lus_requests::{Reply, Request};
 use lus_shared::TryError;
 use lus_shared::lus_machine::{Machine, NodeId, Program};
 use lus_values::Memory;
 use std::alloc::Global;
 use std::sync::Arc;
-
-/// What a call was answered.
-#[repr(C)]
-pub struct Answer {
-    /// 1 for outputs, 2 for done, 3 for refused, 4 for the rows of a burst; 0 where there is none.
-    kind: u32,
-    /// Why it was refused: 1 shape, 2 presence, 3 fault, 4 no save.
-    why: u32,
-    /// How many leaves the outputs are; of a busy machine how many entries it has.
-    count: u64,
-}
 
 fn open_machine(
     alloc: Global,
@@ -35,7 +29,10 @@ fn open_machine(
     node: u32,
     callers: u32,
     id: u64,
-) -> Result<Option<SeatGroup>, Memory> {
+) -> Result<Option<SeatGroup>, Memory>
+    ensures { IfOk result (λ r. MatchOption r (length (program_of (arc_value program.now)).nodes ≤ node)
+        (λ ss. AreOpened (record { program = program_of (arc_value program.now); node = node; history = [] }) callers id ss)) }
+{
     let kind = NodeId(node);
     if !program.has(kind) {
         return Ok(None);
@@ -53,7 +50,11 @@ fn open_in(
     callers: u32,
     id: u64,
     out: &mut Handle,
-) -> u32 {
+) -> u32
+    ensures opened { IsOkay result → ContentOpened content.now node callers id out.new.kept.held }
+    ensures none { IsNone result → ContentLacks content.now node }
+    ensures missed { IsOkay result ⊎ (out.new.kept.held ≡ out.old.kept.held) }
+{
     if !out.is_free() {
         return HANDLE;
     }
@@ -81,7 +82,12 @@ pub fn open(
     callers: u32,
     id: u64,
     out: &mut Handle,
-) -> u32 {
+) -> u32
+    ensures opened { IsOkay result → HeldOpens program.old.kept.held node callers id out.new.kept.held }
+    ensures none { IsNone result → HeldLacks program.old.kept.held node }
+    ensures missed { IsOkay result ⊎ (out.new.kept.held ≡ out.old.kept.held) }
+    ensures same { program.new.kept.held ≡ program.old.kept.held }
+{
     let Some(content) = program.take(alloc) else {
         return HANDLE;
     };
@@ -90,47 +96,11 @@ pub fn open(
     status
 }
 
-/// The number by which C knows why a request was refused.
-pub(crate) fn number_of(why: Why) -> u32
-    ensures { result ≡ why_code why }
-{
-    match why {
-        Why::Shape => 1,
-        Why::Presence => 2,
-        Why::Fault => 3,
-        Why::NoSave => 4,
-    }
-}
-
-/// The request of this number, or nothing.
-fn request_of(
-    alloc: Global,
-    kind: u32,
-    slot: u64,
-    inputs: &[Leaf],
-) -> Result<Option<Request>, Memory>
-    ensures { IfOk result (λ r. IfSome r (λ q. Spells kind slot inputs.now q)) }
-{
-    match kind {
-        1 => match row_of(alloc, inputs)? {
-            Some(row) => Ok(Some(Request::Step(row))),
-            None => Ok(None),
-        },
-        2 => Ok(Some(Request::Reset)),
-        3 => Ok(Some(Request::Save(slot))),
-        4 => Ok(Some(Request::Restore(slot))),
-        5 => match rows_of(alloc, inputs, slot)? {
-            Some(rows) => Ok(Some(Request::Burst(Rows::new(rows)))),
-            None => Ok(None),
-        },
-        _ => Ok(None),
-    }
-}
-
 /// Whether the outputs had room.
 fn fits(answer: &Answer, outputs: &[Leaf]) -> u32
     ensures entered { IsEntered result }
     ensures room { IsOkay result → answer.now.count ≤ length outputs.now }
+    ensures short { IsShort result → length outputs.now < answer.now.count }
 {
     if answer.count > outputs.len() as u64 {
         SHORT
@@ -139,41 +109,30 @@ fn fits(answer: &Answer, outputs: &[Leaf]) -> u32
     }
 }
 
-fn write_reply(answer: &mut Answer, outputs: &mut [Leaf], reply: &Reply) -> u32
+/// Tells C a reply.
+fn tell(answer: &mut Answer, outputs: &mut [Leaf], reply: &Reply) -> u32
     ensures entered { IsEntered result }
     ensures told { IsTold reply.now answer.new outputs.old outputs.new }
     ensures room { IsOkay result → answer.new.count ≤ length outputs.new }
+    ensures short { IsShort result → length outputs.new < answer.new.count }
 {
-    answer.why = 0;
-    answer.count = 0;
-    match reply {
-        Reply::Outputs(row) => {
-            answer.kind = 1;
-            answer.count = write_row(outputs, row);
-        }
-        Reply::Rows(rows) => {
-            answer.kind = 4;
-            answer.count = write_rows(outputs, rows.items());
-        }
-        Reply::Done => answer.kind = 2,
-        Reply::Refused(why) => {
-            answer.kind = 3;
-            answer.why = number_of(*why);
-        }
-    }
+    write_reply(answer, outputs, reply);
     fits(answer, outputs)
 }
 
 fn call_at(seat: &mut NodeSeat, request: &Request, answer: &mut Answer, outputs: &mut [Leaf]) -> u32
     ensures same { seat.new.id ≡ seat.old.id }
     ensures entered { IsEntered result → (reply : ReplyType) × Adds seat.old.standing seat.new.standing request.now reply
-        × IsTold reply answer.new outputs.old outputs.new }
+        × (seat.new.last ≡ Some reply) × IsTold reply answer.new outputs.old outputs.new }
     ensures room { IsOkay result → answer.new.count ≤ length outputs.new }
-    ensures missed { IsEntered result ⊎ Sees seat.old.standing seat.new.standing (length seat.new.standing.seen) }
+    ensures missed { IsEntered result ⊎ (Sees seat.old.standing seat.new.standing (length seat.new.standing.seen) × (seat.new.last ≡ seat.old.last)) }
+    ensures busy { IsBusy result → length seat.new.standing.seen ≡ answer.new.count }
+    ensures full { IsFull result → length seat.new.standing.seen ≡ 4294967295 }
+    ensures valued { IsValue result → ⊥ }
 {
     match seat.try_call(request) {
         Ok(reply) => {
-            let status = write_reply(answer, outputs, &reply);
+            let status = tell(answer, outputs, &reply);
             seat.keep(reply);
             status
         }
@@ -196,6 +155,9 @@ fn call_in(
         × IsTold reply answer.new outputs.old outputs.new }
     ensures room { IsOkay result → answer.new.count ≤ length outputs.new }
     ensures missed { IsEntered result ⊎ ((content.new ≡ content.old) ⊎ ContentWaits content.old content.new) }
+    ensures busy { IsBusy result → ContentMisses content.old content.new answer.new.count }
+    ensures full { IsFull result → ContentMisses content.old content.new 4294967295 }
+    ensures valued { IsValue result → ⊥ }
 {
     match content {
         Content::Seat(seat) => call_at(seat, request, answer, outputs),
@@ -216,6 +178,9 @@ pub fn try_call(
     ensures entered { IsEntered result → HeldEnters seat.old.kept.held seat.new.kept.held kind slot inputs.now answer.new outputs.old outputs.new }
     ensures room { IsOkay result → answer.new.count ≤ length outputs.new }
     ensures missed { IsEntered result ⊎ ((seat.new.kept.held ≡ seat.old.kept.held) ⊎ HeldWaits seat.old.kept.held seat.new.kept.held) }
+    ensures busy { IsBusy result → HeldMisses seat.old.kept.held seat.new.kept.held answer.new.count }
+    ensures full { IsFull result → HeldMisses seat.old.kept.held seat.new.kept.held 4294967295 }
+    ensures valued { IsValue result → NoneSpelled kind slot inputs.now × (seat.new.kept.held ≡ seat.old.kept.held) }
 {
     answer.kind = 0;
     answer.why = 0;
@@ -233,18 +198,33 @@ pub fn try_call(
     status
 }
 
-/// The reply to the seat's last call again.
-pub fn outputs(alloc: Global, seat: &mut Handle, answer: &mut Answer, outputs: &mut [Leaf]) -> u32 {
-    let Some(content) = seat.take(alloc) else {
-        return HANDLE;
-    };
-    let status = match &*content {
+fn outputs_in(content: &Content, answer: &mut Answer, outputs: &mut [Leaf]) -> u32
+    ensures told { IsEntered result → ContentTold content.now answer.new outputs.old outputs.new }
+    ensures room { IsOkay result → answer.new.count ≤ length outputs.new }
+    ensures short { IsShort result → length outputs.new < answer.new.count }
+    ensures none { IsNone result → ContentUntold content.now }
+{
+    match content {
         Content::Seat(seat) => match seat.last() {
-            Some(reply) => write_reply(answer, outputs, reply),
+            Some(reply) => tell(answer, outputs, reply),
             None => NONE,
         },
         _ => HANDLE,
+    }
+}
+
+/// The reply to the seat's last call again.
+pub fn outputs(alloc: Global, seat: &mut Handle, answer: &mut Answer, outputs: &mut [Leaf]) -> u32
+    ensures told { IsEntered result → HeldTold seat.old.kept.held answer.new outputs.old outputs.new }
+    ensures room { IsOkay result → answer.new.count ≤ length outputs.new }
+    ensures short { IsShort result → length outputs.new < answer.new.count }
+    ensures none { IsNone result → HeldUntold seat.old.kept.held }
+    ensures same { seat.new.kept.held ≡ seat.old.kept.held }
+{
+    let Some(content) = seat.take(alloc) else {
+        return HANDLE;
     };
+    let status = outputs_in(&content, answer, outputs);
     seat.put(content);
     status
 }
@@ -273,18 +253,27 @@ pub fn count(alloc: Global, seat: &mut Handle, count: &mut u64) -> u32
     status
 }
 
-/// The seat's number.
-pub fn number(alloc: Global, seat: &mut Handle, number: &mut u32) -> u32 {
-    let Some(content) = seat.take(alloc) else {
-        return HANDLE;
-    };
-    let status = match &*content {
+fn number_in(content: &Content, number: &mut u32) -> u32
+    ensures { IsOkay result → ContentNumbered content.now number.new }
+{
+    match content {
         Content::Seat(seat) => {
             *number = seat.number();
             OK
         }
         _ => HANDLE,
+    }
+}
+
+/// The seat's number.
+pub fn number(alloc: Global, seat: &mut Handle, number: &mut u32) -> u32
+    ensures number { IsOkay result → HeldNumbered seat.old.kept.held number.new }
+    ensures same { seat.new.kept.held ≡ seat.old.kept.held }
+{
+    let Some(content) = seat.take(alloc) else {
+        return HANDLE;
     };
+    let status = number_in(&content, number);
     seat.put(content);
     status
 }

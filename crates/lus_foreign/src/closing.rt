@@ -1,7 +1,8 @@
 //! Seats that are gathered, and the end of their instance.
-ghost use Rattle.std.specs.Prelude.{◌≡◌, false, None, IfOk, IfErr};
+ghost use Rattle.std.specs.Prelude.{◌≡◌, ◌⊎◌, false, None, IfOk, IfErr};
 ghost use Rattle.lus_foreign.specs.Holds.{has_content};
 ghost use Rattle.lus_foreign.specs.Held.{IsOkay, ContentEnds, HeldEnds, ContentJoins, HeldJoins, HeldGathers, HeldIsEmpty};
+ghost use Rattle.lus_foreign.specs.Opened.{SeatsPopped, ContentPopped, HeldPops};
 ghost use Rattle.lus_foreign.specs.Owed.{ContentTells, HeldTells, BothTell};
 
 use crate::content::Content;
@@ -12,24 +13,37 @@ use std::alloc::Global;
 use std::mem;
 
 /// The last of the seats that are together, in `seat`.
-pub fn pop(alloc: Global, gather: &mut Handle, seat: &mut Handle) -> u32 {
+pub fn pop(alloc: Global, gather: &mut Handle, seat: &mut Handle) -> u32
+    ensures popped { IsOkay result → HeldPops gather.old.kept.held gather.new.kept.held seat.new.kept.held }
+    ensures missed { IsOkay result ⊎ ((gather.new.kept.held ≡ gather.old.kept.held) × (seat.new.kept.held ≡ seat.old.kept.held)) }
+{
     if !seat.is_free() {
         return HANDLE;
     }
     let Some(mut content) = gather.take(alloc) else {
         return HANDLE;
     };
-    let status = match &mut *content {
-        Content::Group(seats) => pop_in(alloc, seats, seat),
-        _ => HANDLE,
-    };
+    let status = pop_from(alloc, &mut content, seat);
     gather.put(content);
     status
+}
+
+fn pop_from(alloc: Global, content: &mut Content, seat: &mut Handle) -> u32
+    requires { has_content seat.old.kept.held ≡ false }
+    ensures popped { IsOkay result → ContentPopped content.old content.new seat.new.kept.held }
+    ensures missed { IsOkay result ⊎ ((content.new ≡ content.old) × (seat.new.kept.held ≡ seat.old.kept.held)) }
+{
+    match content {
+        Content::Group(seats) => pop_in(alloc, seats, seat),
+        _ => HANDLE,
+    }
 }
 
 // The box is made first, so that no seat is lost where there is no memory for it.
 fn pop_in(alloc: Global, seats: &mut SeatGroup, seat: &mut Handle) -> u32
     requires { has_content seat.old.kept.held ≡ false }
+    ensures popped { IsOkay result → SeatsPopped seats.old seats.new seat.new.kept.held }
+    ensures missed { IsOkay result ⊎ ((seats.new ≡ seats.old) × (seat.new.kept.held ≡ seat.old.kept.held)) }
 {
     let Ok(mut content) = Box::new(alloc, Content::Group(SeatGroup::empty(alloc))) else {
         return MEMORY;

@@ -14,12 +14,12 @@ mod seat_group;
 mod status;
 mod texts;
 
-pub use calls::{Answer, count, number, open, outputs, try_call};
+pub use calls::{count, number, open, outputs, try_call};
 pub use closing::{close, gather, gather_none, pop};
 pub use compiling::{Refused, compile};
 pub use handle::Handle;
 pub use holding::{hold, meet, release};
-pub use journals::{EntryOut, entries, entry_at};
+pub use journals::{entries, entry_at};
 pub use programs::{
     FormalOut, constructor, field, formals, free, input, node, node_name, nodes, output,
 };

@@ -1,5 +1,5 @@
 //! Seats with their node.
-ghost use Rattle.std.specs.Prelude.{◌≡◌, length, IfOk, IfErr};
+ghost use Rattle.std.specs.Prelude.{◌≡◌, length, Some, None, IfOk, IfErr, MatchOption, MatchResult};
 ghost use Rattle.std.specs.Arc.{arc_value};
 ghost use Rattle.lus_shared.specs.Views.{Sees, Adds};
 ghost use Rattle.lus_shared.specs.Calls.{Counts};
@@ -40,7 +40,7 @@ impl Model for NodeSeat {
 
     ghost coded = { Prim.hlevel (codes, coded_row, coded_expression) };
 
-    ghost view = { λ s. record { id = (arc_value s.node).id; standing = s.seat } };
+    ghost view = { λ s. record { id = (arc_value s.node).id; standing = s.seat; last = s.last } };
 
     ghost invariant = { λ s. s.seat.instance ≡ (arc_value s.node).node };
 }
@@ -66,6 +66,7 @@ impl NodeSeat {
 
     pub(crate) fn count(&mut self) -> u64
         ensures id { self.new.id ≡ self.old.id }
+        ensures last { self.new.last ≡ self.old.last }
         ensures sees { Sees self.old.standing self.new.standing result }
     {
         self.node.node.count(&mut self.seat)
@@ -74,6 +75,7 @@ impl NodeSeat {
     /// One call where the machine is free.
     pub(crate) fn try_call(&mut self, request: &Request) -> Result<Reply, TryError>
         ensures id { self.new.id ≡ self.old.id }
+        ensures last { self.new.last ≡ self.old.last }
         ensures ok { IfOk result (λ a. Adds self.old.standing self.new.standing request.now a) }
         ensures err { IfErr result (λ e. Sees self.old.standing self.new.standing (length self.new.standing.seen)
             × Counts e (length self.new.standing.seen)) }
@@ -83,12 +85,17 @@ impl NodeSeat {
 
     /// Keeps a reply, so that it can be given again.
     pub(crate) fn keep(&mut self, reply: Reply)
-        ensures { self.new ≡ self.old }
+        ensures id { self.new.id ≡ self.old.id }
+        ensures standing { self.new.standing ≡ self.old.standing }
+        ensures last { self.new.last ≡ Some reply }
     {
         self.last = Some(reply);
     }
 
-    pub(crate) fn last(&self) -> Option<&Reply> {
+    /// The reply to its last call.
+    pub(crate) fn last(&self) -> Option<&Reply>
+        ensures { MatchOption result (self.now.last ≡ None) (λ r. self.now.last ≡ Some r.now) }
+    {
         self.last.as_ref()
     }
 
@@ -96,6 +103,7 @@ impl NodeSeat {
     pub(crate) fn meet(self, other: NodeSeat) -> (NodeSeat, NodeSeat)
         requires { other.standing.instance ≡ self.standing.instance }
         ensures ids { (result.0.id ≡ self.id) × (result.1.id ≡ other.id) }
+        ensures lasts { (result.0.last ≡ self.last) × (result.1.last ≡ other.last) }
         ensures first { Sees self.standing result.0.standing (length result.0.standing.seen) }
         ensures second { Sees other.standing result.1.standing (length result.1.standing.seen) }
         ensures same { result.0.standing.seen ≡ result.1.standing.seen }
@@ -118,6 +126,7 @@ impl NodeSeat {
 
     /// Takes the machine, where it is free, and makes no entry.
     pub(crate) fn hold(self) -> Result<HeldSeat, (NodeSeat, Busy)>
+        ensures last { MatchResult result (λ h. h.last ≡ self.last) (λ e. e.0.last ≡ self.last) }
         ensures ok { IfOk result (λ h. (h.id ≡ self.id) × Sees self.standing h.standing (length h.standing.seen)) }
         ensures err { IfErr result (λ e. (e.0.id ≡ self.id) × Sees self.standing e.0.standing (length e.0.standing.seen)
             × (e.1.0 ≡ length e.0.standing.seen)) }
@@ -149,7 +158,7 @@ impl Model for HeldSeat {
 
     ghost coded = { Prim.hlevel (codes, coded_row, coded_expression) };
 
-    ghost view = { λ h. record { id = (arc_value h.node).id; standing = h.held.standing } };
+    ghost view = { λ h. record { id = (arc_value h.node).id; standing = h.held.standing; last = h.last } };
 
     ghost invariant = { λ h. h.held.standing.instance ≡ (arc_value h.node).node };
 }

@@ -2,7 +2,7 @@
 ghost use Rattle.std.specs.Prelude.{◌≡◌, ◌++◌, ◌∷◌, [], IfOk, IfErr, IfSome, IsTrue, MatchOption};
 ghost use Rattle.lus_shared.specs.Knowledge.{Instance};
 ghost use Rattle.lus_foreign.specs.Held.{EndLeaves};
-ghost use Rattle.lus_foreign.specs.Seated.{Belongs, IsMate};
+ghost use Rattle.lus_foreign.specs.Seated.{AreOpened, Belongs, IsMate};
 
 use crate::node_seat::{NodeSeat, Opened};
 use lus_requests::Entry;
@@ -99,6 +99,7 @@ impl SeatGroup {
         opening: Opening,
     ) -> Result<SeatGroup, Memory>
         requires { machine.history ≡ [] }
+        ensures { IfOk result (λ ss. AreOpened machine callers opening.id ss) }
     {
         let Opening { id, program, kind } = opening;
         let (node, mut seats) = SeatNode::open(alloc, machine, callers)?;

@@ -4,7 +4,7 @@ use Rattle.std.specs.Arc.{arc_value}
 use Rattle.lus_shared.specs.Knowledge.{Standing}
 use Rattle.lus_foreign.specs.declared.node_seat.Opened.{Opened}
 use Rattle.lus_foreign.specs.Seated.{IsAt}
-use Rattle.lus_foreign.proofs.Gathers.{together}
+use Rattle.lus_foreign.proofs.Gathers.{together, handed}
 use Rattle.lus_foreign.proofs.seat_group.SeatGroup.open.Goals as goal
 
 pub loop-seat-preserved : goal.loop-seat-preserved
@@ -14,6 +14,7 @@ loop-seat-preserved c =
     record {
       own = own.0;
       id = c.loop-seat.invariant.id;
+      order = rw c.in_ok-push.ensures.items (handed _ c.loop-seat.seats.items c.pop.new.self.items c.loop-seat.places.items _ c.loop-seat.invariant.order c.in-Some.ensures.items);
       places = rw c.in_ok-push.ensures.items (All-push (IsAt c.args.opening.id i) c.loop-seat.places.items _ c.loop-seat.invariant.places
           (ap (λ (o : Opened). o.id) c.in_ok-node-3.ensures ∙ c.loop-seat.invariant.id, own.1));
     }
