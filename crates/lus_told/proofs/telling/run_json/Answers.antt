@@ -1,0 +1,30 @@
+-- The program, its names and the outputs of the node are those of the code.
+use Rattle.std.proofs.Common.{rules, ◌≡◌, map}
+use Rattle.std.proofs.lemmas.Result.{IfOk-weaker, on_err_weaker}
+use Rattle.std.specs.Arc.{arc_value}
+use Rattle.lus_program.specs.Programs.{node_at}
+use Rattle.lus_program.specs.View.{program_seen, variable_of}
+use Rattle.lus_machine.specs.CodeSpecs.Codes.{program_of}
+use Rattle.lus_machine.specs.Constructors.{names_of}
+use Rattle.lus_machine.specs.Formals.{outputs_of}
+use Rattle.lus_told.proofs.TellingLaws.{json_told, json_told_some}
+use Rattle.lus_told.proofs.telling.run_json.Goals as goal
+
+pub returns-clause-all : goal.returns-clause-all
+returns-clause-all g c =
+    let same : program_seen c.source-source.result.now ≡ program_of (arc_value c.args.program.now) = search rules in
+    let named : c.names-names.result.now ≡ names_of (program_of (arc_value c.args.program.now)) = search rules in
+    let those : map variable_of c.outputs-outputs.result.now ≡ outputs_of (node_at (program_of (arc_value c.args.program.now)) c.args.node.0) = search rules in
+    IfOk-weaker c.tell.result _ _
+    (λ score told. json_told _ (program_seen c.source-source.result.now) c.names-names.result.now _ (map variable_of c.outputs-outputs.result.now) same named those
+    _ _ _ _ score told)
+    c.tell.ensures.all
+
+pub returns-clause-begun : goal.returns-clause-begun
+returns-clause-begun g c =
+    let same : program_seen c.source-source.result.now ≡ program_of (arc_value c.args.program.now) = search rules in
+    let named : c.names-names.result.now ≡ names_of (program_of (arc_value c.args.program.now)) = search rules in
+    let those : map variable_of c.outputs-outputs.result.now ≡ outputs_of (node_at (program_of (arc_value c.args.program.now)) c.args.node.0) = search rules in
+    on_err_weaker c.tell.result
+    (json_told_some _ (program_seen c.source-source.result.now) c.names-names.result.now _ (map variable_of c.outputs-outputs.result.now) same named those _ _ _)
+    c.tell.ensures.begun

@@ -1,0 +1,7 @@
+//! Lines that are played on a new instance, and of which each reply is told.
+#![tactic(auto)]
+
+mod replies;
+mod telling;
+
+pub use telling::{run_json, tell};
