@@ -1,15 +1,12 @@
-//! How variables are given their entries.
+//! How variables are given what called nodes answer.
 
-ghost use Rattle.std.specs.Prelude.{◌≡◌, None, map, slice_set};
-ghost use Rattle.lus_values.specs.Lists.{item};
-ghost use Rattle.lus_following.specs.Followed.{cell_of};
-ghost use Rattle.lus_running.specs.Gifts.{GivesTo, ReceivesAll, ReceivesOne};
+ghost use Rattle.std.specs.Prelude.{◌≡◌, map, slice_set};
+ghost use Rattle.lus_running.specs.Gifts.{ReceivesAll, ReceivesOne};
 
 use crate::entries::held_at;
 use crate::error::Failure;
 use crate::presence::is_present;
-use crate::value::value_of;
-use lus_flat_classes::{Class, Formula, Target};
+use lus_flat_classes::{Class, Target};
 use lus_following::Held;
 use lus_words::Word;
 use std::alloc::Global;
@@ -21,32 +18,6 @@ pub fn put<T: Held>(row: &mut [T], variable: usize, held: T)
 {
     if variable < row.len() {
         row[variable] = held;
-    }
-}
-
-/// Gives a variable that has no entry yet the value of its formula where its clock is present.
-pub fn give<T: Held>(
-    alloc: Global,
-    class: &Class,
-    cells: &[T],
-    firsts: &[bool],
-    row: &mut [T],
-    variable: usize,
-    formula: &Formula,
-) -> Result<(), Failure>
-    requires unknown { item None (map T.entry row.old) variable ≡ None }
-    ensures gives { GivesTo class.now (map (cell_of T.entry) cells.now) firsts.now variable formula.now (map T.entry row.old) result (map T.entry row.new) }
-{
-    if !is_present(class, row, variable) {
-        return Ok(());
-    }
-    match value_of(alloc, formula, cells, firsts, row)? {
-        Some(value) => {
-            let held = T::of_entry(Some(value))?;
-            put(row, variable, held);
-            Ok(())
-        }
-        None => Err(Failure::Fault),
     }
 }
 
