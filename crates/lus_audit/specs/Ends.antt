@@ -1,6 +1,7 @@
 -- How an audit ends: what was found of the journals, or which fault ended it.
-use Rattle.std.specs.Prelude.{◌≡◌, ◌⊎◌, ◌++◌, ℕ, Bool, true, false, Some, Result, ⊤}
+use Rattle.std.specs.Prelude.{◌≡◌, ◌⊎◌, ◌++◌, ℕ, Bool, true, false, Option, Some, Result, ⊤}
 use Rattle.lus_program.specs.Programs.{Program}
+use Rattle.lus_devices.specs.Devices.{Bytes}
 use Rattle.lus_devices.specs.Folders.{Known, WithFile}
 use Rattle.lus_cli.specs.HostSpecs.Sources.{ProgramRefused}
 use Rattle.lus_cli.specs.MachineSpecs.Acceptance.{Accepted}
@@ -10,6 +11,7 @@ use Rattle.lus_cli.specs.Ends.{IsLost, SaysEnds}
 use Rattle.lus_cli.specs.declared.fault.Fault.{Fault}
 use Rattle.lus_cli.specs.declared.fault.Fault.TheVariants as faults
 use Rattle.lus_lawful.specs.Audits.{HasAudited}
+use Rattle.lus_lawful.specs.Findings.{AreNone, FindsAll}
 use Rattle.lus_lawful.specs.declared.error.AuditError.{AuditError}
 use Rattle.lus_lawful.specs.declared.error.AuditError.TheVariants as errors
 use Rattle.lus_audit.specs.CommandLine.{Asked}
@@ -23,23 +25,28 @@ abbrev pub HasReasons : Bool → Text → Text → Type 0
 HasReasons true found report = (reasons : Text) × (report ≡ found ++ reasons)
 HasReasons false found report = report ≡ found
 
+-- what is found of bytes is so, and of journals that can be read back what is to be found is found
+abbrev pub IsFound : Program → Bool → Option Bytes → Text → Type 0
+IsFound p is_lawful left found = HasAudited p is_lawful left found × FindsAll p is_lawful left found
+
 -- the journals of a file are audited by the program of another
 abbrev pub IsAudited : Known → Known → Bool → Bool → Text → Type 0
 IsAudited program journal is_why is_lawful report =
     (p : Program) × IsOfFile program p
-    × ((found : Text) × WithFile journal (λ bytes. HasAudited p is_lawful (Some bytes) found) × HasReasons is_why found report)
+    × ((found : Text) × WithFile journal (λ bytes. IsFound p is_lawful (Some bytes) found) × HasReasons is_why found report)
 
 -- why nothing is found: the program's file is lost or it is refused; or it is accepted, and the journals' file is lost, or has a line
--- that is none of a journal; or out of memory
-abbrev pub AuditFails : (Known → Type 0) → Known → Fault → Type 0
-AuditFails read_fails program faults.File = IsLost read_fails program ⊎ ((p : Program) × IsOfFile program p)
-AuditFails read_fails program (faults.Program e) = WithFile program (λ text. ProgramRefused text e)
-AuditFails read_fails program (faults.Journal n) = (p : Program) × IsOfFile program p
-AuditFails read_fails program faults.Memory = ⊤
-AuditFails read_fails program (faults.Scripts e) = ⊥
-AuditFails read_fails program faults.Words = ⊥
-AuditFails read_fails program faults.Output = ⊥
-AuditFails read_fails program faults.Start = ⊥
+-- that is none of a journal, and so no journals that can be read back; or out of memory
+abbrev pub AuditFails : (Known → Type 0) → Known → Known → Fault → Type 0
+AuditFails read_fails program journal faults.File = IsLost read_fails program ⊎ ((p : Program) × IsOfFile program p)
+AuditFails read_fails program journal (faults.Program e) = WithFile program (λ text. ProgramRefused text e)
+AuditFails read_fails program journal (faults.Journal n) =
+    (p : Program) × IsOfFile program p × WithFile journal (λ bytes. AreNone p (Some bytes))
+AuditFails read_fails program journal faults.Memory = ⊤
+AuditFails read_fails program journal (faults.Scripts e) = ⊥
+AuditFails read_fails program journal faults.Words = ⊥
+AuditFails read_fails program journal faults.Output = ⊥
+AuditFails read_fails program journal faults.Start = ⊥
 
 abbrev pub audit_fault : AuditError → Fault
 audit_fault (errors.Line n) = faults.Journal n
@@ -50,7 +57,7 @@ audit_fault errors.Memory = faults.Memory
 abbrev pub TaskEnds : (Known → Type 0) → (Text → Known) → Asked → Result Bool Fault → Change → Type 0
 TaskEnds read_fails known asked =
     SaysEnds (λ is_lawful report. IsAudited (known asked.program) (known asked.journal) asked.is_why is_lawful report)
-    (AuditFails read_fails (known asked.program))
+    (AuditFails read_fails (known asked.program) (known asked.journal))
 
 -- 0 where each journal is lawful
 abbrev pub audit_status : Bool → ℕ

@@ -40,7 +40,8 @@ fn with_reasons(report: Report, is_why: bool) -> Result<Report, Fault>
 fn audit_file<D: Folder>(alloc: Global, folder: &D, task: Task<'_>) -> Result<Report, Fault>
     ensures audited { IfOk result (λ r. IsAudited (D.known folder.now task.entry.program.now) (D.known folder.now task.entry.journal.now)
         task.entry.is_why r.is_lawful r.text.items) }
-    ensures fault { IfErr result (λ f. AuditFails (ReadFails D.File D.File.left D.File.failures) (D.known folder.now task.entry.program.now) f) }
+    ensures fault { IfErr result (λ f. AuditFails (ReadFails D.File D.File.left D.File.failures) (D.known folder.now task.entry.program.now)
+        (D.known folder.now task.entry.journal.now) f) }
 {
     let program = read_program(alloc, folder, task.program)?;
     let Ok(program) = Arc::new(alloc, program) else {

@@ -12,13 +12,14 @@ use Rattle.lus_devices.proofs.Laws.{with_front-more}
 use Rattle.lus_lines.specs.Lines.{HasReadWhole}
 use Rattle.lus_lines.specs.declared.whole.Whole.{Whole}
 use Rattle.lus_lines.specs.declared.whole.Whole.TheVariants as wholes
+use Rattle.lus_live_instance.specs.MachineSpecs.Acceptance.{IsAccepted}
 use Rattle.lus_live_instance.specs.MachineSpecs.Constructors.{names_of}
 use Rattle.lus_live_instance.specs.MachineSpecs.Formals.{node_named}
 use Rattle.lus_live_instance.specs.MachineSpecs.HistorySpecs.Histories.{History}
 use Rattle.lus_live_instance.specs.MachineSpecs.Machines.{Told}
 use Rattle.lus_live_instance.specs.Lives.{IsLive}
 use Rattle.lus_live_instance.proofs.LiveLaws.{lawful_of}
-use Rattle.lus_replay.specs.Replays.{BeginsAsked, EndsSo, HasReplayed, entry_said, items_text, said_line, saids_of}
+use Rattle.lus_replay.specs.Replays.{BeginsAsked, EndsSo, HasReplayed, ReadsBack, entry_said, items_text, said_line, saids_of}
 use Rattle.lus_replay.specs.declared.replaying.Ending.{Ending}
 use Rattle.lus_replay.specs.declared.replaying.Ending.TheVariants as endings
 use Rattle.lus_replay.specs.declared.replaying.Replayed.{Replayed}
@@ -39,12 +40,16 @@ end_before left (Some bs) is over = subst AtEnd (sym is) over
 -- ---- a journal that was replayed on a new instance
 
 pub replayed_lawfully : (p : Program) (f : ℕ) (m : Told) (h : List Entry) (names : Names) (r : Replayed) (left later : Option Bytes) (line right : Text)
-    → IsLive p f m → h ≡ [] → names ≡ names_of p → HasReplayed names r left later h m.history line right → HasReplayedLawfully p f r left later line right
-replayed_lawfully p f m h names r left later line right live empty named replayed = record {
+    → IsLive p f m → h ≡ [] → names ≡ names_of p → HasReplayed names r left later h m.history line right
+    → ReadsBack names r left later h m.history line right → HasReplayedLawfully p f r left later line right
+replayed_lawfully p f m h names r left later line right live empty named replayed back = record {
   history = m.history;
+  accepted = subst IsAccepted live.program live.lawful.accepted;
   lawful = lawful_of p f m live;
   replayed = subst (λ ns. HasReplayed ns r left later [] m.history line right) named
       (subst (λ es. HasReplayed names r left later es m.history line right) empty replayed);
+  back = subst (λ ns. ReadsBack ns r left later [] m.history line right) named
+      (subst (λ es. ReadsBack names r left later es m.history line right) empty back);
 }
 
 module _ (p : Program) (f : ℕ) (instance node : Text) (named : node_named p node ≡ Some f) (left later : Option Bytes) (lines behind : ℕ)

@@ -1,1 +1,9 @@
 pub mod AuditLaws
+pub mod Heads
+pub mod Words
+pub mod Replies
+pub mod Places
+pub mod Findings
+pub mod Firsts
+pub mod Reaching
+pub mod Blames

@@ -5,10 +5,11 @@ use Rattle.lus_values.specs.Names.{Text}
 use Rattle.lus_program.specs.Programs.{Program}
 use Rattle.lus_requests.specs.declared.request.Entry.{Entry}
 use Rattle.lus_devices.specs.Devices.{AtEnd, Bytes, with_front}
+use Rattle.lus_live_instance.specs.MachineSpecs.Acceptance.{IsAccepted}
 use Rattle.lus_live_instance.specs.MachineSpecs.Constructors.{names_of}
 use Rattle.lus_live_instance.specs.MachineSpecs.Formals.{node_named}
 use Rattle.lus_live_instance.specs.MachineSpecs.HistorySpecs.Histories.{History}
-use Rattle.lus_replay.specs.Replays.{BeginsAsked, HasReplayed, IsItem, Said, entry_said, items_text, said_line, saids_of}
+use Rattle.lus_replay.specs.Replays.{BeginsAsked, HasReplayed, IsItem, ReadsBack, Said, entry_said, items_text, said_line, saids_of}
 use Rattle.lus_replay.specs.declared.replaying.Replayed.{Replayed}
 use Rattle.lus_lawful.specs.Journals.{IsLawfulJournal, Journal, entries_of, journal_text, lawful_text, line_count, wrong_text}
 use Rattle.lus_lawful.specs.declared.auditing.Turn.{Turn}
@@ -47,11 +48,13 @@ HasAudited p false left report =
 
 -- ---- one journal
 
--- what was replayed on a new instance of a node is its lawful history
+-- what was replayed on a new instance of a node of an accepted program is its lawful history, and all of it where it can be read back
 pub record HasReplayedLawfully (p : Program) (f : ℕ) (r : Replayed) (left later : Option Bytes) (line right : Text) : Type 0 where
   pub history : List Entry
+  pub accepted : IsAccepted p
   pub lawful : History p f history
   pub replayed : HasReplayed (names_of p) r left later [] history line right
+  pub back : ReadsBack (names_of p) r left later [] history line right
 
 -- a lawful journal was read, up to the line so far, and is reported
 pub record IsReported (p : Program) (lines behind : ℕ) (left later : Option Bytes) (old new : Text) : Type 0 where

@@ -1,2 +1,5 @@
 pub mod Journals
 pub mod Audits
+pub mod Heads
+pub mod Findings
+pub mod Errors

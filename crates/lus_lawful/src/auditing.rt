@@ -1,11 +1,15 @@
 //! Audits.
 
-ghost use Rattle.std.specs.Prelude.{◌≡◌, ◌+◌, ◌<◌, ◌++◌, IfOk, OnOk, Some, [], codes, length, string_bytes, true};
+ghost use Rattle.std.specs.Prelude.{◌≡◌, ◌+◌, ◌<◌, ◌++◌, IfErr, IfOk, OnOk, Some, [], codes, false, length, string_bytes, true};
 ghost use Rattle.std.specs.Arc.{arc_value};
 ghost use Rattle.lus_devices.specs.Devices.{with_front};
+ghost use Rattle.lus_lines.specs.Lines.{IsWholeLine};
+ghost use Rattle.lus_live_instance.specs.MachineSpecs.Acceptance.{IsAccepted};
 ghost use Rattle.lus_live_instance.specs.MachineSpecs.CodeSpecs.Codes.{program_of};
 ghost use Rattle.lus_live_instance.specs.MachineSpecs.Formals.{node_named};
 ghost use Rattle.lus_lawful.specs.Audits.{HasAudited, HasReplayedLawfully, TurnIs};
+ghost use Rattle.lus_lawful.specs.Errors.{BlamesIf, IsOutside};
+ghost use Rattle.lus_lawful.specs.Findings.{AreNone, Finds, FindsAll, FindsBehind, IsNone, IsNoneBehind};
 ghost use Rattle.lus_lawful.specs.Journals.{head_of, lawful_text};
 
 use crate::error::AuditError;
@@ -47,8 +51,17 @@ enum Turn {
     Wrong,
 }
 
+/// The program is one that was accepted.
+fn is_accepted(program: &Program)
+    ensures { IsAccepted (program_of program.now) }
+{
+    program.source();
+}
+
 /// Appends the reasons of an instance's refusals, where they were asked.
-fn push_reasons(explanation: &Explanation, said: &mut Vec<u8>) -> Result<(), AuditError> {
+fn push_reasons(explanation: &Explanation, said: &mut Vec<u8>) -> Result<(), AuditError>
+    ensures { IfErr result IsOutside }
+{
     if explanation.is_lost {
         return Err(AuditError::Memory);
     }
@@ -73,8 +86,9 @@ fn replay_new<S: Source>(
     said: &mut Vec<u8>,
 ) -> Result<Replayed, AuditError>
     requires { node.0 < length (program_of (arc_value program.now)).nodes }
-    ensures { IfOk result (λ r. HasReplayedLawfully (program_of (arc_value program.now)) node.0 r
+    ensures replayed { IfOk result (λ r. HasReplayedLawfully (program_of (arc_value program.now)) node.0 r
         (S.left source.old) (S.left source.new) line.new.items (string_bytes right.new)) }
+    ensures outside { IfErr result IsOutside }
 {
     let mut explained = new_explained(alloc, program, node, reasons)?;
     let replayed = replay(alloc, &mut explained, program.names(), source, line, right)?;
@@ -88,7 +102,9 @@ fn reasons_of(
     is_asked: bool,
     instance: &str,
     lines: u64,
-) -> Result<Option<Reasons>, AuditError> {
+) -> Result<Option<Reasons>, AuditError>
+    ensures { IfErr result IsOutside }
+{
     if !is_asked {
         return Ok(None);
     }
@@ -97,7 +113,9 @@ fn reasons_of(
 }
 
 /// Adds the reasons of a lawful journal to those before it.
-fn add_reasons(reasoned: &mut Reasoned, said: &[u8]) -> Result<(), AuditError> {
+fn add_reasons(reasoned: &mut Reasoned, said: &[u8]) -> Result<(), AuditError>
+    ensures { IfErr result IsOutside }
+{
     match reasoned.text.extend_from_slice(said) {
         Ok(()) => Ok(()),
         Err(_) => Err(AuditError::Memory),
@@ -106,21 +124,24 @@ fn add_reasons(reasoned: &mut Reasoned, said: &[u8]) -> Result<(), AuditError> {
 
 /// How many lines these are and so many further ones.
 fn lines_behind(lines: u64, further: u64) -> Result<u64, AuditError>
-    ensures { IfOk result (λ n. n ≡ lines + further) }
+    ensures sum { IfOk result (λ n. n ≡ lines + further) }
+    ensures outside { IfErr result IsOutside }
 {
     lines.checked_add(further).ok_or(AuditError::Memory)
 }
 
 /// How many lines these are, a journal's first and so many behind it.
 fn lines_with(lines: u64, items: u64) -> Result<u64, AuditError>
-    ensures { IfOk result (λ n. n ≡ lines + items + 1) }
+    ensures sum { IfOk result (λ n. n ≡ lines + items + 1) }
+    ensures outside { IfErr result IsOutside }
 {
     lines_behind(lines_behind(lines, items)?, 1)
 }
 
 /// A journal ends with the number of its entries; else this is the line that isn't right.
 fn check_counted(is_counted: bool, line: u64) -> Result<(), AuditError>
-    ensures { OnOk result (is_counted ≡ true) }
+    ensures ok { OnOk result (is_counted ≡ true) }
+    ensures err { IfErr result (BlamesIf (is_counted ≡ false)) }
 {
     if is_counted {
         Ok(())
@@ -136,7 +157,8 @@ fn report_lawful(
     report: &mut Vec<u8>,
     reasoned: &mut Reasoned,
 ) -> Result<(), AuditError>
-    ensures { OnOk result (report.new.items ≡ report.old.items ++ lawful_text instance.now) }
+    ensures ok { OnOk result (report.new.items ≡ report.old.items ++ lawful_text instance.now) }
+    ensures outside { IfErr result IsOutside }
 {
     push_lawful(report, instance)?;
     add_reasons(reasoned, said)
@@ -155,9 +177,14 @@ fn audit_journal<S: Source>(
     reasoned: &mut Reasoned,
 ) -> Result<Turn, AuditError>
     requires { node_named (program_of (arc_value program.now)) head.node.now ≡ Some node.0 }
-    ensures { IfOk result (λ turn. TurnIs turn (program_of (arc_value program.now)) lines
+    ensures sound { IfOk result (λ turn. TurnIs turn (program_of (arc_value program.now)) lines
         (with_front (head_of head.entry.instance.now head.entry.node.now ++ codes "\n") (S.left source.old)) (S.left source.new)
         line.new.items report.old.items report.new.items) }
+    ensures complete { IfOk result (λ turn. FindsBehind turn (program_of (arc_value program.now)) lines
+        head.entry.instance.now head.entry.node.now (S.left source.old) (S.left source.new)
+        line.new.items report.old.items report.new.items) }
+    ensures blames { IfErr result (BlamesIf (IsNoneBehind (program_of (arc_value program.now))
+        head.entry.instance.now head.entry.node.now (S.left source.old))) }
 {
     let mut right = String::new(alloc);
     let mut said = Vec::new(alloc);
@@ -197,8 +224,12 @@ fn audit_behind<S: Source>(
     report: &mut Vec<u8>,
     reasoned: &mut Reasoned,
 ) -> Result<Turn, AuditError>
-    ensures { IfOk result (λ turn. TurnIs turn (program_of (arc_value program.now)) lines
+    requires { IsAccepted (program_of (arc_value program.now)) }
+    ensures sound { IfOk result (λ turn. TurnIs turn (program_of (arc_value program.now)) lines
         (with_front first.now (S.left source.old)) (S.left source.new) line.new.items report.old.items report.new.items) }
+    ensures complete { IfOk result (λ turn. Finds turn (program_of (arc_value program.now)) lines first.now
+        (S.left source.old) (S.left source.new) line.new.items report.old.items report.new.items) }
+    ensures blames { IfErr result (BlamesIf (IsNone (program_of (arc_value program.now)) first.now (S.left source.old))) }
 {
     let number = lines_behind(lines, 1)?;
     let Some(head) = read_head(first) else {
@@ -221,9 +252,15 @@ fn audit_all<S: Source>(
     reasoned: &mut Reasoned,
     report: &mut Vec<u8>,
 ) -> Result<bool, AuditError>
-    requires { report.old.items ≡ [] }
-    ensures { IfOk result (λ is_lawful. HasAudited (program_of (arc_value program.now)) is_lawful
+    requires empty { report.old.items ≡ [] }
+    requires accepted { IsAccepted (program_of (arc_value program.now)) }
+    requires whole { IsWholeLine first.items }
+    ensures sound { IfOk result (λ is_lawful. HasAudited (program_of (arc_value program.now)) is_lawful
         (with_front first.items (S.left source.old)) report.new.items) }
+    ensures complete { IfOk result (λ is_lawful. FindsAll (program_of (arc_value program.now)) is_lawful
+        (with_front first.items (S.left source.old)) report.new.items) }
+    ensures blames { IfErr result (BlamesIf (AreNone (program_of (arc_value program.now))
+        (with_front first.items (S.left source.old)))) }
 {
     let mut first = first;
     let mut line = Vec::new(alloc);
@@ -245,15 +282,19 @@ fn audit_all<S: Source>(
 }
 
 /// Audits journals, one behind another: each is replayed on a new instance of its node, up to the first line that isn't right. No
-/// more is kept than an instance, two lines and the report; where reasons are asked, also each instance's inputs.
+/// more is kept than an instance, two lines and the report; where reasons are asked, also each instance's inputs. It is an error of
+/// a line where that is none of a journal, which no line is of journals that can be read back.
 pub fn audit<S: Source>(
     alloc: Global,
     program: &Arc<Program>,
     source: &mut S,
     is_why: bool,
 ) -> Result<Report, AuditError>
-    ensures { IfOk result (λ r. HasAudited (program_of (arc_value program.now)) r.is_lawful (S.left source.old) r.text.items) }
+    ensures sound { IfOk result (λ r. HasAudited (program_of (arc_value program.now)) r.is_lawful (S.left source.old) r.text.items) }
+    ensures complete { IfOk result (λ r. FindsAll (program_of (arc_value program.now)) r.is_lawful (S.left source.old) r.text.items) }
+    ensures blames { IfErr result (BlamesIf (AreNone (program_of (arc_value program.now)) (S.left source.old))) }
 {
+    is_accepted(program);
     let mut first = Vec::new(alloc);
     let mut text = Vec::new(alloc);
     let mut reasoned = Reasoned {

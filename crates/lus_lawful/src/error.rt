@@ -1,5 +1,7 @@
 //! Why an audit stopped.
 
+ghost use Rattle.lus_lawful.specs.Errors.{IsOutside};
+
 use lus_lines::LineError;
 use lus_values::Memory as OfMemory;
 use thiserror::Error;
@@ -16,6 +18,8 @@ pub enum AuditError {
 }
 
 impl From<LineError> for AuditError {
+    ghost from_gives = { λ _ e. IsOutside e };
+
     fn from(error: LineError) -> AuditError {
         match error {
             LineError::Read => AuditError::Read,
@@ -25,6 +29,8 @@ impl From<LineError> for AuditError {
 }
 
 impl From<OfMemory> for AuditError {
+    ghost from_gives = { λ _ e. IsOutside e };
+
     fn from(_error: OfMemory) -> AuditError {
         AuditError::Memory
     }

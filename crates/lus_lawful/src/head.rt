@@ -1,6 +1,7 @@
 //! The first line of a journal.
 
 ghost use Rattle.std.specs.Prelude.{◌≡◌, ◌++◌, IfSome, codes};
+ghost use Rattle.lus_lawful.specs.Heads.{ReadsHead};
 ghost use Rattle.lus_lawful.specs.Journals.{head_of};
 
 use std::str::from_utf8;
@@ -14,12 +15,13 @@ pub(crate) struct Head<'a> {
 
 /// The names that a line has, with its line feed, if it is the first of a journal.
 pub(crate) fn read_head(line: &[u8]) -> Option<Head<'_>>
-    ensures { IfSome result (λ h. line.now ≡ head_of h.instance.now h.node.now ++ codes "\n") }
+    ensures read { IfSome result (λ h. line.now ≡ head_of h.instance.now h.node.now ++ codes "\n") }
+    ensures complete { ReadsHead line.now result }
 {
     let Ok(text) = from_utf8(line) else {
         return None;
     };
-    let names = text.strip_prefix("instance ")?.strip_suffix("\n")?;
-    let (instance, node) = names.split_once(" ")?;
+    let names = text.strip_prefix("instance ")?.strip_suffix('\n')?;
+    let (instance, node) = names.split_once(' ')?;
     Some(Head { instance, node })
 }

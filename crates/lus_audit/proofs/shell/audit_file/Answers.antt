@@ -15,8 +15,12 @@ pub returns-in-Err-clause-fault : goal.returns-in-Err-clause-fault
 returns-in-Err-clause-fault g c =
     let read_fails = ReadFails g.row.D-File.Denot g.D.File.Source.left g.D.File.Source.failures in
     let file = g.D.Folder.known c.args.folder.now c.args.task.program.now in
-    subst (AuditFails read_fails file) (sym c.fault_of.ensures)
-    (audit_fails read_fails file c.in-Err.error (program_of c.in_ok-program.program) c.in_ok-program.ensures.accepted)
+    let journal = g.D.Folder.known c.args.folder.now c.args.task.journal.now in
+    let same : arc_value c.in-Ok.program ≡ c.in_ok-program.program = search rules in
+    let accepted = subst (λ p. IsOfFile (g.D.Folder.known c.args.folder.now c.args.task.program.now) (program_of p)) (sym same) c.in_ok-program.ensures.accepted in
+    subst (AuditFails read_fails file journal) (sym c.fault_of.ensures)
+    (audit_fails read_fails file journal c.in-Err.error (program_of (arc_value c.in-Ok.program)) _ _ accepted c.in-Ok-open.ensures.opened c.new-2.ensures
+    c.in-Err.ensures.blames)
 
 pub returns-clause-audited : goal.returns-clause-audited
 returns-clause-audited g c =
@@ -27,7 +31,7 @@ returns-clause-audited g c =
       program_of (arc_value c.in-Ok.program),
       accepted,
       reported _ _ r.is_lawful _ r.text.items c.args.task.is_why (g.D.Folder.known c.args.folder.now c.args.task.journal.now) _ _ c.in-Ok-open.ensures.opened c.new-2.ensures
-          c.in-Ok-audit.ensures told,
+          (c.in-Ok-audit.ensures.sound, c.in-Ok-audit.ensures.complete) told,
     ))
     c.with_reasons.ensures.ok
 
@@ -35,4 +39,5 @@ pub returns-clause-fault : goal.returns-clause-fault
 returns-clause-fault g c =
     let read_fails = ReadFails g.row.D-File.Denot g.D.File.Source.left g.D.File.Source.failures in
     let file = g.D.Folder.known c.args.folder.now c.args.task.program.now in
-    IfErr-weaker c.with_reasons.result _ _ (λ f is. subst (AuditFails read_fails file) (sym is) tt) c.with_reasons.ensures.memory
+    let journal = g.D.Folder.known c.args.folder.now c.args.task.journal.now in
+    IfErr-weaker c.with_reasons.result _ _ (λ f is. subst (AuditFails read_fails file journal) (sym is) tt) c.with_reasons.ensures.memory

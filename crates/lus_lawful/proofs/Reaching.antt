@@ -1,0 +1,214 @@
+-- Journals that can be read back, found one behind another.
+use Rattle.std.proofs.Common.{◌≡◌, ◌∙◌, ◌+◌, ◌++◌, ◌<◌, ◌⊎◌, inl, inr, ℕ, Bool, true, false, ap, sym, subst, List, [], ◌∷◌, length, Option, Some, append_assoc, append-nil, arith}
+use Rattle.std.specs.List.{All}
+use Rattle.std.proofs.lemmas.List.Elements.{All-head, All-tail}
+use Rattle.lus_values.specs.Names.{Text}
+use Rattle.lus_program.specs.Programs.{Program}
+use Rattle.lus_devices.specs.Devices.{Bytes, with_front}
+use Rattle.lus_lines.specs.Lines.{HasReadWhole, IsLast, IsPlain, IsWholeLine}
+use Rattle.lus_lines.specs.declared.whole.Whole.{Whole}
+use Rattle.lus_lines.specs.declared.whole.Whole.TheVariants as wholes
+use Rattle.lus_live_instance.specs.MachineSpecs.Acceptance.{IsAccepted}
+use Rattle.lus_live_instance.specs.MachineSpecs.Constructors.{names_of}
+use Rattle.lus_replay.specs.Replays.{items_text, rest_text}
+use Rattle.lus_replay.proofs.Follows.{at_end, front_known}
+use Rattle.lus_replay.proofs.Splits.{line_feeds, line_some, lines_split}
+use Rattle.lus_lawful.specs.Findings.{AreNone, Finds, FindsAll, GoesOn, IsNone, IsPassed, IsReadableJournal, IsStopped, IsToFind, IsWrongJournal, first_line, texts}
+use Rattle.lus_lawful.specs.Journals.{Journal, lawful_text, line_count}
+use Rattle.lus_lawful.specs.declared.auditing.Turn.{Turn}
+use Rattle.lus_lawful.specs.declared.auditing.Turn.TheVariants as turns
+use Rattle.lus_lawful.proofs.Firsts.{journal_first, rest_first, rest_is, rest_of}
+
+-- the first line of journals was read, of which the rest is to be found, behind what is reported
+pub record Reached (p : Program) (js : List Journal) (first : Text) (left : Option Bytes) (lines : ℕ) (report : Text) : Type 0 where
+  pub journal : Journal
+  pub later : List Journal
+  pub readable : All (IsReadableJournal p) (journal ∷ later)
+  pub first_is : first ≡ first_line journal.instance journal.node
+  pub left_is : left ≡ Some (items_text (names_of p) 0 journal.items ++ texts p later)
+  pub to_find : (all : Bool) (text : Text) → IsToFind p 0 js all text
+      → (more : Text) × IsToFind p lines (journal ∷ later) all more × (text ≡ report ++ more)
+
+-- it was, if these are journals that can be read back
+abbrev pub Reaches : Program → Option Bytes → Text → Option Bytes → ℕ → Text → Type 0
+Reaches p begun first left lines report =
+    (js : List Journal) → All (IsReadableJournal p) js → begun ≡ Some (texts p js) → Reached p js first left lines report
+
+module _ (p : Program) (accepted : IsAccepted p) where
+  whole_first : (j : Journal) → IsReadableJournal p j → IsWholeLine (first_line j.instance j.node)
+  whole_first j readable = (journal_first p accepted j readable).ended
+
+  abbrev behind_first : Journal → List Journal → Text
+  behind_first j js = items_text (names_of p) 0 j.items ++ texts p js
+
+  texts_are : (j : Journal) (js : List Journal) → texts p (j ∷ js) ≡ first_line j.instance j.node ++ behind_first j js
+  texts_are j js = append_assoc (first_line j.instance j.node) (items_text (names_of p) 0 j.items) (texts p js)
+
+  -- ---- journal by journal
+
+  pub reached_first : (first report : Text) (left : Option Bytes) → IsWholeLine first → report ≡ [] → Reaches p (with_front first left) first left 0 report
+  reached_first first report left whole none js readable is = go js readable is (λ all text find. (text, find, ap (λ t. t ++ text) (sym none)))
+    where
+      go : (ks : List Journal) → All (IsReadableJournal p) ks → with_front first left ≡ Some (texts p ks)
+          → ((all : Bool) (text : Text) → IsToFind p 0 js all text → (more : Text) × IsToFind p 0 ks all more × (text ≡ report ++ more))
+          → Reached p js first left 0 report
+      go [] all same find = let known = front_known [] first left (sym same) in absurd (line_some first known.0 whole (sym known.2))
+      go (k ∷ ks) all same find =
+          let known = front_known (texts p (k ∷ ks)) first left (sym same) in
+          let parts = lines_split first (first_line k.instance k.node) known.0 (behind_first k ks) whole
+          (whole_first k (All-head (IsReadableJournal p) k ks all)) (sym known.2 ∙ texts_are k ks) in
+          record { journal = k; later = ks; readable = all; first_is = parts.0; left_is = known.1 ∙ ap Some parts.1; to_find = find }
+
+  module _ (js : List Journal) (first : Text) (left : Option Bytes) (lines : ℕ) (old : Text) (s : Reached p js first left lines old) where
+    one : IsReadableJournal p s.journal
+    one = All-head (IsReadableJournal p) s.journal s.later s.readable
+
+    others : All (IsReadableJournal p) s.later
+    others = All-tail (IsReadableJournal p) s.journal s.later s.readable
+
+    left_rest : left ≡ Some (items_text (names_of p) 0 s.journal.items ++ rest_text (rest_of p accepted s.later))
+    left_rest = s.left_is ∙ ap (λ t. Some (items_text (names_of p) 0 s.journal.items ++ t)) (sym (rest_is p accepted s.later))
+
+    none_here : IsNone p first left → ⊥
+    none_here none = none s.journal (rest_of p accepted s.later) one (rest_first p accepted s.later others) s.first_is left_rest
+
+    module _ (t : Turn) (line new : Text) (later : Option Bytes) (finds : Finds t p lines first left later line old new) where
+      found : IsPassed p lines s.journal (rest_of p accepted s.later) t line later old new ⊎ IsStopped p lines s.journal t old new
+      found = finds s.journal (rest_of p accepted s.later) one (rest_first p accepted s.later others) s.first_is left_rest
+
+      next_here : (behind : ℕ) → t ≡ turns.Next behind → Reached p js line later behind new
+      next_here behind is =
+          elim found [
+            | inl passed ↦ go s.later passed.on others s.to_find passed.reported passed.right
+            | inr stopped ↦ absurd (no_wrong (sym is ∙ stopped.ended))
+          ]
+        where
+          no_wrong : turns.Next behind ≡ turns.Wrong → ⊥
+          no_wrong same = cc
+
+          go : (ks : List Journal) → GoesOn (rest_of p accepted ks) t (lines + line_count s.journal) line later → All (IsReadableJournal p) ks
+              → ((all : Bool) (text : Text) → IsToFind p 0 js all text
+              → (more : Text) × IsToFind p lines (s.journal ∷ ks) all more × (text ≡ old ++ more))
+              → new ≡ old ++ lawful_text s.journal.instance → ((report : Text) → IsWrongJournal p lines report s.journal → ⊥)
+              → Reached p js line later behind new
+          go [] on all find reported right = let never : turns.Next behind ≡ turns.Last = sym is ∙ on in absurd (cc)
+          go (k ∷ ks) on all find reported right =
+              let same : turns.Next (lines + line_count s.journal) ≡ turns.Next behind = sym on.0 ∙ is in
+              let count : lines + line_count s.journal ≡ behind = cc in
+              record {
+                journal = k;
+                later = ks;
+                readable = all;
+                first_is = on.1;
+                left_is = on.2;
+                to_find = λ each text is_to_find.
+                    (let more = find each text is_to_find in
+                    elim more.1 [
+                      | inl lawful ↦ (
+                        lawful.1.0,
+                        subst (λ n. IsToFind p n (k ∷ ks) each lawful.1.0) count lawful.1.1,
+                        more.2 ∙ ap (λ x. old ++ x) lawful.1.2 ∙ sym (append_assoc old (lawful_text s.journal.instance) lawful.1.0)
+                            ∙ ap (λ x. x ++ lawful.1.0) (sym reported),
+                      )
+                      | inr wrong ↦ absurd (right more.0 wrong.1)
+                    ]);
+              }
+
+      last_here : t ≡ turns.Last → (all : Bool) (text : Text) → IsToFind p 0 js all text → (true ≡ all) × (new ≡ text)
+      last_here is all text is_to_find =
+          elim found [
+            | inl passed ↦ go s.later passed.on passed.reported passed.right (s.to_find all text is_to_find)
+            | inr stopped ↦ absurd (no_wrong (sym is ∙ stopped.ended))
+          ]
+        where
+          no_wrong : turns.Last ≡ turns.Wrong → ⊥
+          no_wrong same = cc
+
+          go : (ks : List Journal) → GoesOn (rest_of p accepted ks) t (lines + line_count s.journal) line later
+              → new ≡ old ++ lawful_text s.journal.instance → ((report : Text) → IsWrongJournal p lines report s.journal → ⊥)
+              → (more : Text) × IsToFind p lines (s.journal ∷ ks) all more × (text ≡ old ++ more) → (true ≡ all) × (new ≡ text)
+          go (k ∷ ks) on reported right more =
+              let never : turns.Last ≡ turns.Next (lines + line_count s.journal) = sym is ∙ on.0 in absurd (cc)
+          go [] on reported right more =
+              elim more.1 [
+                | inl lawful ↦
+                    (let all_said = lawful_text s.journal.instance in (
+                      sym lawful.1.1.0,
+                      reported
+                          ∙ ap (λ x. old ++ x)
+                          (sym (append-nil all_said) ∙ ap (λ x. all_said ++ x) (sym lawful.1.1.1) ∙ sym lawful.1.2) ∙ sym more.2,
+                    ))
+                | inr wrong ↦ absurd (right more.0 wrong.1)
+              ]
+
+      wrong_here : t ≡ turns.Wrong → (all : Bool) (text : Text) → IsToFind p 0 js all text → (false ≡ all) × (new ≡ text)
+      wrong_here is all text is_to_find =
+          let more = s.to_find all text is_to_find in
+          elim found [
+            | inl passed ↦ absurd (no_on s.later passed.on)
+            | inr stopped ↦
+                elim more.1 [
+                  | inl lawful ↦ absurd (stopped.wrong lawful.0)
+                  | inr wrong ↦ (sym wrong.0, stopped.reported more.0 wrong.1 ∙ sym more.2)
+                ]
+          ]
+        where
+          no_on : (ks : List Journal) → GoesOn (rest_of p accepted ks) t (lines + line_count s.journal) line later → ⊥
+          no_on [] on = let never : turns.Wrong ≡ turns.Last = sym is ∙ on in cc
+          no_on (k ∷ ks) on = let never : turns.Wrong ≡ turns.Next (lines + line_count s.journal) = sym is ∙ on.0 in cc
+
+  -- ---- all of them
+
+  module _ (begun : Option Bytes) (first : Text) (left : Option Bytes) (lines : ℕ) (old : Text) (reaches : Reaches p begun first left lines old) where
+    pub none_reached : IsNone p first left → AreNone p begun
+    none_reached none js readable is = none_here js first left lines old (reaches js readable is) none
+
+    module _ (t : Turn) (line new : Text) (later : Option Bytes) (finds : Finds t p lines first left later line old new) where
+      pub next_reached : (behind : ℕ) → t ≡ turns.Next behind → Reaches p begun line later behind new
+      next_reached behind is js readable same = next_here js first left lines old (reaches js readable same) t line new later finds behind is
+
+      pub last_reached : t ≡ turns.Last → FindsAll p true begun new
+      last_reached is js readable same = last_here js first left lines old (reaches js readable same) t line new later finds is
+
+      pub wrong_reached : t ≡ turns.Wrong → FindsAll p false begun new
+      wrong_reached is js readable same = wrong_here js first left lines old (reaches js readable same) t line new later finds is
+
+  -- ---- the first line of all
+
+  module _ (left mid : Option Bytes) (first : Text) (w : Whole) (read : HasReadWhole w first left mid) where
+    whole_line : w ≡ wholes.Line → IsWholeLine first × (left ≡ with_front first mid)
+    whole_line is = subst (λ x. HasReadWhole x first left mid) is read
+
+    pub first_whole : w ≡ wholes.Line → IsWholeLine first
+    first_whole is = (whole_line is).0
+
+    pub all_found : (is_lawful : Bool) (report : Text) → w ≡ wholes.Line → FindsAll p is_lawful (with_front first mid) report → FindsAll p is_lawful left report
+    all_found is_lawful report is found js readable same = found js readable (sym (whole_line is).1 ∙ same)
+
+    pub none_found : w ≡ wholes.Line → AreNone p (with_front first mid) → AreNone p left
+    none_found is none js readable same = none js readable (sym (whole_line is).1 ∙ same)
+
+    pub none_unfinished : w ≡ wholes.Unfinished → AreNone p left
+    none_unfinished is js readable same = go js readable same (subst (λ x. HasReadWhole x first left mid) is read)
+      where
+        go : (ks : List Journal) → All (IsReadableJournal p) ks → left ≡ Some (texts p ks) → IsLast first left mid × (0 < length first) → ⊥
+        go [] all here last =
+            let end = at_end [] first mid (sym here ∙ last.0.read) last.0.over in
+            let some = last.1 in
+            let none : length first ≡ 0 = ap length (sym end.1) in
+            omega (arith, some, none)
+        go (k ∷ ks) all here last =
+            let end = at_end (texts p (k ∷ ks)) first mid (sym here ∙ last.0.read) last.0.over in
+            line_feeds (first_line k.instance k.node) (behind_first k ks) (whole_first k (All-head (IsReadableJournal p) k ks all))
+            (subst IsPlain (sym end.1 ∙ texts_are k ks) last.0.plain)
+
+    pub none_there : (report : Text) → w ≡ wholes.End → report ≡ [] → FindsAll p true left report
+    none_there report is empty js readable same = go (subst (λ x. HasReadWhole x first left mid) is read) js readable same
+      where
+        go : IsLast [] left mid → (ks : List Journal) → All (IsReadableJournal p) ks → left ≡ Some (texts p ks) → (all : Bool) (text : Text)
+            → IsToFind p 0 ks all text → (true ≡ all) × (report ≡ text)
+        go last [] readable_all here all text find = (sym find.0, empty ∙ sym find.1)
+        go last (k ∷ ks) readable_all here all text find =
+            let end = at_end (texts p (k ∷ ks)) [] mid (sym here ∙ last.read) last.over in
+            absurd (line_some (first_line k.instance k.node) (behind_first k ks) (whole_first k (All-head (IsReadableJournal p) k ks readable_all))
+            (sym (texts_are k ks) ∙ end.1))
