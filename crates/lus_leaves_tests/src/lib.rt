@@ -1,5 +1,7 @@
-//! Tests of what C's numbers are read as, and of what is written for C.
+//! Tests of what C's numbers are read as, of what is written for C, and of replies as JSON.
 #![tactic(auto)]
 
+#[cfg(test)]
+mod replies;
 #[cfg(test)]
 mod tests;

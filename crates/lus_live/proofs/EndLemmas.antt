@@ -9,8 +9,8 @@ use Rattle.lus_recovery.specs.Recoveries.{HasRecovered}
 use Rattle.lus_recovery.specs.declared.error.RecoveryError.{RecoveryError}
 use Rattle.lus_recovery.specs.declared.error.RecoveryError.TheVariants as recoveries
 use Rattle.lus_recovery.specs.declared.recovering.Start.{Start}
-use Rattle.lus_live_instance.specs.Lives.{HasLived, HasLivedOn, HasLivedSome, HasLivedSomeOn}
-use Rattle.lus_live_instance.specs.MachineSpecs.Constructors.{names_of}
+use Rattle.lus_told.specs.LiveSpecs.Lives.{HasLived, HasLivedOn, HasLivedSome, HasLivedSomeOn}
+use Rattle.lus_told.specs.LiveSpecs.MachineSpecs.Constructors.{names_of}
 use Rattle.lus_cli.specs.Changes.{Change, IsUntouched, change}
 use Rattle.lus_cli.specs.CommandLine.{Text}
 use Rattle.lus_cli.specs.Faults.{IsToldBy}
@@ -19,8 +19,9 @@ use Rattle.lus_cli.specs.Programs.{IsProgramFault}
 use Rattle.lus_cli.specs.declared.fault.Fault.{Fault}
 use Rattle.lus_cli.specs.declared.fault.Fault.TheVariants as faults
 use Rattle.lus_cli.proofs.ProgramLemmas.{file_then}
-use Rattle.lus_live.specs.CommandLine.{Asked}
-use Rattle.lus_live.specs.Ends.{AsksJournal, GoesOn, HasGoneOn, IsOfFile, IsQuiet, IsRecoveryFault, IsToldAlone, LiveFails, Lived, LivedOn, PlaysOn, Ran, TaskEnds, recovery_fault}
+use Rattle.lus_told.specs.Telling.{HasToldJson, HasToldJsonSome}
+use Rattle.lus_live.specs.CommandLine.{Asked, Form, behind}
+use Rattle.lus_live.specs.Ends.{AsksBehind, GoesOn, HasGoneOn, HasPlayedIn, IsOfFile, IsQuiet, IsRecoveryFault, IsToldAlone, LiveFails, Lived, LivedOn, Ran, TaskEnds, ToldJson, recovery_fault}
 
 -- what was played, whether to the end or not
 pub lived : (p : Program) (f : ℕ) (name : Text) (left end : Option Bytes) (ran : Ran) (output : Change)
@@ -29,7 +30,14 @@ pub lived : (p : Program) (f : ℕ) (name : Text) (left end : Option Bytes) (ran
 lived p f name left end (Ok score) output all begun = all
 lived p f name left end (Err e) output all begun = begun
 
--- likewise, behind what a journal has
+-- what was told, whether to the end or not
+pub told_json : (p : Program) (f : ℕ) (left end : Option Bytes) (ran : Ran) (output : Change)
+    → IfOk ran (λ score. HasToldJson p f left end output.old output.new score) → OnErr ran (HasToldJsonSome p f left output.old output.new)
+    → ToldJson p f left end ran output
+told_json p f left end (Ok score) output all begun = all
+told_json p f left end (Err e) output all begun = begun
+
+-- what was played, behind what a journal has
 lived_on : (p : Program) (f : ℕ) (name : Text) (start : Start) (left end : Option Bytes) (before : List Entry) (ran : Ran) (output : Change)
     → IfOk ran (λ score. HasLivedOn p f name start left end before output.old output.new score)
     → OnErr ran (HasLivedSomeOn p f name start left before output.old output.new)
@@ -63,56 +71,49 @@ recovery_faults recoveries.Read = tt
 recovery_faults recoveries.Memory = tt
 
 -- a fault of the program
-pub program_fails : (read_fails : Known → Type 0) (file : Known) (name : Text) (journal : Option Text) (f : Fault) → IsProgramFault read_fails file f
-    → LiveFails read_fails file name journal f
-program_fails read_fails file name journal faults.File lost = inl lost
-program_fails read_fails file name journal (faults.Program e) refused = refused
-program_fails read_fails file name journal faults.Memory memory = tt
-program_fails read_fails file name journal (faults.Journal n) never = absurd never
-program_fails read_fails file name journal (faults.Scripts e) never = absurd never
-program_fails read_fails file name journal faults.Words never = absurd never
-program_fails read_fails file name journal faults.Output never = absurd never
-program_fails read_fails file name journal faults.Start never = absurd never
+pub program_fails : (read_fails : Known → Type 0) (file : Known) (name : Text) (form : Form) (f : Fault) → IsProgramFault read_fails file f
+    → LiveFails read_fails file name form f
+program_fails read_fails file name form faults.File lost = inl lost
+program_fails read_fails file name form (faults.Program e) refused = refused
+program_fails read_fails file name form faults.Memory memory = tt
+program_fails read_fails file name form (faults.Journal n) never = absurd never
+program_fails read_fails file name form (faults.Scripts e) never = absurd never
+program_fails read_fails file name form faults.Words never = absurd never
+program_fails read_fails file name form faults.Output never = absurd never
+program_fails read_fails file name form faults.Start never = absurd never
 
 -- a fault of a journal, of a node that the program has
-journal_fails : (read_fails : Known → Type 0) (file : Known) (name journal : Text) (f : Fault) → AsksJournal file name (Some journal) → IsRecoveryFault f
-    → LiveFails read_fails file name (Some journal) f
-journal_fails read_fails file name journal faults.File asks is = inr asks
-journal_fails read_fails file name journal (faults.Program e) asks never = absurd never
-journal_fails read_fails file name journal faults.Memory asks is = tt
-journal_fails read_fails file name journal (faults.Journal n) asks is = asks
-journal_fails read_fails file name journal (faults.Scripts e) asks never = absurd never
-journal_fails read_fails file name journal faults.Words asks never = absurd never
-journal_fails read_fails file name journal faults.Output asks never = absurd never
-journal_fails read_fails file name journal faults.Start asks never = absurd never
+journal_fails : (read_fails : Known → Type 0) (file : Known) (name : Text) (form : Form) (f : Fault) → AsksBehind file name form → IsRecoveryFault f
+    → LiveFails read_fails file name form f
+journal_fails read_fails file name form faults.File asks is = inr asks
+journal_fails read_fails file name form (faults.Program e) asks never = absurd never
+journal_fails read_fails file name form faults.Memory asks is = tt
+journal_fails read_fails file name form (faults.Journal n) asks is = asks
+journal_fails read_fails file name form (faults.Scripts e) asks never = absurd never
+journal_fails read_fails file name form faults.Words asks never = absurd never
+journal_fails read_fails file name form faults.Output asks never = absurd never
+journal_fails read_fails file name form faults.Start asks never = absurd never
 
 module _ (read_fails : Known → Type 0) (known : Text → Known) (left end : Option Bytes) (asked : Asked) (p : Program) (node : ℕ) (output : Change)
     (accepted : IsOfFile (known asked.program) p) (named : node_named p asked.node ≡ Some node) where
-  pub task_fresh : (ran : Ran) → asked.journal ≡ None → Lived p node asked.node left end ran output
+  -- in the form that was asked for
+  pub task_played : (form : Form) (ran : Ran) → asked.form ≡ form → HasPlayedIn known form asked.node left end ran output p node
       → TaskEnds read_fails known left end asked (Ok ran) output
-  task_fresh ran is lived_so = subst (λ o. PlaysOn known asked.program asked.node o left end ran output) (sym is) (record {
+  task_played form ran is played = record {
     program = p;
     accepted = accepted;
     node = node;
     named = named;
-    lived = lived_so;
-  })
+    played = subst (λ k. HasPlayedIn known k asked.node left end ran output p node) (sym is) played;
+  }
 
-  pub task_behind : (journal : Text) (result : Result Ran Fault) → asked.journal ≡ Some journal → GoesOn (known journal) p node asked.node left end result output
-      → TaskEnds read_fails known left end asked result output
-  task_behind journal (Ok ran) is goes = subst (λ o. PlaysOn known asked.program asked.node o left end ran output) (sym is) (record {
-    program = p;
-    accepted = accepted;
-    node = node;
-    named = named;
-    gone_on = goes;
-  })
-  task_behind journal (Err f) is goes = (
-    subst (λ o. LiveFails read_fails (known asked.program) asked.node o f) (sym is)
-        (journal_fails read_fails (known asked.program) asked.node journal f (p, node, accepted, named) goes.0),
-    goes.1,
-    goes.2,
-  )
+  pub task_behind : (file : Text) (result : Result Ran Fault) → asked.form ≡ behind file
+      → GoesOn (known file) p node asked.node left end result output → TaskEnds read_fails known left end asked result output
+  task_behind file (Ok ran) is goes = task_played (behind file) ran is goes
+  task_behind file (Err f) is goes =
+      let asks : AsksBehind (known asked.program) asked.node asked.form =
+      subst (AsksBehind (known asked.program) asked.node) (sym is) (p, node, accepted, named) in
+      (journal_fails read_fails (known asked.program) asked.node asked.form f asks goes.0, goes.1, goes.2)
 
 -- a fault is told behind what was said before
 module _ (status : ℕ) (old mid new : Option Bytes) (before between after : Option ℕ) where

@@ -1,7 +1,10 @@
 -- What the words of the command line ask for, by the meaning that clap's own specification gives to the command.
-use Rattle.std.specs.Prelude.{List, Option, Some, None, codes, option_map, true}
+use Rattle.std.specs.Prelude.{Bool, List, Option, Some, None, codes, option_map, true, false}
 use Rattle.clap.specs.Words.{App, Row, Rule, new_app, new_rule, with_rule, first_of}
-use Rattle.lus_cli.specs.CommandLine.{Text, asked_of, program_rule}
+use Rattle.clap.specs.declared.builder.ArgAction.TheVariants.{SetTrue}
+use Rattle.lus_cli.specs.CommandLine.{Text, asked_of, is_true, program_rule}
+use Rattle.lus_live.specs.declared.words.Form.{Form as StoredForm}
+use Rattle.lus_live.specs.declared.words.Form.TheVariants as forms
 use Rattle.lus_live.specs.declared.words.Task.{Task}
 
 -- the command before its arguments: no name of the program among the words, no help, no version
@@ -14,31 +17,56 @@ bare = record (new_app (codes "lus_live")) {
   };
 }
 
+abbrev pub json_rule : Rule
+json_rule = record (new_rule (codes "json")) { long = Some (codes "json"); action = Some SetTrue }
+
 abbrev pub node_rule : Rule
 node_rule = record (new_rule (codes "NODE")) { required = true }
 
--- a required PROGRAM, a required NODE, and perhaps a JOURNAL
+-- a flag `--json`, a required PROGRAM, a required NODE, and perhaps a JOURNAL
 abbrev pub the_command : App
-the_command = with_rule (with_rule (with_rule bare program_rule) node_rule) (new_rule (codes "JOURNAL"))
+the_command = with_rule (with_rule (with_rule (with_rule bare json_rule) program_rule) node_rule) (new_rule (codes "JOURNAL"))
 
--- a node of a program, perhaps behind what a journal has
+-- how it is written what becomes of calls: as a journal, as what comes behind a file's journal, or as objects of JSON
+pub data Form : Type 0 where
+  journal : Form
+  behind : Text → Form
+  json : Form
+
+-- a node of a program, and the form
 pub record Asked : Type 0 where
   pub program : Text
   pub node : Text
-  pub journal : Option Text
+  pub form : Form
 
-abbrev pub chosen : Option Text → Option Text → Option Text → Option Asked
-chosen None _ journal = None
-chosen (Some program) None journal = None
-chosen (Some program) (Some node) journal = Some (record { program = program; node = node; journal = journal })
+-- only a journal is written behind what a file has
+abbrev pub form_of : Bool → Option Text → Option Form
+form_of false None = Some journal
+form_of false (Some file) = Some (behind file)
+form_of true None = Some json
+form_of true (Some file) = None
+
+abbrev pub chosen : Option Form → Option Text → Option Text → Option Asked
+chosen None _ _ = None
+chosen (Some form) None _ = None
+chosen (Some form) (Some program) None = None
+chosen (Some form) (Some program) (Some node) = Some (record { program = program; node = node; form = form })
 
 abbrev pub said : List Row → Option Asked
-said m = chosen (first_of (codes "PROGRAM") m) (first_of (codes "NODE") m) (first_of (codes "JOURNAL") m)
+said m =
+    chosen (form_of (is_true (first_of (codes "json") m)) (first_of (codes "JOURNAL") m)) (first_of (codes "PROGRAM") m)
+    (first_of (codes "NODE") m)
 
 -- what the words after the program's own name ask for, where they are well formed
 unfoldable pub asked : List Text → Option Asked
 asked = asked_of the_command said
 
+-- a form as plain data
+abbrev pub form_seen : StoredForm → Form
+form_seen forms.Journal = journal
+form_seen (forms.Behind file) = behind file.now
+form_seen forms.Json = json
+
 -- a task as plain data
 abbrev pub task_seen : Task → Asked
-task_seen t = record { program = t.program.now; node = t.node.now; journal = option_map (λ j. j.now) t.journal }
+task_seen t = record { program = t.program.now; node = t.node.now; form = form_seen t.form }

@@ -9,11 +9,12 @@ use Rattle.lus_recovery.specs.Recoveries.{HasRecovered}
 use Rattle.lus_recovery.specs.declared.error.RecoveryError.{RecoveryError}
 use Rattle.lus_recovery.specs.declared.error.RecoveryError.TheVariants as recoveries
 use Rattle.lus_recovery.specs.declared.recovering.Start.{Start}
-use Rattle.lus_live_instance.specs.Lives.{HasLived, HasLivedOn, HasLivedSome, HasLivedSomeOn}
-use Rattle.lus_live_instance.specs.MachineSpecs.Constructors.{names_of}
-use Rattle.lus_live_instance.specs.PlaySpecs.declared.error.PlayError.{PlayError}
-use Rattle.lus_live_instance.specs.PlaySpecs.declared.error.PlayError.TheVariants as plays
-use Rattle.lus_live_instance.specs.PlaySpecs.declared.playing.Score.{Score}
+use Rattle.lus_told.specs.LiveSpecs.Lives.{HasLived, HasLivedOn, HasLivedSome, HasLivedSomeOn}
+use Rattle.lus_told.specs.LiveSpecs.MachineSpecs.Constructors.{names_of}
+use Rattle.lus_told.specs.LiveSpecs.PlaySpecs.declared.error.PlayError.{PlayError}
+use Rattle.lus_told.specs.LiveSpecs.PlaySpecs.declared.error.PlayError.TheVariants as plays
+use Rattle.lus_told.specs.LiveSpecs.PlaySpecs.declared.playing.Score.{Score}
+use Rattle.lus_told.specs.Telling.{HasToldJson, HasToldJsonSome}
 use Rattle.lus_cli.specs.HostSpecs.Sources.{ProgramRefused}
 use Rattle.lus_cli.specs.MachineSpecs.Acceptance.{Accepted}
 use Rattle.lus_cli.specs.MachineSpecs.Formals.{node_named}
@@ -23,7 +24,7 @@ use Rattle.lus_cli.specs.Ends.{AskedEnds, IsLost}
 use Rattle.lus_cli.specs.Faults.{IsToldBy}
 use Rattle.lus_cli.specs.declared.fault.Fault.{Fault}
 use Rattle.lus_cli.specs.declared.fault.Fault.TheVariants as faults
-use Rattle.lus_live.specs.CommandLine.{Asked}
+use Rattle.lus_live.specs.CommandLine.{Asked, Form, behind, journal, json}
 
 -- what became of the lines: all were read, or an error came first
 abbrev pub Ran : Type 0
@@ -43,59 +44,60 @@ abbrev pub LivedOn : Program → ℕ → Text → Start → Option Bytes → Opt
 LivedOn p f name start left end before (Ok score) output = HasLivedOn p f name start left end before output.old output.new score
 LivedOn p f name start left end before (Err e) output = HasLivedSomeOn p f name start left before output.old output.new
 
--- lines were played on the node of this name of a file's program
-pub record HasPlayedOn (file : Known) (name : Text) (left end : Option Bytes) (ran : Ran) (output : Change) : Type 0 where
-  pub program : Program
-  pub accepted : IsOfFile file program
-  pub node : ℕ
-  pub named : node_named program name ≡ Some node
-  pub lived : Lived program node name left end ran output
+-- the calls among the lines make a lawful history, whose replies are written as objects of JSON, or after an error a beginning of that
+abbrev pub ToldJson : Program → ℕ → Option Bytes → Option Bytes → Ran → Change → Type 0
+ToldJson p f left end (Ok score) output = HasToldJson p f left end output.old output.new score
+ToldJson p f left end (Err e) output = HasToldJsonSome p f left output.old output.new
 
 -- behind what a journal has, lines were played on the node of this number and name
-pub record HasGoneOn (journal : Known) (p : Program) (node : ℕ) (name : Text) (left end : Option Bytes) (ran : Ran) (output : Change) : Type 0 where
+pub record HasGoneOn (had : Known) (p : Program) (node : ℕ) (name : Text) (left end : Option Bytes) (ran : Ran) (output : Change) : Type 0 where
   pub start : Start
   pub before : List Entry
-  pub recovered : WithFile journal (λ bytes. HasRecovered start (names_of p) name (Some bytes) [] before)
+  pub recovered : WithFile had (λ bytes. HasRecovered start (names_of p) name (Some bytes) [] before)
   pub lived : LivedOn p node name start left end before ran output
 
--- likewise, of a file's program
-pub record HasPlayedBehind (file journal : Known) (name : Text) (left end : Option Bytes) (ran : Ran) (output : Change) : Type 0 where
+-- in each form lines were played on the node of this number and name
+abbrev pub HasPlayedIn : (Text → Known) → Form → Text → Option Bytes → Option Bytes → Ran → Change → Program → ℕ → Type 0
+HasPlayedIn known journal name left end ran output p node = Lived p node name left end ran output
+HasPlayedIn known (behind file) name left end ran output p node = HasGoneOn (known file) p node name left end ran output
+HasPlayedIn known json name left end ran output p node = ToldJson p node left end ran output
+
+-- this holds of the node of this name of a file's program
+pub record OfNode (file : Known) (name : Text) (HasPlayed : Program → ℕ → Type 0) : Type 0 where
   pub program : Program
   pub accepted : IsOfFile file program
   pub node : ℕ
   pub named : node_named program name ≡ Some node
-  pub gone_on : HasGoneOn journal program node name left end ran output
+  pub played : HasPlayed program node
 
 -- a file's program has no node of this name
 abbrev pub LacksNode : Known → Text → Type 0
 LacksNode file name = (p : Program) × IsOfFile file p × (node_named p name ≡ None)
 
--- it has one, and a journal was asked for
-abbrev pub AsksJournal : Known → Text → Option Text → Type 0
-AsksJournal file name None = ⊥
-AsksJournal file name (Some journal) = (p : Program) × (node : ℕ) × IsOfFile file p × (node_named p name ≡ Some node)
+-- it has one, and what comes behind a file's journal is asked for
+abbrev pub AsksBehind : Known → Text → Form → Type 0
+AsksBehind file name journal = ⊥
+AsksBehind file name (behind other) = (p : Program) × (node : ℕ) × IsOfFile file p × (node_named p name ≡ Some node)
+AsksBehind file name json = ⊥
 
 -- why no line is played: the program's file is lost, it is refused, or it lacks the node; or the journal's file is lost, or a line of it
 -- isn't right; or memory was wanting
-abbrev pub LiveFails : (Known → Type 0) → Known → Text → Option Text → Fault → Type 0
-LiveFails read_fails file name journal faults.File = IsLost read_fails file ⊎ AsksJournal file name journal
-LiveFails read_fails file name journal (faults.Program e) = WithFile file (λ text. ProgramRefused text e)
-LiveFails read_fails file name journal (faults.Scripts e) = (e ≡ scripts.Unknown) × LacksNode file name
-LiveFails read_fails file name journal faults.Memory = ⊤
-LiveFails read_fails file name journal (faults.Journal n) = AsksJournal file name journal
-LiveFails read_fails file name journal faults.Words = ⊥
-LiveFails read_fails file name journal faults.Output = ⊥
-LiveFails read_fails file name journal faults.Start = ⊥
-
-abbrev pub PlaysOn : (Text → Known) → Text → Text → Option Text → Option Bytes → Option Bytes → Ran → Change → Type 0
-PlaysOn known program name None left end ran output = HasPlayedOn (known program) name left end ran output
-PlaysOn known program name (Some journal) left end ran output = HasPlayedBehind (known program) (known journal) name left end ran output
+abbrev pub LiveFails : (Known → Type 0) → Known → Text → Form → Fault → Type 0
+LiveFails read_fails file name form faults.File = IsLost read_fails file ⊎ AsksBehind file name form
+LiveFails read_fails file name form (faults.Program e) = WithFile file (λ text. ProgramRefused text e)
+LiveFails read_fails file name form (faults.Scripts e) = (e ≡ scripts.Unknown) × LacksNode file name
+LiveFails read_fails file name form faults.Memory = ⊤
+LiveFails read_fails file name form (faults.Journal n) = AsksBehind file name form
+LiveFails read_fails file name form faults.Words = ⊥
+LiveFails read_fails file name form faults.Output = ⊥
+LiveFails read_fails file name form faults.Start = ⊥
 
 -- the lines are played, or no line is read and nothing is written
 abbrev pub TaskEnds : (Known → Type 0) → (Text → Known) → Option Bytes → Option Bytes → Asked → Result Ran Fault → Change → Type 0
-TaskEnds read_fails known left end asked (Ok ran) output = PlaysOn known asked.program asked.node asked.journal left end ran output
+TaskEnds read_fails known left end asked (Ok ran) output =
+    OfNode (known asked.program) asked.node (HasPlayedIn known asked.form asked.node left end ran output)
 TaskEnds read_fails known left end asked (Err f) output =
-    LiveFails read_fails (known asked.program) asked.node asked.journal f × (end ≡ left) × IsUntouched output
+    LiveFails read_fails (known asked.program) asked.node asked.form f × (end ≡ left) × IsUntouched output
 
 -- ---- inside
 
@@ -117,8 +119,8 @@ recovery_fault recoveries.Read = faults.File
 recovery_fault recoveries.Memory = faults.Memory
 
 abbrev pub GoesOn : Known → Program → ℕ → Text → Option Bytes → Option Bytes → Result Ran Fault → Change → Type 0
-GoesOn journal p node name left end (Ok ran) output = HasGoneOn journal p node name left end ran output
-GoesOn journal p node name left end (Err f) output = IsRecoveryFault f × (end ≡ left) × IsUntouched output
+GoesOn had p node name left end (Ok ran) output = HasGoneOn had p node name left end ran output
+GoesOn had p node name left end (Err f) output = IsRecoveryFault f × (end ≡ left) × IsUntouched output
 
 -- before a fault is told nothing was said, unless it is a journal's
 abbrev pub IsQuiet : Fault → Change → Type 0

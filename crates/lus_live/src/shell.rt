@@ -9,16 +9,17 @@ ghost use Rattle.lus_cli.specs.MachineSpecs.Formals.{node_named};
 ghost use Rattle.lus_live.specs.CommandLine.{asked, task_seen};
 ghost use Rattle.lus_live.specs.Ends.{Ends, GoesOn, IsQuiet, TaskEnds, play_fault, recovery_fault, score_status};
 
-use crate::words::{Task, read_words};
+use crate::words::{Form, Task, read_words};
 use itoa::Buffer;
 use lus_cli::lus_host::ScriptRefusal;
 use lus_cli::{Fault, read_program, tell};
 use lus_devices::{Folder, Sink, Source, write_all};
 use lus_lines::Buffered;
-use lus_live_instance::lus_machine::{NodeId, Program};
-use lus_live_instance::{
+use lus_told::lus_live_instance::lus_machine::{NodeId, Program};
+use lus_told::lus_live_instance::{
     PlayError, RecoveryError, Score, Start, recover_live, resume_live, run_live,
 };
+use lus_told::run_json;
 use std::alloc::Global;
 use std::sync::Arc;
 
@@ -119,11 +120,12 @@ fn play_on<D: Folder, S: Source, O: Sink, F: Sink>(
     let Ok(program) = Arc::new(alloc, program) else {
         return Err(Fault::Memory);
     };
-    match task.journal {
-        None => Ok(run_live(alloc, &program, node, task.node, input, output, faults)),
-        Some(journal) => go_on(
+    match task.form {
+        Form::Journal => Ok(run_live(alloc, &program, node, task.node, input, output, faults)),
+        Form::Behind(journal) => go_on(
             alloc, folder, &program, node, task.node, journal, input, output, faults,
         ),
+        Form::Json => Ok(run_json(alloc, &program, node, input, output, faults)),
     }
 }
 
@@ -164,8 +166,9 @@ fn fault_of(error: PlayError) -> Fault
 }
 
 /// Makes the call of each line of the input on the node that the words name, and writes the journal: each entry before the next line
-/// is read. With a journal among the words that is read and replayed first, and written on. Gives the status of the process: 0 where
-/// all lines were read and each was a call, 2 where one was none, which `faults` is given with its number, else that of the fault.
+/// is read. With a journal among the words that is read and replayed first, and written on. With `--json` each reply is written as an
+/// object of JSON, in place of a journal's lines. Gives the status of the process: 0 where all lines were read and each was a call, 2
+/// where one was none, which `faults` is given with its number, else that of the fault.
 pub fn command<D: Folder, S: Source, O: Sink, F: Sink>(
     alloc: Global,
     folder: &D,

@@ -2,19 +2,31 @@
 
 ghost use Rattle.std.specs.Prelude.{◌≡◌, IfOk, Some, None, Err, map, option_map, string_bytes};
 ghost use Rattle.clap.specs.Words.{app_of};
+ghost use Rattle.lus_cli.specs.CommandLine.{is_true};
 ghost use Rattle.lus_cli.specs.declared.words.WordsError.TheVariants.{Mistaken};
-ghost use Rattle.lus_live.specs.CommandLine.{asked, bare, chosen, task_seen, the_command};
+ghost use Rattle.lus_live.specs.CommandLine.{asked, bare, chosen, form_of, form_seen, task_seen, the_command};
 
-use clap::{Arg, Command};
+use clap::{Arg, ArgAction, Command};
 use lus_cli::{WordsError, matches};
 use std::alloc::{AllocError, Global};
 
-/// What the words ask for: lines that are played on a node of a program, which is named by its file, perhaps behind what a journal has.
+/// How what becomes of the calls is written.
+#[derive(Clone, Copy)]
+pub enum Form<'a> {
+    /// As a journal.
+    Journal,
+    /// As what comes behind a file's journal.
+    Behind(&'a str),
+    /// Each reply as an object of JSON.
+    Json,
+}
+
+/// What the words ask for: lines that are played on a node of a program, which is named by its file.
 #[derive(Clone, Copy)]
 pub struct Task<'a> {
     pub program: &'a str,
     pub node: &'a str,
-    pub journal: Option<&'a str>,
+    pub form: Form<'a>,
 }
 
 /// The command before its arguments.
@@ -30,10 +42,13 @@ fn bare<'a>(alloc: Global) -> Command<'a>
 fn command<'a>(alloc: Global) -> Result<Command<'a>, AllocError>
     ensures shape { IfOk result (λ c. app_of c ≡ the_command) }
 {
+    let json = Arg::new(alloc, "json")
+        .long("json")
+        .action(ArgAction::SetTrue);
     let program = Arg::new(alloc, "PROGRAM").required(true);
     let node = Arg::new(alloc, "NODE").required(true);
     let journal = Arg::new(alloc, "JOURNAL");
-    bare(alloc).arg(program)?.arg(node)?.arg(journal)
+    bare(alloc).arg(json)?.arg(program)?.arg(node)?.arg(journal)
 }
 
 /// What the words after the program's own name ask for.
@@ -43,27 +58,44 @@ pub fn read_words<'a>(alloc: Global, words: &'a [String]) -> Result<Task<'a>, Wo
 {
     let matches = matches(command(alloc)?, words)?;
     choose(
+        form_of(matches.get_str("json"), matches.get_str("JOURNAL")),
         matches.get_str("PROGRAM"),
         matches.get_str("NODE"),
-        matches.get_str("JOURNAL"),
     )
     .ok_or(WordsError::Mistaken)
 }
 
+/// Only a journal is written behind what a file has. A flag's value is the text `true` or `false`.
+fn form_of<'a>(json: Option<&'a str>, journal: Option<&'a str>) -> Option<Form<'a>>
+    ensures { option_map form_seen result ≡ form_of (is_true (option_map (λ t. t.now) json.entry)) (option_map (λ t. t.now) journal.entry) }
+{
+    let is_json = match json {
+        Some(text) => text == "true",
+        None => false,
+    };
+    match (is_json, journal) {
+        (false, None) => Some(Form::Journal),
+        (false, Some(journal)) => Some(Form::Behind(journal)),
+        (true, None) => Some(Form::Json),
+        (true, Some(_)) => None,
+    }
+}
+
 /// A node is asked for with its program.
 fn choose<'a>(
+    form: Option<Form<'a>>,
     program: Option<&'a str>,
     node: Option<&'a str>,
-    journal: Option<&'a str>,
 ) -> Option<Task<'a>>
-    ensures { option_map task_seen result ≡ chosen (option_map (λ t. t.now) program.entry) (option_map (λ t. t.now) node.entry)
-        (option_map (λ t. t.now) journal.entry) }
+    ensures { option_map task_seen result ≡ chosen (option_map form_seen form.entry) (option_map (λ t. t.now) program.entry)
+        (option_map (λ t. t.now) node.entry) }
 {
+    let form = form?;
     let program = program?;
     let node = node?;
     Some(Task {
         program,
         node,
-        journal,
+        form,
     })
 }

@@ -1,5 +1,6 @@
 -- Replies as objects of JSON. Names are of the source, so none needs an escape.
-use Rattle.std.specs.Prelude.{◌+◌, ℕ, List, [], ◌∷◌, ◌++◌, flat_map, codes, Option, Some, None, option_map, slice_get, unwrap_or}
+use Rattle.std.specs.Prelude.{◌+◌, ℕ, List, [], ◌∷◌, ◌++◌, codes, Option, Some, None, option_map, slice_get, unwrap_or}
+use Rattle.std.specs.List.{join_by}
 use Rattle.lus_values.specs.Names.{Text, Names}
 use Rattle.lus_values.specs.Text.{text_of}
 use Rattle.lus_values.specs.Values.{Value, bool, int, enum, struct, nil, Fields, end, field, Row}
@@ -13,8 +14,13 @@ use Rattle.lus_requests.specs.declared.request.Why.TheVariants.{Shape, Presence,
 use Rattle.lus_requests.specs.declared.request.Reply.{Reply}
 use Rattle.lus_requests.specs.declared.request.Reply.TheVariants.{Outputs, Rows, Done, Refused}
 
+-- what precedes a member's value in an object
 abbrev pub key : Text → Text
 key name = codes "\"" ++ name ++ codes "\":"
+
+-- texts with commas between them
+abbrev pub listed : List Text → Text
+listed texts = join_by (λ t. t) (codes ",") texts
 
 -- ---- values
 
@@ -45,15 +51,14 @@ abbrev mutual
   value_json p names kind (bool b) = text_of names (bool b)
   value_json p names kind (int z) = text_of names (int z)
   value_json p names kind (enum t c) = codes "\"" ++ text_of names (enum t c) ++ codes "\""
-  value_json p names kind (struct fs) = codes "{" ++ fields_json p names (fields_at p kind) 0 [] fs ++ codes "}"
+  value_json p names kind (struct fs) = codes "{" ++ listed (fields_json p names (fields_at p kind) 0 fs) ++ codes "}"
   value_json p names kind nil = codes "null"
 
-  -- fields from this place on, the first after this text and each later one after a comma
-  pub fields_json : Program → Names → List Field → ℕ → Text → Fields → Text
-  fields_json p names declared place before end = []
-  fields_json p names declared place before (field v fs) =
-      before ++ key (name_at declared place) ++ value_json p names (kind_at declared place) v
-      ++ fields_json p names declared (place + 1) (codes ",") fs
+  -- members of an object: fields from this place on, by their names
+  pub fields_json : Program → Names → List Field → ℕ → Fields → List Text
+  fields_json p names declared place end = []
+  fields_json p names declared place (field v fs) =
+      (key (name_at declared place) ++ value_json p names (kind_at declared place) v) ∷ fields_json p names declared (place + 1) fs
 
 -- ---- rows
 
@@ -63,25 +68,20 @@ output_name outputs place = unwrap_or (option_map (λ v. v.name) (slice_get outp
 abbrev pub output_kind : List Variable → ℕ → Option Kind
 output_kind outputs place = option_map (λ v. v.kind) (slice_get outputs place)
 
--- the present items from this place on, the first after this text and each later one after a comma
-abbrev pub items_json : Program → Names → List Variable → ℕ → Text → Row → Text
-items_json p names outputs place before [] = []
-items_json p names outputs place before (None ∷ row) = items_json p names outputs (place + 1) before row
-items_json p names outputs place before (Some v ∷ row) =
-    before ++ key (output_name outputs place) ++ value_json p names (output_kind outputs place) v
-    ++ items_json p names outputs (place + 1) (codes ",") row
+-- members of an object: the present items from this place on, by the names of their outputs
+abbrev pub items_json : Program → Names → List Variable → ℕ → Row → List Text
+items_json p names outputs place [] = []
+items_json p names outputs place (None ∷ row) = items_json p names outputs (place + 1) row
+items_json p names outputs place (Some v ∷ row) =
+    (key (output_name outputs place) ++ value_json p names (output_kind outputs place) v) ∷ items_json p names outputs (place + 1) row
 
 -- an object of the outputs that are present
 abbrev pub row_json : Program → Names → List Variable → Row → Text
-row_json p names outputs row = codes "{" ++ items_json p names outputs 0 [] row ++ codes "}"
-
-abbrev pub later_row_json : Program → Names → List Variable → Row → Text
-later_row_json p names outputs row = codes "," ++ row_json p names outputs row
+row_json p names outputs row = codes "{" ++ listed (items_json p names outputs 0 row) ++ codes "}"
 
 -- rows with commas between them
 abbrev pub listed_rows_json : Program → Names → List Variable → List Row → Text
-listed_rows_json p names outputs [] = []
-listed_rows_json p names outputs (first ∷ later) = row_json p names outputs first ++ flat_map (later_row_json p names outputs) later
+listed_rows_json p names outputs rows = join_by (row_json p names outputs) (codes ",") rows
 
 -- ---- replies
 

@@ -4,9 +4,9 @@ use Rattle.lus_values.specs.Names.{Names}
 use Rattle.lus_program.specs.Programs.{Program, Variable, node_at}
 use Rattle.lus_requests.specs.declared.request.Request.{Request}
 use Rattle.lus_requests.specs.declared.request.Entry.{Entry}
-use Rattle.lus_machine.specs.Constructors.{names_of}
-use Rattle.lus_machine.specs.Formals.{outputs_of}
-use Rattle.lus_machine.specs.HistorySpecs.Histories.{History, empty}
+use Rattle.lus_live_instance.specs.MachineSpecs.Constructors.{names_of}
+use Rattle.lus_live_instance.specs.MachineSpecs.Formals.{outputs_of}
+use Rattle.lus_live_instance.specs.MachineSpecs.HistorySpecs.Histories.{History, empty}
 use Rattle.lus_devices.specs.Devices.{Bytes}
 use Rattle.lus_play.specs.Plays.{HasPlayed, HasPlayedAll}
 use Rattle.lus_play.specs.declared.playing.Score.{Score}

@@ -1,1 +1,2 @@
 pub mod Telling
+pub use Rattle.lus_live_instance.specs as LiveSpecs

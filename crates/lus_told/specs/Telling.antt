@@ -5,9 +5,9 @@ use Rattle.lus_program.specs.Programs.{Program, Variable, node_at}
 use Rattle.lus_requests.specs.declared.request.Request.{Request}
 use Rattle.lus_requests.specs.declared.request.Entry.{Entry}
 use Rattle.lus_replies.specs.Replies.{reply_json}
-use Rattle.lus_machine.specs.Constructors.{names_of}
-use Rattle.lus_machine.specs.Formals.{outputs_of}
-use Rattle.lus_machine.specs.HistorySpecs.Histories.{History}
+use Rattle.lus_live_instance.specs.MachineSpecs.Constructors.{names_of}
+use Rattle.lus_live_instance.specs.MachineSpecs.Formals.{outputs_of}
+use Rattle.lus_live_instance.specs.MachineSpecs.HistorySpecs.Histories.{History}
 use Rattle.lus_devices.specs.Devices.{Bytes, WritesBeginning, with_text}
 use Rattle.lus_play.specs.Plays.{AsksAll, AsksSome, texts}
 use Rattle.lus_play.specs.declared.playing.Score.{Score}

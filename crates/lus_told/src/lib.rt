@@ -4,4 +4,5 @@
 mod replies;
 mod telling;
 
+pub use lus_live_instance;
 pub use telling::{run_json, tell};

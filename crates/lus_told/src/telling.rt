@@ -2,13 +2,13 @@
 
 ghost use Rattle.std.specs.Prelude.{◌<◌, length, IfOk, OnErr};
 ghost use Rattle.std.specs.Arc.{arc_value};
-ghost use Rattle.lus_machine.specs.CodeSpecs.Codes.{program_of};
+ghost use Rattle.lus_live_instance.specs.MachineSpecs.CodeSpecs.Codes.{program_of};
 ghost use Rattle.lus_told.specs.Telling.{HasTold, HasToldJson, HasToldJsonSome, HasToldSome};
 
 use crate::replies::JsonReplies;
 use lus_devices::{Sink, Source};
+use lus_live_instance::lus_machine::{NodeId, Program};
 use lus_live_instance::{PlayError, Score, new_instance};
-use lus_machine::{NodeId, Program};
 use lus_play::{Calls, Speaks, play};
 use lus_reactions::JsonCalls;
 use std::alloc::Global;

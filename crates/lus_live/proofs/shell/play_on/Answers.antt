@@ -1,4 +1,4 @@
--- A node is played on, perhaps behind what a journal has, or the program lacks it.
+-- A node is played on in the form that was asked for, or the program lacks it.
 use Rattle.std.proofs.Common.{◌≡◌, ◌∙◌, ap, refl, subst, sym, None, Some}
 use Rattle.std.specs.Arc.{arc_value}
 use Rattle.std.specs.Option.{option_map}
@@ -6,9 +6,10 @@ use Rattle.lus_cli.specs.Changes.{change}
 use Rattle.lus_cli.specs.CodeSpecs.Codes.{program_of}
 use Rattle.lus_cli.specs.Ends.{ReadFails}
 use Rattle.lus_cli.specs.MachineSpecs.Formals.{node_named}
-use Rattle.lus_live.specs.CommandLine.{task_seen}
+use Rattle.lus_told.proofs.LiveProofs.LiveLaws.{named_within}
+use Rattle.lus_live.specs.CommandLine.{form_seen, journal, json, task_seen}
 use Rattle.lus_live.specs.Ends.{IsOfFile}
-use Rattle.lus_live.proofs.EndLemmas.{lived, task_behind, task_fresh}
+use Rattle.lus_live.proofs.EndLemmas.{lived, task_behind, task_played, told_json}
 use Rattle.lus_live.proofs.shell.play_on.Goals as goal
 
 pub returns-in_default-clause-ends : goal.returns-in_default-clause-ends
@@ -16,20 +17,20 @@ returns-in_default-clause-ends g c =
     let none : node_named (program_of c.in_ok-program.program) c.args.task.node.now ≡ None = sym c.node.ensures ∙ ap (option_map _) c.in_default.is in
     ((refl, (program_of c.in_ok-program.program, c.in_ok-program.ensures.accepted, none)), refl, (refl, refl))
 
-pub returns-in-None-clause-ends : goal.returns-in-None-clause-ends
-returns-in-None-clause-ends g c =
+pub returns-in-Journal-clause-ends : goal.returns-in-Journal-clause-ends
+returns-in-Journal-clause-ends g c =
     let same : program_of c.in_ok-program.program ≡ program_of (arc_value c.in-Ok.program) = ap program_of (sym c.in-Ok.ensures.ok) in
     let named : node_named (program_of c.in_ok-program.program) c.args.task.node.now ≡ Some c.in-Some.node.0 =
     sym c.node.ensures ∙ ap (option_map _) c.in-Some.is in
-    task_fresh (ReadFails g.row.D-File.Denot g.D.File.Source.left g.D.File.Source.failures) (g.D.Folder.known c.args.folder.now)
+    task_played (ReadFails g.row.D-File.Denot g.D.File.Source.left g.D.File.Source.failures) (g.D.Folder.known c.args.folder.now)
     (g.S.Source.left c.args.input.now) (g.S.Source.left c.run_live.new.input) (task_seen c.args.task) (program_of (arc_value c.in-Ok.program)) c.in-Some.node.0
     (change (g.O.Sink.written c.args.output.now) (g.O.Sink.written c.run_live.new.output) (g.O.Sink.failures c.args.output.now) (g.O.Sink.failures c.run_live.new.output))
     (subst (IsOfFile (g.D.Folder.known c.args.folder.now c.args.task.program.now)) same c.in_ok-program.ensures.accepted)
-    (subst (λ p. node_named p c.args.task.node.now ≡ Some c.in-Some.node.0) same named) c.run_live.result (ap (option_map _) c.in-None.is)
+    (subst (λ p. node_named p c.args.task.node.now ≡ Some c.in-Some.node.0) same named) journal c.run_live.result (ap form_seen c.in-Journal.is)
     (lived _ _ _ _ _ _ _ c.run_live.ensures.all c.run_live.ensures.begun)
 
-pub returns-clause-ends : goal.returns-clause-ends
-returns-clause-ends g c =
+pub returns-in-Behind-clause-ends : goal.returns-in-Behind-clause-ends
+returns-in-Behind-clause-ends g c =
     let same : program_of c.in_ok-program.program ≡ program_of (arc_value c.in-Ok.program) = ap program_of (sym c.in-Ok.ensures.ok) in
     let named : node_named (program_of c.in_ok-program.program) c.args.task.node.now ≡ Some c.in-Some.node.0 =
     sym c.node.ensures ∙ ap (option_map _) c.in-Some.is in
@@ -37,5 +38,25 @@ returns-clause-ends g c =
     (g.S.Source.left c.args.input.now) (g.S.Source.left c.go_on.new.input) (task_seen c.args.task) (program_of (arc_value c.in-Ok.program)) c.in-Some.node.0
     (change (g.O.Sink.written c.args.output.now) (g.O.Sink.written c.go_on.new.output) (g.O.Sink.failures c.args.output.now) (g.O.Sink.failures c.go_on.new.output))
     (subst (IsOfFile (g.D.Folder.known c.args.folder.now c.args.task.program.now)) same c.in_ok-program.ensures.accepted)
-    (subst (λ p. node_named p c.args.task.node.now ≡ Some c.in-Some.node.0) same named) c.in-Some-journal.journal.now c.go_on.result
-    (ap (option_map _) c.in-Some-journal.is) c.go_on.ensures.ends
+    (subst (λ p. node_named p c.args.task.node.now ≡ Some c.in-Some.node.0) same named) c.in-Behind.journal.now c.go_on.result
+    (ap form_seen c.in-Behind.is) c.go_on.ensures.ends
+
+pub run_json-requires : goal.run_json-requires
+run_json-requires g c =
+    let same : program_of c.in_ok-program.program ≡ program_of (arc_value c.in-Ok.program) = ap program_of (sym c.in-Ok.ensures.ok) in
+    let named : node_named (program_of c.in_ok-program.program) c.args.task.node.now ≡ Some c.in-Some.node.0 =
+    sym c.node.ensures ∙ ap (option_map _) c.in-Some.is in
+    named_within (program_of (arc_value c.in-Ok.program)) c.args.task.node.now c.in-Some.node.0
+    (subst (λ p. node_named p c.args.task.node.now ≡ Some c.in-Some.node.0) same named)
+
+pub returns-clause-ends : goal.returns-clause-ends
+returns-clause-ends g c =
+    let same : program_of c.in_ok-program.program ≡ program_of (arc_value c.in-Ok.program) = ap program_of (sym c.in-Ok.ensures.ok) in
+    let named : node_named (program_of c.in_ok-program.program) c.args.task.node.now ≡ Some c.in-Some.node.0 =
+    sym c.node.ensures ∙ ap (option_map _) c.in-Some.is in
+    task_played (ReadFails g.row.D-File.Denot g.D.File.Source.left g.D.File.Source.failures) (g.D.Folder.known c.args.folder.now)
+    (g.S.Source.left c.args.input.now) (g.S.Source.left c.run_json.new.input) (task_seen c.args.task) (program_of (arc_value c.in-Ok.program)) c.in-Some.node.0
+    (change (g.O.Sink.written c.args.output.now) (g.O.Sink.written c.run_json.new.output) (g.O.Sink.failures c.args.output.now) (g.O.Sink.failures c.run_json.new.output))
+    (subst (IsOfFile (g.D.Folder.known c.args.folder.now c.args.task.program.now)) same c.in_ok-program.ensures.accepted)
+    (subst (λ p. node_named p c.args.task.node.now ≡ Some c.in-Some.node.0) same named) json c.run_json.result (ap form_seen c.in-Json.is)
+    (told_json _ _ _ _ _ _ c.run_json.ensures.all c.run_json.ensures.begun)

@@ -4,9 +4,9 @@ use Rattle.std.proofs.lemmas.Result.{IfOk-weaker, on_err_weaker}
 use Rattle.std.specs.Arc.{arc_value}
 use Rattle.lus_program.specs.Programs.{node_at}
 use Rattle.lus_program.specs.View.{program_seen, variable_of}
-use Rattle.lus_machine.specs.CodeSpecs.Codes.{program_of}
-use Rattle.lus_machine.specs.Constructors.{names_of}
-use Rattle.lus_machine.specs.Formals.{outputs_of}
+use Rattle.lus_live_instance.specs.MachineSpecs.CodeSpecs.Codes.{program_of}
+use Rattle.lus_live_instance.specs.MachineSpecs.Constructors.{names_of}
+use Rattle.lus_live_instance.specs.MachineSpecs.Formals.{outputs_of}
 use Rattle.lus_told.proofs.TellingLaws.{json_told, json_told_some}
 use Rattle.lus_told.proofs.telling.run_json.Goals as goal
 

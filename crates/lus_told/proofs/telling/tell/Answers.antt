@@ -2,7 +2,7 @@
 use Rattle.std.proofs.lemmas.Result.{IfOk-weaker, on_err_weaker}
 use Rattle.std.specs.Arc.{arc_value}
 use Rattle.lus_devices.proofs.Lines.{on_err}
-use Rattle.lus_machine.specs.CodeSpecs.Codes.{program_of}
+use Rattle.lus_live_instance.specs.MachineSpecs.CodeSpecs.Codes.{program_of}
 use Rattle.lus_live_instance.proofs.LiveLaws.{lawful_of}
 use Rattle.lus_told.proofs.TellingLaws.{told_all, told_nothing, told_some}
 use Rattle.lus_told.proofs.telling.tell.Goals as goal
