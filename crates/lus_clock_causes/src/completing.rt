@@ -1,7 +1,7 @@
 //! An expression that is on a slower clock than its place, and how a `merge` completes it.
 
 use crate::clock::{Clocks, Tick};
-use crate::placing::Misplaced;
+use crate::placing::{Misplaced, bare};
 use crate::sampling::is_whole;
 use lus_faults::{Edit, extent_of, slice_of};
 use lus_syntax::{Definition, Equation, Expr, Infix, Name, Prefix, Tree, TypeName};
@@ -176,7 +176,8 @@ pub fn completed(
     let is_whole = is_whole(source, equation, span);
     let open = if is_whole { "" } else { "(" };
     let mut text = format!(in alloc; "{open}merge {variable}")?;
-    push_branches(&mut text, tick, kind, slice_of(source, span), value)?;
+    let inner = slice_of(source, extent_of(source, bare(found.expr)));
+    push_branches(&mut text, tick, kind, inner, value)?;
     text.push_str(if is_whole { "" } else { ")" })?;
     Ok(Some(Edit {
         byte: span.start.byte,

@@ -67,6 +67,25 @@ impl<'t, 'c> Looking<'t, 'c> {
     }
 }
 
+/// An expression without the parentheses round it.
+#[cycle(bare)]
+pub fn bare(expr: &Expr) -> &Expr {
+    match expr {
+        Expr::Parentheses(_, inner) => bare(inner),
+        _ => expr,
+    }
+}
+
+/// The clock that an expression has wherever it stands: that of a variable, of a `when` or of a `merge`, in parentheses or not.
+fn own_clock<'t>(clocks: &Clocks<'t>, expr: &'t Expr) -> Option<Clock<'t>> {
+    match bare(expr) {
+        Expr::Name(name) => clocks.clock(name.text.as_str()),
+        Expr::Merge(_, variable, _) => clocks.clock(variable.text.as_str()),
+        Expr::When(_, test) => Some(Clock::on(test)),
+        _ => None,
+    }
+}
+
 /// The first part of an expression at the place that isn't on its clock, where the expression should be on this one.
 #[cycle(placing)]
 pub fn off_clock<'t>(
@@ -74,13 +93,16 @@ pub fn off_clock<'t>(
     expr: &'t Expr,
     wanted: Clock<'t>,
 ) -> Option<Misplaced<'t>> {
+    if let Some(has) = own_clock(looking.clocks, expr) {
+        let found = looking.compared(expr, has, wanted);
+        if found.is_some() {
+            return found;
+        }
+    }
     match expr {
         Expr::Number(_, _) => None,
         Expr::Truth(_, _) => None,
-        Expr::Name(name) => {
-            let has = looking.clocks.clock(name.text.as_str())?;
-            looking.compared(expr, has, wanted)
-        }
+        Expr::Name(_) => None,
         Expr::Call(name, parts) => {
             if looking.clocks.is_plain(name.text.as_str()) {
                 return in_parts(looking, parts, wanted);
@@ -90,23 +112,11 @@ pub fn off_clock<'t>(
         Expr::Structure(_, parts) | Expr::Variadic(_, _, parts) => {
             in_parts(looking, parts, wanted)
         }
-        Expr::Merge(_, variable, parts) => {
-            let has = looking.clocks.clock(variable.text.as_str())?;
-            let found = looking.compared(expr, has, wanted);
-            if found.is_some() {
-                return found;
-            }
-            in_branches(looking, variable, parts)
-        }
+        Expr::Merge(_, variable, parts) => in_branches(looking, variable, parts),
         Expr::Field(operand, _) => off_clock(looking, operand, wanted),
         Expr::Parentheses(_, inner) => off_clock(looking, inner, wanted),
         Expr::When(operand, test) => {
-            let has = Clock::on(test);
-            let found = looking.compared(expr, has, wanted);
-            if found.is_some() {
-                return found;
-            }
-            let tested = has.newest?;
+            let tested = Clock::on(test).newest?;
             let inside = looking.clocks.clock(tested.variable.text.as_str())?;
             off_clock(looking, operand, inside)
         }

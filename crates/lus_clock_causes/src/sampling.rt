@@ -1,7 +1,7 @@
 //! An expression that is on a faster clock than its place, and how it is sampled.
 
 use crate::clock::{Clocks, Tick};
-use crate::placing::Misplaced;
+use crate::placing::{Misplaced, bare};
 use lus_faults::{Edit, Finding, extent_of, slice_of, start_of};
 use lus_syntax::{Equation, Expr, Span};
 use std::alloc::{AllocError, Global};
@@ -60,8 +60,9 @@ fn sampling(
     test: &str,
 ) -> Result<Edit, AllocError> {
     let span = extent_of(source, expr);
-    let text = slice_of(source, span);
-    let operand = if matches!(expr, Expr::Name(_)) {
+    let inner = bare(expr);
+    let text = slice_of(source, extent_of(source, inner));
+    let operand = if matches!(inner, Expr::Name(_)) {
         String::from_str(alloc, text)?
     } else {
         format!(in alloc; "({text})")?

@@ -1,14 +1,13 @@
 //! Blanks round what is put in or left out.
 
-use crate::declaration::Declaration;
-use crate::heads::is_name;
-use crate::spelled::Spelled;
-use lus_faults::{Edit, bytes_at};
-use lus_syntax::{Symbol, Token, TokenKind, Word};
-use std::alloc::{AllocError, Global};
+use crate::fault::{Fault, is_name};
+use crate::phrase::Phrase;
+use crate::remark::{Change, Text, Trust};
+use lus_faults::bytes_at;
+use lus_syntax::{Token, TokenKind};
 
 /// Whether blanks stand between two bytes of a source, and nothing else.
-pub fn is_blank(source: &str, from: u32, to: u32) -> bool {
+fn is_blank(source: &str, from: u32, to: u32) -> bool {
     match bytes_at(source, from as usize, to as usize) {
         Some(between) => from < to
             && !between
@@ -27,12 +26,12 @@ fn is_punctuation(token: Option<&Token>) -> bool {
 }
 
 /// The byte behind the token before the fault, and the one at which the token behind it begins: its own bytes where there is none.
-fn sides(declaration: &Declaration<'_>, found: &Token) -> (u32, u32) {
-    let front = match declaration.before(1) {
+fn sides(fault: &Fault<'_>, found: &Token) -> (u32, u32) {
+    let front = match fault.token_before(1) {
         Some(before) => before.span.end().byte,
         None => found.span.start.byte,
     };
-    let rear = match declaration.behind(1) {
+    let rear = match fault.token_behind(1) {
         Some(behind) => behind.span.start.byte,
         None => found.span.end().byte,
     };
@@ -40,15 +39,15 @@ fn sides(declaration: &Declaration<'_>, found: &Token) -> (u32, u32) {
 }
 
 /// The change that leaves out the fault's token, with the blanks on one of its sides where that joins no words.
-pub fn without(alloc: Global, source: &str, declaration: &Declaration<'_>, found: &Token) -> Edit {
+pub fn without<'t>(fault: &Fault<'t>, found: &Token) -> Change<'t> {
     let start = found.span.start.byte;
     let end = found.span.end().byte;
-    let (front, rear) = sides(declaration, found);
-    let is_before = is_blank(source, front, start);
-    let is_behind = is_blank(source, end, rear);
-    let takes_behind = is_behind && (is_before || is_punctuation(declaration.before(1)));
+    let (front, rear) = sides(fault, found);
+    let is_before = is_blank(fault.source, front, start);
+    let is_behind = is_blank(fault.source, end, rear);
+    let takes_behind = is_behind && (is_before || is_punctuation(fault.token_before(1)));
     let is_last = end < rear && !is_behind;
-    let takes_before = is_before && (is_last || is_punctuation(declaration.behind(1)));
+    let takes_before = is_before && (is_last || is_punctuation(fault.token_behind(1)));
     let (from, to) = if takes_behind {
         (start, rear)
     } else if takes_before {
@@ -56,51 +55,46 @@ pub fn without(alloc: Global, source: &str, declaration: &Declaration<'_>, found
     } else {
         (start, end)
     };
-    Edit {
+    Change {
         byte: from,
         length: to.saturating_sub(from),
-        text: String::new(alloc),
+        text: Text::Phrase(Phrase::plain("")),
+        trust: Trust::Sure,
     }
 }
 
 /// The blank that a missing token has before it, behind the token there.
-fn front_of(missing: Spelled, before: &Token) -> &'static str {
-    match missing.kind {
-        TokenKind::Keyword(Word::Tel | Word::Let) => "\n",
-        TokenKind::Punctuation(Symbol::Semicolon | Symbol::Comma | Symbol::Colon | Symbol::Close) =>
-            "",
-        TokenKind::Punctuation(Symbol::Open) if is_name(Some(before)) => "",
+fn front_of(missing: &str, before: &Token) -> &'static str {
+    match missing {
+        "tel" | "let" => "\n",
+        ";" | "," | ":" | ")" => "",
+        "(" if is_name(Some(before)) => "",
         _ => " ",
     }
 }
 
-/// The change that puts a missing token between two: behind the first, with the blanks that people write. A parenthesis that opens
+/// The change that puts a missing token behind the one before the fault, with the blanks that people write. A parenthesis that opens
 /// takes the place of the blanks behind it.
-pub fn with_missing(
-    alloc: Global,
-    source: &str,
-    missing: Spelled,
-    before: &Token,
-    found: Option<&Token>,
-) -> Result<Edit, AllocError> {
+pub fn with_missing<'t>(fault: &Fault<'t>, missing: &'static str, before: &Token) -> Change<'t> {
     let front = front_of(missing, before);
-    let text = missing.text;
     let end = before.span.end().byte;
-    let next = match found {
+    let next = match fault.token() {
         Some(found) => found.span.start.byte,
         None => end,
     };
-    let is_open = matches!(missing.kind, TokenKind::Punctuation(Symbol::Open));
-    let length = if is_open && is_blank(source, end, next) {
+    let is_open = matches!(missing, "(");
+    let length = if is_open && is_blank(fault.source, end, next) {
         next.saturating_sub(end)
     } else {
         0
     };
-    let is_tight = found.is_some() && next == end && !is_open && !is_punctuation(found);
+    let is_there = fault.token().is_some() && next == end;
+    let is_tight = is_there && !is_open && !is_punctuation(fault.token());
     let rear = if is_tight { " " } else { "" };
-    Ok(Edit {
+    Change {
         byte: end,
         length,
-        text: format!(in alloc; "{front}{text}{rear}")?,
-    })
+        text: Text::Phrase(Phrase::new("{}{}{}", front, missing, rear)),
+        trust: Trust::Sure,
+    }
 }

@@ -1,94 +1,61 @@
 //! Choices with their condition between the values.
 
-use crate::declaration::Declaration;
-use crate::items::{MOST_TOKENS, change, text_of, tried};
-use crate::spelled::{is_symbol, is_word, leads};
-use lus_faults::{Edit, Finding};
-use lus_syntax::{Symbol, Word};
-use std::alloc::{AllocError, Global};
+use crate::fault::Fault;
+use crate::lists::MOST_TOKENS;
+use crate::phrase::Phrase;
+use crate::remark::{Change, Remark, Text, Trust, replacing, told};
+use crate::words::{is_any, leads};
 
 /// The place behind the equals sign before the fault, where nothing that ends an equation stands between.
-fn right_side(declaration: &Declaration<'_>) -> Option<usize> {
+fn right_side(fault: &Fault<'_>) -> Option<usize> {
     for back in 1..MOST_TOKENS {
-        let token = Some(declaration.before(back)?);
-        if is_symbol(token, Symbol::Semicolon) || is_word(token, Word::Let) {
-            return None;
-        }
-        if is_symbol(token, Symbol::Equal) {
-            return Some(declaration.fault.saturating_sub(back).saturating_add(1));
+        let place = fault.place.checked_sub(back)?;
+        match fault.text(place) {
+            ";" | "let" => return None,
+            "=" => return Some(place.saturating_add(1)),
+            _ => {}
         }
     }
     None
 }
 
 /// The places of the `else` and of the semicolon behind the fault.
-fn parts_behind(declaration: &Declaration<'_>) -> Option<(usize, usize)> {
+fn parts_behind(fault: &Fault<'_>) -> Option<(usize, usize)> {
     let mut middle = None;
-    for (steps, token) in declaration
-        .tokens
-        .iter()
-        .skip(declaration.fault)
-        .take(MOST_TOKENS)
-        .enumerate()
-    {
-        let place = declaration.fault.saturating_add(steps);
-        if is_word(Some(token), Word::Else) && middle.is_none() {
-            middle = Some(place);
-        }
-        if is_symbol(Some(token), Symbol::Semicolon) {
-            return Some((middle?, place));
+    for place in fault.place..fault.place.saturating_add(MOST_TOKENS) {
+        match fault.text(place) {
+            "else" => middle = middle.or(Some(place)),
+            ";" => return Some((middle?, place)),
+            _ => {}
         }
     }
     None
 }
 
-/// The change that writes the condition first.
-fn reordered(
-    alloc: Global,
-    source: &str,
-    declaration: &Declaration<'_>,
-) -> Result<Option<Edit>, AllocError> {
-    let (Some(start), Some((middle, end))) = (right_side(declaration), parts_behind(declaration))
-    else {
-        return Ok(None);
-    };
-    let first = declaration.fault.saturating_add(1);
-    let (Some(value), Some(condition), Some(other)) = (
-        text_of(source, declaration, start, declaration.fault),
-        text_of(source, declaration, first, middle),
-        text_of(source, declaration, middle.saturating_add(1), end),
-    ) else {
-        return Ok(None);
-    };
-    let text = format!(in alloc; "if {condition} then {value} else {other}")?;
-    tried(
-        alloc,
-        source,
-        change(declaration, start, end.saturating_sub(1), text),
+/// The change that writes the condition first, of the equation whose right side begins at a place.
+fn reordered<'t>(fault: &Fault<'t>, start: usize) -> Option<Change<'t>> {
+    let (middle, end) = parts_behind(fault)?;
+    let value = fault.text_of(start, fault.place)?;
+    let condition = fault.text_of(fault.place.saturating_add(1), middle)?;
+    let other = fault.text_of(middle.saturating_add(1), end)?;
+    let text = Phrase::new("if {} then {} else {}", condition, value, other);
+    replacing(
+        fault,
+        start,
+        end.saturating_sub(1),
+        Text::Phrase(text),
+        Trust::Tried,
     )
 }
 
 /// What is said of an `if` behind its first value.
-pub fn chosen(
-    alloc: Global,
-    source: &str,
-    declaration: &Declaration<'_>,
-) -> Result<Option<Finding>, AllocError> {
-    let (true, Some(before)) = (
-        is_word(declaration.found(), Word::If),
-        declaration.before(1),
-    ) else {
-        return Ok(None);
-    };
-    let is_operand = !leads(before)
-        && !is_symbol(Some(before), Symbol::Open)
-        && !is_symbol(Some(before), Symbol::Comma)
-        && !is_symbol(Some(before), Symbol::Semicolon);
-    if !is_operand || right_side(declaration).is_none() {
-        return Ok(None);
+pub fn chosen<'t>(fault: &Fault<'t>) -> Option<Remark<'t>> {
+    let before = fault.before(1);
+    if !fault.is_found("if") || leads(before) || is_any(before, &["(", ",", ";", ""]) {
+        return None;
     }
-    let sentence = String::from_str(alloc, "the condition of an `if` stands before both values")?;
-    let note = "A choice is written `if c then x else y`.";
-    let finding = Finding::new(alloc, sentence, 2).with_note(alloc, note)?;
-    Ok(Some(finding.with_edit(reordered(alloc, source, declaration)?)))
+    let start = right_side(fault)?;
+    let sentence = "the condition of an `if` stands before both values";
+    let remark = told(fault, sentence, "A choice is written `if c then x else y`.");
+    Some(remark.with(reordered(fault, start)))
 }

@@ -1,20 +1,18 @@
 //! Comments that are meant as two signs of minus.
 
-use crate::declaration::Declaration;
-use lus_faults::{Edit, Finding, bytes_at};
+use crate::fault::Fault;
+use crate::phrase::Phrase;
+use crate::remark::{Change, Remark, Text, Trust, told};
+use lus_faults::bytes_at;
 use lus_syntax::{Place, Span};
-use std::alloc::{AllocError, Global};
 
-/// A comment without a blank behind its signs, right behind a token: where it stands, the letters and digits that it begins with,
-/// and whether it makes an arrow.
-#[derive(Clone, Copy)]
-struct Comment<'s> {
-    span: Span,
-    word: &'s str,
-    is_arrow: bool,
+/// A number of bytes, or the greatest that fits.
+pub fn within(bytes: usize) -> u32 {
+    bytes.min(u32::MAX as usize) as u32
 }
 
-fn is_of_word(byte: u8) -> bool {
+/// Whether a byte is one of a word.
+pub fn is_of_word(byte: u8) -> bool {
     byte.is_ascii_alphanumeric() || byte == b'_'
 }
 
@@ -42,91 +40,82 @@ fn word_of(text: &str) -> &str {
     bytes_at(text, 0, count).unwrap_or("")
 }
 
-/// Whether a comment holds what ends an equation or closes a parenthesis.
-fn is_of_code(comment: &str) -> bool {
-    comment
-        .as_bytes()
-        .iter()
-        .any(|byte| *byte == b';' || *byte == b')')
+/// Whether a comment may be meant as code: no blank stands behind its signs, and it ends an equation or closes a parenthesis.
+fn is_of_code(inside: &str) -> bool {
+    let is_begun = match inside.as_bytes().first() {
+        Some(front) => is_of_word(*front) || matches!(*front, b'(' | b';' | b'>'),
+        None => false,
+    };
+    is_begun
+        && inside
+            .as_bytes()
+            .iter()
+            .any(|byte| *byte == b';' || *byte == b')')
 }
 
-/// The comment behind the token before the fault, if it may be meant as two signs.
-fn taken<'s>(source: &'s str, declaration: &Declaration<'_>) -> Option<Comment<'s>> {
-    let end = declaration.before(1)?.span.end();
-    let rest = bytes_at(source, end.byte as usize, source.len())?;
+/// The comment behind the token before the fault, on its line, and what stands behind its signs.
+fn comment_before<'t>(fault: &Fault<'t>) -> Option<(Span, &'t str)> {
+    let end = fault.token_before(1)?.span.end();
+    let rest = bytes_at(fault.source, end.byte as usize, fault.source.len())?;
     let line = rest.lines().next()?;
     let blanks = blanks_of(line);
     let comment = bytes_at(line, blanks, line.len())?;
-    let inside = comment.strip_prefix("--")?;
-    let front = inside.as_bytes().first().copied()?;
-    let is_code = is_of_word(front) || front == b'(' || front == b';' || front == b'>';
-    if !is_code || !is_of_code(inside) {
-        return None;
-    }
-    let offset = blanks.min(u32::MAX as usize) as u32;
+    let offset = within(blanks);
     let start = Place {
         byte: end.byte.saturating_add(offset),
         line: end.line,
         column: end.column.saturating_add(offset),
     };
-    let length = comment.len().min(u32::MAX as usize) as u32;
-    Some(Comment {
-        span: Span { start, length },
-        word: word_of(inside),
-        is_arrow: front == b'>',
+    let length = within(comment.len());
+    Some((Span { start, length }, comment.strip_prefix("--")?))
+}
+
+/// The change of so many bytes where a comment begins.
+fn instead<'t>(comment: Span, length: u32, text: Phrase<'t>) -> Option<Change<'t>> {
+    Some(Change {
+        byte: comment.start.byte,
+        length,
+        text: Text::Phrase(text),
+        trust: Trust::Sure,
     })
 }
 
-/// The change that subtracts the negative of what follows two signs, or that shortens an arrow.
-fn subtracted(alloc: Global, source: &str, taken: Comment<'_>) -> Result<Option<Edit>, AllocError> {
-    let word = taken.word;
-    if taken.is_arrow {
-        return Ok(Some(Edit {
-            byte: taken.span.start.byte,
-            length: 3,
-            text: String::from_str(alloc, "->")?,
-        }));
+/// What is said of a text that lacks what a comment holds: the negative of what follows is subtracted, or an arrow is shortened.
+pub fn commented<'t>(fault: &Fault<'t>) -> Option<Remark<'t>> {
+    let (comment, inside) = comment_before(fault)?;
+    if !is_of_code(inside) {
+        return None;
     }
-    if word.is_empty() {
-        return Ok(None);
-    }
-    let byte = taken.span.start.byte;
-    let before = bytes_at(source, (byte as usize).saturating_sub(1), byte as usize);
-    let blank = if before == Some(" ") { "" } else { " " };
-    let length = word.len().saturating_add(2).min(u32::MAX as usize) as u32;
-    Ok(Some(Edit {
-        byte,
-        length,
-        text: format!(in alloc; "{blank}- (-{word})")?,
-    }))
-}
-
-/// What is said of a text that lacks what a comment holds.
-pub fn commented(
-    alloc: Global,
-    source: &str,
-    declaration: &Declaration<'_>,
-) -> Result<Option<Finding>, AllocError> {
-    let Some(taken) = taken(source, declaration) else {
-        return Ok(None);
-    };
-    let length = match declaration.found() {
-        Some(found) => found.span.length,
-        None => 1,
-    };
-    let note = if taken.is_arrow {
-        "The arrow is written `->`."
-    } else if taken.word.is_empty() {
-        "What is counted down is written with its first value, as in `y = 9 -> pre y - 1;`."
+    let word = word_of(inside);
+    let byte = comment.start.byte as usize;
+    let before = bytes_at(fault.source, byte.saturating_sub(1), byte);
+    let (note, change) = if inside.starts_with(">") {
+        (
+            "The arrow is written `->`.",
+            instead(comment, 3, Phrase::plain("->")),
+        )
+    } else if word.is_empty() {
+        (
+            "What is counted down is written with its first value, as in `y = 9 -> pre y - 1;`.",
+            None,
+        )
     } else {
-        "A minus of a minus is written `3 - (-n)`."
+        let text = if before == Some(" ") {
+            "- (-{})"
+        } else {
+            " - (-{})"
+        };
+        let length = within(word.len().saturating_add(2));
+        let text = Phrase::new(text, word, "", "");
+        (
+            "A minus of a minus is written `3 - (-n)`.",
+            instead(comment, length, text),
+        )
     };
-    let sentence = String::from_str(
-        alloc,
-        "`--` before this begins a comment, which goes to the end of its line",
-    )?;
-    let mut finding = Finding::new(alloc, sentence, length).with_note(alloc, note)?;
-    finding.relate(taken.span, String::from_str(alloc, "the comment")?)?;
-    let edit = subtracted(alloc, source, taken)?;
-    Ok(Some(finding.with_edit(edit)))
+    let sentence = "`--` before this begins a comment, which goes to the end of its line";
+    Some(Remark {
+        comment: Some(comment),
+        change,
+        ..told(fault, sentence, note)
+    })
 }

@@ -1,138 +1,105 @@
-//! `fby` before a list in parentheses, as other languages have it.
+//! `fby` and `pre` before a list in parentheses, as other languages have it.
 
-use crate::declaration::Declaration;
-use crate::items::{Items, change, items_from, open_before, operand_end, text_of, tried};
-use crate::spelled::{is_symbol, is_word};
-use lus_faults::{Edit, Finding};
-use lus_syntax::{Symbol, TokenKind, Word};
-use std::alloc::{AllocError, Global};
+use crate::fault::Fault;
+use crate::lists::{List, list_at};
+use crate::operands::{open_before, operand_end};
+use crate::phrase::Phrase;
+use crate::remark::{Remark, Text, Trust, replacing, told};
+use lus_syntax::TokenKind;
 
-/// The text of an item as an operand: in parentheses where it is more than a name, a number, a call or a field.
-fn operand_text(
-    alloc: Global,
-    source: &str,
-    declaration: &Declaration<'_>,
-    item: (usize, usize),
-) -> Result<Option<String>, AllocError> {
-    let (from, to) = item;
-    let Some(text) = text_of(source, declaration, from, to) else {
-        return Ok(None);
+/// The texts of two items as operands, with a sign between: in parentheses where one is more than a name, a number, a call or a
+/// field.
+fn joined<'t>(
+    fault: &Fault<'t>,
+    first: (usize, usize),
+    second: (usize, usize),
+    signs: [&'static str; 4],
+) -> Option<Phrase<'t>> {
+    let left = fault.text_of(first.0, first.1)?;
+    let right = fault.text_of(second.0, second.1)?;
+    let is_left = operand_end(fault, first.0) == first.1;
+    let is_right = operand_end(fault, second.0) == second.1;
+    let [bare, behind, before, both] = signs;
+    let sign = match (is_left, is_right) {
+        (true, true) => bare,
+        (true, false) => behind,
+        (false, true) => before,
+        (false, false) => both,
     };
-    if operand_end(declaration, from) == to {
-        return Ok(Some(String::from_str(alloc, text)?));
-    }
-    Ok(Some(format!(in alloc; "({text})")?))
+    Some(Phrase::new(sign, left, right, ""))
 }
 
-/// The items of what is remembered and of its first value, where the delay is one instant.
-fn operands(
-    declaration: &Declaration<'_>,
-    items: &[(usize, usize)],
-) -> Option<((usize, usize), (usize, usize))> {
-    let first = items.first().copied()?;
-    let second = items.get(1).copied()?;
-    let Some(third) = items.get(2).copied() else {
-        return Some((second, first));
-    };
-    let delay = declaration.tokens.get(second.0)?;
-    let is_one = matches!(delay.kind, TokenKind::Number(1));
-    if is_one && second.1 == second.0.saturating_add(1) && items.len() == 3 {
-        Some((first, third))
-    } else {
-        None
-    }
-}
+const ALONE: [&str; 4] = ["{} fby {}", "{} fby ({})", "({}) fby {}", "({}) fby ({})"];
 
-/// The change that writes `fby` between its operands, in parentheses where more stands beside it.
-fn between(
-    alloc: Global,
-    source: &str,
-    declaration: &Declaration<'_>,
-    items: &[(usize, usize)],
-    close: usize,
-) -> Result<Option<Edit>, AllocError> {
-    let Some((value, first)) = operands(declaration, items) else {
-        return Ok(None);
+const INSIDE: [&str; 4] = [
+    "({} fby {})",
+    "({} fby ({}))",
+    "(({}) fby {})",
+    "(({}) fby ({}))",
+];
+
+const BEGUN: [&str; 4] = [
+    "({} -> pre {})",
+    "({} -> pre ({}))",
+    "(({}) -> pre {})",
+    "(({}) -> pre ({}))",
+];
+
+/// `fby` between the first value and what is remembered, in parentheses where more stands beside it: of a list of the two, or with
+/// the delay between, if that is one instant.
+fn delay<'t>(fault: &Fault<'t>, list: List) -> Option<Phrase<'t>> {
+    let one = list.item(fault, 0)?;
+    let two = list.item(fault, 1)?;
+    let (value, first) = match list.item(fault, 2) {
+        None => (two, one),
+        Some(three) => {
+            let delay = fault.tokens.get(two.0)?;
+            let is_one = two.1 == two.0.saturating_add(1)
+                && matches!(delay.kind, TokenKind::Number(1));
+            if !is_one || list.count(fault) != 3 {
+                return None;
+            }
+            (one, three)
+        }
     };
-    let (Some(value), Some(first)) = (
-        operand_text(alloc, source, declaration, value)?,
-        operand_text(alloc, source, declaration, first)?,
-    ) else {
-        return Ok(None);
-    };
-    let behind = declaration.tokens.get(close.saturating_add(1));
-    let is_whole = is_symbol(declaration.before(1), Symbol::Equal)
-        && is_symbol(behind, Symbol::Semicolon);
-    let text = if is_whole {
-        format!(in alloc; "{first} fby {value}")?
-    } else {
-        format!(in alloc; "({first} fby {value})")?
-    };
-    tried(
-        alloc,
-        source,
-        change(declaration, declaration.fault, close, text),
-    )
+    let is_whole = fault.is_before(1, "=") && fault.is_at(list.behind.saturating_add(1), ";");
+    let signs = if is_whole { ALONE } else { INSIDE };
+    joined(fault, first, value, signs)
 }
 
 /// What is said of `fby` before a list: it stands between the first value and what follows.
-pub fn delayed(
-    alloc: Global,
-    source: &str,
-    declaration: &Declaration<'_>,
-) -> Result<Option<Finding>, AllocError> {
-    let is_call = is_word(declaration.found(), Word::Fby)
-        && is_symbol(declaration.behind(1), Symbol::Open);
-    if !is_call {
-        return Ok(None);
+pub fn delayed<'t>(fault: &Fault<'t>) -> Option<Remark<'t>> {
+    if !fault.is_found("fby") || !fault.is_behind(1, "(") {
+        return None;
     }
-    let open = declaration.fault.saturating_add(1);
-    let Some(Items { items, close }) = items_from(alloc, declaration, open)? else {
-        return Ok(None);
-    };
-    let sentence = String::from_str(
-        alloc,
-        "`fby` stands between the first value and what follows",
-    )?;
+    let list = list_at(fault, fault.place.saturating_add(1))?;
+    let sentence = "`fby` stands between the first value and what follows";
     let note = "It delays by one instant. A delay of two is written `0 fby (0 fby x)`, and so on.";
-    let finding = Finding::new(alloc, sentence, 3).with_note(alloc, note)?;
-    let edit = between(alloc, source, declaration, &items, close)?;
-    Ok(Some(finding.with_edit(edit)))
+    let remark = told(fault, sentence, note);
+    let Some(text) = delay(fault, list) else {
+        return Some(remark);
+    };
+    let text = Text::Phrase(text);
+    Some(remark.with(replacing(fault, fault.place, list.behind, text, Trust::Tried)))
 }
 
 /// What is said of `pre` before two operands: a first value stands before an arrow.
-pub fn begun_before(
-    alloc: Global,
-    source: &str,
-    declaration: &Declaration<'_>,
-) -> Result<Option<Finding>, AllocError> {
-    let (true, Some(open)) = (
-        is_symbol(declaration.found(), Symbol::Comma),
-        open_before(declaration),
-    ) else {
-        return Ok(None);
-    };
+pub fn begun_before<'t>(fault: &Fault<'t>) -> Option<Remark<'t>> {
+    let open = open_before(fault)?;
     let start = open.saturating_sub(1);
-    let Some(Items { items, close }) = items_from(alloc, declaration, open)? else {
-        return Ok(None);
-    };
-    let (true, Some(value), Some(first)) = (
-        is_word(declaration.tokens.get(start), Word::Pre) && items.len() == 2,
-        items.first().copied(),
-        items.get(1).copied(),
-    ) else {
-        return Ok(None);
-    };
-    let (Some(value), Some(first)) = (
-        operand_text(alloc, source, declaration, value)?,
-        operand_text(alloc, source, declaration, first)?,
-    ) else {
-        return Ok(None);
-    };
-    let text = format!(in alloc; "({first} -> pre {value})")?;
-    let sentence = String::from_str(alloc, "`pre` has one operand")?;
-    let note = "A first value stands before an arrow.";
-    let finding = Finding::new(alloc, sentence, 1).with_note(alloc, note)?;
-    let edit = tried(alloc, source, change(declaration, start, close, text))?;
-    Ok(Some(finding.with_edit(edit)))
+    if !fault.is_found(",") || !fault.is_at(start, "pre") {
+        return None;
+    }
+    let list = list_at(fault, open)?;
+    if list.count(fault) != 2 {
+        return None;
+    }
+    let text = joined(fault, list.item(fault, 1)?, list.item(fault, 0)?, BEGUN)?;
+    let written = replacing(fault, start, list.behind, Text::Phrase(text), Trust::Tried);
+    let remark = told(
+        fault,
+        "`pre` has one operand",
+        "A first value stands before an arrow.",
+    );
+    Some(remark.with(written))
 }

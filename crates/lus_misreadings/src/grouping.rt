@@ -1,16 +1,20 @@
 //! Mixes of operators that need parentheses.
 
-use crate::declaration::Declaration;
-use crate::spelled::{compares, is_infix, is_word, leads, orders, reckons};
-use crate::trial::reach_of;
-use lus_faults::{Edit, Finding, bytes_at, slice_of};
-use lus_syntax::{Symbol, Token, TokenKind, Word};
+use crate::fault::Fault;
+use crate::phrase::Phrase;
+use crate::remark::{Change, Remark, Text, Trust, replacing, told};
+use crate::trial::{reach_of, token_of};
+use crate::words::{ORDERS, RECKONERS, compares, is_any, is_infix, leads};
+use lus_syntax::{Symbol, TokenKind};
 use std::alloc::{AllocError, Global};
 
 /// How many tokens before a fault are looked at, and how many places for parentheses are tried.
 const MOST_BEFORE: usize = 200;
 
 const MOST_PLACES: usize = 12;
+
+/// Some tokens: the place of the first, and the one behind the last.
+type Range = (usize, usize);
 
 /// What a token is to the parentheses and braces round it.
 #[derive(Clone, Copy)]
@@ -21,26 +25,25 @@ enum Nesting {
     None,
 }
 
-fn nesting_of(token: &Token) -> Nesting {
-    match token.kind {
-        TokenKind::Punctuation(Symbol::Open | Symbol::OpenBrace) => Nesting::Opens,
-        TokenKind::Punctuation(Symbol::Close | Symbol::CloseBrace) => Nesting::Closes,
-        TokenKind::Punctuation(Symbol::Semicolon | Symbol::Comma) => Nesting::Parts,
-        TokenKind::Keyword(Word::Let | Word::Tel | Word::Var) => Nesting::Parts,
+fn nesting_of(text: &str) -> Nesting {
+    match text {
+        "(" | "{" => Nesting::Opens,
+        ")" | "}" => Nesting::Closes,
+        ";" | "," | "let" | "tel" | "var" => Nesting::Parts,
         _ => Nesting::None,
     }
 }
 
 /// The places before the fault behind which an operand begins, the nearest first, up to where its expression begins.
-fn openings(alloc: Global, declaration: &Declaration<'_>) -> Result<Vec<usize>, AllocError> {
+fn openings(alloc: Global, fault: &Fault<'_>) -> Result<Vec<usize>, AllocError> {
     let mut found = Vec::new(alloc);
     let mut depth = 0usize;
     for back in 1..MOST_BEFORE {
-        let Some(token) = declaration.before(back) else {
+        let Some(place) = fault.place.checked_sub(back) else {
             return Ok(found);
         };
-        let behind = declaration.fault.saturating_sub(back).saturating_add(1);
-        match nesting_of(token) {
+        let behind = place.saturating_add(1);
+        match nesting_of(fault.text(place)) {
             Nesting::Closes => depth = depth.saturating_add(1),
             Nesting::Opens | Nesting::Parts if depth == 0 => {
                 found.push(behind)?;
@@ -48,7 +51,7 @@ fn openings(alloc: Global, declaration: &Declaration<'_>) -> Result<Vec<usize>, 
             }
             Nesting::Opens => depth -= 1,
             _ => {
-                if depth == 0 && leads(token) && found.len() < MOST_PLACES {
+                if depth == 0 && leads(fault.text(place)) && found.len() < MOST_PLACES {
                     found.push(behind)?;
                 }
             }
@@ -58,25 +61,23 @@ fn openings(alloc: Global, declaration: &Declaration<'_>) -> Result<Vec<usize>, 
 }
 
 /// The places behind the fault before which an operand may end, the nearest first, up to where its expression ends.
-fn closings(alloc: Global, declaration: &Declaration<'_>) -> Result<Vec<usize>, AllocError> {
+fn closings(alloc: Global, fault: &Fault<'_>) -> Result<Vec<usize>, AllocError> {
     let mut found = Vec::new(alloc);
     let mut depth = 0usize;
-    let is_whole = is_word(declaration.found(), Word::If);
-    for (place, token) in declaration.tokens.iter().enumerate() {
-        if place > declaration.fault {
-            let ends = !is_whole
-                && matches!(token.kind, TokenKind::Keyword(Word::Then | Word::Else));
-            match nesting_of(token) {
-                Nesting::Opens => depth = depth.saturating_add(1),
-                Nesting::Closes | Nesting::Parts if depth == 0 => {
+    let is_whole = fault.is_found("if");
+    for place in fault.place.saturating_add(1)..fault.tokens.len() {
+        let text = fault.text(place);
+        let ends = is_infix(text) || !is_whole && is_any(text, &["then", "else"]);
+        match nesting_of(text) {
+            Nesting::Opens => depth = depth.saturating_add(1),
+            Nesting::Closes | Nesting::Parts if depth == 0 => {
+                found.push(place)?;
+                return Ok(found);
+            }
+            Nesting::Closes => depth -= 1,
+            _ => {
+                if depth == 0 && ends && found.len() < MOST_PLACES {
                     found.push(place)?;
-                    return Ok(found);
-                }
-                Nesting::Closes => depth -= 1,
-                _ => {
-                    if depth == 0 && (ends || is_infix(token)) && found.len() < MOST_PLACES {
-                        found.push(place)?;
-                    }
                 }
             }
         }
@@ -85,44 +86,31 @@ fn closings(alloc: Global, declaration: &Declaration<'_>) -> Result<Vec<usize>, 
 }
 
 /// Whether the tokens are read further with parentheses round some of them.
-fn helps(
-    alloc: Global,
-    declaration: &Declaration<'_>,
-    from: usize,
-    to: usize,
-) -> Result<bool, AllocError> {
+fn helps(alloc: Global, fault: &Fault<'_>, range: Range) -> Result<bool, AllocError> {
+    let (from, to) = range;
     if from >= to {
         return Ok(false);
     }
-    let tried = declaration.parenthesised(alloc, from, to)?;
-    Ok(reach_of(alloc, &tried).is_behind(declaration.reached()))
+    let mut tried = Vec::new(alloc);
+    tried.extend_from_slice(fault.tokens.get(..from).unwrap_or(&[]))?;
+    tried.push(token_of(TokenKind::Punctuation(Symbol::Open)))?;
+    tried.extend_from_slice(fault.tokens.get(from..to).unwrap_or(&[]))?;
+    tried.push(token_of(TokenKind::Punctuation(Symbol::Close)))?;
+    tried.extend_from_slice(fault.tokens.get(to..).unwrap_or(&[]))?;
+    Ok(reach_of(alloc, &tried).is_behind(fault.reached()))
 }
 
-/// The first of some ends of parentheses from a place on with which more is read.
+/// The parentheses from a place on with which more is read, of those that end at some places: the first, or the last.
 fn closing_from(
     alloc: Global,
-    declaration: &Declaration<'_>,
+    fault: &Fault<'_>,
     from: usize,
     closings: &[usize],
-) -> Result<Option<(usize, usize)>, AllocError> {
-    for to in closings {
-        if helps(alloc, declaration, from, *to)? {
-            return Ok(Some((from, *to)));
-        }
-    }
-    Ok(None)
-}
-
-/// The last of some ends of parentheses from a place on with which more is read.
-fn last_closing_from(
-    alloc: Global,
-    declaration: &Declaration<'_>,
-    from: usize,
-    closings: &[usize],
-) -> Result<Option<(usize, usize)>, AllocError> {
+    is_last: bool,
+) -> Result<Option<Range>, AllocError> {
     let mut best = None;
     for to in closings {
-        if helps(alloc, declaration, from, *to)? {
+        if (is_last || best.is_none()) && helps(alloc, fault, (from, *to))? {
             best = Some((from, *to));
         }
     }
@@ -132,263 +120,193 @@ fn last_closing_from(
 /// The nearest of some beginnings of parentheses that end before the fault with which more is read.
 fn opening_before(
     alloc: Global,
-    declaration: &Declaration<'_>,
+    fault: &Fault<'_>,
     openings: &[usize],
-) -> Result<Option<(usize, usize)>, AllocError> {
+) -> Result<Option<Range>, AllocError> {
     for from in openings {
-        if helps(alloc, declaration, *from, declaration.fault)? {
-            return Ok(Some((*from, declaration.fault)));
+        if helps(alloc, fault, (*from, fault.place))? {
+            return Ok(Some((*from, fault.place)));
         }
     }
     Ok(None)
 }
 
-/// The token before an operand that begins at a place.
-fn lead_of<'d, 't>(
-    declaration: &'d Declaration<'t>,
-    opening: Option<usize>,
-) -> Option<&'d Token<'t>> {
-    declaration.tokens.get(opening?.checked_sub(1)?)
+/// The text before an operand that begins at a place.
+fn lead_of<'t>(fault: &Fault<'t>, opening: Option<&usize>) -> &'t str {
+    match opening {
+        Some(place) => match place.checked_sub(1) {
+            Some(lead) => fault.text(lead),
+            None => "",
+        },
+        None => "",
+    }
 }
 
-/// Whether what stands behind a token is taken together with what follows the fault: `fby`, `->`, `=>`, `then` and `else`, before
-/// another operator.
-fn takes_all(lead: Option<&Token>) -> bool {
-    match lead {
-        Some(token) => matches!(
-            token.kind,
-            TokenKind::Keyword(Word::Fby | Word::Then | Word::Else)
-                | TokenKind::Punctuation(Symbol::Arrow | Symbol::Implies)
-        ),
-        None => false,
-    }
+/// Whether what stands behind a text is taken together with what follows the fault, before another operator.
+fn takes_all(lead: &str) -> bool {
+    is_any(lead, &["fby", "->", "=>", "then", "else"])
 }
 
 /// How close an operator holds its operands together, least first, where readers agree on it.
-fn closeness(token: &Token) -> usize {
-    if reckons(token) {
-        return 4;
-    }
-    if compares(token) {
-        return 3;
-    }
-    match token.kind {
-        TokenKind::Keyword(Word::And) => 2,
-        TokenKind::Keyword(Word::Or | Word::Xor) => 1,
+fn closeness(text: &str) -> usize {
+    match text {
+        "and" => 2,
+        "or" | "xor" => 1,
+        _ if is_any(text, &RECKONERS) => 4,
+        _ if compares(text) => 3,
         _ => 0,
     }
 }
 
 /// Whether a `when` stands among the tokens from a place up to the fault.
-fn samples_before(declaration: &Declaration<'_>, from: Option<&usize>) -> bool {
-    let first = from.copied().unwrap_or(declaration.fault);
-    let before = declaration
-        .tokens
-        .get(first..declaration.fault)
-        .unwrap_or(&[]);
-    before.iter().any(|token| is_word(Some(token), Word::When))
+fn samples_before(fault: &Fault<'_>, from: Option<&usize>) -> bool {
+    for place in from.copied().unwrap_or(fault.place)..fault.place {
+        if fault.is_at(place, "when") {
+            return true;
+        }
+    }
+    false
 }
 
 /// Whether a `when` samples the nearest operand alone: another operand of its expression is sampled by itself, or the operator
 /// behind its clock is a closer one than that before the operand.
-fn samples_nearest(declaration: &Declaration<'_>, openings: &[usize], closings: &[usize]) -> bool {
-    let Some(lead) = lead_of(declaration, openings.first().copied()) else {
-        return false;
-    };
+fn samples_nearest(fault: &Fault<'_>, openings: &[usize], closings: &[usize]) -> bool {
+    let lead = lead_of(fault, openings.first());
     if !is_infix(lead) {
         return false;
     }
-    if samples_before(declaration, openings.last()) {
+    if samples_before(fault, openings.last()) {
         return true;
     }
     match closings.first() {
-        Some(place) => match declaration.tokens.get(*place) {
-            Some(next) => closeness(next) > closeness(lead),
-            None => false,
-        },
+        Some(place) => closeness(fault.text(*place)) > closeness(lead),
         None => false,
     }
 }
 
 /// The nearest place behind a token that takes all that follows.
-fn outer_of(declaration: &Declaration<'_>, openings: &[usize]) -> Option<usize> {
+fn outer_of(fault: &Fault<'_>, openings: &[usize]) -> Option<usize> {
     for from in openings {
-        if takes_all(lead_of(declaration, Some(*from))) {
+        if takes_all(lead_of(fault, Some(from))) {
             return Some(*from);
         }
     }
     None
 }
 
+/// Where parentheses belong that go as far as the expression does, or as far as an operand behind the fault: from where on, and
+/// whether they go as far as they can.
+fn reach_wanted(
+    fault: &Fault<'_>,
+    openings: &[usize],
+    closings: &[usize],
+) -> Option<(usize, bool)> {
+    let found = fault.found();
+    match found {
+        "if" => return Some((fault.place, true)),
+        "not" => return Some((fault.place, false)),
+        _ => {}
+    }
+    let lead = lead_of(fault, openings.first());
+    let from = openings.first().copied().unwrap_or(0);
+    let outer = outer_of(fault, openings);
+    if takes_all(lead) || (takes_all(found) && outer.is_some()) {
+        return Some((outer.unwrap_or(from), true));
+    }
+    let is_compared = is_any(lead, &["not"]) && compares(found);
+    let is_sampled = is_any(found, &["when"]) && samples_nearest(fault, openings, closings);
+    if is_compared || is_sampled {
+        Some((from, false))
+    } else {
+        None
+    }
+}
+
 /// Where parentheses belong, before the fault's operator or round what it joins, so that more is read.
 fn grouping(
     alloc: Global,
-    declaration: &Declaration<'_>,
+    fault: &Fault<'_>,
     openings: &[usize],
-) -> Result<Option<(usize, usize)>, AllocError> {
-    let Some(found) = declaration.found() else {
-        return Ok(None);
-    };
-    let closings = closings(alloc, declaration)?;
-    if is_word(Some(found), Word::If) {
-        return last_closing_from(alloc, declaration, declaration.fault, &closings);
-    }
-    if is_word(Some(found), Word::Not) {
-        return closing_from(alloc, declaration, declaration.fault, &closings);
-    }
-    if !is_infix(found) {
+) -> Result<Option<Range>, AllocError> {
+    let is_prefix = is_any(fault.found(), &["if", "not"]);
+    if !is_prefix && !is_infix(fault.found()) {
         return Ok(None);
     }
-    let nearest = openings.first().copied();
-    let lead = lead_of(declaration, nearest);
-    let from = nearest.unwrap_or(0);
-    let outer = outer_of(declaration, openings);
-    if takes_all(lead) || (takes_all(Some(found)) && outer.is_some()) {
-        let from = outer.unwrap_or(from);
-        let whole = last_closing_from(alloc, declaration, from, &closings)?;
-        if whole.is_some() {
-            return Ok(whole);
+    let closings = closings(alloc, fault)?;
+    if let Some((from, is_last)) = reach_wanted(fault, openings, &closings) {
+        let range = closing_from(alloc, fault, from, &closings, is_last)?;
+        if is_prefix || range.is_some() {
+            return Ok(range);
         }
     }
-    if is_word(lead, Word::Not) && compares(found) {
-        let compared = closing_from(alloc, declaration, from, &closings)?;
-        if compared.is_some() {
-            return Ok(compared);
-        }
-    }
-    if is_word(Some(found), Word::When) && samples_nearest(declaration, openings, &closings) {
-        let sampled = closing_from(alloc, declaration, from, &closings)?;
-        if sampled.is_some() {
-            return Ok(sampled);
-        }
-    }
-    opening_before(alloc, declaration, openings)
-}
-
-/// The text of a source from a token on up to the end of the one before another.
-fn text_between<'s>(
-    source: &'s str,
-    declaration: &Declaration<'_>,
-    from: usize,
-    to: usize,
-) -> Option<(u32, &'s str)> {
-    let start = declaration.tokens.get(from)?.span.start.byte;
-    let end = declaration.tokens.get(to.checked_sub(1)?)?.span.end().byte;
-    let text = bytes_at(source, start as usize, end as usize)?;
-    Some((start, text))
-}
-
-/// The operator that the fault's one isn't mixed with.
-fn other_of<'d, 't>(
-    declaration: &'d Declaration<'t>,
-    opening: Option<usize>,
-) -> Option<&'d Token<'t>> {
-    let lead = lead_of(declaration, opening)?;
-    if leads(lead) { Some(lead) } else { None }
-}
-
-/// The sentence on a mix: its two operators, or the one that needs parentheses for itself.
-fn sentence(
-    alloc: Global,
-    source: &str,
-    found: &Token,
-    other: Option<&Token>,
-) -> Result<String, AllocError> {
-    let text = slice_of(source, found.span);
-    match other {
-        Some(other) => {
-            let first = slice_of(source, other.span);
-            format!(in alloc; "`{first}` and `{text}` aren't mixed without parentheses")
-        }
-        None => format!(in alloc; "`{text}` needs parentheses here"),
-    }
+    opening_before(alloc, fault, openings)
 }
 
 /// The place behind a comparison of order, where nothing but sums and products stands from there up to the fault.
-fn compared_from(declaration: &Declaration<'_>, openings: &[usize]) -> Option<usize> {
+fn compared_from(fault: &Fault<'_>, openings: &[usize]) -> Option<usize> {
     for from in openings {
-        let lead = lead_of(declaration, Some(*from))?;
-        if orders(lead) {
+        let lead = lead_of(fault, Some(from));
+        if is_any(lead, &ORDERS) {
             return Some(*from);
         }
-        if !reckons(lead) {
+        if !is_any(lead, &RECKONERS) {
             return None;
         }
     }
     None
 }
 
-/// What is said of a mix of operators, and the change that makes it readable, or its first part.
-#[derive(Drop)]
-pub struct Mix {
-    pub finding: Finding,
-    pub edit: Edit,
-}
-
 /// What is said of two comparisons of order in a row: what stands between them is compared twice.
-fn chained(
-    alloc: Global,
-    source: &str,
-    declaration: &Declaration<'_>,
-    openings: &[usize],
-) -> Result<Option<Mix>, AllocError> {
-    let (Some(found), Some(from)) = (declaration.found(), compared_from(declaration, openings))
-    else {
-        return Ok(None);
-    };
-    let between = text_between(source, declaration, from, declaration.fault);
-    let (true, Some((_, operand))) = (orders(found), between) else {
-        return Ok(None);
-    };
-    let edit = Edit {
+fn chained<'t>(fault: &Fault<'t>, openings: &[usize]) -> Option<Remark<'t>> {
+    let found = fault.token()?;
+    let from = compared_from(fault, openings)?;
+    if !is_any(fault.found(), &ORDERS) {
+        return None;
+    }
+    let operand = fault.text_of(from, fault.place)?;
+    let note = "Each compares two values: `and` joins them.";
+    let remark = told(fault, "comparisons aren't chained", note);
+    Some(remark.with(Some(Change {
         byte: found.span.start.byte,
         length: 0,
-        text: format!(in alloc; "and {operand} ")?,
-    };
-    let sentence = String::from_str(alloc, "comparisons aren't chained")?;
-    let note = "Each compares two values: `and` joins them.";
-    let finding = Finding::new(alloc, sentence, found.span.length).with_note(alloc, note)?;
-    Ok(Some(Mix { finding, edit }))
+        text: Text::Phrase(Phrase::new("and {} ", operand, "", "")),
+        trust: Trust::Sure,
+    })))
 }
 
-/// What is said of operators that parentheses part.
-fn parted(
-    alloc: Global,
-    source: &str,
-    declaration: &Declaration<'_>,
-    openings: &[usize],
-) -> Result<Option<Mix>, AllocError> {
-    let (Some(found), Some((from, to))) = (
-        declaration.found(),
-        grouping(alloc, declaration, openings)?,
-    ) else {
-        return Ok(None);
+/// What is said of operators that parentheses round some tokens part: of both, or of the one that needs them for itself.
+fn parted<'t>(fault: &Fault<'t>, openings: &[usize], range: Range) -> Option<Remark<'t>> {
+    let (from, to) = range;
+    let inner = fault.text_of(from, to)?;
+    let text = Text::Phrase(Phrase::new("({})", inner, "", ""));
+    let other = lead_of(fault, openings.first());
+    let sentence = if leads(other) {
+        Phrase::new(
+            "`{}` and `{}` aren't mixed without parentheses",
+            other,
+            fault.found(),
+            "",
+        )
+    } else {
+        Phrase::new("`{}` needs parentheses here", fault.found(), "", "")
     };
-    let Some((start, inner)) = text_between(source, declaration, from, to) else {
-        return Ok(None);
-    };
-    let edit = Edit {
-        byte: start,
-        length: inner.len().min(u32::MAX as usize) as u32,
-        text: format!(in alloc; "({inner})")?,
-    };
-    let other = other_of(declaration, openings.first().copied());
-    let sentence = sentence(alloc, source, found, other)?;
     let note = "Readers and tools guess differently how these group: parentheses say it.";
-    let finding = Finding::new(alloc, sentence, found.span.length).with_note(alloc, note)?;
-    Ok(Some(Mix { finding, edit }))
+    Some(Remark {
+        sentence,
+        change: replacing(fault, from, to.checked_sub(1)?, text, Trust::Sure),
+        ..told(fault, "", note)
+    })
 }
 
 /// What is said of the mix of operators at a fault, with the change that has more read.
-pub fn mix_at(
-    alloc: Global,
-    source: &str,
-    declaration: &Declaration<'_>,
-) -> Result<Option<Mix>, AllocError> {
-    let openings = openings(alloc, declaration)?;
-    let chain = chained(alloc, source, declaration, &openings)?;
+pub fn mix_at<'t>(alloc: Global, fault: &Fault<'t>) -> Result<Option<Remark<'t>>, AllocError> {
+    let openings = openings(alloc, fault)?;
+    let chain = chained(fault, &openings);
     if chain.is_some() {
         return Ok(chain);
     }
-    parted(alloc, source, declaration, &openings)
+    match grouping(alloc, fault, &openings)? {
+        Some(range) => Ok(parted(fault, &openings, range)),
+        None => Ok(None),
+    }
 }

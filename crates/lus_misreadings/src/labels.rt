@@ -1,73 +1,65 @@
 //! Labels of a `merge` behind which another sign than the arrow stands.
 
-use crate::declaration::Declaration;
-use crate::heads::is_name;
-use crate::items::{Items, items_from, tried};
-use crate::spelled::{is_symbol, is_word};
-use lus_faults::{Edit, Finding, bytes_at};
-use lus_syntax::{Symbol, Token, Word};
-use std::alloc::{AllocError, Global};
+use crate::fault::{Fault, is_name};
+use crate::lists::list_at;
+use crate::remark::{Change, Remark, Text, Trust, told};
+use crate::words::is_any;
+use lus_faults::bytes_at;
+use std::alloc::AllocError;
 
 /// How many branches of a `merge` are looked at.
 const MOST_BRANCHES: usize = 100;
 
-fn is_label(token: Option<&Token>) -> bool {
-    is_name(token) || is_word(token, Word::True) || is_word(token, Word::False)
+/// Whether a parenthesis opens a branch whose label has another sign behind it.
+fn is_branch(fault: &Fault<'_>, open: usize) -> bool {
+    let label = open.saturating_add(1);
+    let is_label = is_name(fault.tokens.get(label))
+        || is_any(fault.text(label), &["true", "false"]);
+    is_label
+        && fault.is_at(open, "(")
+        && is_any(fault.text(label.saturating_add(1)), &[":", "=", "=>"])
 }
 
-/// Whether a token may be meant as the arrow.
-fn is_sign(token: Option<&Token>) -> bool {
-    is_symbol(token, Symbol::Colon)
-        || is_symbol(token, Symbol::Equal)
-        || is_symbol(token, Symbol::Implies)
-}
-
-/// The place of the parenthesis of a branch whose label has another sign behind it at the fault.
-fn branch_at(declaration: &Declaration<'_>) -> Option<usize> {
-    let is_first = is_word(declaration.before(4), Word::Merge);
-    let is_further = is_symbol(declaration.before(3), Symbol::Close);
-    let is_branch = is_sign(declaration.found())
-        && is_label(declaration.before(1))
-        && is_symbol(declaration.before(2), Symbol::Open)
-        && (is_first || is_further);
-    if is_branch {
-        declaration.fault.checked_sub(2)
+/// The parenthesis of the branch of a `merge` whose label has another sign behind it at the fault.
+fn branch_at(fault: &Fault<'_>) -> Option<usize> {
+    let open = fault.place.checked_sub(2)?;
+    let is_of_merge = fault.is_before(4, "merge") || fault.is_before(3, ")");
+    if is_of_merge && is_branch(fault, open) {
+        Some(open)
     } else {
         None
     }
 }
 
-/// The places of the labels with such signs, from a branch on.
-fn labels(
-    alloc: Global,
-    declaration: &Declaration<'_>,
-    branch: usize,
-) -> Result<Vec<usize>, AllocError> {
-    let mut places = Vec::new(alloc);
-    let mut open = branch;
-    for _turn in 0..MOST_BRANCHES {
-        let label = open.saturating_add(1);
-        let is_branch = is_symbol(declaration.tokens.get(open), Symbol::Open)
-            && is_label(declaration.tokens.get(label))
-            && is_sign(declaration.tokens.get(label.saturating_add(1)));
-        if !is_branch {
-            return Ok(places);
-        }
-        places.push(label)?;
-        match items_from(alloc, declaration, open)? {
-            Some(Items { close, .. }) => open = close.saturating_add(1),
-            None => return Ok(places),
-        }
+/// The parenthesis of the next branch whose label has another sign behind it.
+fn next_branch(fault: &Fault<'_>, open: usize) -> Option<usize> {
+    let next = list_at(fault, open)?.behind.saturating_add(1);
+    if is_branch(fault, next) {
+        Some(next)
+    } else {
+        None
     }
-    Ok(places)
 }
 
-/// The arrow behind a label, and the bytes from that label's end up to those behind its sign.
-fn arrow_behind(declaration: &Declaration<'_>, label: usize) -> Option<(u32, u32, &'static str)> {
+/// The parenthesis of the last such branch, from one on.
+fn last_branch(fault: &Fault<'_>, open: usize) -> usize {
+    let mut last = open;
+    for _turn in 1..MOST_BRANCHES {
+        match next_branch(fault, last) {
+            Some(next) => last = next,
+            None => return last,
+        }
+    }
+    last
+}
+
+/// The arrow behind the label of a branch, and the bytes from that label's end up to those behind its sign.
+fn arrow_in(fault: &Fault<'_>, open: usize) -> Option<(u32, u32, &'static str)> {
+    let label = open.saturating_add(1);
     let sign = label.saturating_add(1);
-    let start = declaration.tokens.get(label)?.span.end().byte;
-    let end = declaration.tokens.get(sign)?.span.end().byte;
-    let next = declaration.tokens.get(sign.saturating_add(1))?;
+    let start = fault.tokens.get(label)?.span.end().byte;
+    let end = fault.tokens.get(sign)?.span.end().byte;
+    let next = fault.tokens.get(sign.saturating_add(1))?;
     let arrow = if next.span.start.byte == end {
         " -> "
     } else {
@@ -76,51 +68,42 @@ fn arrow_behind(declaration: &Declaration<'_>, label: usize) -> Option<(u32, u32
     Some((start, end, arrow))
 }
 
-/// The change that writes arrows behind labels.
-fn arrows(
-    alloc: Global,
-    source: &str,
-    declaration: &Declaration<'_>,
-    labels: &[usize],
-) -> Result<Option<Edit>, AllocError> {
-    let mut text = String::new(alloc);
-    let mut first = None;
-    let mut behind = 0u32;
-    for label in labels {
-        let Some((start, end, arrow)) = arrow_behind(declaration, *label) else {
-            return Ok(None);
+/// Appends what stands from the label of a branch on up to the sign of the last such branch, with arrows for the signs.
+pub fn push_arrows(text: &mut String, fault: &Fault<'_>, open: usize) -> Result<(), AllocError> {
+    let mut branch = open;
+    let mut behind = None;
+    for _turn in 0..MOST_BRANCHES {
+        let Some((start, end, arrow)) = arrow_in(fault, branch) else {
+            return Ok(());
         };
-        if first.is_some() {
-            text.push_str(bytes_at(source, behind as usize, start as usize).unwrap_or(""))?;
-        } else {
-            first = Some(start);
-        }
+        let from = behind.unwrap_or(start);
+        text.push_str(bytes_at(fault.source, from as usize, start as usize).unwrap_or(""))?;
         text.push_str(arrow)?;
-        behind = end;
+        behind = Some(end);
+        match next_branch(fault, branch) {
+            Some(next) => branch = next,
+            None => return Ok(()),
+        }
     }
-    match first {
-        Some(byte) => Ok(Some(Edit {
-            byte,
-            length: behind.saturating_sub(byte),
-            text,
-        })),
-        None => Ok(None),
-    }
+    Ok(())
 }
 
 /// What is said of a label with another sign than `->` behind it.
-pub fn labelled(
-    alloc: Global,
-    source: &str,
-    declaration: &Declaration<'_>,
-) -> Result<Option<Finding>, AllocError> {
-    let (Some(branch), Some(found)) = (branch_at(declaration), declaration.found()) else {
-        return Ok(None);
+pub fn labelled<'t>(fault: &Fault<'t>) -> Option<Remark<'t>> {
+    let open = branch_at(fault)?;
+    let note = "A branch is written `(label -> value)`.";
+    let remark = told(fault, "the label of a branch is followed by `->`", note);
+    let ends = (
+        arrow_in(fault, open),
+        arrow_in(fault, last_branch(fault, open)),
+    );
+    let (Some((byte, _, _)), Some((_, end, _))) = ends else {
+        return Some(remark);
     };
-    let places = labels(alloc, declaration, branch)?;
-    let sentence = String::from_str(alloc, "the label of a branch is followed by `->`")?;
-    let finding = Finding::new(alloc, sentence, found.span.length);
-    let finding = finding.with_note(alloc, "A branch is written `(label -> value)`.")?;
-    let edit = arrows(alloc, source, declaration, &places)?;
-    Ok(Some(finding.with_edit(tried(alloc, source, edit)?)))
+    Some(remark.with(Some(Change {
+        byte,
+        length: end.saturating_sub(byte),
+        text: Text::Arrows(open),
+        trust: Trust::Tried,
+    })))
 }

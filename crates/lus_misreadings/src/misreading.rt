@@ -2,132 +2,164 @@
 
 use crate::calls::{applied, parted_arguments, typed_arguments};
 use crate::choices::chosen;
-use crate::clocks::{called_clock, conditional_clock};
+use crate::clocks::{called_clocks, compared, conditions};
 use crate::comments::commented;
-use crate::declaration::{Declaration, declaration_at};
 use crate::delays::{begun_before, delayed};
 use crate::expecting::unexpected;
-use crate::forms::foreign;
+use crate::fault::{Fault, fault_at};
+use crate::foreign::{of_lists, of_places, of_words};
+use crate::forms::{of_declarations, of_shifts, of_signs};
 use crate::headings::{typed_before, unclosed};
 use crate::labels::labelled;
 use crate::lexical::{great_number, kept_back, no_token};
+use crate::merges::{bracketed, branched, merged, unlabelled};
 use crate::mixes::mixed;
+use crate::pairs::paired;
+use crate::remark::{Remark, finding_of};
 use crate::repairing::repaired;
 use crate::respelling::respelled;
+use crate::rows::formed;
 use lus_faults::Finding;
 use lus_syntax::{Refusal, RefusalNumber, lex};
 use std::alloc::{AllocError, Global};
 
-/// What is said of variables and types in a head, and of operands in parentheses, that stand as in other languages.
-fn misarranged(
-    alloc: Global,
-    source: &str,
-    declaration: &Declaration<'_>,
-) -> Result<Option<Finding>, AllocError> {
-    let heading = unclosed(alloc, source, declaration)?;
-    if heading.is_some() {
-        return Ok(heading);
-    }
-    let variable = typed_before(alloc, source, declaration)?;
-    if variable.is_some() {
-        return Ok(variable);
-    }
-    let call = typed_arguments(alloc, source, declaration)?;
-    if call.is_some() {
-        return Ok(call);
-    }
-    let arguments = parted_arguments(alloc, source, declaration)?;
-    if arguments.is_some() {
-        return Ok(arguments);
-    }
-    remembered(alloc, source, declaration)
+/// What may be wrong with tokens that spell no program.
+#[derive(Clone, Copy)]
+enum Trial {
+    Comment,
+    Heading,
+    Variable,
+    TypedArguments,
+    PartedArguments,
+    Delay,
+    Past,
+    CalledClock,
+    Label,
+    Bracket,
+    NoLabels,
+    Merge,
+    Branches,
+    Pairs,
+    Declarations,
+    Signs,
+    Shifts,
+    Lists,
+    Words,
+    Places,
+    Comparison,
+    Condition,
+    Choice,
+    Mix,
+    Spelling,
+    Call,
+    Repair,
 }
 
-/// What is said of operands in parentheses behind `fby` and `pre`, of clocks and of branches.
-fn remembered(
-    alloc: Global,
-    source: &str,
-    declaration: &Declaration<'_>,
-) -> Result<Option<Finding>, AllocError> {
-    let delay = delayed(alloc, source, declaration)?;
-    if delay.is_some() {
-        return Ok(delay);
+/// What is tried, the first before the others.
+static TRIALS: [Trial; 27] = [
+    Trial::Comment,
+    Trial::Heading,
+    Trial::Variable,
+    Trial::TypedArguments,
+    Trial::PartedArguments,
+    Trial::Delay,
+    Trial::Past,
+    Trial::CalledClock,
+    Trial::Label,
+    Trial::Bracket,
+    Trial::NoLabels,
+    Trial::Merge,
+    Trial::Branches,
+    Trial::Pairs,
+    Trial::Declarations,
+    Trial::Signs,
+    Trial::Shifts,
+    Trial::Lists,
+    Trial::Words,
+    Trial::Places,
+    Trial::Comparison,
+    Trial::Condition,
+    Trial::Choice,
+    Trial::Mix,
+    Trial::Spelling,
+    Trial::Call,
+    Trial::Repair,
+];
+
+/// What is said of a fault by its tokens, if it is of a kind.
+fn remark_of<'t>(fault: &Fault<'t>, trial: Trial) -> Option<Remark<'t>> {
+    match trial {
+        Trial::Comment => commented(fault),
+        Trial::Heading => unclosed(fault),
+        Trial::Variable => typed_before(fault),
+        Trial::TypedArguments => typed_arguments(fault),
+        Trial::PartedArguments => parted_arguments(fault),
+        Trial::Delay => delayed(fault),
+        Trial::Past => begun_before(fault),
+        Trial::CalledClock => formed(fault, called_clocks()),
+        Trial::Label => labelled(fault),
+        Trial::Bracket => bracketed(fault),
+        Trial::NoLabels => unlabelled(fault),
+        Trial::Merge => merged(fault),
+        Trial::Branches => branched(fault),
+        Trial::Pairs => paired(fault),
+        Trial::Declarations => formed(fault, of_declarations()),
+        Trial::Signs => formed(fault, of_signs()),
+        Trial::Shifts => formed(fault, of_shifts()),
+        Trial::Lists => formed(fault, of_lists()),
+        Trial::Words => formed(fault, of_words()),
+        Trial::Places => formed(fault, of_places()),
+        Trial::Comparison => compared(fault),
+        Trial::Condition => formed(fault, conditions()),
+        Trial::Choice => chosen(fault),
+        Trial::Call => applied(fault),
+        Trial::Mix | Trial::Spelling | Trial::Repair => None,
     }
-    let past = begun_before(alloc, source, declaration)?;
-    if past.is_some() {
-        return Ok(past);
-    }
-    let clock = called_clock(alloc, declaration)?;
-    if clock.is_some() {
-        return Ok(clock);
-    }
-    labelled(alloc, source, declaration)
 }
 
-/// What is said of operators: a condition in the place of a clock, or a mix.
-fn mixed_up(
-    alloc: Global,
-    source: &str,
-    declaration: &Declaration<'_>,
-) -> Result<Option<Finding>, AllocError> {
-    let clock = conditional_clock(alloc, source, declaration)?;
-    if clock.is_some() {
-        return Ok(clock);
-    }
-    let choice = chosen(alloc, source, declaration)?;
-    if choice.is_some() {
-        return Ok(choice);
-    }
-    mixed(alloc, source, declaration)
+/// What is said of a fault, if it is of a kind.
+fn tried(alloc: Global, fault: &Fault<'_>, trial: Trial) -> Result<Option<Finding>, AllocError> {
+    let remark = match trial {
+        Trial::Mix => return mixed(alloc, fault),
+        Trial::Spelling => respelled(alloc, fault)?,
+        Trial::Repair => repaired(alloc, fault)?,
+        _ => remark_of(fault, trial),
+    };
+    said_of(alloc, fault, remark)
 }
 
-/// What is said of single tokens: a word that is spelled wrong, a call without parentheses, one token too few or too much.
-fn mistaken(
+/// What a remark says of a fault, if there is one.
+fn said_of(
     alloc: Global,
-    source: &str,
-    declaration: &Declaration<'_>,
+    fault: &Fault<'_>,
+    remark: Option<Remark<'_>>,
 ) -> Result<Option<Finding>, AllocError> {
-    let word = respelled(alloc, source, declaration)?;
-    if word.is_some() {
-        return Ok(word);
+    match remark {
+        Some(remark) => finding_of(alloc, fault, &remark),
+        None => Ok(None),
     }
-    let call = applied(alloc, source, declaration)?;
-    if call.is_some() {
-        return Ok(call);
-    }
-    repaired(alloc, source, declaration)
 }
 
-/// What is said of tokens that spell no program: the first that is known of a comment that took code, a form of another language,
-/// a mix of operators, one token, or all that could stand there.
+/// What is said of a fault: by the first trial that tells it, or which tokens could stand there.
+fn explained(alloc: Global, fault: &Fault<'_>) -> Result<Option<Finding>, AllocError> {
+    for trial in &TRIALS {
+        let finding = tried(alloc, fault, *trial)?;
+        if finding.is_some() {
+            return Ok(finding);
+        }
+    }
+    unexpected(alloc, fault)
+}
+
+/// What is said of tokens that spell no program.
 fn misspelt(alloc: Global, source: &str, refusal: &Refusal) -> Result<Option<Finding>, AllocError> {
     let Ok(tokens) = lex(alloc, source) else {
         return Ok(None);
     };
-    let Some(declaration) = declaration_at(&tokens, refusal.line, refusal.column) else {
-        return Ok(None);
-    };
-    let comment = commented(alloc, source, &declaration)?;
-    if comment.is_some() {
-        return Ok(comment);
+    match fault_at(source, &tokens, refusal.line, refusal.column) {
+        Some(fault) => explained(alloc, &fault),
+        None => Ok(None),
     }
-    let arranged = misarranged(alloc, source, &declaration)?;
-    if arranged.is_some() {
-        return Ok(arranged);
-    }
-    let form = foreign(alloc, source, &declaration)?;
-    if form.is_some() {
-        return Ok(form);
-    }
-    let mix = mixed_up(alloc, source, &declaration)?;
-    if mix.is_some() {
-        return Ok(mix);
-    }
-    let token = mistaken(alloc, source, &declaration)?;
-    if token.is_some() {
-        return Ok(token);
-    }
-    unexpected(alloc, source, &declaration)
 }
 
 /// What is said of a source that has no tokens, or whose tokens spell no program. Of other refusals nothing is.
@@ -136,11 +168,20 @@ pub fn misread(
     source: &str,
     refusal: &Refusal,
 ) -> Result<Option<Finding>, AllocError> {
-    match refusal.number {
-        RefusalNumber::Lexical => no_token(alloc, source, refusal),
-        RefusalNumber::Unsupported => kept_back(alloc, source, refusal),
-        RefusalNumber::Syntax => misspelt(alloc, source, refusal),
-        RefusalNumber::Limit => great_number(alloc, source, refusal),
-        _ => Ok(None),
-    }
+    let fault = Fault {
+        source,
+        all: &[],
+        tokens: &[],
+        place: 0,
+        line: refusal.line,
+        column: refusal.column,
+    };
+    let remark = match refusal.number {
+        RefusalNumber::Syntax => return misspelt(alloc, source, refusal),
+        RefusalNumber::Lexical => no_token(&fault),
+        RefusalNumber::Unsupported => kept_back(&fault),
+        RefusalNumber::Limit => great_number(&fault),
+        _ => None,
+    };
+    said_of(alloc, &fault, remark)
 }

@@ -1,7 +1,9 @@
 //! Mixes of operators, with all the parentheses that their expression needs.
 
-use crate::declaration::{Declaration, declaration_at};
-use crate::grouping::{Mix, mix_at};
+use crate::comments::within;
+use crate::fault::{Fault, fault_at};
+use crate::grouping::mix_at;
+use crate::remark::{edit_of, said};
 use lus_faults::{Edit, Finding, bytes_at, edited};
 use lus_grammar::parse;
 use lus_syntax::{RefusalNumber, lex};
@@ -34,8 +36,8 @@ fn joined(
         .saturating_add(first.length as usize)
         .saturating_sub(start);
     Ok(Some(Edit {
-        byte: start.min(u32::MAX as usize) as u32,
-        length: length.min(u32::MAX as usize) as u32,
+        byte: within(start),
+        length: within(length),
         text: format!(in alloc; "{before}{text}{behind}")?,
     }))
 }
@@ -63,27 +65,25 @@ fn with_next(alloc: Global, text: &str, edit: &Edit) -> Result<Option<Edit>, All
     if refusal.number != RefusalNumber::Syntax {
         return Ok(None);
     }
-    let Some(declaration) = declaration_at(&tokens, refusal.line, refusal.column) else {
-        return Ok(None);
-    };
-    next_of(alloc, &changed, &declaration, edit)
+    match fault_at(&changed, &tokens, refusal.line, refusal.column) {
+        Some(fault) => next_of(alloc, &fault, edit),
+        None => Ok(None),
+    }
 }
 
 /// The change that made a text together with the one that the expression of its fault needs, if it is the same expression.
-fn next_of(
-    alloc: Global,
-    changed: &str,
-    declaration: &Declaration<'_>,
-    edit: &Edit,
-) -> Result<Option<Edit>, AllocError> {
-    let Some(found) = declaration.found() else {
+fn next_of(alloc: Global, fault: &Fault<'_>, edit: &Edit) -> Result<Option<Edit>, AllocError> {
+    let Some(found) = fault.token() else {
         return Ok(None);
     };
-    if !is_of_same(changed, edit, found.span.start.byte) {
+    if !is_of_same(fault.source, edit, found.span.start.byte) {
         return Ok(None);
     }
-    match mix_at(alloc, changed, declaration)? {
-        Some(mix) => joined(alloc, changed, edit, &mix.edit),
+    let Some(remark) = mix_at(alloc, fault)? else {
+        return Ok(None);
+    };
+    match edit_of(alloc, fault, &remark)? {
+        Some(next) => joined(alloc, fault.source, edit, &next),
         None => Ok(None),
     }
 }
@@ -101,22 +101,17 @@ fn whole(alloc: Global, text: &str, first: Edit) -> Result<Edit, AllocError> {
 }
 
 /// The text of a declaration's tokens, and where it begins.
-fn text_of<'s>(source: &'s str, declaration: &Declaration<'_>) -> Option<(u32, &'s str)> {
-    let start = declaration.tokens.first()?.span.start.byte;
-    let end = declaration.tokens.last()?.span.end().byte;
-    Some((start, bytes_at(source, start as usize, end as usize)?))
+fn text_of<'t>(fault: &Fault<'t>) -> Option<(u32, &'t str)> {
+    let start = fault.tokens.first()?.span.start.byte;
+    Some((start, fault.text_of(0, fault.tokens.len())?))
 }
 
 /// What is said where parentheses, or `and` between comparisons, make a mix of operators readable: all that its expression needs.
-pub fn mixed(
-    alloc: Global,
-    source: &str,
-    declaration: &Declaration<'_>,
-) -> Result<Option<Finding>, AllocError> {
-    let (Some(Mix { finding, edit }), Some((start, text))) = (
-        mix_at(alloc, source, declaration)?,
-        text_of(source, declaration),
-    ) else {
+pub fn mixed(alloc: Global, fault: &Fault<'_>) -> Result<Option<Finding>, AllocError> {
+    let (Some(remark), Some((start, text))) = (mix_at(alloc, fault)?, text_of(fault)) else {
+        return Ok(None);
+    };
+    let Some(edit) = edit_of(alloc, fault, &remark)? else {
         return Ok(None);
     };
     let here = Edit {
@@ -125,5 +120,5 @@ pub fn mixed(
     };
     let whole = whole(alloc, text, here)?;
     let byte = whole.byte.saturating_add(start);
-    Ok(Some(finding.with_edit(Some(Edit { byte, ..whole }))))
+    Ok(Some(said(alloc, &remark)?.with_edit(Some(Edit { byte, ..whole }))))
 }

@@ -2,209 +2,169 @@
 
 use crate::blanks::{with_missing, without};
 use crate::calls::side_by_side;
-use crate::declaration::Declaration;
-use crate::spelled::{MISSING, Spelled, is_symbol, is_word};
-use crate::trial::{Reach, reach_of, token_of};
-use lus_faults::{Finding, slice_of};
-use lus_syntax::{Symbol, Token, TokenKind, Word};
+use crate::fault::Fault;
+use crate::phrase::Phrase;
+use crate::remark::{Remark, told};
+use crate::surroundings::is_equated;
+use crate::trial::{Reach, start_of, token_of, tokens_of};
+use crate::words::{is, is_any};
+use lus_faults::slice_of;
+use lus_syntax::TokenKind;
 use std::alloc::{AllocError, Global};
+
+/// What a missing token may be, that which is missing most first.
+const MISSING: &str = "; ) tel let returns var then else : , = ( } { ->";
 
 /// How a declaration is repaired at its fault.
 #[derive(Clone, Copy)]
 enum Repair {
-    Insert(Spelled),
+    Insert(&'static str),
     Remove,
     Rename,
 }
 
+/// The repair with which most is read, and how far that is.
+#[derive(Clone, Copy)]
+struct Best {
+    repair: Option<Repair>,
+    reach: Reach,
+}
+
+impl Best {
+    /// The better one of it and another repair: the first, where they are as good.
+    fn or(self, repair: Repair, reach: Reach) -> Best {
+        if reach.is_behind(self.reach) {
+            return Best {
+                repair: Some(repair),
+                reach,
+            };
+        }
+        self
+    }
+}
+
 /// How far tokens are to be read with a repair: behind the first semicolon from the fault on, which ends what it is in.
-fn end_wanted(declaration: &Declaration<'_>) -> Reach {
-    let most = declaration.next();
-    let behind = declaration.tokens.get(declaration.fault..).unwrap_or(&[]);
-    for token in behind {
-        if is_symbol(Some(token), Symbol::Semicolon) {
-            let end = place_of(token);
+fn end_wanted(fault: &Fault<'_>) -> Reach {
+    let most = fault.next();
+    for token in fault.tokens.get(fault.place..).unwrap_or(&[]) {
+        if is(slice_of(fault.source, token.span), ";") {
+            let end = start_of(token);
             return if end.is_behind(most) { end } else { most };
         }
     }
     most
 }
 
-fn place_of(token: &Token) -> Reach {
-    Reach {
-        line: token.span.start.line,
-        column: token.span.start.column,
-    }
-}
-
 /// Whether what isn't read any more is a parenthesis or a brace that closes, which tells of a repair that breaks something else.
-fn is_broken(declaration: &Declaration<'_>, reached: Reach) -> bool {
-    for token in declaration.tokens {
-        let is_there = token.span.start.line == reached.line
-            && token.span.start.column == reached.column;
-        if is_there {
-            return is_symbol(Some(token), Symbol::Close)
-                || is_symbol(Some(token), Symbol::CloseBrace);
-        }
-    }
-    false
-}
-
-/// Whether the equation or the declaration of a fault has an equals sign before it.
-pub fn is_equated(declaration: &Declaration<'_>) -> bool {
-    for back in 1..declaration.tokens.len() {
-        let token = declaration.before(back);
-        if is_symbol(token, Symbol::Semicolon) || is_word(token, Word::Let) || token.is_none() {
-            return false;
-        }
-        if is_symbol(token, Symbol::Equal) {
-            return true;
+fn is_broken(fault: &Fault<'_>, reached: Reach) -> bool {
+    for token in fault.tokens {
+        let start = token.span.start;
+        if start.line == reached.line && start.column == reached.column {
+            return is_any(slice_of(fault.source, token.span), &[")", "}"]);
         }
     }
     false
 }
 
 /// Whether an arrow may be missing: before `pre`, or behind the label of a branch.
-fn lacks_arrow(declaration: &Declaration<'_>) -> bool {
-    let is_branch = is_symbol(declaration.before(2), Symbol::Open)
-        && (is_symbol(declaration.before(3), Symbol::Close)
-            || is_word(declaration.before(4), Word::Merge));
-    is_branch || is_word(declaration.found(), Word::Pre)
+fn lacks_arrow(fault: &Fault<'_>) -> bool {
+    let is_branch = fault.is_before(2, "(")
+        && (fault.is_before(3, ")") || fault.is_before(4, "merge"));
+    is_branch || fault.is_found("pre")
 }
 
 /// Whether a token may be missing: no second equals sign, and an arrow only where one belongs.
-fn may_lack(declaration: &Declaration<'_>, missing: Spelled) -> bool {
-    match missing.kind {
-        TokenKind::Punctuation(Symbol::Equal) => !is_equated(declaration),
-        TokenKind::Punctuation(Symbol::Arrow) => lacks_arrow(declaration),
+fn may_lack(fault: &Fault<'_>, missing: &str) -> bool {
+    match missing {
+        "=" => !is_equated(fault),
+        "->" => lacks_arrow(fault),
         _ => true,
     }
 }
 
-/// The repair with which most is read, the first of those that are as good, and how far; none that leaves what it is in unread.
-fn good_of(alloc: Global, declaration: &Declaration<'_>) -> Result<Option<Repair>, AllocError> {
-    match best_of(alloc, declaration)? {
-        Some((repair, reached)) if !is_broken(declaration, reached) => Ok(Some(repair)),
-        _ => Ok(None),
-    }
-}
-
-/// The repair with which most is read, the first of those that are as good, and how far.
-fn best_of(
-    alloc: Global,
-    declaration: &Declaration<'_>,
-) -> Result<Option<(Repair, Reach)>, AllocError> {
-    let mut best = None;
-    let mut most = end_wanted(declaration);
-    for missing in &MISSING {
-        if !may_lack(declaration, *missing) {
-            continue;
+/// The missing token with which most is read, if more is than a repair has to.
+fn best_missing(alloc: Global, fault: &Fault<'_>) -> Result<Best, AllocError> {
+    let mut best = Best {
+        repair: None,
+        reach: end_wanted(fault),
+    };
+    for token in &tokens_of(alloc, MISSING) {
+        let missing = slice_of(MISSING, token.span);
+        if may_lack(fault, missing) {
+            let others = [token_of(token.kind)];
+            let reach = fault.reach_with(alloc, fault.place, fault.place, &others)?;
+            best = best.or(Repair::Insert(missing), reach);
         }
-        let tried = declaration.spliced(alloc, 0, &[token_of(missing.kind)])?;
-        let reached = reach_of(alloc, &tried);
-        if reached.is_behind(most) {
-            best = Some((Repair::Insert(*missing), reached));
-            most = reached;
-        }
-    }
-    if declaration.found().is_none() {
-        return Ok(best);
-    }
-    let tried = declaration.spliced(alloc, 1, &[token_of(TokenKind::Identifier("name"))])?;
-    let reached = reach_of(alloc, &tried);
-    if is_keyword(declaration.found()) && reached.is_behind(most) {
-        best = Some((Repair::Rename, reached));
-        most = reached;
-    }
-    let tried = declaration.spliced(alloc, 1, &[])?;
-    let reached = reach_of(alloc, &tried);
-    if reached.is_behind(most) {
-        best = Some((Repair::Remove, reached));
     }
     Ok(best)
 }
 
-fn is_keyword(token: Option<&Token>) -> bool {
-    match token {
-        Some(token) => matches!(token.kind, TokenKind::Keyword(_)),
-        None => false,
+/// The repair with which most is read, the first of those that are as good; none that leaves what it is in unread.
+fn repair_of(alloc: Global, fault: &Fault<'_>) -> Result<Option<Repair>, AllocError> {
+    let mut best = best_missing(alloc, fault)?;
+    if let Some(found) = fault.token() {
+        let behind = fault.place.saturating_add(1);
+        if matches!(found.kind, TokenKind::Keyword(_)) {
+            let name = [token_of(TokenKind::Identifier("name"))];
+            let reach = fault.reach_with(alloc, fault.place, behind, &name)?;
+            best = best.or(Repair::Rename, reach);
+        }
+        let reach = fault.reach_with(alloc, fault.place, behind, &[])?;
+        best = best.or(Repair::Remove, reach);
+    }
+    Ok(if is_broken(fault, best.reach) {
+        None
+    } else {
+        best.repair
+    })
+}
+
+/// A sentence with words on the token of a fault.
+fn worded<'t>(
+    fault: &Fault<'t>,
+    sentence: &'static str,
+    note: &'static str,
+    first: &'t str,
+    second: &'t str,
+) -> Remark<'t> {
+    Remark {
+        sentence: Phrase::new(sentence, first, second, ""),
+        ..told(fault, "", note)
     }
 }
 
-/// What is said of a missing token.
-fn missing_token(
-    alloc: Global,
-    source: &str,
-    declaration: &Declaration<'_>,
-    missing: Spelled,
-) -> Result<Option<Finding>, AllocError> {
-    let Some(before) = declaration.before(1) else {
-        return Ok(None);
-    };
-    let text = missing.text;
-    let previous = slice_of(source, before.span);
-    let sentence = format!(in alloc; "`{text}` is missing behind `{previous}`")?;
-    let length = match declaration.found() {
-        Some(found) => found.span.length,
-        None => 1,
-    };
-    let edit = with_missing(alloc, source, missing, before, declaration.found())?;
-    Ok(Some(Finding::new(alloc, sentence, length).with_edit(Some(edit))))
-}
-
-/// What is said of a token that is too much.
-fn needless_token(
-    alloc: Global,
-    source: &str,
-    declaration: &Declaration<'_>,
-) -> Result<Option<Finding>, AllocError> {
-    let Some(found) = declaration.found() else {
-        return Ok(None);
-    };
-    let text = slice_of(source, found.span);
-    let sentence = format!(in alloc; "`{text}` is too much here")?;
-    let edit = without(alloc, source, declaration, found);
-    Ok(Some(Finding::new(alloc, sentence, found.span.length).with_edit(Some(edit))))
-}
-
-/// What is said of a word where a name belongs.
-fn taken_word(
-    alloc: Global,
-    source: &str,
-    declaration: &Declaration<'_>,
-) -> Result<Option<Finding>, AllocError> {
-    let Some(found) = declaration.found() else {
-        return Ok(None);
-    };
-    let text = slice_of(source, found.span);
-    let sentence = format!(in alloc; "`{text}` is a word of the language, and no name")?;
-    let finding = Finding::new(alloc, sentence, found.span.length);
-    Ok(Some(finding.with_note(alloc, "Choose another name, everywhere it stands.")?))
-}
-
-/// What is said where one token makes the difference: one that is missing, one too much, or a word where a name belongs.
-pub fn repaired(
-    alloc: Global,
-    source: &str,
-    declaration: &Declaration<'_>,
-) -> Result<Option<Finding>, AllocError> {
-    match good_of(alloc, declaration)? {
-        Some(Repair::Insert(missing)) => missing_token(alloc, source, declaration, missing),
-        Some(Repair::Remove) => needless(alloc, source, declaration),
-        Some(Repair::Rename) => taken_word(alloc, source, declaration),
-        None => side_by_side(alloc, source, declaration),
+/// What is said where a repair makes the difference.
+fn said_of<'t>(fault: &Fault<'t>, repair: Repair) -> Option<Remark<'t>> {
+    match repair {
+        Repair::Insert(missing) => {
+            let before = fault.token_before(1)?;
+            let sentence = "`{}` is missing behind `{}`";
+            let remark = worded(fault, sentence, "", missing, fault.before(1));
+            Some(remark.with(Some(with_missing(fault, missing, before))))
+        }
+        Repair::Remove => {
+            let found = fault.token()?;
+            let remark = worded(fault, "`{}` is too much here", "", fault.found(), "");
+            Some(remark.with(Some(without(fault, found))))
+        }
+        Repair::Rename => {
+            let sentence = "`{}` is a word of the language, and no name";
+            let note = "Choose another name, everywhere it stands.";
+            Some(worded(fault, sentence, note, fault.found(), ""))
+        }
     }
 }
 
-/// What is said of a token that is too much: an operand without an operator before it, or another one.
-fn needless(
-    alloc: Global,
-    source: &str,
-    declaration: &Declaration<'_>,
-) -> Result<Option<Finding>, AllocError> {
-    let pair = side_by_side(alloc, source, declaration)?;
-    if pair.is_some() {
-        return Ok(pair);
-    }
-    needless_token(alloc, source, declaration)
+/// What is said where one token makes the difference: one that is missing, one too much, or a word where a name belongs. Where it is
+/// too much, or none does, two operands may lack an operator between them.
+pub fn repaired<'t>(alloc: Global, fault: &Fault<'t>) -> Result<Option<Remark<'t>>, AllocError> {
+    let repair = repair_of(alloc, fault)?;
+    let beside = match repair {
+        Some(Repair::Remove) | None => side_by_side(fault),
+        _ => None,
+    };
+    Ok(match (beside, repair) {
+        (None, Some(repair)) => said_of(fault, repair),
+        (beside, _) => beside,
+    })
 }

@@ -1,129 +1,82 @@
 //! Words of the language that are spelled wrong, and so are read as names.
 
-use crate::declaration::Declaration;
-use crate::trial::{reach_of, token_of};
-use lus_faults::{Edit, Finding, are_near, slice_of};
-use lus_syntax::{Token, TokenKind, Word};
+use crate::fault::{Fault, is_name};
+use crate::phrase::Phrase;
+use crate::remark::{Remark, Text, Trust, replacing, told};
+use crate::trial::{token_of, tokens_of};
+use lus_faults::{are_near, slice_of};
+use lus_syntax::TokenKind;
 use std::alloc::{AllocError, Global};
 
 /// The words that a wrong one may be meant as.
-static WORDS: [(&str, Word); 27] = [
-    ("node", Word::Node),
-    ("function", Word::Function),
-    ("returns", Word::Returns),
-    ("var", Word::Var),
-    ("let", Word::Let),
-    ("tel", Word::Tel),
-    ("type", Word::Type),
-    ("const", Word::Const),
-    ("enum", Word::Enum),
-    ("struct", Word::Struct),
-    ("true", Word::True),
-    ("false", Word::False),
-    ("not", Word::Not),
-    ("and", Word::And),
-    ("or", Word::Or),
-    ("xor", Word::Xor),
-    ("if", Word::If),
-    ("then", Word::Then),
-    ("else", Word::Else),
-    ("div", Word::Div),
-    ("mod", Word::Mod),
-    ("pre", Word::Pre),
-    ("fby", Word::Fby),
-    ("when", Word::When),
-    ("merge", Word::Merge),
-    ("nor", Word::Nor),
-    ("int", Word::Int),
-];
+const WORDS: &str =
+    "node function returns var let tel type const enum struct true false not and or xor if then else div mod pre fby when merge nor int";
 
 /// Whether more of a declaration is read, from behind its fault on, with a word in place of one of its tokens.
 fn helps(
     alloc: Global,
-    declaration: &Declaration<'_>,
+    fault: &Fault<'_>,
     place: usize,
-    word: Word,
+    word: TokenKind<'static>,
 ) -> Result<bool, AllocError> {
-    let mut tried = Vec::new(alloc);
-    tried.extend_from_slice(declaration.tokens.get(..place).unwrap_or(&[]))?;
-    tried.push(token_of(TokenKind::Keyword(word)))?;
-    let behind = place.saturating_add(1);
-    tried.extend_from_slice(declaration.tokens.get(behind..).unwrap_or(&[]))?;
-    Ok(reach_of(alloc, &tried).is_behind(declaration.next()))
+    let others = [token_of(word)];
+    let reach = fault.reach_with(alloc, place, place.saturating_add(1), &others)?;
+    Ok(reach.is_behind(fault.next()))
 }
 
 /// The nearest word with which more is read, in place of a token.
 fn word_for(
     alloc: Global,
-    declaration: &Declaration<'_>,
+    fault: &Fault<'_>,
     place: usize,
-    text: &str,
 ) -> Result<Option<&'static str>, AllocError> {
-    let mut best: Option<(usize, &'static str)> = None;
-    for (spelled, word) in &WORDS {
-        let Some(apart) = are_near(alloc, text, *spelled)? else {
-            continue;
-        };
-        let is_nearer = match best {
-            Some((least, _)) => apart < least,
-            None => true,
-        };
-        if is_nearer && helps(alloc, declaration, place, *word)? {
-            best = Some((apart, *spelled));
+    let mut best = None;
+    let mut least = usize::MAX;
+    for token in &tokens_of(alloc, WORDS) {
+        let word = slice_of(WORDS, token.span);
+        if let Some(apart) = are_near(alloc, fault.text(place), word)? {
+            if apart < least && helps(alloc, fault, place, token.kind)? {
+                best = Some(word);
+                least = apart;
+            }
         }
     }
-    match best {
-        Some((_, word)) => Ok(Some(word)),
-        None => Ok(None),
-    }
+    Ok(best)
 }
 
 /// What is said of a name for which a word is meant, so many tokens before the fault.
-fn respelled_at(
+fn respelled_at<'t>(
     alloc: Global,
-    source: &str,
-    declaration: &Declaration<'_>,
+    fault: &Fault<'t>,
     back: usize,
-) -> Result<Option<Finding>, AllocError> {
-    let (Some(token), Some(found)) = (declaration.before(back), declaration.found()) else {
+) -> Result<Option<Remark<'t>>, AllocError> {
+    let Some(place) = fault.place.checked_sub(back) else {
         return Ok(None);
     };
-    if !is_name(token) {
+    if !is_name(fault.tokens.get(place)) || fault.token().is_none() {
         return Ok(None);
     }
-    let text = slice_of(source, token.span);
-    let place = declaration.fault.saturating_sub(back);
-    let Some(word) = word_for(alloc, declaration, place, text)? else {
+    let Some(word) = word_for(alloc, fault, place)? else {
         return Ok(None);
     };
     let sentence = if back == 0 {
-        format!(in alloc; "`{text}` is no word of the language; `{word}` is spelled nearly alike")?
+        "`{}` is no word of the language; `{}` is spelled nearly alike"
     } else {
-        format!(in alloc;
-            "`{text}` before this is read as a name; `{word}` is spelled nearly alike"
-        )?
+        "`{}` before this is read as a name; `{}` is spelled nearly alike"
     };
-    let edit = Edit {
-        byte: token.span.start.byte,
-        length: token.span.length,
-        text: String::from_str(alloc, word)?,
-    };
-    Ok(Some(Finding::new(alloc, sentence, found.span.length).with_edit(Some(edit))))
-}
-
-fn is_name(token: &Token) -> bool {
-    matches!(token.kind, TokenKind::Identifier(_))
+    let text = Text::Phrase(Phrase::of(word));
+    Ok(Some(Remark {
+        sentence: Phrase::new(sentence, fault.text(place), word, ""),
+        change: replacing(fault, place, place, text, Trust::Sure),
+        ..told(fault, "", "")
+    }))
 }
 
 /// What is said where a name is read for which a word is meant: at the fault, or right before it.
-pub fn respelled(
-    alloc: Global,
-    source: &str,
-    declaration: &Declaration<'_>,
-) -> Result<Option<Finding>, AllocError> {
-    let here = respelled_at(alloc, source, declaration, 0)?;
+pub fn respelled<'t>(alloc: Global, fault: &Fault<'t>) -> Result<Option<Remark<'t>>, AllocError> {
+    let here = respelled_at(alloc, fault, 0)?;
     if here.is_some() {
         return Ok(here);
     }
-    respelled_at(alloc, source, declaration, 1)
+    respelled_at(alloc, fault, 1)
 }

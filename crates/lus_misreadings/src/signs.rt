@@ -1,12 +1,13 @@
 //! Signs that no token begins with, by what stands round them.
 
-use crate::words::CHOICES;
-use lus_faults::{Edit, Finding, bytes_at};
-use std::alloc::{AllocError, Global};
-
-fn is_of_word(byte: u8) -> bool {
-    byte.is_ascii_alphanumeric() || byte == b'_'
-}
+use crate::comments::{is_of_word, within};
+use crate::fault::Fault;
+use crate::foreign::{CHOICES, LAST};
+use crate::lexical::Case;
+use crate::phrase::Phrase;
+use crate::remark::{Change, Remark, Text, Trust, told};
+use crate::words::{is, is_any};
+use lus_faults::bytes_at;
 
 /// The last byte of a text that is no blank.
 fn last_byte(text: &str) -> Option<u8> {
@@ -69,103 +70,56 @@ fn first_word(text: &str) -> &str {
     ""
 }
 
-/// What is said of a `'` before the name behind `last`, and of a bar between constructors.
-pub fn told_by_signs(
-    alloc: Global,
-    source: &str,
-    start: usize,
-) -> Result<Option<Finding>, AllocError> {
-    let (Some(before), Some(sign)) = (
-        bytes_at(source, 0, start),
-        source.as_bytes().get(start).copied(),
-    ) else {
-        return Ok(None);
-    };
+/// What is said of a `'` behind `last`, and of a bar between constructors or behind `of`.
+pub fn told_by_signs<'t>(fault: &Fault<'t>, start: usize) -> Option<Remark<'t>> {
+    let before = bytes_at(fault.source, 0, start)?;
+    let sign = fault.source.as_bytes().get(start).copied()?;
     let (place, word) = last_word(before);
-    if sign == b'\'' && word == "last" {
-        let sentence = String::from_str(alloc, "`last` is no word of the language")?;
-        let note =
-            "The value of the instant before is written `pre x`, with a first value: `init -> pre x`.";
-        let length = start.saturating_add(1).saturating_sub(place);
-        let edit = Edit {
-            byte: place.min(u32::MAX as usize) as u32,
-            length: length.min(u32::MAX as usize) as u32,
-            text: String::from_str(alloc, "pre ")?,
-        };
-        let finding = Finding::new(alloc, sentence, 1).with_note(alloc, note)?;
-        return Ok(Some(finding.with_edit(Some(edit))));
+    if sign == b'\'' && is(word, "last") {
+        let remark = told(fault, "`last` is no word of the language", LAST);
+        return Some(remark.with(Some(Change {
+            byte: within(place),
+            length: within(start.saturating_add(1).saturating_sub(place)),
+            text: Text::Phrase(Phrase::plain("pre ")),
+            trust: Trust::Sure,
+        })));
     }
-    if sign == b'|' && word == "of" {
-        let sentence = String::from_str(alloc, "`case` is no word of the language")?;
-        return Ok(Some(Finding::new(alloc, sentence, 1).with_note(alloc, CHOICES)?));
+    if sign == b'|' && is(word, "of") {
+        return Some(told(fault, "`case` is no word of the language", CHOICES));
     }
-    if sign == b'|' && first_word(behind_semicolon(before)) == "type" {
-        let sentence = String::from_str(alloc, "constructors stand in braces, with `,` between")?;
+    if sign == b'|' && is(first_word(behind_semicolon(before)), "type") {
         let note = "An enumeration is written `type mode = enum { Off, On };`.";
-        return Ok(Some(Finding::new(alloc, sentence, 1).with_note(alloc, note)?));
+        return Some(told(
+            fault,
+            "constructors stand in braces, with `,` between",
+            note,
+        ));
     }
-    Ok(None)
+    None
 }
 
 /// The blank between a byte of a source and one of a text, where both are of words.
-fn blank_between(first: Option<u8>, second: Option<u8>) -> &'static str {
+fn blank_between(first: Option<&u8>, second: Option<&u8>) -> &'static str {
     match (first, second) {
-        (Some(first), Some(second)) if is_of_word(first) && is_of_word(second) => " ",
+        (Some(first), Some(second)) if is_of_word(*first) && is_of_word(*second) => " ",
         _ => "",
     }
 }
 
-/// A change with blanks where its text would make one word with what stands beside it.
-fn parted(alloc: Global, source: &str, edit: Edit) -> Result<Edit, AllocError> {
-    let bytes = source.as_bytes();
-    let start = edit.byte as usize;
-    let end = start.saturating_add(edit.length as usize);
-    let text = &edit.text;
-    let before = match start.checked_sub(1) {
-        Some(place) => bytes.get(place).copied(),
-        None => None,
-    };
-    let front = blank_between(before, text.as_bytes().first().copied());
-    let rear = blank_between(text.as_bytes().last().copied(), bytes.get(end).copied());
-    Ok(Edit {
-        text: format!(in alloc; "{front}{text}{rear}")?,
-        ..edit
-    })
-}
-
-/// Whether the text of a change joins two operands.
-fn joins(edit: &Edit) -> bool {
-    let text = edit.text.as_str();
-    text == "and" || text == "or" || text == "mod"
-}
-
-/// Whether an operand ends before a byte of a source.
-fn is_behind_operand(source: &str, byte: u32) -> bool {
-    match last_byte(bytes_at(source, 0, byte as usize).unwrap_or("")) {
+/// The text that belongs in the place of a case's one at a byte: with blanks where it would make one word with what stands beside
+/// it, and none that joins two operands where no operand stands before it.
+pub fn instead_of<'t>(source: &'t str, start: usize, case: Case) -> Option<Phrase<'t>> {
+    let text = case.instead?;
+    let before = bytes_at(source, 0, start).unwrap_or("");
+    let is_behind_operand = match last_byte(before) {
         Some(last) => is_of_word(last) || last == b')',
         None => false,
-    }
-}
-
-/// A finding whose change makes no word with what stands beside it, and joins nothing where no operand stands before it.
-pub fn apart(alloc: Global, source: &str, finding: Finding) -> Result<Finding, AllocError> {
-    let Finding {
-        sentence,
-        length,
-        related,
-        note,
-        edit,
-    } = finding;
-    let changed = match edit {
-        Some(edit) if joins(&edit) && !is_behind_operand(source, edit.byte) => None,
-        Some(edit) => Some(parted(alloc, source, edit)?),
-        None => None,
     };
-    Ok(Finding {
-        sentence,
-        length,
-        related,
-        note,
-        edit: changed,
-    })
+    if is_any(text, &["and", "or", "mod"]) && !is_behind_operand {
+        return None;
+    }
+    let behind = source.as_bytes().get(start.saturating_add(case.text.len()));
+    let front = blank_between(before.as_bytes().last(), text.as_bytes().first());
+    let rear = blank_between(text.as_bytes().last(), behind);
+    Some(Phrase::new("{}{}{}", front, text, rear))
 }

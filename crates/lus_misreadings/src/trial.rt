@@ -1,8 +1,8 @@
 //! Tokens that are tried by the parser.
 
-use crate::declaration::Declaration;
+use crate::fault::Fault;
 use lus_grammar::parse;
-use lus_syntax::{Place, RefusalNumber, Span, Symbol, Token, TokenKind};
+use lus_syntax::{Place, RefusalNumber, Span, Token, TokenKind, lex};
 use std::alloc::{AllocError, Global};
 
 /// How far tokens are read: the line and the column of the first that isn't, the greatest where all are.
@@ -38,6 +38,14 @@ pub fn reach_of(alloc: Global, tokens: &[Token]) -> Reach {
     }
 }
 
+/// Where a token begins.
+pub fn start_of(token: &Token) -> Reach {
+    Reach {
+        line: token.span.start.line,
+        column: token.span.start.column,
+    }
+}
+
 /// A token that isn't in the source. A fault at it stands before all others.
 pub fn token_of(kind: TokenKind<'_>) -> Token<'_> {
     Token {
@@ -49,7 +57,15 @@ pub fn token_of(kind: TokenKind<'_>) -> Token<'_> {
     }
 }
 
-impl<'t> Declaration<'t> {
+/// The tokens that a text spells.
+pub fn tokens_of(alloc: Global, text: &str) -> Vec<Token<'_>> {
+    match lex(alloc, text) {
+        Ok(tokens) => tokens,
+        Err(_) => Vec::new(alloc),
+    }
+}
+
+impl<'t> Fault<'t> {
     /// Where its tokens aren't read.
     pub fn reached(&self) -> Reach {
         Reach {
@@ -60,12 +76,8 @@ impl<'t> Declaration<'t> {
 
     /// Where the token behind the fault begins, or the tokens end.
     pub fn next(&self) -> Reach {
-        let after = self.tokens.get(self.fault.saturating_add(1));
-        match (after, self.tokens.last()) {
-            (Some(token), _) => Reach {
-                line: token.span.start.line,
-                column: token.span.start.column,
-            },
+        match (self.token_behind(1), self.tokens.last()) {
+            (Some(token), _) => start_of(token),
             (None, Some(last)) => Reach {
                 line: last.span.end().line,
                 column: last.span.end().column,
@@ -74,49 +86,18 @@ impl<'t> Declaration<'t> {
         }
     }
 
-    /// The token that isn't read, where there is one.
-    pub fn found(&self) -> Option<&Token<'t>> {
-        self.tokens.get(self.fault)
-    }
-
-    /// The token so many before the one that isn't read.
-    pub fn before(&self, count: usize) -> Option<&Token<'t>> {
-        self.tokens.get(self.fault.checked_sub(count)?)
-    }
-
-    /// The token so many behind the one that isn't read.
-    pub fn behind(&self, count: usize) -> Option<&Token<'t>> {
-        self.tokens.get(self.fault.saturating_add(count))
-    }
-
-    /// The tokens with others in place of so many from the fault on.
-    pub fn spliced(
-        &self,
-        alloc: Global,
-        count: usize,
-        others: &[Token<'t>],
-    ) -> Result<Vec<Token<'t>>, AllocError> {
-        let end = self.fault.saturating_add(count);
-        let mut changed = Vec::new(alloc);
-        changed.extend_from_slice(self.tokens.get(..self.fault).unwrap_or(self.tokens))?;
-        changed.extend_from_slice(others)?;
-        changed.extend_from_slice(self.tokens.get(end..).unwrap_or(&[]))?;
-        Ok(changed)
-    }
-
-    /// The tokens with parentheses round some of them.
-    pub fn parenthesised(
+    /// How far its tokens are read with others in the place of those from one up to another.
+    pub fn reach_with(
         &self,
         alloc: Global,
         from: usize,
         to: usize,
-    ) -> Result<Vec<Token<'t>>, AllocError> {
-        let mut changed = Vec::new(alloc);
-        changed.extend_from_slice(self.tokens.get(..from).unwrap_or(&[]))?;
-        changed.push(token_of(TokenKind::Punctuation(Symbol::Open)))?;
-        changed.extend_from_slice(self.tokens.get(from..to).unwrap_or(&[]))?;
-        changed.push(token_of(TokenKind::Punctuation(Symbol::Close)))?;
-        changed.extend_from_slice(self.tokens.get(to..).unwrap_or(&[]))?;
-        Ok(changed)
+        others: &[Token<'t>],
+    ) -> Result<Reach, AllocError> {
+        let mut tried = Vec::new(alloc);
+        tried.extend_from_slice(self.tokens.get(..from).unwrap_or(self.tokens))?;
+        tried.extend_from_slice(others)?;
+        tried.extend_from_slice(self.tokens.get(to..).unwrap_or(&[]))?;
+        Ok(reach_of(alloc, &tried))
     }
 }

@@ -36,28 +36,87 @@ pub struct Use<'t> {
     pub role: Role,
 }
 
+/// A type's name in other languages: the type that is meant, if there is one, and what is said of it.
+#[derive(Clone, Copy)]
+struct Foreign {
+    meant: Option<&'static str>,
+    note: &'static str,
+}
+
 /// What other languages call the types.
-fn type_meant(text: &str) -> Option<&'static str> {
+fn foreign_type(text: &str) -> Option<Foreign> {
     match text {
-        "boolean" => Some("bool"),
-        "integer" => Some("int"),
+        "boolean" | "_Bool" => Some(Foreign {
+            meant: Some("bool"),
+            note: "It is called `bool`.",
+        }),
+        "integer"
+        | "int8"
+        | "int16"
+        | "int32"
+        | "int64"
+        | "uint8"
+        | "uint16"
+        | "uint32"
+        | "uint64"
+        | "byte"
+        | "short"
+        | "long"
+        | "nat" => Some(Foreign {
+            meant: Some("int"),
+            note: "All numbers have one type, `int`: whole numbers of 64 bits.",
+        }),
+        "float" | "double" | "float32" | "float64" => Some(Foreign {
+            meant: None,
+            note: "Numbers with a point are left out: write `int`, and count in hundredths.",
+        }),
+        "char" | "string" => Some(Foreign {
+            meant: None,
+            note: "There are no texts: write an enumeration, as in `type state = enum { Off, On };`.",
+        }),
         _ => None,
     }
 }
 
-/// A note on a name that other languages have.
-fn note_on(found: Use<'_>) -> Option<&'static str> {
-    let text = found.name.text.as_str();
-    if found.role == Role::Type && (text == "float" || text == "double") {
-        return Some("Numbers with a point are left out: write `int`, and count in hundredths.");
+/// What is said of a node's name that other languages have, or of any.
+fn note_on_node(text: &str) -> &'static str {
+    match text {
+        "int2real" | "real2int" => "Numbers with a point are left out, and so are conversions.",
+        "max" | "min" | "abs" => {
+            "It isn't built in: write an `if`, as in `if a < b then b else a`, or a node of this name."
+        }
+        _ => "Declare a node of this name, anywhere in the source, or spell it as it was declared.",
     }
-    if found.role == Role::Node && (text == "int2real" || text == "real2int") {
-        return Some("Numbers with a point are left out, and so are conversions.");
+}
+
+/// What is said of a name that is spelled nearly as no other.
+fn note_on(found: Use<'_>) -> &'static str {
+    match found.role {
+        Role::Value => "Declare it: as an input, as a local with an equation, or as a constant.",
+        Role::Variable =>
+            "A clock tests a variable: give a constant or an expression the name of one.",
+        Role::Constructor => "Name it in the enumeration, as in `type state = enum { Off, On };`.",
+        Role::Type =>
+            "Declare it, as in `type state = enum { Off, On };` or `type p = struct { x: int; y: bool };`.",
+        Role::Node => note_on_node(found.name.text.as_str()),
+        Role::Left => "Declare it before `let`, as in `var x: int;`, or as an output.",
     }
-    if found.role == Role::Variable {
-        return Some("A clock tests a variable: give a constant or an expression the name of one.");
-    }
-    None
+}
+
+/// What is said of a name that nothing declares, and what is written in its place.
+fn replaced(
+    alloc: Global,
+    found: Use<'_>,
+    finding: Finding,
+    note: &str,
+    meant: &str,
+) -> Result<Finding, AllocError> {
+    let edit = Edit {
+        byte: found.name.span.start.byte,
+        length: found.name.span.length,
+        text: String::from_str(alloc, meant)?,
+    };
+    Ok(finding.with_note(alloc, note)?.with_edit(Some(edit)))
 }
 
 /// What is said of a name that nothing declares, with the nearest of the names that could be meant.
@@ -66,21 +125,19 @@ pub fn unknown(alloc: Global, found: Use<'_>, names: &[&str]) -> Result<Finding,
     let role = found.role.as_str();
     let sentence = format!(in alloc; "{role} is named `{text}`")?;
     let finding = Finding::new(alloc, sentence, found.name.span.length);
-    let meant = match type_meant(text) {
-        Some(meant) if found.role == Role::Type => Some(meant),
-        _ => nearest(alloc, text, names)?,
-    };
-    if let Some(meant) = meant {
-        let edit = Edit {
-            byte: found.name.span.start.byte,
-            length: found.name.span.length,
-            text: String::from_str(alloc, meant)?,
+    if found.role == Role::Type
+        && let Some(foreign) = foreign_type(text)
+    {
+        return match foreign.meant {
+            Some(meant) => replaced(alloc, found, finding, foreign.note, meant),
+            None => finding.with_note(alloc, foreign.note),
         };
-        let note = format!(in alloc; "There is `{meant}`, which is spelled nearly alike.")?;
-        return Ok(finding.with_note(alloc, &note)?.with_edit(Some(edit)));
     }
-    match note_on(found) {
-        Some(note) => finding.with_note(alloc, note),
-        None => Ok(finding),
+    match nearest(alloc, text, names)? {
+        Some(meant) => {
+            let note = format!(in alloc; "There is `{meant}`, which is spelled nearly alike.")?;
+            replaced(alloc, found, finding, &note, meant)
+        }
+        None => finding.with_note(alloc, note_on(found)),
     }
 }

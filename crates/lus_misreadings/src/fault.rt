@@ -1,0 +1,210 @@
+//! A fault, and the tokens round it.
+
+use crate::words::{is, is_any};
+use lus_faults::{bytes_at, slice_of};
+use lus_syntax::{Token, TokenKind, Word};
+
+/// How many tokens of a declaration are looked at before a fault, and behind it.
+const MOST_BEFORE: usize = 4000;
+
+const MOST_BEHIND: usize = 400;
+
+/// A fault of a source: all tokens, those of the declaration that it stands in, and the place among these of the token that isn't
+/// read; their count where they end too early.
+#[derive(Clone, Copy)]
+pub struct Fault<'t> {
+    pub source: &'t str,
+    pub all: &'t [Token<'t>],
+    pub tokens: &'t [Token<'t>],
+    pub place: usize,
+    pub line: u32,
+    pub column: u32,
+}
+
+impl<'t> Fault<'t> {
+    /// The text of the token at a place; none where there is no token.
+    pub fn text(&self, place: usize) -> &'t str {
+        match self.tokens.get(place) {
+            Some(token) => slice_of(self.source, token.span),
+            None => "",
+        }
+    }
+
+    /// The text of the token that isn't read.
+    pub fn found(&self) -> &'t str {
+        self.text(self.place)
+    }
+
+    /// The text of the token so many before the one that isn't read.
+    pub fn before(&self, count: usize) -> &'t str {
+        match self.place.checked_sub(count) {
+            Some(place) => self.text(place),
+            None => "",
+        }
+    }
+
+    /// The text of the token so many behind the one that isn't read.
+    pub fn behind(&self, count: usize) -> &'t str {
+        self.text(self.place.saturating_add(count))
+    }
+
+    /// Whether a text stands at a place.
+    pub fn is_at(&self, place: usize, text: &str) -> bool {
+        is(self.text(place), text)
+    }
+
+    /// Whether the token that isn't read is this text.
+    pub fn is_found(&self, text: &str) -> bool {
+        is(self.found(), text)
+    }
+
+    /// Whether the token so many before the one that isn't read is this text.
+    pub fn is_before(&self, count: usize, text: &str) -> bool {
+        is(self.before(count), text)
+    }
+
+    /// Whether the token so many behind the one that isn't read is this text.
+    pub fn is_behind(&self, count: usize, text: &str) -> bool {
+        is(self.behind(count), text)
+    }
+
+    /// The token that isn't read, where there is one.
+    pub fn token(&self) -> Option<&'t Token<'t>> {
+        self.tokens.get(self.place)
+    }
+
+    /// The token so many before the one that isn't read.
+    pub fn token_before(&self, count: usize) -> Option<&'t Token<'t>> {
+        self.tokens.get(self.place.checked_sub(count)?)
+    }
+
+    /// The token so many behind the one that isn't read.
+    pub fn token_behind(&self, count: usize) -> Option<&'t Token<'t>> {
+        self.tokens.get(self.place.saturating_add(count))
+    }
+
+    /// The text from a token up to the one before another.
+    pub fn text_of(&self, from: usize, to: usize) -> Option<&'t str> {
+        let start = self.tokens.get(from)?.span.start.byte;
+        let end = self.tokens.get(to.checked_sub(1)?)?.span.end().byte;
+        bytes_at(self.source, start as usize, end as usize)
+    }
+
+    /// How many bytes of the line are marked: those of the token that isn't read.
+    pub fn length(&self) -> u32 {
+        match self.token() {
+            Some(token) => token.span.length,
+            None => 1,
+        }
+    }
+
+    /// Whether a text stands in the declaration before the fault.
+    pub fn follows(&self, text: &str) -> bool {
+        let before = self.tokens.get(..self.place).unwrap_or(&[]);
+        before
+            .iter()
+            .any(|token| is(slice_of(self.source, token.span), text))
+    }
+
+    /// Whether the declaration is that of a node or of a function.
+    pub fn is_of_node(&self) -> bool {
+        is_any(self.text(0), &["node", "function"])
+    }
+
+    /// Whether the token so many before the fault ends an equation, or is the `let` before all of them.
+    pub fn starts_equation(&self, back: usize) -> bool {
+        is_any(self.before(back), &[";", "let"]) && self.follows("let")
+    }
+}
+
+/// Whether a token is a name.
+pub fn is_name(token: Option<&Token>) -> bool {
+    match token {
+        Some(token) => matches!(token.kind, TokenKind::Identifier(_)),
+        None => false,
+    }
+}
+
+/// Whether a token is a number.
+pub fn is_number(token: Option<&Token>) -> bool {
+    match token {
+        Some(token) => matches!(token.kind, TokenKind::Number(_)),
+        None => false,
+    }
+}
+
+/// Whether a token stands right behind another, with no blank between.
+pub fn is_next(first: Option<&Token>, second: Option<&Token>) -> bool {
+    match (first, second) {
+        (Some(first), Some(second)) => first.span.end().byte == second.span.start.byte,
+        _ => false,
+    }
+}
+
+/// Whether a declaration begins with this token.
+fn opens(token: &Token) -> bool {
+    matches!(
+        token.kind,
+        TokenKind::Keyword(Word::Node | Word::Function | Word::Type | Word::Const)
+    )
+}
+
+/// The place of the first token that doesn't stand before a line and a column.
+fn place_at(tokens: &[Token], line: u32, column: u32) -> usize {
+    for (place, token) in tokens.iter().enumerate() {
+        let start = token.span.start;
+        if start.line > line || (start.line == line && start.column >= column) {
+            return place;
+        }
+    }
+    tokens.len()
+}
+
+/// The place of the last token before the fault that opens a declaration.
+fn start_before(tokens: &[Token], fault: usize) -> usize {
+    let mut start = 0;
+    for (place, token) in tokens.iter().enumerate() {
+        if place >= fault {
+            return start;
+        }
+        if opens(token) {
+            start = place;
+        }
+    }
+    start
+}
+
+/// The place of the first token behind the fault that opens a declaration, or that stands too far behind it.
+fn end_behind(tokens: &[Token], fault: usize) -> usize {
+    let most = fault.saturating_add(MOST_BEHIND);
+    for (place, token) in tokens.iter().enumerate() {
+        if place > fault && (place > most || opens(token)) {
+            return place;
+        }
+    }
+    tokens.len()
+}
+
+/// The fault of a source whose tokens aren't read at a line and a column, unless its declaration is too long to be tried.
+pub fn fault_at<'t>(
+    source: &'t str,
+    all: &'t [Token<'t>],
+    line: u32,
+    column: u32,
+) -> Option<Fault<'t>> {
+    let place = place_at(all, line, column);
+    let start = start_before(all, place);
+    let end = end_behind(all, place);
+    let before = place.saturating_sub(start);
+    if before > MOST_BEFORE {
+        return None;
+    }
+    Some(Fault {
+        source,
+        all,
+        tokens: all.get(start..end)?,
+        place: before,
+        line,
+        column,
+    })
+}
