@@ -1,24 +1,12 @@
-/* Wrong uses: each gives a status and changes nothing. Then what is right: structures, save and restore, a seat that holds the
- * machine, two seats that meet, and texts. */
+/* Wrong uses: each gives a status and changes nothing, which is looked at behind each. Then what is right: structures, save and
+ * restore, a seat that holds the machine, two seats that meet, and texts. */
 #include "lus.h"
 #include <stdio.h>
 #include <stdlib.h>
 #include <string.h>
 
-static int uses;
-static void give(lus_status got, lus_status want, const char *call) {
-    uses++;
-    if (got != want) { printf("%s gave %d, not %d\n", call, got, want); exit(1); }
-}
-#define GIVES(call, want) give(call, want, #call)
 #define MUST(call) do { lus_status s_ = (call); if (s_ != LUS_OK) { printf("line %d: %s gave %d\n", __LINE__, #call, s_); exit(1); } } while (0)
 #define IS(fact) do { if (!(fact)) { printf("line %d: not %s\n", __LINE__, #fact); exit(1); } } while (0)
-
-static const char text[] = "type pair = struct { a: int; b: bool }; type light = enum { Red, Green };\n"
-    "node counter(passed: bool) returns (count: int); let count = (0 -> pre count) + (if passed then 1 else 0); tel\n"
-    "node swap(p: pair; l: light) returns (q: pair; m: light);\n"
-    "let q = pair { a = p.a + 1; b = not p.b }; m = if l = Red then Green else Red; tel\n";
-static const char cyclic[] = "node n(x: int) returns (y: int); var a: int; let y = a; a = y; tel";
 
 /* The instance is as it was: it has so many entries, and counts on from there. */
 static void same(lus_seat *seat, uint64_t entries) {
@@ -27,17 +15,39 @@ static void same(lus_seat *seat, uint64_t entries) {
     IS(found == entries);
 }
 
+/* Behind each wrong use the counter is as it was: it has its two entries, and its seat the reply to the second. */
+static lus_seat *counter;
+static int uses;
+static void give(lus_status got, lus_status want, const char *call) {
+    lus_answer answer;
+    lus_value count;
+    uses++;
+    if (got != want) { printf("%s gave %d, not %d\n", call, got, want); exit(1); }
+    if (!counter) return;
+    same(counter, 2);
+    MUST(lus_outputs(counter, &answer, &count, 1));
+    IS(answer.kind == LUS_OUTPUTS && answer.count == 1 && count.number == 2);
+}
+#define GIVES(call, want) give(call, want, #call)
+
+static const char text[] = "type pair = struct { a: int; b: bool }; type light = enum { Red, Green };\n"
+    "node counter(passed: bool) returns (count: int); let count = (0 -> pre count) + (if passed then 1 else 0); tel\n"
+    "node swap(p: pair; l: light) returns (q: pair; m: light);\n"
+    "let q = pair { a = p.a + 1; b = not p.b }; m = if l = Red then Green else Red; tel\n";
+static const char cyclic[] = "node n(x: int) returns (y: int); var a: int; let y = a; a = y; tel";
+
 static void wrong_uses(lus_program *program, lus_seat *one) {
     lus_program other = LUS_NONE;
     lus_journal journal = LUS_NONE;
-    lus_seat two[2] = {LUS_NONE, LUS_NONE};
+    lus_seat two[2] = {LUS_NONE, LUS_NONE}, apart[2] = {LUS_NONE, LUS_NONE};
     lus_refusal refusal;
     lus_answer answer;
     lus_formal formal;
-    lus_value passed = {LUS_BOOL, 0, 1}, out;
+    lus_entry entry;
+    lus_value passed = {LUS_BOOL, 0, 1}, in, out;
     char names[16];
     uint32_t number;
-    uint64_t count;
+    uint64_t count, bytes;
     /* texts */
     GIVES(lus_compile(cyclic, sizeof cyclic - 1, &other, &refusal, names, sizeof names), LUS_REFUSED);
     printf("refused E%u line %u column %u, a cycle of %u:", refusal.number, refusal.line, refusal.column, refusal.cycle);
@@ -50,7 +60,10 @@ static void wrong_uses(lus_program *program, lus_seat *one) {
     /* names and numbers */
     GIVES(lus_node(program, "nothing", 7, &number), LUS_NO_SUCH);
     GIVES(lus_formals(program, 7, &number, &refusal.line), LUS_NO_SUCH);
+    GIVES(lus_node_name(program, 7, &bytes, names, sizeof names), LUS_NO_SUCH);
     GIVES(lus_input(program, 0, 1, &formal, 0, 0), LUS_NO_SUCH);
+    GIVES(lus_field(program, 0, 2, &formal, 0, 0), LUS_NO_SUCH);
+    GIVES(lus_constructor(program, 1, 2, &bytes, names, sizeof names), LUS_NO_SUCH);
     GIVES(lus_open(program, 7, two, 2), LUS_NO_SUCH);
     GIVES(lus_open(program, 0, two, 0), LUS_HANDLE);
     GIVES(lus_open(program, 0, one, 1), LUS_HANDLE);
@@ -62,6 +75,9 @@ static void wrong_uses(lus_program *program, lus_seat *one) {
     GIVES(lus_nodes(one, &number), LUS_HANDLE);
     GIVES(lus_entries(one, &count), LUS_HANDLE);
     GIVES(lus_release(one), LUS_HANDLE);
+    GIVES(lus_hold(program, &count), LUS_HANDLE);
+    GIVES(lus_outputs(program, &answer, &out, 1), LUS_HANDLE);
+    GIVES(lus_meet(one, program), LUS_HANDLE);
     GIVES(lus_free(&other), LUS_HANDLE);
     /* values and requests that are none */
     lus_value structure = {LUS_STRUCT, 0, 3}, two_true = {LUS_BOOL, 0, 2}, nil = {5, 0, 0}, typed = {LUS_BOOL, 1, 1};
@@ -74,12 +90,20 @@ static void wrong_uses(lus_program *program, lus_seat *one) {
     GIVES(lus_try_burst(one, 2, three, 3, &answer, &out, 1), LUS_VALUE); /* no two rows of one length */
     GIVES(lus_try_burst(one, 0, three, 3, &answer, &out, 1), LUS_VALUE);
     GIVES(lus_try_burst(one, 65536, 0, 0, &answer, &out, 1), LUS_VALUE);
+    GIVES(lus_row_text(program, &two_true, 1, names, sizeof names, &bytes), LUS_VALUE);
     /* seats that aren't all of one instance */
     MUST(lus_open(program, 0, two, 2));
     GIVES(lus_close(two, 1, &journal), LUS_SEATS);
     GIVES(lus_close(two, 2, program), LUS_HANDLE);
     GIVES(lus_meet(&two[0], one), LUS_SEATS);
     GIVES(lus_meet(&two[0], &two[0]), LUS_HANDLE);
+    MUST(lus_open(program, 0, &apart[0], 1));
+    MUST(lus_open(program, 0, &apart[1], 1));
+    GIVES(lus_close(apart, 2, &journal), LUS_SEATS);
+    for (int k = 0; k < 2; k++) {
+        same(&apart[k], 0);
+        MUST(lus_free(&apart[k]));
+    }
     same(&two[0], 0);
     same(&two[1], 0);
     MUST(lus_hold(&two[0], &count));
@@ -88,10 +112,15 @@ static void wrong_uses(lus_program *program, lus_seat *one) {
     GIVES(lus_close(two, 2, &journal), LUS_HANDLE);
     MUST(lus_release(&two[0]));
     MUST(lus_close(two, 2, &journal));
+    /* an entry, names and a handle that are none */
+    GIVES(lus_entry_at(&journal, 0, &entry, &in, 1, &out, 1), LUS_NO_SUCH);
+    GIVES(lus_entry_text(&journal, 0, "panel", 6, names, sizeof names, &bytes), LUS_NO_SUCH);
+    GIVES(lus_journal_text(&journal, "\xff", 1, "panel", 6, names, sizeof names, &bytes), LUS_TEXT);
     MUST(lus_entries(&journal, &count));
     IS(count == 0);
     MUST(lus_free(&journal));
-    printf("%d wrong uses\n", uses);
+    GIVES(lus_free(&journal), LUS_HANDLE);
+    printf("%d wrong uses, each behind which the counter is as it was\n", uses);
 }
 
 static void meetings(lus_program *program) {
@@ -192,8 +221,9 @@ int main(void) {
     MUST(lus_open(&program, 0, &one, 1));
     MUST(lus_try_step(&one, &passed, 1, &answer, &out, 1));
     MUST(lus_try_step(&one, &passed, 1, &answer, &out, 1));
+    counter = &one;
     wrong_uses(&program, &one);
-    same(&one, 2);
+    counter = 0;
     meetings(&program);
     structures(&program);
     bursts(&program);

@@ -1,5 +1,5 @@
 -- What C is told of a journal that a handle holds.
-use Rattle.std.specs.Prelude.{◌≡◌, ◌≤◌, ◌<◌, ℕ, List, Option, Some, None, length, slice_index_or}
+use Rattle.std.specs.Prelude.{◌≡◌, ◌≤◌, ℕ, List, Option, Some, None, length, slice_get}
 use Rattle.lus_requests.specs.declared.request.Entry.{Entry}
 use Rattle.lus_leaves.specs.declared.leaf.Leaf.{Leaf}
 use Rattle.lus_leaves.specs.declared.requests.EntryOut.{EntryOut}
@@ -10,8 +10,7 @@ use Rattle.lus_foreign.specs.declared.content.Content.TheVariants.{Journal as Is
 -- C is told the entry at this place, from 0
 pub record TellsEntry (entries : List Entry) (place : ℕ) (out : EntryOut) (old_inputs new_inputs old_outputs new_outputs : List Leaf) : Type 0 where
   pub entry : Entry
-  pub there : place < length entries
-  pub entry_is : entry ≡ slice_index_or entries place entry
+  pub here : slice_get entries place ≡ Some entry
   pub told : EntryIsTold entry out old_inputs new_inputs old_outputs new_outputs
 
 abbrev pub ContentTellsEntry : ContentType → ℕ → EntryOut → (old_inputs new_inputs old_outputs new_outputs : List Leaf) → Type 0
