@@ -1,5 +1,5 @@
 -- What handles hold after calls of C's.
-use Rattle.std.specs.Prelude.{◌≡◌, ◌==◌, ◌++◌, ◌∷◌, [], ℕ, List, Option, None, Some, IsTrue, reverse}
+use Rattle.std.specs.Prelude.{◌≡◌, ◌==◌, ◌++◌, ◌∷◌, [], ℕ, List, Option, Some, IsTrue, reverse}
 use Rattle.std.specs.List.{All}
 use Rattle.std.specs.Arc.{arc_value}
 use Rattle.lus_syntax.specs.Lexemes.{Text}

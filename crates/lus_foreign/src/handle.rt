@@ -1,5 +1,5 @@
 //! A box that C keeps.
-ghost use Rattle.std.specs.Prelude.{◌≡◌, true, false, Some, None, MatchOption, IsTrue};
+ghost use Rattle.std.specs.Prelude.{◌≡◌, false, Some, None, MatchOption, IsTrue};
 ghost use mathlib.Core.Logic.{◌↔◌};
 ghost use Rattle.lus_foreign.specs.Holds.{is_live, has_content};
 

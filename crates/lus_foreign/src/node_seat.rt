@@ -3,7 +3,6 @@ ghost use Rattle.std.specs.Prelude.{◌≡◌, length, Some, None, IfOk, IfErr, 
 ghost use Rattle.std.specs.Arc.{arc_value};
 ghost use Rattle.lus_shared.specs.Views.{Sees, Adds};
 ghost use Rattle.lus_shared.specs.Calls.{Counts};
-ghost use Rattle.lus_shared.specs.CodeSpecs.Codes.{program_of};
 
 use lus_requests::{Reply, Request};
 use lus_shared::lus_machine::{NodeId, Program};

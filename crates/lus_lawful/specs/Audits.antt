@@ -9,7 +9,7 @@ use Rattle.lus_live_instance.specs.MachineSpecs.Acceptance.{IsAccepted}
 use Rattle.lus_live_instance.specs.MachineSpecs.Constructors.{names_of}
 use Rattle.lus_live_instance.specs.MachineSpecs.Formals.{node_named}
 use Rattle.lus_live_instance.specs.MachineSpecs.HistorySpecs.Histories.{History}
-use Rattle.lus_replay.specs.Replays.{BeginsAsked, HasReplayed, IsItem, ReadsBack, Said, entry_said, items_text, said_line, saids_of}
+use Rattle.lus_replay.specs.Replays.{BeginsAsked, HasReplayed, IsItem, ReadsBack, Said, entry_said, said_line, saids_of}
 use Rattle.lus_replay.specs.declared.replaying.Replayed.{Replayed}
 use Rattle.lus_lawful.specs.Journals.{IsLawfulJournal, Journal, entries_of, journal_text, lawful_text, line_count, wrong_text}
 use Rattle.lus_lawful.specs.declared.auditing.Turn.{Turn}

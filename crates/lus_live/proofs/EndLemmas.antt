@@ -1,5 +1,5 @@
 -- How a live run ends, by how its parts do.
-use Rattle.std.proofs.Common.{◌≡◌, ◌∙◌, ℕ, inl, inr, refl, subst, sym, List, [], Option, Some, None, Result, Ok, Err, IfOk, OnErr}
+use Rattle.std.proofs.Common.{◌≡◌, ◌∙◌, ℕ, inl, inr, refl, subst, sym, List, [], Option, Some, Result, Ok, Err, IfOk, OnErr}
 use Rattle.lus_values.specs.Names.{Names}
 use Rattle.lus_requests.specs.declared.request.Entry.{Entry}
 use Rattle.lus_program.specs.Programs.{Program}

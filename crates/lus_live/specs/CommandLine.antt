@@ -1,5 +1,5 @@
 -- What the words of the command line ask for, by the meaning that clap's own specification gives to the command.
-use Rattle.std.specs.Prelude.{Bool, List, Option, Some, None, codes, option_map, true, false}
+use Rattle.std.specs.Prelude.{Bool, List, Option, Some, None, codes, true, false}
 use Rattle.clap.specs.Words.{App, Row, Rule, new_app, new_rule, with_rule, first_of}
 use Rattle.clap.specs.declared.builder.ArgAction.TheVariants.{SetTrue}
 use Rattle.lus_cli.specs.CommandLine.{Text, asked_of, is_true, program_rule}
