@@ -7,7 +7,7 @@ use Rattle.lus_values.specs.Values.{Value, bool, int, enum, struct, nil, Row}
 use Rattle.lus_values.specs.Lists.{item, Each}
 use Rattle.lus_values.specs.Operators.{apply}
 use Rattle.lus_program.specs.Programs.{Expression, literal, variable, operate, pre, arrow, when, merge, Operands, none, more, Node, Program}
-use Rattle.lus_streams.specs.Clocks.{Clock, Part, at, parts, operand_parts, branch_parts}
+use Rattle.lus_streams.specs.Clocks.{Clock, Part, at, branch_clock, parts, all_parts}
 use Rattle.lus_streams.specs.Streams.{Instant, instant, Called, World, row_of, entry, is_constructor, holds, is_on, at_last, with_operand, with_operands, value, values, branch, HasValue}
 use Rattle.lus_streams.proofs.Lists.{each_left, each_right, each_append}
 use Rattle.lus_classes.specs.Classes.{Atom, constant, named, Code, fixed, fetch, compute, recall, choose, select, Codes, no_code, also_code, Memory, Class}
@@ -140,7 +140,7 @@ module _ (p : Program) (f : Node) (c : Class) (cells : List Value) (flags : List
     same (literal v) (fixed u) k is h t = ap Some (sym is)
     same (variable x) (fetch y) k is h t = ap (item None r) (sym is)
     same (operate o es) (compute u ds) k is h t =
-        ap (λ i. with_operands (apply i) (runs cells flags asks ds r)) (sym is.0) ∙ ap (with_operands (apply o)) (same_all es ds k is.1 h t)
+        ap (λ i. with_operands (apply i) (runs cells flags asks ds r)) (sym is.0) ∙ ap (with_operands (apply o)) (same_all es ds k 0 is.1 h t)
     same (pre a) (recall j) k is h t = recall_is j k a is
     same (arrow a b) (choose j d later) k is h t =
         let ha = each_left Fine (parts p a k) (parts p b k) h in
@@ -151,19 +151,20 @@ module _ (p : Program) (f : Node) (c : Class) (cells : List Value) (flags : List
     same (merge x bs) (select y ds) k is h t = ap (λ z. selected cells flags asks ds z 0 r) (sym is.0) ∙ same_branch bs ds x 0 k is.1 h t
     same _ _ k is h t = absurd is
 
-    same_all : (es : Operands) (ds : Codes) (k : Clock) → AreCodes p f c es ds k → Each Fine (operand_parts p es k) → IsTrue (is_on k now)
+    same_all : (es : Operands) (ds : Codes) (k : Clock) (m : ℕ) → AreCodes p f c es ds k → Each Fine (all_parts p es (λ n. k) m) → IsTrue (is_on k now)
         → runs cells flags asks ds r ≡ values p es k now past
-    same_all none no_code k is h t = refl
-    same_all (more e es) (also_code d ds) k is h t =
-        ap₂ with_operand (same e d k is.0 (each_drop Fine 1 (parts p e k) (each_left Fine (parts p e k) (operand_parts p es k) h)) t) (same_all es ds k is.1 (each_right Fine (parts p e k) (operand_parts p es k) h) t)
-    same_all _ _ k is h t = absurd is
+    same_all none no_code k m is h t = refl
+    same_all (more e es) (also_code d ds) k m is h t =
+        let rest = all_parts p es (λ n. k) (suc m) in
+        ap₂ with_operand (same e d k is.0 (each_drop Fine 1 (parts p e k) (each_left Fine (parts p e k) rest h)) t) (same_all es ds k (suc m) is.1 (each_right Fine (parts p e k) rest h) t)
+    same_all _ _ k m is h t = absurd is
 
-    same_branch : (es : Operands) (ds : Codes) (x n : ℕ) (k : Clock) → AreBranches p f c es ds x n k → Each Fine (branch_parts p es x n k) → IsTrue (is_on k now)
+    same_branch : (es : Operands) (ds : Codes) (x n : ℕ) (k : Clock) → AreBranches p f c es ds x n k → Each Fine (all_parts p es (branch_clock x k) n) → IsTrue (is_on k now)
         → selected cells flags asks ds x n r ≡ branch p es x n k now past
     same_branch none no_code x n k is h t = refl
     same_branch (more e es) (also_code d ds) x n k is h t =
-        let inner : Clock = record { variable = x; constructor = n } ∷ k in
-        let rest = branch_parts p es x (suc n) k in
+        let inner = branch_clock x k n in
+        let rest = all_parts p es (branch_clock x k) (suc n) in
         either_same (holds x n now) _ _ _ _
         (λ b. same e d inner is.0 (each_drop Fine 1 (parts p e inner) (each_left Fine (parts p e inner) rest h)) (and_from (holds x n now) (is_on k now) b t))
         (λ b. same_branch es ds x (suc n) k is.1 (each_right Fine (parts p e inner) rest h) t)
@@ -193,7 +194,7 @@ module _ (p : Program) (f : Node) (c : Class) (cells : List Value) (flags : List
       sound (literal v) (fixed u) k is s = (λ t. refl, tt)
       sound (variable x) (fetch y) k is s = (λ t. subst IsSome (same (variable x) (fetch y) k is tt t) (s t), tt)
       sound (operate o es) (compute u ds) k is s =
-          let rest = sound_all es ds k is.1 (λ t. operands_some (apply u) (runs cells flags asks ds r) (s t)) in
+          let rest = sound_all es ds k 0 is.1 (λ t. operands_some (apply u) (runs cells flags asks ds r) (s t)) in
           (λ t. subst IsSome (same (operate o es) (compute u ds) k is rest t) (s t), rest)
       sound (pre a) (recall j) k is s =
           let rest = subst (λ z. Each Fine (parts p z k)) (sym is.same) (atom_fine is.atom k is.on_clock) in
@@ -211,23 +212,23 @@ module _ (p : Program) (f : Node) (c : Class) (cells : List Value) (flags : List
           (λ t. subst IsSome (same (merge x bs) (select y ds) k is rest t) (s t), rest)
       sound _ _ k is s = absurd is
 
-      sound_all : (es : Operands) (ds : Codes) (k : Clock) → AreCodes p f c es ds k → (IsTrue (is_on k now) → IsSome (runs cells flags asks ds r))
-          → Each Fine (operand_parts p es k)
-      sound_all none no_code k is s = tt
-      sound_all (more e es) (also_code d ds) k is s =
-          each_append Fine (parts p e k) (operand_parts p es k)
+      sound_all : (es : Operands) (ds : Codes) (k : Clock) (m : ℕ) → AreCodes p f c es ds k → (IsTrue (is_on k now) → IsSome (runs cells flags asks ds r))
+          → Each Fine (all_parts p es (λ n. k) m)
+      sound_all none no_code k m is s = tt
+      sound_all (more e es) (also_code d ds) k m is s =
+          each_append Fine (parts p e k) (all_parts p es (λ n. k) (suc m))
           (sound e d k is.0 (λ t. operand_first (run cells flags asks d r) (runs cells flags asks ds r) (s t)))
-          (sound_all es ds k is.1 (λ t. operand_rest (run cells flags asks d r) (runs cells flags asks ds r) (s t)))
-      sound_all _ _ k is s = absurd is
+          (sound_all es ds k (suc m) is.1 (λ t. operand_rest (run cells flags asks d r) (runs cells flags asks ds r) (s t)))
+      sound_all _ _ k m is s = absurd is
 
       sound_branches : (es : Operands) (ds : Codes) (x n : ℕ) (k : Clock) → AreBranches p f c es ds x n k
-          → (IsTrue (is_on k now) → Taken x n ⊎ IsSome (selected cells flags asks ds x n r)) → Each Fine (branch_parts p es x n k)
+          → (IsTrue (is_on k now) → Taken x n ⊎ IsSome (selected cells flags asks ds x n r)) → Each Fine (all_parts p es (branch_clock x k) n)
       sound_branches none no_code x n k is s = tt
       sound_branches (more e es) (also_code d ds) x n k is s =
-          let inner : Clock = record { variable = x; constructor = n } ∷ k in
+          let inner = branch_clock x k n in
           let here = run cells flags asks d r in
           let others = selected cells flags asks ds x (suc n) r in
-          each_append Fine (parts p e inner) (branch_parts p es x (suc n) k)
+          each_append Fine (parts p e inner) (all_parts p es (branch_clock x k) (suc n))
           (sound e d inner is.0 (λ t. let both = and_parts (holds x n now) (is_on k now) t in branch_here x n here others both.0 (s both.1)))
           (sound_branches es ds x (suc n) k is.1 (λ t. branch_past x n here others (holds x n now) refl (s t)))
       sound_branches _ _ x n k is s = absurd is

@@ -7,7 +7,7 @@ use Rattle.lus_values.specs.Lists.{item, Each}
 use Rattle.lus_values.specs.Values.{Value, Row}
 use Rattle.lus_values.proofs.Lists.{below_all, each_found}
 use Rattle.lus_program.specs.Programs.{Expression, literal, call, Operands, none, more, Equation, Node, Program, node_at}
-use Rattle.lus_streams.specs.Clocks.{Clock, clock_of, Part, formal_clock, base_of, parts, argument_parts}
+use Rattle.lus_streams.specs.Clocks.{Clock, clock_of, Part, formal_clock, base_of, parts, all_parts}
 use Rattle.lus_streams.specs.Equations.{Definition, given_by, place_in, equation_clock, definition_in, definition_of, equation_parts}
 use Rattle.lus_streams.specs.Streams.{Instant, instant, Called, World, row_of, entry, called_at, is_on, where_on, value, definition_value, HasValue, Follows, EquationsHold}
 use Rattle.lus_streams.proofs.Lists.{each_left, each_right, each_append, each_both, below_at}
@@ -108,13 +108,13 @@ module _ (p : Program) (f : Node) (c : Class) (ok : IsClassOf p f c) (cells : Li
       presence = row_presence gives inputs
 
       arguments_fine : (es : Operands) (given : List Argument) (g : Node) (args : Operands) (base : Clock) (m : ℕ) → AreArguments p f c es given g args base m
-          → Each Fine (argument_parts p es g args base m)
+          → Each Fine (all_parts p es (formal_clock g args base) m)
       arguments_fine none [] g args base m h = tt
       arguments_fine none (a ∷ given) g args base m h = absurd h
       arguments_fine (more e es) [] g args base m h = absurd h
       arguments_fine (more e es) (a ∷ given) g args base m h =
           let k = formal_clock g args base m in
-          each_append Fine (parts p e k) (argument_parts p es g args base (suc m))
+          each_append Fine (parts p e k) (all_parts p es (formal_clock g args base) (suc m))
           (subst (λ z. Each Fine (parts p z k)) (sym h.0) (atom_fine p f c cells flags asks past cells_stand flags_stand r js presence a.atom k h.2))
           (arguments_fine es given g args base (suc m) h.3)
 

@@ -3,7 +3,7 @@ use Rattle.std.proofs.Common.{◌≡◌, ℕ, suc, Bool, true, false, ◌&&◌, 
 use Rattle.lus_values.specs.Lists.{item, Each}
 use Rattle.lus_program.specs.Programs.{Expression, call, Operands, Equation, Node, Program, node_at}
 use Rattle.lus_program.specs.declared.expr.Test.{Test}
-use Rattle.lus_streams.specs.Clocks.{Clock, clock_of, base_of, parts, argument_parts}
+use Rattle.lus_streams.specs.Clocks.{Clock, clock_of, formal_clock, base_of, parts, all_parts}
 use Rattle.lus_streams.specs.Equations.{given_by, equation_clock}
 use Rattle.lus_streams.specs.OnClock.{test_of, actuals, OutputOn, DefinedOnClock, LeftOnClock, PartOnClock, RightOnClock}
 use Rattle.lus_streams.proofs.NilFree.{and_left, and_right, and_true}
@@ -55,15 +55,15 @@ module _ (p : Program) (all : (g : ℕ) → AreDeclared (node_at p g)) (f : Node
     abbrev arguments_test : Bool
     arguments_test = arguments_fit p f args (node_at p g) (names_in (actuals args [])) base 0
 
-    arguments_are : arguments_test ≡ true → Each (PartOnClock p f) (argument_parts p args (node_at p g) args (base_of (node_at p g) (clock_of f (item 0 xs 0))) 0)
+    arguments_are : arguments_test ≡ true → Each (PartOnClock p f) (all_parts p args (formal_clock (node_at p g) args (base_of (node_at p g) (clock_of f (item 0 xs 0)))) 0)
     arguments_are h =
         let fit = subst (λ es. arguments_fit p f args (node_at p g) (names_in es) base 0 ≡ true) (actuals_none p all f declared args) h in
-        subst (λ k. Each (PartOnClock p f) (argument_parts p args (node_at p g) args k 0)) base_clock
+        subst (λ k. Each (PartOnClock p f) (all_parts p args (formal_clock (node_at p g) args k) 0)) base_clock
         (arguments_fit_is p all f declared args (node_at p g) args base 0 (formal_is f declared args (node_at p g) (all g) base (names_fit p all f declared (node_at p g) args base fit)) fit)
 
-    are_arguments : Each (PartOnClock p f) (argument_parts p args (node_at p g) args (base_of (node_at p g) (clock_of f (item 0 xs 0))) 0) → arguments_test ≡ true
+    are_arguments : Each (PartOnClock p f) (all_parts p args (formal_clock (node_at p g) args (base_of (node_at p g) (clock_of f (item 0 xs 0)))) 0) → arguments_test ≡ true
     are_arguments h =
-        let inner = subst (λ k. Each (PartOnClock p f) (argument_parts p args (node_at p g) args k 0)) (sym base_clock) h in
+        let inner = subst (λ k. Each (PartOnClock p f) (all_parts p args (formal_clock (node_at p g) args k) 0)) (sym base_clock) h in
         subst (λ es. arguments_fit p f args (node_at p g) (names_in es) base 0 ≡ true) (sym (actuals_none p all f declared args))
         (arguments_fitting p all f declared args (node_at p g) args base 0 (formal_is f declared args (node_at p g) (all g) base (names_on p all f declared (node_at p g) args base inner)) inner)
 

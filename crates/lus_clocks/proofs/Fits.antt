@@ -3,7 +3,7 @@ use Rattle.std.proofs.Common.{◌≡◌, ℕ, zero, suc, ◌+◌, true, List, []
 use Rattle.lus_values.specs.Lists.{Each}
 use Rattle.lus_program.specs.declared.expr.Test.{Test}
 use Rattle.lus_program.specs.Programs.{Expression, literal, variable, operate, pre, arrow, when, merge, call, Operands, none, more, Node, Program, node_at}
-use Rattle.lus_streams.specs.Clocks.{Clock, clock_of, Part, operand, formal_clock, base_of, parts, operand_parts, branch_parts, argument_parts}
+use Rattle.lus_streams.specs.Clocks.{Clock, clock_of, Part, operand, formal_clock, base_of, branch_clock, parts, all_parts}
 use Rattle.lus_streams.specs.OnClock.{test_of, actuals, OutputOn, PartOnClock}
 use Rattle.lus_streams.proofs.Lists.{each_left, each_right, each_append}
 use Rattle.lus_streams.proofs.NilFree.{and_left, and_right, and_true}
@@ -76,7 +76,7 @@ module _ (p : Program) (all : (g : ℕ) → AreDeclared (node_at p g)) (f : Node
     formal_on m = formal_clock g args (clock_from f base) m
 
     abbrev arguments_on : Operands → ℕ → List Part
-    arguments_on es m = argument_parts p es g args (clock_from f base) m
+    arguments_on es m = all_parts p es formal_on m
 
     named_on : (es : Operands) (m i y : ℕ) → name_of (operand es i) ≡ Some y → Each On (arguments_on es m) → clock_of f y ≡ formal_on (m + i)
     named_on none m i y n h = absurd (none_some n)
@@ -103,7 +103,7 @@ module _ (p : Program) (all : (g : ℕ) → AreDeclared (node_at p g)) (f : Node
     pub fits_is : (e : Expression) (o : Option Test) → fits p f e o ≡ true → Each On (parts p e (clock_from f o))
     fits_is (literal v) o h = (tt, tt)
     fits_is (variable x) o h = (on_test f declared x o h, tt)
-    fits_is (operate q es) o h = (tt, operands_fit_is es o h)
+    fits_is (operate q es) o h = (tt, operands_fit_is es o 0 h)
     fits_is (pre a) o h = (tt, fits_is a o h)
     fits_is (arrow a b) o h =
         let k = clock_from f o in
@@ -122,34 +122,33 @@ module _ (p : Program) (all : (g : ℕ) → AreDeclared (node_at p g)) (f : Node
         let out = output_is g args [] 0 base o (and_left output arguments h) in
         let fit = subst (λ es. arguments_fit p f args (node_at p g) (names_in es) base 0 ≡ true) (actuals_none args) (and_right output arguments h) in
         let inner = arguments_fit_is args (node_at p g) args base 0 (formal_is f declared args (node_at p g) (all g) base (names_fit (node_at p g) args base fit)) fit in
-        (subst (λ k. OutputOn (node_at p g) 0 args [] k (clock_from f o)) (base_is g o) out, subst (λ k. Each On (argument_parts p args (node_at p g) args k 0)) (base_is g o) inner)
+        (subst (λ k. OutputOn (node_at p g) 0 args [] k (clock_from f o)) (base_is g o) out, subst (λ k. Each On (all_parts p args (formal_clock (node_at p g) args k) 0)) (base_is g o) inner)
 
-    operands_fit_is : (es : Operands) (o : Option Test) → operands_fit p f es o ≡ true → Each On (operand_parts p es (clock_from f o))
-    operands_fit_is none o h = tt
-    operands_fit_is (more e es) o h =
+    operands_fit_is : (es : Operands) (o : Option Test) (m : ℕ) → operands_fit p f es o ≡ true → Each On (all_parts p es (λ n. clock_from f o) m)
+    operands_fit_is none o m h = tt
+    operands_fit_is (more e es) o m h =
         let k = clock_from f o in
-        each_append On (parts p e k) (operand_parts p es k) (fits_is e o (and_left (fits p f e o) (operands_fit p f es o) h)) (operands_fit_is es o (and_right (fits p f e o) (operands_fit p f es o) h))
+        each_append On (parts p e k) (all_parts p es (λ n. k) (suc m)) (fits_is e o (and_left (fits p f e o) (operands_fit p f es o) h)) (operands_fit_is es o (suc m) (and_right (fits p f e o) (operands_fit p f es o) h))
 
-    branches_fit_is : (es : Operands) (x c : ℕ) (k : Clock) → clock_of f x ≡ k → branches_fit p f es x c ≡ true → Each On (branch_parts p es x c k)
+    branches_fit_is : (es : Operands) (x c : ℕ) (k : Clock) → clock_of f x ≡ k → branches_fit p f es x c ≡ true → Each On (all_parts p es (branch_clock x k) c)
     branches_fit_is none x c k e h = tt
     branches_fit_is (more b bs) x c k e h =
-        let k' : Clock = record { variable = x; constructor = c } ∷ k in
-        let here = subst (λ l. Each On (parts p b (record { variable = x; constructor = c } ∷ l))) e (fits_is b (test_on x c) (and_left (fits p f b (test_on x c)) (branches_fit p f bs x (suc c)) h)) in
-        each_append On (parts p b k') (branch_parts p bs x (suc c) k) here (branches_fit_is bs x (suc c) k e (and_right (fits p f b (test_on x c)) (branches_fit p f bs x (suc c)) h))
+        let here = subst (λ l. Each On (parts p b (branch_clock x l c))) e (fits_is b (test_on x c) (and_left (fits p f b (test_on x c)) (branches_fit p f bs x (suc c)) h)) in
+        each_append On (parts p b (branch_clock x k c)) (all_parts p bs (branch_clock x k) (suc c)) here (branches_fit_is bs x (suc c) k e (and_right (fits p f b (test_on x c)) (branches_fit p f bs x (suc c)) h))
 
-    pub arguments_fit_is : (es : Operands) (g : Node) (args : Operands) (base : Option Test) (m : ℕ) → ((i : ℕ) → FormalIs f args g base i) → arguments_fit p f es g (names_in args) base m ≡ true → Each On (argument_parts p es g args (clock_from f base) m)
+    pub arguments_fit_is : (es : Operands) (g : Node) (args : Operands) (base : Option Test) (m : ℕ) → ((i : ℕ) → FormalIs f args g base i) → arguments_fit p f es g (names_in args) base m ≡ true → Each On (all_parts p es (formal_clock g args (clock_from f base)) m)
     arguments_fit_is none g args base m formals h = tt
     arguments_fit_is (more e es) g args base m formals h =
         let o = renamed_first (names_in args) (clock_of g m) base in
         let k = formal_clock g args (clock_from f base) m in
         let here = subst (λ l. Each On (parts p e l)) (formals m) (fits_is e o (and_left (fits p f e o) (arguments_fit p f es g (names_in args) base (suc m)) h)) in
-        each_append On (parts p e k) (argument_parts p es g args (clock_from f base) (suc m)) here (arguments_fit_is es g args base (suc m) formals (and_right (fits p f e o) (arguments_fit p f es g (names_in args) base (suc m)) h))
+        each_append On (parts p e k) (all_parts p es (formal_clock g args (clock_from f base)) (suc m)) here (arguments_fit_is es g args base (suc m) formals (and_right (fits p f e o) (arguments_fit p f es g (names_in args) base (suc m)) h))
 
   mutual
     pub is_fitting : (e : Expression) (o : Option Test) → Each On (parts p e (clock_from f o)) → fits p f e o ≡ true
     is_fitting (literal v) o h = refl
     is_fitting (variable x) o h = test_on_clock f declared x o h.0
-    is_fitting (operate q es) o h = are_fitting es o h.1
+    is_fitting (operate q es) o h = are_fitting es o 0 h.1
     is_fitting (pre a) o h = is_fitting a o h.1
     is_fitting (arrow a b) o h =
         let k = clock_from f o in
@@ -162,29 +161,31 @@ module _ (p : Program) (all : (g : ℕ) → AreDeclared (node_at p g)) (f : Node
     is_fitting (call g c args) o h =
         let base = base_test f (node_at p g) o in
         let out = is_output g args [] 0 base o (subst (λ k. OutputOn (node_at p g) 0 args [] k (clock_from f o)) (sym (base_is g o)) h.0) in
-        let inner = subst (λ k. Each On (argument_parts p args (node_at p g) args k 0)) (sym (base_is g o)) h.1 in
+        let inner = subst (λ k. Each On (all_parts p args (formal_clock (node_at p g) args k) 0)) (sym (base_is g o)) h.1 in
         let fit = arguments_fitting args (node_at p g) args base 0 (formal_is f declared args (node_at p g) (all g) base (names_on (node_at p g) args base inner)) inner in
         and_true (output_fits f (node_at p g) (names_in (actuals args [])) 0 base o) (arguments_fit p f args (node_at p g) (names_in (actuals args [])) base 0)
         out (subst (λ es. arguments_fit p f args (node_at p g) (names_in es) base 0 ≡ true) (sym (actuals_none args)) fit)
 
-    are_fitting : (es : Operands) (o : Option Test) → Each On (operand_parts p es (clock_from f o)) → operands_fit p f es o ≡ true
-    are_fitting none o h = refl
-    are_fitting (more e es) o h =
+    are_fitting : (es : Operands) (o : Option Test) (m : ℕ) → Each On (all_parts p es (λ n. clock_from f o) m) → operands_fit p f es o ≡ true
+    are_fitting none o m h = refl
+    are_fitting (more e es) o m h =
         let k = clock_from f o in
-        and_true (fits p f e o) (operands_fit p f es o) (is_fitting e o (each_left On (parts p e k) (operand_parts p es k) h)) (are_fitting es o (each_right On (parts p e k) (operand_parts p es k) h))
+        let rest = all_parts p es (λ n. k) (suc m) in
+        and_true (fits p f e o) (operands_fit p f es o) (is_fitting e o (each_left On (parts p e k) rest h)) (are_fitting es o (suc m) (each_right On (parts p e k) rest h))
 
-    branches_fitting : (es : Operands) (x c : ℕ) (k : Clock) → clock_of f x ≡ k → Each On (branch_parts p es x c k) → branches_fit p f es x c ≡ true
+    branches_fitting : (es : Operands) (x c : ℕ) (k : Clock) → clock_of f x ≡ k → Each On (all_parts p es (branch_clock x k) c) → branches_fit p f es x c ≡ true
     branches_fitting none x c k e h = refl
     branches_fitting (more b bs) x c k e h =
-        let k' : Clock = record { variable = x; constructor = c } ∷ k in
-        let here = subst (λ l. Each On (parts p b (record { variable = x; constructor = c } ∷ l))) (sym e) (each_left On (parts p b k') (branch_parts p bs x (suc c) k) h) in
-        and_true (fits p f b (test_on x c)) (branches_fit p f bs x (suc c)) (is_fitting b (test_on x c) here) (branches_fitting bs x (suc c) k e (each_right On (parts p b k') (branch_parts p bs x (suc c) k) h))
+        let k' = branch_clock x k c in
+        let rest = all_parts p bs (branch_clock x k) (suc c) in
+        let here = subst (λ l. Each On (parts p b (branch_clock x l c))) (sym e) (each_left On (parts p b k') rest h) in
+        and_true (fits p f b (test_on x c)) (branches_fit p f bs x (suc c)) (is_fitting b (test_on x c) here) (branches_fitting bs x (suc c) k e (each_right On (parts p b k') rest h))
 
-    pub arguments_fitting : (es : Operands) (g : Node) (args : Operands) (base : Option Test) (m : ℕ) → ((i : ℕ) → FormalIs f args g base i) → Each On (argument_parts p es g args (clock_from f base) m) → arguments_fit p f es g (names_in args) base m ≡ true
+    pub arguments_fitting : (es : Operands) (g : Node) (args : Operands) (base : Option Test) (m : ℕ) → ((i : ℕ) → FormalIs f args g base i) → Each On (all_parts p es (formal_clock g args (clock_from f base)) m) → arguments_fit p f es g (names_in args) base m ≡ true
     arguments_fitting none g args base m formals h = refl
     arguments_fitting (more e es) g args base m formals h =
         let o = renamed_first (names_in args) (clock_of g m) base in
         let k = formal_clock g args (clock_from f base) m in
-        let rest = argument_parts p es g args (clock_from f base) (suc m) in
+        let rest = all_parts p es (formal_clock g args (clock_from f base)) (suc m) in
         let here = subst (λ l. Each On (parts p e l)) (sym (formals m)) (each_left On (parts p e k) rest h) in
         and_true (fits p f e o) (arguments_fit p f es g (names_in args) base (suc m)) (is_fitting e o here) (arguments_fitting es g args base (suc m) formals (each_right On (parts p e k) rest h))

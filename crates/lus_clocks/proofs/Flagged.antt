@@ -10,7 +10,7 @@ use Rattle.lus_program.specs.declared.node.Equation.{Equation as StoredEquation}
 use Rattle.lus_program.specs.declared.node.Node.{Node as StoredNode}
 use Rattle.lus_program.specs.Programs.{Expression, literal, variable, operate, pre, arrow, when, merge, call, Operands, none, more, calls, numbered, all_numbered, Variable, Equation, Node, Program, no_variable, node_at}
 use Rattle.lus_program.specs.View.{expression_of, equations_from, node_of}
-use Rattle.lus_streams.specs.Clocks.{Clock, chain, clock_of, Part, formal_clock, base_of, parts, operand_parts, branch_parts, argument_parts}
+use Rattle.lus_streams.specs.Clocks.{Clock, chain, clock_of, Part, formal_clock, base_of, branch_clock, parts, all_parts}
 use Rattle.lus_streams.specs.Equations.{Definition, given_by, place_in, equation_clock, definition_in, definition_of, equation_parts}
 use Rattle.lus_streams.specs.Order.{is_in, clock_variables}
 use Rattle.lus_streams.specs.Flags.{flag, greatest, Required, DefinedFlag, AreFlagsOf}
@@ -38,63 +38,41 @@ module _ (p : Program) (flags : ℕ → Bool) where
     pub meets_is : (e : Expression) (k : Clock) → meets flags e ≡ true → Each R (parts p e k)
     meets_is (literal v) k h = (h, tt)
     meets_is (variable x) k h = (tt, tt)
-    meets_is (operate o es) k h = (tt, operands_are es k h)
+    meets_is (operate o es) k h = (tt, all_are es (λ m. k) 0 h)
     meets_is (pre a) k h = (not_is (flag flags a) (and_left (not (flag flags a)) (meets flags a) h), meets_is a k (and_right (not (flag flags a)) (meets flags a) h))
     meets_is (arrow a b) k h = (tt, each_append R (parts p a k) (parts p b k) (meets_is a k (and_left (meets flags a) (meets flags b) h)) (meets_is b k (and_right (meets flags a) (meets flags b) h)))
     meets_is (when t a) k h = (not_is (flags t.variable) (and_left (not (flags t.variable)) (meets flags a) h), meets_is a (drop 1 k) (and_right (not (flags t.variable)) (meets flags a) h))
     meets_is (merge x bs) k h =
         let rest = and_right (not (flags x)) (not (greatest flags bs) && all_meet flags bs) h in (
           (not_is (flags x) (and_left (not (flags x)) (not (greatest flags bs) && all_meet flags bs) h), not_is (greatest flags bs) (and_left (not (greatest flags bs)) (all_meet flags bs) rest)),
-          branches_are bs x 0 k (and_right (not (greatest flags bs)) (all_meet flags bs) rest),
+          all_are bs (branch_clock x k) 0 (and_right (not (greatest flags bs)) (all_meet flags bs) rest),
         )
     meets_is (call g c args) k h =
-        (not_is (greatest flags args) (and_left (not (greatest flags args)) (all_meet flags args) h), arguments_are args (node_at p g) args (base_of (node_at p g) k) 0 (and_right (not (greatest flags args)) (all_meet flags args) h))
+        (not_is (greatest flags args) (and_left (not (greatest flags args)) (all_meet flags args) h), all_are args (formal_clock (node_at p g) args (base_of (node_at p g) k)) 0 (and_right (not (greatest flags args)) (all_meet flags args) h))
 
-    operands_are : (es : Operands) (k : Clock) → all_meet flags es ≡ true → Each R (operand_parts p es k)
-    operands_are none k h = tt
-    operands_are (more e es) k h = each_append R (parts p e k) (operand_parts p es k) (meets_is e k (and_left (meets flags e) (all_meet flags es) h)) (operands_are es k (and_right (meets flags e) (all_meet flags es) h))
-
-    branches_are : (es : Operands) (x c : ℕ) (k : Clock) → all_meet flags es ≡ true → Each R (branch_parts p es x c k)
-    branches_are none x c k h = tt
-    branches_are (more e es) x c k h =
-        let k' : Clock = record { variable = x; constructor = c } ∷ k in
-        each_append R (parts p e k') (branch_parts p es x (suc c) k) (meets_is e k' (and_left (meets flags e) (all_meet flags es) h)) (branches_are es x (suc c) k (and_right (meets flags e) (all_meet flags es) h))
-
-    arguments_are : (es : Operands) (g : Node) (args : Operands) (base : Clock) (m : ℕ) → all_meet flags es ≡ true → Each R (argument_parts p es g args base m)
-    arguments_are none g args base m h = tt
-    arguments_are (more e es) g args base m h =
-        let k = formal_clock g args base m in
-        each_append R (parts p e k) (argument_parts p es g args base (suc m)) (meets_is e k (and_left (meets flags e) (all_meet flags es) h)) (arguments_are es g args base (suc m) (and_right (meets flags e) (all_meet flags es) h))
+    all_are : (es : Operands) (ks : ℕ → Clock) (m : ℕ) → all_meet flags es ≡ true → Each R (all_parts p es ks m)
+    all_are none ks m h = tt
+    all_are (more e es) ks m h =
+        each_append R (parts p e (ks m)) (all_parts p es ks (suc m)) (meets_is e (ks m) (and_left (meets flags e) (all_meet flags es) h)) (all_are es ks (suc m) (and_right (meets flags e) (all_meet flags es) h))
 
   mutual
     pub is_met : (e : Expression) (k : Clock) → Each R (parts p e k) → meets flags e ≡ true
     is_met (literal v) k h = h.0
     is_met (variable x) k h = refl
-    is_met (operate o es) k h = are_operands es k h.1
+    is_met (operate o es) k h = are_all es (λ m. k) 0 h.1
     is_met (pre a) k h = and_true (not (flag flags a)) (meets flags a) (is_not (flag flags a) h.0) (is_met a k h.1)
     is_met (arrow a b) k h = and_true (meets flags a) (meets flags b) (is_met a k (each_left R (parts p a k) (parts p b k) h.1)) (is_met b k (each_right R (parts p a k) (parts p b k) h.1))
     is_met (when t a) k h = and_true (not (flags t.variable)) (meets flags a) (is_not (flags t.variable) h.0) (is_met a (drop 1 k) h.1)
     is_met (merge x bs) k h =
         and_true (not (flags x)) (not (greatest flags bs) && all_meet flags bs) (is_not (flags x) h.0.0)
-        (and_true (not (greatest flags bs)) (all_meet flags bs) (is_not (greatest flags bs) h.0.1) (are_branches bs x 0 k h.1))
-    is_met (call g c args) k h = and_true (not (greatest flags args)) (all_meet flags args) (is_not (greatest flags args) h.0) (are_arguments args (node_at p g) args (base_of (node_at p g) k) 0 h.1)
+        (and_true (not (greatest flags bs)) (all_meet flags bs) (is_not (greatest flags bs) h.0.1) (are_all bs (branch_clock x k) 0 h.1))
+    is_met (call g c args) k h = and_true (not (greatest flags args)) (all_meet flags args) (is_not (greatest flags args) h.0) (are_all args (formal_clock (node_at p g) args (base_of (node_at p g) k)) 0 h.1)
 
-    are_operands : (es : Operands) (k : Clock) → Each R (operand_parts p es k) → all_meet flags es ≡ true
-    are_operands none k h = refl
-    are_operands (more e es) k h = and_true (meets flags e) (all_meet flags es) (is_met e k (each_left R (parts p e k) (operand_parts p es k) h)) (are_operands es k (each_right R (parts p e k) (operand_parts p es k) h))
-
-    are_branches : (es : Operands) (x c : ℕ) (k : Clock) → Each R (branch_parts p es x c k) → all_meet flags es ≡ true
-    are_branches none x c k h = refl
-    are_branches (more e es) x c k h =
-        let k' : Clock = record { variable = x; constructor = c } ∷ k in
-        and_true (meets flags e) (all_meet flags es) (is_met e k' (each_left R (parts p e k') (branch_parts p es x (suc c) k) h)) (are_branches es x (suc c) k (each_right R (parts p e k') (branch_parts p es x (suc c) k) h))
-
-    are_arguments : (es : Operands) (g : Node) (args : Operands) (base : Clock) (m : ℕ) → Each R (argument_parts p es g args base m) → all_meet flags es ≡ true
-    are_arguments none g args base m h = refl
-    are_arguments (more e es) g args base m h =
-        let k = formal_clock g args base m in
-        let rest = argument_parts p es g args base (suc m) in
-        and_true (meets flags e) (all_meet flags es) (is_met e k (each_left R (parts p e k) rest h)) (are_arguments es g args base (suc m) (each_right R (parts p e k) rest h))
+    are_all : (es : Operands) (ks : ℕ → Clock) (m : ℕ) → Each R (all_parts p es ks m) → all_meet flags es ≡ true
+    are_all none ks m h = refl
+    are_all (more e es) ks m h =
+        let rest = all_parts p es ks (suc m) in
+        and_true (meets flags e) (all_meet flags es) (is_met e (ks m) (each_left R (parts p e (ks m)) rest h)) (are_all es ks (suc m) (each_right R (parts p e (ks m)) rest h))
 
 -- numbers of calls count for nothing
 module _ (flags : ℕ → Bool) where

@@ -9,7 +9,7 @@ use Rattle.lus_program.specs.declared.types.Kind.{Kind}
 use Rattle.lus_program.specs.declared.types.Kind.TheVariants as kinds
 use Rattle.lus_program.specs.declared.expr.Test.{Test}
 use Rattle.lus_program.specs.Programs.{Expression, literal, variable, operate, pre, arrow, when, merge, call, Operands, none, more, Equation, Node, Program, node_at, empty_node}
-use Rattle.lus_streams.specs.Clocks.{Clock, Part, at, parts, operand_parts, branch_parts, argument_parts, base_of, formal_clock}
+use Rattle.lus_streams.specs.Clocks.{Clock, Part, at, formal_clock, base_of, branch_clock, parts, all_parts}
 use Rattle.lus_streams.specs.Equations.{Site, sites, sites_in, site_first, node_parts, equation_parts, equation_clock}
 use Rattle.lus_meaning.specs.Resolved.{EquationFits, NodeResolved, Resolved, kind_in, kinds_given_in}
 use Rattle.lus_resolution.proofs.Typed.{HasKind, HaveKinds, operate_typed, both_typed, when_typed, merge_typed, call_typed, more_typed, whole_call, whole_typed, fits_given}
@@ -74,7 +74,7 @@ module _ (p : Program) (f : Node) (leaves : ℕ → ℕ) (positive : (t : ℕ) �
     within_cells : (e : Expression) (k : Clock) → HasKind p f e → Within e k
     within_cells (literal v) k h = omega arith
     within_cells (variable x) k h = omega arith
-    within_cells (operate o es) k h = operands_within es k (operate_typed p f o es h)
+    within_cells (operate o es) k h = all_within es (λ m. k) 0 (operate_typed p f o es h)
     within_cells (pre a) k h =
         let one = size_positive a h in
         let rest = within_cells a k h in
@@ -86,45 +86,26 @@ module _ (p : Program) (f : Node) (leaves : ℕ → ℕ) (positive : (t : ℕ) �
         let sum = called_append p counts (parts p a k) (parts p b k) in
         omega (arith, first, later, sum)
     within_cells (when t a) k h = within_cells a _ (when_typed p f t a h).1
-    within_cells (merge x bs) k h = branches_within bs x 0 k (merge_typed p f x bs h).1
+    within_cells (merge x bs) k h = all_within bs (branch_clock x k) 0 (merge_typed p f x bs h).1
     within_cells (call g c es) k h =
         let made = call_typed p f g c es h in
-        call_within g c es k (argument_parts p es (node_at p g) es (base_of (node_at p g) k) 0) (arguments_within es (node_at p g) es (base_of (node_at p g) k) 0 (made.2.arguments, made.2.have))
+        let ks = formal_clock (node_at p g) es (base_of (node_at p g) k) in
+        call_within g c es k (all_parts p es ks 0) (all_within es ks 0 (made.2.arguments, made.2.have))
 
-    operands_within : (es : Operands) (k : Clock) → HaveKinds p f es → all_memories es + all_firsts es + called_keep p counts (operand_parts p es k) ≤ operand_cells size counts es
-    operands_within none k h = omega arith
-    operands_within (more e es) k h =
+    all_within : (es : Operands) (ks : ℕ → Clock) (m : ℕ) → HaveKinds p f es → all_memories es + all_firsts es + called_keep p counts (all_parts p es ks m) ≤ operand_cells size counts es
+    all_within none ks m h = omega arith
+    all_within (more e es) ks m h =
         let both = more_typed p f e es h in
-        let first = within_cells e k both.0 in
-        let later = operands_within es k both.1 in
-        let sum = called_append p counts (parts p e k) (operand_parts p es k) in
-        omega (arith, first, later, sum)
-
-    branches_within : (es : Operands) (x c : ℕ) (k : Clock) → HaveKinds p f es → all_memories es + all_firsts es + called_keep p counts (branch_parts p es x c k) ≤ operand_cells size counts es
-    branches_within none x c k h = omega arith
-    branches_within (more e es) x c k h =
-        let inner : Clock = record { variable = x; constructor = c } ∷ k in
-        let both = more_typed p f e es h in
-        let first = within_cells e inner both.0 in
-        let later = branches_within es x (suc c) k both.1 in
-        let sum = called_append p counts (parts p e inner) (branch_parts p es x (suc c) k) in
-        omega (arith, first, later, sum)
-
-    arguments_within : (es : Operands) (g : Node) (args : Operands) (base : Clock) (m : ℕ) → HaveKinds p f es
-        → all_memories es + all_firsts es + called_keep p counts (argument_parts p es g args base m) ≤ operand_cells size counts es
-    arguments_within none g args base m h = omega arith
-    arguments_within (more e es) g args base m h =
-        let k = formal_clock g args base m in
-        let both = more_typed p f e es h in
-        let first = within_cells e k both.0 in
-        let later = arguments_within es g args base (suc m) both.1 in
-        let sum = called_append p counts (parts p e k) (argument_parts p es g args base (suc m)) in
+        let first = within_cells e (ks m) both.0 in
+        let later = all_within es ks (suc m) both.1 in
+        let sum = called_append p counts (parts p e (ks m)) (all_parts p es ks (suc m)) in
         omega (arith, first, later, sum)
 
   right_within : (e : Expression) (k : Clock) (ks : List Kind) → kinds_given_in p f e ≡ Some ks → Within e k
   right_within (call g c es) k ks h =
       let made = whole_call p f g c es ks h in
-      call_within g c es k (argument_parts p es (node_at p g) es (base_of (node_at p g) k) 0) (arguments_within es (node_at p g) es (base_of (node_at p g) k) 0 (made.arguments, made.have))
+      let ks = formal_clock (node_at p g) es (base_of (node_at p g) k) in
+      call_within g c es k (all_parts p es ks 0) (all_within es ks 0 (made.arguments, made.have))
   right_within e k ks h = within_cells e k (whole_typed p f e ks h)
 
   equations_within : (qs : List Equation) → Each (EquationFits p f) qs

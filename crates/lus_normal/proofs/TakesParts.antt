@@ -6,7 +6,7 @@ use Rattle.lus_program.specs.declared.expr.Test.{Test}
 use Rattle.lus_program.specs.declared.node.Equation.{Equation as StoredEquation}
 use Rattle.lus_program.specs.Programs.{Expression, literal, variable, operate, pre, arrow, when, merge, call, Operands, none, more, calls, numbered, Node, Program, empty_node, node_at}
 use Rattle.lus_program.specs.View.{expression_of, equations_from}
-use Rattle.lus_streams.specs.Clocks.{Clock, clock_of, Part, at, operand, formal_clock, base_of, parts, argument_parts}
+use Rattle.lus_streams.specs.Clocks.{Clock, clock_of, Part, at, operand, formal_clock, base_of, branch_clock, parts, all_parts}
 use Rattle.lus_streams.specs.Equations.{equation_clock}
 use Rattle.lus_streams.specs.OnClock.{test_of, actuals, IsOnClocks, PartOnClock, ProgramOnClocks, RightOnClock}
 use Rattle.lus_streams.proofs.Lists.{each_item, each_left, each_right}
@@ -16,9 +16,8 @@ use Rattle.lus_clocks.proofs.CallClocks.{Named, formal_is}
 use Rattle.lus_normal_form.proofs.OneTest.{call_clock}
 use Rattle.lus_normal_form.specs.Forms.{Position, Inside, Operand, is_taken}
 use Rattle.lus_normal_form.specs.Nodes.{part_test}
-use Rattle.lus_normal_form.specs.Parts.{branch_clock, right_taken, operands_taken, taken, equations_taken}
+use Rattle.lus_normal_form.specs.Parts.{right_taken, operands_taken, taken, equations_taken}
 use Rattle.lus_normal_form.proofs.Counted.{map_append}
-use Rattle.lus_normal_form.proofs.OperandParts.{parts_on, operands_on, branches_on, arguments_on}
 use Rattle.lus_normal.specs.Forms.{Taken, branch_test, argument_test, right_takes, operands_takes, takes}
 use Rattle.lus_normal.specs.Laws.{TestsAreNewest, equations_take}
 use Rattle.lus_normal_form.specs.Ready.{Declared}
@@ -58,7 +57,7 @@ module _ (p : Program) (f : Node) (declared : Declared f) (callees : (g : ℕ) �
   abbrev right_of : (xs ys : List Part) → OnClock (xs ++ ys) → OnClock ys
   right_of = each_right (PartOnClock p f)
 
-  formals : (g : ℕ) (args : Operands) (o : Option Test) (k : Clock) → clock_from f o ≡ k → OnClock (argument_parts p args (node_at p g) args (base_of (node_at p g) k) 0)
+  formals : (g : ℕ) (args : Operands) (o : Option Test) (k : Clock) → clock_from f o ≡ k → OnClock (all_parts p args (formal_clock (node_at p g) args (base_of (node_at p g) k)) 0)
       → (m : ℕ) → clock_from f (renamed_first (names_in args) (clock_of (node_at p g) m) (base_test f (node_at p g) o)) ≡ formal_clock (node_at p g) args (base_of (node_at p g) k) m
   formals g args o k c on m =
       let called = node_at p g in
@@ -88,7 +87,7 @@ module _ (p : Program) (f : Node) (declared : Declared f) (callees : (g : ℕ) �
     right_seen : (e : Expression) (o : Option Test) (k : Clock) → clock_from f o ≡ k → RightOnClock p f (parts p e k) → seen (R e o) ≡ T e k
     right_seen (literal v) o k c on = refl
     right_seen (variable x) o k c on = refl
-    right_seen (operate op es) o k c on = operands_seen Inside es (λ m. o) (λ m. k) (λ m. c) 0 (subst OnClock (operands_on p es k 0) on.1)
+    right_seen (operate op es) o k c on = operands_seen Inside es (λ m. o) (λ m. k) (λ m. c) 0 on.1
     right_seen (pre a) o k c on = one Operand a o k c (right_seen a o k c (whole a k on.1))
     right_seen (arrow a b) o k c on =
         let left = left_of (parts p a k) (parts p b k) on.1 in
@@ -100,19 +99,18 @@ module _ (p : Program) (f : Node) (declared : Declared f) (callees : (g : ℕ) �
         one Operand a u (drop 1 k) inside (right_seen a u (drop 1 k) inside (whole a (drop 1 k) on.1))
     right_seen (merge x bs) o k c on =
         let own : (m : ℕ) → clock_from f (branch_test x m) ≡ branch_clock x k m = (λ m. ap (λ l. branch_clock x l m) on.0) in
-        operands_seen Inside bs (branch_test x) (branch_clock x k) own 0 (subst OnClock (branches_on p bs x 0 k) on.1)
+        operands_seen Inside bs (branch_test x) (branch_clock x k) own 0 on.1
     right_seen (call g n args) o k c on =
         let called = node_at p g in
         let base = base_test f called o in
         ap (λ as'. seen (operands_takes p f Operand args (argument_test called (names_in as') base) 0)) (actuals_none args)
-        ∙ operands_seen Operand args (argument_test called (names_in args) base) (formal_clock called args (base_of called k)) (formals g args o k c on) 0
-        (subst OnClock (arguments_on p args called args (base_of called k) 0) on)
+        ∙ operands_seen Operand args (argument_test called (names_in args) base) (formal_clock called args (base_of called k)) (formals g args o k c on) 0 on
 
-    operands_seen : (here : Position) (es : Operands) (os : ℕ → Option Test) (ks : ℕ → Clock) → ((m : ℕ) → clock_from f (os m) ≡ ks m) → (m : ℕ) → OnClock (parts_on p es ks m)
+    operands_seen : (here : Position) (es : Operands) (os : ℕ → Option Test) (ks : ℕ → Clock) → ((m : ℕ) → clock_from f (os m) ≡ ks m) → (m : ℕ) → OnClock (all_parts p es ks m)
         → seen (operands_takes p f here es os m) ≡ operands_taken p here es ks m
     operands_seen here none os ks cs m on = refl
     operands_seen here (more e es) os ks cs m on =
-        let rest = parts_on p es ks (suc m) in
+        let rest = all_parts p es ks (suc m) in
         first here e (os m) (ks m) (operands_takes p f here es os (suc m)) (operands_taken p here es ks (suc m)) (cs m)
         (right_seen e (os m) (ks m) (cs m) (whole e (ks m) (left_of (parts p e (ks m)) rest on))) (operands_seen here es os ks cs (suc m) (right_of (parts p e (ks m)) rest on))
 

@@ -2,12 +2,13 @@
 use Rattle.std.proofs.Common.{◌≡◌, ◌∙◌, ap, sym, subst, ℕ, suc, List, [], ◌∷◌}
 use Rattle.lus_values.specs.Lists.{Each}
 use Rattle.lus_program.specs.Programs.{Expression, literal, call, Operands, none, more, Program, node_at}
-use Rattle.lus_streams.specs.Clocks.{Clock, Part, at}
+use Rattle.lus_streams.specs.Clocks.{Clock, Part, at, formal_clock}
 use Rattle.lus_streams.specs.Equations.{Site, sites_in}
 use Rattle.lus_streams.proofs.Calls.{AtBase, OfCall, OfSite, parts_of_sites, sites_of_parts}
 use Rattle.lus_streams.proofs.Lists.{each_both, each_implies}
 use Rattle.lus_normal_form.specs.Named.{IsCalled, OutputKnown, Uses}
-use Rattle.lus_normal_form.specs.NormalForm.{AreArguments}
+use Rattle.lus_normal_form.specs.Forms.{Position, Operand}
+use Rattle.lus_normal_form.specs.NormalForm.{AreNormal}
 use Rattle.lus_normal_form.specs.NormalNodes.{AreSites}
 use Rattle.lus_normal_form.proofs.ResolvedNamed.{each_called}
 use Rattle.lus_normal_form.specs.Ready.{HasArguments, operand_size}
@@ -17,16 +18,16 @@ abbrev pub IsFit : Program → (g c : ℕ) → Operands → Clock → Type 0
 IsFit p g c args base = (operand_size args ≡ (node_at p g).inputs) × OutputKnown p g 0
 
 module _ (p : Program) (New : ℕ → Clock → Expression → Type 0) where
-  same_size : (es es' : Operands) (g : ℕ) (args args' : Operands) (base : Clock) (m : ℕ) → AreArguments p New es es' g args args' base m → operand_size es' ≡ operand_size es
-  same_size none es' g args args' base m is = ap operand_size is
-  same_size (more e es) es' g args args' base m is = ap operand_size is.2 ∙ ap suc (same_size es is.1 g args args' base (suc m) is.5)
+  same_size : (here : Position) (es es' : Operands) (ks : ℕ → Clock) (m : ℕ) → AreNormal p New here es es' ks m → operand_size es' ≡ operand_size es
+  same_size here none es' ks m is = ap operand_size is
+  same_size here (more e es) es' ks m is = ap operand_size is.2 ∙ ap suc (same_size here es is.1 ks (suc m) is.4)
 
   module _ (p' : Program) (inputs : (g : ℕ) → (node_at p' g).inputs ≡ (node_at p g).inputs) (outputs : (g : ℕ) → OutputKnown p g 0 → OutputKnown p' g 0) where
     pub sites_fit : (ss ss' : List Site) → AreSites p New ss ss' → Each (OfSite p (IsFit p)) ss → Each (OfSite p' (IsFit p')) ss'
     sites_fit [] ss' is h = subst (Each (OfSite p' (IsFit p'))) (sym is) tt
     sites_fit (s ∷ ss) ss' is h =
         subst (Each (OfSite p' (IsFit p'))) (sym is.2) (
-          (same_size s.args is.0 s.node s.args is.0 s.base 0 is.3 ∙ h.0.0 ∙ sym (inputs s.node), outputs s.node h.0.1),
+          (same_size Operand s.args is.0 (formal_clock (node_at p s.node) s.args s.base) 0 is.3.1 ∙ h.0.0 ∙ sym (inputs s.node), outputs s.node h.0.1),
           sites_fit ss is.1 is.4 h.1,
         )
 

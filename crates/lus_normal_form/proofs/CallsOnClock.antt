@@ -2,11 +2,12 @@
 use Rattle.std.proofs.Common.{◌≡◌, refl, sym, ap, ap₂, ◌∙◌, subst, ℕ, zero, suc, ◌+◌, ◌<◌, ◌≤◌, List, ◌++◌, length, arith}
 use Rattle.lus_values.specs.Lists.{Each}
 use Rattle.lus_program.specs.Programs.{Expression, variable, Operands, none, more, Program, node_at}
-use Rattle.lus_streams.specs.Clocks.{Clock, clock_of, Part, operand, renamed_clock, formal_clock}
+use Rattle.lus_streams.specs.Clocks.{Clock, clock_of, Part, operand, renamed_clock}
 use Rattle.lus_streams.specs.OnClock.{variables, actuals, IsName, NamesFormals, OutputOn}
 use Rattle.lus_streams.proofs.Lists.{each_implies, below_at}
 use Rattle.lus_values.proofs.Lists.{below_all}
-use Rattle.lus_normal_form.specs.NormalForm.{IsOperand, AreArguments}
+use Rattle.lus_normal_form.specs.Forms.{Operand, is_taken}
+use Rattle.lus_normal_form.specs.NormalForm.{Stands, IsRight, AreNormal}
 use Rattle.lus_normal_form.specs.NormalNodes.{IsNormalOf}
 use Rattle.lus_normal_form.proofs.Formals.{NamesStay, renamed_stays}
 
@@ -15,11 +16,11 @@ still_name (variable x) e' is h = subst IsName (sym (h x refl)) tt
 still_name _ e' is h = absurd is
 
 -- arguments that are names stay
-pub actuals_stay : (p : Program) (New : ℕ → Clock → Expression → Type 0) (es es' : Operands) (g : ℕ) (args args' : Operands) (base : Clock) (m : ℕ) → AreArguments p New es es' g args args' base m
+pub actuals_stay : (p : Program) (New : ℕ → Clock → Expression → Type 0) (es es' : Operands) (ks : ℕ → Clock) (m : ℕ) → AreNormal p New Operand es es' ks m
     → (xs ys : List ℕ) → NamesStay (variables xs) (variables ys) → NamesStay (actuals es xs) (actuals es' ys)
-actuals_stay p New none es' g args args' base m is xs ys h n x e = ap (λ z. operand (actuals z ys) n) is ∙ h n x e
-actuals_stay p New (more a es) es' g args args' base m is xs ys h zero x e = ap (λ z. operand (actuals z ys) zero) is.2 ∙ subst (λ z. IsOperand p New z is.0 (formal_clock (node_at p g) args base m)) e is.4
-actuals_stay p New (more a es) es' g args args' base m is xs ys h (suc n) x e = ap (λ z. operand (actuals z ys) (suc n)) is.2 ∙ actuals_stay p New es is.1 g args args' base (suc m) is.5 xs ys h n x e
+actuals_stay p New none es' ks m is xs ys h n x e = ap (λ z. operand (actuals z ys) n) is ∙ h n x e
+actuals_stay p New (more a es) es' ks m is xs ys h zero x e = ap (λ z. operand (actuals z ys) zero) is.2 ∙ subst (λ z. Stands p New (is_taken Operand z) z is.0 (ks m) (IsRight p New z is.0 (ks m))) e is.3
+actuals_stay p New (more a es) es' ks m is xs ys h (suc n) x e = ap (λ z. operand (actuals z ys) (suc n)) is.2 ∙ actuals_stay p New es is.1 ks (suc m) is.4 xs ys h n x e
 
 module _ (p p' : Program) (new_parts : ℕ → List Part) (normal : IsNormalOf p p' new_parts) (fit : (g : ℕ) → (node_at p g).inputs + (node_at p g).outputs ≤ length (node_at p g).variables) where
   -- clocks of inputs and outputs stay

@@ -1,9 +1,9 @@
 -- As many new variables stand in a normal form as parts are taken out, and those are what is taken out of the expression.
 use Rattle.std.proofs.Common.{◌≡◌, ℕ, suc, ◌+◌, Bool, true, false, cond, List, [], ◌∷◌, ◌++◌, length, map, drop, refl, ap, ◌∙◌, length-append}
 use Rattle.lus_program.specs.Programs.{Expression, literal, variable, operate, pre, arrow, when, merge, call, Operands, none, more, Program, node_at}
-use Rattle.lus_streams.specs.Clocks.{Clock, Part, at, formal_clock, base_of}
+use Rattle.lus_streams.specs.Clocks.{Clock, Part, at, formal_clock, base_of, branch_clock}
 use Rattle.lus_normal_form.specs.Forms.{Position, Inside, Operand, is_taken, right_count, operands_count, size, right_out, operands_out, out}
-use Rattle.lus_normal_form.specs.Parts.{branch_clock, right_taken, operands_taken, taken}
+use Rattle.lus_normal_form.specs.Parts.{right_taken, operands_taken, taken}
 
 -- the expression of a part
 abbrev pub part_of : Part → Expression

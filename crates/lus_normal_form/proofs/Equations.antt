@@ -15,7 +15,7 @@ use Rattle.lus_normal_form.specs.NormalForm.{StandsFor, IsRight}
 use Rattle.lus_normal_form.specs.Named.{Uses, DefinesFirst, Known, GivesOutput, DefinitionFits, AreNamed}
 use Rattle.lus_streams.proofs.Lists.{each_left, each_right, each_append, below_at}
 use Rattle.lus_normal_form.proofs.NewParts.{new_fact, new_part, new_at}
-use Rattle.lus_normal_form.proofs.Values.{Keeps, KeepsOver, on_keeps, right_value, first_value, names_call, normal_value}
+use Rattle.lus_normal_form.proofs.Values.{Keeps, KeepsOver, on_keeps, first_value, plain_value, right_value}
 use Rattle.lus_normal_form.proofs.Faults.{first_part, right_to, right_from}
 
 -- what holds of each of some parts holds of each sub-expression of a part among them
@@ -131,10 +131,8 @@ module _ (p p' : Program) (new_parts : ℕ → List Part) (named : AreNamed p) (
     definition_same x (Some (given_by (call g c args) n xs k)) d' is u fits t =
         l.outputs g c n fits ∙ ap (λ z. definition_value p' (Some (given_by z n xs k)) i' w') (sym is.2.1) ∙ ap (λ z. definition_value p' z i' w') (sym is.1)
     definition_same x (Some (given_by e n xs k)) d' is u fits t =
-        right_value p p' (Known node) (GivesOutput p node) New e is.0 n xs xs k i i' w w' is.2
-        (λ g c args eq. subst (λ z. DefinitionFits p node x (Some (given_by z n xs k))) eq fits)
-        l
-        (λ is_normal. normal_value p p' (Known node) (GivesOutput p node) New e is.0 k is_normal u i i' w w' l over (subst (λ z. IsTrue (is_on z i)) fits t))
+        right_value p p' (Known node) (GivesOutput p node) New e is.0 k is.2 u i i' w w' l over (subst (λ z. IsTrue (is_on z i)) fits t)
+        ∙ sym (plain_value p p' (Known node) (GivesOutput p node) New e is.0 n xs k i' w' tt is.2)
         ∙ ap (λ z. definition_value p' z i' w') (sym is.1)
 
     old_value : (x : ℕ) → x < length node.variables → IsTrue (is_on (clock_of node x) i) → definition_value p (definition_of node x) i w ≡ definition_value p' (definition_of node' x) i' w'
@@ -144,10 +142,8 @@ module _ (p p' : Program) (new_parts : ℕ → List Part) (named : AreNamed p) (
 
     new_value : (y : ℕ) (k : Clock) (a : Expression) → New y k a → IsTrue (is_on k i) → (e' : Expression) (xs : List ℕ) → IsRight p New a e' k → value p a k i w ≡ definition_value p' (Some (given_by e' 0 xs k)) i' w'
     new_value y k a s t e' xs r =
-        let u = new_uses y k a s in
-        sym (first_value p p' (Known node) (GivesOutput p node) New a [] k i w)
-        ∙ right_value p p' (Known node) (GivesOutput p node) New a e' 0 xs [] k i i' w w' r (names_call p p' (Known node) (GivesOutput p node) New a k u) l
-        (λ is_normal. normal_value p p' (Known node) (GivesOutput p node) New a e' k is_normal u i i' w w' l over t)
+        right_value p p' (Known node) (GivesOutput p node) New a e' k r (new_uses y k a s) i i' w w' l over t
+        ∙ sym (first_value p p' (Known node) (GivesOutput p node) New e' xs k i' w')
 
     old_to : (x : ℕ) → x < length node.variables → Follows p node i w x → Follows p' node' i' w' x
     old_to x lt h =
@@ -186,7 +182,7 @@ module _ (p p' : Program) (new_parts : ℕ → List Part) (named : AreNamed p) (
 
       definition_to : (d d' : Option Definition) → IsDefinition p New d d' → RightParts p Used d → RightParts p Valued d → RightParts p' NormalValued d'
       definition_to None d' is u h = subst (RightParts p' NormalValued) (sym is) tt
-      definition_to (Some (given_by e n xs k)) d' is u h = subst (RightParts p' NormalValued) (sym is.1) (right_to p p' (Known node) (GivesOutput p node) New bases formals i i' w w' l over e is.0 k is.2 u h)
+      definition_to (Some (given_by e n xs k)) d' is u h = subst (RightParts p' NormalValued) (sym is.1) (right_to p p' (Known node) (GivesOutput p node) New bases formals i i' w w' l over e is.0 k u h is.2)
 
       pub equations_to : EquationsHold p node i w → EquationsHold p' node' i' w'
       equations_to h = record {
@@ -209,7 +205,7 @@ module _ (p p' : Program) (new_parts : ℕ → List Part) (named : AreNamed p) (
 
       definition_from : EquationsHold p' node' i' w' → (d d' : Option Definition) → IsDefinition p New d d' → RightParts p Used d → RightParts p' NormalValued d' → RightParts p Valued d
       definition_from h None d' is u r = tt
-      definition_from h (Some (given_by e n xs k)) d' is u r = right_from p p' (Known node) (GivesOutput p node) New bases formals i i' w w' l over (new_valued h) e is.0 k is.2 u (subst (RightParts p' NormalValued) is.1 r)
+      definition_from h (Some (given_by e n xs k)) d' is u r = right_from p p' (Known node) (GivesOutput p node) New bases formals i i' w w' l over (new_valued h) e k u is.0 is.2 (subst (RightParts p' NormalValued) is.1 r)
 
       pub equations_from : EquationsHold p' node' i' w' → EquationsHold p node i w
       equations_from h = record {

@@ -1,9 +1,10 @@
 -- Arguments that are names stay: so the clocks of formals stay.
-use Rattle.std.proofs.Common.{◌≡◌, ℕ, zero, suc, [], ◌∷◌, ◌++◌, refl, ap, ◌∙◌}
-use Rattle.lus_program.specs.Programs.{Expression, variable, Operands, none, more, Node}
+use Rattle.std.proofs.Common.{◌≡◌, ℕ, zero, suc, ◌<◌, [], ◌∷◌, ◌++◌, refl, ap, ap₂, ◌∙◌}
+use Rattle.lus_program.specs.Programs.{Expression, variable, Operands, none, more, Node, Program, node_at}
 use Rattle.lus_values.specs.Lists.{Each}
 use Rattle.lus_streams.specs.Clocks.{Clock, clock_of, operand, renamed_clock, renamed_test, formal_clock}
 use Rattle.lus_streams.specs.OnClock.{IsName}
+use Rattle.lus_normal_form.specs.NormalForm.{AreFormals}
 
 -- as many operands, the names among them the same
 abbrev pub KeepsNames : Operands → Operands → Type 0
@@ -30,3 +31,20 @@ renamed_stays args args' h (t ∷ k) names =
 
 pub formal_stays : (g : Node) (args args' : Operands) → KeepsNames args args' → (base : Clock) (m : ℕ) → Each (λ t. IsName (operand args t.variable)) (clock_of g m) → formal_clock g args' base m ≡ formal_clock g args base m
 formal_stays g args args' h base m names = ap (λ z. z ++ base) (renamed_stays args args' (name_stays args args' h) (clock_of g m) names)
+
+-- operands from number m on have one clock by both
+abbrev pub SameClocks : Operands → (ks ks' : ℕ → Clock) → ℕ → Type 0
+SameClocks none ks ks' m = Unit {0}
+SameClocks (more e es) ks ks' m = (ks' m ≡ ks m) × SameClocks es ks ks' (suc m)
+
+pub clocks_stay : (es : Operands) (ks : ℕ → Clock) (m : ℕ) → SameClocks es ks ks m
+clocks_stay none ks m = tt
+clocks_stay (more e es) ks m = (refl, clocks_stay es ks (suc m))
+
+-- so do arguments in normal form, where the clocks of inputs stay
+module _ (p p' : Program) (formals : (g m : ℕ) → m < (node_at p g).inputs → clock_of (node_at p' g) m ≡ clock_of (node_at p g) m) where
+  pub formals_same : (g : ℕ) (args args' : Operands) (base base' : Clock) → base' ≡ base → (es : Operands) (m : ℕ) → AreFormals p es g args args' base m
+      → SameClocks es (formal_clock (node_at p g) args base) (formal_clock (node_at p' g) args' base') m
+  formals_same g args args' base base' same none m h = tt
+  formals_same g args args' base base' same (more e es) m h =
+      (ap₂ (λ z b. renamed_clock args' z ++ b) (formals g m h.0.0) same ∙ h.0.1, formals_same g args args' base base' same es (suc m) h.1)

@@ -10,7 +10,7 @@ use Rattle.lus_values.specs.Lists.{Each, Below}
 use Rattle.lus_program.specs.declared.expr.Test.{Test}
 use Rattle.lus_program.specs.declared.types.Kind.{Kind}
 use Rattle.lus_program.specs.Programs.{Expression, literal, variable, operate, pre, arrow, when, merge, call, Operands, none, more, Equation, Node, Program, Variable, empty_node, no_variable, node_at}
-use Rattle.lus_streams.specs.Clocks.{Clock, clock_of, Part, at, operand, formal_clock, base_of, parts, operand_parts, branch_parts, argument_parts}
+use Rattle.lus_streams.specs.Clocks.{Clock, clock_of, Part, at, operand, formal_clock, base_of, branch_clock, parts, all_parts}
 use Rattle.lus_streams.specs.Equations.{equation_clock, equation_parts, node_parts}
 use Rattle.lus_streams.specs.OnClock.{IsDeclared, IsName, IsOnClocks, LeftOnClock, PartOnClock, ProgramOnClocks, RightOnClock, actuals, test_of}
 use Rattle.lus_streams.proofs.Lists.{each_append, each_both, each_implies, each_item, each_left, each_right, item_past}
@@ -23,7 +23,6 @@ use Rattle.lus_resolution.proofs.Options.{and_then_gives, map_gives, where_true_
 use Rattle.lus_resolution.proofs.Typed.{HasKind, HaveKinds, IsCall, operate_typed, both_typed, when_typed, merge_typed, call_typed, more_typed, whole_call, whole_typed, fits_given}
 use Rattle.lus_normal_form.specs.Laws.{IsChain}
 use Rattle.lus_normal_form.specs.Computed.{HaveFormals, HasFormals}
-use Rattle.lus_normal_form.specs.Ready.{Declared, HasArguments, operand_size}
 use Rattle.lus_normal_form.specs.Ready.{Declared, HasArguments, operand_size}
 
 -- what holds of each item holds of the one at a place
@@ -64,37 +63,25 @@ module _ (p : Program) (resolved : Each (NodeResolved p) p.nodes) where
       typed_parts : (e : Expression) (k : Clock) → HasKind p f e → Each Has (parts p e k)
       typed_parts (literal v) k h = (tt, tt)
       typed_parts (variable x) k h = (tt, tt)
-      typed_parts (operate o es) k h = (tt, typed_operands es k (operate_typed p f o es h))
+      typed_parts (operate o es) k h = (tt, all_typed_parts es (λ m. k) 0 (operate_typed p f o es h))
       typed_parts (pre a) k h = (tt, typed_parts a k h)
       typed_parts (arrow a b) k h = let both = both_typed p f a b h in (tt, each_append Has (parts p a k) (parts p b k) (typed_parts a k both.0) (typed_parts b k both.1))
       typed_parts (when t a) k h = let given = when_typed p f t a h in (tt, typed_parts a (drop 1 k) given.1)
-      typed_parts (merge x bs) k h = let given = merge_typed p f x bs h in (tt, typed_branches bs x 0 k given.1)
+      typed_parts (merge x bs) k h = let given = merge_typed p f x bs h in (tt, all_typed_parts bs (branch_clock x k) 0 given.1)
       typed_parts (call g c args) k h =
           let made = call_typed p f g c args h in
-          (call_sized g args made.0 made.2, typed_arguments args (node_at p g) args (base_of (node_at p g) k) 0 (made.2.arguments, made.2.have))
+          (call_sized g args made.0 made.2, all_typed_parts args (formal_clock (node_at p g) args (base_of (node_at p g) k)) 0 (made.2.arguments, made.2.have))
 
-      typed_operands : (es : Operands) (k : Clock) → HaveKinds p f es → Each Has (operand_parts p es k)
-      typed_operands none k h = tt
-      typed_operands (more e es) k h = let both = more_typed p f e es h in each_append Has (parts p e k) (operand_parts p es k) (typed_parts e k both.0) (typed_operands es k both.1)
-
-      typed_branches : (es : Operands) (x c : ℕ) (k : Clock) → HaveKinds p f es → Each Has (branch_parts p es x c k)
-      typed_branches none x c k h = tt
-      typed_branches (more e es) x c k h =
+      all_typed_parts : (es : Operands) (ks : ℕ → Clock) (m : ℕ) → HaveKinds p f es → Each Has (all_parts p es ks m)
+      all_typed_parts none ks m h = tt
+      all_typed_parts (more e es) ks m h =
           let both = more_typed p f e es h in
-          let k' : Clock = record { variable = x; constructor = c } ∷ k in
-          each_append Has (parts p e k') (branch_parts p es x (suc c) k) (typed_parts e k' both.0) (typed_branches es x (suc c) k both.1)
-
-      typed_arguments : (es : Operands) (g : Node) (args : Operands) (base : Clock) (m : ℕ) → HaveKinds p f es → Each Has (argument_parts p es g args base m)
-      typed_arguments none g args base m h = tt
-      typed_arguments (more e es) g args base m h =
-          let both = more_typed p f e es h in
-          let k = formal_clock g args base m in
-          each_append Has (parts p e k) (argument_parts p es g args base (suc m)) (typed_parts e k both.0) (typed_arguments es g args base (suc m) both.1)
+          each_append Has (parts p e (ks m)) (all_parts p es ks (suc m)) (typed_parts e (ks m) both.0) (all_typed_parts es ks (suc m) both.1)
 
     right_parts_typed : (e : Expression) (k : Clock) (ls : List Kind) → kinds_given_in p f e ≡ Some ls → Each Has (parts p e k)
     right_parts_typed (call g c args) k ls h =
         let made = whole_call p f g c args ls h in
-        (call_sized g args ls made, typed_arguments args (node_at p g) args (base_of (node_at p g) k) 0 (made.arguments, made.have))
+        (call_sized g args ls made, all_typed_parts args (formal_clock (node_at p g) args (base_of (node_at p g) k)) 0 (made.arguments, made.have))
     right_parts_typed e k ls h = typed_parts e k (whole_typed p f e ls h)
 
     equations_typed : (qs : List Equation) → Each (EquationFits p f) qs → Each Has (equation_parts p f qs)
@@ -171,7 +158,7 @@ module _ (p : Program) (callees : (g : ℕ) → Declared (node_at p g)) (f : Nod
   right_formals : (e : Expression) (x : ℕ) (xs : List ℕ) (k : Clock) → LeftOnClock p f (record { targets = x ∷ xs; right = e }) 0 (x ∷ xs) → RightOnClock p f (parts p e k) → Each (HasArguments p) (parts p e k) → Each (HasFormals p) (parts p e k)
   right_formals (call g c args) x xs k left right has = (
     formals_from (node_at p g) (callees g) args (x ∷ xs) has.0 left.0.1 args 0 (let e = has.0 in omega (arith, e)),
-    parts_formals p f (argument_parts p args (node_at p g) args (base_of (node_at p g) k) 0) has.1 right,
+    parts_formals p f (all_parts p args (formal_clock (node_at p g) args (base_of (node_at p g) k)) 0) has.1 right,
   )
   right_formals (literal v) x xs k left right has = parts_formals p f (parts p (literal v) k) has right
   right_formals e x xs k left right has = parts_formals p f (parts p e k) has right

@@ -6,12 +6,13 @@ use Rattle.std.proofs.Math.Seq.{take-append_seam}
 use Rattle.lus_values.specs.Values.{Value, Row}
 use Rattle.lus_program.specs.Programs.{Expression, Operands, none, more, Node, Program, node_at}
 use Rattle.lus_values.specs.Lists.{item, Each}
-use Rattle.lus_streams.specs.Clocks.{Clock, clock_of, Part, at, formal_clock, parts, argument_parts}
+use Rattle.lus_streams.specs.Clocks.{Clock, clock_of, Part, at, formal_clock, parts, all_parts}
 use Rattle.lus_streams.specs.Equations.{definition_of, node_parts, Site, sites}
 use Rattle.lus_streams.specs.Streams.{Instant, instant, Called, nobody, also, World, is_present, row_of, entry, called_instant, called_world, is_constructor, is_on, where_on, value, inputs_given, definition_value, Follows, EquationsHold, IsFed, IsInstant, EachCall, Satisfies, Streams}
 use Rattle.lus_streams.specs.Order.{clock_variables}
 use Rattle.lus_normal_form.specs.NormalNodes.{EachFrom, AreSites, IsNormalOf}
-use Rattle.lus_normal_form.specs.NormalForm.{AreArguments, IsCallOf}
+use Rattle.lus_normal_form.specs.Forms.{Operand, is_taken}
+use Rattle.lus_normal_form.specs.NormalForm.{AreNormal, IsCallOf}
 use Rattle.lus_normal_form.specs.Named.{IsCalled, Known, GivesOutput, AreNamed}
 use Rattle.lus_normal_form.specs.Laws.{without, without_called, world_without, NormalKeepsWorlds}
 use Rattle.lus_streams.proofs.Lists.{each_left, each_right, each_map_drop, each_all, below_at, item_take}
@@ -19,7 +20,8 @@ use Rattle.lus_streams.proofs.Calls.{OfSite, AtBase, equation_calls, sites_of_pa
 use Rattle.lus_normal_form.proofs.NumberedCalls.{Stands, numbered_stands}
 use Rattle.lus_normal_form.proofs.NewParts.{new_fact, stands_from_place, stands_before}
 use Rattle.lus_normal_form.proofs.Values.{on_keeps}
-use Rattle.lus_normal_form.proofs.Faults.{formal_same, clock_same, operand_same, first_part}
+use Rattle.lus_normal_form.proofs.Formals.{SameClocks, formals_same}
+use Rattle.lus_normal_form.proofs.Faults.{clock_same, stands_same, first_part}
 use Rattle.lus_normal_form.proofs.Equations.{where_same, New, KeepsNow, KeepsPast, Used, Level, bases, formals, new_uses, new_defined, new_clock, equations_to, equations_from}
 
 -- what holds of each call holds of one that is called
@@ -124,7 +126,7 @@ module _ (p p' : Program) (new_parts : ℕ → List Part) (named : AreNamed p) (
 
   -- the variables that a call uses
   abbrev SiteUses : ℕ → (g c : ℕ) → Operands → Clock → Type 0
-  SiteUses f g c args base = Each (Used p p' new_parts named normal f) (argument_parts p args (node_at p g) args base 0) × GivesOutput p (node_at p f) g c 0 × Each (Known (node_at p f)) (clock_variables base)
+  SiteUses f g c args base = Each (Used p p' new_parts named normal f) (all_parts p args (formal_clock (node_at p g) args base) 0) × GivesOutput p (node_at p f) g c 0 × Each (Known (node_at p f)) (clock_variables base)
 
   site_uses : (f : ℕ) → Each (OfSite p (SiteUses f)) (sites p (node_at p f))
   site_uses f =
@@ -134,19 +136,22 @@ module _ (p p' : Program) (new_parts : ℕ → List Part) (named : AreNamed p) (
       (node_at p f) (node_at p f).equations (named f).uses)
 
   module _ (f : ℕ) (i i' : Instant) (w w' : World) (l : KeepsNow p p' new_parts named normal f i i' w w') (over : KeepsPast p p' new_parts named normal f w w') where
-    given_same : (es es' : Operands) (g : ℕ) (args args' : Operands) (base : Clock) (m : ℕ) → AreArguments p (New p p' new_parts named normal f) es es' g args args' base m
-        → Each (Used p p' new_parts named normal f) (argument_parts p es (node_at p g) args base m) → inputs_given p es (node_at p g) args base m i w ≡ inputs_given p' es' (node_at p' g) args' base m i' w'
-    given_same none es' g args args' base m is u = ap (λ z. inputs_given p' z (node_at p' g) args' base m i' w') (sym is)
-    given_same (more e es) es' g args args' base m is u =
+    abbrev Stays : Operands → ℕ → (args args' : Operands) → Clock → ℕ → Type 0
+    Stays es g args args' base m = SameClocks es (formal_clock (node_at p g) args base) (formal_clock (node_at p' g) args' base) m
+
+    given_same : (es es' : Operands) (g : ℕ) (args args' : Operands) (base : Clock) (m : ℕ) → Stays es g args args' base m → AreNormal p (New p p' new_parts named normal f) Operand es es' (formal_clock (node_at p g) args base) m
+        → Each (Used p p' new_parts named normal f) (all_parts p es (formal_clock (node_at p g) args base) m) → inputs_given p es (node_at p g) args base m i w ≡ inputs_given p' es' (node_at p' g) args' base m i' w'
+    given_same none es' g args args' base m stay is u = ap (λ z. inputs_given p' z (node_at p' g) args' base m i' w') (sym is)
+    given_same (more e es) es' g args args' base m stay is u =
         let k = formal_clock (node_at p g) args base m in
         let here_parts = parts p e k in
-        let rest = argument_parts p es (node_at p g) args base (suc m) in
+        let rest = all_parts p es (formal_clock (node_at p g) args base) (suc m) in
         let used = each_left (Used p p' new_parts named normal f) here_parts rest u in
         ap₂ ◌∷◌
-        (where_same (is_on k i) _ _ (operand_same p p' (Known (node_at p f)) (GivesOutput p (node_at p f)) (New p p' new_parts named normal f) (bases p p' new_parts named normal f) (formals p p' new_parts named normal f) i i' w w' l over e is.0 k is.4 used)
+        (where_same (is_on k i) _ _ (stands_same p p' (Known (node_at p f)) (GivesOutput p (node_at p f)) (New p p' new_parts named normal f) (bases p p' new_parts named normal f) (formals p p' new_parts named normal f) i i' w w' l over (is_taken Operand e) e is.0 k is.3 used)
         ∙ ap (λ o. where_on o (value p' is.0 k i' w')) (clock_same p p' (Known (node_at p f)) (GivesOutput p (node_at p f)) (New p p' new_parts named normal f) (bases p p' new_parts named normal f) (formals p p' new_parts named normal f) i i' w w' l over e k used)
-        ∙ ap (λ z. where_on (is_on z i') (value p' is.0 z i' w')) (sym (formal_same p p' (Known (node_at p f)) (GivesOutput p (node_at p f)) (New p p' new_parts named normal f) (bases p p' new_parts named normal f) (formals p p' new_parts named normal f) i i' w w' l over g args args' base m is.3)))
-        (given_same es is.1 g args args' base (suc m) is.5 (each_right (Used p p' new_parts named normal f) here_parts rest u))
+        ∙ ap (λ z. where_on (is_on z i') (value p' is.0 z i' w')) (sym stay.0))
+        (given_same es is.1 g args args' base (suc m) stay.1 is.4 (each_right (Used p p' new_parts named normal f) here_parts rest u))
         ∙ ap (λ z. inputs_given p' z (node_at p' g) args' base m i' w') (sym is.2)
 
     module _ (s : Site) (args' : Operands) (is : IsCallOf p (New p p' new_parts named normal f) s.node s.args args' s.base) (u : OfSite p (SiteUses f) s) (j j' : Instant) (v v' : World) (lv : LevelOf j j' s.node v v') where
@@ -159,18 +164,21 @@ module _ (p p' : Program) (new_parts : ℕ → List Part) (named : AreNamed p) (
           ∙ sym (take-take (node_at p s.node).inputs (length (node_at p s.node).variables) (row_of j') (named s.node).inputs)
           ∙ ap (take (node_at p s.node).inputs) (sym lv.front)
 
+      all_given : inputs_given p s.args (node_at p s.node) s.args s.base 0 i w ≡ inputs_given p' args' (node_at p' s.node) args' s.base 0 i' w'
+      all_given = given_same s.args args' s.node s.args args' s.base 0 (formals_same p p' (formals p p' new_parts named normal f) s.node s.args args' s.base s.base refl s.args 0 is.0) is.1 u.0
+
       fed_to : called_instant s.number i' ≡ j' → IsFed p s j i w → IsFed p' (record s { args = args' }) j' i' w'
       fed_to stand h = record {
         numbered = stand;
         base = sym lv.base ∙ h.base ∙ base_same;
-        inputs = inputs_same ∙ h.inputs ∙ given_same s.args args' s.node s.args args' s.base 0 is u.0;
+        inputs = inputs_same ∙ h.inputs ∙ all_given;
       }
 
       fed_from : called_instant s.number i ≡ j → IsFed p' (record s { args = args' }) j' i' w' → IsFed p s j i w
       fed_from stand h = record {
         numbered = stand;
         base = lv.base ∙ h.base ∙ sym base_same;
-        inputs = sym inputs_same ∙ h.inputs ∙ sym (given_same s.args args' s.node s.args args' s.base 0 is u.0);
+        inputs = sym inputs_same ∙ h.inputs ∙ sym all_given;
       }
 
   abbrev Sites : ℕ → List Site → List Site → Type 0

@@ -20,7 +20,6 @@ pub mod PartsOnClock
 pub mod NormalOnClocks
 pub mod Runs
 pub mod Counted
-pub mod OperandParts
 pub mod RightsNormal
 pub mod Sites
 pub mod TakenWithin

@@ -1,14 +1,15 @@
 -- What the variables of a normal form need are its variables.
-use Rattle.std.proofs.Common.{◌≡◌, sym, subst, ℕ, suc, ◌<◌, ◌≤◌, List, [], ◌∷◌, ◌++◌, drop, length, Option, Some, None, arith, ⊎_elim}
+use Rattle.std.proofs.Common.{◌≡◌, sym, subst, ℕ, suc, ◌<◌, ◌≤◌, Bool, true, false, List, [], ◌∷◌, ◌++◌, drop, length, Option, Some, None, arith, ⊎_elim}
 use Rattle.std.proofs.lemmas.Bool.{cases_lt}
 use Rattle.lus_values.specs.Lists.{Each}
 use Rattle.lus_values.proofs.Lists.{below_all}
 use Rattle.lus_program.specs.Programs.{Expression, literal, variable, operate, pre, arrow, when, merge, call, Operands, none, more, Node, Program, node_at}
-use Rattle.lus_streams.specs.Clocks.{Clock, clock_of, Part, formal_clock, base_of, parts, operand_parts, branch_parts, argument_parts}
+use Rattle.lus_streams.specs.Clocks.{Clock, clock_of, Part, formal_clock, base_of, branch_clock, parts, all_parts}
 use Rattle.lus_streams.specs.Equations.{Definition, given_by, definition_of, node_parts}
 use Rattle.lus_streams.specs.Order.{needs, needs_all, needs_right, needed, clock_variables}
 use Rattle.lus_streams.proofs.Lists.{each_append, each_implies, each_left, each_right, below_at}
-use Rattle.lus_normal_form.specs.NormalForm.{StandsFor, IsOperand, IsNormal, AreNormal, AreBranches, AreArguments, IsRight}
+use Rattle.lus_normal_form.specs.Forms.{Position, Inside, Operand, is_taken}
+use Rattle.lus_normal_form.specs.NormalForm.{StandsFor, Stands, IsRight, AreNormal}
 use Rattle.lus_normal_form.specs.NormalNodes.{DefinesNew, IsDefinition, IsNormalNode, IsWithin}
 use Rattle.lus_normal_form.specs.Named.{GivesOutput, IsNamed, Known, Uses}
 use Rattle.lus_normal_form.proofs.Equations.{RightParts, each_within, right_parts}
@@ -32,49 +33,33 @@ module _ (p : Program) (f : Node) (u : ℕ) (New : ℕ → Clock → Expression 
   abbrev right_of : (xs ys : List Part) → Us (xs ++ ys) → Us ys
   right_of = each_right U
 
-  operand_needs : (a a' : Expression) (k : Clock) → Us (parts p a k) → IsOperand p New a a' k → B (needs a')
-  operand_needs (literal v) a' k h is = subst (λ z. B (needs z)) (sym is) tt
-  operand_needs (variable x) a' k h is = subst (λ z. B (needs z)) (sym is) (old x h.0.1, tt)
-  operand_needs a a' k h is = subst (λ z. B (needs z)) (sym is.1) (new is.0 k a is.2, tt)
+  one : (b : Bool) (a a' : Expression) (k : Clock) → (IsRight p New a a' k → B (needs a')) → Stands p New b a a' k (IsRight p New a a' k) → B (needs a')
+  one true a a' k rest is = subst (λ z. B (needs z)) (sym is.1) (new is.0 k a is.2, tt)
+  one false a a' k rest is = rest is
 
   mutual
-    normal_needs : (e e' : Expression) (k : Clock) → Us (parts p e k) → IsNormal p New e e' k → B (needs e')
-    normal_needs (literal v) e' k h is = subst (λ z. B (needs z)) (sym is) tt
-    normal_needs (variable x) e' k h is = subst (λ z. B (needs z)) (sym is) (old x h.0.1, tt)
-    normal_needs (operate o es) e' k h is = subst (λ z. B (needs z)) (sym is.1) (all_needs es is.0 k h.1 is.2)
-    normal_needs (pre a) e' k h is = subst (λ z. B (needs z)) (sym is.1) tt
-    normal_needs (arrow a b) e' k h is =
+    right_needs : (e e' : Expression) (k : Clock) → Us (parts p e k) → IsRight p New e e' k → B (needs e')
+    right_needs (literal v) e' k h is = subst (λ z. B (needs z)) (sym is) tt
+    right_needs (variable x) e' k h is = subst (λ z. B (needs z)) (sym is) (old x h.0.1, tt)
+    right_needs (operate o es) e' k h is = subst (λ z. B (needs z)) (sym is.1) (all_needs Inside es is.0 (λ m. k) 0 h.1 is.2)
+    right_needs (pre a) e' k h is = subst (λ z. B (needs z)) (sym is.1) tt
+    right_needs (arrow a b) e' k h is =
         subst (λ z. B (needs z)) (sym is.2)
-        (each_append (λ y. y < u) (needs is.0) (needs is.1) (normal_needs a is.0 k (left_of (parts p a k) (parts p b k) h.1) is.3) (normal_needs b is.1 k (right_of (parts p a k) (parts p b k) h.1) is.4))
-    normal_needs (when t a) e' k h is = subst (λ z. B (needs z)) (sym is.1) (old t.variable h.0.1, operand_needs a is.0 (drop 1 k) h.1 is.2)
-    normal_needs (merge x bs) e' k h is = subst (λ z. B (needs z)) (sym is.1) (old x h.0.1, branches_needs bs is.0 x 0 k h.1 is.2)
-    normal_needs (call g c args) e' k h is = subst (λ z. B (needs z)) (sym is.1) (new is.0 k (call g c args) is.2, tt)
+        (each_append (λ y. y < u) (needs is.0) (needs is.1)
+        (one (is_taken Inside a) a is.0 k (right_needs a is.0 k (left_of (parts p a k) (parts p b k) h.1)) is.3)
+        (one (is_taken Inside b) b is.1 k (right_needs b is.1 k (right_of (parts p a k) (parts p b k) h.1)) is.4))
+    right_needs (when t a) e' k h is = subst (λ z. B (needs z)) (sym is.1) (old t.variable h.0.1, one (is_taken Operand a) a is.0 (drop 1 k) (right_needs a is.0 (drop 1 k) h.1) is.2)
+    right_needs (merge x bs) e' k h is = subst (λ z. B (needs z)) (sym is.1) (old x h.0.1, all_needs Inside bs is.0 (branch_clock x k) 0 h.1 is.2)
+    right_needs (call g c args) e' k h is = subst (λ z. B (needs z)) (sym is.1) (all_needs Operand args is.0 (formal_clock (node_at p g) args (base_of (node_at p g) k)) 0 h.1 is.2.1)
 
-    all_needs : (es es' : Operands) (k : Clock) → Us (operand_parts p es k) → AreNormal p New es es' k → B (needs_all es')
-    all_needs none es' k h is = subst (λ z. B (needs_all z)) (sym is) tt
-    all_needs (more e es) es' k h is =
+    pub all_needs : (here : Position) (es es' : Operands) (ks : ℕ → Clock) (m : ℕ) → Us (all_parts p es ks m) → AreNormal p New here es es' ks m → B (needs_all es')
+    all_needs here none es' ks m h is = subst (λ z. B (needs_all z)) (sym is) tt
+    all_needs here (more e es) es' ks m h is =
+        let rest = all_parts p es ks (suc m) in
         subst (λ z. B (needs_all z)) (sym is.2)
-        (each_append (λ y. y < u) (needs is.0) (needs_all is.1) (normal_needs e is.0 k (left_of (parts p e k) (operand_parts p es k) h) is.3) (all_needs es is.1 k (right_of (parts p e k) (operand_parts p es k) h) is.4))
-
-    branches_needs : (es es' : Operands) (x c : ℕ) (k : Clock) → Us (branch_parts p es x c k) → AreBranches p New es es' x c k → B (needs_all es')
-    branches_needs none es' x c k h is = subst (λ z. B (needs_all z)) (sym is) tt
-    branches_needs (more e es) es' x c k h is =
-        let k' : Clock = record { variable = x; constructor = c } ∷ k in
-        let rest = branch_parts p es x (suc c) k in
-        subst (λ z. B (needs_all z)) (sym is.2)
-        (each_append (λ y. y < u) (needs is.0) (needs_all is.1) (normal_needs e is.0 k' (left_of (parts p e k') rest h) is.3) (branches_needs es is.1 x (suc c) k (right_of (parts p e k') rest h) is.4))
-
-  pub arguments_need : (es es' : Operands) (g : ℕ) (args args' : Operands) (base : Clock) (m : ℕ) → Us (argument_parts p es (node_at p g) args base m) → AreArguments p New es es' g args args' base m → B (needs_all es')
-  arguments_need none es' g args args' base m h is = subst (λ z. B (needs_all z)) (sym is) tt
-  arguments_need (more e es) es' g args args' base m h is =
-      let k = formal_clock (node_at p g) args base m in
-      let rest = argument_parts p es (node_at p g) args base (suc m) in
-      subst (λ z. B (needs_all z)) (sym is.2)
-      (each_append (λ y. y < u) (needs is.0) (needs_all is.1) (operand_needs e is.0 k (left_of (parts p e k) rest h) is.4) (arguments_need es is.1 g args args' base (suc m) (right_of (parts p e k) rest h) is.5))
-
-  right_needs : (e e' : Expression) (k : Clock) → Us (parts p e k) → IsRight p New e e' k → B (needs e')
-  right_needs (call g c args) e' k h is = subst (λ z. B (needs z)) (sym is.1) (arguments_need args is.0 g args is.0 (base_of (node_at p g) k) 0 h.1 is.2)
-  right_needs e e' k h is = normal_needs e e' k h is
+        (each_append (λ y. y < u) (needs is.0) (needs_all is.1)
+        (one (is_taken here e) e is.0 (ks m) (right_needs e is.0 (ks m) (left_of (parts p e (ks m)) rest h)) is.3)
+        (all_needs here es is.1 ks (suc m) (right_of (parts p e (ks m)) rest h) is.4))
 
   definition_needs : (d d' : Option Definition) → RightParts p U d → IsDefinition p New d d' → B (needs_right d')
   definition_needs None d' h is = subst (λ z. B (needs_right z)) (sym is) tt

@@ -5,7 +5,7 @@ use Rattle.std.proofs.lemmas.Bool.{cases_lt}
 use Rattle.lus_values.specs.Lists.{item, Each}
 use Rattle.lus_program.specs.declared.expr.Test.{Test}
 use Rattle.lus_program.specs.Programs.{Expression, call, Operands, Variable, Equation, Node, Program, no_variable, empty_node, node_at}
-use Rattle.lus_streams.specs.Clocks.{Clock, chain, clock_of, Part, at, base_of, parts}
+use Rattle.lus_streams.specs.Clocks.{Clock, chain, clock_of, Part, at, formal_clock, base_of, parts}
 use Rattle.lus_streams.specs.Equations.{Definition, given_by, place_in, equation_clock, definition_in, definition_of, equation_parts, node_parts, sites}
 use Rattle.lus_streams.specs.OnClock.{MayTest, IsDeclared, test_of, OutputOn, DefinedOnClock, LeftOnClock, RightOnClock, IsOnClocks, ProgramOnClocks}
 use Rattle.lus_streams.specs.Order.{clock_variables}
@@ -27,7 +27,7 @@ use Rattle.lus_normal_form.proofs.OneCall.{numbered_same, one_left}
 use Rattle.lus_normal_form.proofs.OneTest.{clock_is_chain, one_test_suffices, untested}
 use Rattle.lus_normal_form.proofs.PartsOnClock.{IsPlaced, IsWhole, equations_placed, right_on}
 use Rattle.lus_normal_form.proofs.ResolvedNamed.{resolved_are_named}
-use Rattle.lus_normal_form.proofs.Simple.{normal_simple}
+use Rattle.lus_normal_form.proofs.Simple.{inner_simple}
 
 -- a clock of a variable with a test begins with it
 chain_begins : (n : ℕ) (vs : List Variable) (x : ℕ) (t : Test) → 0 < n → (item no_variable vs x).test ≡ Some t → (rest : Clock) × (chain n vs x ≡ t ∷ rest)
@@ -211,8 +211,8 @@ module _ (p p' : Program) (new_parts : ℕ → List Part) (resolved : Resolved p
       let base = base_of (node_at p g) k in
       subst (λ z. DefinedOnClock p' node' y (Some (given_by z n xs k))) (sym is.1)
       (subst (OutputOn (node_at p' g) n is.0 xs (base_of (node_at p' g) k)) (sym (old y known))
-      (output_kept p p' new_parts normal fit g n some args is.0 xs xs (actuals_stay p New args is.0 g args is.0 base 0 is.2 xs xs (λ m x e. e)) base (base_of (node_at p' g) k) (clock_of node y) (bases p p' new_parts named normal f g c u.0.1 k) on))
-  defined_kept e e' k xs n y is u known some on = simply_defined e' n xs k y (normal_simple p New e e' k is) (old y known ∙ on)
+      (output_kept p p' new_parts normal fit g n some args is.0 xs xs (actuals_stay p New args is.0 (formal_clock (node_at p g) args base) 0 is.2.1 xs xs (λ m x e. e)) base (base_of (node_at p' g) k) (clock_of node y) (bases p p' new_parts named normal f g c u.0.1 k) on))
+  defined_kept e e' k xs n y is u known some on = simply_defined e' n xs k y (inner_simple p New e e' k is) (old y known ∙ on)
 
   lefts_kept : (e e' : Expression) (k : Clock) (xs : List ℕ) (n : ℕ) (ys : List ℕ) → IsRight p New e e' k → Each Used (parts p e k) → KnownLefts p node e xs k n ys → Lefts p' node' e' xs k n ys
   lefts_kept e e' k xs n [] is u h = tt
@@ -242,9 +242,9 @@ module _ (p p' : Program) (new_parts : ℕ → List Part) (resolved : Resolved p
       let on = ⊎_elim (λ here. here) (λ whole. absurd (whole_stays y g c k args s whole)) part.1 in
       subst (λ z. DefinedOnClock p' node' y (Some (given_by z 0 (y ∷ []) k))) (sym is.1)
       (subst (OutputOn (node_at p' g) 0 is.0 (y ∷ []) (base_of (node_at p' g) k)) (sym (new y k (call g c args) s))
-      (output_kept p p' new_parts normal fit g 0 (of_new (HasOutput p) outputs y k (call g c args) s) args is.0 [] (y ∷ []) (actuals_stay p New args is.0 g args is.0 base 0 is.2 [] (y ∷ []) (λ m x e. cc)) base (base_of (node_at p' g) k) k
+      (output_kept p p' new_parts normal fit g 0 (of_new (HasOutput p) outputs y k (call g c args) s) args is.0 [] (y ∷ []) (actuals_stay p New args is.0 (formal_clock (node_at p g) args base) 0 is.2.1 [] (y ∷ []) (λ m x e. cc)) base (base_of (node_at p' g) k) k
       (bases p p' new_parts named normal f g c (of_new Used (named f).uses y k (call g c args) s).1 k) on))
-  new_left a y k s e' is = simply_defined e' 0 (y ∷ []) k y (normal_simple p New a e' k is) (new y k a s)
+  new_left a y k s e' is = simply_defined e' 0 (y ∷ []) k y (inner_simple p New a e' k is) (new y k a s)
 
   new_equation : (y : ℕ) (k : Clock) (a : Expression) → New y k a → Gives NormalEquation (definition_of node' y)
   new_equation y k a s =

@@ -1,7 +1,7 @@
 -- Where calls are numbered by their places, two variables that are outputs of a call of one number stand on one left side.
 use Rattle.std.proofs.Common.{◌≡◌, sym, subst, ℕ, suc, ◌≤◌, List, [], ◌∷◌, ◌++◌, Option, Some, None, arith, ⊎_elim}
 use Rattle.lus_program.specs.Programs.{Expression, call, Operands, Equation, Node, Program, node_at}
-use Rattle.lus_streams.specs.Clocks.{Clock, Part, at, base_of, parts, argument_parts}
+use Rattle.lus_streams.specs.Clocks.{Clock, Part, at, formal_clock, base_of, parts, all_parts}
 use Rattle.lus_streams.specs.Equations.{Definition, given_by, place_in, equation_clock, definition_in, equation_parts, Site, sites_in}
 use Rattle.lus_streams.proofs.Calls.{OfCall, parts_of_sites}
 use Rattle.lus_normal_form.specs.NormalNodes.{AreSites}
@@ -42,7 +42,7 @@ module _ (p : Program) where
     not_later n q qs h g c args e is =
         let k = equation_clock f q in
         let shaped = subst (λ z. Numbered n (sites_in p (parts p z k ++ equation_parts p f qs))) e h in
-        let later = numbered_after (suc n) (argument_parts p args (node_at p g) args (base_of (node_at p g) k) 0) (equation_parts p f qs) shaped.1 in
+        let later = numbered_after (suc n) (all_parts p args (formal_clock (node_at p g) args (base_of (node_at p g) k)) 0) (equation_parts p f qs) shaped.1 in
         let here : c ≡ n = shaped.0 in
         let le = later.1 in
         let more = from_first later.0 (sites_in p (equation_parts p f qs)) later.2 g c is in

@@ -5,7 +5,7 @@ use Rattle.std.proofs.lemmas.Bool.{cases_lt}
 use Rattle.lus_program.specs.declared.expr.Test.{Test}
 use Rattle.lus_program.specs.Programs.{Expression, literal, variable, operate, pre, arrow, when, merge, call, Operands, none, more, Equation, Node, Program, no_variable, empty_node, node_at}
 use Rattle.lus_values.specs.Lists.{item, Each, Below}
-use Rattle.lus_streams.specs.Clocks.{Clock, chain, clock_of, Part, operand, renamed_clock, renamed_test, formal_clock, base_of, parts, operand_parts, branch_parts, argument_parts}
+use Rattle.lus_streams.specs.Clocks.{Clock, chain, clock_of, Part, operand, renamed_clock, renamed_test, formal_clock, base_of, branch_clock, parts, all_parts}
 use Rattle.lus_streams.specs.Equations.{equation_clock, equation_parts, node_parts}
 use Rattle.lus_streams.specs.OnClock.{IsDeclared, test_of, PartOnClock, RightOnClock, IsOnClocks}
 use Rattle.lus_streams.proofs.Lists.{each_left, each_right, each_append, each_implies, each_item, below_at, item_past}
@@ -59,20 +59,18 @@ module _ (f : Node) where
 
 module _ (p : Program) (f : Node) where
   -- a named argument is on its formal's clock
-  argument_clock : (es : Operands) (g : Node) (args : Operands) (base : Clock) (m n x : ℕ) → Each (PartOnClock p f) (argument_parts p es g args base m) → operand es n ≡ variable x → clock_of f x ≡ formal_clock g args base (m + n)
-  argument_clock none g args base m n x h e = cc
-  argument_clock (more e es) g args base m zero x h eq =
-      let k = formal_clock g args base m in
-      let on = subst (λ z. Each (PartOnClock p f) (parts p z k)) eq (each_left (PartOnClock p f) (parts p e k) (argument_parts p es g args base (suc m)) h) in
+  argument_clock : (es : Operands) (ks : ℕ → Clock) (m n x : ℕ) → Each (PartOnClock p f) (all_parts p es ks m) → operand es n ≡ variable x → clock_of f x ≡ ks (m + n)
+  argument_clock none ks m n x h e = cc
+  argument_clock (more e es) ks m zero x h eq =
+      let on = subst (λ z. Each (PartOnClock p f) (parts p z (ks m))) eq (each_left (PartOnClock p f) (parts p e (ks m)) (all_parts p es ks (suc m)) h) in
       let here : m + 0 ≡ m = omega arith in
-      on.0 ∙ ap (formal_clock g args base) (sym here)
-  argument_clock (more e es) g args base m (suc n) x h eq =
-      let k = formal_clock g args base m in
+      on.0 ∙ ap ks (sym here)
+  argument_clock (more e es) ks m (suc n) x h eq =
       let next : suc m + n ≡ m + suc n = omega arith in
-      argument_clock es g args base (suc m) n x (each_right (PartOnClock p f) (parts p e k) (argument_parts p es g args base (suc m)) h) eq ∙ ap (formal_clock g args base) next
+      argument_clock es ks (suc m) n x (each_right (PartOnClock p f) (parts p e (ks m)) (all_parts p es ks (suc m)) h) eq ∙ ap ks next
 
-  pub call_clock : (g : Node) (args : Operands) (base : Clock) → Each (PartOnClock p f) (argument_parts p args g args base 0) → (m x : ℕ) → operand args m ≡ variable x → clock_of f x ≡ formal_clock g args base m
-  call_clock g args base h m x e = let place : 0 + m ≡ m = omega arith in argument_clock args g args base 0 m x h e ∙ ap (formal_clock g args base) place
+  pub call_clock : (g : Node) (args : Operands) (base : Clock) → Each (PartOnClock p f) (all_parts p args (formal_clock g args base) 0) → (m x : ℕ) → operand args m ≡ variable x → clock_of f x ≡ formal_clock g args base m
+  call_clock g args base h m x e = let place : 0 + m ≡ m = omega arith in argument_clock args (formal_clock g args base) 0 m x h e ∙ ap (formal_clock g args base) place
 
   module _ (formals : (g m : ℕ) → IsChain (node_at p g) (clock_of (node_at p g) m)) where
     abbrev OnChain : Part → Type 0
@@ -81,42 +79,32 @@ module _ (p : Program) (f : Node) where
     abbrev OnClock : Part → Type 0
     OnClock = PartOnClock p f
 
+    formals_on_chains : (g : ℕ) (args : Operands) (k : Clock) → IsChain f k → Each OnClock (all_parts p args (formal_clock (node_at p g) args (base_of (node_at p g) k)) 0)
+        → (m : ℕ) → IsChain f (formal_clock (node_at p g) args (base_of (node_at p g) k) m)
+    formals_on_chains g args k h o m =
+        let base = base_of (node_at p g) k in
+        renamed_is_chain f (node_at p g) args base (clock_of (node_at p g) m) (formals g m) (chain_drop f _ k h) (call_clock (node_at p g) args base o)
+
     mutual
       pub parts_on_chains : (e : Expression) (k : Clock) → IsChain f k → Each OnClock (parts p e k) → Each OnChain (parts p e k)
       parts_on_chains (literal v) k h o = (h, tt)
       parts_on_chains (variable x) k h o = (h, tt)
-      parts_on_chains (operate op es) k h o = (h, operands_on_chains es k h o.1)
+      parts_on_chains (operate op es) k h o = (h, all_on_chains es (λ m. k) 0 (λ m. h) o.1)
       parts_on_chains (pre a) k h o = (h, parts_on_chains a k h o.1)
       parts_on_chains (arrow a b) k h o = (h, each_append OnChain (parts p a k) (parts p b k) (parts_on_chains a k h (each_left OnClock (parts p a k) (parts p b k) o.1)) (parts_on_chains b k h (each_right OnClock (parts p a k) (parts p b k) o.1)))
       parts_on_chains (when t a) k h o = (h, parts_on_chains a (drop 1 k) (chain_drop f 1 k h) o.1)
-      parts_on_chains (merge x bs) k h o = (h, branches_on_chains bs x 0 k o.0 h o.1)
-      parts_on_chains (call g c args) k h o = (h, arguments_on_chains args g args (base_of (node_at p g) k) 0 (chain_drop f _ k h) (call_clock (node_at p g) args (base_of (node_at p g) k) o.1) o.1)
+      parts_on_chains (merge x bs) k h o = (h, all_on_chains bs (branch_clock x k) 0 (λ m. (o.0, h)) o.1)
+      parts_on_chains (call g c args) k h o = (h, all_on_chains args (formal_clock (node_at p g) args (base_of (node_at p g) k)) 0 (formals_on_chains g args k h o.1) o.1)
 
-      operands_on_chains : (es : Operands) (k : Clock) → IsChain f k → Each OnClock (operand_parts p es k) → Each OnChain (operand_parts p es k)
-      operands_on_chains none k h o = tt
-      operands_on_chains (more e es) k h o =
-          each_append OnChain (parts p e k) (operand_parts p es k) (parts_on_chains e k h (each_left OnClock (parts p e k) (operand_parts p es k) o)) (operands_on_chains es k h (each_right OnClock (parts p e k) (operand_parts p es k) o))
-
-      branches_on_chains : (es : Operands) (x c : ℕ) (k : Clock) → clock_of f x ≡ k → IsChain f k → Each OnClock (branch_parts p es x c k) → Each OnChain (branch_parts p es x c k)
-      branches_on_chains none x c k on h o = tt
-      branches_on_chains (more e es) x c k on h o =
-          let k' : Clock = record { variable = x; constructor = c } ∷ k in
-          let rest = branch_parts p es x (suc c) k in
-          each_append OnChain (parts p e k') rest (parts_on_chains e k' (on, h) (each_left OnClock (parts p e k') rest o)) (branches_on_chains es x (suc c) k on h (each_right OnClock (parts p e k') rest o))
-
-      arguments_on_chains : (es : Operands) (g : ℕ) (args : Operands) (base : Clock) (m : ℕ) → IsChain f base → ((m x : ℕ) → operand args m ≡ variable x → clock_of f x ≡ formal_clock (node_at p g) args base m)
-          → Each OnClock (argument_parts p es (node_at p g) args base m) → Each OnChain (argument_parts p es (node_at p g) args base m)
-      arguments_on_chains none g args base m h on o = tt
-      arguments_on_chains (more e es) g args base m h on o =
-          let k = formal_clock (node_at p g) args base m in
-          let rest = argument_parts p es (node_at p g) args base (suc m) in
-          each_append OnChain (parts p e k) rest
-          (parts_on_chains e k (renamed_is_chain f (node_at p g) args base (clock_of (node_at p g) m) (formals g m) h on) (each_left OnClock (parts p e k) rest o))
-          (arguments_on_chains es g args base (suc m) h on (each_right OnClock (parts p e k) rest o))
+      all_on_chains : (es : Operands) (ks : ℕ → Clock) (m : ℕ) → ((n : ℕ) → IsChain f (ks n)) → Each OnClock (all_parts p es ks m) → Each OnChain (all_parts p es ks m)
+      all_on_chains none ks m h o = tt
+      all_on_chains (more e es) ks m h o =
+          let rest = all_parts p es ks (suc m) in
+          each_append OnChain (parts p e (ks m)) rest (parts_on_chains e (ks m) (h m) (each_left OnClock (parts p e (ks m)) rest o)) (all_on_chains es ks (suc m) h (each_right OnClock (parts p e (ks m)) rest o))
 
     -- whole right sides
     right_on_chains : (e : Expression) (k : Clock) → IsChain f k → RightOnClock p f (parts p e k) → Each OnChain (parts p e k)
-    right_on_chains (call g c args) k h o = (h, arguments_on_chains args g args (base_of (node_at p g) k) 0 (chain_drop f _ k h) (call_clock (node_at p g) args (base_of (node_at p g) k) o) o)
+    right_on_chains (call g c args) k h o = (h, all_on_chains args (formal_clock (node_at p g) args (base_of (node_at p g) k)) 0 (formals_on_chains g args k h o) o)
     right_on_chains e k h o = parts_on_chains e k h o
 
     equations_on_chains : (own : (x : ℕ) → IsChain f (clock_of f x)) (qs : List Equation) → Each (λ q. RightOnClock p f (parts p q.right (equation_clock f q))) qs → Each OnChain (equation_parts p f qs)

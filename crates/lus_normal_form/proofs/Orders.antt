@@ -4,13 +4,14 @@ use Rattle.std.proofs.lemmas.Bool.{cases_lt, eq-eqb}
 use Rattle.lus_values.specs.Lists.{Each}
 use Rattle.lus_values.proofs.Lists.{below_all}
 use Rattle.lus_program.specs.Programs.{Expression, literal, variable, operate, pre, arrow, when, merge, call, Operands, none, more, Node, Program, node_at}
-use Rattle.lus_streams.specs.Clocks.{renamed_clock, Clock, clock_of, Part, formal_clock, base_of}
+use Rattle.lus_streams.specs.Clocks.{renamed_clock, Clock, clock_of, Part, formal_clock, base_of, branch_clock}
 use Rattle.lus_streams.specs.Equations.{Definition, given_by, definition_of}
 use Rattle.lus_streams.specs.OnClock.{actuals, DefinedOnClock, IsOnClocks}
 use Rattle.lus_streams.specs.Order.{needs, needs_all, clock_variables, needs_right, needed, is_in, HasNeedsFirst, HasOrder}
 use Rattle.lus_streams.proofs.Definitions.{defined_on_clock}
 use Rattle.lus_streams.proofs.Lists.{each_left, each_right, each_append, each_both, each_implies, each_map_right, each_map_drop, each_in, below_at}
-use Rattle.lus_normal_form.specs.NormalForm.{StandsFor, IsOperand, IsNormal, AreNormal, AreBranches, AreArguments, IsRight}
+use Rattle.lus_normal_form.specs.Forms.{Position, Inside, Operand, is_taken}
+use Rattle.lus_normal_form.specs.NormalForm.{StandsFor, Stands, IsRight, AreNormal}
 use Rattle.lus_normal_form.specs.Named.{Uses, Known, GivesOutput, AreNamed}
 use Rattle.lus_normal_form.specs.NormalNodes.{IsDefinition, IsNormalOf}
 use Rattle.lus_normal_form.specs.Laws.{NormalHasOrder}
@@ -76,14 +77,9 @@ module _ (p p' : Program) (new_parts : ℕ → List Part) (named : AreNamed p) (
   abbrev Grows : Expression → Clock → List ℕ → Type 0
   Grows a k done = (e' : Expression) → IsRight p New a e' k → Grown done (needs e')
 
-  operand_grown : (a a' : Expression) (k : Clock) → IsOperand p New a a' k → (done : List ℕ) → HasNeedsFirst node' done → Each (In done) (needs a) → Each (In done) (clock_variables k) → Grows a k done → Grown done (needs a')
-  operand_grown (literal v) a' k is done h ha hk grow = subst (λ z. Grown done (needs z)) (sym is) (same done [] h tt)
-  operand_grown (variable x) a' k is done h ha hk grow = subst (λ z. Grown done (needs z)) (sym is) (same done (x ∷ []) h ha)
-  operand_grown a a' k is done h ha hk grow = subst (λ z. Grown done (needs z)) (sym is.1) (add_new is.0 k a is.2 done hk grow)
-
-  normal_grown : (a a' : Expression) (k : Clock) → IsNormal p New a a' k → (done : List ℕ) → Each (In done) (clock_variables k) → Grows a k done → Grown done (needs a')
-  normal_grown (call g c args) a' k is done hk grow = subst (λ z. Grown done (needs z)) (sym is.1) (add_new is.0 k (call g c args) is.2 done hk grow)
-  normal_grown a a' k is done hk grow = grow a' is
+  one : (b : Bool) (a a' : Expression) (k : Clock) → Stands p New b a a' k (IsRight p New a a' k) → (done : List ℕ) → Each (In done) (clock_variables k) → Grows a k done → Grown done (needs a')
+  one true a a' k is done hk grow = subst (λ z. Grown done (needs z)) (sym is.1) (add_new is.0 k a is.2 done hk grow)
+  one false a a' k is done hk grow = grow a' is
 
   with_first : (done : List ℕ) (x : ℕ) (xs : List ℕ) → In done x → Grown done xs → Grown done (x ∷ xs)
   with_first done x xs h g = record { all = g.all; first = g.first; begun = g.begun; has = (g.begun x h, g.has) }
@@ -92,46 +88,35 @@ module _ (p p' : Program) (new_parts : ℕ → List Part) (named : AreNamed p) (
     right_grown : (e e' : Expression) (k : Clock) → IsRight p New e e' k → (done : List ℕ) → HasNeedsFirst node' done → Each (In done) (needs e) → Each (In done) (clock_variables k) → Grown done (needs e')
     right_grown (literal v) e' k is done h hn hk = subst (λ z. Grown done (needs z)) (sym is) (same done [] h tt)
     right_grown (variable x) e' k is done h hn hk = subst (λ z. Grown done (needs z)) (sym is) (same done (x ∷ []) h hn)
-    right_grown (operate o es) e' k is done h hn hk = subst (λ z. Grown done (needs z)) (sym is.1) (normals_grown es is.0 k is.2 done h hn hk)
+    right_grown (operate o es) e' k is done h hn hk = subst (λ z. Grown done (needs z)) (sym is.1) (all_grown Inside es is.0 (λ m. k) 0 is.2 done h hn (λ m. hk))
     right_grown (pre a) e' k is done h hn hk = subst (λ z. Grown done (needs z)) (sym is.1) (same done [] h tt)
     right_grown (arrow a b) e' k is done h hn hk =
-        let first = normal_grown a is.0 k is.3 done hk (λ r n. right_grown a r k n done h (each_left (In done) (needs a) (needs b) hn) hk) in
+        let first = one (is_taken Inside a) a is.0 k is.3 done hk (λ r n. right_grown a r k n done h (each_left (In done) (needs a) (needs b) hn) hk) in
         let inner = still done (needs is.0) (clock_variables k) first hk in
-        let later = normal_grown b is.1 k is.4 first.all inner (λ r n. right_grown b r k n first.all first.first (still done (needs is.0) (needs b) first (each_right (In done) (needs a) (needs b) hn)) inner) in
+        let later = one (is_taken Inside b) b is.1 k is.4 first.all inner (λ r n. right_grown b r k n first.all first.first (still done (needs is.0) (needs b) first (each_right (In done) (needs a) (needs b) hn)) inner) in
         subst (λ z. Grown done (needs z)) (sym is.2) (both done (needs is.0) (needs is.1) first later)
     right_grown (when t a) e' k is done h hn hk =
         let inner = each_map_drop (In done) (λ t. t.variable) 1 k hk in
         subst (λ z. Grown done (needs z)) (sym is.1)
-        (with_first done t.variable (needs is.0) hn.0 (operand_grown a is.0 (drop 1 k) is.2 done h hn.1 inner (λ r n. right_grown a r (drop 1 k) n done h hn.1 inner)))
-    right_grown (merge x bs) e' k is done h hn hk = subst (λ z. Grown done (needs z)) (sym is.1) (with_first done x (needs_all is.0) hn.0 (branches_grown bs is.0 x 0 k is.2 done h hn.0 hn.1 hk))
+        (with_first done t.variable (needs is.0) hn.0 (one (is_taken Operand a) a is.0 (drop 1 k) is.2 done inner (λ r n. right_grown a r (drop 1 k) n done h hn.1 inner)))
+    right_grown (merge x bs) e' k is done h hn hk =
+        subst (λ z. Grown done (needs z)) (sym is.1) (with_first done x (needs_all is.0) hn.0 (all_grown Inside bs is.0 (branch_clock x k) 0 is.2 done h hn.1 (λ m. (hn.0, hk))))
     right_grown (call g c args) e' k is done h hn hk =
-        subst (λ z. Grown done (needs z)) (sym is.1) (arguments_grown args is.0 g args is.0 (base_of (node_at p g) k) 0 is.2 done h hn hn (each_map_drop (In done) (λ t. t.variable) _ k hk))
+        subst (λ z. Grown done (needs z)) (sym is.1) (arguments_grown g args is.0 (base_of (node_at p g) k) is.2.1 done h hn (each_map_drop (In done) (λ t. t.variable) _ k hk))
 
-    normals_grown : (es es' : Operands) (k : Clock) → AreNormal p New es es' k → (done : List ℕ) → HasNeedsFirst node' done → Each (In done) (needs_all es) → Each (In done) (clock_variables k) → Grown done (needs_all es')
-    normals_grown none es' k is done h hn hk = subst (λ z. Grown done (needs_all z)) (sym is) (same done [] h tt)
-    normals_grown (more e es) es' k is done h hn hk =
-        let first = normal_grown e is.0 k is.3 done hk (λ r n. right_grown e r k n done h (each_left (In done) (needs e) (needs_all es) hn) hk) in
-        let later = normals_grown es is.1 k is.4 first.all first.first (still done (needs is.0) (needs_all es) first (each_right (In done) (needs e) (needs_all es) hn)) (still done (needs is.0) (clock_variables k) first hk) in
+    all_grown : (here : Position) (es es' : Operands) (ks : ℕ → Clock) (m : ℕ) → AreNormal p New here es es' ks m → (done : List ℕ) → HasNeedsFirst node' done → Each (In done) (needs_all es)
+        → ((n : ℕ) → Each (In done) (clock_variables (ks n))) → Grown done (needs_all es')
+    all_grown here none es' ks m is done h hn hks = subst (λ z. Grown done (needs_all z)) (sym is) (same done [] h tt)
+    all_grown here (more e es) es' ks m is done h hn hks =
+        let k = ks m in
+        let first = one (is_taken here e) e is.0 k is.3 done (hks m) (λ r n. right_grown e r k n done h (each_left (In done) (needs e) (needs_all es) hn) (hks m)) in
+        let later = all_grown here es is.1 ks (suc m) is.4 first.all first.first (still done (needs is.0) (needs_all es) first (each_right (In done) (needs e) (needs_all es) hn)) (λ n. still done (needs is.0) (clock_variables (ks n)) first (hks n)) in
         subst (λ z. Grown done (needs_all z)) (sym is.2) (both done (needs is.0) (needs_all is.1) first later)
 
-    branches_grown : (es es' : Operands) (x c : ℕ) (k : Clock) → AreBranches p New es es' x c k → (done : List ℕ) → HasNeedsFirst node' done → In done x → Each (In done) (needs_all es) → Each (In done) (clock_variables k) → Grown done (needs_all es')
-    branches_grown none es' x c k is done h hx hn hk = subst (λ z. Grown done (needs_all z)) (sym is) (same done [] h tt)
-    branches_grown (more e es) es' x c k is done h hx hn hk =
-        let k' : Clock = record { variable = x; constructor = c } ∷ k in
-        let first = normal_grown e is.0 k' is.3 done (hx, hk) (λ r n. right_grown e r k' n done h (each_left (In done) (needs e) (needs_all es) hn) (hx, hk)) in
-        let later = branches_grown es is.1 x (suc c) k is.4 first.all first.first (first.begun x hx) (still done (needs is.0) (needs_all es) first (each_right (In done) (needs e) (needs_all es) hn)) (still done (needs is.0) (clock_variables k) first hk) in
-        subst (λ z. Grown done (needs_all z)) (sym is.2) (both done (needs is.0) (needs_all is.1) first later)
-
-    arguments_grown : (es es' : Operands) (g : ℕ) (args args' : Operands) (base : Clock) (m : ℕ) → AreArguments p New es es' g args args' base m → (done : List ℕ) → HasNeedsFirst node' done
-        → Each (In done) (needs_all es) → Each (In done) (needs_all args) → Each (In done) (clock_variables base) → Grown done (needs_all es')
-    arguments_grown none es' g args args' base m is done h hn ha hb = subst (λ z. Grown done (needs_all z)) (sym is) (same done [] h tt)
-    arguments_grown (more e es) es' g args args' base m is done h hn ha hb =
-        let k = formal_clock (node_at p g) args base m in
-        let hk = formal_variables (In done) (node_at p g) args base m ha hb in
-        let he = each_left (In done) (needs e) (needs_all es) hn in
-        let first = operand_grown e is.0 k is.4 done h he hk (λ r n. right_grown e r k n done h he hk) in
-        let later = arguments_grown es is.1 g args args' base (suc m) is.5 first.all first.first (still done (needs is.0) (needs_all es) first (each_right (In done) (needs e) (needs_all es) hn)) (still done (needs is.0) (needs_all args) first ha) (still done (needs is.0) (clock_variables base) first hb) in
-        subst (λ z. Grown done (needs_all z)) (sym is.2) (both done (needs is.0) (needs_all is.1) first later)
+    arguments_grown : (g : ℕ) (args args' : Operands) (base : Clock) → AreNormal p New Operand args args' (formal_clock (node_at p g) args base) 0 → (done : List ℕ) → HasNeedsFirst node' done
+        → Each (In done) (needs_all args) → Each (In done) (clock_variables base) → Grown done (needs_all args')
+    arguments_grown g args args' base is done h hn hb =
+        all_grown Operand args args' (formal_clock (node_at p g) args base) 0 is done h hn (λ m. formal_variables (In done) (node_at p g) args base m hn hb)
 
   -- an old variable after what it needs
   definition_grown : (x : ℕ) (d d' : Option Definition) → IsDefinition p New d d' → DefinedOnClock p node x d → (done : List ℕ) → HasNeedsFirst node' done → Each (In done) (clock_variables (clock_of node x)) → Each (In done) (needs_right d) → Grown done (needs_right d')
@@ -141,7 +126,7 @@ module _ (p p' : Program) (new_parts : ℕ → List Part) (named : AreNamed p) (
       let front = renamed_clock (actuals args xs) (clock_of (node_at p g) ((node_at p g).inputs + n)) in
       let hb = each_map_right (In done) (λ t. t.variable) front base (subst (λ j. Each (In done) (clock_variables j)) on.0 hk) in
       subst (λ z. Grown done (needs_right z)) (sym is.1)
-      (subst (λ z. Grown done (needs z)) (sym is.2.1) (arguments_grown args is.2.0 g args is.2.0 base 0 is.2.2 done h hn hn hb))
+      (subst (λ z. Grown done (needs z)) (sym is.2.1) (arguments_grown g args is.2.0 base is.2.2.1 done h hn hb))
   definition_grown x (Some (given_by e n xs k)) d' is on done h hk hn =
       subst (λ z. Grown done (needs_right z)) (sym is.1) (right_grown e is.0 k is.2 done h hn (subst (λ j. Each (In done) (clock_variables j)) on hk))
 

@@ -8,10 +8,10 @@ use Rattle.lus_values.proofs.Lists.{below_all}
 use Rattle.lus_program.specs.declared.expr.Test.{Test}
 use Rattle.lus_program.specs.declared.types.Kind.{Kind}
 use Rattle.lus_program.specs.Programs.{Expression, literal, variable, operate, pre, arrow, when, merge, call, Operands, none, more, Equation, Node, Program, empty_node, node_at}
-use Rattle.lus_streams.specs.Clocks.{Clock, clock_of, Part, at, formal_clock, base_of, parts, operand_parts, branch_parts, argument_parts}
+use Rattle.lus_streams.specs.Clocks.{Clock, clock_of, Part, at, formal_clock, base_of, branch_clock, parts, all_parts}
 use Rattle.lus_streams.specs.Equations.{Definition, given_by, equation_clock, definition_of, equation_parts, node_parts, Site, sites}
 use Rattle.lus_streams.specs.OnClock.{DefinedOnClock, IsOnClocks}
-use Rattle.lus_streams.specs.Order.{needs_all, clock_variables, needs_right, needed}
+use Rattle.lus_streams.specs.Order.{clock_variables, needs_right, needed}
 use Rattle.lus_streams.specs.Flags.{HasOutput, OutputIs, CallsHaveOutputs}
 use Rattle.lus_streams.proofs.Calls.{OfCall, parts_of_sites}
 use Rattle.lus_streams.proofs.Definitions.{defined_on_clock}
@@ -53,7 +53,7 @@ module _ (p : Program) (f : Node) where
     typed_in_node : (e : Expression) (k : Clock) → HasKind p f e → Each (Known f) (clock_variables k) → Each InNode (parts p e k)
     typed_in_node (literal v) k h on = ((on, tt), tt)
     typed_in_node (variable x) k h on = ((on, variable_known x h), tt)
-    typed_in_node (operate o es) k h on = ((on, tt), operands_in_node es k (operate_typed p f o es h) on)
+    typed_in_node (operate o es) k h on = ((on, tt), all_in_node es (λ m. k) 0 (operate_typed p f o es h) (λ m. on))
     typed_in_node (pre a) k h on = ((on, tt), typed_in_node a k h on)
     typed_in_node (arrow a b) k h on =
         let both = both_typed p f a b h in
@@ -64,40 +64,30 @@ module _ (p : Program) (f : Node) where
     typed_in_node (merge x bs) k h on =
         let given = merge_typed p f x bs h in
         let known = variable_known x given.0 in
-        ((on, known), branches_in_node bs x 0 k given.1 known on)
+        ((on, known), all_in_node bs (branch_clock x k) 0 given.1 (λ m. (known, on)))
     typed_in_node (call g c args) k h on =
         let made = call_typed p f g c args h in
+        let base = base_of (node_at p g) k in
         let have : HaveKinds p f args = (made.2.arguments, made.2.have) in
-        let named = all_known p (Known f) AnyCall args [] (operands_in_node args [] have tt) in
-        ((on, tt), arguments_in_node args (node_at p g) args (base_of (node_at p g) k) 0 have named (each_map_drop (Known f) (λ (t : Test). t.variable) _ k on))
+        let below = each_map_drop (Known f) (λ (t : Test). t.variable) _ k on in
+        let named = all_known p (Known f) AnyCall args (λ m. []) 0 (all_in_node args (λ m. []) 0 have (λ m. tt)) in
+        ((on, tt), all_in_node args (formal_clock (node_at p g) args base) 0 have (λ m. formal_variables (Known f) (node_at p g) args base m named below))
 
-    operands_in_node : (es : Operands) (k : Clock) → HaveKinds p f es → Each (Known f) (clock_variables k) → Each InNode (operand_parts p es k)
-    operands_in_node none k h on = tt
-    operands_in_node (more e es) k h on =
+    all_in_node : (es : Operands) (ks : ℕ → Clock) (m : ℕ) → HaveKinds p f es → ((n : ℕ) → Each (Known f) (clock_variables (ks n))) → Each InNode (all_parts p es ks m)
+    all_in_node none ks m h on = tt
+    all_in_node (more e es) ks m h on =
         let both = more_typed p f e es h in
-        each_append InNode (parts p e k) (operand_parts p es k) (typed_in_node e k both.0 on) (operands_in_node es k both.1 on)
-
-    branches_in_node : (es : Operands) (x c : ℕ) (k : Clock) → HaveKinds p f es → Known f x → Each (Known f) (clock_variables k) → Each InNode (branch_parts p es x c k)
-    branches_in_node none x c k h known on = tt
-    branches_in_node (more e es) x c k h known on =
-        let both = more_typed p f e es h in
-        let k' : Clock = record { variable = x; constructor = c } ∷ k in
-        each_append InNode (parts p e k') (branch_parts p es x (suc c) k) (typed_in_node e k' both.0 (known, on)) (branches_in_node es x (suc c) k both.1 known on)
-
-    arguments_in_node : (es : Operands) (g : Node) (args : Operands) (base : Clock) (m : ℕ) → HaveKinds p f es → Each (Known f) (needs_all args) → Each (Known f) (clock_variables base) → Each InNode (argument_parts p es g args base m)
-    arguments_in_node none g args base m h named on = tt
-    arguments_in_node (more e es) g args base m h named on =
-        let both = more_typed p f e es h in
-        let k = formal_clock g args base m in
-        each_append InNode (parts p e k) (argument_parts p es g args base (suc m)) (typed_in_node e k both.0 (formal_variables (Known f) g args base m named on)) (arguments_in_node es g args base (suc m) both.1 named on)
+        each_append InNode (parts p e (ks m)) (all_parts p es ks (suc m)) (typed_in_node e (ks m) both.0 (on m)) (all_in_node es ks (suc m) both.1 on)
 
   -- whole right sides
   right_in_node : (e : Expression) (k : Clock) (ls : List Kind) → kinds_given_in p f e ≡ Some ls → Each (Known f) (clock_variables k) → Each InNode (parts p e k)
   right_in_node (call g c args) k ls h on =
       let made = whole_call p f g c args ls h in
+      let base = base_of (node_at p g) k in
       let have : HaveKinds p f args = (made.arguments, made.have) in
-      let named = all_known p (Known f) AnyCall args [] (operands_in_node args [] have tt) in
-      ((on, tt), arguments_in_node args (node_at p g) args (base_of (node_at p g) k) 0 have named (each_map_drop (Known f) (λ (t : Test). t.variable) _ k on))
+      let below = each_map_drop (Known f) (λ (t : Test). t.variable) _ k on in
+      let named = all_known p (Known f) AnyCall args (λ m. []) 0 (all_in_node args (λ m. []) 0 have (λ m. tt)) in
+      ((on, tt), all_in_node args (formal_clock (node_at p g) args base) 0 have (λ m. formal_variables (Known f) (node_at p g) args base m named below))
   right_in_node e k ls h on = typed_in_node e k (whole_typed p f e ls h) on
 
   equations_in_node : ((x : ℕ) → Known f x → Each (Known f) (clock_variables (clock_of f x))) → (qs : List Equation) → Each (EquationFits p f) qs → Each (DefinesFirst f) qs → Each InNode (equation_parts p f qs)

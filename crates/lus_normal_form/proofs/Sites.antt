@@ -1,15 +1,14 @@
 -- The calls of a normal form are those of the source, in their order.
 use Rattle.std.proofs.Common.{◌≡◌, ◌∙◌, sym, ap, subst, ℕ, suc, ◌+◌, List, [], ◌∷◌, ◌++◌, drop, length, append_assoc, arith}
 use Rattle.lus_program.specs.Programs.{Expression, literal, variable, operate, pre, arrow, when, merge, call, Operands, none, more, Program, node_at}
-use Rattle.lus_streams.specs.Clocks.{Clock, Part, at, formal_clock, base_of, parts, argument_parts}
+use Rattle.lus_streams.specs.Clocks.{Clock, Part, at, formal_clock, base_of, branch_clock, parts, all_parts}
 use Rattle.lus_streams.specs.Equations.{Site, sites_in}
 use Rattle.lus_normal_form.specs.NormalForm.{IsRight}
 use Rattle.lus_normal_form.specs.NormalNodes.{AreSites, EachFrom}
 use Rattle.lus_normal_form.specs.Forms.{Position, Inside, Operand, size, listed, operands_form, right_form}
-use Rattle.lus_normal_form.specs.Parts.{branch_clock, right_taken, operands_taken, taken}
+use Rattle.lus_normal_form.specs.Parts.{right_taken, operands_taken, taken}
 use Rattle.lus_normal_form.specs.Computed.{IsRightOf}
 use Rattle.lus_normal_form.proofs.Counted.{after_taken}
-use Rattle.lus_normal_form.proofs.OperandParts.{parts_on, operands_on, branches_on, arguments_on}
 use Rattle.lus_normal_form.proofs.Runs.{from_left, from_right}
 
 module _ (p : Program) where
@@ -83,23 +82,20 @@ module _ (p : Program) where
       pub right_sites : (e : Expression) (k : Clock) → Right e k
       right_sites (literal v) k n is h = λ rest ss before. before
       right_sites (variable x) k n is h = λ rest ss before. before
-      right_sites (operate o es) k n is h =
-          subst (λ ts. Before ts (heads n (operands_taken p Inside es (λ m. k) 0))) (sym (operands_on p es k 0)) (operands_sites Inside es (λ m. k) 0 n h)
+      right_sites (operate o es) k n is h = operands_sites Inside es (λ m. k) 0 n h
       right_sites (pre a) k n is h = one Operand a k n (right_sites a k) h
       right_sites (arrow a b) k n is h = first Inside a k n (parts p b k) (taken p Inside b k) (right_sites a k) (one Inside b k (n + size Inside a) (right_sites b k)) h
       right_sites (when t a) k n is h = one Operand a (drop 1 k) n (right_sites a (drop 1 k)) h
-      right_sites (merge x bs) k n is h =
-          subst (λ ts. Before ts (heads n (operands_taken p Inside bs (branch_clock x k) 0))) (sym (branches_on p bs x 0 k)) (operands_sites Inside bs (branch_clock x k) 0 n h)
+      right_sites (merge x bs) k n is h = operands_sites Inside bs (branch_clock x k) 0 n h
       right_sites (call g c args) k n is h = λ rest ss before.
           let called = node_at p g in
           let base = base_of called k in
           let news = heads n (operands_taken p Operand args (formal_clock called args base) 0) in
           let same : listed (operands_form Operand n args) ≡ is.0 = (let e = is.1 in cc) in
-          let arguments : Before (argument_parts p args called args base 0) news =
-          subst (λ ts. Before ts news) (sym (arguments_on p args called args base 0)) (operands_sites Operand args (formal_clock called args base) 0 n h) in
+          let arguments = operands_sites Operand args (formal_clock called args base) 0 n h in
           (is.0, news ++ ss, ap (λ z. record { node = g; number = c; args = z; base = base } ∷ (news ++ ss)) same, is.2, arguments rest ss before)
 
-      operands_sites : (here : Position) (es : Operands) (ks : ℕ → Clock) (m n : ℕ) → EachFrom G n (operands_taken p here es ks m) → Before (parts_on p es ks m) (heads n (operands_taken p here es ks m))
+      operands_sites : (here : Position) (es : Operands) (ks : ℕ → Clock) (m n : ℕ) → EachFrom G n (operands_taken p here es ks m) → Before (all_parts p es ks m) (heads n (operands_taken p here es ks m))
       operands_sites here none ks m n h = λ rest ss before. before
       operands_sites here (more e es) ks m n h =
-          first here e (ks m) n (parts_on p es ks (suc m)) (operands_taken p here es ks (suc m)) (right_sites e (ks m)) (operands_sites here es ks (suc m) (n + size here e)) h
+          first here e (ks m) n (all_parts p es ks (suc m)) (operands_taken p here es ks (suc m)) (right_sites e (ks m)) (operands_sites here es ks (suc m) (n + size here e)) h

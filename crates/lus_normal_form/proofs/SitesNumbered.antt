@@ -1,7 +1,7 @@
 -- Where the calls of equations are numbered by their places in the program, those of the node's parts are by theirs.
 use Rattle.std.proofs.Common.{◌≡◌, refl, sym, subst, ℕ, suc, ◌+◌, List, [], ◌∷◌, ◌++◌, drop, append_assoc, arith}
 use Rattle.lus_program.specs.Programs.{Expression, literal, variable, operate, pre, arrow, when, merge, call, Operands, none, more, calls, all_calls, numbered, all_numbered, Equation, Node, Program, node_at}
-use Rattle.lus_streams.specs.Clocks.{Clock, Part, formal_clock, base_of, parts, operand_parts, branch_parts, argument_parts}
+use Rattle.lus_streams.specs.Clocks.{Clock, Part, formal_clock, base_of, branch_clock, parts, all_parts}
 use Rattle.lus_streams.specs.Equations.{equation_clock, equation_parts, sites_in}
 use Rattle.lus_meaning.specs.Resolved.{AreNumbered}
 use Rattle.lus_normal_form.specs.Named.{Numbered}
@@ -25,36 +25,22 @@ module _ (p : Program) where
     expression_from : (e : Expression) (n : ℕ) (k : Clock) (rest : List Part) → From (n + calls e) rest → From n (parts p (numbered n e) k ++ rest)
     expression_from (literal v) n k rest h = from_none n rest h
     expression_from (variable x) n k rest h = from_none n rest h
-    expression_from (operate o es) n k rest h = operands_from es n k rest h
+    expression_from (operate o es) n k rest h = all_from es n (λ m. k) 0 rest h
     expression_from (pre a) n k rest h = expression_from a n k rest h
     expression_from (arrow a b) n k rest h =
         let second = parts p (numbered (n + calls a) b) k in
         from_apart n (parts p (numbered n a) k) second rest (expression_from a n k (second ++ rest) (expression_from b (n + calls a) k rest (from_sum n (calls a) (calls b) rest h)))
     expression_from (when t a) n k rest h = expression_from a n (drop 1 k) rest h
-    expression_from (merge x bs) n k rest h = branches_from bs n x 0 k rest h
+    expression_from (merge x bs) n k rest h = all_from bs n (branch_clock x k) 0 rest h
     expression_from (call g c es) n k rest h =
         let next : n + suc (all_calls es) ≡ suc n + all_calls es = omega arith in
-        (refl, arguments_from es (suc n) (node_at p g) (all_numbered (suc n) es) (base_of (node_at p g) k) 0 rest (subst (λ m. From m rest) next h))
+        (refl, all_from es (suc n) (formal_clock (node_at p g) (all_numbered (suc n) es) (base_of (node_at p g) k)) 0 rest (subst (λ m. From m rest) next h))
 
-    operands_from : (es : Operands) (n : ℕ) (k : Clock) (rest : List Part) → From (n + all_calls es) rest → From n (operand_parts p (all_numbered n es) k ++ rest)
-    operands_from none n k rest h = from_none n rest h
-    operands_from (more e es) n k rest h =
-        let others = operand_parts p (all_numbered (n + calls e) es) k in
-        from_apart n (parts p (numbered n e) k) others rest (expression_from e n k (others ++ rest) (operands_from es (n + calls e) k rest (from_sum n (calls e) (all_calls es) rest h)))
-
-    branches_from : (es : Operands) (n x c : ℕ) (k : Clock) (rest : List Part) → From (n + all_calls es) rest → From n (branch_parts p (all_numbered n es) x c k ++ rest)
-    branches_from none n x c k rest h = from_none n rest h
-    branches_from (more e es) n x c k rest h =
-        let k' : Clock = record { variable = x; constructor = c } ∷ k in
-        let others = branch_parts p (all_numbered (n + calls e) es) x (suc c) k in
-        from_apart n (parts p (numbered n e) k') others rest (expression_from e n k' (others ++ rest) (branches_from es (n + calls e) x (suc c) k rest (from_sum n (calls e) (all_calls es) rest h)))
-
-    arguments_from : (es : Operands) (n : ℕ) (g : Node) (args : Operands) (base : Clock) (m : ℕ) (rest : List Part) → From (n + all_calls es) rest → From n (argument_parts p (all_numbered n es) g args base m ++ rest)
-    arguments_from none n g args base m rest h = from_none n rest h
-    arguments_from (more e es) n g args base m rest h =
-        let k = formal_clock g args base m in
-        let others = argument_parts p (all_numbered (n + calls e) es) g args base (suc m) in
-        from_apart n (parts p (numbered n e) k) others rest (expression_from e n k (others ++ rest) (arguments_from es (n + calls e) g args base (suc m) rest (from_sum n (calls e) (all_calls es) rest h)))
+    all_from : (es : Operands) (n : ℕ) (ks : ℕ → Clock) (m : ℕ) (rest : List Part) → From (n + all_calls es) rest → From n (all_parts p (all_numbered n es) ks m ++ rest)
+    all_from none n ks m rest h = from_none n rest h
+    all_from (more e es) n ks m rest h =
+        let others = all_parts p (all_numbered (n + calls e) es) ks (suc m) in
+        from_apart n (parts p (numbered n e) (ks m)) others rest (expression_from e n (ks m) (others ++ rest) (all_from es (n + calls e) ks (suc m) rest (from_sum n (calls e) (all_calls es) rest h)))
 
   pub equations_numbered : (f : Node) (n : ℕ) (qs : List Equation) → AreNumbered n qs → From n (equation_parts p f qs)
   equations_numbered f n [] h = tt

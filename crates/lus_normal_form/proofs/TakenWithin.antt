@@ -1,14 +1,13 @@
 -- What is taken out of a right side is among its parts.
-use Rattle.std.proofs.Common.{◌≡◌, ℕ, suc, Bool, true, false, cond, List, [], ◌∷◌, ◌++◌, drop, sym, subst, ap, ◌∙◌, append_assoc}
+use Rattle.std.proofs.Common.{◌≡◌, ℕ, suc, Bool, true, false, cond, List, [], ◌∷◌, ◌++◌, drop, sym, ap, ◌∙◌, append_assoc}
 use Rattle.lus_values.specs.Lists.{Each}
 use Rattle.lus_program.specs.Programs.{Expression, literal, variable, operate, pre, arrow, when, merge, call, Operands, none, more, Equation, Node, Program, node_at}
-use Rattle.lus_streams.specs.Clocks.{Clock, Part, at, formal_clock, base_of, parts, operand_parts, branch_parts, argument_parts}
+use Rattle.lus_streams.specs.Clocks.{Clock, Part, at, formal_clock, base_of, branch_clock, parts, all_parts}
 use Rattle.lus_streams.specs.Equations.{equation_clock, equation_parts, node_parts}
 use Rattle.lus_streams.proofs.Lists.{each_append}
 use Rattle.lus_normal_form.specs.NormalNodes.{IsWithin}
 use Rattle.lus_normal_form.specs.Forms.{Position, Inside, Operand, is_taken}
-use Rattle.lus_normal_form.specs.Parts.{branch_clock, right_taken, operands_taken, taken, equations_taken, node_taken}
-use Rattle.lus_normal_form.proofs.OperandParts.{parts_on, operands_on, branches_on, arguments_on}
+use Rattle.lus_normal_form.specs.Parts.{right_taken, operands_taken, taken, equations_taken, node_taken}
 
 -- these are items of all, one after the other
 module _ (p : Program) (all : List Part) where
@@ -41,19 +40,18 @@ module _ (p : Program) (all : List Part) where
     within : (e : Expression) (k : Clock) → AreIn (parts p e k) → W (right_taken p e k)
     within (literal v) k h = tt
     within (variable x) k h = tt
-    within (operate o es) k h = all_within Inside es (λ m. k) 0 (subst AreIn (operands_on p es k 0) (tail_in (at k (operate o es)) (operand_parts p es k) h))
+    within (operate o es) k h = all_within Inside es (λ m. k) 0 (tail_in (at k (operate o es)) (all_parts p es (λ m. k) 0) h)
     within (pre a) k h = one Operand a k (tail_in (at k (pre a)) (parts p a k) h) (within a k)
     within (arrow a b) k h = first Inside a k (parts p b k) (taken p Inside b k) (tail_in (at k (arrow a b)) (parts p a k ++ parts p b k) h) (within a k) (λ l. one Inside b k l (within b k))
     within (when t a) k h = one Operand a (drop 1 k) (tail_in (at k (when t a)) (parts p a (drop 1 k)) h) (within a (drop 1 k))
-    within (merge x bs) k h = all_within Inside bs (branch_clock x k) 0 (subst AreIn (branches_on p bs x 0 k) (tail_in (at k (merge x bs)) (branch_parts p bs x 0 k) h))
+    within (merge x bs) k h = all_within Inside bs (branch_clock x k) 0 (tail_in (at k (merge x bs)) (all_parts p bs (branch_clock x k) 0) h)
     within (call g c args) k h =
-        let called = node_at p g in
-        let base = base_of called k in
-        all_within Operand args (formal_clock called args base) 0 (subst AreIn (arguments_on p args called args base 0) (tail_in (at k (call g c args)) (argument_parts p args called args base 0) h))
+        let ks = formal_clock (node_at p g) args (base_of (node_at p g) k) in
+        all_within Operand args ks 0 (tail_in (at k (call g c args)) (all_parts p args ks 0) h)
 
-    all_within : (here : Position) (es : Operands) (ks : ℕ → Clock) (m : ℕ) → AreIn (parts_on p es ks m) → W (operands_taken p here es ks m)
+    all_within : (here : Position) (es : Operands) (ks : ℕ → Clock) (m : ℕ) → AreIn (all_parts p es ks m) → W (operands_taken p here es ks m)
     all_within here none ks m h = tt
-    all_within here (more e es) ks m h = first here e (ks m) (parts_on p es ks (suc m)) (operands_taken p here es ks (suc m)) h (within e (ks m)) (all_within here es ks (suc m))
+    all_within here (more e es) ks m h = first here e (ks m) (all_parts p es ks (suc m)) (operands_taken p here es ks (suc m)) h (within e (ks m)) (all_within here es ks (suc m))
 
   equations_within : (f : Node) (qs : List Equation) → AreIn (equation_parts p f qs) → W (equations_taken p f qs)
   equations_within f [] h = tt

@@ -4,11 +4,12 @@ use Rattle.lus_values.specs.Values.{Value}
 use Rattle.lus_program.specs.Programs.{Expression, literal, variable, operate, pre, arrow, when, merge, call, Operands, none, more, Program}
 use Rattle.lus_values.specs.Lists.{Each}
 use Rattle.lus_values.specs.Operators.{apply}
-use Rattle.lus_streams.specs.Clocks.{Clock, Part, parts, operand_parts, branch_parts}
+use Rattle.lus_streams.specs.Clocks.{Clock, Part, branch_clock, parts, all_parts}
 use Rattle.lus_streams.specs.Equations.{given_by}
 use Rattle.lus_streams.specs.Streams.{Instant, World, is_present, entry, is_constructor, holds, is_on, at_last, with_operand, with_operands, output, value, values, branch, definition_value}
 use Rattle.lus_streams.specs.Order.{clock_variables}
-use Rattle.lus_normal_form.specs.NormalForm.{IsOperand, IsNormal, AreNormal, AreBranches, IsRight}
+use Rattle.lus_normal_form.specs.Forms.{Inside, Operand, is_taken}
+use Rattle.lus_normal_form.specs.NormalForm.{Stands, IsRight, AreNormal}
 use Rattle.lus_normal_form.specs.Named.{Uses}
 use Rattle.lus_streams.proofs.Lists.{each_left, each_right}
 use Rattle.lus_streams.proofs.NilFree.{and_right}
@@ -20,9 +21,6 @@ on_drop (t ∷ k) i h = and_right (holds t.variable t.constructor i) (is_on k i)
 
 -- V: the variables that the source has; C: its calls, with their outputs; New y k a: y is the new variable for a on k
 module _ (p p' : Program) (V : ℕ → Type 0) (C : (g c n : ℕ) → Type 0) (New : ℕ → Clock → Expression → Type 0) where
-  abbrev Normal : Expression → Expression → Clock → Type 0
-  Normal = IsNormal p New
-
   -- an instant and the normal form's; a new variable holds its expression's value, which may be shown from its right side
   pub record Keeps (i i' : Instant) (w w' : World) : Type 0 where
     pub base : is_present i ≡ is_present i'
@@ -64,84 +62,71 @@ module _ (p p' : Program) (V : ℕ → Type 0) (C : (g c n : ℕ) → Type 0) (N
       one_on (is_on k i) (f i w) (f' i' w') _ _ (λ t. g i i' w w' l.0 l.1 t) (at_last_keeps k w w' d d' f f' h l.1 e g)
       ∙ ap (λ b. either b (f' i' w') (at_last k w' d' f')) (on_keeps k i i' w w' h l.0)
 
-  -- a normal form is no call
+  -- output 0 of an expression is its value
+  pub first_value : (e : Expression) (xs : List ℕ) (k : Clock) (i : Instant) (w : World) → definition_value p' (Some (given_by e 0 xs k)) i w ≡ value p' e k i w
+  first_value (call g c args) xs k i w = refl
+  first_value _ xs k i w = refl
+
+  -- each output of what is no call is its value
   abbrev IsPlain : Expression → Type 0
   IsPlain (call g c args) = ⊥
   IsPlain _ = Unit {0}
 
-  plain : (e e' : Expression) (k : Clock) → Normal e e' k → IsPlain e'
-  plain (literal v) e' k is = subst IsPlain (sym is) tt
-  plain (variable x) e' k is = subst IsPlain (sym is) tt
-  plain (operate o es) e' k is = subst IsPlain (sym is.1) tt
-  plain (arrow a b) e' k is = subst IsPlain (sym is.2) tt
-  plain e e' k is = subst IsPlain (sym is.1) tt
+  abbrev GivesValue : Expression → ℕ → List ℕ → Clock → Instant → World → Type 0
+  GivesValue e n xs k i w = definition_value p' (Some (given_by e n xs k)) i w ≡ value p' e k i w
 
-  plain_value : (e' : Expression) (n : ℕ) (xs : List ℕ) (k : Clock) (i' : Instant) (w' : World) → IsPlain e' → definition_value p' (Some (given_by e' n xs k)) i' w' ≡ value p' e' k i' w'
-  plain_value (call g c args) n xs k i' w' h = absurd h
-  plain_value _ n xs k i' w' h = refl
+  pub plain_value : (e e' : Expression) (n : ℕ) (xs : List ℕ) (k : Clock) (i' : Instant) (w' : World) → IsPlain e → IsRight p New e e' k → GivesValue e' n xs k i' w'
+  plain_value (call g c args) e' n xs k i' w' h is = absurd h
+  plain_value (literal v) e' n xs k i' w' h is = subst (λ z. GivesValue z n xs k i' w') (sym is) refl
+  plain_value (variable x) e' n xs k i' w' h is = subst (λ z. GivesValue z n xs k i' w') (sym is) refl
+  plain_value (arrow a b) e' n xs k i' w' h is = subst (λ z. GivesValue z n xs k i' w') (sym is.2) refl
+  plain_value e e' n xs k i' w' h is = subst (λ z. GivesValue z n xs k i' w') (sym is.1) refl
 
-  -- a right side gives what its source gives, which is shown of a source that is no call
-  pub right_value : (a e' : Expression) (n : ℕ) (xs ys : List ℕ) (k : Clock) (i i' : Instant) (w w' : World) → IsRight p New a e' k
-      → ((g c : ℕ) (args : Operands) → a ≡ call g c args → C g c n) → Keeps i i' w w' → (Normal a e' k → value p a k i w ≡ value p' e' k i' w')
-      → definition_value p (Some (given_by a n ys k)) i w ≡ definition_value p' (Some (given_by e' n xs k)) i' w'
-  right_value (call g c args) e' n xs ys k i i' w w' is u l same = l.outputs g c n (u g c args refl) ∙ ap (λ z. definition_value p' (Some (given_by z n xs k)) i' w') (sym is.1)
-  right_value a e' n xs ys k i i' w w' is u l same = same is ∙ sym (plain_value e' n xs k i' w' (plain a e' k is))
+  abbrev Same : Expression → Expression → Clock → Instant → Instant → World → World → Type 0
+  Same e e' k i i' w w' = value p e k i w ≡ value p' e' k i' w'
 
-  -- output 0 of an expression is its value
-  pub first_value : (a : Expression) (ys : List ℕ) (k : Clock) (i : Instant) (w : World) → definition_value p (Some (given_by a 0 ys k)) i w ≡ value p a k i w
-  first_value (call g c args) ys k i w = refl
-  first_value _ ys k i w = refl
-
-  -- a call is the source's
-  pub names_call : (a : Expression) (k : Clock) → Each Used (parts p a k) → (g c : ℕ) (args : Operands) → a ≡ call g c args → C g c 0
-  names_call a k u g c args e = (subst (λ z. Each Used (parts p z k)) e u).0.1
-
-  -- an operand in normal form has the operand's value, where the right side of its new variable has
-  pub operand_value : (a a' : Expression) (k : Clock) → IsOperand p New a a' k → Each Used (parts p a k) → (i i' : Instant) (w w' : World) → Keeps i i' w w' → IsTrue (is_on k i)
-      → ((e' : Expression) → Normal a e' k → value p a k i w ≡ value p' e' k i' w') → value p a k i w ≡ value p' a' k i' w'
-  operand_value (literal v) a' k is u i i' w w' l t same = ap (λ z. value p' z k i' w') (sym is)
-  operand_value (variable x) a' k is u i i' w w' l t same = l.entries x u.0.1 ∙ ap (λ z. value p' z k i' w') (sym is)
-  operand_value a a' k is u i i' w w' l t same =
-      l.new is.0 k a is.2 t (λ e' xs r. sym (first_value a [] k i w) ∙ right_value a e' 0 xs [] k i i' w w' r (names_call a k u) l (same e'))
-      ∙ ap (λ z. value p' z k i' w') (sym is.1)
+  -- what stands for an expression has its value, where its form has
+  pub one : (b : Bool) (a a' : Expression) (k : Clock) → Stands p New b a a' k (IsRight p New a a' k) → (i i' : Instant) (w w' : World) → Keeps i i' w w' → IsTrue (is_on k i)
+      → ((e' : Expression) → IsRight p New a e' k → Same a e' k i i' w w') → Same a a' k i i' w w'
+  one true a a' k is i i' w w' l t same = l.new is.0 k a is.2 t (λ e' xs r. same e' r ∙ sym (first_value e' xs k i' w')) ∙ ap (λ z. value p' z k i' w') (sym is.1)
+  one false a a' k is i i' w w' l t same = same a' is
 
   mutual
-    pub normal_value : (e e' : Expression) (k : Clock) → Normal e e' k → Each Used (parts p e k) → (i i' : Instant) (w w' : World) → Keeps i i' w w' → KeepsOver w w' → IsTrue (is_on k i) → value p e k i w ≡ value p' e' k i' w'
-    normal_value (literal v) e' k is u i i' w w' l over t = ap (λ z. value p' z k i' w') (sym is)
-    normal_value (variable x) e' k is u i i' w w' l over t = l.entries x u.0.1 ∙ ap (λ z. value p' z k i' w') (sym is)
-    normal_value (operate o es) e' k is u i i' w w' l over t = ap (with_operands (apply o)) (normal_values es is.0 k is.2 u.1 i i' w w' l over t) ∙ ap (λ z. value p' z k i' w') (sym is.1)
-    normal_value (pre a) e' k is u i i' w w' l over t =
+    pub right_value : (e e' : Expression) (k : Clock) → IsRight p New e e' k → Each Used (parts p e k) → (i i' : Instant) (w w' : World) → Keeps i i' w w' → KeepsOver w w' → IsTrue (is_on k i) → Same e e' k i i' w w'
+    right_value (literal v) e' k is u i i' w w' l over t = ap (λ z. value p' z k i' w') (sym is)
+    right_value (variable x) e' k is u i i' w w' l over t = l.entries x u.0.1 ∙ ap (λ z. value p' z k i' w') (sym is)
+    right_value (operate o es) e' k is u i i' w w' l over t = ap (with_operands (apply o)) (normal_values es is.0 k 0 is.2 u.1 i i' w w' l over t) ∙ ap (λ z. value p' z k i' w') (sym is.1)
+    right_value (pre a) e' k is u i i' w w' l over t =
         at_last_keeps k w w' _ _ _ _ u.0.0 over refl
-        (λ j j' b b' lj lb tj. operand_value a is.0 k is.2 u.1 j j' b b' lj tj (λ r n. normal_value a r k n u.1 j j' b b' lj lb tj))
+        (λ j j' b b' lj lb tj. one (is_taken Operand a) a is.0 k is.2 j j' b b' lj tj (λ r n. right_value a r k n u.1 j j' b b' lj lb tj))
         ∙ ap (λ z. value p' z k i' w') (sym is.1)
-    normal_value (arrow a b) e' k is u i i' w w' l over t =
-        let first = normal_value a is.0 k is.3 (each_left Used (parts p a k) (parts p b k) u.1) i i' w w' l over t in
-        let later = normal_value b is.1 k is.4 (each_right Used (parts p a k) (parts p b k) u.1) i i' w w' l over t in
+    right_value (arrow a b) e' k is u i i' w w' l over t =
+        let first = one (is_taken Inside a) a is.0 k is.3 i i' w w' l t (λ r n. right_value a r k n (each_left Used (parts p a k) (parts p b k) u.1) i i' w w' l over t) in
+        let later = one (is_taken Inside b) b is.1 k is.4 i i' w w' l t (λ r n. right_value b r k n (each_right Used (parts p a k) (parts p b k) u.1) i i' w w' l over t) in
         at_last_keeps k w w' _ _ _ _ u.0.0 over first (λ _ _ _ _ _ _ _. later) ∙ ap (λ z. value p' z k i' w') (sym is.2)
-    normal_value (when c a) e' k is u i i' w w' l over t =
+    right_value (when c a) e' k is u i i' w w' l over t =
         let on_rest = on_drop k i t in
-        operand_value a is.0 (drop 1 k) is.2 u.1 i i' w w' l on_rest (λ r n. normal_value a r (drop 1 k) n u.1 i i' w w' l over on_rest)
-        ∙ ap (λ z. value p' z k i' w') (sym is.1)
-    normal_value (merge x bs) e' k is u i i' w w' l over t = normal_branch bs is.0 x 0 k is.2 u.0.1 u.1 i i' w w' l over t ∙ ap (λ z. value p' z k i' w') (sym is.1)
-    normal_value (call g c args) e' k is u i i' w w' l over t =
-        l.new is.0 k (call g c args) is.2 t (λ r xs m. l.outputs g c 0 u.0.1 ∙ ap (λ z. definition_value p' (Some (given_by z 0 xs k)) i' w') (sym m.1))
-        ∙ ap (λ z. value p' z k i' w') (sym is.1)
+        one (is_taken Operand a) a is.0 (drop 1 k) is.2 i i' w w' l on_rest (λ r n. right_value a r (drop 1 k) n u.1 i i' w w' l over on_rest) ∙ ap (λ z. value p' z k i' w') (sym is.1)
+    right_value (merge x bs) e' k is u i i' w w' l over t = normal_branch bs is.0 x 0 k is.2 u.0.1 u.1 i i' w w' l over t ∙ ap (λ z. value p' z k i' w') (sym is.1)
+    right_value (call g c args) e' k is u i i' w w' l over t = l.outputs g c 0 u.0.1 ∙ ap (λ z. value p' z k i' w') (sym is.1)
 
-    normal_values : (es es' : Operands) (k : Clock) → AreNormal p New es es' k → Each Used (operand_parts p es k) → (i i' : Instant) (w w' : World) → Keeps i i' w w' → KeepsOver w w' → IsTrue (is_on k i) → values p es k i w ≡ values p' es' k i' w'
-    normal_values none es' k is u i i' w w' l over t = ap (λ z. values p' z k i' w') (sym is)
-    normal_values (more e es) es' k is u i i' w w' l over t =
+    normal_values : (es es' : Operands) (k : Clock) (m : ℕ) → AreNormal p New Inside es es' (λ m. k) m → Each Used (all_parts p es (λ m. k) m) → (i i' : Instant) (w w' : World) → Keeps i i' w w' → KeepsOver w w' → IsTrue (is_on k i)
+        → values p es k i w ≡ values p' es' k i' w'
+    normal_values none es' k m is u i i' w w' l over t = ap (λ z. values p' z k i' w') (sym is)
+    normal_values (more e es) es' k m is u i i' w w' l over t =
+        let rest = all_parts p es (λ m. k) (suc m) in
         ap₂ with_operand
-        (normal_value e is.0 k is.3 (each_left Used (parts p e k) (operand_parts p es k) u) i i' w w' l over t)
-        (normal_values es is.1 k is.4 (each_right Used (parts p e k) (operand_parts p es k) u) i i' w w' l over t)
+        (one (is_taken Inside e) e is.0 k is.3 i i' w w' l t (λ r n. right_value e r k n (each_left Used (parts p e k) rest u) i i' w w' l over t))
+        (normal_values es is.1 k (suc m) is.4 (each_right Used (parts p e k) rest u) i i' w w' l over t)
         ∙ ap (λ z. values p' z k i' w') (sym is.2)
 
-    normal_branch : (es es' : Operands) (x c : ℕ) (k : Clock) → AreBranches p New es es' x c k → V x → Each Used (branch_parts p es x c k) → (i i' : Instant) (w w' : World) → Keeps i i' w w' → KeepsOver w w' → IsTrue (is_on k i)
-        → branch p es x c k i w ≡ branch p' es' x c k i' w'
+    normal_branch : (es es' : Operands) (x c : ℕ) (k : Clock) → AreNormal p New Inside es es' (branch_clock x k) c → V x → Each Used (all_parts p es (branch_clock x k) c)
+        → (i i' : Instant) (w w' : World) → Keeps i i' w w' → KeepsOver w w' → IsTrue (is_on k i) → branch p es x c k i w ≡ branch p' es' x c k i' w'
     normal_branch none es' x c k is vx u i i' w w' l over t = ap (λ z. branch p' z x c k i' w') (sym is)
     normal_branch (more e es) es' x c k is vx u i i' w w' l over t =
-        let k' : Clock = record { variable = x; constructor = c } ∷ k in
-        let rest = branch_parts p es x (suc c) k in
-        let here = normal_value e is.0 k' is.3 (each_left Used (parts p e k') rest u) i i' w w' l over in
+        let k' = branch_clock x k c in
+        let rest = all_parts p es (branch_clock x k) (suc c) in
+        let here = λ (t' : IsTrue (is_on k' i)). one (is_taken Inside e) e is.0 k' is.3 i i' w w' l t' (λ r n. right_value e r k' n (each_left Used (parts p e k') rest u) i i' w w' l over t') in
         let others = normal_branch es is.1 x (suc c) k is.4 vx (each_right Used (parts p e k') rest u) i i' w w' l over t in
         one_on (holds x c i) _ _ _ _ (λ h. here (ap₂ ◌&&◌ h t)) others
         ∙ ap (λ b. either b (value p' is.0 k' i' w') (branch p' is.1 x (suc c) k i' w')) (ap (is_constructor c) (l.entries x vx))

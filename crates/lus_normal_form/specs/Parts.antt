@@ -1,17 +1,13 @@
 -- What is taken out of right sides, each part on its clock, in the order of the new variables.
 use Rattle.std.specs.Prelude.{ℕ, suc, List, [], ◌∷◌, ◌++◌, drop, cond}
 use Rattle.lus_program.specs.Programs.{Expression, literal, variable, operate, pre, arrow, when, merge, call, Operands, none, more, Equation, Node, Program, node_at}
-use Rattle.lus_streams.specs.Clocks.{Clock, Part, at, formal_clock, base_of}
+use Rattle.lus_streams.specs.Clocks.{Clock, Part, at, formal_clock, base_of, branch_clock}
 use Rattle.lus_streams.specs.Equations.{equation_clock}
 use Rattle.lus_normal_form.specs.Forms.{Position, Inside, Operand, is_taken}
 
 -- for an expression, and what is taken out of it in turn
 abbrev pub part_taken : Position → Expression → Clock → List Part → List Part
 part_taken here e k ts = cond (is_taken here e) (at k e ∷ ts) ts
-
--- the clocks of the branches of a merge by x
-abbrev pub branch_clock : ℕ → Clock → ℕ → Clock
-branch_clock x k c = record { variable = x; constructor = c } ∷ k
 
 module _ (p : Program) where
   -- out of a whole right side

@@ -4,7 +4,7 @@ use Rattle.lus_values.specs.Values.{Value}
 use Rattle.lus_program.specs.Programs.{Expression, literal, variable, operate, pre, arrow, when, merge, call, Operands, none, more, Program}
 use Rattle.lus_values.specs.Lists.{Each}
 use Rattle.lus_values.specs.Operators.{apply}
-use Rattle.lus_streams.specs.Clocks.{Clock, Part, at, parts, operand_parts, branch_parts}
+use Rattle.lus_streams.specs.Clocks.{Clock, Part, at, branch_clock, parts, all_parts}
 use Rattle.lus_streams.specs.Streams.{Instant, World, is_present, entry, is_constructor, is_on, at_last, with_operand, with_operands, output, value, values, branch}
 use Rattle.lus_streams.specs.Order.{clock_variables}
 use Rattle.lus_streams.proofs.Lists.{each_left, each_right}
@@ -50,7 +50,7 @@ module _ (p p' : Program) (V : ℕ → Type 0) (C : (g c : ℕ) → Type 0) wher
     pub value_like : (e : Expression) (k : Clock) → Each Uses (parts p e k) → (i i' : Instant) (w w' : World) → Like i i' → LikeOver w w' → value p e k i w ≡ value p' e k i' w'
     value_like (literal v) k u i i' w w' l lw = refl
     value_like (variable x) k u i i' w w' l lw = l.entries x u.0.1
-    value_like (operate o es) k u i i' w w' l lw = ap (with_operands (apply o)) (values_like es k u.1 i i' w w' l lw)
+    value_like (operate o es) k u i i' w w' l lw = ap (with_operands (apply o)) (values_like es k 0 u.1 i i' w w' l lw)
     value_like (pre a) k u i i' w w' l lw = at_last_like k w w' _ _ _ _ u.0.0 lw refl (value_like a k u.1)
     value_like (arrow a b) k u i i' w w' l lw =
         let b' = value_like b k (each_right Uses (parts p a k) (parts p b k) u.1) i i' w w' l lw in
@@ -59,16 +59,17 @@ module _ (p p' : Program) (V : ℕ → Type 0) (C : (g c : ℕ) → Type 0) wher
     value_like (merge x bs) k u i i' w w' l lw = branch_like bs x 0 k u.0.1 u.1 i i' w w' l lw
     value_like (call g c args) k u i i' w w' l lw = l.outputs g c 0 u.0.1
 
-    values_like : (es : Operands) (k : Clock) → Each Uses (operand_parts p es k) → (i i' : Instant) (w w' : World) → Like i i' → LikeOver w w' → values p es k i w ≡ values p' es k i' w'
-    values_like none k u i i' w w' l lw = refl
-    values_like (more e es) k u i i' w w' l lw =
-        ap₂ with_operand (value_like e k (each_left Uses (parts p e k) (operand_parts p es k) u) i i' w w' l lw) (values_like es k (each_right Uses (parts p e k) (operand_parts p es k) u) i i' w w' l lw)
+    values_like : (es : Operands) (k : Clock) (m : ℕ) → Each Uses (all_parts p es (λ n. k) m) → (i i' : Instant) (w w' : World) → Like i i' → LikeOver w w' → values p es k i w ≡ values p' es k i' w'
+    values_like none k m u i i' w w' l lw = refl
+    values_like (more e es) k m u i i' w w' l lw =
+        let rest = all_parts p es (λ n. k) (suc m) in
+        ap₂ with_operand (value_like e k (each_left Uses (parts p e k) rest u) i i' w w' l lw) (values_like es k (suc m) (each_right Uses (parts p e k) rest u) i i' w w' l lw)
 
-    branch_like : (es : Operands) (x c : ℕ) (k : Clock) → V x → Each Uses (branch_parts p es x c k) → (i i' : Instant) (w w' : World) → Like i i' → LikeOver w w' → branch p es x c k i w ≡ branch p' es x c k i' w'
+    branch_like : (es : Operands) (x c : ℕ) (k : Clock) → V x → Each Uses (all_parts p es (branch_clock x k) c) → (i i' : Instant) (w w' : World) → Like i i' → LikeOver w w' → branch p es x c k i w ≡ branch p' es x c k i' w'
     branch_like none x c k vx u i i' w w' l lw = refl
     branch_like (more e es) x c k vx u i i' w w' l lw =
-        let k' : Clock = record { variable = x; constructor = c } ∷ k in
-        let rest = branch_parts p es x (suc c) k in
+        let k' = branch_clock x k c in
+        let rest = all_parts p es (branch_clock x k) (suc c) in
         let here = value_like e k' (each_left Uses (parts p e k') rest u) i i' w w' l lw in
         let others = branch_like es x (suc c) k vx (each_right Uses (parts p e k') rest u) i i' w w' l lw in
         let o = l.entries x vx in

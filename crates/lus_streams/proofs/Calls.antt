@@ -2,7 +2,7 @@
 use Rattle.std.proofs.Common.{ℕ, suc, List, [], ◌∷◌, drop}
 use Rattle.lus_program.specs.Programs.{Expression, literal, variable, operate, pre, arrow, when, merge, call, Operands, none, more, Equation, Node, Program, node_at}
 use Rattle.lus_values.specs.Lists.{Each}
-use Rattle.lus_streams.specs.Clocks.{Clock, Part, at, formal_clock, base_of, parts, operand_parts, branch_parts, argument_parts}
+use Rattle.lus_streams.specs.Clocks.{Clock, Part, at, formal_clock, base_of, branch_clock, parts, all_parts}
 use Rattle.lus_streams.specs.Equations.{equation_clock, equation_parts, Site, sites_in}
 use Rattle.lus_streams.proofs.Lists.{each_left, each_right, each_append}
 
@@ -12,31 +12,18 @@ module _ (p : Program) (S R : Part → Type 0) (step : (e : Expression) (k : Clo
     pub each_part : (e : Expression) (k : Clock) → Each S (parts p e k) → Each R (parts p e k)
     each_part (literal v) k h = (step (literal v) k h, tt)
     each_part (variable x) k h = (step (variable x) k h, tt)
-    each_part (operate o es) k h = (step (operate o es) k h, each_operand_part es k h.1)
+    each_part (operate o es) k h = (step (operate o es) k h, all_each_part es (λ m. k) 0 h.1)
     each_part (pre a) k h = (step (pre a) k h, each_part a k h.1)
     each_part (arrow a b) k h = (step (arrow a b) k h, each_append R (parts p a k) (parts p b k) (each_part a k (each_left S (parts p a k) (parts p b k) h.1)) (each_part b k (each_right S (parts p a k) (parts p b k) h.1)))
     each_part (when t a) k h = (step (when t a) k h, each_part a (drop 1 k) h.1)
-    each_part (merge x bs) k h = (step (merge x bs) k h, each_branch_part bs x 0 k h.1)
-    each_part (call g c args) k h = (step (call g c args) k h, each_argument_part args (node_at p g) args (base_of (node_at p g) k) 0 h.1)
+    each_part (merge x bs) k h = (step (merge x bs) k h, all_each_part bs (branch_clock x k) 0 h.1)
+    each_part (call g c args) k h = (step (call g c args) k h, all_each_part args (formal_clock (node_at p g) args (base_of (node_at p g) k)) 0 h.1)
 
-    each_operand_part : (es : Operands) (k : Clock) → Each S (operand_parts p es k) → Each R (operand_parts p es k)
-    each_operand_part none k h = tt
-    each_operand_part (more e es) k h =
-        each_append R (parts p e k) (operand_parts p es k) (each_part e k (each_left S (parts p e k) (operand_parts p es k) h)) (each_operand_part es k (each_right S (parts p e k) (operand_parts p es k) h))
-
-    each_branch_part : (es : Operands) (x c : ℕ) (k : Clock) → Each S (branch_parts p es x c k) → Each R (branch_parts p es x c k)
-    each_branch_part none x c k h = tt
-    each_branch_part (more e es) x c k h =
-        let k' : Clock = record { variable = x; constructor = c } ∷ k in
-        let rest = branch_parts p es x (suc c) k in
-        each_append R (parts p e k') rest (each_part e k' (each_left S (parts p e k') rest h)) (each_branch_part es x (suc c) k (each_right S (parts p e k') rest h))
-
-    each_argument_part : (es : Operands) (g : Node) (args : Operands) (base : Clock) (m : ℕ) → Each S (argument_parts p es g args base m) → Each R (argument_parts p es g args base m)
-    each_argument_part none g args base m h = tt
-    each_argument_part (more e es) g args base m h =
-        let k = formal_clock g args base m in
-        let rest = argument_parts p es g args base (suc m) in
-        each_append R (parts p e k) rest (each_part e k (each_left S (parts p e k) rest h)) (each_argument_part es g args base (suc m) (each_right S (parts p e k) rest h))
+    all_each_part : (es : Operands) (ks : ℕ → Clock) (m : ℕ) → Each S (all_parts p es ks m) → Each R (all_parts p es ks m)
+    all_each_part none ks m h = tt
+    all_each_part (more e es) ks m h =
+        let rest = all_parts p es ks (suc m) in
+        each_append R (parts p e (ks m)) rest (each_part e (ks m) (each_left S (parts p e (ks m)) rest h)) (all_each_part es ks (suc m) (each_right S (parts p e (ks m)) rest h))
 
   pub each_equation_part : (f : Node) (qs : List Equation) → Each S (equation_parts p f qs) → Each R (equation_parts p f qs)
   each_equation_part f [] h = tt
@@ -51,7 +38,7 @@ OfCall R _ = Unit {0}
 
 -- a fact of each call in the text, from a fact of each part and a step from a call's arguments
 module _ (p : Program) (S : Part → Type 0) (R : (g c : ℕ) → Operands → Clock → Type 0)
-    (step : (g c : ℕ) (args : Operands) (k : Clock) → S (at k (call g c args)) → Each S (argument_parts p args (node_at p g) args (base_of (node_at p g) k) 0) → R g c args k) where
+    (step : (g c : ℕ) (args : Operands) (k : Clock) → S (at k (call g c args)) → Each S (all_parts p args (formal_clock (node_at p g) args (base_of (node_at p g) k)) 0) → R g c args k) where
   call_step : (e : Expression) (k : Clock) → Each S (parts p e k) → OfCall R (at k e)
   call_step (call g c args) k h = step g c args k h.0 h.1
   call_step _ k h = tt

@@ -4,7 +4,7 @@ use Rattle.lus_values.specs.Values.{Value, nil, Row}
 use Rattle.lus_program.specs.Programs.{Expression, literal, variable, operate, pre, arrow, when, merge, call, Operands, none, more, Equation, Node, Program, node_at, empty_node}
 use Rattle.lus_values.specs.Lists.{Each, Below}
 use Rattle.lus_values.specs.Operators.{apply}
-use Rattle.lus_streams.specs.Clocks.{Clock, clock_of, Part, at, formal_clock, base_of, parts, operand_parts, branch_parts, argument_parts}
+use Rattle.lus_streams.specs.Clocks.{Clock, clock_of, Part, at, formal_clock, base_of, branch_clock, parts, all_parts}
 use Rattle.lus_streams.specs.Equations.{Definition, given_by, place_in, equation_clock, definition_in, definition_of, equation_parts, node_parts, Site, sites}
 use Rattle.lus_streams.specs.OnClock.{DefinedOnClock, PartOnClock, RightOnClock, IsOnClocks}
 use Rattle.lus_streams.specs.Streams.{Instant, instant, Called, nobody, also, World, row_of, entry, called_instant, called_world, holds, is_on, at_last, with_operand, with_operands, where_on, output, value, values, branch, inputs_given, definition_value, Follows, EquationsHold, IsInstant, EachCall, Satisfies}
@@ -127,7 +127,7 @@ module _ (p : Program) (f : Node) (flags : ℕ → Bool) where
     value_flag_holds (literal v) k now past hn hv hg = ((λ _. hg.0.required), (λ _. hg.0.required))
     value_flag_holds (variable x) k now past hn hv hg = subst (λ j. FlagHolds (flags x) (was_on j past) (entry now x)) hg.0.placed hn.0
     value_flag_holds (operate o es) k now past hn hv hg =
-        let h = values_flag_holds es k now past hn hv hg.1 in
+        let h = values_flag_holds es k 0 now past hn hv hg.1 in
         ((λ fl. with_operands_nil_free (apply o) (apply_nil_free o) (values p es k now past) (h.0 fl)), (λ s. with_operands_nil_free (apply o) (apply_nil_free o) (values p es k now past) (h.1 s)))
     value_flag_holds (pre a) k now past hn hv hg = (
       (λ fl. absurd (true≢false fl)),
@@ -150,31 +150,32 @@ module _ (p : Program) (f : Node) (flags : ℕ → Bool) where
         let h = hg.0.calls.0 (given_nil_free args (node_at p g) args (base_of (node_at p g) k) 0 now past hg.0.required hn hv hg.1) 0 hg.0.arity in
         ((λ _. h), (λ _. h))
 
-    values_flag_holds : (es : Operands) (k : Clock) (now : Instant) (past : World) → Each (VariableFlagIs now past) (needs_all es) → AllOver VariableFlagsHold past → AllMeetPremises (now ∷ past) (operand_parts p es k)
+    values_flag_holds : (es : Operands) (k : Clock) (m : ℕ) (now : Instant) (past : World) → Each (VariableFlagIs now past) (needs_all es) → AllOver VariableFlagsHold past → AllMeetPremises (now ∷ past) (all_parts p es (λ n. k) m)
         → (greatest flags es ≡ false → AreNilFreeIfAny (values p es k now past)) × (was_on k past ≡ true → AreNilFreeIfAny (values p es k now past))
-    values_flag_holds none k now past hn hv hg = ((λ _. tt), (λ _. tt))
-    values_flag_holds (more e es) k now past hn hv hg =
-        let h = value_flag_holds e k now past (each_left (VariableFlagIs now past) (needs e) (needs_all es) hn) hv (each_left (MeetsPremises (now ∷ past)) (parts p e k) (operand_parts p es k) hg) in
-        let hs = values_flag_holds es k now past (each_right (VariableFlagIs now past) (needs e) (needs_all es) hn) hv (each_right (MeetsPremises (now ∷ past)) (parts p e k) (operand_parts p es k) hg) in (
+    values_flag_holds none k m now past hn hv hg = ((λ _. tt), (λ _. tt))
+    values_flag_holds (more e es) k m now past hn hv hg =
+        let rest = all_parts p es (λ n. k) (suc m) in
+        let h = value_flag_holds e k now past (each_left (VariableFlagIs now past) (needs e) (needs_all es) hn) hv (each_left (MeetsPremises (now ∷ past)) (parts p e k) rest hg) in
+        let hs = values_flag_holds es k (suc m) now past (each_right (VariableFlagIs now past) (needs e) (needs_all es) hn) hv (each_right (MeetsPremises (now ∷ past)) (parts p e k) rest hg) in (
           (λ fl. with_operand_nil_free (value p e k now past) (values p es k now past) (h.0 (or_left (flag flags e) (greatest flags es) fl)) (hs.0 (or_right (flag flags e) (greatest flags es) fl))),
           (λ s. with_operand_nil_free (value p e k now past) (values p es k now past) (h.1 s) (hs.1 s)),
         )
 
-    branch_nil_free : (es : Operands) (x c : ℕ) (k : Clock) (now : Instant) (past : World) → greatest flags es ≡ false → Each (VariableFlagIs now past) (needs_all es) → AllOver VariableFlagsHold past → AllMeetPremises (now ∷ past) (branch_parts p es x c k) → IsNilFree (branch p es x c k now past)
+    branch_nil_free : (es : Operands) (x c : ℕ) (k : Clock) (now : Instant) (past : World) → greatest flags es ≡ false → Each (VariableFlagIs now past) (needs_all es) → AllOver VariableFlagsHold past → AllMeetPremises (now ∷ past) (all_parts p es (branch_clock x k) c) → IsNilFree (branch p es x c k now past)
     branch_nil_free none x c k now past fl hn hv hg = tt
     branch_nil_free (more e es) x c k now past fl hn hv hg =
-        let k' : Clock = record { variable = x; constructor = c } ∷ k in
-        let rest = branch_parts p es x (suc c) k in
+        let k' = branch_clock x k c in
+        let rest = all_parts p es (branch_clock x k) (suc c) in
         let h = value_flag_holds e k' now past (each_left (VariableFlagIs now past) (needs e) (needs_all es) hn) hv (each_left (MeetsPremises (now ∷ past)) (parts p e k') rest hg) in
         pick_nil_free (holds x c now) (value p e k' now past) (branch p es x (suc c) k now past) (h.0 (or_left (flag flags e) (greatest flags es) fl))
         (branch_nil_free es x (suc c) k now past (or_right (flag flags e) (greatest flags es) fl) (each_right (VariableFlagIs now past) (needs e) (needs_all es) hn) hv (each_right (MeetsPremises (now ∷ past)) (parts p e k') rest hg))
 
     given_nil_free : (es : Operands) (g : Node) (args : Operands) (base : Clock) (m : ℕ) (now : Instant) (past : World) → greatest flags es ≡ false → Each (VariableFlagIs now past) (needs_all es) → AllOver VariableFlagsHold past
-        → AllMeetPremises (now ∷ past) (argument_parts p es g args base m) → Each IsNilFree (inputs_given p es g args base m now past)
+        → AllMeetPremises (now ∷ past) (all_parts p es (formal_clock g args base) m) → Each IsNilFree (inputs_given p es g args base m now past)
     given_nil_free none g args base m now past fl hn hv hg = tt
     given_nil_free (more e es) g args base m now past fl hn hv hg =
         let k = formal_clock g args base m in
-        let rest = argument_parts p es g args base (suc m) in
+        let rest = all_parts p es (formal_clock g args base) (suc m) in
         let h = value_flag_holds e k now past (each_left (VariableFlagIs now past) (needs e) (needs_all es) hn) hv (each_left (MeetsPremises (now ∷ past)) (parts p e k) rest hg) in (
           where_on_nil_free (is_on k now) (value p e k now past) (h.0 (or_left (flag flags e) (greatest flags es) fl)),
           given_nil_free es g args base (suc m) now past (or_right (flag flags e) (greatest flags es) fl) (each_right (VariableFlagIs now past) (needs e) (needs_all es) hn) hv (each_right (MeetsPremises (now ∷ past)) (parts p e k) rest hg),
@@ -238,7 +239,7 @@ part_variable p f (at k (variable x)) h = h
 part_variable p f (at k _) h = tt
 
 right_variables : (p : Program) (f : Node) (e : Expression) (k : Clock) → RightOnClock p f (parts p e k) → Each (VariableOn f) (parts p e k)
-right_variables p f (call g c args) k h = (tt, each_implies (PartOnClock p f) (VariableOn f) (part_variable p f) (argument_parts p args (node_at p g) args (base_of (node_at p g) k) 0) h)
+right_variables p f (call g c args) k h = (tt, each_implies (PartOnClock p f) (VariableOn f) (part_variable p f) (all_parts p args (formal_clock (node_at p g) args (base_of (node_at p g) k)) 0) h)
 right_variables p f e k h = each_implies (PartOnClock p f) (VariableOn f) (part_variable p f) (parts p e k) h
 
 equation_variables : (p : Program) (f : Node) (qs : List Equation) → Each (λ q. RightOnClock p f (parts p q.right (equation_clock f q))) qs → Each (VariableOn f) (equation_parts p f qs)

@@ -5,7 +5,7 @@ use Rattle.lus_program.specs.declared.expr.Test.{Test}
 use Rattle.lus_program.specs.Programs.{Expression, literal, variable, operate, pre, arrow, when, merge, call, Operands, none, more, Equation, Node, Program, node_at, empty_node}
 use Rattle.lus_values.specs.Lists.{item, Each}
 use Rattle.lus_values.specs.Operators.{apply}
-use Rattle.lus_streams.specs.Clocks.{Clock, clock_of, Part, operand, renamed_clock, renamed_test, formal_clock, base_of, parts, operand_parts, branch_parts, argument_parts}
+use Rattle.lus_streams.specs.Clocks.{Clock, clock_of, Part, operand, renamed_clock, renamed_test, formal_clock, base_of, branch_clock, parts, all_parts}
 use Rattle.lus_values.specs.Values.{Row}
 use Rattle.lus_streams.specs.Streams.{Instant, instant, Called, nobody, also, World, is_present, row_of, entry, called_instant, called_world, is_constructor, is_on, at_last, with_operand, with_operands, where_on, value, values, branch, inputs_given, definition_value, Follows, EquationsHold, IsInstant, EachCall, Satisfies, Streams}
 use Rattle.lus_streams.specs.Equations.{Definition, given_by, place_in, equation_clock, definition_in, definition_of, equation_parts, node_parts, Site, sites}
@@ -61,7 +61,7 @@ module _ (p : Program) (now now' : Instant) (past : World) (same_base : is_prese
     value_same : (e : Expression) (k : Clock) → Each Agree (clock_variables k) → Each Agree (needs e) → Each CallFact (parts p e k) → value p e k now past ≡ value p e k now' past
     value_same (literal v) k hk hn hc = refl
     value_same (variable x) k hk hn hc = hn.0
-    value_same (operate o es) k hk hn hc = ap (with_operands (apply o)) (values_same es k hk hn hc.1)
+    value_same (operate o es) k hk hn hc = ap (with_operands (apply o)) (values_same es k 0 hk hn hc.1)
     value_same (pre a) k hk hn hc = refl
     value_same (arrow a b) k hk hn hc =
         let ea = value_same a k hk (each_left Agree (needs a) (needs b) hn) (each_left CallFact (parts p a k) (parts p b k) hc.1) in
@@ -74,30 +74,33 @@ module _ (p : Program) (now now' : Instant) (past : World) (same_base : is_prese
         let hb = each_map_drop Agree variable_of _ k hk in
         ap (λ j. entry j ((node_at p g).inputs + 0)) (hc.0 (on_same base hb) (given_same args (node_at p g) args base 0 hb hn hn hc.1))
 
-    values_same : (es : Operands) (k : Clock) → Each Agree (clock_variables k) → Each Agree (needs_all es) → Each CallFact (operand_parts p es k) → values p es k now past ≡ values p es k now' past
-    values_same none k hk hn hc = refl
-    values_same (more e es) k hk hn hc =
+    values_same : (es : Operands) (k : Clock) (m : ℕ) → Each Agree (clock_variables k) → Each Agree (needs_all es) → Each CallFact (all_parts p es (λ n. k) m) → values p es k now past ≡ values p es k now' past
+    values_same none k m hk hn hc = refl
+    values_same (more e es) k m hk hn hc =
+        let rest = all_parts p es (λ n. k) (suc m) in
         ap₂ with_operand
-        (value_same e k hk (each_left Agree (needs e) (needs_all es) hn) (each_left CallFact (parts p e k) (operand_parts p es k) hc))
-        (values_same es k hk (each_right Agree (needs e) (needs_all es) hn) (each_right CallFact (parts p e k) (operand_parts p es k) hc))
+        (value_same e k hk (each_left Agree (needs e) (needs_all es) hn) (each_left CallFact (parts p e k) rest hc))
+        (values_same es k (suc m) hk (each_right Agree (needs e) (needs_all es) hn) (each_right CallFact (parts p e k) rest hc))
 
-    branch_same : (es : Operands) (x c : ℕ) (k : Clock) → Agree x → Each Agree (clock_variables k) → Each Agree (needs_all es) → Each CallFact (branch_parts p es x c k) → branch p es x c k now past ≡ branch p es x c k now' past
+    branch_same : (es : Operands) (x c : ℕ) (k : Clock) → Agree x → Each Agree (clock_variables k) → Each Agree (needs_all es) → Each CallFact (all_parts p es (branch_clock x k) c) → branch p es x c k now past ≡ branch p es x c k now' past
     branch_same none x c k hx hk hn hc = refl
     branch_same (more e es) x c k hx hk hn hc =
-        let k' : Clock = record { variable = x; constructor = c } ∷ k in
-        let ee = value_same e k' (hx, hk) (each_left Agree (needs e) (needs_all es) hn) (each_left CallFact (parts p e k') (branch_parts p es x (suc c) k) hc) in
-        let es' = branch_same es x (suc c) k hx hk (each_right Agree (needs e) (needs_all es) hn) (each_right CallFact (parts p e k') (branch_parts p es x (suc c) k) hc) in
+        let k' = branch_clock x k c in
+        let rest = all_parts p es (branch_clock x k) (suc c) in
+        let ee = value_same e k' (hx, hk) (each_left Agree (needs e) (needs_all es) hn) (each_left CallFact (parts p e k') rest hc) in
+        let es' = branch_same es x (suc c) k hx hk (each_right Agree (needs e) (needs_all es) hn) (each_right CallFact (parts p e k') rest hc) in
         λ i. elim (is_constructor c (hx i)) [ true ↦ ee i | false ↦ es' i ]
 
-    given_same : (es : Operands) (g : Node) (args : Operands) (base : Clock) (m : ℕ) → Each Agree (clock_variables base) → Each Agree (needs_all args) → Each Agree (needs_all es) → Each CallFact (argument_parts p es g args base m)
+    given_same : (es : Operands) (g : Node) (args : Operands) (base : Clock) (m : ℕ) → Each Agree (clock_variables base) → Each Agree (needs_all args) → Each Agree (needs_all es) → Each CallFact (all_parts p es (formal_clock g args base) m)
         → inputs_given p es g args base m now past ≡ inputs_given p es g args base m now' past
     given_same none g args base m hb ha hn hc = refl
     given_same (more e es) g args base m hb ha hn hc =
         let k = formal_clock g args base m in
+        let rest = all_parts p es (formal_clock g args base) (suc m) in
         let hk = formal_variables Agree g args base m ha hb in
         ap₂ ◌∷◌
-        (ap₂ where_on (on_same k hk) (value_same e k hk (each_left Agree (needs e) (needs_all es) hn) (each_left CallFact (parts p e k) (argument_parts p es g args base (suc m)) hc)))
-        (given_same es g args base (suc m) hb ha (each_right Agree (needs e) (needs_all es) hn) (each_right CallFact (parts p e k) (argument_parts p es g args base (suc m)) hc))
+        (ap₂ where_on (on_same k hk) (value_same e k hk (each_left Agree (needs e) (needs_all es) hn) (each_left CallFact (parts p e k) rest hc)))
+        (given_same es g args base (suc m) hb ha (each_right Agree (needs e) (needs_all es) hn) (each_right CallFact (parts p e k) rest hc))
 
   -- a defined variable's right side
   abbrev RightFacts : Option Definition → Type 0

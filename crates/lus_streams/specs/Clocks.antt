@@ -47,6 +47,10 @@ formal_clock g args base m = renamed_clock args (clock_of g m) ++ base
 abbrev pub base_of : Node → Clock → Clock
 base_of g k = drop (length (clock_of g g.inputs)) k
 
+-- the clocks of the branches of a merge by x on k, by their constructors
+abbrev pub branch_clock : ℕ → Clock → ℕ → Clock
+branch_clock x k c = record { variable = x; constructor = c } ∷ k
+
 module _ (p : Program) where
   -- an expression on k and all its sub-expressions, each with its own clock, in the order of the text: operators, `pre`
   -- and `->` on the clock of their operands, the operand of `when` on that clock without the test, a branch of a
@@ -55,21 +59,14 @@ module _ (p : Program) where
     pub parts : Expression → Clock → List Part
     parts (literal v) k = at k (literal v) ∷ []
     parts (variable x) k = at k (variable x) ∷ []
-    parts (operate o es) k = at k (operate o es) ∷ operand_parts es k
+    parts (operate o es) k = at k (operate o es) ∷ all_parts es (λ m. k) 0
     parts (pre a) k = at k (pre a) ∷ parts a k
     parts (arrow a b) k = at k (arrow a b) ∷ (parts a k ++ parts b k)
     parts (when t a) k = at k (when t a) ∷ parts a (drop 1 k)
-    parts (merge x bs) k = at k (merge x bs) ∷ branch_parts bs x 0 k
-    parts (call g c args) k = at k (call g c args) ∷ argument_parts args (node_at p g) args (base_of (node_at p g) k) 0
+    parts (merge x bs) k = at k (merge x bs) ∷ all_parts bs (branch_clock x k) 0
+    parts (call g c args) k = at k (call g c args) ∷ all_parts args (formal_clock (node_at p g) args (base_of (node_at p g) k)) 0
 
-    pub operand_parts : Operands → Clock → List Part
-    operand_parts none k = []
-    operand_parts (more e es) k = parts e k ++ operand_parts es k
-
-    pub branch_parts : Operands → ℕ → ℕ → Clock → List Part
-    branch_parts none x c k = []
-    branch_parts (more e es) x c k = parts e (record { variable = x; constructor = c } ∷ k) ++ branch_parts es x (suc c) k
-
-    pub argument_parts : Operands → Node → Operands → Clock → ℕ → List Part
-    argument_parts none g args base m = []
-    argument_parts (more e es) g args base m = parts e (formal_clock g args base m) ++ argument_parts es g args base (suc m)
+    -- operands from number m on, each on the clock of its number
+    pub all_parts : Operands → (ℕ → Clock) → ℕ → List Part
+    all_parts none ks m = []
+    all_parts (more e es) ks m = parts e (ks m) ++ all_parts es ks (suc m)

@@ -4,7 +4,7 @@ use Rattle.lus_values.specs.Lists.{item, Each}
 use Rattle.lus_program.specs.declared.node.Equation.{Equation as StoredEquation}
 use Rattle.lus_program.specs.Programs.{Expression, literal, variable, operate, pre, arrow, merge, call, Operands, none, more, Equation, Node, Program, node_at, calls, numbered, all_numbered}
 use Rattle.lus_program.specs.View.{expression_of, equations_from}
-use Rattle.lus_streams.specs.Clocks.{Clock, clock_of, operand, formal_clock, base_of, Part, parts, operand_parts, branch_parts}
+use Rattle.lus_streams.specs.Clocks.{Clock, clock_of, operand, formal_clock, base_of, branch_clock, Part, parts, all_parts}
 use Rattle.lus_streams.specs.Equations.{equation_clock}
 use Rattle.lus_streams.specs.OnClock.{PartOnClock}
 use Rattle.lus_streams.proofs.Lists.{each_left, each_right, each_append}
@@ -40,7 +40,7 @@ module _ (p : Program) (f : Node) where
   mutual
     kept_chained : (n : ℕ) (e : Expression) (k : Clock) → IsChain f k → Each OnClock (parts p (numbered n e) k) → Each (Chained f) (kept_cells e k) × Each (IsChain f) (kept_firsts e k)
     kept_chained n (literal v) k h o = (tt, tt)
-    kept_chained n (operate op es) k h o = all_kept_chained n es k h o.1
+    kept_chained n (operate op es) k h o = all_kept_chained n es k 0 h o.1
     kept_chained n (pre a) k h o = ((h, tt), tt)
     kept_chained n (arrow a b) k h o =
         let first = kept_chained n a k h (each_left OnClock (parts p (numbered n a) k) (parts p (numbered (n + calls a) b) k) o.1) in
@@ -49,19 +49,19 @@ module _ (p : Program) (f : Node) where
     kept_chained n (merge x bs) k h o = branches_chained n bs x 0 k o.0 h o.1
     kept_chained n e k h o = (tt, tt)
 
-    all_kept_chained : (n : ℕ) (es : Operands) (k : Clock) → IsChain f k → Each OnClock (operand_parts p (all_numbered n es) k) → Each (Chained f) (all_kept_cells es k) × Each (IsChain f) (all_kept_firsts es k)
-    all_kept_chained n none k h o = (tt, tt)
-    all_kept_chained n (more e es) k h o =
-        let rest = operand_parts p (all_numbered (n + calls e) es) k in
+    all_kept_chained : (n : ℕ) (es : Operands) (k : Clock) (m : ℕ) → IsChain f k → Each OnClock (all_parts p (all_numbered n es) (λ l. k) m) → Each (Chained f) (all_kept_cells es k) × Each (IsChain f) (all_kept_firsts es k)
+    all_kept_chained n none k m h o = (tt, tt)
+    all_kept_chained n (more e es) k m h o =
+        let rest = all_parts p (all_numbered (n + calls e) es) (λ l. k) (suc m) in
         let first = kept_chained n e k h (each_left OnClock (parts p (numbered n e) k) rest o) in
-        let later = all_kept_chained (n + calls e) es k h (each_right OnClock (parts p (numbered n e) k) rest o) in
+        let later = all_kept_chained (n + calls e) es k (suc m) h (each_right OnClock (parts p (numbered n e) k) rest o) in
         (each_append (Chained f) (kept_cells e k) (all_kept_cells es k) first.0 later.0, each_append (IsChain f) (kept_firsts e k) (all_kept_firsts es k) first.1 later.1)
 
-    branches_chained : (n : ℕ) (es : Operands) (x c : ℕ) (k : Clock) → clock_of f x ≡ k → IsChain f k → Each OnClock (branch_parts p (all_numbered n es) x c k) → Each (Chained f) (branch_cells es x c k) × Each (IsChain f) (branch_firsts es x c k)
+    branches_chained : (n : ℕ) (es : Operands) (x c : ℕ) (k : Clock) → clock_of f x ≡ k → IsChain f k → Each OnClock (all_parts p (all_numbered n es) (branch_clock x k) c) → Each (Chained f) (branch_cells es x c k) × Each (IsChain f) (branch_firsts es x c k)
     branches_chained n none x c k on h o = (tt, tt)
     branches_chained n (more e es) x c k on h o =
-        let inner : Clock = record { variable = x; constructor = c } ∷ k in
-        let rest = branch_parts p (all_numbered (n + calls e) es) x (suc c) k in
+        let inner = branch_clock x k c in
+        let rest = all_parts p (all_numbered (n + calls e) es) (branch_clock x k) (suc c) in
         let first = kept_chained n e inner (on, h) (each_left OnClock (parts p (numbered n e) inner) rest o) in
         let later = branches_chained (n + calls e) es x (suc c) k on h (each_right OnClock (parts p (numbered n e) inner) rest o) in
         (each_append (Chained f) (kept_cells e inner) (branch_cells es x (suc c) k) first.0 later.0, each_append (IsChain f) (kept_firsts e inner) (branch_firsts es x (suc c) k) first.1 later.1)

@@ -5,7 +5,7 @@ use Rattle.lus_values.specs.Lists.{Each}
 use Rattle.lus_values.proofs.Lists.{below_at}
 use Rattle.lus_program.specs.declared.expr.Test.{Test}
 use Rattle.lus_program.specs.Programs.{Expression, literal, variable, operate, pre, arrow, when, merge, call, Operands, none, more, Equation, Variable, Node, Program, no_variable, empty_node, node_at}
-use Rattle.lus_streams.specs.Clocks.{Clock, clock_of, operand, formal_clock, base_of, Part, parts, operand_parts, branch_parts, argument_parts}
+use Rattle.lus_streams.specs.Clocks.{Clock, clock_of, operand, formal_clock, base_of, branch_clock, Part, parts, all_parts}
 use Rattle.lus_streams.specs.Equations.{equation_clock, equation_parts, Site, sites_in}
 use Rattle.lus_streams.specs.OnClock.{IsDeclared, IsName, IsOnClocks, RightOnClock, ProgramOnClocks, test_of}
 use Rattle.lus_streams.proofs.Clocks.{chain_none}
@@ -55,12 +55,12 @@ arguments_size none g args base m = refl
 arguments_size (more e es) g args base m = ap suc (arguments_size es g args base (suc m))
 
 module _ (p : Program) (f : Node) (c : Class) where
-  are_arguments : (es : Operands) (g : Node) (args : Operands) (base : Clock) (m : ℕ) → AreAtoms es → Each (On p f c) (argument_parts p es g args base m) → Each (Used p f c) (argument_parts p es g args base m)
+  are_arguments : (es : Operands) (g : Node) (args : Operands) (base : Clock) (m : ℕ) → AreAtoms es → Each (On p f c) (all_parts p es (formal_clock g args base) m) → Each (Used p f c) (all_parts p es (formal_clock g args base) m)
       → AreArguments p f c es (arguments_form es g args base m) g args base m
   are_arguments none g args base m s o u = tt
   are_arguments (more e es) g args base m s o u =
       let k = formal_clock g args base m in
-      let rest = argument_parts p es g args base (suc m) in (
+      let rest = all_parts p es (formal_clock g args base) (suc m) in (
         atom_same e s.0,
         refl,
         atom_on p f c e k s.0 (each_left (On p f c) (parts p e k) rest o) (each_left (Used p f c) (parts p e k) rest u),
@@ -121,36 +121,29 @@ module _ (p : Program) where
   atom_no_sites (variable x) k s rest = refl
   atom_no_sites _ k s rest = absurd s
 
-  atoms_no_sites : (es : Operands) (g : Node) (args : Operands) (base : Clock) (m : ℕ) → AreAtoms es → (rest : List Part) → sites_in p (argument_parts p es g args base m ++ rest) ≡ sites_in p rest
-  atoms_no_sites none g args base m s rest = refl
-  atoms_no_sites (more e es) g args base m s rest =
-      let k = formal_clock g args base m in
-      let others = argument_parts p es g args base (suc m) in
-      ap (sites_in p) (append_assoc (parts p e k) others rest) ∙ atom_no_sites e k s.0 (others ++ rest) ∙ atoms_no_sites es g args base (suc m) s.1 rest
+  atoms_no_sites : (es : Operands) (ks : ℕ → Clock) (m : ℕ) → AreAtoms es → (rest : List Part) → sites_in p (all_parts p es ks m ++ rest) ≡ sites_in p rest
+  atoms_no_sites none ks m s rest = refl
+  atoms_no_sites (more e es) ks m s rest =
+      let others = all_parts p es ks (suc m) in
+      ap (sites_in p) (append_assoc (parts p e (ks m)) others rest) ∙ atom_no_sites e (ks m) s.0 (others ++ rest) ∙ atoms_no_sites es ks (suc m) s.1 rest
 
   mutual
     simple_no_sites : (e : Expression) (k : Clock) → IsSimple e → (rest : List Part) → sites_in p (parts p e k ++ rest) ≡ sites_in p rest
     simple_no_sites (literal v) k s rest = refl
     simple_no_sites (variable x) k s rest = refl
-    simple_no_sites (operate op es) k s rest = all_no_sites es k s rest
+    simple_no_sites (operate op es) k s rest = all_no_sites es (λ m. k) 0 s rest
     simple_no_sites (pre a) k s rest = atom_no_sites a k s rest
     simple_no_sites (arrow a b) k s rest =
         ap (sites_in p) (append_assoc (parts p a k) (parts p b k) rest) ∙ simple_no_sites a k s.0 (parts p b k ++ rest) ∙ simple_no_sites b k s.1 rest
     simple_no_sites (when t a) k s rest = atom_no_sites a (drop 1 k) s rest
-    simple_no_sites (merge x bs) k s rest = branches_no_sites bs x 0 k s rest
+    simple_no_sites (merge x bs) k s rest = all_no_sites bs (branch_clock x k) 0 s rest
     simple_no_sites (call g n args) k s rest = absurd s
 
-    all_no_sites : (es : Operands) (k : Clock) → AreSimple es → (rest : List Part) → sites_in p (operand_parts p es k ++ rest) ≡ sites_in p rest
-    all_no_sites none k s rest = refl
-    all_no_sites (more e es) k s rest =
-        ap (sites_in p) (append_assoc (parts p e k) (operand_parts p es k) rest) ∙ simple_no_sites e k s.0 (operand_parts p es k ++ rest) ∙ all_no_sites es k s.1 rest
-
-    branches_no_sites : (es : Operands) (x i : ℕ) (k : Clock) → AreSimple es → (rest : List Part) → sites_in p (branch_parts p es x i k ++ rest) ≡ sites_in p rest
-    branches_no_sites none x i k s rest = refl
-    branches_no_sites (more e es) x i k s rest =
-        let inner : Clock = record { variable = x; constructor = i } ∷ k in
-        let others = branch_parts p es x (suc i) k in
-        ap (sites_in p) (append_assoc (parts p e inner) others rest) ∙ simple_no_sites e inner s.0 (others ++ rest) ∙ branches_no_sites es x (suc i) k s.1 rest
+    all_no_sites : (es : Operands) (ks : ℕ → Clock) (m : ℕ) → AreSimple es → (rest : List Part) → sites_in p (all_parts p es ks m ++ rest) ≡ sites_in p rest
+    all_no_sites none ks m s rest = refl
+    all_no_sites (more e es) ks m s rest =
+        let others = all_parts p es ks (suc m) in
+        ap (sites_in p) (append_assoc (parts p e (ks m)) others rest) ∙ simple_no_sites e (ks m) s.0 (others ++ rest) ∙ all_no_sites es ks (suc m) s.1 rest
 
 module _ (p : Program) (f : Node) (c : Class) where
   -- what the calls of later parts belong to, whatever their first number
@@ -166,7 +159,7 @@ module _ (p : Program) (f : Node) (c : Class) where
       → AreCalls p f c (sites_in p (parts p e k ++ rest)) (call_first p e k qs) n
   one_first (call g i args) k n rest qs fit h later =
       let base = base_of (node_at p g) k in
-      let none_here = atoms_no_sites p args (node_at p g) args base 0 fit.atoms rest in
+      let none_here = atoms_no_sites p args (formal_clock (node_at p g) args base) 0 fit.atoms rest in
       let s : Site = record { node = g; number = i; args = args; base = base } in (
         subst (IsCall p f c s (call_form p g args k)) h.0 (is_call p f c g i args k fit),
         subst (λ ss. AreCalls p f c ss qs (suc n)) (sym none_here) (later (suc n) (subst (Numbered (suc n)) none_here h.1)),

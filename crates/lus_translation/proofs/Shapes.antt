@@ -5,7 +5,7 @@ use Rattle.lus_values.specs.Lists.{item, Each}
 use Rattle.lus_program.specs.declared.node.Equation.{Equation as StoredEquation}
 use Rattle.lus_program.specs.Programs.{Expression, literal, variable, operate, pre, arrow, when, merge, call, Operands, none, more, Variable, Node, Program, no_variable, calls, numbered, all_numbered}
 use Rattle.lus_program.specs.View.{expression_of, equations_from}
-use Rattle.lus_streams.specs.Clocks.{Clock, clock_of, parts, operand_parts, branch_parts}
+use Rattle.lus_streams.specs.Clocks.{Clock, clock_of, branch_clock, parts, all_parts}
 use Rattle.lus_streams.specs.Equations.{equation_clock}
 use Rattle.lus_streams.specs.Order.{clock_variables}
 use Rattle.lus_streams.proofs.Clocks.{chain_none}
@@ -76,7 +76,7 @@ module _ (p : Program) (f : Node) (c : Class) where
     cells_kept : (e : Expression) (k : Clock) → IsSimple e → Each (On p f c) (parts p e k) → Each (Used p f c) (parts p e k) → Each IsKept (kept_cells e k)
     cells_kept (literal v) k s o u = tt
     cells_kept (variable x) k s o u = tt
-    cells_kept (operate op es) k s o u = all_cells_kept es k s o.1 u.1
+    cells_kept (operate op es) k s o u = all_cells_kept es k 0 s o.1 u.1
     cells_kept (pre a) k s o u = (atom_on p f c a k s o.1 u.1, tt)
     cells_kept (arrow a b) k s o u =
         each_append IsKept (kept_cells a k) (kept_cells b k)
@@ -86,18 +86,19 @@ module _ (p : Program) (f : Node) (c : Class) where
     cells_kept (merge x bs) k s o u = branch_cells_kept bs x 0 k s o.1 u.1
     cells_kept (call g i args) k s o u = absurd s
 
-    all_cells_kept : (es : Operands) (k : Clock) → AreSimple es → Each (On p f c) (operand_parts p es k) → Each (Used p f c) (operand_parts p es k) → Each IsKept (all_kept_cells es k)
-    all_cells_kept none k s o u = tt
-    all_cells_kept (more e es) k s o u =
+    all_cells_kept : (es : Operands) (k : Clock) (m : ℕ) → AreSimple es → Each (On p f c) (all_parts p es (λ n. k) m) → Each (Used p f c) (all_parts p es (λ n. k) m) → Each IsKept (all_kept_cells es k)
+    all_cells_kept none k m s o u = tt
+    all_cells_kept (more e es) k m s o u =
+        let others = all_parts p es (λ n. k) (suc m) in
         each_append IsKept (kept_cells e k) (all_kept_cells es k)
-        (cells_kept e k s.0 (each_left (On p f c) (parts p e k) (operand_parts p es k) o) (each_left (Used p f c) (parts p e k) (operand_parts p es k) u))
-        (all_cells_kept es k s.1 (each_right (On p f c) (parts p e k) (operand_parts p es k) o) (each_right (Used p f c) (parts p e k) (operand_parts p es k) u))
+        (cells_kept e k s.0 (each_left (On p f c) (parts p e k) others o) (each_left (Used p f c) (parts p e k) others u))
+        (all_cells_kept es k (suc m) s.1 (each_right (On p f c) (parts p e k) others o) (each_right (Used p f c) (parts p e k) others u))
 
-    branch_cells_kept : (es : Operands) (x i : ℕ) (k : Clock) → AreSimple es → Each (On p f c) (branch_parts p es x i k) → Each (Used p f c) (branch_parts p es x i k) → Each IsKept (branch_cells es x i k)
+    branch_cells_kept : (es : Operands) (x i : ℕ) (k : Clock) → AreSimple es → Each (On p f c) (all_parts p es (branch_clock x k) i) → Each (Used p f c) (all_parts p es (branch_clock x k) i) → Each IsKept (branch_cells es x i k)
     branch_cells_kept none x i k s o u = tt
     branch_cells_kept (more e es) x i k s o u =
-        let inner : Clock = record { variable = x; constructor = i } ∷ k in
-        let others = branch_parts p es x (suc i) k in
+        let inner = branch_clock x k i in
+        let others = all_parts p es (branch_clock x k) (suc i) in
         each_append IsKept (kept_cells e inner) (branch_cells es x (suc i) k)
         (cells_kept e inner s.0 (each_left (On p f c) (parts p e inner) others o) (each_left (Used p f c) (parts p e inner) others u))
         (branch_cells_kept es x (suc i) k s.1 (each_right (On p f c) (parts p e inner) others o) (each_right (Used p f c) (parts p e inner) others u))

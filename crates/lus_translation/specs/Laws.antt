@@ -4,7 +4,7 @@ use Rattle.lus_values.specs.Lists.{Each}
 use Rattle.lus_program.specs.declared.node.Equation.{Equation as StoredEquation}
 use Rattle.lus_program.specs.View.{equations_from}
 use Rattle.lus_program.specs.Programs.{Expression, call, Operands, Node, Program, node_at}
-use Rattle.lus_streams.specs.Clocks.{Clock, clock_of, base_of, parts, argument_parts}
+use Rattle.lus_streams.specs.Clocks.{Clock, clock_of, formal_clock, base_of, parts, all_parts}
 use Rattle.lus_streams.specs.Equations.{equation_clock, Site, sites}
 use Rattle.lus_streams.specs.OnClock.{PartOnClock}
 use Rattle.lus_streams.specs.Order.{clock_variables}
@@ -40,8 +40,8 @@ CodesBelong =
 -- the arguments of a call in normal form with a base are on the clocks of all formals and name variables of the node
 pub record IsFittingCall (p : Program) (f : Node) (g : ℕ) (args : Operands) (base : Clock) : Type 0 where
   pub atoms : AreAtoms args
-  pub on_clock : Each (PartOnClock p f) (argument_parts p args (node_at p g) args base 0)
-  pub known : Each (Uses (Known f) (GivesOutput p f)) (argument_parts p args (node_at p g) args base 0)
+  pub on_clock : Each (PartOnClock p f) (all_parts p args (formal_clock (node_at p g) args base) 0)
+  pub known : Each (Uses (Known f) (GivesOutput p f)) (all_parts p args (formal_clock (node_at p g) args base) 0)
   pub size : operand_size args ≡ (node_at p g).inputs
   pub formals : HaveFormals (node_at p g) args args 0
   pub declared : Declared (node_at p g)
