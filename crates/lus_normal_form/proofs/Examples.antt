@@ -131,7 +131,7 @@ divided_normal = record {
     ((_, refl, (_, refl, (_, _, refl, refl, (_, _, refl, (4, refl, inl (refl, refl)), refl)))), (refl, (refl, tt))),
   );
   new_definitions = (
-    (refl, (_, refl, (_, refl, (_, _, refl, (omega arith, refl), (5, refl, inr (inl (refl, refl))), refl)))),
+    (refl, (_, refl, (_, refl, (((omega arith, refl), tt), (_, _, refl, (5, refl, inr (inl (refl, refl))), refl))))),
     ((refl, (_, refl, (_, refl, (_, _, refl, refl, (_, _, refl, refl, refl))))), ((refl, (_, refl, (_, refl, (_, _, refl, refl, (_, _, refl, refl, refl))))), tt)),
   );
   within = (
@@ -141,7 +141,7 @@ divided_normal = record {
       ((at [] (operate (Compute Add) (two (number 1) (call 0 0 (one quotient)))) ∷ at [] (number 1) ∷ at [] (call 0 0 (one quotient)) ∷ [], _, refl), tt),
     ),
   );
-  calls = (_, _, refl, (_, _, refl, (omega arith, refl), (5, refl, inr (inl (refl, refl))), refl), refl);
+  calls = (_, _, refl, (((omega arith, refl), tt), (_, _, refl, (5, refl, inr (inl (refl, refl))), refl)), refl);
   equations = search rules;
   same_memories = refl;
   same_firsts = refl;

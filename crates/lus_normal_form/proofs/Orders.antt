@@ -88,7 +88,7 @@ module _ (p p' : Program) (new_parts : ℕ → List Part) (named : AreNamed p) (
     right_grown : (e e' : Expression) (k : Clock) → IsRight p New e e' k → (done : List ℕ) → HasNeedsFirst node' done → Each (In done) (needs e) → Each (In done) (clock_variables k) → Grown done (needs e')
     right_grown (literal v) e' k is done h hn hk = subst (λ z. Grown done (needs z)) (sym is) (same done [] h tt)
     right_grown (variable x) e' k is done h hn hk = subst (λ z. Grown done (needs z)) (sym is) (same done (x ∷ []) h hn)
-    right_grown (operate o es) e' k is done h hn hk = subst (λ z. Grown done (needs z)) (sym is.1) (all_grown Inside es is.0 (λ m. k) 0 is.2 done h hn (λ m. hk))
+    right_grown (operate o es) e' k is done h hn hk = subst (λ z. Grown done (needs z)) (sym is.1) (operands_grown Inside es is.0 (λ m. k) 0 is.2 done h hn (λ m. hk))
     right_grown (pre a) e' k is done h hn hk = subst (λ z. Grown done (needs z)) (sym is.1) (same done [] h tt)
     right_grown (arrow a b) e' k is done h hn hk =
         let first = one (is_taken Inside a) a is.0 k is.3 done hk (λ r n. right_grown a r k n done h (each_left (In done) (needs a) (needs b) hn) hk) in
@@ -100,23 +100,21 @@ module _ (p p' : Program) (new_parts : ℕ → List Part) (named : AreNamed p) (
         subst (λ z. Grown done (needs z)) (sym is.1)
         (with_first done t.variable (needs is.0) hn.0 (one (is_taken Operand a) a is.0 (drop 1 k) is.2 done inner (λ r n. right_grown a r (drop 1 k) n done h hn.1 inner)))
     right_grown (merge x bs) e' k is done h hn hk =
-        subst (λ z. Grown done (needs z)) (sym is.1) (with_first done x (needs_all is.0) hn.0 (all_grown Inside bs is.0 (branch_clock x k) 0 is.2 done h hn.1 (λ m. (hn.0, hk))))
+        subst (λ z. Grown done (needs z)) (sym is.1) (with_first done x (needs_all is.0) hn.0 (operands_grown Inside bs is.0 (branch_clock x k) 0 is.2 done h hn.1 (λ m. (hn.0, hk))))
     right_grown (call g c args) e' k is done h hn hk =
-        subst (λ z. Grown done (needs z)) (sym is.1) (arguments_grown g args is.0 (base_of (node_at p g) k) is.2.1 done h hn (each_map_drop (In done) (λ t. t.variable) _ k hk))
+        let base = base_of (node_at p g) k in
+        let hb = each_map_drop (In done) (λ t. t.variable) _ k hk in
+        subst (λ z. Grown done (needs z)) (sym is.1)
+        (operands_grown Operand args is.0 (formal_clock (node_at p g) args base) 0 is.2.1 done h hn (λ m. formal_variables (In done) (node_at p g) args base m hn hb))
 
-    all_grown : (here : Position) (es es' : Operands) (ks : ℕ → Clock) (m : ℕ) → AreNormal p New here es es' ks m → (done : List ℕ) → HasNeedsFirst node' done → Each (In done) (needs_all es)
+    operands_grown : (here : Position) (es es' : Operands) (ks : ℕ → Clock) (m : ℕ) → AreNormal p New here es es' ks m → (done : List ℕ) → HasNeedsFirst node' done → Each (In done) (needs_all es)
         → ((n : ℕ) → Each (In done) (clock_variables (ks n))) → Grown done (needs_all es')
-    all_grown here none es' ks m is done h hn hks = subst (λ z. Grown done (needs_all z)) (sym is) (same done [] h tt)
-    all_grown here (more e es) es' ks m is done h hn hks =
+    operands_grown here none es' ks m is done h hn hks = subst (λ z. Grown done (needs_all z)) (sym is) (same done [] h tt)
+    operands_grown here (more e es) es' ks m is done h hn hks =
         let k = ks m in
         let first = one (is_taken here e) e is.0 k is.3 done (hks m) (λ r n. right_grown e r k n done h (each_left (In done) (needs e) (needs_all es) hn) (hks m)) in
-        let later = all_grown here es is.1 ks (suc m) is.4 first.all first.first (still done (needs is.0) (needs_all es) first (each_right (In done) (needs e) (needs_all es) hn)) (λ n. still done (needs is.0) (clock_variables (ks n)) first (hks n)) in
+        let later = operands_grown here es is.1 ks (suc m) is.4 first.all first.first (still done (needs is.0) (needs_all es) first (each_right (In done) (needs e) (needs_all es) hn)) (λ n. still done (needs is.0) (clock_variables (ks n)) first (hks n)) in
         subst (λ z. Grown done (needs_all z)) (sym is.2) (both done (needs is.0) (needs_all is.1) first later)
-
-    arguments_grown : (g : ℕ) (args args' : Operands) (base : Clock) → AreNormal p New Operand args args' (formal_clock (node_at p g) args base) 0 → (done : List ℕ) → HasNeedsFirst node' done
-        → Each (In done) (needs_all args) → Each (In done) (clock_variables base) → Grown done (needs_all args')
-    arguments_grown g args args' base is done h hn hb =
-        all_grown Operand args args' (formal_clock (node_at p g) args base) 0 is done h hn (λ m. formal_variables (In done) (node_at p g) args base m hn hb)
 
   -- an old variable after what it needs
   definition_grown : (x : ℕ) (d d' : Option Definition) → IsDefinition p New d d' → DefinedOnClock p node x d → (done : List ℕ) → HasNeedsFirst node' done → Each (In done) (clock_variables (clock_of node x)) → Each (In done) (needs_right d) → Grown done (needs_right d')
@@ -126,7 +124,7 @@ module _ (p p' : Program) (new_parts : ℕ → List Part) (named : AreNamed p) (
       let front = renamed_clock (actuals args xs) (clock_of (node_at p g) ((node_at p g).inputs + n)) in
       let hb = each_map_right (In done) (λ t. t.variable) front base (subst (λ j. Each (In done) (clock_variables j)) on.0 hk) in
       subst (λ z. Grown done (needs_right z)) (sym is.1)
-      (subst (λ z. Grown done (needs z)) (sym is.2.1) (arguments_grown g args is.2.0 base is.2.2.1 done h hn hb))
+      (subst (λ z. Grown done (needs z)) (sym is.2.1) (operands_grown Operand args is.2.0 (formal_clock (node_at p g) args base) 0 is.2.2.1 done h hn (λ m. formal_variables (In done) (node_at p g) args base m hn hb)))
   definition_grown x (Some (given_by e n xs k)) d' is on done h hk hn =
       subst (λ z. Grown done (needs_right z)) (sym is.1) (right_grown e is.0 k is.2 done h hn (subst (λ j. Each (In done) (clock_variables j)) on hk))
 

@@ -32,7 +32,7 @@ module _ (p : Program) (New : ℕ → Clock → Expression → Type 0) where
   operand_atom a a' k h = subst IsAtom (sym h.1) tt
 
   mutual
-    inner_simple : (e e' : Expression) (k : Clock) → Normal Inside e e' k → IsSimple e'
+    pub inner_simple : (e e' : Expression) (k : Clock) → Normal Inside e e' k → IsSimple e'
     inner_simple (literal v) e' k h = subst IsSimple (sym h) tt
     inner_simple (variable x) e' k h = subst IsSimple (sym h) tt
     inner_simple (operate o es) e' k h = subst IsSimple (sym h.1) (inners_simple es h.0 (λ m. k) 0 h.2)
@@ -50,7 +50,7 @@ module _ (p : Program) (New : ℕ → Clock → Expression → Type 0) where
   operands_atoms none es' ks m h = subst AreAtoms (sym h) tt
   operands_atoms (more e es) es' ks m h = subst AreAtoms (sym h.2) (operand_atom e h.0 (ks m) h.3, operands_atoms es h.1 ks (suc m) h.4)
 
-  pub right_simple : (e e' : Expression) (k : Clock) → IsRight p New e e' k → IsSimpleRight e'
+  right_simple : (e e' : Expression) (k : Clock) → IsRight p New e e' k → IsSimpleRight e'
   right_simple (call g c args) e' k h = subst IsSimpleRight (sym h.1) (operands_atoms args h.0 (formal_clock (node_at p g) args (base_of (node_at p g) k)) 0 h.2.1)
   right_simple (literal v) e' k h = simple_right e' (inner_simple (literal v) e' k h)
   right_simple e e' k h = simple_right e' (inner_simple e e' k h)
