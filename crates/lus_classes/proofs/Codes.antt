@@ -12,7 +12,7 @@ use Rattle.lus_streams.specs.Streams.{Instant, instant, Called, World, row_of, e
 use Rattle.lus_streams.proofs.Lists.{each_left, each_right, each_append}
 use Rattle.lus_classes.specs.Classes.{Atom, constant, named, Code, fixed, fetch, compute, recall, choose, select, Codes, no_code, also_code, Memory, Class}
 use Rattle.lus_classes.specs.Steps.{chosen, Ask, run, runs, selected, atom_in}
-use Rattle.lus_classes.specs.ClassesOf.{atom_expression, atom_code, AtomOn, Remembers, IsAtomCode, IsCode, AreCodes, AreBranches}
+use Rattle.lus_classes.specs.ClassesOf.{atom_expression, atom_code, AtomOn, Remembers, IsAtomCode, IsCode, AreCodes}
 use Rattle.lus_classes.specs.StandsFor.{never_on, CellsStand, FlagsStand}
 use Rattle.lus_classes.proofs.Options.{never, either, either_same, either_true}
 use Rattle.lus_classes.proofs.Rows.{PresentOnClocks, each_drop}
@@ -151,7 +151,7 @@ module _ (p : Program) (f : Node) (c : Class) (cells : List Value) (flags : List
     same (merge x bs) (select y ds) k is h t = ap (λ z. selected cells flags asks ds z 0 r) (sym is.0) ∙ same_branch bs ds x 0 k is.1 h t
     same _ _ k is h t = absurd is
 
-    same_all : (es : Operands) (ds : Codes) (k : Clock) (m : ℕ) → AreCodes p f c es ds k → Each Fine (all_parts p es (λ n. k) m) → IsTrue (is_on k now)
+    same_all : (es : Operands) (ds : Codes) (k : Clock) (m : ℕ) → AreCodes p f c es ds (λ n. k) m → Each Fine (all_parts p es (λ n. k) m) → IsTrue (is_on k now)
         → runs cells flags asks ds r ≡ values p es k now past
     same_all none no_code k m is h t = refl
     same_all (more e es) (also_code d ds) k m is h t =
@@ -159,7 +159,7 @@ module _ (p : Program) (f : Node) (c : Class) (cells : List Value) (flags : List
         ap₂ with_operand (same e d k is.0 (each_drop Fine 1 (parts p e k) (each_left Fine (parts p e k) rest h)) t) (same_all es ds k (suc m) is.1 (each_right Fine (parts p e k) rest h) t)
     same_all _ _ k m is h t = absurd is
 
-    same_branch : (es : Operands) (ds : Codes) (x n : ℕ) (k : Clock) → AreBranches p f c es ds x n k → Each Fine (all_parts p es (branch_clock x k) n) → IsTrue (is_on k now)
+    same_branch : (es : Operands) (ds : Codes) (x n : ℕ) (k : Clock) → AreCodes p f c es ds (branch_clock x k) n → Each Fine (all_parts p es (branch_clock x k) n) → IsTrue (is_on k now)
         → selected cells flags asks ds x n r ≡ branch p es x n k now past
     same_branch none no_code x n k is h t = refl
     same_branch (more e es) (also_code d ds) x n k is h t =
@@ -212,7 +212,7 @@ module _ (p : Program) (f : Node) (c : Class) (cells : List Value) (flags : List
           (λ t. subst IsSome (same (merge x bs) (select y ds) k is rest t) (s t), rest)
       sound _ _ k is s = absurd is
 
-      sound_all : (es : Operands) (ds : Codes) (k : Clock) (m : ℕ) → AreCodes p f c es ds k → (IsTrue (is_on k now) → IsSome (runs cells flags asks ds r))
+      sound_all : (es : Operands) (ds : Codes) (k : Clock) (m : ℕ) → AreCodes p f c es ds (λ n. k) m → (IsTrue (is_on k now) → IsSome (runs cells flags asks ds r))
           → Each Fine (all_parts p es (λ n. k) m)
       sound_all none no_code k m is s = tt
       sound_all (more e es) (also_code d ds) k m is s =
@@ -221,7 +221,7 @@ module _ (p : Program) (f : Node) (c : Class) (cells : List Value) (flags : List
           (sound_all es ds k (suc m) is.1 (λ t. operand_rest (run cells flags asks d r) (runs cells flags asks ds r) (s t)))
       sound_all _ _ k m is s = absurd is
 
-      sound_branches : (es : Operands) (ds : Codes) (x n : ℕ) (k : Clock) → AreBranches p f c es ds x n k
+      sound_branches : (es : Operands) (ds : Codes) (x n : ℕ) (k : Clock) → AreCodes p f c es ds (branch_clock x k) n
           → (IsTrue (is_on k now) → Taken x n ⊎ IsSome (selected cells flags asks ds x n r)) → Each Fine (all_parts p es (branch_clock x k) n)
       sound_branches none no_code x n k is s = tt
       sound_branches (more e es) (also_code d ds) x n k is s =

@@ -11,6 +11,7 @@ use Rattle.lus_streams.specs.Clocks.{Clock, clock_of, Part, formal_clock, base_o
 use Rattle.lus_streams.specs.Equations.{Definition, given_by, place_in, equation_clock, definition_in, definition_of, equation_parts}
 use Rattle.lus_streams.specs.Streams.{Instant, instant, Called, World, row_of, entry, called_at, is_on, where_on, value, definition_value, HasValue, Follows, EquationsHold}
 use Rattle.lus_streams.proofs.Lists.{each_left, each_right, each_append, each_both, below_at}
+use Rattle.lus_streams.proofs.Definitions.{RightParts, right_parts}
 use Rattle.lus_classes.specs.Classes.{Code, Step, Argument, Call, Class, clock_in}
 use Rattle.lus_classes.specs.States.{State}
 use Rattle.lus_classes.specs.Steps.{is_on_row, answered, Ask, silent, run, guarded, entry_of}
@@ -30,23 +31,6 @@ pub target_at : (P : Step → Type 0) (ss : List Step) (x : ℕ) → Each P ss �
 target_at P [] x h t = absurd t
 target_at P (s ∷ ss) x h (inl e) = record { step = s; same_target = e; holds_of = h.0 }
 target_at P (s ∷ ss) x h (inr t) = target_at P ss x h.1 t
-
--- what holds of all parts of a node holds of those of a definition
-abbrev pub EachRightPart : Program → (Part → Type 0) → Option Definition → Type 0
-EachRightPart p P None = Unit {0}
-EachRightPart p P (Some (given_by e n xs k)) = Each P (parts p e k)
-
-module _ (p : Program) (P : Part → Type 0) (f : Node) where
-  right_at : (q : Equation) (qs : List Equation) (x : ℕ) (place : Option ℕ) → Each P (parts p q.right (equation_clock f q)) → EachRightPart p P (definition_in f qs x)
-      → EachRightPart p P (elim place [ None ↦ definition_in f qs x | Some n ↦ Some (given_by q.right n q.targets (equation_clock f q)) ])
-  right_at q qs x None h k = k
-  right_at q qs x (Some n) h k = h
-
-  pub right_parts : (qs : List Equation) (x : ℕ) → Each P (equation_parts p f qs) → EachRightPart p P (definition_in f qs x)
-  right_parts [] x h = tt
-  right_parts (q ∷ qs) x h =
-      let first = parts p q.right (equation_clock f q) in
-      right_at q qs x (place_in x q.targets 0) (each_left P first (equation_parts p f qs) h) (right_parts qs x (each_right P first (equation_parts p f qs) h))
 
 -- where its code is no answer of a call, a definition's value is that of its right side
 pub right_value : (p : Program) (f : Node) (c : Class) (e : Expression) (d : Code) (k : Clock) (n : ℕ) (xs : List ℕ) (now : Instant) (past : World) → IsCode p f c e d k
@@ -94,7 +78,7 @@ module _ (p : Program) (f : Node) (c : Class) (ok : IsClassOf p f c) (cells : Li
         ∙ ap (answered ((node_at p is.node).inputs + m)) a.1
         ∙ ap (λ z. definition_value p (Some (given_by z m xs k)) now past) (sym is.right)
 
-    source_is : (x : ℕ) (definition : Option Definition) (d : Code) → IsSource p f c x definition d → EachRightPart p Fine definition → is_on (clock_of f x) now ≡ true
+    source_is : (x : ℕ) (definition : Option Definition) (d : Code) → IsSource p f c x definition d → RightParts p Fine definition → is_on (clock_of f x) now ≡ true
         → run cells flags asks d r ≡ definition_value p definition now past
     source_is x None d is h t = absurd is
     source_is x (Some (given_by e m xs k)) d (inl is) h t = answer_is e m xs k x d is t

@@ -10,13 +10,14 @@ use Rattle.lus_streams.specs.Clocks.{Clock, clock_of}
 use Rattle.lus_streams.specs.Equations.{Definition, given_by, definition_of, Site, sites}
 use Rattle.lus_streams.specs.Streams.{Instant, instant, Called, nobody, also, World, row_of, entry, called_at, called_instant, called_world, is_constructor, is_on, where_on, output, definition_value, HasValue, Follows, EquationsHold, IsFed, IsInstant, EachCall}
 use Rattle.lus_streams.proofs.Lists.{below_at, item_take}
+use Rattle.lus_streams.proofs.Definitions.{RightParts, right_parts}
 use Rattle.lus_classes.specs.Classes.{Code, Call, Class, class_at}
 use Rattle.lus_classes.specs.Steps.{is_on_row, passed}
 use Rattle.lus_classes.specs.ClassesOf.{Meets, Matches, IsAnswer, IsSource, IsStep, IsCall, AreCalls, AreClassesOf}
 use Rattle.lus_classes.proofs.Options.{where_present}
 use Rattle.lus_classes.proofs.Rows.{PresentOnClocks, is_on_row_is, off, test_same}
 use Rattle.lus_classes.proofs.Codes.{whole_part}
-use Rattle.lus_classes.proofs.Instants.{target_at, EachRightPart, right_parts, right_value}
+use Rattle.lus_classes.proofs.Instants.{target_at, right_value}
 use Rattle.lus_classes.proofs.Passing.{passed_at, passed_is_given}
 
 module _ (p : Program) (classes : List Class) (ok : AreClassesOf p classes) where
@@ -105,7 +106,7 @@ module _ (p : Program) (classes : List Class) (ok : AreClassesOf p classes) wher
             let present = subst (λ z. PresentIn z s.there) same_node s.present_in y is.output in
             ap is_some (outputs m ∙ ap (λ j. entry j y) there_is) ∙ present ∙ on_there
 
-        source_some : (x : ℕ) (definition : Option Definition) (d : Code) → IsSource p f c x definition d → EachRightPart p (λ e. HasValue p e now past) definition
+        source_some : (x : ℕ) (definition : Option Definition) (d : Code) → IsSource p f c x definition d → RightParts p (λ e. HasValue p e now past) definition
             → is_on (clock_of f x) now ≡ true → is_some (definition_value p definition now past) ≡ true
         source_some x None d is h t = absurd is
         source_some x (Some (given_by e m xs k)) d (inl is) h t = answer_some e m xs k x d is t

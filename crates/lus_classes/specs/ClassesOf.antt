@@ -3,7 +3,7 @@
 use Rattle.std.specs.Prelude.{◌≡◌, ℕ, suc, ◌+◌, ◌<◌, ◌≤◌, ◌⊎◌, ◌||◌, ◌++◌, nat_eq, nat_lt, Bool, false, List, [], ◌∷◌, length, drop, Option, Some, None, IsTrue, slice_get}
 use Rattle.lus_values.specs.Lists.{Each}
 use Rattle.lus_program.specs.Programs.{Expression, literal, variable, operate, pre, arrow, when, merge, call, Operands, none, more, Equation, Node, Program, node_at}
-use Rattle.lus_streams.specs.Clocks.{Clock, clock_of, operand, formal_clock, base_of}
+use Rattle.lus_streams.specs.Clocks.{Clock, clock_of, operand, formal_clock, base_of, branch_clock}
 use Rattle.lus_streams.specs.Equations.{Definition, given_by, definition_of, equation_clock, Site, sites}
 use Rattle.lus_streams.specs.OnClock.{IsName}
 use Rattle.lus_streams.specs.Order.{clock_variables}
@@ -44,22 +44,18 @@ module _ (p : Program) (f : Node) (c : Class) where
     pub IsCode : Expression → Code → Clock → Type 0
     IsCode (literal v) (fixed u) k = v ≡ u
     IsCode (variable x) (fetch y) k = x ≡ y
-    IsCode (operate o es) (compute u ds) k = (o ≡ u) × AreCodes es ds k
+    IsCode (operate o es) (compute u ds) k = (o ≡ u) × AreCodes es ds (λ m. k) 0
     IsCode (pre a) (recall j) k = Remembers j k a
     IsCode (arrow a b) (choose j d later) k = (slice_get c.firsts j ≡ Some k) × IsCode a d k × IsCode b later k
     IsCode (when t a) d k = IsAtomCode d (drop 1 k) a
-    IsCode (merge x bs) (select y ds) k = (x ≡ y) × AreBranches bs ds x 0 k
+    IsCode (merge x bs) (select y ds) k = (x ≡ y) × AreCodes bs ds (branch_clock x k) 0
     IsCode _ _ k = ⊥
 
-    pub AreCodes : Operands → Codes → Clock → Type 0
-    AreCodes none no_code k = Unit {0}
-    AreCodes (more e es) (also_code d ds) k = IsCode e d k × AreCodes es ds k
-    AreCodes _ _ k = ⊥
-
-    pub AreBranches : Operands → Codes → ℕ → ℕ → Clock → Type 0
-    AreBranches none no_code x n k = Unit {0}
-    AreBranches (more e es) (also_code d ds) x n k = IsCode e d (record { variable = x; constructor = n } ∷ k) × AreBranches es ds x (suc n) k
-    AreBranches _ _ x n k = ⊥
+    -- codes belong to operands from number m on, each on the clock of its number
+    pub AreCodes : Operands → Codes → (ℕ → Clock) → ℕ → Type 0
+    AreCodes none no_code ks m = Unit {0}
+    AreCodes (more e es) (also_code d ds) ks m = IsCode e d (ks m) × AreCodes es ds ks (suc m)
+    AreCodes _ _ ks m = ⊥
 
   -- the arguments from formal m on, each on the clock of its formal
   abbrev pub AreArguments : Operands → List Argument → Node → Operands → Clock → ℕ → Type 0

@@ -7,10 +7,11 @@ use Rattle.lus_streams.specs.Clocks.{Clock, clock_of, formal_clock, base_of, par
 use Rattle.lus_streams.specs.Equations.{given_by, equation_clock}
 use Rattle.lus_streams.specs.OnClock.{test_of, actuals, OutputOn, DefinedOnClock, LeftOnClock, PartOnClock, RightOnClock}
 use Rattle.lus_streams.proofs.NilFree.{and_left, and_right, and_true}
+use Rattle.lus_streams.proofs.Clocks.{actuals_none}
 use Rattle.lus_clocks.specs.Fitting.{clock_from, same_test, names_in, base_test, output_fits, fits, arguments_fit, outputs_fit, lefts_fit, equation_fits}
 use Rattle.lus_clocks.proofs.NewestTests.{AreDeclared, clock_is, on_test, test_on_clock}
 use Rattle.lus_clocks.proofs.CallClocks.{formal_is}
-use Rattle.lus_clocks.proofs.Fits.{base_is, output_is, is_output, actuals_none, names_fit, names_on, fits_is, arguments_fit_is, is_fitting, arguments_fitting}
+use Rattle.lus_clocks.proofs.Fits.{base_is, output_is, is_output, names_fit, names_on, fits_is, arguments_fit_is, is_fitting, arguments_fitting}
 
 -- a node's equation
 module _ (p : Program) (all : (g : ℕ) → AreDeclared (node_at p g)) (f : Node) (declared : AreDeclared f) where
@@ -57,14 +58,14 @@ module _ (p : Program) (all : (g : ℕ) → AreDeclared (node_at p g)) (f : Node
 
     arguments_are : arguments_test ≡ true → Each (PartOnClock p f) (all_parts p args (formal_clock (node_at p g) args (base_of (node_at p g) (clock_of f (item 0 xs 0)))) 0)
     arguments_are h =
-        let fit = subst (λ es. arguments_fit p f args (node_at p g) (names_in es) base 0 ≡ true) (actuals_none p all f declared args) h in
+        let fit = subst (λ es. arguments_fit p f args (node_at p g) (names_in es) base 0 ≡ true) (actuals_none args) h in
         subst (λ k. Each (PartOnClock p f) (all_parts p args (formal_clock (node_at p g) args k) 0)) base_clock
         (arguments_fit_is p all f declared args (node_at p g) args base 0 (formal_is f declared args (node_at p g) (all g) base (names_fit p all f declared (node_at p g) args base fit)) fit)
 
     are_arguments : Each (PartOnClock p f) (all_parts p args (formal_clock (node_at p g) args (base_of (node_at p g) (clock_of f (item 0 xs 0)))) 0) → arguments_test ≡ true
     are_arguments h =
         let inner = subst (λ k. Each (PartOnClock p f) (all_parts p args (formal_clock (node_at p g) args k) 0)) (sym base_clock) h in
-        subst (λ es. arguments_fit p f args (node_at p g) (names_in es) base 0 ≡ true) (sym (actuals_none p all f declared args))
+        subst (λ es. arguments_fit p f args (node_at p g) (names_in es) base 0 ≡ true) (sym (actuals_none args))
         (arguments_fitting p all f declared args (node_at p g) args base 0 (formal_is f declared args (node_at p g) (all g) base (names_on p all f declared (node_at p g) args base inner)) inner)
 
   -- a right side that is no call

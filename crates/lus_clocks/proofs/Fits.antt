@@ -7,10 +7,11 @@ use Rattle.lus_streams.specs.Clocks.{Clock, clock_of, Part, operand, formal_cloc
 use Rattle.lus_streams.specs.OnClock.{test_of, actuals, OutputOn, PartOnClock}
 use Rattle.lus_streams.proofs.Lists.{each_left, each_right, each_append}
 use Rattle.lus_streams.proofs.NilFree.{and_left, and_right, and_true}
+use Rattle.lus_streams.proofs.Clocks.{actuals_none}
 use Rattle.lus_clocks.specs.Fitting.{clock_from, same_test, test_on, name_of, names_in, leads_to, renamed_first, are_named, formals_of, base_test, output_fits, fits, operands_fit, branches_fit, arguments_fit}
 use Rattle.lus_clocks.proofs.NewestTests.{AreDeclared, same_test_is, same_test_of, clock_is, clock_from_is, on_test, test_on_clock, without_tests_is}
 use Rattle.lus_clocks.proofs.CallClocks.{leads_is, is_leads, FormalIs, Named, formal_is}
-use Rattle.lus_clocks.proofs.NamedFormals.{named_is, is_named_all}
+use Rattle.lus_clocks.proofs.NamedFormals.{none_some, named_is, is_named_all}
 
 -- in a program, node f
 module _ (p : Program) (all : (g : ℕ) → AreDeclared (node_at p g)) (f : Node) (declared : AreDeclared f) where
@@ -33,10 +34,6 @@ module _ (p : Program) (all : (g : ℕ) → AreDeclared (node_at p g)) (f : Node
         let named = are_named (names_in (actuals args xs)) (formals_of (node_at p g)) in
         and_true leads named (is_leads f declared (actuals args xs) (clock_of (node_at p g) ((node_at p g).inputs + n)) base o h.0) (is_named_all (node_at p g) (all g) (actuals args xs) h.1)
 
-  pub actuals_none : (args : Operands) → actuals args [] ≡ args
-  actuals_none none = refl
-  actuals_none (more e es) = ap (more e) (actuals_none es)
-
   -- a variable that stands for a formal is on the clock of its place
   module _ (g : Node) (args : Operands) (base : Option Test) where
     abbrev formal : ℕ → Option Test
@@ -47,24 +44,15 @@ module _ (p : Program) (all : (g : ℕ) → AreDeclared (node_at p g)) (f : Node
         let same : x ≡ y = cc in
         subst (λ z. clock_of f z ≡ clock_from f o) same (on_test f declared x o h)
     variable_fits _ y o n h = absurd (none_some n)
-      where
-        none_some : {X : Type 0} {x : X} → None ≡ Some x → ⊥
-        none_some e = cc
 
     variable_on : (e : Expression) (y : ℕ) (k : Clock) → name_of e ≡ Some y → Each On (parts p e k) → clock_of f y ≡ k
     variable_on (variable x) y k n h =
         let same : x ≡ y = cc in
         subst (λ z. clock_of f z ≡ k) same h.0
     variable_on _ y k n h = absurd (none_some n)
-      where
-        none_some : {X : Type 0} {x : X} → None ≡ Some x → ⊥
-        none_some e = cc
 
     named_fits : (es : Operands) (m i y : ℕ) → name_of (operand es i) ≡ Some y → arguments_fit p f es g (names_in args) base m ≡ true → clock_of f y ≡ clock_from f (formal (m + i))
     named_fits none m i y n h = absurd (none_some n)
-      where
-        none_some : {X : Type 0} {x : X} → None ≡ Some x → ⊥
-        none_some e = cc
     named_fits (more e es) m zero y n h =
         let place : m + 0 ≡ m = omega arith in
         subst (λ z. clock_of f y ≡ clock_from f (formal z)) (sym place) (variable_fits e y (formal m) n (and_left (fits p f e (formal m)) (arguments_fit p f es g (names_in args) base (suc m)) h))
@@ -80,9 +68,6 @@ module _ (p : Program) (all : (g : ℕ) → AreDeclared (node_at p g)) (f : Node
 
     named_on : (es : Operands) (m i y : ℕ) → name_of (operand es i) ≡ Some y → Each On (arguments_on es m) → clock_of f y ≡ formal_on (m + i)
     named_on none m i y n h = absurd (none_some n)
-      where
-        none_some : {X : Type 0} {x : X} → None ≡ Some x → ⊥
-        none_some e = cc
     named_on (more e es) m zero y n h =
         let place : m + 0 ≡ m = omega arith in
         subst (λ z. clock_of f y ≡ formal_on z) (sym place) (variable_on e y (formal_on m) n (each_left On (parts p e (formal_on m)) (arguments_on es (suc m)) h))

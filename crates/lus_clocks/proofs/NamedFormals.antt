@@ -31,6 +31,9 @@ module _ (names : ℕ → Option ℕ) where
   at_named [] h = refl
   at_named (v ∷ vs) h = and_true (is_named names v.test) (are_named names vs) (h 0) (at_named vs (λ m. h (suc m)))
 
+pub none_some : {X : Type 0} {x : X} → None ≡ Some x → ⊥
+none_some e = cc
+
 -- the called node g
 module _ (g : Node) (declared : AreDeclared g) (args : Operands) where
   abbrev count : ℕ
@@ -41,9 +44,6 @@ module _ (g : Node) (declared : AreDeclared g) (args : Operands) where
 
   may_test_by : (m : ℕ) (o : Option Test) → test_of g m ≡ o → IsDeclared g m o → (t : Test) → o ≡ Some t → MayTest g m t.variable
   may_test_by m None e h t s = absurd (none_some s)
-    where
-      none_some : {X : Type 0} {x : X} → None ≡ Some x → ⊥
-      none_some e = cc
   may_test_by m (Some u) e h t s = let same : u ≡ t = cc in subst (λ (z : Test). MayTest g m z.variable) same h.1
 
   test_past : (m : ℕ) → length g.variables ≤ m → test_of g m ≡ None
@@ -57,9 +57,6 @@ module _ (g : Node) (declared : AreDeclared g) (args : Operands) where
       may.1 lt)
       (λ ge. absurd (none_some (sym (test_past m ge) ∙ e)))
       (cases_lt m (length g.variables))
-    where
-      none_some : {X : Type 0} {x : X} → None ≡ Some x → ⊥
-      none_some e = cc
 
   abbrev OwnNamed : Type 0
   OwnNamed = (m : ℕ) → m < count → is_named (names_in args) (test_of g m) ≡ true

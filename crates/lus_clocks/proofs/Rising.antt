@@ -166,9 +166,3 @@ module _ (n m : ℕ) (qs : List StoredEquation) (bs next : List Bool) (r : IsRis
 
 pub all_given_are : (qs : List StoredEquation) (bs start : List Bool) → AreFalse (length bs) start → AreGiven qs bs (all_given (flags_in bs) qs start)
 all_given_are qs bs start f = record { size = length_all_given (flags_in bs) qs start ∙ f.size; each = λ x lt. all_given_at (flags_in bs) qs start x (subst (λ m. x < m) (sym f.size) lt) (f.all x) }
-
-pub given_lowered : (n : ℕ) (qs : List StoredEquation) (bs given next : List Bool) → AreGiven qs bs given → AreLowered n given next → IsNext n qs bs next
-given_lowered n qs bs given next g l = record {
-  size = l.size ∙ g.size;
-  given = λ x lt. l.each x (subst (λ k. x < k) (sym g.size) lt) ∙ ap (λ b. not (nat_lt x n) && b) (g.each x lt);
-}

@@ -10,9 +10,11 @@ use Rattle.lus_streams.specs.Clocks.{Clock, clock_of, Part, at, operand, formal_
 use Rattle.lus_streams.specs.Equations.{equation_clock}
 use Rattle.lus_streams.specs.OnClock.{test_of, actuals, IsOnClocks, PartOnClock, ProgramOnClocks, RightOnClock}
 use Rattle.lus_streams.proofs.Lists.{each_item, each_left, each_right}
+use Rattle.lus_streams.proofs.Clocks.{actuals_none}
 use Rattle.lus_clocks.specs.Fitting.{clock_from, base_test, name_of, names_in, renamed_first}
 use Rattle.lus_clocks.proofs.NewestTests.{clock_is, without_tests_is}
 use Rattle.lus_clocks.proofs.CallClocks.{Named, formal_is}
+use Rattle.lus_clocks.proofs.NamedFormals.{none_some}
 use Rattle.lus_normal_form.proofs.OneTest.{call_clock}
 use Rattle.lus_normal_form.specs.Forms.{Position, Inside, Operand, is_taken}
 use Rattle.lus_normal_form.specs.Nodes.{part_test}
@@ -21,18 +23,12 @@ use Rattle.lus_normal_form.proofs.Counted.{map_append}
 use Rattle.lus_normal.specs.Forms.{Taken, branch_test, argument_test, right_takes, operands_takes, takes}
 use Rattle.lus_normal.specs.Laws.{TestsAreNewest, equations_take}
 use Rattle.lus_normal_form.specs.Ready.{Declared}
+use Rattle.lus_normal_form.proofs.HaveFormals.{all_declared}
 use Rattle.lus_normal.proofs.TakesNumbered.{right_tests, tests}
-
-actuals_none : (args : Operands) → actuals args [] ≡ args
-actuals_none none = refl
-actuals_none (more e es) = ap (more e) (actuals_none es)
 
 named_variable : (e : Expression) (y : ℕ) → name_of e ≡ Some y → e ≡ variable y
 named_variable (variable x) y h = cc
 named_variable _ y h = absurd (none_some h)
-  where
-    none_some : {X : Type 0} {x : X} → None ≡ Some x → ⊥
-    none_some e = cc
 
 module _ (p : Program) (f : Node) (declared : Declared f) (callees : (g : ℕ) → Declared (node_at p g)) where
   -- what is taken out, on its clock
@@ -136,9 +132,6 @@ module _ (p : Program) (f : Node) (declared : Declared f) (callees : (g : ℕ) �
       map_append (λ (t : Taken). t.test) (R raw o) (equations_take p f qs)
       ∙ (λ i. here i ++ equations_seen m qs on.1 i)
       ∙ sym (map_append part_test (T e k) (equations_taken p f (equations_from m qs)))
-
-all_declared : (p : Program) → ProgramOnClocks p → (g : ℕ) → Declared (node_at p g)
-all_declared p h g = (each_item (IsOnClocks p) empty_node p.nodes (record { declared = tt; lefts = tt; rights = tt }) h g).declared
 
 pub tests_are_newest : TestsAreNewest
 tests_are_newest p on_clocks f h qs e =

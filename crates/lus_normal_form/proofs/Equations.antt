@@ -13,6 +13,7 @@ use Rattle.lus_streams.specs.Order.{clock_variables}
 use Rattle.lus_normal_form.specs.NormalNodes.{IsDefinition, IsWithin, DefinesNew, IsNormalOf}
 use Rattle.lus_normal_form.specs.NormalForm.{StandsFor, IsRight}
 use Rattle.lus_normal_form.specs.Named.{Uses, DefinesFirst, Known, GivesOutput, DefinitionFits, AreNamed}
+use Rattle.lus_streams.proofs.Definitions.{RightParts, right_parts}
 use Rattle.lus_streams.proofs.Lists.{each_left, each_right, each_append, below_at}
 use Rattle.lus_normal_form.proofs.NewParts.{new_fact, new_part, new_at}
 use Rattle.lus_normal_form.proofs.Values.{Keeps, KeepsOver, on_keeps, first_value, plain_value, right_value}
@@ -22,24 +23,8 @@ use Rattle.lus_normal_form.proofs.Faults.{first_part, right_to, right_from}
 pub each_within : (p : Program) (P : Part → Type 0) (all : List Part) (k : Clock) (a : Expression) → IsWithin p all (at k a) → Each P all → Each P (parts p a k)
 each_within p P all k a h e = each_left P (parts p a k) h.1 (each_right P h.0 (parts p a k ++ h.1) (subst (Each P) h.2 e))
 
--- P holds of each part of the right side that defines a variable
-abbrev pub RightParts : Program → (Part → Type 0) → Option Definition → Type 0
-RightParts p P None = Unit {0}
-RightParts p P (Some (given_by e n xs k)) = Each P (parts p e k)
-
-right_at : (p : Program) (P : Part → Type 0) (f : Node) (q : Equation) (qs : List Equation) (x : ℕ) (o : Option ℕ) → Each P (parts p q.right (equation_clock f q)) → RightParts p P (definition_in f qs x)
-    → RightParts p P (elim o [ None ↦ definition_in f qs x | Some n ↦ Some (given_by q.right n q.targets (equation_clock f q)) ])
-right_at p P f q qs x None h k = k
-right_at p P f q qs x (Some n) h k = h
-
-pub right_parts : (p : Program) (P : Part → Type 0) (f : Node) (qs : List Equation) (x : ℕ) → Each P (equation_parts p f qs) → RightParts p P (definition_in f qs x)
-right_parts p P f [] x h = tt
-right_parts p P f (q ∷ qs) x h =
-    let first = parts p q.right (equation_clock f q) in
-    right_at p P f q qs x (place_in x q.targets 0) (each_left P first (equation_parts p f qs) h) (right_parts p P f qs x (each_right P first (equation_parts p f qs) h))
-
 -- where it holds of the right side of each variable it holds of each part of a node whose equations define variables
-equation_parts_hold : (p : Program) (P : Part → Type 0) (f : Node) → ((x : ℕ) → x < length f.variables → RightParts p P (definition_of f x)) → (qs : List Equation) → Each (DefinesFirst f) qs → Each P (equation_parts p f qs)
+pub equation_parts_hold : (p : Program) (P : Part → Type 0) (f : Node) → ((x : ℕ) → x < length f.variables → RightParts p P (definition_of f x)) → (qs : List Equation) → Each (DefinesFirst f) qs → Each P (equation_parts p f qs)
 equation_parts_hold p P f h [] d = tt
 equation_parts_hold p P f h (q ∷ qs) d =
     each_append P (parts p q.right (equation_clock f q)) (equation_parts p f qs) (subst (RightParts p P) d.0.1 (h (item 0 q.targets 0) d.0.0)) (equation_parts_hold p P f h qs d.1)

@@ -9,29 +9,19 @@ use Rattle.lus_streams.proofs.Lists.{each_left, each_right, each_implies, each_b
 use Rattle.lus_meaning.specs.Types.{count}
 use Rattle.lus_meaning.specs.Resolved.{targets_of, IsDefined}
 use Rattle.lus_normal_form.specs.Named.{Known, DefinesFirst}
-
-count-append : (x : ℕ) (xs ys : List ℕ) → count x (xs ++ ys) ≡ count x xs + count x ys
-count-append x [] ys = omega arith
-count-append x (y ∷ xs) ys = one_more (nat_eq x y) (count-append x xs ys)
-  where
-    one_more : (b : Bool) → count x (xs ++ ys) ≡ count x xs + count x ys → cond b (suc (count x (xs ++ ys))) (count x (xs ++ ys)) ≡ cond b (suc (count x xs)) (count x xs) + count x ys
-    one_more true e = omega (arith, e)
-    one_more false e = e
+use Rattle.lus_normal_form.proofs.Targets.{count_append, targets_in}
 
 -- what isn't counted has no place
 no_place : (x n : ℕ) (xs : List ℕ) (b : Bool) → (count x xs ≡ 0 → place_in x xs (suc n) ≡ None) → cond b (suc (count x xs)) (count x xs) ≡ 0 → (if b then Some n else place_in x xs (suc n)) ≡ None
 no_place x n xs true rest e = absurd (suc-ne-zero (count x xs) e)
 no_place x n xs false rest e = rest e
 
-uncounted : (x : ℕ) (xs : List ℕ) (n : ℕ) → count x xs ≡ 0 → place_in x xs n ≡ None
+pub uncounted : (x : ℕ) (xs : List ℕ) (n : ℕ) → count x xs ≡ 0 → place_in x xs n ≡ None
 uncounted x [] n h = refl
 uncounted x (y ∷ xs) n h = no_place x n xs (nat_eq x y) (uncounted x xs (suc n)) h
 
 abbrev first_of : Equation → ℕ
 first_of q = item 0 q.targets 0
-
-abbrev targets_in : List Equation → List ℕ
-targets_in qs = flat_map (λ q. q.targets) qs
 
 -- the first variable on a left side
 first_place : (xs : List ℕ) → 0 < length xs → place_in (item 0 xs 0) xs 0 ≡ Some 0
@@ -45,9 +35,9 @@ first_counted (x ∷ xs) h = let one : cond (nat_eq x x) (suc (count x xs)) (cou
 firsts_counted : (qs : List Equation) → Each (λ q. 0 < length q.targets) qs → Each (λ q. 0 < count (first_of q) (targets_in qs)) qs
 firsts_counted [] h = tt
 firsts_counted (q ∷ qs) h = (
-  let here = first_counted q.targets h.0 in let sum = count-append (first_of q) q.targets (targets_in qs) in omega (arith, here, sum),
+  let here = first_counted q.targets h.0 in let sum = count_append (first_of q) q.targets (targets_in qs) in omega (arith, here, sum),
   each_implies (λ r. 0 < count (first_of r) (targets_in qs)) (λ r. 0 < count (first_of r) (targets_in (q ∷ qs)))
-      (λ r there. let sum = count-append (first_of r) q.targets (targets_in qs) in omega (arith, there, sum))
+      (λ r there. let sum = count_append (first_of r) q.targets (targets_in qs) in omega (arith, there, sum))
       qs (firsts_counted qs h.1),
 )
 
@@ -56,7 +46,7 @@ module _ (f : Node) where
   IsFirst qs q = definition_in f qs (first_of q) ≡ Some (given_by q.right 0 q.targets (equation_clock f q))
 
   -- equations before which a variable isn't defined leave its definition
-  not_before : (q : Equation) (qs : List Equation) (x : ℕ) → count x q.targets ≡ 0 → definition_in f (q ∷ qs) x ≡ definition_in f qs x
+  pub not_before : (q : Equation) (qs : List Equation) (x : ℕ) → count x q.targets ≡ 0 → definition_in f (q ∷ qs) x ≡ definition_in f qs x
   not_before q qs x h = ap (λ o. elim o [ None ↦ definition_in f qs x | Some n ↦ Some (given_by q.right n q.targets (equation_clock f q)) ]) (uncounted x q.targets 0 h)
 
   here_first : (q : Equation) (qs : List Equation) → 0 < length q.targets → IsFirst (q ∷ qs) q
@@ -68,13 +58,13 @@ module _ (f : Node) where
     here_first q qs lefts.0,
     each_implies (λ r. (IsFirst qs r × (0 < count (first_of r) (targets_in qs))) × Known f (first_of r)) (IsFirst (q ∷ qs))
         (λ r h.
-        let sum = count-append (first_of r) q.targets (targets_in qs) in
+        let sum = count_append (first_of r) q.targets (targets_in qs) in
         let apart : count (first_of r) q.targets ≡ 0 = omega (arith, once (first_of r) h.1, sum, h.0.1) in
         not_before q qs (first_of r) apart ∙ h.0.0)
         qs
         (each_both (λ r. IsFirst qs r × (0 < count (first_of r) (targets_in qs))) (λ r. Known f (first_of r)) qs
         (each_both (IsFirst qs) (λ r. 0 < count (first_of r) (targets_in qs)) qs
-        (firsts_defined qs lefts.1 (λ x lt. let sum = count-append x q.targets (targets_in qs) in omega (arith, once x lt, sum)) known.1)
+        (firsts_defined qs lefts.1 (λ x lt. let sum = count_append x q.targets (targets_in qs) in omega (arith, once x lt, sum)) known.1)
         (firsts_counted qs lefts.1))
         known.1),
   )

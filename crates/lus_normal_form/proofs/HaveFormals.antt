@@ -14,9 +14,9 @@ use Rattle.lus_streams.specs.Clocks.{Clock, clock_of, Part, at, operand, formal_
 use Rattle.lus_streams.specs.Equations.{equation_clock, equation_parts, node_parts}
 use Rattle.lus_streams.specs.OnClock.{IsDeclared, IsName, IsOnClocks, LeftOnClock, PartOnClock, ProgramOnClocks, RightOnClock, actuals, test_of}
 use Rattle.lus_streams.proofs.Lists.{each_append, each_both, each_implies, each_item, each_left, each_right, item_past}
-use Rattle.lus_streams.proofs.Clocks.{chain_none}
+use Rattle.lus_streams.proofs.Clocks.{actuals_none, chain_none}
 use Rattle.lus_normal_form.proofs.OneTest.{clock_is_chain}
-use Rattle.lus_values.proofs.Lists.{below_at}
+use Rattle.lus_values.proofs.Lists.{each_found, below_at}
 use Rattle.lus_meaning.specs.Types.{all_same}
 use Rattle.lus_meaning.specs.Resolved.{input_kinds, output_kinds, call_results, results, kind_in, kinds_in, kinds_given_in, EquationFits, NodeResolved, Resolved}
 use Rattle.lus_resolution.proofs.Options.{and_then_gives, map_gives, where_true_gives, all_same_is}
@@ -24,12 +24,6 @@ use Rattle.lus_resolution.proofs.Typed.{HasKind, HaveKinds, IsCall, operate_type
 use Rattle.lus_normal_form.specs.Laws.{IsChain}
 use Rattle.lus_normal_form.specs.Computed.{HaveFormals, HasFormals}
 use Rattle.lus_normal_form.specs.Ready.{Declared, HasArguments, operand_size}
-
--- what holds of each item holds of the one at a place
-pub each_found : {X : Type 0} (P : X → Type 0) (xs : List X) → Each P xs → (n : ℕ) (x : X) → slice_get xs n ≡ Some x → P x
-each_found P [] h n x e = cc
-each_found P (y ∷ ys) h zero x e = let same : y ≡ x = cc in subst P same h.0
-each_found P (y ∷ ys) h (suc n) x e = each_found P ys h.1 n x e
 
 input_count : (f : Node) → f.inputs + f.outputs ≤ length f.variables → length (input_kinds f) ≡ f.inputs
 input_count f le = length-map (take f.inputs f.variables) (λ v. v.kind) ∙ length-take-le f.inputs f.variables (omega (arith, le))
@@ -42,7 +36,7 @@ module _ (p : Program) (resolved : Each (NodeResolved p) p.nodes) where
       let fits = where_true_gives (all_same (input_kinds f) ks) (Some (output_kinds f)) ls found.2 in
       let same : input_kinds f ≡ ks = all_same_is (input_kinds f) ks fits.0 in
       let is : node_at p g ≡ f = get_or_from_slice_get p.nodes g f empty_node found.1 in
-      let r = each_found (NodeResolved p) p.nodes resolved g f found.1 in
+      let r = each_found (NodeResolved p) p.nodes g f resolved found.1 in
       ap length (sym same) ∙ input_count f r.formals ∙ ap (λ d. d.inputs) (sym is)
 
   module _ (f : Node) where
@@ -93,10 +87,6 @@ module _ (p : Program) (resolved : Each (NodeResolved p) p.nodes) where
 pub call_arguments : (p : Program) → Resolved p → Each (λ f. Each (HasArguments p) (node_parts p f)) p.nodes
 call_arguments p r = each_implies (NodeResolved p) (λ f. Each (HasArguments p) (node_parts p f)) (λ f n. equations_typed p r.nodes f f.equations n.equations) p.nodes r.nodes
 
-actuals_none : (args : Operands) → actuals args [] ≡ args
-actuals_none none = refl
-actuals_none (more e es) = ap (more e) (actuals_none es)
-
 have_formals : (g : Node) (args es : Operands) (m : ℕ) → m + operand_size es ≡ g.inputs → Below (g.inputs + g.outputs) (λ n. Each (λ t. IsName (operand args t.variable)) (clock_of g n)) → HaveFormals g args es m
 have_formals g args none m e names = tt
 have_formals g args (more a es) m e names =
@@ -114,23 +104,23 @@ parts_formals : (p : Program) (f : Node) (es : List Part) → Each (HasArguments
 parts_formals p f [] has on = tt
 parts_formals p f (e ∷ es) has on = (part_formals p f e has.0 on.0, parts_formals p f es has.1 on.1)
 
+pub own_operand : (args : Operands) (xs : List ℕ) (n : ℕ) → n < operand_size args → operand (actuals args xs) n ≡ operand args n
+own_operand none xs n lt = elim (not-suc-le-zero lt) [ ]
+own_operand (more e es) xs zero lt = refl
+own_operand (more e es) xs (suc n) lt = own_operand es xs n (omega (arith, lt))
+
 -- an input is tested by inputs
 module _ (g : Node) (declared : Declared g) where
   tested_by : (m : ℕ) (t : Test) (k : Clock) (o : Option Test) → test_of g m ≡ o → IsDeclared g m o → clock_of g m ≡ t ∷ k → m < g.inputs → t.variable < g.inputs
   tested_by m t k None e d is lt = absurd (suc-ne-zero _ (sym (ap length (sym (chain_none (length g.variables) g.variables m e) ∙ is))))
   tested_by m t k (Some u) e d is lt = let same : u ≡ t = (let both : u ∷ clock_of g u.variable ≡ t ∷ k = sym d.0 ∙ is in cc) in subst (λ (z : Test). z.variable < g.inputs) same (d.1.0 lt)
 
-  tested : (m : ℕ) (t : Test) (k : Clock) → clock_of g m ≡ t ∷ k → m < g.inputs → t.variable < g.inputs
+  pub tested : (m : ℕ) (t : Test) (k : Clock) → clock_of g m ≡ t ∷ k → m < g.inputs → t.variable < g.inputs
   tested m t k is lt =
       ⊎_elim
       (λ within. tested_by m t k (test_of g m) refl (below_at (λ y. IsDeclared g y (test_of g y)) (length g.variables) declared m within) is lt)
       (λ past. tested_by m t k None (ap (λ (v : Variable). v.test) (item_past no_variable g.variables m past)) tt is lt)
       (cases_lt m (length g.variables))
-
-  own_operand : (args : Operands) (xs : List ℕ) (n : ℕ) → n < operand_size args → operand (actuals args xs) n ≡ operand args n
-  own_operand none xs n lt = elim (not-suc-le-zero lt) [ ]
-  own_operand (more e es) xs zero lt = refl
-  own_operand (more e es) xs (suc n) lt = own_operand es xs n (omega (arith, lt))
 
   own_names : (args : Operands) (xs : List ℕ) → operand_size args ≡ g.inputs → (k : Clock) (m : ℕ) → clock_of g m ≡ k → m < g.inputs
       → Each (λ t. IsName (operand (actuals args xs) t.variable)) k → Each (λ t. IsName (operand args t.variable)) k

@@ -6,10 +6,10 @@ use Rattle.std.specs.Prelude.{slice_get}
 use Rattle.lus_values.specs.Lists.{Each}
 use Rattle.lus_program.specs.Programs.{Equation, Node}
 use Rattle.lus_streams.specs.Equations.{Definition, given_by, place_in, equation_clock, definition_in}
-use Rattle.lus_streams.proofs.Lists.{each_implies, each_left, each_right}
+use Rattle.lus_streams.proofs.Lists.{each_found, each_implies, each_left, each_right}
 use Rattle.lus_meaning.specs.Types.{count}
-use Rattle.lus_normal_form.proofs.HaveFormals.{each_found}
 use Rattle.lus_normal_form.proofs.Targets.{count_append, targets_in}
+use Rattle.lus_normal_form.proofs.FirstsDefined.{not_before}
 
 -- what stands in a list is counted, and has a place where it is counted once
 counted : (xs : List ℕ) (o x : ℕ) → slice_get xs o ≡ Some x → 0 < count x xs
@@ -40,15 +40,7 @@ placed (y ∷ xs) (suc o) x n m e once sum =
     later true once rest = let some = counted xs o x e in let wrong : ⊥ = omega (arith, some, once) in absurd wrong
     later false once rest = rest once
 
--- what isn't counted has no place, and what has no place isn't counted
-uncounted : (x : ℕ) (xs : List ℕ) (n : ℕ) → count x xs ≡ 0 → place_in x xs n ≡ None
-uncounted x [] n h = refl
-uncounted x (y ∷ xs) n h = choose (nat_eq x y) (uncounted x xs (suc n)) h
-  where
-    choose : (b : Bool) → (count x xs ≡ 0 → place_in x xs (suc n) ≡ None) → cond b (suc (count x xs)) (count x xs) ≡ 0 → PlaceOr b n (place_in x xs (suc n)) ≡ None
-    choose true rest e = absurd (suc-ne-zero (count x xs) e)
-    choose false rest e = rest e
-
+-- what has no place isn't counted
 unplaced : (x : ℕ) (xs : List ℕ) (n : ℕ) → place_in x xs n ≡ None → count x xs ≡ 0
 unplaced x [] n h = refl
 unplaced x (y ∷ xs) n h = choose (nat_eq x y) (unplaced x xs (suc n)) h
@@ -61,15 +53,12 @@ module _ (f : Node) where
   abbrev Given : Equation → Option Definition → Option ℕ → Option Definition
   Given q later o = elim o [ None ↦ later | Some n ↦ Some (given_by q.right n q.targets (equation_clock f q)) ]
 
-  not_before : (q : Equation) (qs : List Equation) (x : ℕ) → count x q.targets ≡ 0 → definition_in f (q ∷ qs) x ≡ definition_in f qs x
-  not_before q qs x h = ap (Given q (definition_in f qs x)) (uncounted x q.targets 0 h)
-
   -- what stands on no left side has no definition
   pub undefined : (qs : List Equation) (x : ℕ) → count x (targets_in qs) ≡ 0 → definition_in f qs x ≡ None
   undefined [] x h = refl
   undefined (q ∷ qs) x h =
       let sum = count_append x q.targets (targets_in qs) in
-      not_before q qs x (omega (arith, sum, h)) ∙ undefined qs x (omega (arith, sum, h))
+      not_before f q qs x (omega (arith, sum, h)) ∙ undefined qs x (omega (arith, sum, h))
 
   -- and what has none stands on no left side
   pub not_left : (qs : List Equation) (x : ℕ) → definition_in f qs x ≡ None → count x (targets_in qs) ≡ 0
@@ -99,7 +88,7 @@ module _ (f : Node) where
 
       here : DefinesAll (q ∷ qs) q
       here o x e =
-          let lt : x < length f.variables = each_found (λ y. y < length f.variables) q.targets (each_left (λ x. x < length f.variables) q.targets (targets_in qs) known) o x e in
+          let lt : x < length f.variables = each_found (λ y. y < length f.variables) q.targets o x (each_left (λ x. x < length f.variables) q.targets (targets_in qs) known) e in
           let sum = count_append x q.targets (targets_in qs) in
           let some = counted q.targets o x e in
           let all = once x lt in
@@ -111,4 +100,4 @@ module _ (f : Node) where
           let some = own.1 in
           let all = once x own.0 in
           let sum = count_append x q.targets (targets_in qs) in
-          (own.0, omega (arith, sum, some), not_before q qs x (omega (arith, sum, some, all)) ∙ own.2)
+          (own.0, omega (arith, sum, some), not_before f q qs x (omega (arith, sum, some, all)) ∙ own.2)

@@ -7,7 +7,7 @@ use Rattle.lus_streams.specs.Clocks.{Clock, Part, at, parts}
 use Rattle.lus_streams.specs.Equations.{equation_clock, equation_parts, node_parts}
 use Rattle.lus_streams.specs.Flags.{CallsHaveOutputs, HasOutput}
 use Rattle.lus_streams.specs.OnClock.{IsOnClocks, LeftOnClock, ProgramOnClocks, RightOnClock}
-use Rattle.lus_streams.proofs.Lists.{each_implies, each_item, each_left, each_right}
+use Rattle.lus_streams.proofs.Lists.{each_of_items, each_implies, each_item, each_left, each_right}
 use Rattle.lus_meaning.specs.Types.{count}
 use Rattle.lus_meaning.specs.Resolved.{targets_of, NodeResolved, Resolved}
 use Rattle.lus_meaning.specs.Resolved.{IsDefined as IsCounted}
@@ -15,7 +15,7 @@ use Rattle.lus_resolved_streams.proofs.CallsResolved.{resolved_calls_have_output
 use Rattle.lus_normal_form.specs.NormalNodes.{IsNormalNode, IsWithin}
 use Rattle.lus_normal_form.proofs.Equations.{each_within}
 use Rattle.lus_normal_form.proofs.Faults.{first_part}
-use Rattle.lus_normal_form.proofs.NormalOnClocks.{normal_is_on_clocks}
+use Rattle.lus_normal_form.proofs.NormalOnClocks.{none_on_clocks, normal_is_on_clocks}
 use Rattle.lus_normal_form.proofs.Simple.{normal_is_simple}
 use Rattle.lus_normal_form.specs.Computed.{HasFormals}
 use Rattle.lus_normal_form.specs.Nodes.{IsMadeFrom}
@@ -68,14 +68,6 @@ rights_have_formals p on f (q ∷ qs) some lefts rights has =
       right_has_formals p q.right k (first_part p (HasFormals p) q.right k all),
       rights_have_formals p on f qs some.1 lefts.1 rights.1 (each_right (HasArguments p) (parts p q.right k) (equation_parts p f qs) has),
     )
-
-none_on_clocks : (p : Program) → IsOnClocks p empty_node
-none_on_clocks p = record { declared = tt; lefts = tt; rights = tt }
-
--- what holds at each place holds of each item
-each_placed : {X : Type 0} (P : X → Type 0) (d : X) (xs : List X) → ((n : ℕ) → P (item d xs n)) → Each P xs
-each_placed P d [] h = tt
-each_placed P d (x ∷ xs) h = (h zero, each_placed P d xs (λ n. h (suc n)))
 
 module _ (p p' : Program) (resolved : Resolved p) (on_clocks : ProgramOnClocks p) (made : (g : ℕ) → IsMadeFrom p (node_at p g) (node_at p' g)) where
   normal : (g : ℕ) → IsNormalNode p p' (node_at p g) (node_at p' g) (node_taken p (node_at p g))
@@ -154,7 +146,7 @@ module _ (p p' : Program) (resolved : Resolved p) (on_clocks : ProgramOnClocks p
 
   are_ready : AreReady p'
   are_ready = record {
-    each = each_placed (λ f. IsReady p' f × IsDefined p' f) empty_node p'.nodes (λ g. (node_ready g, defines g));
+    each = each_of_items (λ f. IsReady p' f × IsDefined p' f) empty_node p'.nodes (λ g lt. (node_ready g, defines g));
     numbered = λ g. (node_ready g, defines g);
   }
 

@@ -7,11 +7,11 @@ use Rattle.lus_streams.specs.Clocks.{Clock, Part, formal_clock, base_of, branch_
 use Rattle.lus_streams.specs.Equations.{Definition, given_by}
 use Rattle.lus_streams.specs.Order.{clock_variables}
 use Rattle.lus_streams.proofs.Lists.{each_append, each_implies, each_left, each_map_drop, each_right}
+use Rattle.lus_streams.proofs.Definitions.{RightParts}
 use Rattle.lus_normal_form.specs.Forms.{Position, Inside, Operand, is_taken}
 use Rattle.lus_normal_form.specs.NormalForm.{Stands, IsRight, AreNormal}
 use Rattle.lus_normal_form.specs.NormalNodes.{IsDefinition}
 use Rattle.lus_normal_form.specs.Named.{GivesOutput, Known, Uses}
-use Rattle.lus_normal_form.proofs.Equations.{RightParts}
 use Rattle.lus_normal_form.proofs.Faults.{first_part}
 use Rattle.lus_normal_form.proofs.Variables.{formal_variables}
 use Rattle.lus_normal_form.proofs.NeedsKnown.{all_needs}

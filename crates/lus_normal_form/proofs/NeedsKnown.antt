@@ -8,11 +8,12 @@ use Rattle.lus_streams.specs.Clocks.{Clock, clock_of, Part, formal_clock, base_o
 use Rattle.lus_streams.specs.Equations.{Definition, given_by, definition_of, node_parts}
 use Rattle.lus_streams.specs.Order.{needs, needs_all, needs_right, needed, clock_variables}
 use Rattle.lus_streams.proofs.Lists.{each_append, each_implies, each_left, each_right, below_at}
+use Rattle.lus_streams.proofs.Definitions.{RightParts, right_parts}
 use Rattle.lus_normal_form.specs.Forms.{Position, Inside, Operand, is_taken}
 use Rattle.lus_normal_form.specs.NormalForm.{StandsFor, Stands, IsRight, AreNormal}
 use Rattle.lus_normal_form.specs.NormalNodes.{DefinesNew, IsDefinition, IsNormalNode, IsWithin}
 use Rattle.lus_normal_form.specs.Named.{GivesOutput, IsNamed, Known, Uses}
-use Rattle.lus_normal_form.proofs.Equations.{RightParts, each_within, right_parts}
+use Rattle.lus_normal_form.proofs.Equations.{each_within}
 use Rattle.lus_normal_form.proofs.Faults.{first_part}
 use Rattle.lus_normal_form.proofs.NewParts.{new_at, new_fact, new_part, stands_before}
 use Rattle.lus_normal_form.specs.Needs.{NormalNeedsVariables}

@@ -10,12 +10,12 @@ use Rattle.lus_streams.specs.Flags.{OutputIs}
 use Rattle.lus_streams.specs.OnClock.{DefinedOnClock, IsOnClocks}
 use Rattle.lus_streams.specs.Order.{clock_variables, needs_right}
 use Rattle.lus_streams.proofs.Calls.{AtBase, OfCall}
-use Rattle.lus_streams.proofs.Definitions.{defined_on_clock}
+use Rattle.lus_streams.proofs.Definitions.{RightParts, right_parts, defined_on_clock}
 use Rattle.lus_streams.proofs.Lists.{below_at, each_append, each_both, each_implies, each_left}
 use Rattle.lus_normal_form.specs.NormalForm.{StandsFor}
 use Rattle.lus_normal_form.specs.NormalNodes.{DefinesNew, IsDefinition, IsNormalNode, IsWithin}
 use Rattle.lus_normal_form.specs.Named.{DefinesFirst, DefinitionFits, GivesOutput, IsCalled, IsNamed, Known, OutputKnown, Uses}
-use Rattle.lus_normal_form.proofs.Equations.{RightParts, each_within, right_parts}
+use Rattle.lus_normal_form.proofs.Equations.{each_within, equation_parts_hold}
 use Rattle.lus_normal_form.proofs.NewParts.{new_at, new_fact, new_part, stands_before}
 use Rattle.lus_normal_form.proofs.OneCall.{numbered_same}
 use Rattle.lus_normal_form.specs.Ready.{HasArguments}
@@ -23,12 +23,6 @@ use Rattle.lus_normal_form.proofs.CallsKept.{IsFitCall, fit_has_arguments, parts
 use Rattle.lus_normal_form.proofs.NamesKept.{AnyCall, definition_named}
 use Rattle.lus_normal_form.proofs.NeedsKnown.{all_need}
 use Rattle.lus_normal_form.proofs.OutputsKept.{LeftHasOutputs, output_is}
-
--- what holds of the parts of each right side that defines a variable holds of those of all equations
-right_sides : (p : Program) (P : Part → Type 0) (f : Node) → ((x : ℕ) → x < length f.variables → RightParts p P (definition_of f x)) → (qs : List Equation) → Each (DefinesFirst f) qs → Each P (equation_parts p f qs)
-right_sides p P f h [] first = tt
-right_sides p P f h (q ∷ qs) first =
-    each_append P (parts p q.right (equation_clock f q)) (equation_parts p f qs) (subst (RightParts p P) first.0.1 (h (item 0 q.targets 0) first.0.0)) (right_sides p P f h qs first.1)
 
 -- names and calls of a part, apart from one another
 names_of : (V : ℕ → Type 0) (p : Program) (f : Node) (t : Part) → Uses V AnyCall t × OfCall (AtBase p (IsFitCall p (sites p f))) t → Uses V (GivesOutput p f) t
@@ -117,7 +111,7 @@ module _ (p p' : Program) (formals : (g : ℕ) → (node_at p g).inputs + (node_
         kept (Some (given_by a 0 (x ∷ []) k)) (definition_of f' x) uses is.1
 
     in_node : Each InNode (node_parts p' f')
-    in_node = right_sides p' InNode f' (λ x lt. ⊎_elim (λ low. old_right x low) (λ high. new_right x high lt) (cases_lt x w)) f'.equations normal.equations
+    in_node = equation_parts_hold p' InNode f' (λ x lt. ⊎_elim (λ low. old_right x low) (λ high. new_right x high lt) (cases_lt x w)) f'.equations normal.equations
 
     -- its calls
     inputs_stay : (g : ℕ) → (node_at p' g).inputs ≡ (node_at p g).inputs

@@ -10,7 +10,7 @@ use Rattle.lus_streams.specs.Equations.{Definition, given_by, place_in, equation
 use Rattle.lus_streams.specs.OnClock.{MayTest, IsDeclared, test_of, OutputOn, DefinedOnClock, LeftOnClock, RightOnClock, IsOnClocks, ProgramOnClocks}
 use Rattle.lus_streams.specs.Order.{clock_variables}
 use Rattle.lus_streams.specs.Flags.{HasOutput, OutputIs, CallsHaveOutputs}
-use Rattle.lus_streams.proofs.Lists.{each_left, each_right, each_implies, each_item, below_at}
+use Rattle.lus_streams.proofs.Lists.{each_of_items, each_left, each_right, each_implies, each_item, below_at}
 use Rattle.lus_meaning.specs.Resolved.{EquationFits, NodeResolved, Resolved}
 use Rattle.lus_resolved_streams.proofs.CallsResolved.{output_within, resolved_calls_have_outputs}
 use Rattle.lus_values.proofs.Lists.{below_all}
@@ -98,7 +98,7 @@ module _ (p : Program) (nodes : Each (NodeResolved p) p.nodes) (f : Node) where
 none_resolved : (p : Program) → NodeResolved p empty_node
 none_resolved p = record { formals = omega arith; variables = tt; targets = tt; defined = tt; lefts = tt; equations = tt; numbered = tt }
 
-none_on_clocks : (p : Program) → IsOnClocks p empty_node
+pub none_on_clocks : (p : Program) → IsOnClocks p empty_node
 none_on_clocks p = record { declared = tt; lefts = tt; rights = tt }
 
 none_have_outputs : (p : Program) → CallsHaveOutputs p empty_node
@@ -276,9 +276,5 @@ module _ (p p' : Program) (new_parts : ℕ → List Part) (resolved : Resolved p
     rights = each_implies (DefinesFirst node') (λ q. RightOnClock p' node' (parts p' q.right (equation_clock node' q))) (λ q h. (by_first q h).right) node'.equations (normal f).equations;
   }
 
-each_place : {X : Type 0} (P : X → Type 0) (d : X) (xs : List X) → ((n : ℕ) → P (item d xs n)) → Each P xs
-each_place P d [] h = tt
-each_place P d (x ∷ xs) h = (h 0, each_place P d xs (λ n. h (suc n)))
-
 pub normal_is_on_clocks : NormalIsOnClocks
-normal_is_on_clocks p p' new_parts resolved on_clocks normal = each_place (IsOnClocks p') empty_node p'.nodes (λ f. node_on_clocks p p' new_parts resolved on_clocks normal f)
+normal_is_on_clocks p p' new_parts resolved on_clocks normal = each_of_items (IsOnClocks p') empty_node p'.nodes (λ f lt. node_on_clocks p p' new_parts resolved on_clocks normal f)

@@ -4,9 +4,9 @@ use Rattle.lus_program.specs.Programs.{Expression, call, Operands, Equation, Nod
 use Rattle.lus_streams.specs.Clocks.{Clock, Part, at, formal_clock, base_of, parts, all_parts}
 use Rattle.lus_streams.specs.Equations.{Definition, given_by, place_in, equation_clock, definition_in, equation_parts, Site, sites_in}
 use Rattle.lus_streams.proofs.Calls.{OfCall, parts_of_sites}
+use Rattle.lus_streams.proofs.Definitions.{RightParts, right_parts}
 use Rattle.lus_normal_form.specs.NormalNodes.{AreSites}
 use Rattle.lus_normal_form.specs.Named.{Numbered, IsCalled}
-use Rattle.lus_normal_form.proofs.Equations.{RightParts, right_parts}
 use Rattle.lus_normal_form.proofs.ResolvedNamed.{each_called}
 
 -- the numbers are those from n on

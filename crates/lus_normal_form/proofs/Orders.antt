@@ -8,7 +8,7 @@ use Rattle.lus_streams.specs.Clocks.{renamed_clock, Clock, clock_of, Part, forma
 use Rattle.lus_streams.specs.Equations.{Definition, given_by, definition_of}
 use Rattle.lus_streams.specs.OnClock.{actuals, DefinedOnClock, IsOnClocks}
 use Rattle.lus_streams.specs.Order.{needs, needs_all, clock_variables, needs_right, needed, is_in, HasNeedsFirst, HasOrder}
-use Rattle.lus_streams.proofs.Definitions.{defined_on_clock}
+use Rattle.lus_streams.proofs.Definitions.{RightParts, right_parts, defined_on_clock}
 use Rattle.lus_streams.proofs.Lists.{each_left, each_right, each_append, each_both, each_implies, each_map_right, each_map_drop, each_in, below_at}
 use Rattle.lus_normal_form.specs.Forms.{Position, Inside, Operand, is_taken}
 use Rattle.lus_normal_form.specs.NormalForm.{StandsFor, Stands, IsRight, AreNormal}
@@ -18,7 +18,7 @@ use Rattle.lus_normal_form.specs.Laws.{NormalHasOrder}
 use Rattle.lus_normal_form.proofs.Variables.{formal_variables, needs_known}
 use Rattle.lus_normal_form.proofs.NewParts.{new_at}
 use Rattle.lus_normal_form.proofs.Faults.{first_part}
-use Rattle.lus_normal_form.proofs.Equations.{RightParts, right_parts, new_uses, new_defined, new_clock, old_defined, old_clock}
+use Rattle.lus_normal_form.proofs.Equations.{new_uses, new_defined, new_clock, old_defined, old_clock}
 
 in_first : (x : ℕ) (xs : List ℕ) → IsTrue (is_in (x ∷ xs) x)
 in_first x xs = ap (λ b. b || is_in xs x) (eq-eqb x x refl)

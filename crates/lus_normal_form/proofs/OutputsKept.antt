@@ -6,6 +6,7 @@ use Rattle.lus_streams.specs.Clocks.{Clock, Part, at}
 use Rattle.lus_streams.specs.Equations.{given_by, place_in, equation_clock, definition_in}
 use Rattle.lus_streams.specs.Flags.{HasOutput, OutputIs}
 use Rattle.lus_streams.proofs.Lists.{each_append, each_left, each_right}
+use Rattle.lus_streams.proofs.Definitions.{place_within}
 use Rattle.lus_meaning.specs.Resolved.{EquationFits, NodeResolved}
 use Rattle.lus_resolved_streams.proofs.CallsResolved.{output_within}
 use Rattle.lus_resolution.proofs.Typed.{fits_given}
@@ -70,15 +71,6 @@ module _ (p p' : Program) (outputs : (g : ℕ) → (node_at p' g).outputs ≡ (n
         form_outputs q.right n (length q.targets) h.0,
         each_append (LeftHasOutputs p') (added_equations n (right_out q.right)) (normal_equations m qs) (added_outputs n (right_out q.right) new) rest,
       )
-
--- a place on a left side is below its size
-place_or : (n : ℕ) (x : ℕ) (ys : List ℕ) (i : ℕ) (b : Bool) → (place_in x ys (suc n) ≡ Some i → i < suc n + length ys) → (if b then Some n else place_in x ys (suc n)) ≡ Some i → i < n + suc (length ys)
-place_or n x ys i true rest e = let here : n ≡ i = cc in omega (arith, here)
-place_or n x ys i false rest e = omega (arith, rest e)
-
-place_within : (x : ℕ) (ys : List ℕ) (n i : ℕ) → place_in x ys n ≡ Some i → i < n + length ys
-place_within x [] n i e = cc
-place_within x (y ∷ ys) n i e = place_or n x ys i (nat_eq x y) (place_within x ys (suc n) i) e
 
 -- and so a variable is an output that its call has
 pub output_is : (p : Program) (f : Node) (qs : List Equation) → Each (LeftHasOutputs p) qs → (x : ℕ) → OutputIs p (definition_in f qs x)

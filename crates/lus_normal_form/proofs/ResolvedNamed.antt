@@ -14,7 +14,7 @@ use Rattle.lus_streams.specs.OnClock.{DefinedOnClock, IsOnClocks}
 use Rattle.lus_streams.specs.Order.{clock_variables, needs_right, needed}
 use Rattle.lus_streams.specs.Flags.{HasOutput, OutputIs, CallsHaveOutputs}
 use Rattle.lus_streams.proofs.Calls.{OfCall, parts_of_sites}
-use Rattle.lus_streams.proofs.Definitions.{defined_on_clock}
+use Rattle.lus_streams.proofs.Definitions.{RightParts, right_parts, defined_on_clock}
 use Rattle.lus_streams.proofs.Lists.{each_left, each_append, each_both, each_implies, each_item, each_map_drop, below_at}
 use Rattle.lus_meaning.specs.Resolved.{values_of, kind_of_variable, kinds_given_in, EquationFits, NodeResolved}
 use Rattle.lus_resolved_streams.proofs.CallsResolved.{resolved_calls_have_outputs}
@@ -23,7 +23,6 @@ use Rattle.lus_resolution.proofs.Options.{map_gives}
 use Rattle.lus_resolution.proofs.Typed.{HasKind, HaveKinds, operate_typed, both_typed, when_typed, merge_typed, call_typed, more_typed, whole_call, whole_typed, fits_given}
 use Rattle.lus_normal_form.specs.Named.{Names, Uses, IsCalled, Known, OutputKnown, GivesOutput, DefinitionFits, DefinesFirst, IsNamed}
 use Rattle.lus_normal_form.specs.Laws.{ResolvedAreNamed}
-use Rattle.lus_normal_form.proofs.Equations.{RightParts, right_parts}
 use Rattle.lus_normal_form.proofs.FirstsDefined.{equations_define}
 use Rattle.lus_normal_form.proofs.SitesNumbered.{equations_numbered}
 use Rattle.lus_normal_form.proofs.Variables.{formal_variables, all_known}

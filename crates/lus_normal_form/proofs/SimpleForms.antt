@@ -52,7 +52,7 @@ module _ (p : Program) where
   atom_none _ k h rest = absurd h
 
   mutual
-    simple_none : (e : Expression) (k : Clock) → IsSimple e → None (parts p e k)
+    pub simple_none : (e : Expression) (k : Clock) → IsSimple e → None (parts p e k)
     simple_none (literal v) k h rest = refl
     simple_none (variable x) k h rest = refl
     simple_none (operate o es) k h rest = all_none es (λ m. k) 0 h rest
@@ -66,7 +66,7 @@ module _ (p : Program) where
     all_none none ks m h rest = refl
     all_none (more e es) ks m h rest = both_none (parts p e (ks m)) (all_parts p es ks (suc m)) (simple_none e (ks m) h.0) (all_none es ks (suc m) h.1) rest
 
-  atoms_none : (es : Operands) (ks : ℕ → Clock) (m : ℕ) → AreAtoms es → None (all_parts p es ks m)
+  pub atoms_none : (es : Operands) (ks : ℕ → Clock) (m : ℕ) → AreAtoms es → None (all_parts p es ks m)
   atoms_none none ks m h rest = refl
   atoms_none (more e es) ks m h rest = both_none (parts p e (ks m)) (all_parts p es ks (suc m)) (atom_none e (ks m) h.0) (atoms_none es ks (suc m) h.1) rest
 

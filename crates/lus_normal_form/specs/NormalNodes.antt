@@ -33,37 +33,35 @@ IsWithin p all (at k a) = (before after : List Part) × (all ≡ before ++ (part
 abbrev pub DefinesNew : Program → Node → (ℕ → Clock → Expression → Type 0) → ℕ → Part → Type 0
 DefinesNew p f' New y (at k a) = (clock_of f' y ≡ k) × IsDefinition p New (Some (given_by a 0 (y ∷ []) k)) (definition_of f' y)
 
+-- a count over the text of an expression: u for each `pre`, v for each `->` and w for each call
+abbrev mutual
+  pub counted : (u v w : ℕ) → Expression → ℕ
+  counted u v w (literal x) = 0
+  counted u v w (variable x) = 0
+  counted u v w (operate o es) = all_counted u v w es
+  counted u v w (pre a) = u + counted u v w a
+  counted u v w (arrow a b) = v + (counted u v w a + counted u v w b)
+  counted u v w (when t a) = counted u v w a
+  counted u v w (merge x bs) = all_counted u v w bs
+  counted u v w (call g c args) = w + all_counted u v w args
+
+  pub all_counted : (u v w : ℕ) → Operands → ℕ
+  all_counted u v w none = 0
+  all_counted u v w (more e es) = counted u v w e + all_counted u v w es
+
 -- how many memories an expression wants: one for each `pre`
-abbrev mutual
-  pub memories : Expression → ℕ
-  memories (literal v) = 0
-  memories (variable x) = 0
-  memories (operate o es) = all_memories es
-  memories (pre a) = suc (memories a)
-  memories (arrow a b) = memories a + memories b
-  memories (when t a) = memories a
-  memories (merge x bs) = all_memories bs
-  memories (call g c args) = all_memories args
+abbrev pub memories : Expression → ℕ
+memories = counted 1 0 0
 
-  pub all_memories : Operands → ℕ
-  all_memories none = 0
-  all_memories (more e es) = memories e + all_memories es
+abbrev pub all_memories : Operands → ℕ
+all_memories = all_counted 1 0 0
 
--- how many marks of a first instant an expression wants: one for each `->`
-abbrev mutual
-  pub firsts : Expression → ℕ
-  firsts (literal v) = 0
-  firsts (variable x) = 0
-  firsts (operate o es) = all_firsts es
-  firsts (pre a) = firsts a
-  firsts (arrow a b) = suc (firsts a + firsts b)
-  firsts (when t a) = firsts a
-  firsts (merge x bs) = all_firsts bs
-  firsts (call g c args) = all_firsts args
+-- how many marks of a first instant it wants: one for each `->`
+abbrev pub firsts : Expression → ℕ
+firsts = counted 0 1 0
 
-  pub all_firsts : Operands → ℕ
-  all_firsts none = 0
-  all_firsts (more e es) = firsts e + all_firsts es
+abbrev pub all_firsts : Operands → ℕ
+all_firsts = all_counted 0 1 0
 
 -- a count over right sides
 abbrev pub count_rights : (Expression → ℕ) → List Equation → ℕ

@@ -12,6 +12,7 @@ use Rattle.lus_streams.specs.Clocks.{Clock, parts}
 use Rattle.lus_streams.specs.Equations.{Definition, given_by, place_in, equation_clock, definition_in, definition_of, equation_parts}
 use Rattle.lus_streams.specs.Flags.{HasOutput, OutputIs, CallsHaveOutputs}
 use Rattle.lus_streams.proofs.Lists.{each_implies}
+use Rattle.lus_streams.proofs.Definitions.{place_within}
 use Rattle.lus_meaning.specs.Types.{all_same}
 use Rattle.lus_meaning.specs.Resolved.{input_kinds, output_kinds, call_results, results, kinds_given_in, EquationFits, NodeResolved}
 use Rattle.lus_resolved_streams.specs.Laws.{ResolvedCallsHaveOutputs}
@@ -19,15 +20,6 @@ use Rattle.lus_resolution.proofs.Options.{and_then_gives, where_true_gives}
 use Rattle.lus_resolution.proofs.Typed.{HasKind, HaveKinds, IsCall, HasGiven, operate_typed, both_typed, when_typed, merge_typed, call_typed, more_typed, whole_call, whole_typed, fits_given}
 use Rattle.lus_resolution.proofs.Calls.{EachCall, EachCallIn}
 use Rattle.lus_resolved_streams.proofs.CallParts.{HasSome, parts_have}
-
--- a place on a left side is below its size
-place_or : (n : ℕ) (x : ℕ) (ys : List ℕ) (i : ℕ) (b : Bool) → (place_in x ys (suc n) ≡ Some i → i < suc n + length ys) → (if b then Some n else place_in x ys (suc n)) ≡ Some i → i < n + suc (length ys)
-place_or n x ys i true rest e = let here : n ≡ i = cc in omega (arith, here)
-place_or n x ys i false rest e = omega (arith, rest e)
-
-place_within : (x : ℕ) (ys : List ℕ) (n i : ℕ) → place_in x ys n ≡ Some i → i < n + length ys
-place_within x [] n i e = cc
-place_within x (y ∷ ys) n i e = place_or n x ys i (nat_eq x y) (place_within x ys (suc n) i) e
 
 output_count : (f : Node) → f.inputs + f.outputs ≤ length f.variables → length (output_kinds f) ≡ f.outputs
 output_count f le =

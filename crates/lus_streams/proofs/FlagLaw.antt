@@ -12,7 +12,7 @@ use Rattle.lus_streams.specs.Throughout.{Throughout, ThroughoutCalls}
 use Rattle.lus_streams.specs.Order.{needs, needs_all, clock_variables, needs_right, needed, HasOrder}
 use Rattle.lus_streams.specs.Flags.{IsNilFree, flag, greatest, Required, DefinedFlag, AreFlagsOf, was_on, FlagHolds, PartFlagHolds, FlagsHold, OutputIs, HasOutput, CallsHaveOutputs}
 use Rattle.lus_streams.proofs.Lists.{each_left, each_right, each_append, each_all, each_implies, each_both, each_item, below_at, item_past, item_take}
-use Rattle.lus_streams.proofs.Definitions.{defined_on_clock}
+use Rattle.lus_streams.proofs.Definitions.{RightParts, right_parts, defined_on_clock}
 use Rattle.lus_streams.proofs.Orders.{by_order}
 use Rattle.lus_streams.proofs.Calls.{OfCall, OfSite, AtBase, each_equation_part, equation_calls, sites_of_parts, parts_of_sites}
 use Rattle.lus_streams.proofs.Worlds.{called_satisfies}
@@ -181,22 +181,7 @@ module _ (p : Program) (f : Node) (flags : ℕ → Bool) where
           given_nil_free es g args base (suc m) now past (or_right (flag flags e) (greatest flags es) fl) (each_right (VariableFlagIs now past) (needs e) (needs_all es) hn) hv (each_right (MeetsPremises (now ∷ past)) (parts p e k) rest hg),
         )
 
-  abbrev RightMeetsPremises : World → Option Definition → Type 0
-  RightMeetsPremises w None = Unit {0}
-  RightMeetsPremises w (Some (given_by e n xs k)) = AllMeetPremises w (parts p e k)
-
-  right_at : (w : World) (q : Equation) (qs : List Equation) (x : ℕ) (o : Option ℕ) → AllMeetPremises w (parts p q.right (equation_clock f q)) → RightMeetsPremises w (definition_in f qs x)
-      → RightMeetsPremises w (elim o [ None ↦ definition_in f qs x | Some n ↦ Some (given_by q.right n q.targets (equation_clock f q)) ])
-  right_at w q qs x None h k = k
-  right_at w q qs x (Some n) h k = h
-
-  right_meets_premises : (w : World) (qs : List Equation) (x : ℕ) → AllMeetPremises w (equation_parts p f qs) → RightMeetsPremises w (definition_in f qs x)
-  right_meets_premises w [] x h = tt
-  right_meets_premises w (q ∷ qs) x h =
-      let first = parts p q.right (equation_clock f q) in
-      right_at w q qs x (place_in x q.targets 0) (each_left (MeetsPremises w) first (equation_parts p f qs) h) (right_meets_premises w qs x (each_right (MeetsPremises w) first (equation_parts p f qs) h))
-
-  result_flag_holds : (now : Instant) (past : World) (x : ℕ) (d : Option Definition) → DefinedOnClock p f x d → DefinedFlag flags x d → OutputIs p d → Each (VariableFlagIs now past) (needs_right d) → AllOver VariableFlagsHold past → RightMeetsPremises (now ∷ past) d
+  result_flag_holds : (now : Instant) (past : World) (x : ℕ) (d : Option Definition) → DefinedOnClock p f x d → DefinedFlag flags x d → OutputIs p d → Each (VariableFlagIs now past) (needs_right d) → AllOver VariableFlagsHold past → RightParts p (MeetsPremises (now ∷ past)) d
       → FlagHolds (flags x) (was_on (clock_of f x) past) (definition_value p d now past)
   result_flag_holds now past x None hk hf ho hn hv hg = ((λ _. tt), (λ _. tt))
   result_flag_holds now past x (Some (given_by (call g c args) n xs k)) hk hf ho hn hv hg =
@@ -215,7 +200,7 @@ module _ (p : Program) (f : Node) (flags : ℕ → Bool) where
         let s : IsNilFree (entry now x) = subst IsNilFree (item_take None f.inputs (row_of now) x (ltb-true x f.inputs e)) (each_item IsNilFree None (take f.inputs (row_of now)) tt inputs x) in
         ((λ _. s), (λ _. s))
     follows_flag_holds x within false e hn h =
-        let r = result_flag_holds now past x (definition_of f x) (defined_on_clock p f x clocks) (below_at (λ y. DefinedFlag flags y (definition_of f y)) (length f.variables) meets.defined x within) (below_at (λ y. OutputIs p (definition_of f y)) (length f.variables) outputs x within) hn before (right_meets_premises (now ∷ past) f.equations x good) in
+        let r = result_flag_holds now past x (definition_of f x) (defined_on_clock p f x clocks) (below_at (λ y. DefinedFlag flags y (definition_of f y)) (length f.variables) meets.defined x within) (below_at (λ y. OutputIs p (definition_of f y)) (length f.variables) outputs x within) hn before (right_parts p (MeetsPremises (now ∷ past)) f f.equations x good) in
         let k = is_on (clock_of f x) now in
         ((λ fl. subst IsNilFree (sym h) (where_on_nil_free k (definition_value p (definition_of f x) now past) (r.0 fl))), (λ s. subst IsNilFree (sym h) (where_on_nil_free k (definition_value p (definition_of f x) now past) (r.1 s))))
 

@@ -3,7 +3,7 @@ use Rattle.std.proofs.Common.{◌≡◌, ℕ, zero, suc, ◌<◌, ◌≤◌, nat
 use Rattle.std.proofs.lemmas.Bool.{eqb-true}
 use Rattle.lus_values.specs.Lists.{item, Each}
 use Rattle.lus_streams.specs.Order.{is_in}
-pub use Rattle.lus_values.proofs.Lists.{below_at, each_left, each_right, each_append}
+pub use Rattle.lus_values.proofs.Lists.{below_at, each_found, each_left, each_right, each_append}
 
 module _ {X : Type 0} (P : X → Type 0) where
   pub each_all : ((x : X) → P x) → (xs : List X) → Each P xs
@@ -18,11 +18,6 @@ module _ {X : Type 0} (P : X → Type 0) where
   pub each_of_items : (d : X) (xs : List X) → ((k : ℕ) → k < length xs → P (item d xs k)) → Each P xs
   each_of_items d [] h = tt
   each_of_items d (x ∷ xs) h = (h 0 (omega arith), each_of_items d xs (λ k lt. h (suc k) (omega arith)))
-
-  pub each_found : (xs : List X) (n : ℕ) (x : X) → Each P xs → slice_get xs n ≡ Some x → P x
-  each_found [] n x h e = cc
-  each_found (y ∷ xs) zero x h e = let same : y ≡ x = cc in subst P same h.0
-  each_found (y ∷ xs) (suc n) x h e = each_found xs n x h.1 e
 
 pub each_implies : {X : Type 0} (P Q : X → Type 0) → ((x : X) → P x → Q x) → (xs : List X) → Each P xs → Each Q xs
 each_implies P Q f [] h = tt

@@ -12,7 +12,7 @@ use Rattle.lus_streams.specs.Equations.{Definition, given_by, place_in, equation
 use Rattle.lus_streams.specs.OnClock.{actuals, DefinedOnClock, IsOnClocks, ProgramOnClocks}
 use Rattle.lus_streams.specs.Order.{needs, needs_all, clock_variables, needs_right, needed, HasOrder, IsCausal}
 use Rattle.lus_streams.proofs.Calls.{OfCall, OfSite, AtBase, equation_calls, sites_of_parts, parts_of_sites}
-use Rattle.lus_streams.proofs.Definitions.{defined_on_clock}
+use Rattle.lus_streams.proofs.Definitions.{RightParts, right_parts, defined_on_clock}
 use Rattle.lus_streams.proofs.Orders.{by_order}
 use Rattle.lus_streams.proofs.Lists.{each_left, each_right, each_all, each_item, each_map_append, each_map_right, each_map_drop, below_at, item_past, item_take, ext_item}
 
@@ -102,23 +102,7 @@ module _ (p : Program) (now now' : Instant) (past : World) (same_base : is_prese
         (ap₂ where_on (on_same k hk) (value_same e k hk (each_left Agree (needs e) (needs_all es) hn) (each_left CallFact (parts p e k) rest hc)))
         (given_same es g args base (suc m) hb ha (each_right Agree (needs e) (needs_all es) hn) (each_right CallFact (parts p e k) rest hc))
 
-  -- a defined variable's right side
-  abbrev RightFacts : Option Definition → Type 0
-  RightFacts None = Unit {0}
-  RightFacts (Some (given_by e n xs k)) = Each CallFact (parts p e k)
-
-  right_at : (f : Node) (q : Equation) (qs : List Equation) (x : ℕ) (o : Option ℕ) → Each CallFact (parts p q.right (equation_clock f q)) → RightFacts (definition_in f qs x)
-      → RightFacts (elim o [ None ↦ definition_in f qs x | Some n ↦ Some (given_by q.right n q.targets (equation_clock f q)) ])
-  right_at f q qs x None h k = k
-  right_at f q qs x (Some n) h k = h
-
-  right_facts : (f : Node) (qs : List Equation) (x : ℕ) → Each CallFact (equation_parts p f qs) → RightFacts (definition_in f qs x)
-  right_facts f [] x h = tt
-  right_facts f (q ∷ qs) x h =
-      let first = parts p q.right (equation_clock f q) in
-      right_at f q qs x (place_in x q.targets 0) (each_left CallFact first (equation_parts p f qs) h) (right_facts f qs x (each_right CallFact first (equation_parts p f qs) h))
-
-  result_same : (f : Node) (x : ℕ) (d : Option Definition) → DefinedOnClock p f x d → Each Agree (clock_variables (clock_of f x)) → Each Agree (needs_right d) → RightFacts d → definition_value p d now past ≡ definition_value p d now' past
+  result_same : (f : Node) (x : ℕ) (d : Option Definition) → DefinedOnClock p f x d → Each Agree (clock_variables (clock_of f x)) → Each Agree (needs_right d) → RightParts p CallFact d → definition_value p d now past ≡ definition_value p d now' past
   result_same f x None hd hk hn hc = refl
   result_same f x (Some (given_by (call g c args) n xs k)) hd hk hn hc =
       let base = base_of (node_at p g) k in
@@ -138,7 +122,7 @@ module _ (p : Program) (now now' : Instant) (past : World) (same_base : is_prese
         let lt = ltb-true x f.inputs e in
         sym (item_take None f.inputs (row_of now) x lt) ∙ ap (λ r. item None r x) same_inputs ∙ item_take None f.inputs (row_of now') x lt
     follows_same x within false e hk hn h h' =
-        h ∙ ap₂ where_on (on_same (clock_of f x) hk) (result_same f x (definition_of f x) (defined_on_clock p f x clocks) hk hn (right_facts f f.equations x facts)) ∙ sym h'
+        h ∙ ap₂ where_on (on_same (clock_of f x) hk) (result_same f x (definition_of f x) (defined_on_clock p f x clocks) hk hn (right_parts p CallFact f f.equations x facts)) ∙ sym h'
 
     variable_same : (x : ℕ) → Each Agree (needed f x) → Agree x
     variable_same x h =

@@ -11,7 +11,7 @@ use Rattle.lus_streams.proofs.Lists.{each_left, each_right, each_append}
 use Rattle.lus_classes.specs.Classes.{Memory, Argument, Call}
 use Rattle.lus_normal_form.specs.Laws.{IsChain}
 use Rattle.lus_normal_form.proofs.OneTest.{call_clock, chain_drop, clock_is_chain, renamed_is_chain}
-use Rattle.lus_translation.specs.Forms.{Turn, all_cells, all_firsts, arguments_form, call_first, call_form, calls_form, cells_at, equation_cells, equation_firsts, firsts_at, given_cells, given_firsts, turn_cells, turn_firsts, kept_cells, all_kept_cells, branch_cells, kept_firsts, all_kept_firsts, branch_firsts}
+use Rattle.lus_translation.specs.Forms.{Turn, all_cells, all_firsts, arguments_form, call_first, call_form, calls_form, cells_at, equation_cells, equation_firsts, firsts_at, given_cells, given_firsts, turn_cells, turn_firsts, kept_cells, all_kept_cells, kept_firsts, all_kept_firsts}
 use Rattle.lus_translation.specs.Laws.{IsFittingCall, IsFittingRight}
 
 module _ (f : Node) where
@@ -40,31 +40,23 @@ module _ (p : Program) (f : Node) where
   mutual
     kept_chained : (n : ℕ) (e : Expression) (k : Clock) → IsChain f k → Each OnClock (parts p (numbered n e) k) → Each (Chained f) (kept_cells e k) × Each (IsChain f) (kept_firsts e k)
     kept_chained n (literal v) k h o = (tt, tt)
-    kept_chained n (operate op es) k h o = all_kept_chained n es k 0 h o.1
+    kept_chained n (operate op es) k h o = all_kept_chained n es (λ m. k) 0 (λ m. h) o.1
     kept_chained n (pre a) k h o = ((h, tt), tt)
     kept_chained n (arrow a b) k h o =
         let first = kept_chained n a k h (each_left OnClock (parts p (numbered n a) k) (parts p (numbered (n + calls a) b) k) o.1) in
         let later = kept_chained (n + calls a) b k h (each_right OnClock (parts p (numbered n a) k) (parts p (numbered (n + calls a) b) k) o.1) in
         (each_append (Chained f) (kept_cells a k) (kept_cells b k) first.0 later.0, (h, each_append (IsChain f) (kept_firsts a k) (kept_firsts b k) first.1 later.1))
-    kept_chained n (merge x bs) k h o = branches_chained n bs x 0 k o.0 h o.1
+    kept_chained n (merge x bs) k h o = all_kept_chained n bs (branch_clock x k) 0 (λ m. (o.0, h)) o.1
     kept_chained n e k h o = (tt, tt)
 
-    all_kept_chained : (n : ℕ) (es : Operands) (k : Clock) (m : ℕ) → IsChain f k → Each OnClock (all_parts p (all_numbered n es) (λ l. k) m) → Each (Chained f) (all_kept_cells es k) × Each (IsChain f) (all_kept_firsts es k)
-    all_kept_chained n none k m h o = (tt, tt)
-    all_kept_chained n (more e es) k m h o =
-        let rest = all_parts p (all_numbered (n + calls e) es) (λ l. k) (suc m) in
-        let first = kept_chained n e k h (each_left OnClock (parts p (numbered n e) k) rest o) in
-        let later = all_kept_chained (n + calls e) es k (suc m) h (each_right OnClock (parts p (numbered n e) k) rest o) in
-        (each_append (Chained f) (kept_cells e k) (all_kept_cells es k) first.0 later.0, each_append (IsChain f) (kept_firsts e k) (all_kept_firsts es k) first.1 later.1)
-
-    branches_chained : (n : ℕ) (es : Operands) (x c : ℕ) (k : Clock) → clock_of f x ≡ k → IsChain f k → Each OnClock (all_parts p (all_numbered n es) (branch_clock x k) c) → Each (Chained f) (branch_cells es x c k) × Each (IsChain f) (branch_firsts es x c k)
-    branches_chained n none x c k on h o = (tt, tt)
-    branches_chained n (more e es) x c k on h o =
-        let inner = branch_clock x k c in
-        let rest = all_parts p (all_numbered (n + calls e) es) (branch_clock x k) (suc c) in
-        let first = kept_chained n e inner (on, h) (each_left OnClock (parts p (numbered n e) inner) rest o) in
-        let later = branches_chained (n + calls e) es x (suc c) k on h (each_right OnClock (parts p (numbered n e) inner) rest o) in
-        (each_append (Chained f) (kept_cells e inner) (branch_cells es x (suc c) k) first.0 later.0, each_append (IsChain f) (kept_firsts e inner) (branch_firsts es x (suc c) k) first.1 later.1)
+    all_kept_chained : (n : ℕ) (es : Operands) (ks : ℕ → Clock) (m : ℕ) → ((l : ℕ) → IsChain f (ks l)) → Each OnClock (all_parts p (all_numbered n es) ks m) → Each (Chained f) (all_kept_cells es ks m) × Each (IsChain f) (all_kept_firsts es ks m)
+    all_kept_chained n none ks m h o = (tt, tt)
+    all_kept_chained n (more e es) ks m h o =
+        let k = ks m in
+        let rest = all_parts p (all_numbered (n + calls e) es) ks (suc m) in
+        let first = kept_chained n e k (h m) (each_left OnClock (parts p (numbered n e) k) rest o) in
+        let later = all_kept_chained (n + calls e) es ks (suc m) h (each_right OnClock (parts p (numbered n e) k) rest o) in
+        (each_append (Chained f) (kept_cells e k) (all_kept_cells es ks (suc m)) first.0 later.0, each_append (IsChain f) (kept_firsts e k) (all_kept_firsts es ks (suc m)) first.1 later.1)
 
   given_chained : (e : Expression) (k : Clock) (xs : List ℕ) → Each (Chained f) (kept_cells e k) × Each (IsChain f) (kept_firsts e k) → Each (Chained f) (given_cells e k xs) × Each (IsChain f) (given_firsts e k xs)
   given_chained e k [] h = (tt, tt)

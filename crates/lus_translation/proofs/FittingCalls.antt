@@ -17,27 +17,18 @@ use Rattle.lus_normal_form.specs.NormalForm.{IsAtom, AreAtoms, IsSimple, AreSimp
 use Rattle.lus_normal_form.specs.Named.{Known, GivesOutput, Uses, Numbered}
 use Rattle.lus_normal_form.specs.Computed.{HaveFormals}
 use Rattle.lus_normal_form.specs.Ready.{Declared, HasArguments, RightHasFormals, operand_size}
+use Rattle.lus_normal_form.proofs.SimpleForms.{atoms_none, simple_none}
+use Rattle.lus_normal_form.proofs.HaveFormals.{all_declared, tested}
 use Rattle.lus_translation.specs.Forms.{arguments_form, call_form, call_first, calls_form}
 use Rattle.lus_translation.specs.Laws.{IsFittingCall, IsFittingRight, CallsBelong, ReadyRightsFit, AllCallsBelong}
 use Rattle.lus_translation.proofs.Codes.{On, Used, atom_same, atom_on}
 
 -- an input is tested by inputs, and what follows its test is that input's clock
 module _ (g : Node) (declared : Declared g) where
-  tested_by : (m : ℕ) (t : Test) (k : Clock) (o : Option Test) → test_of g m ≡ o → IsDeclared g m o → clock_of g m ≡ t ∷ k → m < g.inputs → t.variable < g.inputs
-  tested_by m t k None e d is lt = absurd (suc-ne-zero _ (sym (ap length (sym (chain_none (length g.variables) g.variables m e) ∙ is))))
-  tested_by m t k (Some u) e d is lt = let same : u ≡ t = (let both : u ∷ clock_of g u.variable ≡ t ∷ k = sym d.0 ∙ is in cc) in subst (λ (z : Test). z.variable < g.inputs) same (d.1.0 lt)
-
-  pub input_tested : (m : ℕ) (t : Test) (k : Clock) → clock_of g m ≡ t ∷ k → m < g.inputs → t.variable < g.inputs
-  input_tested m t k is lt =
-      ⊎_elim
-      (λ within. tested_by m t k (test_of g m) refl (below_at (λ y. IsDeclared g y (test_of g y)) (length g.variables) declared m within) is lt)
-      (λ past. tested_by m t k None (ap (λ (v : Variable). v.test) (item_past no_variable g.variables m past)) tt is lt)
-      (cases_lt m (length g.variables))
-
   linked : (p : Program) (f : Node) (c : Class) (args : Operands) (k : Clock) (m : ℕ) → clock_of g m ≡ k → m < g.inputs → Each (λ t. IsName (operand args t.variable)) k → Linked p f c g args k
   linked p f c args [] m is lt h = tt
   linked p f c args (t ∷ k) m is lt h =
-      let low : t.variable < g.inputs = input_tested m t k is lt in
+      let low : t.variable < g.inputs = tested g declared m t k is lt in
       let rest = clock_tail g declared m t k is in
       (low, h.0, rest, linked p f c args k t.variable (sym rest) low h.1)
 
@@ -108,42 +99,8 @@ module _ (p : Program) (f : Node) where
         rights_fit callees qs s.1 o.1 (each_right (Uses (Known f) (GivesOutput p f)) here rest u) (each_right (HasArguments p) here rest has) formals.1,
       )
 
-declared_all : (p : Program) → ProgramOnClocks p → (g : ℕ) → Declared (node_at p g)
-declared_all p on g = (each_item (IsOnClocks p) empty_node p.nodes (record { declared = tt; lefts = tt; rights = tt }) on g).declared
-
 pub ready_rights_fit : ReadyRightsFit
-ready_rights_fit p f r = rights_fit p f (declared_all p r.callees) f.equations r.simple r.on_clocks.rights r.named.uses r.arguments r.formals
-
--- expressions without calls have no calls among their parts
-module _ (p : Program) where
-  atom_no_sites : (a : Expression) (k : Clock) → IsAtom a → (rest : List Part) → sites_in p (parts p a k ++ rest) ≡ sites_in p rest
-  atom_no_sites (literal v) k s rest = refl
-  atom_no_sites (variable x) k s rest = refl
-  atom_no_sites _ k s rest = absurd s
-
-  atoms_no_sites : (es : Operands) (ks : ℕ → Clock) (m : ℕ) → AreAtoms es → (rest : List Part) → sites_in p (all_parts p es ks m ++ rest) ≡ sites_in p rest
-  atoms_no_sites none ks m s rest = refl
-  atoms_no_sites (more e es) ks m s rest =
-      let others = all_parts p es ks (suc m) in
-      ap (sites_in p) (append_assoc (parts p e (ks m)) others rest) ∙ atom_no_sites e (ks m) s.0 (others ++ rest) ∙ atoms_no_sites es ks (suc m) s.1 rest
-
-  mutual
-    simple_no_sites : (e : Expression) (k : Clock) → IsSimple e → (rest : List Part) → sites_in p (parts p e k ++ rest) ≡ sites_in p rest
-    simple_no_sites (literal v) k s rest = refl
-    simple_no_sites (variable x) k s rest = refl
-    simple_no_sites (operate op es) k s rest = all_no_sites es (λ m. k) 0 s rest
-    simple_no_sites (pre a) k s rest = atom_no_sites a k s rest
-    simple_no_sites (arrow a b) k s rest =
-        ap (sites_in p) (append_assoc (parts p a k) (parts p b k) rest) ∙ simple_no_sites a k s.0 (parts p b k ++ rest) ∙ simple_no_sites b k s.1 rest
-    simple_no_sites (when t a) k s rest = atom_no_sites a (drop 1 k) s rest
-    simple_no_sites (merge x bs) k s rest = all_no_sites bs (branch_clock x k) 0 s rest
-    simple_no_sites (call g n args) k s rest = absurd s
-
-    all_no_sites : (es : Operands) (ks : ℕ → Clock) (m : ℕ) → AreSimple es → (rest : List Part) → sites_in p (all_parts p es ks m ++ rest) ≡ sites_in p rest
-    all_no_sites none ks m s rest = refl
-    all_no_sites (more e es) ks m s rest =
-        let others = all_parts p es ks (suc m) in
-        ap (sites_in p) (append_assoc (parts p e (ks m)) others rest) ∙ simple_no_sites e (ks m) s.0 (others ++ rest) ∙ all_no_sites es ks (suc m) s.1 rest
+ready_rights_fit p f r = rights_fit p f (all_declared p r.callees) f.equations r.simple r.on_clocks.rights r.named.uses r.arguments r.formals
 
 module _ (p : Program) (f : Node) (c : Class) where
   -- what the calls of later parts belong to, whatever their first number
@@ -152,14 +109,14 @@ module _ (p : Program) (f : Node) (c : Class) where
 
   skipped : (e : Expression) (k : Clock) (n : ℕ) (rest : List Part) (qs : List Call) → IsSimple e → Numbered n (sites_in p (parts p e k ++ rest)) → Later rest qs → AreCalls p f c (sites_in p (parts p e k ++ rest)) qs n
   skipped e k n rest qs s h later =
-      let none_here = simple_no_sites p e k s rest in
+      let none_here = simple_none p e k s rest in
       subst (λ ss. AreCalls p f c ss qs n) (sym none_here) (later n (subst (Numbered n) none_here h))
 
   one_first : (e : Expression) (k : Clock) (n : ℕ) (rest : List Part) (qs : List Call) → IsFittingRight p f e k → Numbered n (sites_in p (parts p e k ++ rest)) → Later rest qs
       → AreCalls p f c (sites_in p (parts p e k ++ rest)) (call_first p e k qs) n
   one_first (call g i args) k n rest qs fit h later =
       let base = base_of (node_at p g) k in
-      let none_here = atoms_no_sites p args (formal_clock (node_at p g) args base) 0 fit.atoms rest in
+      let none_here = atoms_none p args (formal_clock (node_at p g) args base) 0 fit.atoms rest in
       let s : Site = record { node = g; number = i; args = args; base = base } in (
         subst (IsCall p f c s (call_form p g args k)) h.0 (is_call p f c g i args k fit),
         subst (λ ss. AreCalls p f c ss qs (suc n)) (sym none_here) (later (suc n) (subst (Numbered (suc n)) none_here h.1)),

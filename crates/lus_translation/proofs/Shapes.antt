@@ -15,10 +15,11 @@ use Rattle.lus_classes.specs.Classes.{Memory, Class}
 use Rattle.lus_classes.specs.ClassesOf.{AtomOn}
 use Rattle.lus_normal_form.specs.NormalForm.{IsAtom, IsSimple, AreSimple}
 use Rattle.lus_normal_form.specs.Ready.{Declared}
-use Rattle.lus_translation.specs.Forms.{Turn, all_cells, all_clocks, cells_at, class_form, equation_cells, given_cells, turn_cells, kept_cells, all_kept_cells, branch_cells, numbers_form}
+use Rattle.lus_normal_form.proofs.HaveFormals.{tested}
+use Rattle.lus_translation.specs.Forms.{Turn, all_cells, all_clocks, cells_at, class_form, equation_cells, given_cells, turn_cells, kept_cells, all_kept_cells, numbers_form}
 use Rattle.lus_translation.specs.Laws.{IsFittingRight, ClassesHaveShape}
 use Rattle.lus_translation.proofs.Codes.{On, Used, atom_on}
-use Rattle.lus_translation.proofs.FittingCalls.{all_calls_belong, input_tested, ready_rights_fit}
+use Rattle.lus_translation.proofs.FittingCalls.{all_calls_belong, ready_rights_fit}
 
 clocks_width : (f : Node) (x n : ℕ) → length (all_clocks f x n) ≡ n
 clocks_width f x zero = refl
@@ -43,7 +44,7 @@ clock_found f x =
 inputs_alone : (f : Node) (declared : Declared f) (k : Clock) (x : ℕ) → clock_of f x ≡ k → x < f.inputs → Each (λ y. y < f.inputs) (clock_variables k)
 inputs_alone f declared [] x is lt = tt
 inputs_alone f declared (t ∷ k) x is lt =
-    let low : t.variable < f.inputs = input_tested f declared x t k is lt in
+    let low : t.variable < f.inputs = tested f declared x t k is lt in
     (low, inputs_alone f declared k t.variable (sym (clock_tail f declared x t k is)) low)
 
 -- an expression without calls has no numbers
@@ -76,32 +77,24 @@ module _ (p : Program) (f : Node) (c : Class) where
     cells_kept : (e : Expression) (k : Clock) → IsSimple e → Each (On p f c) (parts p e k) → Each (Used p f c) (parts p e k) → Each IsKept (kept_cells e k)
     cells_kept (literal v) k s o u = tt
     cells_kept (variable x) k s o u = tt
-    cells_kept (operate op es) k s o u = all_cells_kept es k 0 s o.1 u.1
+    cells_kept (operate op es) k s o u = all_cells_kept es (λ m. k) 0 s o.1 u.1
     cells_kept (pre a) k s o u = (atom_on p f c a k s o.1 u.1, tt)
     cells_kept (arrow a b) k s o u =
         each_append IsKept (kept_cells a k) (kept_cells b k)
         (cells_kept a k s.0 (each_left (On p f c) (parts p a k) (parts p b k) o.1) (each_left (Used p f c) (parts p a k) (parts p b k) u.1))
         (cells_kept b k s.1 (each_right (On p f c) (parts p a k) (parts p b k) o.1) (each_right (Used p f c) (parts p a k) (parts p b k) u.1))
     cells_kept (when t a) k s o u = tt
-    cells_kept (merge x bs) k s o u = branch_cells_kept bs x 0 k s o.1 u.1
+    cells_kept (merge x bs) k s o u = all_cells_kept bs (branch_clock x k) 0 s o.1 u.1
     cells_kept (call g i args) k s o u = absurd s
 
-    all_cells_kept : (es : Operands) (k : Clock) (m : ℕ) → AreSimple es → Each (On p f c) (all_parts p es (λ n. k) m) → Each (Used p f c) (all_parts p es (λ n. k) m) → Each IsKept (all_kept_cells es k)
-    all_cells_kept none k m s o u = tt
-    all_cells_kept (more e es) k m s o u =
-        let others = all_parts p es (λ n. k) (suc m) in
-        each_append IsKept (kept_cells e k) (all_kept_cells es k)
+    all_cells_kept : (es : Operands) (ks : ℕ → Clock) (m : ℕ) → AreSimple es → Each (On p f c) (all_parts p es ks m) → Each (Used p f c) (all_parts p es ks m) → Each IsKept (all_kept_cells es ks m)
+    all_cells_kept none ks m s o u = tt
+    all_cells_kept (more e es) ks m s o u =
+        let k = ks m in
+        let others = all_parts p es ks (suc m) in
+        each_append IsKept (kept_cells e k) (all_kept_cells es ks (suc m))
         (cells_kept e k s.0 (each_left (On p f c) (parts p e k) others o) (each_left (Used p f c) (parts p e k) others u))
-        (all_cells_kept es k (suc m) s.1 (each_right (On p f c) (parts p e k) others o) (each_right (Used p f c) (parts p e k) others u))
-
-    branch_cells_kept : (es : Operands) (x i : ℕ) (k : Clock) → AreSimple es → Each (On p f c) (all_parts p es (branch_clock x k) i) → Each (Used p f c) (all_parts p es (branch_clock x k) i) → Each IsKept (branch_cells es x i k)
-    branch_cells_kept none x i k s o u = tt
-    branch_cells_kept (more e es) x i k s o u =
-        let inner = branch_clock x k i in
-        let others = all_parts p es (branch_clock x k) (suc i) in
-        each_append IsKept (kept_cells e inner) (branch_cells es x (suc i) k)
-        (cells_kept e inner s.0 (each_left (On p f c) (parts p e inner) others o) (each_left (Used p f c) (parts p e inner) others u))
-        (branch_cells_kept es x (suc i) k s.1 (each_right (On p f c) (parts p e inner) others o) (each_right (Used p f c) (parts p e inner) others u))
+        (all_cells_kept es ks (suc m) s.1 (each_right (On p f c) (parts p e k) others o) (each_right (Used p f c) (parts p e k) others u))
 
   given_kept : (e : Expression) (k : Clock) (xs : List ℕ) → Each IsKept (kept_cells e k) → Each IsKept (given_cells e k xs)
   given_kept e k [] h = tt

@@ -8,7 +8,7 @@ use Rattle.lus_program.specs.declared.node.Program.{Program as StoredProgram}
 use Rattle.lus_program.specs.declared.node.Variable.{Variable as StoredVariable}
 use Rattle.lus_program.specs.Programs.{Expression, Operands, node_at}
 use Rattle.lus_program.specs.View.{expression_of, operands_of, node_of, program_seen, variable_of}
-use Rattle.lus_streams.specs.Clocks.{Clock, chain, clock_of}
+use Rattle.lus_streams.specs.Clocks.{Clock, chain, clock_of, branch_clock}
 use Rattle.lus_classes.specs.Classes.{Argument, Call, Class, Memory, Step}
 use Rattle.lus_flat_classes.specs.declared.class.Call.{Call as StoredCall}
 use Rattle.lus_flat_classes.specs.declared.formula.Formula.{Formula}
@@ -16,7 +16,7 @@ use Rattle.lus_flat_classes.specs.View.{code_of, steps_of}
 use Rattle.lus_translation.specs.declared.kept.Kept.{Kept}
 use Rattle.lus_translation.specs.declared.steps.Built.{Built}
 use Rattle.lus_translation.specs.declared.turn.Turn.{Turn as StoredTurn}
-use Rattle.lus_translation.specs.Forms.{all_cells, all_firsts, all_steps, arguments_form, branch_codes, call_first, calls_form, cells_at, class_form, code_form, codes_form, equation_steps, firsts_at, given_steps, numbers_form, steps_at, turn_steps}
+use Rattle.lus_translation.specs.Forms.{all_cells, all_firsts, all_steps, arguments_form, call_first, calls_form, cells_at, class_form, code_form, codes_form, equation_steps, firsts_at, given_steps, numbers_form, steps_at, turn_steps}
 use Rattle.lus_translation.specs.Newest.{call_seen, cell_seen, newest, tested_call, tested_memory}
 use Rattle.lus_translation.specs.View.{turn_of}
 
@@ -39,10 +39,10 @@ abbrev pub IsCodeFrom : Kept → Expression → Clock → Formula → Type 0
 IsCodeFrom kept e k d = code_of d ≡ code_form (next_cell kept) (next_first kept) e k
 
 abbrev pub AreCodesFrom : Kept → Operands → Clock → List Formula → Type 0
-AreCodesFrom kept es k ds = map code_of ds ≡ codes_form (next_cell kept) (next_first kept) es k
+AreCodesFrom kept es k ds = map code_of ds ≡ codes_form (next_cell kept) (next_first kept) es (λ m. k) 0
 
 abbrev pub AreBranchesFrom : Kept → Operands → (variable : ℕ) → Clock → List Formula → Type 0
-AreBranchesFrom kept es x k ds = map code_of ds ≡ branch_codes (next_cell kept) (next_first kept) es x 0 k
+AreBranchesFrom kept es x k ds = map code_of ds ≡ codes_form (next_cell kept) (next_first kept) es (branch_clock x k) 0
 
 -- the clock of a variable among these
 abbrev pub clock_among : List StoredVariable → ℕ → Clock

@@ -2,7 +2,8 @@
 
 ghost use Rattle.std.specs.Prelude.{◌≡◌, ◌∷◌, [], IfOk, OnOk};
 ghost use Rattle.lus_program.specs.View.{expression_of, operands_of};
-ghost use Rattle.lus_translation.specs.Forms.{cell_for, kept_cells, all_kept_cells, branch_cells, kept_firsts, all_kept_firsts, branch_firsts};
+ghost use Rattle.lus_streams.specs.Clocks.{branch_clock};
+ghost use Rattle.lus_translation.specs.Forms.{cell_for, kept_cells, all_kept_cells, kept_firsts, all_kept_firsts};
 ghost use Rattle.lus_translation.specs.Building.{next_cell, next_first, KeepsCells, KeepsFirsts, IsCodeFrom, AreCodesFrom, AreBranchesFrom};
 
 use crate::atom::{atom_of, formula_of_atom};
@@ -77,8 +78,8 @@ fn codes_of(
     kept: &mut Kept,
 ) -> Result<Vec<Formula>, Memory>
     ensures code { IfOk result (λ ds. AreCodesFrom kept.old (operands_of operands.now) clock.now ds.items) }
-    ensures cells { OnOk result (KeepsCells kept.old kept.new (all_kept_cells (operands_of operands.now) clock.now)) }
-    ensures firsts { OnOk result (KeepsFirsts kept.old kept.new (all_kept_firsts (operands_of operands.now) clock.now)) }
+    ensures cells { OnOk result (KeepsCells kept.old kept.new (all_kept_cells (operands_of operands.now) (λ m. clock.now) 0)) }
+    ensures firsts { OnOk result (KeepsFirsts kept.old kept.new (all_kept_firsts (operands_of operands.now) (λ m. clock.now) 0)) }
 {
     let mut codes = Vec::with_capacity(alloc, operands.len())?;
     for operand in operands {
@@ -98,8 +99,8 @@ fn branch_codes_of(
     kept: &mut Kept,
 ) -> Result<Vec<Formula>, Memory>
     ensures code { IfOk result (λ ds. AreBranchesFrom kept.old (operands_of branches.now) variable clock.now ds.items) }
-    ensures cells { OnOk result (KeepsCells kept.old kept.new (branch_cells (operands_of branches.now) variable 0 clock.now)) }
-    ensures firsts { OnOk result (KeepsFirsts kept.old kept.new (branch_firsts (operands_of branches.now) variable 0 clock.now)) }
+    ensures cells { OnOk result (KeepsCells kept.old kept.new (all_kept_cells (operands_of branches.now) (branch_clock variable clock.now) 0)) }
+    ensures firsts { OnOk result (KeepsFirsts kept.old kept.new (all_kept_firsts (operands_of branches.now) (branch_clock variable clock.now) 0)) }
 {
     let mut codes = Vec::new(alloc);
     for (constructor, branch) in branches.iter().enumerate() {

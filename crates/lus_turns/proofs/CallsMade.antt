@@ -3,6 +3,7 @@ use Rattle.std.proofs.Common.{◌≡◌, ◌∙◌, ◌⊎◌, inl, inr, ℕ, ze
 use Rattle.std.proofs.lemmas.List.{length-map}
 use Rattle.std.proofs.lemmas.Option.{slice_get_within}
 use Rattle.lus_values.specs.Lists.{item, Each}
+use Rattle.lus_values.proofs.Lists.{each_found}
 use Rattle.lus_program.specs.declared.node.Equation.{Equation as StoredEquation}
 use Rattle.lus_program.specs.Programs.{Expression, literal, when, call, Operands, Node, Program, node_at, empty_node, numbered, all_numbered}
 use Rattle.lus_program.specs.View.{equations_from}
@@ -29,7 +30,7 @@ use Rattle.lus_translation.proofs.Numbered.{stored_calls, calls_stored}
 use Rattle.lus_turns.specs.Turned.{CallsNode, HaveOneLeft, IsTurned, KeepsFew}
 use Rattle.lus_turns.proofs.CallNumbers.{number_at}
 use Rattle.lus_turns.proofs.CallPlaces.{IsRightSide, call_place, equation_at}
-use Rattle.lus_turns.proofs.StoredEquations.{each_slice, numbered_equation}
+use Rattle.lus_turns.proofs.StoredEquations.{numbered_equation}
 
 -- a node with variables is one of the program
 item_known : (fs : List Node) (g x : ℕ) → x < length (item empty_node fs g).variables → g < length fs
@@ -135,8 +136,8 @@ module _ (p : Program) (f : Node) (ready : IsReady p f) (qs : List StoredEquatio
       let i = r.place in
       let q = numbered_equation (item 0 (numbers_form 0 qs) i) r.stored in
       let here : slice_get f.equations i ≡ Some q = subst (λ es. slice_get es i ≡ Some q) (sym is) (equation_at 0 qs i r.stored simple r.here) in
-      let covered = each_slice (IsCovered p f c) f.equations i q belongs.covered here in
-      let step = each_slice (IsStep p f c) c.steps covered.place covered.step belongs.steps covered.here in
+      let covered = each_found (IsCovered p f c) f.equations i q belongs.covered here in
+      let step = each_found (IsStep p f c) c.steps covered.place covered.step belongs.steps covered.here in
       let at = number_at 0 qs i (slice_get_within qs i r.stored r.here) in
       let before = r.before in
       let number : item 0 (numbers_form 0 qs) i ≡ n = omega (arith, at, before) in

@@ -2,7 +2,7 @@
 use Rattle.std.proofs.Common.{◌≡◌, ◌∙◌, ℕ, suc, ◌+◌, ◌<◌, ◌≤◌, List, [], ◌∷◌, ◌++◌, length, Some, None, slice_get, refl, sym, ap, subst, arith, append-nil, ⊎_elim}
 use Rattle.std.proofs.lemmas.Bool.{cases_lt}
 use Rattle.lus_values.specs.Lists.{item, Each}
-use Rattle.lus_values.proofs.Lists.{below_at}
+use Rattle.lus_values.proofs.Lists.{each_found, below_at}
 use Rattle.lus_program.specs.declared.node.Equation.{Equation as StoredEquation}
 use Rattle.lus_program.specs.Programs.{Equation, Node, Program}
 use Rattle.lus_program.specs.View.{expression_of, equations_from}
@@ -26,7 +26,7 @@ use Rattle.lus_translation.proofs.Followers.{followers_are_in_turn, followers_gi
 use Rattle.lus_normal_form.specs.Ready.{IsDefined, DefinesLeft, HasOutputs}
 use Rattle.lus_turns.specs.Laws.{ClassesBelong}
 use Rattle.lus_turns.proofs.CallNumbers.{calls_before, call_found, number_at}
-use Rattle.lus_turns.proofs.StoredEquations.{each_slice, slice_within, numbered_equation, stored_at}
+use Rattle.lus_turns.proofs.StoredEquations.{slice_within, numbered_equation, stored_at}
 use Rattle.lus_turns.proofs.TurnSteps.{IsHeld, IsFound, OutputsKnown, turn_follows, turn_is_steps}
 
 -- where a step gives a variable
@@ -95,10 +95,10 @@ module _ (p : Program) (f : Node) (ready : IsReady p f) (defined : IsDefined p f
         stored = s.stored;
         here = s.here;
         held = subst (λ q. IsHeld p f q t.variables) (sym s.same) (record {
-          fit = each_slice (λ q. IsFittingRight p f q.right (equation_clock f q)) f.equations t.equation h.equation (ready_rights_fit p f ready) h.here;
-          lefts = each_slice (DefinesLeft f) f.equations t.equation h.equation defined.lefts h.here;
-          outputs = each_slice (λ q. HasOutputs p q.right (length q.targets)) f.equations t.equation h.equation defined.outputs h.here;
-          clocks = each_slice (λ q. LeftOnClock p f q 0 q.targets) f.equations t.equation h.equation ready.on_clocks.lefts h.here;
+          fit = each_found (λ q. IsFittingRight p f q.right (equation_clock f q)) f.equations t.equation h.equation (ready_rights_fit p f ready) h.here;
+          lefts = each_found (DefinesLeft f) f.equations t.equation h.equation defined.lefts h.here;
+          outputs = each_found (λ q. HasOutputs p q.right (length q.targets)) f.equations t.equation h.equation defined.outputs h.here;
+          clocks = each_found (λ q. LeftOnClock p f q 0 q.targets) f.equations t.equation h.equation ready.on_clocks.lefts h.here;
           given = h.given;
         });
         found = found_call t.equation s.stored s.here;

@@ -8,12 +8,12 @@ use Rattle.lus_values.specs.Lists.{item, Each}
 use Rattle.lus_program.specs.declared.node.Equation.{Equation as StoredEquation}
 use Rattle.lus_program.specs.Programs.{Expression, literal, operate, arrow, merge, call, Operands, none, more, calls, numbered, all_numbered, Equation, Node, Program}
 use Rattle.lus_program.specs.View.{expression_of, equations_from}
-use Rattle.lus_streams.specs.Clocks.{Clock, clock_of}
+use Rattle.lus_streams.specs.Clocks.{Clock, clock_of, branch_clock}
 use Rattle.lus_streams.specs.Equations.{Definition, given_by, definition_in, definition_of, equation_clock, place_in}
 use Rattle.lus_normal_form.specs.NormalNodes.{memories, all_memories, firsts, all_firsts, count_rights}
 use Rattle.lus_normal_form.specs.NormalForm.{IsSimpleRight}
 use Rattle.lus_normal_form.specs.Ready.{IsReady}
-use Rattle.lus_translation.specs.Forms.{kept_cells, all_kept_cells, branch_cells, kept_firsts, all_kept_firsts, branch_firsts, given_cells, given_firsts, turn_cells, turn_firsts, equation_cells, equation_firsts, Turn, cells_at, firsts_at, all_cells, all_firsts as firsts_in_all, numbers_form}
+use Rattle.lus_translation.specs.Forms.{kept_cells, all_kept_cells, kept_firsts, all_kept_firsts, given_cells, given_firsts, turn_cells, turn_firsts, equation_cells, equation_firsts, Turn, cells_at, firsts_at, all_cells, all_firsts as firsts_in_all, numbers_form}
 use Rattle.lus_translation.specs.Orders.{InOrder, IsGivenBy, IsTurn, AreTurns, in_turn}
 use Rattle.lus_flat_classes.specs.declared.class.Class.{Class as StoredClass}
 use Rattle.lus_flat_classes.specs.View.{class_of, clock_from, memory_of}
@@ -26,59 +26,41 @@ use Rattle.lus_turns.proofs.StoredEquations.{stored_at}
 mutual
   cells_few : (n : ℕ) (e : Expression) (k : Clock) → length (kept_cells e k) ≤ memories (numbered n e)
   cells_few n (literal v) k = omega arith
-  cells_few n (operate o es) k = all_cells_few n es k
+  cells_few n (operate o es) k = all_cells_few n es (λ m. k) 0
   cells_few n (arrow a b) k =
       let first = cells_few n a k in
       let later = cells_few (n + calls a) b k in
       let both = length-append (kept_cells a k) (kept_cells b k) in
       omega (arith, first, later, both)
-  cells_few n (merge x bs) k = branch_cells_few n bs x 0 k
+  cells_few n (merge x bs) k = all_cells_few n bs (branch_clock x k) 0
   cells_few n e k = omega arith
 
-  all_cells_few : (n : ℕ) (es : Operands) (k : Clock) → length (all_kept_cells es k) ≤ all_memories (all_numbered n es)
-  all_cells_few n none k = omega arith
-  all_cells_few n (more e es) k =
-      let first = cells_few n e k in
-      let later = all_cells_few (n + calls e) es k in
-      let both = length-append (kept_cells e k) (all_kept_cells es k) in
-      omega (arith, first, later, both)
-
-  branch_cells_few : (n : ℕ) (es : Operands) (x c : ℕ) (k : Clock) → length (branch_cells es x c k) ≤ all_memories (all_numbered n es)
-  branch_cells_few n none x c k = omega arith
-  branch_cells_few n (more e es) x c k =
-      let inner : Clock = record { variable = x; constructor = c } ∷ k in
-      let first = cells_few n e inner in
-      let later = branch_cells_few (n + calls e) es x (suc c) k in
-      let both = length-append (kept_cells e inner) (branch_cells es x (suc c) k) in
+  all_cells_few : (n : ℕ) (es : Operands) (ks : ℕ → Clock) (m : ℕ) → length (all_kept_cells es ks m) ≤ all_memories (all_numbered n es)
+  all_cells_few n none ks m = omega arith
+  all_cells_few n (more e es) ks m =
+      let first = cells_few n e (ks m) in
+      let later = all_cells_few (n + calls e) es ks (suc m) in
+      let both = length-append (kept_cells e (ks m)) (all_kept_cells es ks (suc m)) in
       omega (arith, first, later, both)
 
 mutual
   firsts_few : (n : ℕ) (e : Expression) (k : Clock) → length (kept_firsts e k) ≤ firsts (numbered n e)
   firsts_few n (literal v) k = omega arith
-  firsts_few n (operate o es) k = all_firsts_few n es k
+  firsts_few n (operate o es) k = all_firsts_few n es (λ m. k) 0
   firsts_few n (arrow a b) k =
       let first = firsts_few n a k in
       let later = firsts_few (n + calls a) b k in
       let both = length-append (kept_firsts a k) (kept_firsts b k) in
       omega (arith, first, later, both)
-  firsts_few n (merge x bs) k = branch_firsts_few n bs x 0 k
+  firsts_few n (merge x bs) k = all_firsts_few n bs (branch_clock x k) 0
   firsts_few n e k = omega arith
 
-  all_firsts_few : (n : ℕ) (es : Operands) (k : Clock) → length (all_kept_firsts es k) ≤ all_firsts (all_numbered n es)
-  all_firsts_few n none k = omega arith
-  all_firsts_few n (more e es) k =
-      let first = firsts_few n e k in
-      let later = all_firsts_few (n + calls e) es k in
-      let both = length-append (kept_firsts e k) (all_kept_firsts es k) in
-      omega (arith, first, later, both)
-
-  branch_firsts_few : (n : ℕ) (es : Operands) (x c : ℕ) (k : Clock) → length (branch_firsts es x c k) ≤ all_firsts (all_numbered n es)
-  branch_firsts_few n none x c k = omega arith
-  branch_firsts_few n (more e es) x c k =
-      let inner : Clock = record { variable = x; constructor = c } ∷ k in
-      let first = firsts_few n e inner in
-      let later = branch_firsts_few (n + calls e) es x (suc c) k in
-      let both = length-append (kept_firsts e inner) (branch_firsts es x (suc c) k) in
+  all_firsts_few : (n : ℕ) (es : Operands) (ks : ℕ → Clock) (m : ℕ) → length (all_kept_firsts es ks m) ≤ all_firsts (all_numbered n es)
+  all_firsts_few n none ks m = omega arith
+  all_firsts_few n (more e es) ks m =
+      let first = firsts_few n e (ks m) in
+      let later = all_firsts_few (n + calls e) es ks (suc m) in
+      let both = length-append (kept_firsts e (ks m)) (all_kept_firsts es ks (suc m)) in
       omega (arith, first, later, both)
 
 -- ---- sums over the first n numbers

@@ -10,19 +10,15 @@ use Rattle.lus_clocks.proofs.NewestTests.{clock_tail}
 use Rattle.lus_classes.specs.Classes.{Argument, Call, Class, answer, named}
 use Rattle.lus_classes.specs.ClassesOf.{IsAnswer, Meets, Matches}
 use Rattle.lus_normal_form.specs.Ready.{Declared, operand_size}
+use Rattle.lus_normal_form.proofs.HaveFormals.{own_operand, tested}
 use Rattle.lus_translation.specs.Forms.{atom_form, arguments_form, call_form}
 use Rattle.lus_translation.specs.Laws.{IsFittingCall}
-use Rattle.lus_translation.proofs.FittingCalls.{calls_belong, input_tested}
+use Rattle.lus_translation.proofs.FittingCalls.{calls_belong}
 
 -- the variable that a name is
 is_name : (e : Expression) → IsName e → (y : ℕ) × (e ≡ variable y)
 is_name (variable y) h = (y, refl)
 is_name _ h = absurd h
-
-own_operand : (args : Operands) (xs : List ℕ) (n : ℕ) → n < operand_size args → operand (actuals args xs) n ≡ operand args n
-own_operand none xs n lt = elim (not-suc-le-zero lt) [ ]
-own_operand (more e es) xs zero lt = refl
-own_operand (more e es) xs (suc n) lt = own_operand es xs n (le_of_suc-le-suc lt)
 
 left_variable : (xs : List ℕ) (o y : ℕ) → operand (variables xs) o ≡ variable y → slice_get xs o ≡ Some y
 left_variable [] o y e = cc
@@ -68,7 +64,7 @@ module _ (p : Program) (f : Node) (c : Class) (g number : ℕ) (args : Operands)
   inputs_renamed : (l : Clock) (m : ℕ) → clock_of callee m ≡ l → m < callee.inputs → renamed_clock args l ≡ renamed_clock acts l
   inputs_renamed [] m is lt = refl
   inputs_renamed (t ∷ l) m is lt =
-      let low : t.variable < callee.inputs = input_tested callee declared m t l is lt in
+      let low : t.variable < callee.inputs = tested callee declared m t l is lt in
       let here : t.variable < operand_size args = omega (arith, low, size) in
       let rest = inputs_renamed l t.variable (sym (clock_tail callee declared m t l is)) low in
       λ j. renamed_test (sym (own_operand args xs t.variable here) j) t.constructor (rest j)

@@ -2,6 +2,7 @@
 use Rattle.std.proofs.Common.{◌≡◌, ◌∙◌, ◌⊎◌, inl, inr, ℕ, zero, suc, ◌+◌, ◌<◌, ◌≤◌, Bool, true, false, nat_eq, nat_lt, List, [], ◌∷◌, ◌++◌, length, Option, Some, None, IsTrue, if◌then◌else◌, slice_get, refl, sym, ap, subst, arith, true≢false, eq-eqb, ⊎_elim}
 use Rattle.std.proofs.lemmas.Bool.{cases_lt, eqb-true, lt-ltb, le-ltb}
 use Rattle.lus_values.specs.Lists.{Each}
+use Rattle.lus_values.proofs.Lists.{each_found}
 use Rattle.lus_program.specs.declared.node.Equation.{Equation as StoredEquation}
 use Rattle.lus_program.specs.Programs.{Equation, Node, Program, calls}
 use Rattle.lus_program.specs.View.{expression_of, equations_from}
@@ -21,7 +22,6 @@ use Rattle.lus_turns.proofs.Defining.{definer_defines, definer_first, standing}
 use Rattle.lus_turns.proofs.Finding.{ArePlaces, places_kept, same_length}
 use Rattle.lus_turns.proofs.Insertion.{Fresh, after, after_in, after_known, at_turn, added_in_order, in_cases, in_left, in_right, or_true, order_rest, true_left, true_right}
 use Rattle.lus_turns.proofs.NeededReads.{AllRead, StandsIn, first_reads, later_reads}
-use Rattle.lus_turns.proofs.StoredEquations.{each_slice}
 use Rattle.lus_turns.proofs.TurnSteps.{placed}
 
 -- the variables of an equation's turn
@@ -190,10 +190,6 @@ module _ (p : Program) (f : Node) where
   firsts_added x e [] h = ((x, [], refl), tt)
   firsts_added x e (t ∷ ts) h = firsts_by (nat_eq t.equation e) x e t ts h.0 h.1 (firsts_added x e ts h.1)
 
-  -- the inputs, which are known first
-  abbrev pub inputs_known : ℕ → Bool
-  inputs_known x = nat_lt x f.inputs
-
   -- these turns and places are those of the variables so far, the last first
   pub record Underway (big : ℕ) (qs : List StoredEquation) (earlier : List ℕ) (ts : List Turn) (places : List ℕ) : Type 0 where
     pub turns : Each (IsTurn f) ts
@@ -227,7 +223,7 @@ module _ (p : Program) (f : Node) where
     -- another variable on the left has the same equation
     same_definer : (x y : ℕ) (d : HasDefiner x) → StandsIn d.equation.targets y → f.inputs ≤ y → definer qs y ≡ definer qs x
     same_definer x y d stands own =
-        let left = each_slice (DefinesLeft f) f.equations (definer qs x) d.equation defined.lefts d.here stands.0 y stands.1 in
+        let left = each_found (DefinesLeft f) f.equations (definer qs x) d.equation defined.lefts d.here stands.0 y stands.1 in
         let e = definer_at y own left.0 in
         let same : d.equation.targets ≡ e.equation.targets = ap targets_in (sym left.1 ∙ e.given.defined) in
         let first = definer_first 0 qs (definer qs x) y d.equation (ap (λ es. slice_get es (definer qs x)) (sym is) ∙ d.here) (standing d.equation.targets stands.0 y stands.1) in
@@ -263,12 +259,12 @@ module _ (p : Program) (f : Node) where
           let e = definer qs x in
           let There : ℕ → Type 0 = λ y. IsTrue (at_turn ts (definer qs x) (λ z. nat_lt z f.inputs) y) in
           let q = d.equation in
-          let lefts = each_slice (λ r. LeftOnClock p f r 0 r.targets) f.equations e q ready.on_clocks.lefts d.here in
+          let lefts = each_found (λ r. LeftOnClock p f r 0 r.targets) f.equations e q ready.on_clocks.lefts d.here in
           ⊎_elim
           (λ found. later_reads There p f q x found.head lefts d.given found.given found.reads
           (each_implies (λ y. IsTrue (is_in earlier y)) (λ y. StandsIn q.targets y → There y)
           (λ y k stands.
-          let left = each_slice (DefinesLeft f) f.equations e q defined.lefts d.here stands.0 y stands.1 in
+          let left = each_found (DefinesLeft f) f.equations e q defined.lefts d.here stands.0 y stands.1 in
           known_earlier e y (same_definer x y d stands (defined_past p f defined y _ left.1)) k)
           (clock_variables (clock_of f x)) (each_left (λ y. IsTrue (is_in earlier y)) (clock_variables (clock_of f x)) (needs_right (definition_of f x)) needs_known)))
           (λ all.

@@ -1,7 +1,8 @@
-use Rattle.std.proofs.Common.{◌≡◌, ◌++◌, map, drop, length}
+use Rattle.std.proofs.Common.{◌≡◌, ℕ, ◌++◌, map, drop, length}
 use Rattle.lus_program.specs.View.{operands_of}
 use Rattle.lus_flat_classes.specs.View.{code_of as code_in}
-use Rattle.lus_translation.specs.Forms.{codes_form, branch_codes, all_kept_cells, branch_cells, all_kept_firsts, branch_firsts}
+use Rattle.lus_streams.specs.Clocks.{branch_clock}
+use Rattle.lus_translation.specs.Forms.{codes_form, all_kept_cells, all_kept_firsts}
 use Rattle.lus_translation.specs.Newest.{cell_seen, newest, tested_memory}
 use Rattle.lus_translation.proofs.code.+codes.Given as goal
 
@@ -13,10 +14,11 @@ invariant-codes_of-loop-operand l =
     let firsts = l.kept.firsts.items in
     let cells_first = map cell_seen l.initial.kept.cells.items in
     let firsts_first = l.initial.kept.firsts.items in
+    let ks = λ (m : ℕ). l.clock in
     record {
-      code : map code_in l.codes.items ++ codes_form (length cells) (length firsts) rest l.clock ≡ codes_form (length cells_first) (length firsts_first) whole l.clock;
-      cells : cells ++ map tested_memory (all_kept_cells rest l.clock) ≡ cells_first ++ map tested_memory (all_kept_cells whole l.clock);
-      firsts : firsts ++ map newest (all_kept_firsts rest l.clock) ≡ firsts_first ++ map newest (all_kept_firsts whole l.clock);
+      code : map code_in l.codes.items ++ codes_form (length cells) (length firsts) rest ks l.operand-index ≡ codes_form (length cells_first) (length firsts_first) whole ks 0;
+      cells : cells ++ map tested_memory (all_kept_cells rest ks l.operand-index) ≡ cells_first ++ map tested_memory (all_kept_cells whole ks 0);
+      firsts : firsts ++ map newest (all_kept_firsts rest ks l.operand-index) ≡ firsts_first ++ map newest (all_kept_firsts whole ks 0);
     }
 
 abbrev pub invariant-branch_codes_of-loop-constructor : goal.invariant-branch_codes_of-loop-constructor
@@ -27,8 +29,9 @@ invariant-branch_codes_of-loop-constructor l =
     let firsts = l.kept.firsts.items in
     let cells_first = map cell_seen l.initial.kept.cells.items in
     let firsts_first = l.initial.kept.firsts.items in
+    let ks = branch_clock l.variable l.clock in
     record {
-      code : map code_in l.codes.items ++ branch_codes (length cells) (length firsts) rest l.variable l.constructor l.clock ≡ branch_codes (length cells_first) (length firsts_first) whole l.variable 0 l.clock;
-      cells : cells ++ map tested_memory (branch_cells rest l.variable l.constructor l.clock) ≡ cells_first ++ map tested_memory (branch_cells whole l.variable 0 l.clock);
-      firsts : firsts ++ map newest (branch_firsts rest l.variable l.constructor l.clock) ≡ firsts_first ++ map newest (branch_firsts whole l.variable 0 l.clock);
+      code : map code_in l.codes.items ++ codes_form (length cells) (length firsts) rest ks l.constructor ≡ codes_form (length cells_first) (length firsts_first) whole ks 0;
+      cells : cells ++ map tested_memory (all_kept_cells rest ks l.constructor) ≡ cells_first ++ map tested_memory (all_kept_cells whole ks 0);
+      firsts : firsts ++ map newest (all_kept_firsts rest ks l.constructor) ≡ firsts_first ++ map newest (all_kept_firsts whole ks 0);
     }
