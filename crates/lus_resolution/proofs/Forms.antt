@@ -26,27 +26,11 @@ field_no_call (Some f) a = tt
 
 pub prefix_no_call : (op : Prefix) (a : Expression) → IsNoCall (prefix_meant op a)
 prefix_no_call prefixes.Not a = tt
-prefix_no_call prefixes.Negate a = tt
-prefix_no_call prefixes.Pre a = tt
+prefix_no_call op a = tt
 
 pub infix_no_call : (op : Infix) (a b : Expression) → IsNoCall (infix_meant op a b)
 infix_no_call infixes.Fby a b = tt
-infix_no_call infixes.Arrow a b = tt
-infix_no_call infixes.Implies a b = tt
-infix_no_call infixes.Or a b = tt
-infix_no_call infixes.Xor a b = tt
-infix_no_call infixes.And a b = tt
-infix_no_call infixes.Equal a b = tt
-infix_no_call infixes.NotEqual a b = tt
-infix_no_call infixes.Less a b = tt
-infix_no_call infixes.AtMost a b = tt
-infix_no_call infixes.Greater a b = tt
-infix_no_call infixes.AtLeast a b = tt
-infix_no_call infixes.Add a b = tt
-infix_no_call infixes.Subtract a b = tt
-infix_no_call infixes.Multiply a b = tt
-infix_no_call infixes.Divide a b = tt
-infix_no_call infixes.Remainder a b = tt
+infix_no_call op a b = tt
 
 pub one_given : (p : Program) (f : Node) (e : Expression) → IsNoCall e → kinds_given_in p f e ≡ option_map (λ k. k ∷ []) (kind_in p f e)
 one_given p f (call g c es) h = absurd h

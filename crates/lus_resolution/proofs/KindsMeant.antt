@@ -84,10 +84,8 @@ module _ (s : Scope) (p : Program) (f : Node) (agrees : Agrees s p f) where
   size_is (kinds.Struct t) = refl
 
   fields_are : (k : Kind) → map (λ g. g.kind) (fields_of s k) ≡ field_kinds p k
-  fields_are kinds.Bool = refl
-  fields_are kinds.Int = refl
-  fields_are (kinds.Enum t) = refl
   fields_are (kinds.Struct t) = ap (λ d. map (λ g. g.kind) (fields_in d)) (agrees.declared t)
+  fields_are k = refl
 
   -- names
   value_is : (v : Option Value) (k : Kind) → option_and_then value_kind v ≡ Some k → value_kind (unwrap_or v nil) ≡ Some k
@@ -284,10 +282,8 @@ module _ (s : Scope) (p : Program) (f : Node) (agrees : Agrees s p f) where
   -- only a structure's type has values written as structures
   structure_is : (k : Kind) (fs : Parts) (es : Operands) (ks : List Kind) (l : Kind) (o : Option Kind) → o ≡ Some k → kinds_in p f es ≡ Some ks → structure_kind s k fs ks ≡ Some l
       → kind_in p f (structure_meant s (unwrap_or o kinds.Bool) fs es) ≡ Some l
-  structure_is kinds.Bool fs es ks l o e h g = cc
-  structure_is kinds.Int fs es ks l o e h g = cc
-  structure_is (kinds.Enum t) fs es ks l o e h g = cc
   structure_is (kinds.Struct t) fs es ks l o e h g = ap (λ x. kind_in p f (structure_meant s (unwrap_or x kinds.Bool) fs es)) e ∙ built_is t fs es ks l h g
+  structure_is k fs es ks l o e h g = cc
 
   mutual
     pub meant_is : (e : tree.Expression) (k : Kind) → kind_of s e ≡ Some k → kind_in p f (meant s e) ≡ Some k

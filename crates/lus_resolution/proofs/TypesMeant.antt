@@ -28,10 +28,8 @@ ways_included a b h (then {x} {y} {z} c way) = on_way (h x y c) (ways_included a
 -- structures
 
 structure_is : (k : Kind) (u : ℕ) → Contains (structures_in k) u → k ≡ kinds.Struct u
-structure_is kinds.Bool u among = elim (no_item among.0 among.1) [ ]
-structure_is kinds.Int u among = elim (no_item among.0 among.1) [ ]
-structure_is (kinds.Enum t) u among = elim (no_item among.0 among.1) [ ]
 structure_is (kinds.Struct t) u among = ap kinds.Struct (one_item t u among)
+structure_is k u among = elim (no_item among.0 among.1) [ ]
 
 -- fields of one type
 group_is : (k : Kind) (ns : List Named) (u : ℕ) → Contains (flat_map (λ (g : Field). structures_in g.kind) (map (λ (n : Named). record { name = n.text; kind = k }) ns)) u → k ≡ kinds.Struct u
