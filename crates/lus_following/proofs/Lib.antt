@@ -1,3 +1,4 @@
 pub mod Putting
 pub mod TakenOver
 pub mod Operands
+pub mod Tallying
