@@ -5,8 +5,8 @@ ghost use Rattle.lus_values.specs.Lists.{item};
 ghost use Rattle.lus_syntax.specs.declared.refusal.RefusalNumber.TheVariants as numbers;
 ghost use Rattle.lus_syntax.specs.Refusals.{HasShape};
 ghost use Rattle.lus_program.specs.View.{program_seen};
-ghost use Rattle.lus_meaning.specs.Refusals.{RefusesFor};
-ghost use Rattle.lus_meaning.specs.Sound.{IsLimited};
+ghost use Rattle.lus_typing.specs.Refusals.{RefusesFor};
+ghost use Rattle.lus_typing.specs.Sound.{IsLimited};
 ghost use Rattle.lus_flat_classes.specs.Turns.{AreReady};
 ghost use Rattle.lus_flat_classes.specs.View.{classes_of};
 ghost use Rattle.lus_simulation.specs.Checked.{IsChecked};
@@ -17,16 +17,15 @@ ghost use Rattle.lus_code.specs.Codes.{IsCodeOf, program_of};
 use crate::classes::classes_of_nodes;
 use lus_cells::cells_of_nodes;
 use lus_flat_classes::Class;
-use lus_meaning::Typed;
 use lus_normal::Normal;
 use lus_order::Ordered;
 use lus_program::{NodeId, Program};
 use lus_syntax::Refusal;
+use lus_typing::Typed;
 use std::alloc::Global;
 use std::marker::Model;
 
 /// The code of a program: a class for each of its nodes.
-#[derive(Drop)]
 pub struct Code {
     source: Ordered,
     classes: Vec<Class>,
@@ -125,4 +124,15 @@ pub fn translate(alloc: Global, normal: Normal) -> Result<Code, Refusal>
         classes,
         cells,
     })
+}
+
+// By hand, so that crates above call it: what a derive drops is proved again in each of them.
+impl Drop for Code {
+    fn drop(self) {
+        let Code {
+            source: _,
+            classes: _,
+            cells: _,
+        } = self;
+    }
 }

@@ -19,7 +19,6 @@ use std::sync::Arc;
 const FULL: usize = 4294967295;
 
 /// An instance of a node, with the history of its calls.
-#[derive(Drop)]
 pub struct Machine {
     reactor: Reactor,
     entries: Vec<Entry>,
@@ -86,6 +85,20 @@ impl Machine {
     pub fn into_history(self) -> Vec<Entry>
         ensures { result.items ≡ self.history }
     {
-        self.entries
+        let Machine {
+            reactor: _,
+            entries,
+        } = self;
+        entries
+    }
+}
+
+// By hand, so that crates above call it: what a derive drops is proved again in each of them.
+impl Drop for Machine {
+    fn drop(self) {
+        let Machine {
+            reactor: _,
+            entries: _,
+        } = self;
     }
 }
