@@ -77,6 +77,10 @@ scalar names word =
     else (if bytes_eq word (codes "false") then Some (bool false)
     else named (numbers_of names word) word))
 
+-- the value that a word of ASCII spells
+abbrev pub word_value : Names → Text → Option Value
+word_value names word = option_and_then (scalar names) (ascii word)
+
 unfoldable pub scalar_at : Names → Text → Option (Value × Text)
 scalar_at names text = with_rest (past_word text) (option_and_then (scalar names) (ascii (word_of text)))
 

@@ -1,4 +1,4 @@
-//! Requests read back from the lines of a journal: whatever a line spells is given.
+//! Requests read back from the lines of a journal, and values from its words: whatever a line spells is given.
 #![tactic(auto)]
 
 mod asked;
@@ -7,3 +7,4 @@ mod request;
 mod value;
 
 pub use asked::read_asked;
+pub use value::read_word;

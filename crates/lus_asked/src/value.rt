@@ -2,7 +2,7 @@
 
 ghost use Rattle.std.specs.Prelude.{◌≡◌, IfOk, codes, map, option_map};
 ghost use Rattle.lus_values.specs.View.{value_of};
-ghost use Rattle.lus_asked.specs.Reading.{list_at, named, scalar, scalar_at, value_at};
+ghost use Rattle.lus_asked.specs.Reading.{list_at, named, scalar, scalar_at, value_at, word_value};
 ghost use Rattle.lus_values.specs.Names.{numbers_of};
 
 use crate::piece::{Separation, after, ascii, begins_number, integer, separate, split_word};
@@ -45,6 +45,13 @@ fn take_scalar<'a>(names: &Names, text: &'a [u8]) -> Option<(Value, &'a [u8])>
     let (word, rest) = split_word(text);
     let value = scalar(names, ascii(word)?)?;
     Some((value, rest))
+}
+
+/// The value that a word spells: a number, a truth value, the name of a constructor, or `nil`.
+pub fn read_word(names: &Names, word: &[u8]) -> Option<Value>
+    ensures { option_map value_of result ≡ word_value names.now word.now }
+{
+    scalar(names, ascii(word)?)
 }
 
 /// A value in which structures nest at most this many levels, and what stands behind it.

@@ -32,15 +32,17 @@ enum Turn {
     Ended,
 }
 
-/// Makes the call of a line and writes its entry, or says that the line is no call.
-fn answer<C: Calls, R: Reacts, T: Speaks, O: Sink>(
+/// Makes the call of a line, which has a number of its own, and writes its entry, or says that the line is no call.
+fn answer<C: Calls, R: Reacts, T: Speaks, O: Sink, F: Sink>(
     calls: &C,
     reactor: &mut R,
     speaker: &T,
     number: u64,
+    at: u64,
     line: &[u8],
     text: &mut String,
     output: &mut O,
+    faults: &mut F,
 ) -> Result<bool, PlayError>
     ensures ok { IfOk result (λ is_call. Answers (C.reads calls.now) (T.says speaker.now) number line.now is_call
         (R.history reactor.old) (R.history reactor.new) (O.written output.old) (O.written output.new)) }
@@ -59,10 +61,11 @@ fn answer<C: Calls, R: Reacts, T: Speaks, O: Sink>(
     };
     text.clear();
     speaker.push(text, number, &entry)?;
-    match write_all(output, text.as_bytes()) {
-        Ok(()) => Ok(true),
-        Err(_) => Err(PlayError::Write),
+    if write_all(output, text.as_bytes()).is_err() {
+        return Err(PlayError::Write);
     }
+    speaker.remark(at, &entry, faults);
+    Ok(true)
 }
 
 fn turn_of(is_call: bool) -> Turn
@@ -75,16 +78,18 @@ fn turn_of(is_call: bool) -> Turn
     }
 }
 
-/// Reads a line and answers it.
-fn take_turn<C: Calls, R: Reacts, T: Speaks, S: Source, O: Sink>(
+/// Reads a line, which has a number of its own, and answers it.
+fn take_turn<C: Calls, R: Reacts, T: Speaks, S: Source, O: Sink, F: Sink>(
     calls: &C,
     reactor: &mut R,
     speaker: &T,
     number: u64,
+    at: u64,
     line: &mut Vec<u8>,
     text: &mut String,
     input: &mut S,
     output: &mut O,
+    faults: &mut F,
 ) -> Result<Turn, PlayError>
     ensures ok { IfOk result (λ turn. TurnIs turn (C.reads calls.now) (T.says speaker.now) number (S.left input.old) (S.left input.new)
         (R.history reactor.old) (R.history reactor.new) (O.written output.old) (O.written output.new)) }
@@ -94,7 +99,9 @@ fn take_turn<C: Calls, R: Reacts, T: Speaks, S: Source, O: Sink>(
 {
     match read_line(input, line)? {
         Reading::Line => {
-            let is_call = answer(calls, reactor, speaker, number, line, text, output)?;
+            let is_call = answer(
+                calls, reactor, speaker, number, at, line, text, output, faults,
+            )?;
             Ok(turn_of(is_call))
         }
         Reading::Long => Ok(Turn::Refused),
@@ -151,16 +158,17 @@ pub fn play<C: Calls, R: Reacts, T: Speaks, S: Source, O: Sink, F: Sink>(
     let mut refused = 0u64;
     for turn in 0..u64::MAX - first {
         let number = first + (turn - refused);
+        let at = calls.first_line().saturating_add(turn);
         match take_turn(
-            calls, reactor, speaker, number, &mut line, &mut text, input, output,
+            calls, reactor, speaker, number, at, &mut line, &mut text, input, output, faults,
         )? {
             Turn::Entered => {}
             Turn::Refused => {
-                tell_refused(calls, faults, turn + 1, &line);
+                tell_refused(calls, faults, at, &line);
                 refused += 1;
             }
             Turn::Unfinished => {
-                tell_unfinished(faults, turn + 1);
+                tell_unfinished(faults, at);
                 return Ok(Score {
                     entered: turn - refused,
                     refused: refused + 1,

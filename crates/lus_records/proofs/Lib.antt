@@ -1,0 +1,5 @@
+pub mod ColumnLaws
+pub mod CellLaws
+pub mod HeadLaws
+pub mod InputLaws
+pub mod OutputLaws

@@ -1,0 +1,5 @@
+pub mod Columns
+pub mod Records
+pub mod Heads
+pub mod Outputs
+pub mod View
