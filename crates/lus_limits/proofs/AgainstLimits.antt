@@ -6,8 +6,8 @@ use Rattle.std.proofs.lemmas.List.Elements.{All-get_or}
 use Rattle.lus_values.specs.Lists.{item, Below}
 use Rattle.lus_values.proofs.Lists.{below_all, below_at}
 use Rattle.lus_graph.specs.Ways.{Uses, IsOrdered, IsOrder}
-use Rattle.lus_meaning.specs.Tables.{within}
-use Rattle.lus_meaning.proofs.AlongOrders.{IsLocal, IsInside, IsFilled, uses_before, inside_steady, fixed, filled_more, filled_all}
+use Rattle.lus_graph.specs.Along.{within}
+use Rattle.lus_graph.proofs.AlongOrders.{IsLocal, IsInside, IsFilled, uses_before, inside_steady, fixed, filled_more, filled_all}
 
 module _ {X : Type 0} (uses : Uses) (d : X) (step : (ℕ → X) → ℕ → X) (local : IsLocal uses step) (inside : IsInside uses) where
   -- the next thing's answer, from a table right at all before it, is right

@@ -14,7 +14,7 @@ use Rattle.lus_graph.proofs.Steps.{used_at}
 use Rattle.lus_meaning.specs.Loopless.{called, called_in, calls_of, node_names, node_uses, place_in}
 use Rattle.lus_meaning.specs.Sized.{call_depth_at, greatest}
 use Rattle.lus_limits.proofs.NamePlaces.{places_inside}
-use Rattle.lus_meaning.proofs.AlongOrders.{IsFilled, IsInside, IsLocal}
+use Rattle.lus_graph.proofs.AlongOrders.{IsFilled, IsInside, IsLocal}
 use Rattle.lus_limits.proofs.AgainstLimits.{all_within, one_more, one_past}
 use Rattle.lus_limits.proofs.Greatest.{greatest-same}
 

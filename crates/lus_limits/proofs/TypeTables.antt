@@ -16,7 +16,7 @@ use Rattle.lus_graph.specs.Ways.{IsOrder}
 use Rattle.lus_meaning.specs.Loopless.{definition_uses, type_names, type_uses}
 use Rattle.lus_meaning.specs.Tables.{definition_at, definition_kind, kind_at, no_definition, AreKinds}
 use Rattle.lus_meaning.specs.Sized.{definition_leaves, definition_nesting, leaves_at, nesting_at}
-use Rattle.lus_meaning.proofs.AlongOrders.{IsFilled, filled_all}
+use Rattle.lus_graph.proofs.AlongOrders.{IsFilled, filled_all}
 use Rattle.lus_limits.proofs.AgainstLimits.{filled_next, one_more, one_past, all_within}
 use Rattle.lus_limits.proofs.TypesByUses.{kind_step_local, leaves_step_local, nesting_step_local, types_inside}
 

@@ -13,7 +13,7 @@ use Rattle.lus_meaning.specs.Loopless.{place_in, type_names, named_type, definit
 use Rattle.lus_meaning.specs.Tables.{of_type, definition_at, no_definition, definition_kind}
 use Rattle.lus_meaning.specs.Sized.{greatest, definition_leaves, definition_nesting}
 use Rattle.lus_limits.proofs.NamePlaces.{places_inside}
-use Rattle.lus_meaning.proofs.AlongOrders.{IsLocal, IsInside}
+use Rattle.lus_graph.proofs.AlongOrders.{IsLocal, IsInside}
 
 -- locality
 

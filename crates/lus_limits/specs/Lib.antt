@@ -1,2 +1,3 @@
 pub mod GraphErrors
 pub mod Limits
+pub mod Orders

@@ -1,34 +1,25 @@
 //! How deep calls go.
 
-ghost use Rattle.std.specs.Prelude.{◌≡◌, ◌≤◌, IfErr, OnOk, length, map, string_bytes};
+ghost use Rattle.std.specs.Prelude.{◌≡◌, IfErr, OnOk};
 ghost use Rattle.lus_values.specs.Lists.{item};
-ghost use Rattle.lus_graph.specs.Ways.{IsOrder};
-ghost use Rattle.lus_syntax.specs.Limits.{most_declarations};
 ghost use Rattle.lus_syntax.specs.View.{tree_seen};
-ghost use Rattle.lus_meaning.specs.Loopless.{node_names, node_uses as calls_of_nodes};
 ghost use Rattle.lus_meaning.specs.ScopeView.{Faulty};
 ghost use Rattle.lus_meaning.specs.Sized.{CallsBounded, greatest};
 
+use crate::loopless::Loopless;
 use crate::uses::node_uses;
-use indexmap::IndexSet;
 use lus_meaning::Fault;
-use lus_syntax::{MOST_CALLS_DEEP, Tree};
+use lus_syntax::MOST_CALLS_DEEP;
 use std::alloc::Global;
 
-/// Checks the depth of each node's calls against the limit, by an order in which the nodes that one calls stand before it.
-pub fn check_calls(
-    alloc: Global,
-    tree: &Tree,
-    nodes: &IndexSet<String>,
-    order: &[usize],
-) -> Result<(), Fault>
-    requires few_nodes { length nodes.now.keys ≤ most_declarations }
-    requires node_names { map string_bytes nodes.now.keys ≡ node_names (tree_seen tree.now) }
-    requires order { IsOrder (calls_of_nodes (tree_seen tree.now)) order.now }
-    ensures ok { OnOk result (CallsBounded (tree_seen tree.now)) }
-    ensures err { IfErr result (Faulty (CallsBounded (tree_seen tree.now) → ⊥)) }
+/// Checks the depth of each node's calls against the limit, each node behind those that it calls.
+pub fn check_calls(alloc: Global, loopless: &Loopless) -> Result<(), Fault>
+    ensures ok { OnOk result (CallsBounded (tree_seen loopless.now)) }
+    ensures err { IfErr result (Faulty (CallsBounded (tree_seen loopless.now) → ⊥)) }
 {
-    let uses = node_uses(alloc, nodes, tree)?;
+    let tree = loopless.tree();
+    let order = loopless.nodes();
+    let uses = node_uses(alloc, loopless.named())?;
     let mut depths = vec![in alloc; 0usize; tree.nodes.len()]?;
     for place in order {
         let deepest = deepest_call(&uses[*place], &depths);

@@ -1,23 +1,36 @@
 //! Counts of declarations, against the limits of the language.
 
-ghost use Rattle.std.specs.Prelude.{◌≤◌, OnOk, OnErr, map};
+ghost use Rattle.std.specs.Prelude.{◌≡◌, ◌≤◌, IfOk, OnOk, OnErr, map};
 ghost use Rattle.std.specs.Bool.{Decides};
 ghost use Rattle.lus_syntax.specs.Limits.{most_variables};
 ghost use Rattle.lus_syntax.specs.View.{definition_seen, fields_seen, group_seen, node_seen, tree_seen};
-ghost use Rattle.lus_meaning.specs.Sized.{Counted, DefinitionCounted, field_count, variable_count};
+ghost use Rattle.lus_meaning.specs.Sized.{Counted as IsCounted, DefinitionCounted, field_count, variable_count};
 ghost use Rattle.lus_meaning.specs.Tables.{groups};
 ghost use Rattle.lus_limits.specs.Limits.{AreLeft};
 
+use lus_meaning::Counted;
 use lus_syntax::{
     Definition, Fields, Group, MOST_CONSTRUCTORS, MOST_DECLARATIONS, MOST_FIELDS, MOST_VARIABLES,
     Node, Place, Tree,
 };
 
-/// Tells whether a source declares no more than the limits admit. The place is that of a name past a limit, or of the type
-/// or the node that has too much.
-pub fn check_counts(tree: &Tree) -> Result<(), Place>
-    ensures ok { OnOk result (Counted (tree_seen tree.now)) }
-    ensures err { OnErr result (Counted (tree_seen tree.now) → ⊥) }
+/// Checks that a source declares no more than the limits admit. The place is that of a name past a limit, or of the type or
+/// the node that has too much.
+pub fn check_counts(tree: Tree) -> Result<Counted, Place>
+    ensures same { IfOk result (λ counted. counted ≡ tree) }
+    ensures ok { OnOk result (IsCounted (tree_seen tree)) }
+    ensures refused { OnErr result (IsCounted (tree_seen tree) → ⊥) }
+{
+    match counts_fit(&tree) {
+        Ok(()) => Ok(Counted::new(tree)),
+        Err(place) => Err(place),
+    }
+}
+
+/// Whether a source declares no more than the limits admit.
+fn counts_fit(tree: &Tree) -> Result<(), Place>
+    ensures ok { OnOk result (IsCounted (tree_seen tree.now)) }
+    ensures err { OnErr result (IsCounted (tree_seen tree.now) → ⊥) }
 {
     if let Some(past) = tree.types.get(MOST_DECLARATIONS) {
         return Err(past.name.span.start);

@@ -1,33 +1,27 @@
 //! The types that declarations declare.
 
-ghost use Rattle.std.specs.Prelude.{◌≡◌, ◌<◌, ◌≤◌, IfOk, length, map, string_bytes};
+ghost use Rattle.std.specs.Prelude.{◌≡◌, ◌<◌, IfOk, map, string_bytes};
 ghost use Rattle.lus_values.specs.Lists.{item};
 ghost use Rattle.lus_program.specs.declared.types.Kind.TheVariants as kind_names;
-ghost use Rattle.lus_graph.specs.Ways.{IsOrder};
 ghost use Rattle.lus_syntax.specs.Limits.{most_declarations};
 ghost use Rattle.lus_syntax.specs.View.{definition_seen, tree_seen};
-ghost use Rattle.lus_meaning.specs.Loopless.{type_names, type_uses as uses_of_types};
 ghost use Rattle.lus_meaning.specs.Tables.{AreKinds, definition_kind};
 
+use crate::loopless::Loopless;
 use crate::named::of_name;
 use indexmap::IndexSet;
 use lus_program::Kind;
-use lus_syntax::{Definition, Tree};
+use lus_syntax::Definition;
 use lus_values::Memory;
 use std::alloc::Global;
 
-/// The types that the declarations of a source declare, one by one, by an order in which what a type uses stands before it.
-pub fn kinds_of_types(
-    alloc: Global,
-    tree: &Tree,
-    types: &IndexSet<String>,
-    order: &[usize],
-) -> Result<Vec<Kind>, Memory>
-    requires few_types { length types.now.keys ≤ most_declarations }
-    requires type_names { map string_bytes types.now.keys ≡ type_names (tree_seen tree.now) }
-    requires order { IsOrder (uses_of_types (tree_seen tree.now)) order.now }
-    ensures { IfOk result (λ kinds. AreKinds (tree_seen tree.now) kinds.items) }
+/// The types that the declarations of a source declare, one by one.
+pub fn kinds_of_types(alloc: Global, loopless: &Loopless) -> Result<Vec<Kind>, Memory>
+    ensures { IfOk result (λ kinds. AreKinds (tree_seen loopless.now) kinds.items) }
 {
+    let tree = loopless.tree();
+    let types = loopless.type_names();
+    let order = loopless.types();
     let mut kinds = vec![in alloc; Kind::Bool; tree.types.len()]?;
     for place in order {
         let definition = &tree.types[*place].definition;

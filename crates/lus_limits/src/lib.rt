@@ -4,6 +4,7 @@
 mod calls;
 mod counts;
 mod declared_kinds;
+mod loopless;
 mod named;
 mod recursion;
 mod sizes;
@@ -11,5 +12,6 @@ mod uses;
 
 pub use counts::check_counts;
 pub use declared_kinds::kinds_of_types;
-pub use recursion::{Orders, check_recursion};
+pub use loopless::Loopless;
+pub use recursion::check_recursion;
 pub use sizes::check_sizes;

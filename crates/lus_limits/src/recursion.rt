@@ -1,83 +1,54 @@
 //! Recursion: a type or a node that leads back to itself.
 
-ghost use Rattle.std.specs.Prelude.{◌≡◌, ◌≤◌, IfOk, IfErr, OnOk, length, map, string_bytes};
+ghost use Rattle.std.specs.Prelude.{◌≡◌, IfOk, IfErr, OnOk};
 ghost use Rattle.lus_graph.specs.Ways.{HasNoWayBack, IsOrder};
-ghost use Rattle.lus_syntax.specs.Limits.{most_declarations};
 ghost use Rattle.lus_syntax.specs.declared.refusal.RefusalNumber.TheVariants as numbers;
 ghost use Rattle.lus_syntax.specs.Refusals.{HasShape};
 ghost use Rattle.lus_syntax.specs.View.{tree_seen};
 ghost use Rattle.lus_limits.specs.GraphErrors.{number_of};
-ghost use Rattle.lus_meaning.specs.Refusals.{RefusesFor};
-ghost use Rattle.lus_meaning.specs.Loopless.{Loopless, node_names, node_uses as calls_of_nodes, type_names, type_uses as uses_of_types};
+ghost use Rattle.lus_typing.specs.Refusals.{RefusesFor};
+ghost use Rattle.lus_meaning.specs.Loopless.{Loopless as IsLoopless, node_uses as calls_of_nodes, type_uses as uses_of_types};
 
+use crate::loopless::Loopless;
 use crate::uses::{node_uses, type_uses};
-use indexmap::IndexSet;
 use lus_graph::{GraphError, order_of};
+use lus_names::Named;
 use lus_syntax::{Expr, Part, Place, Refusal, RefusalNumber, Tree};
 use std::alloc::Global;
 
-/// The types and the nodes of a source, each in an order in which what it uses stands before it.
-#[derive(Drop)]
-pub struct Orders {
-    pub types: Vec<usize>,
-    pub nodes: Vec<usize>,
-}
-
-/// The orders of a source in which nothing leads back to itself; else a refusal at a type's name, or at a call's.
-pub fn check_recursion(
-    alloc: Global,
-    tree: &Tree,
-    types: &IndexSet<String>,
-    nodes: &IndexSet<String>,
-) -> Result<Orders, Refusal>
-    requires few_types { length types.now.keys ≤ most_declarations }
-    requires few_nodes { length nodes.now.keys ≤ most_declarations }
-    requires type_names { map string_bytes types.now.keys ≡ type_names (tree_seen tree.now) }
-    requires node_names { map string_bytes nodes.now.keys ≡ node_names (tree_seen tree.now) }
-    ensures types { IfOk result (λ orders. IsOrder (uses_of_types (tree_seen tree.now)) orders.types.items) }
-    ensures nodes { IfOk result (λ orders. IsOrder (calls_of_nodes (tree_seen tree.now)) orders.nodes.items) }
-    ensures loopless { OnOk result (Loopless (tree_seen tree.now)) }
-    ensures refused { IfErr result (RefusesFor numbers.Recursion (Loopless (tree_seen tree.now))) }
+/// Checks that nothing leads back to itself; a refusal stands at a type's name, or at a call's.
+pub fn check_recursion(alloc: Global, named: Named) -> Result<Loopless, Refusal>
+    ensures same { IfOk result (λ loopless. loopless ≡ named) }
+    ensures ok { OnOk result (IsLoopless (tree_seen named)) }
+    ensures refused { IfErr result (RefusesFor numbers.Recursion (IsLoopless (tree_seen named))) }
     ensures shaped { IfErr result HasShape }
 {
-    let types = order_of_types(alloc, tree, types)?;
-    let nodes = order_of_nodes(alloc, tree, nodes)?;
-    Ok(Orders { types, nodes })
+    let types = order_of_types(alloc, &named)?;
+    let nodes = order_of_nodes(alloc, &named)?;
+    Ok(Loopless::new(named, types, nodes))
 }
 
-fn order_of_types(
-    alloc: Global,
-    tree: &Tree,
-    types: &IndexSet<String>,
-) -> Result<Vec<usize>, Refusal>
-    requires few { length types.now.keys ≤ most_declarations }
-    requires names { map string_bytes types.now.keys ≡ type_names (tree_seen tree.now) }
-    ensures order { IfOk result (λ order. IsOrder (uses_of_types (tree_seen tree.now)) order.items) }
-    ensures refused { IfErr result (RefusesFor numbers.Recursion (HasNoWayBack (uses_of_types (tree_seen tree.now)))) }
+fn order_of_types(alloc: Global, named: &Named) -> Result<Vec<usize>, Refusal>
+    ensures order { IfOk result (λ order. IsOrder (uses_of_types (tree_seen named.now)) order.items) }
+    ensures refused { IfErr result (RefusesFor numbers.Recursion (HasNoWayBack (uses_of_types (tree_seen named.now)))) }
     ensures shaped { IfErr result HasShape }
 {
-    let uses = type_uses(alloc, types, tree)?;
+    let uses = type_uses(alloc, named)?;
     match order_of(alloc, &uses) {
         Ok(order) => Ok(order),
-        Err(error) => Err(looping_type(tree, &error)),
+        Err(error) => Err(looping_type(named.tree(), &error)),
     }
 }
 
-fn order_of_nodes(
-    alloc: Global,
-    tree: &Tree,
-    nodes: &IndexSet<String>,
-) -> Result<Vec<usize>, Refusal>
-    requires few { length nodes.now.keys ≤ most_declarations }
-    requires names { map string_bytes nodes.now.keys ≡ node_names (tree_seen tree.now) }
-    ensures order { IfOk result (λ order. IsOrder (calls_of_nodes (tree_seen tree.now)) order.items) }
-    ensures refused { IfErr result (RefusesFor numbers.Recursion (HasNoWayBack (calls_of_nodes (tree_seen tree.now)))) }
+fn order_of_nodes(alloc: Global, named: &Named) -> Result<Vec<usize>, Refusal>
+    ensures order { IfOk result (λ order. IsOrder (calls_of_nodes (tree_seen named.now)) order.items) }
+    ensures refused { IfErr result (RefusesFor numbers.Recursion (HasNoWayBack (calls_of_nodes (tree_seen named.now)))) }
     ensures shaped { IfErr result HasShape }
 {
-    let uses = node_uses(alloc, nodes, tree)?;
+    let uses = node_uses(alloc, named)?;
     match order_of(alloc, &uses) {
         Ok(order) => Ok(order),
-        Err(error) => Err(looping_node(tree, &error)),
+        Err(error) => Err(looping_node(named.tree(), &error)),
     }
 }
 

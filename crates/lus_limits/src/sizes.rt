@@ -1,55 +1,38 @@
 //! How large types are, and how deep calls go, against the limits of the language.
 
-ghost use Rattle.std.specs.Prelude.{◌≡◌, ◌≤◌, suc, IfErr, OnOk, length, map, string_bytes, sum_by};
+ghost use Rattle.std.specs.Prelude.{◌≡◌, suc, IfErr, OnOk, map, string_bytes, sum_by};
 ghost use Rattle.lus_values.specs.Lists.{item};
-ghost use Rattle.lus_graph.specs.Ways.{IsOrder};
-ghost use Rattle.lus_syntax.specs.Limits.{most_declarations, most_leaves, most_nesting};
+ghost use Rattle.lus_syntax.specs.Limits.{most_leaves, most_nesting};
 ghost use Rattle.lus_syntax.specs.View.{definition_seen, fields_seen, tree_seen};
-ghost use Rattle.lus_meaning.specs.Loopless.{node_names, node_uses as calls_of_nodes, type_names, type_uses as uses_of_types};
 ghost use Rattle.lus_meaning.specs.ScopeView.{Faulty};
 ghost use Rattle.lus_meaning.specs.Sized.{Bounded, definition_leaves, definition_nesting, greatest, group_leaves, group_nesting, TypesBounded};
 ghost use Rattle.lus_limits.specs.Limits.{IsLimited};
 
 use crate::calls::check_calls;
+use crate::loopless::Loopless;
 use crate::named::of_name;
-use crate::recursion::Orders;
 use indexmap::IndexSet;
 use lus_meaning::Fault;
-use lus_syntax::{Definition, Fields, MOST_LEAVES, MOST_NESTING, Tree};
+use lus_syntax::{Definition, Fields, MOST_LEAVES, MOST_NESTING};
 use std::alloc::Global;
 
 /// Checks leaves and nesting of types and call depth of nodes against the limits. A fault stands at the declared name.
-pub fn check_sizes(
-    alloc: Global,
-    tree: &Tree,
-    types: &IndexSet<String>,
-    nodes: &IndexSet<String>,
-    orders: &Orders,
-) -> Result<(), Fault>
-    requires few_nodes { length nodes.now.keys ≤ most_declarations }
-    requires type_names { map string_bytes types.now.keys ≡ type_names (tree_seen tree.now) }
-    requires node_names { map string_bytes nodes.now.keys ≡ node_names (tree_seen tree.now) }
-    requires types { IsOrder (uses_of_types (tree_seen tree.now)) orders.now.types.items }
-    requires nodes { IsOrder (calls_of_nodes (tree_seen tree.now)) orders.now.nodes.items }
-    ensures ok { OnOk result (Bounded (tree_seen tree.now)) }
-    ensures err { IfErr result (Faulty (Bounded (tree_seen tree.now) → ⊥)) }
+pub fn check_sizes(alloc: Global, loopless: &Loopless) -> Result<(), Fault>
+    ensures ok { OnOk result (Bounded (tree_seen loopless.now)) }
+    ensures err { IfErr result (Faulty (Bounded (tree_seen loopless.now) → ⊥)) }
 {
-    check_types(alloc, tree, types, &orders.types)?;
-    check_calls(alloc, tree, nodes, &orders.nodes)
+    check_types(alloc, loopless)?;
+    check_calls(alloc, loopless)
 }
 
-/// Checks leaves and nesting of types, by an order in which what a type uses stands before it.
-fn check_types(
-    alloc: Global,
-    tree: &Tree,
-    types: &IndexSet<String>,
-    order: &[usize],
-) -> Result<(), Fault>
-    requires type_names { map string_bytes types.now.keys ≡ type_names (tree_seen tree.now) }
-    requires order { IsOrder (uses_of_types (tree_seen tree.now)) order.now }
-    ensures ok { OnOk result (TypesBounded (tree_seen tree.now)) }
-    ensures err { IfErr result (Faulty (TypesBounded (tree_seen tree.now) → ⊥)) }
+/// Checks leaves and nesting of types, each behind the types that it names.
+fn check_types(alloc: Global, loopless: &Loopless) -> Result<(), Fault>
+    ensures ok { OnOk result (TypesBounded (tree_seen loopless.now)) }
+    ensures err { IfErr result (Faulty (TypesBounded (tree_seen loopless.now) → ⊥)) }
 {
+    let tree = loopless.tree();
+    let types = loopless.type_names();
+    let order = loopless.types();
     let mut leaves = vec![in alloc; 0usize; tree.types.len()]?;
     let mut nesting = vec![in alloc; 0usize; tree.types.len()]?;
     for place in order {

@@ -6,10 +6,11 @@ ghost use Rattle.lus_graph.specs.Walks.{uses_of};
 ghost use Rattle.lus_syntax.specs.Limits.{most_declarations};
 ghost use Rattle.lus_syntax.specs.Trees.{parts_of};
 ghost use Rattle.lus_syntax.specs.View.{definition_seen, expression_seen, node_seen, tree_seen, type_name_seen, part_seen};
-ghost use Rattle.lus_meaning.specs.Loopless.{called, called_in, calls_of, definition_uses as uses_of_definition, named_type, node_names, node_uses as calls_of_nodes, place_in, type_names, type_uses as uses_of_types};
+ghost use Rattle.lus_meaning.specs.Loopless.{called, called_in, calls_of, definition_uses as uses_of_definition, named_type, node_uses as calls_of_nodes, place_in, type_uses as uses_of_types};
 
 use indexmap::IndexSet;
-use lus_syntax::{Definition, Expr, Node, Part, Tree, TypeName};
+use lus_names::Named;
+use lus_syntax::{Definition, Expr, Node, Part, TypeName};
 use lus_values::Memory;
 use std::alloc::Global;
 
@@ -65,15 +66,11 @@ fn definition_uses(
 }
 
 /// The types that each type's declaration names.
-pub fn type_uses(
-    alloc: Global,
-    types: &IndexSet<String>,
-    tree: &Tree,
-) -> Result<Vec<Vec<u32>>, Memory>
-    requires few { length types.now.keys ≤ most_declarations }
-    requires names { map string_bytes types.now.keys ≡ type_names (tree_seen tree.now) }
-    ensures { IfOk result (λ uses. uses_of uses.items ≡ uses_of_types (tree_seen tree.now)) }
+pub fn type_uses(alloc: Global, named: &Named) -> Result<Vec<Vec<u32>>, Memory>
+    ensures { IfOk result (λ uses. uses_of uses.items ≡ uses_of_types (tree_seen named.now)) }
 {
+    let types = named.types();
+    let tree = named.tree();
     let mut uses = Vec::new(alloc);
     for declaration in &tree.types {
         uses.push(definition_uses(alloc, types, &declaration.definition)?)?;
@@ -132,15 +129,11 @@ fn push_called_in(
 }
 
 /// The nodes that each node calls.
-pub fn node_uses(
-    alloc: Global,
-    nodes: &IndexSet<String>,
-    tree: &Tree,
-) -> Result<Vec<Vec<u32>>, Memory>
-    requires few { length nodes.now.keys ≤ most_declarations }
-    requires names { map string_bytes nodes.now.keys ≡ node_names (tree_seen tree.now) }
-    ensures { IfOk result (λ uses. uses_of uses.items ≡ calls_of_nodes (tree_seen tree.now)) }
+pub fn node_uses(alloc: Global, named: &Named) -> Result<Vec<Vec<u32>>, Memory>
+    ensures { IfOk result (λ uses. uses_of uses.items ≡ calls_of_nodes (tree_seen named.now)) }
 {
+    let nodes = named.nodes();
+    let tree = named.tree();
     let mut uses = Vec::new(alloc);
     for node in &tree.nodes {
         uses.push(node_calls(alloc, nodes, node)?)?;

@@ -1,2 +1,3 @@
 pub mod NameView
 pub mod Parts
+pub mod Sources

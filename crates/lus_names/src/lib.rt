@@ -5,9 +5,10 @@ mod checking;
 mod declarations;
 mod definitions;
 mod left;
+mod named;
 mod names;
 mod nodes;
 mod refusing;
 
 pub use checking::check_names;
-pub use names::Names;
+pub use named::Named;

@@ -6,9 +6,9 @@ ghost use Rattle.lus_program.specs.View.{declared_of};
 ghost use Rattle.lus_syntax.specs.Limits.{most_variables};
 ghost use Rattle.lus_syntax.specs.View.{node_seen, tree_seen};
 ghost use Rattle.lus_syntax.specs.Trees.{Tree as PlainTree};
-ghost use Rattle.lus_meaning.specs.Named.{Distinct, Named, names_in};
+ghost use Rattle.lus_meaning.specs.Named.{Distinct, names_in};
 ghost use Rattle.lus_meaning.specs.ScopeView.{entries_of, scope_of, signature_of};
-ghost use Rattle.lus_meaning.specs.Sized.{Counted, variable_count};
+ghost use Rattle.lus_meaning.specs.Sized.{variable_count};
 ghost use Rattle.lus_meaning.specs.Tables.{all_declared_by, AreKinds, constants_by, constructors_by, groups, kinds_by, placed, scope as scope_in, signatures_by, tables as tables_of};
 ghost use Rattle.lus_tables.specs.ByTable.{HasTables, kind_told, told};
 
@@ -17,22 +17,30 @@ use crate::types::{declared, types};
 use crate::values::{constants, constructors};
 use crate::variables::place_groups;
 use indexmap::IndexMap;
+use lus_limits::{Loopless, kinds_of_types};
 use lus_meaning::{Constructor, Placed, Scope, Signature};
+use lus_names::Named;
 use lus_program::{Declared, Kind};
-use lus_syntax::{Node, Tree};
+use lus_syntax::Node;
 use lus_values::{Memory, Value};
 use std::alloc::Global;
 
-/// The tables of a source whose declared types are these, one by one; no variables.
-pub fn tables(alloc: Global, tree: &Tree, kinds: &[Kind]) -> Result<Scope, Memory>
-    requires counted { Counted (tree_seen tree.now) }
-    requires named { Named (tree_seen tree.now) }
-    requires kinds { AreKinds (tree_seen tree.now) kinds.now }
-    ensures { IfOk result (λ s. scope_of s ≡ tables_of (tree_seen tree.now)) }
+/// The tables of a source; no variables.
+pub fn tables(alloc: Global, loopless: &Loopless) -> Result<Scope, Memory>
+    ensures { IfOk result (λ s. scope_of s ≡ tables_of (tree_seen loopless.now)) }
 {
-    let types = types(alloc, &tree.types, kinds)?;
-    let (declared, nodes) = declarations(alloc, &types, tree)?;
-    let (constructors, constants) = values(alloc, tree)?;
+    let kinds = kinds_of_types(alloc, loopless)?;
+    tables_of_kinds(alloc, loopless.named(), &kinds)
+}
+
+/// The tables of a source whose declared types are these, one by one; no variables.
+fn tables_of_kinds(alloc: Global, named: &Named, kinds: &[Kind]) -> Result<Scope, Memory>
+    requires kinds { AreKinds (tree_seen named.now) kinds.now }
+    ensures { IfOk result (λ s. scope_of s ≡ tables_of (tree_seen named.now)) }
+{
+    let types = types(alloc, &named.tree().types, kinds)?;
+    let (declared, nodes) = declarations(alloc, &types, named)?;
+    let (constructors, constants) = values(alloc, named)?;
     Ok(Scope {
         variables: IndexMap::new(alloc),
         constants,
@@ -47,15 +55,14 @@ pub fn tables(alloc: Global, tree: &Tree, kinds: &[Kind]) -> Result<Scope, Memor
 fn declarations(
     alloc: Global,
     types: &IndexMap<String, Kind>,
-    tree: &Tree,
+    named: &Named,
 ) -> Result<(Vec<Declared>, IndexMap<String, Signature>), Memory>
-    requires counted { Counted (tree_seen tree.now) }
-    requires named { Named (tree_seen tree.now) }
-    ensures declared { let declared = all_declared_by (kind_told types.now.entries) (tree_seen tree.now).types in
+    ensures declared { let declared = all_declared_by (kind_told types.now.entries) (tree_seen named.now).types in
         IfOk result (λ x. map declared_of x.0.items ≡ declared) }
-    ensures nodes { let signatures = signatures_by (kind_told types.now.entries) (tree_seen tree.now).nodes in
+    ensures nodes { let signatures = signatures_by (kind_told types.now.entries) (tree_seen named.now).nodes in
         IfOk result (λ x. entries_of signature_of x.1.entries ≡ signatures) }
 {
+    let tree = named.tree();
     let declared = declared(alloc, types, &tree.types)?;
     let nodes = nodes(alloc, types, &tree.nodes)?;
     Ok((declared, nodes))
@@ -64,14 +71,13 @@ fn declarations(
 /// The tables of constructors and of constants.
 fn values(
     alloc: Global,
-    tree: &Tree,
+    named: &Named,
 ) -> Result<(IndexMap<String, Constructor>, IndexMap<String, Value>), Memory>
-    requires counted { Counted (tree_seen tree.now) }
-    requires named { Named (tree_seen tree.now) }
-    ensures constructors { IfOk result (λ x. told x.0.entries ≡ constructors_by (tree_seen tree.now).types) }
-    ensures constants { IfOk result (λ x. let values = constants_by (told x.0.entries) (tree_seen tree.now).constants in
+    ensures constructors { IfOk result (λ x. told x.0.entries ≡ constructors_by (tree_seen named.now).types) }
+    ensures constants { IfOk result (λ x. let values = constants_by (told x.0.entries) (tree_seen named.now).constants in
         entries_of value_of x.1.entries ≡ values) }
 {
+    let tree = named.tree();
     let constructors = constructors(alloc, &tree.types)?;
     let constants = constants(alloc, &constructors, &tree.constants)?;
     Ok((constructors, constants))

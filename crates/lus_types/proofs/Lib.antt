@@ -4,3 +4,4 @@ pub mod Groups
 pub mod NodesMeant
 pub mod FirstFaults
 pub mod PartSums
+pub mod Passed

@@ -4,7 +4,7 @@ use Rattle.std.proofs.Math.Bool.{and-true}
 use Rattle.std.specs.Prelude.{option_map}
 use Rattle.lus_program.specs.declared.types.Kind.{Kind}
 use Rattle.lus_values.specs.Values.{Value}
-use Rattle.lus_meaning.specs.Types.{same, value_kind}
+use Rattle.lus_typing.specs.Kinds.{same, value_kind}
 use Rattle.lus_meaning.specs.WellTyped.{are_given, value_is}
 
 pub value_is-same : (v : Value) (k l m : Kind) → value_kind v ≡ Some k → l ≡ m → same k l ≡ value_is v m

@@ -4,7 +4,7 @@ ghost use Rattle.std.specs.Prelude.{◌≡◌, IfErr, OnOk, false, true};
 ghost use Rattle.std.specs.List.{list_all};
 ghost use Rattle.lus_syntax.specs.View.{constant_seen, literal_seen, tree_seen};
 ghost use Rattle.lus_meaning.specs.Tables.{literal_value, tables};
-ghost use Rattle.lus_meaning.specs.Types.{value_kind as kind_of_value};
+ghost use Rattle.lus_typing.specs.Kinds.{value_kind as kind_of_value};
 ghost use Rattle.lus_meaning.specs.WellTyped.{constant_typed};
 ghost use Rattle.lus_meaning.specs.ScopeView.{Faulty, scope_of};
 

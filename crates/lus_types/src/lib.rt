@@ -7,5 +7,5 @@ mod parts;
 mod passes;
 mod typing;
 
-pub use lus_meaning::Typed;
+pub use lus_typing::Typed;
 pub use typing::check_types;

@@ -8,34 +8,34 @@ use Rattle.lus_limits.proofs.declared_kinds.kinds_of_types.Goals as goal
 
 pub index-requires : goal.index-requires
 index-requires c =
-    let fits : get_or c.args.order.now c.loop-place.place-index 0 < length c.args.tree.now.types.items = type_fits c.args.tree.now c.args.order.now c.requires.order c.loop-place.place-index c.loop-place-test.true in
+    let fits : get_or c.types-order.result.now c.loop-place.place-index 0 < length c.args.loopless.now.types.items = type_fits c.args.loopless.now c.types-order.result.now c.types-order.ensures c.loop-place.place-index c.loop-place-test.true in
     search rules
 
 pub kind_of-requires : goal.kind_of-requires
 kind_of-requires c =
-    let fits : get_or c.args.order.now c.loop-place.place-index 0 < length c.args.tree.now.types.items = type_fits c.args.tree.now c.args.order.now c.requires.order c.loop-place.place-index c.loop-place-test.true in
-    let few : get_or c.args.order.now c.loop-place.place-index 0 < 1000 = names_few c.args.tree.now c.args.types.now.keys _ c.requires.few_types c.requires.type_names fits in
+    let fits : get_or c.types-order.result.now c.loop-place.place-index 0 < length c.args.loopless.now.types.items = type_fits c.args.loopless.now c.types-order.result.now c.types-order.ensures c.loop-place.place-index c.loop-place-test.true in
+    let few : get_or c.types-order.result.now c.loop-place.place-index 0 < 1000 = names_few c.args.loopless.now c.type_names-types.result.now.keys _ c.type_names-types.ensures.few c.type_names-types.ensures.names fits in
     search rules
 
 pub index_mut-requires : goal.index_mut-requires
 index_mut-requires c =
-    let fits : get_or c.args.order.now c.loop-place.place-index 0 < length c.args.tree.now.types.items = type_fits c.args.tree.now c.args.order.now c.requires.order c.loop-place.place-index c.loop-place-test.true in
+    let fits : get_or c.types-order.result.now c.loop-place.place-index 0 < length c.args.loopless.now.types.items = type_fits c.args.loopless.now c.types-order.result.now c.types-order.ensures c.loop-place.place-index c.loop-place-test.true in
     let size = c.loop-place.invariant.size in
     search rules
 
 pub loop-place-preserved : goal.loop-place-preserved
 loop-place-preserved c =
-    let t = c.args.tree.now in
+    let t = c.args.loopless.now in
     let i = c.loop-place.place-index in
-    let x = get_or c.args.order.now i 0 in
-    let fits : x < length t.types.items = type_fits t c.args.order.now c.requires.order i c.loop-place-test.true in
+    let x = get_or c.types-order.result.now i 0 in
+    let fits : x < length t.types.items = type_fits t c.types-order.result.now c.types-order.ensures i c.loop-place-test.true in
     let here : definition_at (tree_seen t) x ≡ definition_seen c.index.result.now.definition =
-    definition_here t x c.index.result.now fits ∙ ap (λ (d : TypeDeclaration). definition_seen d.definition) (sym c.index.ensures) in
+    definition_here t x c.index.result.now fits ∙ ap (λ (d : TypeDeclaration). definition_seen d.definition) (sym (rw c.tree-tree.ensures.same at c.index.ensures)) in
     let is = rw c.deref.ensures.value at c.kind_of.ensures in
     record {
       size = length-set c.loop-place.kinds.items x c.kind_of.result ∙ c.loop-place.invariant.size;
-      filled = kind_more t c.args.order.now c.requires.order i (map string_bytes c.args.types.now.keys) c.loop-place.kinds.items c.kind_of.result c.index.result.now.definition c.loop-place-test.true c.requires.type_names c.loop-place.invariant.size here is c.loop-place.invariant.filled;
+      filled = kind_more t c.types-order.result.now c.types-order.ensures i (map string_bytes c.type_names-types.result.now.keys) c.loop-place.kinds.items c.kind_of.result c.index.result.now.definition c.loop-place-test.true c.type_names-types.ensures.names c.loop-place.invariant.size here is c.loop-place.invariant.filled;
     }
 
 pub returns : goal.returns
-returns c = kinds_whole c.args.tree.now c.args.order.now c.requires.order c.loop-place.place-index c.loop-place.kinds.items c.loop-place-test.false c.loop-place.invariant.size c.loop-place.invariant.filled
+returns c = kinds_whole c.args.loopless.now c.types-order.result.now c.types-order.ensures c.loop-place.place-index c.loop-place.kinds.items c.loop-place-test.false c.loop-place.invariant.size c.loop-place.invariant.filled

@@ -8,8 +8,8 @@ use Rattle.lus_limits.proofs.recursion.order_of_nodes.Goals as goal
 
 pub returns-clause-refused : goal.returns-clause-refused
 returns-clause-refused c =
-    let cycle : IsCycleError (node_uses (tree_seen c.args.tree.now)) c.in-Err.error = rw (c.deref.ensures.value, c.in_ok-uses.ensures) at c.in-Err.ensures.cycle in
-    loops (node_uses (tree_seen c.args.tree.now)) c.in-Err.error c.looping_node.result.number cycle c.looping_node.ensures.number
+    let cycle : IsCycleError (node_uses (tree_seen c.args.named.now)) c.in-Err.error = rw (c.deref.ensures.value, c.in_ok-uses.ensures) at c.in-Err.ensures.cycle in
+    loops (node_uses (tree_seen c.args.named.now)) c.in-Err.error c.looping_node.result.number cycle c.looping_node.ensures.number
 
 pub returns-in_err-uses-clause-shaped : goal.returns-in_err-uses-clause-shaped
 returns-in_err-uses-clause-shaped c = let e = err_from_is_err_and c.from_residual.result c.from_residual.ensures.1 in rw (e.1, e.2) shaped_out_of_memory

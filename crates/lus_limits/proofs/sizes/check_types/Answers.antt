@@ -11,83 +11,83 @@ use Rattle.lus_limits.proofs.sizes.check_types.Goals as goal
 
 pub index-declaration-requires : goal.index-declaration-requires
 index-declaration-requires c =
-    let fits : get_or c.args.order.now c.loop-place.place-index 0 < length c.args.tree.now.types.items = type_fits c.args.tree.now c.args.order.now c.requires.order c.loop-place.place-index c.loop-place-test.true in
+    let fits : get_or c.types-order.result.now c.loop-place.place-index 0 < length c.args.loopless.now.types.items = type_fits c.args.loopless.now c.types-order.result.now c.types-order.ensures c.loop-place.place-index c.loop-place-test.true in
     search rules
 
 pub index_mut-requires : goal.index_mut-requires
 index_mut-requires c =
-    let fits : get_or c.args.order.now c.loop-place.place-index 0 < length c.args.tree.now.types.items = type_fits c.args.tree.now c.args.order.now c.requires.order c.loop-place.place-index c.loop-place-test.true in
+    let fits : get_or c.types-order.result.now c.loop-place.place-index 0 < length c.args.loopless.now.types.items = type_fits c.args.loopless.now c.types-order.result.now c.types-order.ensures c.loop-place.place-index c.loop-place-test.true in
     let size = c.loop-place.invariant.leaves_size in
     search rules
 
 pub index_mut-requires-in-loop-place : goal.index_mut-requires-in-loop-place
 index_mut-requires-in-loop-place c =
-    let fits : get_or c.args.order.now c.loop-place.place-index 0 < length c.args.tree.now.types.items = type_fits c.args.tree.now c.args.order.now c.requires.order c.loop-place.place-index c.loop-place-test.true in
+    let fits : get_or c.types-order.result.now c.loop-place.place-index 0 < length c.args.loopless.now.types.items = type_fits c.args.loopless.now c.types-order.result.now c.types-order.ensures c.loop-place.place-index c.loop-place-test.true in
     let size = c.loop-place.invariant.nesting_size in
     search rules
 
 pub loop-place-preserved : goal.loop-place-preserved
 loop-place-preserved c =
-    let t = c.args.tree.now in
-    let o = c.requires.order in
+    let t = c.args.loopless.now in
+    let o = c.types-order.ensures in
     let i = c.loop-place.place-index in
     let lt = c.loop-place-test.true in
-    let x = get_or c.args.order.now i 0 in
-    let names = map string_bytes c.args.types.now.keys in
+    let x = get_or c.types-order.result.now i 0 in
+    let names = map string_bytes c.type_names-types.result.now.keys in
     let leaves = c.loop-place.leaves.items in
     let nesting = c.loop-place.nesting.items in
     let count = c.in-Some.count in
     let depth = c.in-Some-nesting_of.depth in
     let is = c.loop-place.invariant in
     let d = c.index-declaration.result.now.definition in
-    let fits : x < length t.types.items = type_fits t c.args.order.now o i lt in
+    let fits : x < length t.types.items = type_fits t c.types-order.result.now o i lt in
     let here : definition_at (tree_seen t) x ≡ definition_seen d =
-    definition_here t x c.index-declaration.result.now fits ∙ ap (λ (d : TypeDeclaration). definition_seen d.definition) (sym c.index-declaration.ensures) in
+    definition_here t x c.index-declaration.result.now fits ∙ ap (λ (d : TypeDeclaration). definition_seen d.definition) (sym (rw c.tree-tree.ensures.same at c.index-declaration.ensures)) in
     let counted = rw c.deref.ensures.value at c.in-Some.ensures in
     let deep = rw c.deref-in-loop-place.ensures.value at c.in-Some-nesting_of.ensures in
     record {
       leaves_size = length-set leaves x count ∙ is.leaves_size;
       leaves_small = All-set (λ n. n ≤ 1024) leaves x count counted.1 is.leaves_small;
-      leaves_filled = leaves_more t c.args.order.now o i names leaves count d lt c.requires.type_names here is.leaves_size is.leaves_filled counted.0;
+      leaves_filled = leaves_more t c.types-order.result.now o i names leaves count d lt c.type_names-types.ensures.names here is.leaves_size is.leaves_filled counted.0;
       nesting_size = length-set nesting x depth ∙ is.nesting_size;
       nesting_small = All-set (λ n. n ≤ 64) nesting x depth deep.1 is.nesting_small;
-      nesting_filled = nesting_more t c.args.order.now o i names nesting depth d lt c.requires.type_names here is.nesting_size is.nesting_filled deep.0;
+      nesting_filled = nesting_more t c.types-order.result.now o i names nesting depth d lt c.type_names-types.ensures.names here is.nesting_size is.nesting_filled deep.0;
     }
 
 pub returns-in_default-clause-err : goal.returns-in_default-clause-err
 returns-in_default-clause-err c bounded =
-    let t = c.args.tree.now in
+    let t = c.args.loopless.now in
     let i = c.loop-place.place-index in
-    let x = get_or c.args.order.now i 0 in
-    let names = map string_bytes c.args.types.now.keys in
+    let x = get_or c.types-order.result.now i 0 in
+    let names = map string_bytes c.type_names-types.result.now.keys in
     let d = c.index-declaration.result.now.definition in
-    let fits : x < length t.types.items = type_fits t c.args.order.now c.requires.order i c.loop-place-test.true in
+    let fits : x < length t.types.items = type_fits t c.types-order.result.now c.types-order.ensures i c.loop-place-test.true in
     let here : definition_at (tree_seen t) x ≡ definition_seen d =
-    definition_here t x c.index-declaration.result.now fits ∙ ap (λ (d : TypeDeclaration). definition_seen d.definition) (sym c.index-declaration.ensures) in
+    definition_here t x c.index-declaration.result.now fits ∙ ap (λ (d : TypeDeclaration). definition_seen d.definition) (sym (rw c.tree-tree.ensures.same at c.index-declaration.ensures)) in
     let past = rw c.deref.ensures.value at c.in_default.ensures in
-    leaves_past t c.args.order.now c.requires.order i names c.loop-place.leaves.items (definition_leaves names (item 1 c.loop-place.leaves.items) (definition_seen d)) d c.loop-place-test.true c.requires.type_names here c.loop-place.invariant.leaves_filled refl past bounded.leaves
+    leaves_past t c.types-order.result.now c.types-order.ensures i names c.loop-place.leaves.items (definition_leaves names (item 1 c.loop-place.leaves.items) (definition_seen d)) d c.loop-place-test.true c.type_names-types.ensures.names here c.loop-place.invariant.leaves_filled refl past bounded.leaves
 
 pub returns-in_default-nesting_of-clause-err : goal.returns-in_default-nesting_of-clause-err
 returns-in_default-nesting_of-clause-err c bounded =
-    let t = c.args.tree.now in
+    let t = c.args.loopless.now in
     let i = c.loop-place.place-index in
-    let x = get_or c.args.order.now i 0 in
-    let names = map string_bytes c.args.types.now.keys in
+    let x = get_or c.types-order.result.now i 0 in
+    let names = map string_bytes c.type_names-types.result.now.keys in
     let d = c.index-declaration.result.now.definition in
-    let fits : x < length t.types.items = type_fits t c.args.order.now c.requires.order i c.loop-place-test.true in
+    let fits : x < length t.types.items = type_fits t c.types-order.result.now c.types-order.ensures i c.loop-place-test.true in
     let here : definition_at (tree_seen t) x ≡ definition_seen d =
-    definition_here t x c.index-declaration.result.now fits ∙ ap (λ (d : TypeDeclaration). definition_seen d.definition) (sym c.index-declaration.ensures) in
+    definition_here t x c.index-declaration.result.now fits ∙ ap (λ (d : TypeDeclaration). definition_seen d.definition) (sym (rw c.tree-tree.ensures.same at c.index-declaration.ensures)) in
     let past = rw c.deref-in-loop-place.ensures.value at c.in_default-nesting_of.ensures in
-    nesting_past t c.args.order.now c.requires.order i names c.loop-place.nesting.items (definition_nesting names (item 0 c.loop-place.nesting.items) (definition_seen d)) d c.loop-place-test.true c.requires.type_names here c.loop-place.invariant.nesting_filled refl past bounded.nesting
+    nesting_past t c.types-order.result.now c.types-order.ensures i names c.loop-place.nesting.items (definition_nesting names (item 0 c.loop-place.nesting.items) (definition_seen d)) d c.loop-place-test.true c.type_names-types.ensures.names here c.loop-place.invariant.nesting_filled refl past bounded.nesting
 
 pub returns-clause-ok : goal.returns-clause-ok
 returns-clause-ok c =
-    let t = c.args.tree.now in
-    let o = c.requires.order in
+    let t = c.args.loopless.now in
+    let o = c.types-order.ensures in
     let i = c.loop-place.place-index in
     let end = c.loop-place-test.false in
     let is = c.loop-place.invariant in
     record {
-      leaves = leaves_whole t c.args.order.now o i c.loop-place.leaves.items end is.leaves_size is.leaves_filled is.leaves_small;
-      nesting = nesting_whole t c.args.order.now o i c.loop-place.nesting.items end is.nesting_size is.nesting_filled is.nesting_small;
+      leaves = leaves_whole t c.types-order.result.now o i c.loop-place.leaves.items end is.leaves_size is.leaves_filled is.leaves_small;
+      nesting = nesting_whole t c.types-order.result.now o i c.loop-place.nesting.items end is.nesting_size is.nesting_filled is.nesting_small;
     }

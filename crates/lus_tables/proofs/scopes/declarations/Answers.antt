@@ -12,9 +12,9 @@ use Rattle.lus_tables.proofs.scopes.declarations.Goals as goal
 pub returns-clause-declared : goal.returns-clause-declared
 returns-clause-declared c =
     let types = entries_of (λ x. x) c.args.types.now.entries in
-    c.in_ok-declared.ensures ∙ ap (λ (l : List TypeDeclaration). map (λ d. declared_by (kind_in types) d.definition) (map type_seen l)) c.deref.ensures.value
+    rw (← c.tree-tree.ensures.same) (c.in_ok-declared.ensures ∙ ap (λ (l : List TypeDeclaration). map (λ d. declared_by (kind_in types) d.definition) (map type_seen l)) c.deref.ensures.value)
 
 pub returns-clause-nodes : goal.returns-clause-nodes
 returns-clause-nodes c =
     let types = entries_of (λ x. x) c.args.types.now.entries in
-    c.in_ok-nodes.ensures ∙ ap (λ (l : List Node). map {B = Text × Signature} (λ e. (e.0.name.text, signature_by (kind_in types) e.0 e.1)) (numbered_from 0 (map node_seen l))) c.deref-2.ensures.value
+    rw (← c.tree-tree.ensures.same) (c.in_ok-nodes.ensures ∙ ap (λ (l : List Node). map {B = Text × Signature} (λ e. (e.0.name.text, signature_by (kind_in types) e.0 e.1)) (numbered_from 0 (map node_seen l))) c.deref-2.ensures.value)

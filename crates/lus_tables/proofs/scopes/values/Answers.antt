@@ -12,19 +12,19 @@ use Rattle.lus_tables.proofs.scopes.values.Goals as goal
 
 pub constructors-requires-clause-distinct : goal.constructors-requires-clause-distinct
 constructors-requires-clause-distinct c =
-    let k = known (tree_seen c.args.tree.now) [] in
-    rw c.deref.ensures.value (new_to_fewer k.constants [] k.constructors (rw (append-nil k.constants) (back_new [] k.constants k.constructors c.requires.named.values)))
+    let k = known (tree_seen c.tree-tree.result.now) [] in
+    rw c.deref.ensures.value (new_to_fewer k.constants [] k.constructors (rw (append-nil k.constants) (back_new [] k.constants k.constructors c.tree-tree.ensures.named.values)))
 
 pub constants-requires : goal.constants-requires
 constants-requires c =
-    let k = known (tree_seen c.args.tree.now) [] in
-    record { distinct = rw c.deref-2.ensures.value (front_new [] k.constants k.constructors c.requires.named.values) }
+    let k = known (tree_seen c.tree-tree.result.now) [] in
+    record { distinct = rw c.deref-2.ensures.value (front_new [] k.constants k.constructors c.tree-tree.ensures.named.values) }
 
 pub returns-clause-constructors : goal.returns-clause-constructors
 returns-clause-constructors c =
-    c.in_ok-constructors.ensures ∙ ap (λ (l : List TypeDeclaration). flat_map (λ e. constructors_of e.0.definition e.1) (numbered_from 0 (map type_seen l))) c.deref.ensures.value
+    rw (← c.tree-tree.ensures.same) (c.in_ok-constructors.ensures ∙ ap (λ (l : List TypeDeclaration). flat_map (λ e. constructors_of e.0.definition e.1) (numbered_from 0 (map type_seen l))) c.deref.ensures.value)
 
 pub returns-clause-constants : goal.returns-clause-constants
 returns-clause-constants c =
     let constructors = entries_of (λ x. x) c.in_ok-constructors.constructors.entries in
-    c.in_ok-constants.ensures ∙ ap (λ (l : List Constant). map {B = Text × Value} (λ k. (k.name.text, value_in constructors k.value)) (map constant_seen l)) c.deref-2.ensures.value
+    rw (← c.tree-tree.ensures.same) (c.in_ok-constants.ensures ∙ ap (λ (l : List Constant). map {B = Text × Value} (λ k. (k.name.text, value_in constructors k.value)) (map constant_seen l)) c.deref-2.ensures.value)

@@ -1,7 +1,7 @@
 use Rattle.std.proofs.Common.{◌∙◌, ap}
 use Rattle.lus_syntax.specs.View.{literal_seen}
 use Rattle.lus_meaning.specs.Tables.{value_in}
-use Rattle.lus_meaning.specs.Types.{value_kind}
+use Rattle.lus_typing.specs.Kinds.{value_kind}
 use Rattle.lus_types.proofs.constants.literal_kind.Goals as goal
 
 pub returns : goal.returns

@@ -1,12 +1,43 @@
 use Rattle.std.proofs.lemmas.Result.{err_from_is_err_and}
-use Rattle.lus_syntax.specs.View.{tree_seen}
-use Rattle.lus_resolution.proofs.ProgramsMeant.{meant_programs_are_sound}
+use Rattle.lus_program.specs.View.{program_seen}
+use Rattle.lus_types.proofs.Passed.{sizes_refused, types_refused, parts_refused, well_formed, sound}
 use Rattle.lus_types.proofs.typing.check_types.Goals as goal
 
 pub new-requires : goal.new-requires
-new-requires c = rw c.in_ok-program.ensures.means (meant_programs_are_sound (tree_seen c.args.tree) c.in_ok-program.ensures.ok)
+new-requires c = sound c.args.tree c.in_ok-counted.counted c.in_ok-named.named c.in_ok-loopless.loopless c.in_ok-counted.ensures.same c.in_ok-named.ensures.same c.in_ok-loopless.ensures.same c.in_ok-counted.ensures.ok c.in_ok-named.ensures.ok c.in_ok-loopless.ensures.ok c.in_ok-sizes.ensures.ok c.in_ok-program.ensures.ok (program_seen c.in_ok-program.program) c.in_ok-program.ensures.means c.in_ok-parts.ensures.ok
+
+pub returns-clause-ok : goal.returns-clause-ok
+returns-clause-ok c = well_formed c.args.tree c.in_ok-counted.counted c.in_ok-named.named c.in_ok-loopless.loopless c.in_ok-counted.ensures.same c.in_ok-named.ensures.same c.in_ok-loopless.ensures.same c.in_ok-counted.ensures.ok c.in_ok-named.ensures.ok c.in_ok-loopless.ensures.ok c.in_ok-sizes.ensures.ok c.in_ok-program.ensures.ok (program_seen c.in_ok-program.program) c.in_ok-program.ensures.means c.in_ok-parts.ensures.ok
+
+pub returns-in_err-sizes-clause-refused : goal.returns-in_err-sizes-clause-refused
+returns-in_err-sizes-clause-refused c =
+    let fails = sizes_refused c.args.tree c.in_ok-counted.counted c.in_ok-named.named c.in_ok-loopless.loopless c.in_ok-counted.ensures.same c.in_ok-named.ensures.same c.in_ok-loopless.ensures.same c.in_ok-counted.ensures.ok c.in_ok-named.ensures.ok c.in_ok-loopless.ensures.ok c.in_err-sizes.field-0.0.number c.in_err-sizes.ensures.refused in
+    let e = err_from_is_err_and c.from_residual-in_err-sizes.result c.from_residual-in_err-sizes.ensures.1 in
+    rw (e.1, e.2) fails
+
+pub returns-in_err-sizes-clause-shaped : goal.returns-in_err-sizes-clause-shaped
+returns-in_err-sizes-clause-shaped c =
+    let e = err_from_is_err_and c.from_residual-in_err-sizes.result c.from_residual-in_err-sizes.ensures.1 in
+    rw (e.1, e.2) c.in_err-sizes.ensures.shaped
 
 pub returns-in_err-program-clause-refused : goal.returns-in_err-program-clause-refused
 returns-in_err-program-clause-refused c =
-    let e = err_from_is_err_and c.from_residual.result c.from_residual.ensures.1 in
-    rw (e.1, e.2) c.in_err-program.ensures.refused
+    let fails = types_refused c.args.tree c.in_ok-counted.counted c.in_ok-named.named c.in_ok-loopless.loopless c.in_ok-counted.ensures.same c.in_ok-named.ensures.same c.in_ok-loopless.ensures.same c.in_ok-counted.ensures.ok c.in_ok-named.ensures.ok c.in_ok-loopless.ensures.ok c.in_ok-sizes.ensures.ok c.in_err-program.field-0.0.number c.in_err-program.ensures.refused in
+    let e = err_from_is_err_and c.from_residual-in_err-program.result c.from_residual-in_err-program.ensures.1 in
+    rw (e.1, e.2) fails
+
+pub returns-in_err-program-clause-shaped : goal.returns-in_err-program-clause-shaped
+returns-in_err-program-clause-shaped c =
+    let e = err_from_is_err_and c.from_residual-in_err-program.result c.from_residual-in_err-program.ensures.1 in
+    rw (e.1, e.2) c.in_err-program.ensures.shaped
+
+pub returns-in_err-parts-clause-refused : goal.returns-in_err-parts-clause-refused
+returns-in_err-parts-clause-refused c =
+    let fails = parts_refused c.args.tree c.in_ok-counted.counted c.in_ok-named.named c.in_ok-loopless.loopless c.in_ok-counted.ensures.same c.in_ok-named.ensures.same c.in_ok-loopless.ensures.same c.in_ok-counted.ensures.ok c.in_ok-named.ensures.ok c.in_ok-loopless.ensures.ok c.in_ok-sizes.ensures.ok c.in_ok-program.ensures.ok (program_seen c.in_ok-program.program) c.in_ok-program.ensures.means c.in_err-parts.field-0.0.number c.in_err-parts.ensures.refused in
+    let e = err_from_is_err_and c.from_residual-in_err-parts.result c.from_residual-in_err-parts.ensures.1 in
+    rw (e.1, e.2) fails
+
+pub returns-in_err-parts-clause-shaped : goal.returns-in_err-parts-clause-shaped
+returns-in_err-parts-clause-shaped c =
+    let e = err_from_is_err_and c.from_residual-in_err-parts.result c.from_residual-in_err-parts.ensures.1 in
+    rw (e.1, e.2) c.in_err-parts.ensures.shaped

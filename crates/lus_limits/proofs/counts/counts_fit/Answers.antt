@@ -5,7 +5,7 @@ use Rattle.lus_meaning.specs.Sized.{DefinitionCounted, variable_count}
 use Rattle.lus_meaning.specs.Tables.{groups}
 use Rattle.lus_values.proofs.Lists.{each_seen}
 use Rattle.lus_limits.proofs.Counting.{refuted}
-use Rattle.lus_limits.proofs.counts.check_counts.Goals as goal
+use Rattle.lus_limits.proofs.counts.counts_fit.Goals as goal
 
 pub returns-then-not-is_counted-clause-err : goal.returns-then-not-is_counted-clause-err
 returns-then-not-is_counted-clause-err c = λ counted.

@@ -3,7 +3,7 @@ use Rattle.lus_syntax.specs.View.{node_seen, type_seen}
 use Rattle.lus_values.specs.Lists.{Each}
 use Rattle.lus_meaning.specs.Sized.{DefinitionCounted, variable_count}
 use Rattle.lus_meaning.specs.Tables.{groups}
-use Rattle.lus_limits.proofs.counts.check_counts.Given as goal
+use Rattle.lus_limits.proofs.counts.counts_fit.Given as goal
 
 abbrev pub invariant-loop-declaration : goal.invariant-loop-declaration
 invariant-loop-declaration l = Each (λ d. DefinitionCounted d.definition) (map type_seen (take l.declaration-index l.declaration-items))

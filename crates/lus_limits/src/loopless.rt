@@ -1,0 +1,93 @@
+//! Sources in which nothing leads back to itself.
+
+ghost use Rattle.std.specs.Prelude.{◌≡◌, ◌≤◌, length, map, string_bytes};
+ghost use Rattle.lus_graph.specs.Ways.{IsOrder};
+ghost use Rattle.lus_syntax.specs.Limits.{most_declarations};
+ghost use Rattle.lus_syntax.specs.View.{tree_seen};
+ghost use Rattle.lus_meaning.specs.Loopless.{Loopless as IsLoopless, node_uses as calls_of_nodes, type_names as names_of_types, type_uses as uses_of_types};
+ghost use Rattle.lus_meaning.specs.Named.{Named as IsNamed};
+ghost use Rattle.lus_meaning.specs.Sized.{Counted as IsCounted};
+ghost use Rattle.lus_limits.specs.Orders.{AreOrders};
+
+use indexmap::IndexSet;
+use lus_names::Named;
+use lus_syntax::Tree;
+use std::marker::Model;
+
+/// A source of right names in which nothing leads back to itself, with its types and its nodes in orders in which what one
+/// uses stands before it. Contracts see it as its tree.
+#[derive(Drop)]
+pub struct Loopless {
+    named: Named,
+    types: Vec<usize>,
+    nodes: Vec<usize>,
+}
+
+impl Model for Loopless {
+    ghost use Rattle.std.specs.Coded.{codes};
+    ghost use Rattle.lus_syntax.specs.contracts.tree.Expr as source_expr;
+    ghost use Rattle.lus_syntax.specs.declared.tree.Tree.{Tree as StoredTree};
+    ghost use Rattle.lus_syntax.specs.View.{tree_seen};
+    ghost use Rattle.lus_limits.specs.Orders.{AreOrders};
+
+    ghost Value = { StoredTree };
+
+    ghost coded = { Prim.hlevel (codes, source_expr.the_row.coded) };
+
+    ghost view = { λ l. l.named };
+
+    ghost invariant = { λ l. AreOrders (tree_seen l.named) l.types.items l.nodes.items };
+}
+
+impl Loopless {
+    /// A source of right names, with orders of its types and its nodes.
+    pub fn new(named: Named, types: Vec<usize>, nodes: Vec<usize>) -> Loopless
+        requires { AreOrders (tree_seen named) types.items nodes.items }
+        ensures { result ≡ named }
+    {
+        Loopless {
+            named,
+            types,
+            nodes,
+        }
+    }
+
+    /// The source of right names.
+    pub fn named(&self) -> &Named
+        ensures same { result.now ≡ self.now }
+        ensures loopless { IsLoopless (tree_seen result.now) }
+    {
+        &self.named
+    }
+
+    /// The source.
+    pub fn tree(&self) -> &Tree
+        ensures same { result.now ≡ self.now }
+        ensures counted { IsCounted (tree_seen result.now) }
+        ensures named { IsNamed (tree_seen result.now) }
+    {
+        self.named.tree()
+    }
+
+    /// The names of its types, in the order of their declarations.
+    pub fn type_names(&self) -> &IndexSet<String>
+        ensures names { map string_bytes result.now.keys ≡ names_of_types (tree_seen self.now) }
+        ensures few { length result.now.keys ≤ most_declarations }
+    {
+        self.named.types()
+    }
+
+    /// The places of its types, each behind those of the types that it names.
+    pub fn types(&self) -> &[usize]
+        ensures { IsOrder (uses_of_types (tree_seen self.now)) result.now }
+    {
+        &self.types
+    }
+
+    /// The places of its nodes, each behind those of the nodes that it calls.
+    pub fn nodes(&self) -> &[usize]
+        ensures { IsOrder (calls_of_nodes (tree_seen self.now)) result.now }
+    {
+        &self.nodes
+    }
+}
