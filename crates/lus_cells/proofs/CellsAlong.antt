@@ -14,14 +14,14 @@ use Rattle.lus_syntax.specs.Limits.{most_cells}
 use Rattle.lus_program.specs.declared.node.Node.{Node as StoredNode}
 use Rattle.lus_program.specs.Programs.{Expression, Node, Program, empty_node, node_at}
 use Rattle.lus_program.specs.View.{expression_of, node_of}
-use Rattle.lus_meaning.specs.Resolved.{EquationFits, NodeResolved, Resolved, program_uses, kind_in}
-use Rattle.lus_resolution.proofs.Typed.{HasKind}
+use Rattle.lus_typing.specs.Resolved.{EquationFits, NodeResolved, Resolved, program_uses, kind_in}
+use Rattle.lus_typing.proofs.TypedParts.{HasKind}
 use Rattle.lus_cells.specs.Calls.{nodes_used}
 use Rattle.lus_cells.specs.Cells.{leaves_given, kind_leaves, node_cells, AreLeaves, AreCells, AreStateCells, FitsCells}
 use Rattle.lus_cells.specs.Given.{given_leaves, counted}
 use Rattle.lus_cells.specs.Uses.{AreCappedLeaves}
-use Rattle.lus_meaning.proofs.AlongOrders.{IsLocal, GivesNothing, IsFilled, uses_before, solution, solves, filled_more, filled_all}
-use Rattle.lus_resolution.proofs.KindsGiven.{given_is}
+use Rattle.lus_graph.proofs.AlongOrders.{IsLocal, GivesNothing, IsFilled, uses_before, solution, solves, filled_more, filled_all}
+use Rattle.lus_typing.proofs.KindsGiven.{given_is}
 use Rattle.lus_cells.proofs.LeavesAlong.{IsAlike, alike_sum, capped_alike}
 use Rattle.lus_cells.proofs.Numbering.{cells_stored}
 use Rattle.lus_cells.proofs.Related.{kind_related, equations_related}

@@ -10,11 +10,11 @@ use Rattle.lus_program.specs.declared.node.Node.{Node as StoredNode}
 use Rattle.lus_program.specs.declared.node.Program.{Program as StoredProgram}
 use Rattle.lus_program.specs.Programs.{node_at}
 use Rattle.lus_program.specs.View.{expression_of, node_of, program_seen}
-use Rattle.lus_meaning.specs.Resolved.{Resolved, program_uses}
+use Rattle.lus_typing.specs.Resolved.{Resolved, program_uses}
 use Rattle.lus_cells.specs.Cells.{AreCells, FitsCells, NamesTooMany}
 use Rattle.lus_cells.specs.Given.{counted}
 use Rattle.lus_cells.specs.Uses.{AreCappedLeaves}
-use Rattle.lus_meaning.proofs.AlongOrders.{IsFilled}
+use Rattle.lus_graph.proofs.AlongOrders.{IsFilled}
 use Rattle.lus_cells.proofs.CellsAlong.{cells_more, count_right, node_fits, node_is, over_most, some_cells, too_many}
 
 module _ (p : StoredProgram) where

@@ -9,12 +9,12 @@ use Rattle.lus_graph.specs.Ways.{used, IsOrder}
 use Rattle.lus_program.specs.declared.types.Declared.{Declared as StoredDeclared}
 use Rattle.lus_program.specs.Programs.{Program}
 use Rattle.lus_program.specs.View.{declared_of}
-use Rattle.lus_meaning.specs.Types.{nothing_declared}
-use Rattle.lus_meaning.specs.Resolved.{declared_in}
+use Rattle.lus_typing.specs.Kinds.{nothing_declared}
+use Rattle.lus_typing.specs.Resolved.{declared_in}
 use Rattle.lus_cells.specs.Cells.{declared_leaves, AreLeaves}
-use Rattle.lus_meaning.specs.Sound.{declared_uses, type_uses}
+use Rattle.lus_typing.specs.Sound.{declared_uses, type_uses}
 use Rattle.lus_cells.specs.Uses.{AreCappedLeaves}
-use Rattle.lus_meaning.proofs.AlongOrders.{IsLocal, GivesNothing, IsFilled, uses_before, solution, solves, filled_more, filled_all}
+use Rattle.lus_graph.proofs.AlongOrders.{IsLocal, GivesNothing, IsFilled, uses_before, solution, solves, filled_more, filled_all}
 use Rattle.lus_cells.proofs.Related.{declared_related}
 
 -- two numbers are alike up to m

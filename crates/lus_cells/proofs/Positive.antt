@@ -6,7 +6,7 @@ use Rattle.lus_values.specs.Lists.{item}
 use Rattle.lus_program.specs.declared.types.Kind.{Kind}
 use Rattle.lus_program.specs.declared.types.Kind.TheVariants as kinds
 use Rattle.lus_program.specs.Programs.{Declared, alias, enumeration, structure, Field, Program}
-use Rattle.lus_meaning.specs.Sound.{HasFields}
+use Rattle.lus_typing.specs.Sound.{HasFields}
 use Rattle.lus_cells.specs.Cells.{declared_leaves, kind_leaves, HaveLeaves}
 use Rattle.lus_cells.specs.Uses.{AreCappedLeaves, ArePositive}
 

@@ -6,10 +6,10 @@ use Rattle.lus_values.specs.Lists.{Each}
 use Rattle.lus_program.specs.declared.types.Kind.{Kind}
 use Rattle.lus_program.specs.declared.types.Kind.TheVariants as kinds
 use Rattle.lus_program.specs.Programs.{Expression, literal, variable, operate, pre, arrow, when, merge, call, Operands, none, more, Declared, alias, enumeration, structure, Field, Equation, Node, Program}
-use Rattle.lus_meaning.specs.Resolved.{EquationFits, kinds_given_in, nodes_called, all_nodes_called}
-use Rattle.lus_resolution.proofs.Typed.{HasKind, HaveKinds, operate_typed, both_typed, when_typed, merge_typed, call_typed, more_typed, whole_call, whole_typed, fits_given}
+use Rattle.lus_typing.specs.Resolved.{EquationFits, kinds_given_in, nodes_called, all_nodes_called}
+use Rattle.lus_typing.proofs.TypedParts.{HasKind, HaveKinds, operate_typed, both_typed, when_typed, merge_typed, call_typed, more_typed, whole_call, whole_typed, fits_given}
 use Rattle.lus_cells.specs.Cells.{kind_leaves, declared_leaves, expression_cells, operand_cells}
-use Rattle.lus_meaning.specs.Sound.{structures_in, declared_uses}
+use Rattle.lus_typing.specs.Sound.{structures_in, declared_uses}
 
 module _ (R : ℕ → ℕ → Type 0) (same : (n : ℕ) → R n n) (sum : (a a' b b' : ℕ) → R a a' → R b b' → R (a + b) (a' + b')) where
   -- a sum of one more

@@ -9,7 +9,7 @@ use Rattle.lus_program.specs.declared.types.Kind.{Kind}
 use Rattle.lus_program.specs.declared.types.Kind.TheVariants as kinds
 use Rattle.lus_program.specs.Programs.{Expression, literal, variable, operate, pre, arrow, when, merge, call, Operands, none, more, Declared, alias, enumeration, structure, Node, Program, node_at}
 use Rattle.lus_program.specs.View.{program_seen}
-use Rattle.lus_meaning.specs.Resolved.{declared_in, kind_in}
+use Rattle.lus_typing.specs.Resolved.{declared_in, kind_in}
 
 -- the leaves of a type, where declared type t has `at t`: bool, int and an enumeration have one
 abbrev pub kind_leaves : (ℕ → ℕ) → Kind → ℕ

@@ -2,7 +2,7 @@
 use Rattle.std.specs.Prelude.{ℕ, List}
 use Rattle.lus_values.specs.Lists.{item}
 use Rattle.lus_program.specs.Programs.{Expression, Operands, Node, Program}
-use Rattle.lus_meaning.specs.Given.{given}
+use Rattle.lus_typing.specs.Given.{given}
 use Rattle.lus_cells.specs.Cells.{kind_leaves, expression_cells, operand_cells}
 
 module _ (p : Program) (f : Node) where

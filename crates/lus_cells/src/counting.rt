@@ -6,17 +6,17 @@ ghost use Rattle.lus_syntax.specs.declared.refusal.RefusalNumber.TheVariants as 
 ghost use Rattle.lus_syntax.specs.Limits.{most_cells};
 ghost use Rattle.lus_syntax.specs.Refusals.{HasShape};
 ghost use Rattle.lus_program.specs.View.{program_seen};
-ghost use Rattle.lus_meaning.specs.Refusals.{RefusesFor};
-ghost use Rattle.lus_meaning.specs.Resolved.{Resolved, program_uses};
+ghost use Rattle.lus_typing.specs.Refusals.{RefusesFor};
+ghost use Rattle.lus_typing.specs.Resolved.{Resolved, program_uses};
 ghost use Rattle.lus_cells.specs.Cells.{AreStateCells, FitsCells, HaveLeaves, NamesTooMany};
 ghost use Rattle.lus_cells.specs.Uses.{AreCappedLeaves};
 
 use crate::leaves::leaves_along;
 use crate::orders::{order_of_nodes, order_of_types};
 use crate::weights::node_cells;
-use lus_meaning::Typed;
 use lus_program::{Node, Program};
 use lus_syntax::{MOST_CELLS, Refusal, RefusalNumber};
+use lus_typing::Typed;
 use std::alloc::Global;
 
 /// The state cells of each node, in the program's order. A program with a node that has more than 100,000 is refused at that

@@ -6,7 +6,7 @@ ghost use Rattle.lus_graph.specs.Ways.{IsOrder};
 ghost use Rattle.lus_graph.specs.Walks.{uses_of};
 ghost use Rattle.lus_program.specs.View.{declared_of, program_seen};
 ghost use Rattle.lus_cells.specs.Cells.{declared_leaves as leaves_declared, kind_leaves as leaves_in};
-ghost use Rattle.lus_meaning.specs.Sound.{HaveFields, declared_uses as uses_declared, structures_in, type_uses as uses_of_types};
+ghost use Rattle.lus_typing.specs.Sound.{HaveFields, declared_uses as uses_declared, structures_in, type_uses as uses_of_types};
 ghost use Rattle.lus_cells.specs.Uses.{AreCappedLeaves, ArePositive, most};
 
 use lus_program::{Declared, Kind, Program};

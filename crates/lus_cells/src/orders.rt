@@ -4,9 +4,9 @@ ghost use Rattle.std.specs.Prelude.{◌≡◌, ◌++◌, IfOk, OnOk};
 ghost use Rattle.lus_graph.specs.Ways.{HasNoWayBack, IsOrder};
 ghost use Rattle.lus_graph.specs.Walks.{uses_of};
 ghost use Rattle.lus_program.specs.View.{expression_of, node_of, operands_of, program_seen};
-ghost use Rattle.lus_meaning.specs.Resolved.{all_nodes_called, nodes_called, program_uses};
+ghost use Rattle.lus_typing.specs.Resolved.{all_nodes_called, nodes_called, program_uses};
 ghost use Rattle.lus_cells.specs.Calls.{nodes_used};
-ghost use Rattle.lus_meaning.specs.Sound.{type_uses as uses_of_types};
+ghost use Rattle.lus_typing.specs.Sound.{type_uses as uses_of_types};
 
 use crate::leaves::type_uses;
 use lus_graph::{GraphError, order_of};

@@ -6,15 +6,15 @@ ghost use Rattle.lus_syntax.specs.Refusals.{HasShape};
 ghost use Rattle.lus_program.specs.View.{program_seen};
 ghost use Rattle.lus_streams.specs.OnClock.{ProgramOnClocks};
 ghost use Rattle.lus_streams.specs.Flags.{IsFlagged};
-ghost use Rattle.lus_meaning.specs.Refusals.{RefusesFor};
-ghost use Rattle.lus_meaning.specs.Resolved.{Resolved};
-ghost use Rattle.lus_meaning.specs.Sound.{IsLimited};
+ghost use Rattle.lus_typing.specs.Refusals.{RefusesFor};
+ghost use Rattle.lus_typing.specs.Resolved.{Resolved};
+ghost use Rattle.lus_typing.specs.Sound.{IsLimited};
 
 use crate::checking::clocks_fit;
 use crate::flagging::flags_fit;
-use lus_meaning::Typed;
 use lus_program::Program;
 use lus_syntax::Refusal;
+use lus_typing::Typed;
 use std::alloc::Global;
 use std::marker::Model;
 

@@ -13,10 +13,10 @@ use Rattle.lus_program.specs.Programs.{Expression, call, calls, numbered, Equati
 use Rattle.lus_program.specs.View.{expression_of, equations_from, node_of, program_seen}
 use Rattle.lus_streams.specs.Equations.{equation_clock}
 use Rattle.lus_streams.proofs.Lists.{each_item}
-use Rattle.lus_meaning.specs.Resolved.{EquationFits, NodeResolved, Resolved, kind_in, kinds_given_in}
-use Rattle.lus_meaning.specs.Sound.{IsLimited}
-use Rattle.lus_resolution.proofs.Options.{map_gives}
-use Rattle.lus_resolution.proofs.Typed.{fits_given}
+use Rattle.lus_typing.specs.Resolved.{EquationFits, NodeResolved, Resolved, kind_in, kinds_given_in}
+use Rattle.lus_typing.specs.Sound.{IsLimited}
+use Rattle.lus_typing.proofs.Options.{map_gives}
+use Rattle.lus_typing.proofs.TypedParts.{fits_given}
 use Rattle.lus_normal_form.specs.Forms.{added_equations, equations_count, normal_equations, right_count, right_form, right_out}
 use Rattle.lus_normal_form.specs.Parts.{equations_taken, node_taken, right_taken}
 use Rattle.lus_normal_form.proofs.Counted.{taken_length}

@@ -8,7 +8,7 @@ use Rattle.lus_program.specs.declared.node.Node.{Node as StoredNode}
 use Rattle.lus_program.specs.Programs.{Node, Program, node_at, empty_node}
 use Rattle.lus_normal.specs.Laws.{AreMadeOf}
 use Rattle.lus_streams.proofs.Lists.{each_item}
-use Rattle.lus_meaning.specs.Resolved.{NodeResolved}
+use Rattle.lus_typing.specs.Resolved.{NodeResolved}
 use Rattle.lus_classes.specs.Classes.{class_at, empty_class}
 use Rattle.lus_classes.specs.ClassesOf.{AreClassesOf, IsClassOf}
 use Rattle.lus_simulation.specs.Nesting.{depth_of}

@@ -2,7 +2,7 @@
 use Rattle.std.proofs.Common.{arith, ◌≡◌, refl, ℕ, suc, zero, ◌<◌, List, [], ◌∷◌, false, drop, map, length}
 use Rattle.lus_program.specs.declared.types.Kind.{Kind}
 use Rattle.lus_meaning.specs.declared.entries.Placed.{Placed}
-use Rattle.lus_meaning.specs.Types.{all_same}
+use Rattle.lus_typing.specs.Kinds.{all_same}
 
 -- no types are left for the fields from this one on
 pub none_left : (fields : List Placed) (i : ℕ) (kinds : List Kind) → i < length fields → length kinds < 1 → all_same (map (λ x. x.kind) (drop i fields)) kinds ≡ false

@@ -4,7 +4,8 @@ ghost use Rattle.std.specs.Prelude.{◌≡◌, Some, None, IfOk, IfErr, length, 
 ghost use Rattle.lus_syntax.specs.View.{name_seen, lead_seen};
 ghost use Rattle.lus_program.specs.Programs.{call as call_meant};
 ghost use Rattle.lus_program.specs.View.{operands_of};
-ghost use Rattle.lus_meaning.specs.Types.{all_same as all_same_kinds, are_arguments as arguments_alone, branch_place as place_of_branch, branch_places as places_of_branches, field_asked as asked_field, fields_asked as asked_fields, outputs_of, variadic_kind};
+ghost use Rattle.lus_typing.specs.Kinds.{all_same as all_same_kinds};
+ghost use Rattle.lus_meaning.specs.Types.{are_arguments as arguments_alone, branch_place as place_of_branch, branch_places as places_of_branches, field_asked as asked_field, fields_asked as asked_fields, outputs_of, variadic_kind};
 ghost use Rattle.lus_meaning.specs.Meaning.{list_operation as operation_of_list, node_place, variadic_meant};
 ghost use Rattle.lus_meaning.specs.ScopeView.{scope_of, Faulty};
 ghost use Rattle.lus_elaboration.specs.Wholes.{call_kind, meaning, merge_over, merge_over_kind, parts_seen, structure_of, structure_of_kind};

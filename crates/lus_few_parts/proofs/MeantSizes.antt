@@ -20,10 +20,11 @@ use Rattle.lus_program.specs.Programs.{Expression, literal, variable, operate, O
 use Rattle.lus_program.specs.Parts.{parts, parts_all}
 use Rattle.lus_meaning.specs.declared.entries.Placed.{Placed}
 use Rattle.lus_meaning.specs.Scopes.{Scope, entry}
-use Rattle.lus_meaning.specs.Types.{count, each_counted, each_once, size_of, fields_of, field_named, variable_kind, branch_place, branch_places, field_asked, fields_asked, fields_fit, merge_kind, structure_kind, fields_kind, is_structure, common_kind, variadic_kind, field_kind, prefix_kind, infix_kind, choice_kind, test_placed, outputs_of, the_one, name_value, kind_of, kinds_of, where_true}
+use Rattle.lus_typing.specs.Kinds.{count, common_kind, choice_kind, the_one, where_true}
+use Rattle.lus_meaning.specs.Types.{each_counted, each_once, size_of, fields_of, field_named, variable_kind, branch_place, branch_places, field_asked, fields_asked, fields_fit, merge_kind, structure_kind, fields_kind, is_structure, variadic_kind, field_kind, prefix_kind, infix_kind, test_placed, outputs_of, name_value, kind_of, kinds_of}
 use Rattle.lus_meaning.specs.WellTyped.{kinds_given}
 use Rattle.lus_meaning.specs.Meaning.{one, beside, in_order_from, in_order, name_meant, field_meant, prefix_meant, infix_meant, fields_meant, branches_meant, structure_meant, meant, all_meant}
-use Rattle.lus_resolution.proofs.Options.{and_then_gives, map_gives, where_true_gives}
+use Rattle.lus_typing.proofs.Options.{and_then_gives, map_gives, where_true_gives}
 use Rattle.lus_few_parts.proofs.TreeSizes.{infix_size, size, sizes}
 
 -- ---- operands in the order of the numbers beside them

@@ -6,7 +6,8 @@ use Rattle.std.specs.Str.{bytes_eq}
 use Rattle.lus_program.specs.declared.types.Declared.{Declared as StoredDeclared}
 use Rattle.lus_program.specs.declared.types.Field.{Field as StoredField}
 use Rattle.lus_program.specs.View.{declared_of, field_of}
-use Rattle.lus_meaning.specs.Types.{field_from, has_few_fields, fields_in}
+use Rattle.lus_typing.specs.Kinds.{fields_in}
+use Rattle.lus_meaning.specs.Types.{field_from, has_few_fields}
 use Rattle.std.proofs.lemmas.Bool.{leb-true}
 use Rattle.lus_meaning.proofs.Steps.{drop_step, and_first, and_second}
 

@@ -3,6 +3,4 @@ pub mod Lookups
 pub mod Declarations
 pub mod AppendedNames
 pub mod Faults
-pub mod Fields
-pub mod AlongOrders
 mod Rows

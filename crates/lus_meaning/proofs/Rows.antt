@@ -21,7 +21,7 @@ use Rattle.lus_meaning.specs.Types.{kind_of}
 use Rattle.lus_meaning.specs.Meaning.{meant, program_of}
 use Rattle.lus_meaning.specs.WellTyped.{equation_typed, memory_fits, IsTyped}
 use Rattle.lus_values.specs.Lists.{Each}
-use Rattle.lus_meaning.specs.Resolved.{NodeResolved}
+use Rattle.lus_typing.specs.Resolved.{NodeResolved}
 
 abbrev start : Place
 start = record { byte = 0; line = 1; column = 1 }

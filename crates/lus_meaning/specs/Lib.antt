@@ -8,6 +8,3 @@ pub mod Meaning
 pub mod WellTyped
 pub mod Refusals
 pub mod ScopeView
-pub mod Resolved
-pub mod Given
-pub mod Sound

@@ -1,6 +1,5 @@
 -- Which trees are programs, and what the first failing pass answers.
-use Rattle.std.specs.Prelude.{◌⊎◌, ◌≡◌, ◌≢◌, ◌≤◌}
-use Rattle.lus_syntax.specs.declared.refusal.Refusal.{Refusal}
+use Rattle.std.specs.Prelude.{◌⊎◌, ◌≤◌}
 use Rattle.lus_syntax.specs.declared.refusal.RefusalNumber.{RefusalNumber}
 use Rattle.lus_syntax.specs.declared.refusal.RefusalNumber.TheVariants as numbers
 use Rattle.lus_syntax.specs.Limits.{most_parts}
@@ -35,7 +34,3 @@ FirstFails p numbers.Name = Counted p × (Named p → ⊥)
 FirstFails p numbers.Recursion = Counted p × Named p × (Loopless p → ⊥)
 FirstFails p numbers.Type = Counted p × Named p × Loopless p × Bounded p × (IsTyped p → ⊥)
 FirstFails p n = ⊥
-
--- a refusal by this number, which comes only where the fact fails; out of memory may come anywhere
-abbrev pub RefusesFor : RefusalNumber → Type 0 → Refusal → Type 0
-RefusesFor number fact e = e.number ≢ numbers.Memory → (fact → ⊥) × (e.number ≡ number)

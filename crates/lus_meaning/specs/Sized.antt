@@ -4,7 +4,8 @@ use Rattle.lus_syntax.specs.Limits.{most_calls_deep, most_constructors, most_dec
 use Rattle.lus_syntax.specs.Lexemes.{Text}
 use Rattle.lus_syntax.specs.Trees.{Fields, Definition, Alias, Enumeration, StructureOf, Group, Tree}
 use Rattle.lus_values.specs.Lists.{Each, Below}
-use Rattle.lus_meaning.specs.Tables.{groups, of_type, definition_at, within}
+use Rattle.lus_graph.specs.Along.{within}
+use Rattle.lus_meaning.specs.Tables.{groups, of_type, definition_at}
 use Rattle.lus_graph.specs.Ways.{used}
 use Rattle.lus_meaning.specs.Loopless.{node_uses, type_names}
 

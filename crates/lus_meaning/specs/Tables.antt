@@ -1,5 +1,5 @@
 -- The tables of a source: what its declarations give each name, in the order of the text.
-use Rattle.std.specs.Prelude.{◌≡◌, ◌++◌, ℕ, zero, suc, ℤ, pos, negsuc, neg_ℤ, List, [], ◌∷◌, Some, None, map, flat_map, length}
+use Rattle.std.specs.Prelude.{◌≡◌, ◌++◌, ℕ, suc, ℤ, pos, negsuc, neg_ℤ, List, [], ◌∷◌, Some, None, map, flat_map, length}
 use Rattle.lus_syntax.specs.Lexemes.{Text}
 use Rattle.lus_syntax.specs.Trees.{Named, TypeName, BoolName, IntName, DeclaredName, Fields, Definition, Alias, Enumeration, StructureOf, TypeDeclaration, Literal, Positive, Negative, TruthValue, ConstructorName, Constant, Group, Node, Tree}
 use Rattle.lus_values.specs.Lists.{item, Below}
@@ -7,6 +7,7 @@ use Rattle.lus_values.specs.Values.{Value, bool, int, enum, nil}
 use Rattle.lus_program.specs.declared.types.Kind.{Kind}
 use Rattle.lus_program.specs.declared.types.Kind.TheVariants as kinds
 use Rattle.lus_program.specs.Programs.{Field, Declared, alias, enumeration, structure}
+use Rattle.lus_graph.specs.Along.{within}
 use Rattle.lus_meaning.specs.declared.entries.Placed.{Placed}
 use Rattle.lus_meaning.specs.declared.entries.Constructor.{Constructor}
 use Rattle.lus_meaning.specs.Scopes.{Scope, Signature, entry}
@@ -23,12 +24,6 @@ text_of n = n.text
 -- names of one type, one by one
 abbrev pub each_of : {X : Type 0} → List Named → X → List (Text × X)
 each_of ns x = map (λ n. (n.text, x)) ns
-
--- What a thing has by what the things have that it uses, followed n times, and d past that. Where nothing leads back to
--- itself, following as often as there are things is enough.
-abbrev pub within : {X : Type 0} → ℕ → X → ((ℕ → X) → ℕ → X) → ℕ → X
-within zero d step x = d
-within (suc n) d step x = step (within n d step) x
 
 -- types: a declared type is the place of its declaration among the source's types
 

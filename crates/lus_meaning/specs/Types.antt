@@ -1,6 +1,5 @@
 -- The types of expressions, form by form. Lustre V6 reference manual, "Expressions"; None where there is no type.
 use Rattle.std.specs.Prelude.{◌&&◌, ℕ, zero, suc, Bool, true, false, List, [], ◌∷◌, Option, Some, None, cond, length, nat_eq, nat_le, map, option_map}
-use Rattle.std.specs.List.{list_all}
 use Rattle.std.specs.Option.{option_and_then}
 use Rattle.std.specs.Str.{bytes_eq}
 use Rattle.lus_syntax.specs.Limits.{most_fields}
@@ -11,46 +10,19 @@ use Rattle.lus_syntax.specs.declared.tree.Infix.{Infix}
 use Rattle.lus_syntax.specs.declared.tree.Infix.TheVariants as infixes
 use Rattle.lus_syntax.specs.Trees.{Label, Constructor, Boolean, Test, Holds, Fails, Is, Lead, Plain, Of, Branch, Expression, Numeral, Truth, Name, Call, Structure, Merge, Variadic, Field, Parentheses, When, Unary, Binary, If, Parts, End, More}
 use Rattle.lus_values.specs.Lists.{item}
-use Rattle.lus_values.specs.Values.{Value, bool, int, enum, struct, nil}
+use Rattle.lus_values.specs.Values.{Value, bool, enum}
 use Rattle.lus_program.specs.declared.expr.Test.{Test as PlacedTest}
 use Rattle.lus_program.specs.declared.types.Kind.{Kind}
 use Rattle.lus_program.specs.declared.types.Kind.TheVariants as kinds
-use Rattle.lus_program.specs.Programs.{Declared, alias, enumeration, structure, Field as DeclaredField}
+use Rattle.lus_program.specs.Programs.{Declared, enumeration, structure, Field as DeclaredField}
+use Rattle.lus_typing.specs.Kinds.{same, all_same, where_true, alike, both, compared, choice_kind, value_kind, the_one, common_kind, bools_kind, count, fields_in, constructors_in, nothing_declared}
 use Rattle.lus_meaning.specs.declared.entries.Placed.{Placed}
 use Rattle.lus_meaning.specs.Scopes.{Scope, Signature, entry}
-
-abbrev pub same : Kind → Kind → Bool
-same kinds.Bool kinds.Bool = true
-same kinds.Int kinds.Int = true
-same (kinds.Enum t) (kinds.Enum u) = nat_eq t u
-same (kinds.Struct t) (kinds.Struct u) = nat_eq t u
-same k l = false
-
-abbrev pub all_same : List Kind → List Kind → Bool
-all_same [] [] = true
-all_same (k ∷ ks) (l ∷ ls) = same k l && all_same ks ls
-all_same [] (l ∷ ls) = false
-all_same (k ∷ ks) [] = false
-
-abbrev pub where_true : {X : Type 0} → Bool → Option X → Option X
-where_true true x = x
-where_true false x = None
-
--- two of one type have that type
-abbrev pub alike : Kind → Kind → Option Kind
-alike k l = where_true (same k l) (Some k)
 
 abbrev pub prefix_kind : Prefix → Kind → Option Kind
 prefix_kind prefixes.Not k = alike kinds.Bool k
 prefix_kind prefixes.Negate k = alike kinds.Int k
 prefix_kind prefixes.Pre k = Some k
-
--- two operands of one type, and a result
-abbrev pub both : Kind → Kind → Kind → Kind → Option Kind
-both operand result k l = where_true (same operand k && same operand l) (Some result)
-
-abbrev pub compared : Kind → Kind → Option Kind
-compared k l = where_true (same k l) (Some kinds.Bool)
 
 abbrev pub infix_kind : Infix → Kind → Kind → Option Kind
 infix_kind infixes.Fby = alike
@@ -71,38 +43,9 @@ infix_kind infixes.Multiply = both kinds.Int kinds.Int
 infix_kind infixes.Divide = both kinds.Int kinds.Int
 infix_kind infixes.Remainder = both kinds.Int kinds.Int
 
--- `if`
-abbrev pub choice_kind : Kind → Kind → Kind → Option Kind
-choice_kind c k l = where_true (same kinds.Bool c) (alike k l)
-
-abbrev pub value_kind : Value → Option Kind
-value_kind (bool b) = Some kinds.Bool
-value_kind (int z) = Some kinds.Int
-value_kind (enum t c) = Some (kinds.Enum t)
-value_kind (struct fs) = None
-value_kind nil = None
-
 -- the outputs of a call with arguments of these types
 abbrev pub call_kinds : List Kind → Signature → Option (List Kind)
 call_kinds ks g = where_true (all_same g.inputs ks) (Some g.outputs)
-
-abbrev pub the_one : List Kind → Option Kind
-the_one (k ∷ []) = Some k
-the_one ks = None
-
--- the one type of all branches
-abbrev pub common_kind : List Kind → Option Kind
-common_kind [] = None
-common_kind (k ∷ ks) = where_true (list_all (same k) ks) (Some k)
-
--- `#` and `nor`: one truth value or more
-abbrev pub bools_kind : List Kind → Option Kind
-bools_kind [] = None
-bools_kind (k ∷ ks) = where_true (list_all (same kinds.Bool) (k ∷ ks)) (Some kinds.Bool)
-
-abbrev pub count : ℕ → List ℕ → ℕ
-count n [] = 0
-count n (m ∷ ms) = cond (nat_eq n m) (suc (count n ms)) (count n ms)
 
 -- the numbers from c on, n of them, stand in the list, each exactly once
 abbrev pub each_counted : ℕ → ℕ → List ℕ → Bool
@@ -139,22 +82,9 @@ field_from n (f ∷ fs) x = cond (bytes_eq x f.name) (Some (record { place = n; 
 abbrev pub field_named : List DeclaredField → Text → Option Placed
 field_named fs x = field_from 0 fs x
 
-abbrev pub fields_in : Declared → List DeclaredField
-fields_in (alias k) = []
-fields_in (enumeration cs) = []
-fields_in (structure fs) = fs
-
-abbrev pub constructors_in : Declared → ℕ
-constructors_in (alias k) = 0
-constructors_in (enumeration cs) = length cs
-constructors_in (structure fs) = 0
-
 -- no structure has more fields than the limit
 abbrev pub has_few_fields : Declared → Bool
 has_few_fields d = nat_le (length (fields_in d)) most_fields
-
-abbrev pub nothing_declared : Declared
-nothing_declared = alias kinds.Bool
 
 -- a test by its constructor and its variable: `c` is `true(c)`, `not c` is `false(c)`
 abbrev pub test_variable : Test → Text

@@ -16,7 +16,8 @@ use Rattle.lus_program.specs.declared.types.Kind.{Kind}
 use Rattle.lus_program.specs.declared.types.Kind.TheVariants as kinds
 use Rattle.lus_meaning.specs.Scopes.{Scope, entry}
 use Rattle.lus_meaning.specs.Tables.{groups, scope, literal_value, kind_named}
-use Rattle.lus_meaning.specs.Types.{all_same, kind_of, kinds_of, value_kind, variable_kind, test_placed, outputs_of}
+use Rattle.lus_typing.specs.Kinds.{all_same, value_kind}
+use Rattle.lus_meaning.specs.Types.{kind_of, kinds_of, variable_kind, test_placed, outputs_of}
 
 -- the types of what a whole right side gives; a call there may have several outputs
 abbrev pub kinds_given : Scope → Expression → Option (List Kind)

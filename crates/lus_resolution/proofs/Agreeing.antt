@@ -10,9 +10,10 @@ use Rattle.lus_program.specs.Programs.{Field, Node, Program}
 use Rattle.lus_meaning.specs.declared.entries.Placed.{Placed}
 use Rattle.lus_meaning.specs.declared.entries.Constructor.{Constructor}
 use Rattle.lus_meaning.specs.Scopes.{Scope, Signature, entry}
-use Rattle.lus_meaning.specs.Types.{constructors_in, field_from, fields_of, field_asked, fields_asked, declared_at}
-use Rattle.lus_meaning.specs.Resolved.{declared_in, input_kinds, output_kinds, kind_of_variable}
-use Rattle.lus_resolution.proofs.Options.{and_then_gives, map_gives}
+use Rattle.lus_typing.specs.Kinds.{constructors_in}
+use Rattle.lus_meaning.specs.Types.{field_from, fields_of, field_asked, fields_asked, declared_at}
+use Rattle.lus_typing.specs.Resolved.{declared_in, input_kinds, output_kinds, kind_of_variable}
+use Rattle.lus_typing.proofs.Options.{and_then_gives, map_gives}
 
 -- the node of a signature
 pub record IsNode (p : Program) (g : Signature) : Type 0 where

@@ -6,11 +6,12 @@ use Rattle.lus_values.specs.Lists.{item}
 use Rattle.lus_program.specs.declared.types.Kind.{Kind}
 use Rattle.lus_program.specs.Programs.{Expression, Operands, none, more, Node, Program}
 use Rattle.lus_values.proofs.Equalities.{and_left, and_right}
-use Rattle.lus_meaning.specs.Types.{count, each_counted}
+use Rattle.lus_typing.specs.Kinds.{count}
+use Rattle.lus_meaning.specs.Types.{each_counted}
 use Rattle.lus_meaning.specs.Meaning.{beside, in_order_from}
-use Rattle.lus_meaning.specs.Resolved.{kind_in, kinds_in}
-use Rattle.lus_resolution.proofs.Options.{and_then_gives, map_gives}
-use Rattle.lus_resolution.proofs.Numbering.{put}
+use Rattle.lus_typing.specs.Resolved.{kind_in, kinds_in}
+use Rattle.lus_typing.proofs.Options.{and_then_gives, map_gives}
+use Rattle.lus_typing.proofs.Numbering.{put}
 
 abbrev pub kinds_from : (ℕ → Kind) → ℕ → ℕ → List Kind
 kinds_from K c zero = []

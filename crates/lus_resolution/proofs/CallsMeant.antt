@@ -11,7 +11,7 @@ use Rattle.lus_program.specs.Programs.{Expression, literal, variable, operate, O
 use Rattle.lus_meaning.specs.declared.entries.Placed.{Placed}
 use Rattle.lus_meaning.specs.Scopes.{Scope, Signature, entry}
 use Rattle.lus_meaning.specs.Meaning.{one, beside, in_order_from, prefix_meant, infix_meant, node_place}
-use Rattle.lus_resolution.proofs.Calls.{EachCall, EachCallIn}
+use Rattle.lus_typing.proofs.Calls.{EachCall, EachCallIn}
 
 place_given : (s : Scope) (g : Signature) (o : Option Signature) → o ≡ Some g → elim o [ Some h ↦ h.place | None ↦ 0 ] ≡ g.place
 place_given s g None e = cc

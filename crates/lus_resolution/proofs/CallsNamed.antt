@@ -21,9 +21,9 @@ use Rattle.lus_meaning.specs.Types.{fields_of, fields_asked, size_of, branch_pla
 use Rattle.lus_meaning.specs.Named.{is_in, Known, known, knows, knows_parts, knows_lead, knows_test, NodeNamed}
 use Rattle.lus_meaning.specs.Loopless.{place_in, node_names, called, called_in, calls_of, node_uses}
 use Rattle.lus_meaning.specs.Meaning.{node_place, meant, all_meant, equations_meant, node_meant, program_of}
-use Rattle.lus_meaning.specs.Resolved.{nodes_called, all_nodes_called, program_uses}
-use Rattle.lus_resolution.proofs.Numbering.{nodes_called-numbered}
-use Rattle.lus_resolution.proofs.Calls.{EachCall, EachCallIn}
+use Rattle.lus_typing.specs.Resolved.{nodes_called, all_nodes_called, program_uses}
+use Rattle.lus_typing.proofs.Numbering.{nodes_called-numbered}
+use Rattle.lus_typing.proofs.Calls.{EachCall, EachCallIn}
 use Rattle.lus_resolution.proofs.CallsMeant.{node_place_is, order_called, name_called, field_called, prefix_called, infix_called}
 
 module _ (Q : ℕ → Type 0) where

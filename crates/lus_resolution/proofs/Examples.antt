@@ -9,7 +9,7 @@ use Rattle.lus_meaning.specs.Named.{has_left}
 use Rattle.lus_meaning.specs.Tables.{scope}
 use Rattle.lus_meaning.specs.WellTyped.{equation_typed}
 use Rattle.lus_meaning.specs.Meaning.{meant, node_meant, program_of}
-use Rattle.lus_meaning.specs.Resolved.{kinds_given_in}
+use Rattle.lus_typing.specs.Resolved.{kinds_given_in}
 
 abbrev start : Place
 start = record { byte = 0; line = 1; column = 1 }

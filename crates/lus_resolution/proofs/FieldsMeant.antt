@@ -8,7 +8,7 @@ use Rattle.lus_program.specs.Programs.{Field}
 use Rattle.lus_meaning.specs.Meaning.{program_of}
 use Rattle.lus_meaning.specs.Refusals.{WellFormed}
 use Rattle.lus_meaning.specs.Sized.{DefinitionCounted, field_count}
-use Rattle.lus_meaning.specs.Sound.{HasFields, HaveFields}
+use Rattle.lus_typing.specs.Sound.{HasFields, HaveFields}
 use Rattle.lus_meaning.specs.Tables.{declared_as, fields_declared, kind_named}
 
 module _ (p : Tree) where

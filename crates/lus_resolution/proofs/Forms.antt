@@ -10,7 +10,7 @@ use Rattle.lus_syntax.specs.declared.tree.Infix.TheVariants as infixes
 use Rattle.lus_program.specs.Programs.{Expression, variable, literal, operate, call, Node, Program}
 use Rattle.lus_meaning.specs.declared.entries.Placed.{Placed}
 use Rattle.lus_meaning.specs.Meaning.{one, prefix_meant, infix_meant}
-use Rattle.lus_meaning.specs.Resolved.{kind_in, kinds_given_in}
+use Rattle.lus_typing.specs.Resolved.{kind_in, kinds_given_in}
 
 abbrev pub IsNoCall : Expression → Type 0
 IsNoCall (call g c es) = ⊥

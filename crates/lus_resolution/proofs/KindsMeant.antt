@@ -27,13 +27,14 @@ use Rattle.lus_program.specs.Programs.{Expression, variable, literal, operate, w
 use Rattle.lus_meaning.specs.declared.entries.Placed.{Placed}
 use Rattle.lus_meaning.specs.declared.entries.Constructor.{Constructor as EnumConstructor}
 use Rattle.lus_meaning.specs.Scopes.{Scope, entry}
-use Rattle.lus_meaning.specs.Types.{same, all_same, where_true, prefix_kind, infix_kind, choice_kind, bools_kind, variadic_kind, value_kind, call_kinds, the_one, common_kind, each_counted, each_once, are_arguments, field_named, fields_in, constructors_in, test_variable, truth_place, variable_kind, name_value, size_of, fields_of, label_place, asked_place, asked_of, test_placed, branch_place, branch_places, fields_asked, merge_kind, structure_kind, field_kind, outputs_of, kind_of, kinds_of}
+use Rattle.lus_typing.specs.Kinds.{same, all_same, where_true, choice_kind, bools_kind, value_kind, the_one, common_kind, fields_in, constructors_in}
+use Rattle.lus_meaning.specs.Types.{prefix_kind, infix_kind, variadic_kind, call_kinds, each_counted, each_once, are_arguments, field_named, test_variable, truth_place, variable_kind, name_value, size_of, fields_of, label_place, asked_place, asked_of, test_placed, branch_place, branch_places, fields_asked, merge_kind, structure_kind, field_kind, outputs_of, kind_of, kinds_of}
 use Rattle.lus_meaning.specs.WellTyped.{kinds_given}
 use Rattle.lus_meaning.specs.Meaning.{one, two, in_order, prefix_meant, infix_meant, variadic_meant, variable_place, no_test, test_meant, node_place, structure_meant, branches_meant, meant, all_meant}
-use Rattle.lus_meaning.specs.Resolved.{values_of, field_kinds, operator_kind, call_results, results, kind_of_variable, test_fits, merged, kind_in, kinds_in, kinds_given_in}
+use Rattle.lus_typing.specs.Resolved.{values_of, field_kinds, operator_kind, call_results, results, kind_of_variable, test_fits, merged, kind_in, kinds_in, kinds_given_in}
 use Rattle.lus_values.proofs.Equalities.{and_left, and_right, and_true}
-use Rattle.lus_resolution.proofs.Options.{and_then_gives, map_gives, where_true_gives, same_is, all_same_is, where_true_is, same_self, all_same_self}
-use Rattle.lus_resolution.proofs.Numbering.{paired, put}
+use Rattle.lus_typing.proofs.Options.{and_then_gives, map_gives, where_true_gives, same_is, all_same_is, where_true_is, same_self, all_same_self}
+use Rattle.lus_typing.proofs.Numbering.{paired, put}
 use Rattle.lus_resolution.proofs.Arranging.{kinds_from, kinds_from_are, order_kinds}
 use Rattle.lus_resolution.proofs.Agreeing.{Agrees, IsField, field_at, all_asked_at}
 use Rattle.lus_resolution.proofs.Forms.{IsNoCall, name_no_call, field_no_call, prefix_no_call, infix_no_call, one_given}

@@ -18,11 +18,12 @@ use Rattle.lus_program.specs.Programs.{Variable, Equation, Node, calls}
 use Rattle.lus_meaning.specs.declared.entries.Placed.{Placed}
 use Rattle.lus_meaning.specs.Scopes.{Scope, entry}
 use Rattle.lus_meaning.specs.Tables.{text_of, numbered_from, each_of, group_kinds, groups, kind_named, scope}
-use Rattle.lus_meaning.specs.Types.{count, variable_kind}
+use Rattle.lus_typing.specs.Kinds.{count}
+use Rattle.lus_meaning.specs.Types.{variable_kind}
 use Rattle.lus_meaning.specs.Named.{is_in, known, names_in, defined_names, left_names, NodeNamed}
 use Rattle.lus_meaning.specs.WellTyped.{left_kinds}
 use Rattle.lus_meaning.specs.Meaning.{variable_place, meant, equations_meant, node_meant, program_of}
-use Rattle.lus_meaning.specs.Resolved.{kind_of_variable, targets_of, IsDefined}
+use Rattle.lus_typing.specs.Resolved.{kind_of_variable, targets_of, IsDefined}
 use Rattle.lus_resolution.proofs.Scoped.{variable_kinds, variable_at, scope_agrees}
 use Rattle.lus_resolution.proofs.KindsMeant.{variable_is}
 use Rattle.lus_resolution.proofs.Texts.{same_text, text_self}

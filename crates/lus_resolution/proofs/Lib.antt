@@ -1,10 +1,6 @@
-pub mod Options
-pub mod KindsGiven
 pub mod Entries
-pub mod Calls
 pub mod CallsMeant
 pub mod Signatures
-pub mod Numbering
 pub mod Arranging
 pub mod Agreeing
 pub mod Forms
@@ -19,5 +15,4 @@ pub mod TypesMeant
 pub mod FieldsMeant
 pub mod Limited
 pub mod ProgramsMeant
-pub mod Typed
 mod Examples

@@ -11,9 +11,9 @@ use Rattle.lus_meaning.specs.Meaning.{node_meant, program_of, test_meant}
 use Rattle.lus_meaning.specs.Refusals.{WellFormed}
 use Rattle.lus_meaning.specs.Scopes.{Scope}
 use Rattle.lus_meaning.specs.Sized.{DefinitionCounted, variable_count}
-use Rattle.lus_meaning.specs.Sound.{IsLimited}
+use Rattle.lus_typing.specs.Sound.{IsLimited}
 use Rattle.lus_meaning.specs.Tables.{declared_as, groups, kind_named, scope, text_of}
-use Rattle.lus_meaning.specs.Types.{constructors_in}
+use Rattle.lus_typing.specs.Kinds.{constructors_in}
 
 constructors_few : (p : Tree) (d : Definition) → DefinitionCounted d → constructors_in (declared_as p d) ≤ most_constructors
 constructors_few p (Alias y) h = omega arith

@@ -20,9 +20,9 @@ use Rattle.lus_meaning.specs.Named.{known, has_left, NodeNamed}
 use Rattle.lus_meaning.specs.Refusals.{WellFormed}
 use Rattle.lus_meaning.specs.WellTyped.{kinds_given, left_kinds, are_given, equation_typed, test_typed, NodeTyped}
 use Rattle.lus_meaning.specs.Meaning.{variable_place, test_meant, no_test, meant, variables_of, equations_meant, node_meant, program_of}
-use Rattle.lus_meaning.specs.Resolved.{test_fits, VariableFits, EquationFits, AreNumbered, IsDefined, NodeResolved}
-use Rattle.lus_resolution.proofs.Options.{all_same_is}
-use Rattle.lus_resolution.proofs.Numbering.{calls-numbered, numbered-numbered, given-numbered}
+use Rattle.lus_typing.specs.Resolved.{test_fits, VariableFits, EquationFits, AreNumbered, IsDefined, NodeResolved}
+use Rattle.lus_typing.proofs.Options.{all_same_is}
+use Rattle.lus_typing.proofs.Numbering.{calls-numbered, numbered-numbered, given-numbered}
 use Rattle.lus_resolution.proofs.KindsMeant.{placed_fits, given_is}
 use Rattle.lus_resolution.proofs.Scoped.{formals_are, scope_agrees}
 use Rattle.lus_resolution.proofs.Lefts.{IsLeft, all_left, lefts_are, targets_within, is_defined}

@@ -18,9 +18,9 @@ use Rattle.lus_meaning.specs.declared.entries.Placed.{Placed}
 use Rattle.lus_meaning.specs.declared.entries.Constructor.{Constructor}
 use Rattle.lus_meaning.specs.Scopes.{Scope, Signature, entry}
 use Rattle.lus_meaning.specs.Tables.{numbered_from, each_of, group_kinds, groups, kind_named, declared_as, constructors_of, all_constructors, scope, text_of}
-use Rattle.lus_meaning.specs.Types.{nothing_declared, constructors_in}
+use Rattle.lus_typing.specs.Kinds.{nothing_declared, constructors_in}
 use Rattle.lus_meaning.specs.Meaning.{test_meant, variables_of, node_meant, program_of}
-use Rattle.lus_meaning.specs.Resolved.{input_kinds, output_kinds, kind_of_variable}
+use Rattle.lus_typing.specs.Resolved.{input_kinds, output_kinds, kind_of_variable}
 use Rattle.lus_resolution.proofs.Entries.{IsAt, entry_at}
 use Rattle.lus_resolution.proofs.Signatures.{IsSigned, signed}
 use Rattle.lus_resolution.proofs.Agreeing.{IsNode, Agrees}

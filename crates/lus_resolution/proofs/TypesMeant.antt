@@ -11,9 +11,10 @@ use Rattle.lus_program.specs.declared.types.Kind.{Kind}
 use Rattle.lus_program.specs.declared.types.Kind.TheVariants as kinds
 use Rattle.lus_program.specs.Programs.{Field}
 use Rattle.lus_meaning.specs.Loopless.{place_in, type_names, named_type, definition_uses, type_uses as tree_uses}
-use Rattle.lus_meaning.specs.Tables.{of_type, definition_at, no_definition, definition_kind, within, kind_named, fields_declared, declared_as}
+use Rattle.lus_graph.specs.Along.{within}
+use Rattle.lus_meaning.specs.Tables.{of_type, definition_at, no_definition, definition_kind, kind_named, fields_declared, declared_as}
 use Rattle.lus_meaning.specs.Meaning.{program_of}
-use Rattle.lus_meaning.specs.Sound.{structures_in, declared_uses, type_uses}
+use Rattle.lus_typing.specs.Sound.{structures_in, declared_uses, type_uses}
 
 -- ways
 

@@ -5,7 +5,7 @@ use Rattle.lus_values.proofs.Lists.{each_append}
 use Rattle.lus_program.specs.Programs.{Expression, literal, variable, operate, pre, arrow, when, merge, call, Operands, none, more, Program, node_at}
 use Rattle.lus_streams.specs.Clocks.{Clock, formal_clock, base_of, branch_clock, parts, all_parts}
 use Rattle.lus_streams.specs.Flags.{HasOutput}
-use Rattle.lus_resolution.proofs.Calls.{EachCall, EachCallIn}
+use Rattle.lus_typing.proofs.Calls.{EachCall, EachCallIn}
 
 module _ (p : Program) where
   abbrev pub HasSome : ℕ → Type 0

@@ -13,12 +13,12 @@ use Rattle.lus_streams.specs.Equations.{Definition, given_by, place_in, equation
 use Rattle.lus_streams.specs.Flags.{HasOutput, OutputIs, CallsHaveOutputs}
 use Rattle.lus_streams.proofs.Lists.{each_implies}
 use Rattle.lus_streams.proofs.Definitions.{place_within}
-use Rattle.lus_meaning.specs.Types.{all_same}
-use Rattle.lus_meaning.specs.Resolved.{input_kinds, output_kinds, call_results, results, kinds_given_in, EquationFits, NodeResolved}
+use Rattle.lus_typing.specs.Kinds.{all_same}
+use Rattle.lus_typing.specs.Resolved.{input_kinds, output_kinds, call_results, results, kinds_given_in, EquationFits, NodeResolved}
 use Rattle.lus_resolved_streams.specs.Laws.{ResolvedCallsHaveOutputs}
-use Rattle.lus_resolution.proofs.Options.{and_then_gives, where_true_gives}
-use Rattle.lus_resolution.proofs.Typed.{HasKind, HaveKinds, IsCall, HasGiven, operate_typed, both_typed, when_typed, merge_typed, call_typed, more_typed, whole_call, whole_typed, fits_given}
-use Rattle.lus_resolution.proofs.Calls.{EachCall, EachCallIn}
+use Rattle.lus_typing.proofs.Options.{and_then_gives, where_true_gives}
+use Rattle.lus_typing.proofs.TypedParts.{HasKind, HaveKinds, IsCall, HasGiven, operate_typed, both_typed, when_typed, merge_typed, call_typed, more_typed, whole_call, whole_typed, fits_given}
+use Rattle.lus_typing.proofs.Calls.{EachCall, EachCallIn}
 use Rattle.lus_resolved_streams.proofs.CallParts.{HasSome, parts_have}
 
 output_count : (f : Node) → f.inputs + f.outputs ≤ length f.variables → length (output_kinds f) ≡ f.outputs

@@ -11,10 +11,10 @@ use Rattle.lus_streams.specs.Clocks.{chain, clock_of}
 use Rattle.lus_streams.specs.Equations.{Definition, given_by, place_in, equation_clock, definition_in, definition_of}
 use Rattle.lus_streams.specs.Order.{needs, needs_all, clock_variables, needs_right, needed}
 use Rattle.lus_streams.proofs.Lists.{each_implies, each_item}
-use Rattle.lus_meaning.specs.Resolved.{values_of, kind_of_variable, test_fits, kinds_given_in, EquationFits, VariableFits, NodeResolved}
+use Rattle.lus_typing.specs.Resolved.{values_of, kind_of_variable, test_fits, kinds_given_in, EquationFits, VariableFits, NodeResolved}
 use Rattle.lus_resolved_streams.specs.Laws.{ResolvedNeedsAreVariables}
-use Rattle.lus_resolution.proofs.Options.{map_gives}
-use Rattle.lus_resolution.proofs.Typed.{HasKind, HaveKinds, operate_typed, both_typed, when_typed, merge_typed, call_typed, more_typed, whole_call, whole_typed, fits_given}
+use Rattle.lus_typing.proofs.Options.{map_gives}
+use Rattle.lus_typing.proofs.TypedParts.{HasKind, HaveKinds, operate_typed, both_typed, when_typed, merge_typed, call_typed, more_typed, whole_call, whole_typed, fits_given}
 
 module _ (p : Program) (f : Node) where
   abbrev Within : List ℕ → Type 0

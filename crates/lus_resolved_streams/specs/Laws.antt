@@ -4,7 +4,7 @@ use Rattle.lus_values.specs.Lists.{Each, Below}
 use Rattle.lus_program.specs.Programs.{Program}
 use Rattle.lus_streams.specs.Flags.{CallsHaveOutputs}
 use Rattle.lus_streams.specs.Order.{needed}
-use Rattle.lus_meaning.specs.Resolved.{Resolved}
+use Rattle.lus_typing.specs.Resolved.{Resolved}
 
 -- calls of a resolved program have outputs, one for each variable on their left
 abbrev pub ResolvedCallsHaveOutputs : Type 0

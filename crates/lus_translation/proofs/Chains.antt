@@ -11,7 +11,7 @@ use Rattle.lus_streams.proofs.Lists.{each_left, each_right, each_append}
 use Rattle.lus_classes.specs.Classes.{Memory, Argument, Call}
 use Rattle.lus_normal_form.specs.Laws.{IsChain}
 use Rattle.lus_normal_form.proofs.OneTest.{call_clock, chain_drop, clock_is_chain, renamed_is_chain}
-use Rattle.lus_translation.specs.Forms.{Turn, all_cells, all_firsts, arguments_form, call_first, call_form, calls_form, cells_at, equation_cells, equation_firsts, firsts_at, given_cells, given_firsts, turn_cells, turn_firsts, kept_cells, all_kept_cells, kept_firsts, all_kept_firsts}
+use Rattle.lus_translation.specs.Forms.{Turn, all_cells, all_firsts, arguments_form, call_first, call_form, calls_form, cells_at, equation_cells, equation_firsts, firsts_at, given_cells, given_firsts, turn_cells, turn_firsts, kept_cells, all_kept_cells, kept_firsts, all_kept_firsts, one_clock}
 use Rattle.lus_translation.specs.Laws.{IsFittingCall, IsFittingRight}
 
 module _ (f : Node) where
@@ -40,7 +40,7 @@ module _ (p : Program) (f : Node) where
   mutual
     kept_chained : (n : ℕ) (e : Expression) (k : Clock) → IsChain f k → Each OnClock (parts p (numbered n e) k) → Each (Chained f) (kept_cells e k) × Each (IsChain f) (kept_firsts e k)
     kept_chained n (literal v) k h o = (tt, tt)
-    kept_chained n (operate op es) k h o = all_kept_chained n es (λ m. k) 0 (λ m. h) o.1
+    kept_chained n (operate op es) k h o = all_kept_chained n es (one_clock k) 0 (λ m. h) o.1
     kept_chained n (pre a) k h o = ((h, tt), tt)
     kept_chained n (arrow a b) k h o =
         let first = kept_chained n a k h (each_left OnClock (parts p (numbered n a) k) (parts p (numbered (n + calls a) b) k) o.1) in

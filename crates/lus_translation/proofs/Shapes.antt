@@ -16,7 +16,7 @@ use Rattle.lus_classes.specs.ClassesOf.{AtomOn}
 use Rattle.lus_normal_form.specs.NormalForm.{IsAtom, IsSimple, AreSimple}
 use Rattle.lus_normal_form.specs.Ready.{Declared}
 use Rattle.lus_normal_form.proofs.HaveFormals.{tested}
-use Rattle.lus_translation.specs.Forms.{Turn, all_cells, all_clocks, cells_at, class_form, equation_cells, given_cells, turn_cells, kept_cells, all_kept_cells, numbers_form}
+use Rattle.lus_translation.specs.Forms.{Turn, all_cells, all_clocks, cells_at, class_form, equation_cells, given_cells, turn_cells, kept_cells, all_kept_cells, numbers_form, one_clock}
 use Rattle.lus_translation.specs.Laws.{IsFittingRight, ClassesHaveShape}
 use Rattle.lus_translation.proofs.Codes.{On, Used, atom_on}
 use Rattle.lus_translation.proofs.FittingCalls.{all_calls_belong, ready_rights_fit}
@@ -77,7 +77,7 @@ module _ (p : Program) (f : Node) (c : Class) where
     cells_kept : (e : Expression) (k : Clock) → IsSimple e → Each (On p f c) (parts p e k) → Each (Used p f c) (parts p e k) → Each IsKept (kept_cells e k)
     cells_kept (literal v) k s o u = tt
     cells_kept (variable x) k s o u = tt
-    cells_kept (operate op es) k s o u = all_cells_kept es (λ m. k) 0 s o.1 u.1
+    cells_kept (operate op es) k s o u = all_cells_kept es (one_clock k) 0 s o.1 u.1
     cells_kept (pre a) k s o u = (atom_on p f c a k s o.1 u.1, tt)
     cells_kept (arrow a b) k s o u =
         each_append IsKept (kept_cells a k) (kept_cells b k)

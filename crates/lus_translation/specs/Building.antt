@@ -16,7 +16,7 @@ use Rattle.lus_flat_classes.specs.View.{code_of, steps_of}
 use Rattle.lus_translation.specs.declared.kept.Kept.{Kept}
 use Rattle.lus_translation.specs.declared.steps.Built.{Built}
 use Rattle.lus_translation.specs.declared.turn.Turn.{Turn as StoredTurn}
-use Rattle.lus_translation.specs.Forms.{all_cells, all_firsts, all_steps, arguments_form, call_first, calls_form, cells_at, class_form, code_form, codes_form, equation_steps, firsts_at, given_steps, numbers_form, steps_at, turn_steps}
+use Rattle.lus_translation.specs.Forms.{all_cells, all_firsts, all_steps, arguments_form, call_first, calls_form, cells_at, class_form, code_form, codes_form, equation_steps, firsts_at, given_steps, numbers_form, steps_at, turn_steps, one_clock}
 use Rattle.lus_translation.specs.Newest.{call_seen, cell_seen, newest, tested_call, tested_memory}
 use Rattle.lus_translation.specs.View.{turn_of}
 
@@ -39,7 +39,7 @@ abbrev pub IsCodeFrom : Kept → Expression → Clock → Formula → Type 0
 IsCodeFrom kept e k d = code_of d ≡ code_form (next_cell kept) (next_first kept) e k
 
 abbrev pub AreCodesFrom : Kept → Operands → Clock → List Formula → Type 0
-AreCodesFrom kept es k ds = map code_of ds ≡ codes_form (next_cell kept) (next_first kept) es (λ m. k) 0
+AreCodesFrom kept es k ds = map code_of ds ≡ codes_form (next_cell kept) (next_first kept) es (one_clock k) 0
 
 abbrev pub AreBranchesFrom : Kept → Operands → (variable : ℕ) → Clock → List Formula → Type 0
 AreBranchesFrom kept es x k ds = map code_of ds ≡ codes_form (next_cell kept) (next_first kept) es (branch_clock x k) 0

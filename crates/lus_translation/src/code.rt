@@ -3,7 +3,7 @@
 ghost use Rattle.std.specs.Prelude.{◌≡◌, ◌∷◌, [], IfOk, OnOk};
 ghost use Rattle.lus_program.specs.View.{expression_of, operands_of};
 ghost use Rattle.lus_streams.specs.Clocks.{branch_clock};
-ghost use Rattle.lus_translation.specs.Forms.{cell_for, kept_cells, all_kept_cells, kept_firsts, all_kept_firsts};
+ghost use Rattle.lus_translation.specs.Forms.{cell_for, kept_cells, all_kept_cells, kept_firsts, all_kept_firsts, one_clock};
 ghost use Rattle.lus_translation.specs.Building.{next_cell, next_first, KeepsCells, KeepsFirsts, IsCodeFrom, AreCodesFrom, AreBranchesFrom};
 
 use crate::atom::{atom_of, formula_of_atom};
@@ -78,8 +78,8 @@ fn codes_of(
     kept: &mut Kept,
 ) -> Result<Vec<Formula>, Memory>
     ensures code { IfOk result (λ ds. AreCodesFrom kept.old (operands_of operands.now) clock.now ds.items) }
-    ensures cells { OnOk result (KeepsCells kept.old kept.new (all_kept_cells (operands_of operands.now) (λ m. clock.now) 0)) }
-    ensures firsts { OnOk result (KeepsFirsts kept.old kept.new (all_kept_firsts (operands_of operands.now) (λ m. clock.now) 0)) }
+    ensures cells { OnOk result (KeepsCells kept.old kept.new (all_kept_cells (operands_of operands.now) (one_clock clock.now) 0)) }
+    ensures firsts { OnOk result (KeepsFirsts kept.old kept.new (all_kept_firsts (operands_of operands.now) (one_clock clock.now) 0)) }
 {
     let mut codes = Vec::with_capacity(alloc, operands.len())?;
     for operand in operands {

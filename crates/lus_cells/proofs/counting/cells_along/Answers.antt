@@ -4,7 +4,7 @@ use Rattle.std.proofs.lemmas.List.Elements.{All-set}
 use Rattle.lus_program.specs.View.{expression_of, node_of, program_seen}
 use Rattle.lus_syntax.specs.Limits.{most_cells}
 use Rattle.lus_syntax.specs.declared.refusal.RefusalNumber.TheVariants as numbers
-use Rattle.lus_meaning.specs.Refusals.{RefusesFor}
+use Rattle.lus_typing.specs.Refusals.{RefusesFor}
 use Rattle.lus_cells.specs.Cells.{FitsCells, NamesTooMany}
 use Rattle.lus_cells.specs.Given.{counted}
 use Rattle.lus_cells.proofs.CellsAlong.{cells_whole}

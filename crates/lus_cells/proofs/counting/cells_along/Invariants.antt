@@ -3,7 +3,7 @@ use Rattle.lus_values.specs.Lists.{item}
 use Rattle.lus_syntax.specs.Limits.{most_cells}
 use Rattle.lus_program.specs.View.{program_seen}
 use Rattle.lus_cells.specs.Cells.{AreCells}
-use Rattle.lus_meaning.proofs.AlongOrders.{IsFilled}
+use Rattle.lus_graph.proofs.AlongOrders.{IsFilled}
 use Rattle.lus_cells.proofs.counting.cells_along.Given as goal
 
 abbrev pub invariant-loop-place : goal.invariant-loop-place

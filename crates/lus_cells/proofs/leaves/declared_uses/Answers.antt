@@ -2,7 +2,7 @@ use Rattle.std.proofs.Common.{◌∙◌, ap, sym, flat_map}
 use Rattle.std.proofs.lemmas.List.{take_all}
 use Rattle.std.proofs.lemmas.List.Folds.{flat_map-map}
 use Rattle.lus_program.specs.View.{declared_of, field_of}
-use Rattle.lus_meaning.specs.Sound.{declared_uses, structures_in}
+use Rattle.lus_typing.specs.Sound.{declared_uses, structures_in}
 use Rattle.lus_cells.proofs.leaves.declared_uses.Goals as goal
 
 pub returns-after-loop-field : goal.returns-after-loop-field

@@ -1,5 +1,5 @@
 use Rattle.std.proofs.Common.{◌≡◌, take, flat_map}
-use Rattle.lus_meaning.specs.Sound.{structures_in}
+use Rattle.lus_typing.specs.Sound.{structures_in}
 use Rattle.lus_cells.proofs.leaves.declared_uses.Given as goal
 
 abbrev pub invariant-loop-field : goal.invariant-loop-field

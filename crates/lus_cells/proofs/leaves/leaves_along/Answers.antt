@@ -4,9 +4,9 @@ use Rattle.std.proofs.lemmas.List.{length-map}
 use Rattle.lus_values.specs.Lists.{item}
 use Rattle.lus_values.proofs.Lists.{each_at}
 use Rattle.lus_program.specs.View.{declared_of, program_seen}
-use Rattle.lus_meaning.specs.Resolved.{declared_in}
-use Rattle.lus_meaning.specs.Types.{nothing_declared}
-use Rattle.lus_meaning.specs.Sound.{HasFields}
+use Rattle.lus_typing.specs.Resolved.{declared_in}
+use Rattle.lus_typing.specs.Kinds.{nothing_declared}
+use Rattle.lus_typing.specs.Sound.{HasFields}
 use Rattle.lus_cells.specs.Cells.{declared_leaves}
 use Rattle.lus_cells.proofs.Positive.{count_positive, more_positive}
 use Rattle.lus_cells.proofs.LeavesAlong.{declared_at, leaves_more, leaves_whole, type_fits}

@@ -1,10 +1,10 @@
 use Rattle.std.proofs.Common.{◌≡◌, ℕ, length, take}
 use Rattle.std.specs.Prelude.{min}
 use Rattle.lus_program.specs.View.{program_seen}
-use Rattle.lus_meaning.specs.Sound.{HaveFields}
+use Rattle.lus_typing.specs.Sound.{HaveFields}
 use Rattle.lus_cells.specs.Cells.{AreLeaves}
 use Rattle.lus_cells.specs.Uses.{ArePositive}
-use Rattle.lus_meaning.proofs.AlongOrders.{IsFilled}
+use Rattle.lus_graph.proofs.AlongOrders.{IsFilled}
 use Rattle.lus_cells.proofs.leaves.leaves_along.Given as goal
 
 abbrev pub invariant-loop-place : goal.invariant-loop-place

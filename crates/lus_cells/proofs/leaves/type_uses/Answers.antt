@@ -2,7 +2,7 @@ use Rattle.std.proofs.Common.{◌∙◌, ap, sym, map}
 use Rattle.std.proofs.lemmas.List.{take_all}
 use Rattle.std.proofs.lemmas.Simd.{map-map}
 use Rattle.lus_program.specs.View.{declared_of}
-use Rattle.lus_meaning.specs.Sound.{declared_uses}
+use Rattle.lus_typing.specs.Sound.{declared_uses}
 use Rattle.lus_cells.proofs.leaves.type_uses.Goals as goal
 
 pub returns : goal.returns

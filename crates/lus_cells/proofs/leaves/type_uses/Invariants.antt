@@ -1,7 +1,7 @@
 use Rattle.std.proofs.Common.{◌≡◌, take, map}
 use Rattle.lus_graph.specs.Walks.{uses_of}
 use Rattle.lus_program.specs.View.{declared_of}
-use Rattle.lus_meaning.specs.Sound.{declared_uses}
+use Rattle.lus_typing.specs.Sound.{declared_uses}
 use Rattle.lus_cells.proofs.leaves.type_uses.Given as goal
 
 abbrev pub invariant-loop-declared : goal.invariant-loop-declared

@@ -1,7 +1,7 @@
 use Rattle.std.proofs.Common.{◌∙◌, ap, sym, flat_map}
 use Rattle.std.proofs.lemmas.List.{take_all}
 use Rattle.lus_program.specs.View.{expression_of}
-use Rattle.lus_meaning.specs.Resolved.{nodes_called}
+use Rattle.lus_typing.specs.Resolved.{nodes_called}
 use Rattle.lus_cells.proofs.Numbering.{called_stored}
 use Rattle.lus_cells.proofs.orders.node_calls.Goals as goal
 

@@ -1,6 +1,6 @@
 use Rattle.std.proofs.Common.{◌≡◌, ℕ, ◌+◌, ◌<◌, ◌≤◌, length}
 use Rattle.lus_program.specs.View.{operands_of}
-use Rattle.lus_meaning.specs.Types.{count}
+use Rattle.lus_typing.specs.Kinds.{count}
 use Rattle.lus_meaning.specs.Meaning.{beside, in_order}
 use Rattle.lus_elaboration.proofs.arrangement.arranged.Given as goal
 

@@ -1,5 +1,5 @@
 use Rattle.std.proofs.Common.{◌≡◌, drop, map}
-use Rattle.lus_meaning.specs.Types.{all_same}
+use Rattle.lus_typing.specs.Kinds.{all_same}
 use Rattle.lus_elaboration.proofs.parts.all_fit.Given as goal
 
 abbrev pub invariant-loop-field : goal.invariant-loop-field

@@ -1,8 +1,8 @@
-use Rattle.std.proofs.Common.{◌≡◌, ℕ, ◌++◌, map, drop, length}
+use Rattle.std.proofs.Common.{◌≡◌, ◌++◌, map, drop, length}
 use Rattle.lus_program.specs.View.{operands_of}
 use Rattle.lus_flat_classes.specs.View.{code_of as code_in}
 use Rattle.lus_streams.specs.Clocks.{branch_clock}
-use Rattle.lus_translation.specs.Forms.{codes_form, all_kept_cells, all_kept_firsts}
+use Rattle.lus_translation.specs.Forms.{codes_form, all_kept_cells, all_kept_firsts, one_clock}
 use Rattle.lus_translation.specs.Newest.{cell_seen, newest, tested_memory}
 use Rattle.lus_translation.proofs.code.+codes.Given as goal
 
@@ -14,7 +14,7 @@ invariant-codes_of-loop-operand l =
     let firsts = l.kept.firsts.items in
     let cells_first = map cell_seen l.initial.kept.cells.items in
     let firsts_first = l.initial.kept.firsts.items in
-    let ks = λ (m : ℕ). l.clock in
+    let ks = one_clock l.clock in
     record {
       code : map code_in l.codes.items ++ codes_form (length cells) (length firsts) rest ks l.operand-index ≡ codes_form (length cells_first) (length firsts_first) whole ks 0;
       cells : cells ++ map tested_memory (all_kept_cells rest ks l.operand-index) ≡ cells_first ++ map tested_memory (all_kept_cells whole ks 0);

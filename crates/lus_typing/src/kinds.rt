@@ -5,9 +5,9 @@ ghost use Rattle.lus_values.specs.Lists.{item};
 ghost use Rattle.lus_values.specs.View.{value_of};
 ghost use Rattle.lus_program.specs.declared.types.Kind.TheVariants.{Bool as OfBool};
 ghost use Rattle.lus_program.specs.View.{field_of, node_of, program_seen};
-ghost use Rattle.lus_meaning.specs.Types.{fields_in, value_kind as kind_of_value};
-ghost use Rattle.lus_meaning.specs.Resolved.{declared_in, field_kinds, operation_kind};
-ghost use Rattle.lus_meaning.specs.Given.{operator_given, output_given, variable_given};
+ghost use Rattle.lus_typing.specs.Kinds.{fields_in, value_kind as kind_of_value};
+ghost use Rattle.lus_typing.specs.Resolved.{declared_in, field_kinds, operation_kind};
+ghost use Rattle.lus_typing.specs.Given.{operator_given, output_given, variable_given};
 
 use lus_program::{Declared, Field, Kind, Node, Program};
 use lus_values::{Op, Operator, Value};

@@ -3,14 +3,13 @@
 ghost use Rattle.std.specs.Prelude.{◌≡◌};
 ghost use Rattle.lus_graph.specs.Ways.{HasNoWayBack};
 ghost use Rattle.lus_program.specs.View.{program_seen};
-ghost use Rattle.lus_meaning.specs.Resolved.{Resolved};
-ghost use Rattle.lus_meaning.specs.Sound.{HaveFields, IsLimited, IsSound, type_uses};
+ghost use Rattle.lus_typing.specs.Resolved.{Resolved};
+ghost use Rattle.lus_typing.specs.Sound.{HaveFields, IsLimited, IsSound, type_uses};
 
 use lus_program::Program;
 use std::marker::Model;
 
 /// A program that keeps the rules of names, recursion, limits and types. Contracts see it as that program.
-#[derive(Drop)]
 pub struct Typed {
     program: Program,
 }
@@ -20,7 +19,7 @@ impl Model for Typed {
     ghost use Rattle.lus_program.specs.contracts.expr.Expr as program_expr;
     ghost use Rattle.lus_program.specs.declared.node.Program.{Program as StoredProgram};
     ghost use Rattle.lus_program.specs.View.{program_seen};
-    ghost use Rattle.lus_meaning.specs.Sound.{IsSound};
+    ghost use Rattle.lus_typing.specs.Sound.{IsSound};
 
     ghost Value = { StoredProgram };
 
@@ -49,5 +48,12 @@ impl Typed {
         ensures limited { IsLimited (program_seen result.now) }
     {
         &self.program
+    }
+}
+
+// By hand, so that crates above call it: what a derive drops is proved again in each of them.
+impl Drop for Typed {
+    fn drop(self) {
+        let Typed { program: _ } = self;
     }
 }

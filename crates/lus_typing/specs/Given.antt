@@ -6,8 +6,8 @@ use Rattle.lus_values.specs.Lists.{item}
 use Rattle.lus_program.specs.declared.types.Kind.{Kind}
 use Rattle.lus_program.specs.declared.types.Kind.TheVariants as kinds
 use Rattle.lus_program.specs.Programs.{Expression, literal, variable, operate, pre, arrow, when, merge, call, Operands, none, more, Node, Program, no_variable, node_at}
-use Rattle.lus_meaning.specs.Types.{value_kind}
-use Rattle.lus_meaning.specs.Resolved.{field_kinds, operation_kind}
+use Rattle.lus_typing.specs.Kinds.{value_kind}
+use Rattle.lus_typing.specs.Resolved.{field_kinds, operation_kind}
 
 abbrev pub variable_given : Node → ℕ → Kind
 variable_given f x = (item no_variable f.variables x).kind

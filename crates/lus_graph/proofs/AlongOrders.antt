@@ -7,7 +7,7 @@ use Rattle.std.proofs.Math.Seq.{take-suc}
 use Rattle.lus_values.specs.Lists.{item}
 use Rattle.lus_graph.specs.Ways.{Uses, used, IsOrdered, empty, next, IsOrder}
 use Rattle.lus_graph.proofs.Steps.{last_item, more_length, no_item, one_item}
-use Rattle.lus_meaning.specs.Tables.{within}
+use Rattle.lus_graph.specs.Along.{within}
 
 -- what a thing has comes from what the things have that it uses
 abbrev pub IsLocal : {X : Type 0} → Uses → ((ℕ → X) → ℕ → X) → Type 0

@@ -7,9 +7,9 @@ use Rattle.lus_values.specs.declared.operator.Operator.{Operator}
 use Rattle.lus_program.specs.declared.expr.Test.{Test}
 use Rattle.lus_program.specs.declared.types.Kind.{Kind}
 use Rattle.lus_program.specs.Programs.{Expression, variable, operate, arrow, when, merge, call, Operands, more, Equation, Node, Program}
-use Rattle.lus_meaning.specs.Types.{where_true, alike, the_one}
-use Rattle.lus_meaning.specs.Resolved.{operator_kind, results, kind_of_variable, test_fits, merged, kind_in, kinds_in, kinds_given_in, EquationFits}
-use Rattle.lus_resolution.proofs.Options.{and_then_gives, map_gives, where_true_gives}
+use Rattle.lus_typing.specs.Kinds.{where_true, alike, the_one}
+use Rattle.lus_typing.specs.Resolved.{operator_kind, results, kind_of_variable, test_fits, merged, kind_in, kinds_in, kinds_given_in, EquationFits}
+use Rattle.lus_typing.proofs.Options.{and_then_gives, map_gives, where_true_gives}
 
 one_some : (ks : List Kind) (k : Kind) → the_one ks ≡ Some k → 0 < length ks
 one_some [] k e = cc

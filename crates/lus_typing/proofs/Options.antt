@@ -5,7 +5,7 @@ use Rattle.std.specs.Prelude.{option_map}
 use Rattle.std.specs.Option.{option_and_then}
 use Rattle.lus_program.specs.declared.types.Kind.{Kind}
 use Rattle.lus_program.specs.declared.types.Kind.TheVariants as kinds
-use Rattle.lus_meaning.specs.Types.{same, all_same, where_true}
+use Rattle.lus_typing.specs.Kinds.{same, all_same, where_true}
 use Rattle.lus_values.proofs.Equalities.{and_left, and_right, and_true}
 
 pub and_then_gives : {X Y : Type 0} (f : X → Option Y) (o : Option X) (y : Y) → option_and_then f o ≡ Some y → (x : X) × (o ≡ Some x) × (f x ≡ Some y)

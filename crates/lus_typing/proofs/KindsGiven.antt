@@ -13,10 +13,10 @@ use Rattle.lus_program.specs.declared.types.Kind.{Kind}
 use Rattle.lus_program.specs.declared.types.Kind.TheVariants as kinds
 use Rattle.lus_program.specs.Programs.{Expression, literal, variable, operate, pre, arrow, when, merge, call, Operands, none, more, Node, Program, Variable, no_variable, empty_node, node_at}
 use Rattle.lus_values.proofs.Equalities.{and_left, and_right}
-use Rattle.lus_meaning.specs.Types.{same, all_same, where_true, alike, both, bools_kind, compared, common_kind, the_one}
-use Rattle.lus_meaning.specs.Resolved.{only, of_two, op_kind, operation_kind, if_kind, operator_kind, projected, field_kinds, input_kinds, output_kinds, call_results, results, kind_of_variable, test_fits, merged, kind_in, kinds_in}
-use Rattle.lus_resolution.proofs.Options.{and_then_gives, map_gives, where_true_gives, same_is}
-use Rattle.lus_meaning.specs.Given.{variable_given, output_given, operator_given, given, last_given}
+use Rattle.lus_typing.specs.Kinds.{same, all_same, where_true, alike, both, bools_kind, compared, common_kind, the_one}
+use Rattle.lus_typing.specs.Resolved.{only, of_two, op_kind, operation_kind, if_kind, operator_kind, projected, field_kinds, input_kinds, output_kinds, call_results, results, kind_of_variable, test_fits, merged, kind_in, kinds_in}
+use Rattle.lus_typing.proofs.Options.{and_then_gives, map_gives, where_true_gives, same_is}
+use Rattle.lus_typing.specs.Given.{variable_given, output_given, operator_given, given, last_given}
 
 some_same : {X : Type 0} {x y : X} → Some x ≡ Some y → x ≡ y
 some_same e = cc

@@ -1,6 +1,6 @@
 use Rattle.std.proofs.Common.{arith}
-use Rattle.lus_meaning.proofs.Fields.{field_found}
-use Rattle.lus_meaning.proofs.kinds.field_kind.Goals as goal
+use Rattle.lus_typing.proofs.Fields.{field_found}
+use Rattle.lus_typing.proofs.kinds.field_kind.Goals as goal
 
 pub returns-in-Some : goal.returns-in-Some
 returns-in-Some c =

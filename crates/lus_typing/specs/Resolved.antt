@@ -13,7 +13,7 @@ use Rattle.lus_program.specs.declared.types.Kind.TheVariants as kinds
 use Rattle.lus_program.specs.Programs.{Expression, literal, variable, operate, pre, arrow, when, merge, call, Operands, none, more, calls, numbered, Declared, Variable, Equation, Node, Program}
 use Rattle.lus_program.specs.Parts.{program_parts}
 use Rattle.lus_graph.specs.Ways.{Uses, HasNoWayBack}
-use Rattle.lus_meaning.specs.Types.{same, all_same, where_true, alike, both, compared, choice_kind, value_kind, the_one, common_kind, bools_kind, count, fields_in, constructors_in, nothing_declared}
+use Rattle.lus_typing.specs.Kinds.{same, all_same, where_true, alike, both, compared, choice_kind, value_kind, the_one, common_kind, bools_kind, count, fields_in, constructors_in, nothing_declared}
 
 abbrev pub only : Kind → Kind → List Kind → Option Kind
 only operand result (k ∷ []) = where_true (same operand k) (Some result)

@@ -7,8 +7,8 @@ use Rattle.lus_syntax.specs.Limits.{most_declarations, most_variables, most_cons
 use Rattle.lus_program.specs.declared.types.Kind.{Kind}
 use Rattle.lus_program.specs.declared.types.Kind.TheVariants as kinds
 use Rattle.lus_program.specs.Programs.{Declared, alias, enumeration, structure, Program}
-use Rattle.lus_meaning.specs.Types.{constructors_in}
-use Rattle.lus_meaning.specs.Resolved.{Resolved}
+use Rattle.lus_typing.specs.Kinds.{constructors_in}
+use Rattle.lus_typing.specs.Resolved.{Resolved}
 
 -- the structure that a type is, if it is one
 abbrev pub structures_in : Kind → List ℕ

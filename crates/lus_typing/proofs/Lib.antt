@@ -1,0 +1,6 @@
+pub mod Options
+pub mod TypedParts
+pub mod Calls
+pub mod KindsGiven
+pub mod Numbering
+pub mod Fields

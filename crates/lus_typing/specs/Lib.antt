@@ -1,0 +1,5 @@
+pub mod Kinds
+pub mod Resolved
+pub mod Given
+pub mod Sound
+pub mod Refusals
