@@ -11,7 +11,7 @@ syntax keyword lusTruth true false
 syntax keyword lusMemory pre fby
 syntax keyword lusClock when merge
 syntax keyword lusChoice if then else
-syntax keyword lusWordOperator not and or xor nor div mod
+syntax keyword lusWordOperator not nor or xor and div mod
 syntax keyword lusLeftOut real current assert extern unsafe condact package model with include operator
 syntax match lusSymbol /<>\|<=\|>=\|->\|=>\|=\|<\|>\|+\|-\|\*\|\/\|#/
 syntax match lusNumber /\<[0-9]\+/
