@@ -1,7 +1,7 @@
-//! What clauses can't show of commands over devices that fail: their status, and what is written. How they end over files is in `rows/`.
+//! What clauses can't show of commands over devices that give and take a byte at a time and fail: their status, and what is written.
+//! How commands end over files is in `rows/`.
 
-ghost use Rattle.std.specs.Prelude.{None, Some, option_map};
-ghost use Rattle.lus_host_tests.specs.Files.{file_of};
+ghost use Rattle.std.specs.Prelude.{None};
 
 use lus_cli::command;
 use lus_devices::{Failure, Folder, Sink, Source};
@@ -16,15 +16,24 @@ const SCRIPTS: &str =
 
 const JOURNAL: &str = "instance k m\n1 a step(2, 3) -> (7)\n2 a step(-4, 5) -> (-19)\nentries 2\n";
 
-/// A file in memory, until no more reads are left that succeed.
+const ACCEPTED: &str = "accepted 1\n";
+
+const CHECK: &[&str] = &["--check", "m.lus"];
+
+const RUN: &[&str] = &["m.lus", "m.json"];
+
+/// More reads or writes than any test makes.
+const AMPLE: usize = 1000;
+
+/// Gives a byte a read, until no more reads are left that succeed.
 #[derive(Drop)]
-struct Text<'a> {
-    bytes: &'a [u8],
+struct Slow {
+    bytes: &'static [u8],
     reads: usize,
 }
 
-impl Source for Text<'_> {
-    ghost left = { λ text. Some text.bytes.now };
+impl Source for Slow {
+    ghost left = { λ _. None };
 
     ghost failures = { λ _. None };
 
@@ -33,50 +42,28 @@ impl Source for Text<'_> {
             return Err(Failure);
         }
         self.reads -= 1;
-        self.bytes.read(buffer)
-    }
-}
-
-/// A folder with a program `m.lus` and scripts `m.json`, where they are there. So many reads of each succeed.
-#[derive(Clone, Copy)]
-struct Texts<'a> {
-    program: Option<&'a [u8]>,
-    scripts: Option<&'a [u8]>,
-    reads: usize,
-}
-
-impl<'a> Folder for Texts<'a> {
-    type File = Text<'a>;
-
-    ghost known = { λ texts name. file_of (option_map (λ t. t.now) texts.program) (option_map (λ t. t.now) texts.scripts) name };
-
-    fn open(&self, name: &str) -> Result<Text<'a>, Failure> {
-        let text = if name == "m.lus" {
-            self.program
-        } else if name == "m.json" {
-            self.scripts
-        } else {
-            None
+        let [first, later @ ..] = self.bytes else {
+            return Ok(0);
         };
-        match text {
-            Some(bytes) => Ok(Text {
-                bytes,
-                reads: self.reads,
-            }),
-            None => Err(Failure),
+        if buffer.is_empty() {
+            return Ok(0);
         }
+        buffer[0] = *first;
+        self.bytes = later;
+        Ok(1)
     }
 }
 
-/// Takes a byte a write, until no more writes are left that succeed.
+/// Takes a byte a write, until no more writes are left that succeed. Then it answers a failure, or takes none.
 #[derive(Drop)]
 struct Narrow {
     bytes: Vec<u8>,
     writes: usize,
+    is_silent: bool,
 }
 
 impl Sink for Narrow {
-    ghost written = { λ sink. Some sink.bytes.items };
+    ghost written = { λ _. None };
 
     ghost failures = { λ _. None };
 
@@ -84,97 +71,99 @@ impl Sink for Narrow {
         let [first, ..] = piece else {
             return Ok(0);
         };
-        if self.writes == 0 {
-            return Err(Failure);
+        if self.writes == 0 || self.bytes.push(*first).is_err() {
+            return if self.is_silent { Ok(0) } else { Err(Failure) };
         }
         self.writes -= 1;
-        match self.bytes.push(*first) {
-            Ok(()) => Ok(1),
-            Err(_) => Err(Failure),
-        }
+        Ok(1)
     }
 }
 
-const CHECK: &[&str] = &["--check", "m.lus"];
-
-const RUN: &[&str] = &["m.lus", "m.json"];
-
-/// A folder, and how many writes of the output and of the line of a fault succeed.
+/// A folder with a program `m.lus` and scripts `m.json`, or with no file; how many reads of each and writes of the output and of the
+/// line of a fault succeed; and whether a write that fails takes none in place of a failure.
 #[derive(Clone, Copy)]
-struct Setting<'a> {
-    program: Option<&'a str>,
-    scripts: Option<&'a str>,
-    reads: usize,
-    writes: usize,
-    lines: usize,
+struct Setting {
+    is_empty: bool,
+    program: usize,
+    scripts: usize,
+    output: usize,
+    line: usize,
+    is_silent: bool,
 }
 
-/// Each file is read at once and then is at its end.
-fn ample<'a>(program: Option<&'a str>, scripts: Option<&'a str>) -> Setting<'a> {
-    Setting {
-        program,
-        scripts,
-        reads: 2,
-        writes: 100,
-        lines: 100,
+impl Folder for Setting {
+    type File = Slow;
+
+    ghost known = { λ _ _. None };
+
+    fn open(&self, name: &str) -> Result<Slow, Failure> {
+        let (text, reads) = if name == "m.lus" {
+            (PROGRAM, self.program)
+        } else {
+            (SCRIPTS, self.scripts)
+        };
+        if self.is_empty {
+            return Err(Failure);
+        }
+        Ok(Slow {
+            bytes: text.as_bytes(),
+            reads,
+        })
     }
 }
 
-/// What a command answers and writes.
-#[derive(Drop)]
-struct End {
-    status: u8,
-    output: Vec<u8>,
-    line: Vec<u8>,
-}
+/// Nothing fails.
+const WHOLE: Setting = Setting {
+    is_empty: false,
+    program: AMPLE,
+    scripts: AMPLE,
+    output: AMPLE,
+    line: AMPLE,
+    is_silent: false,
+};
 
-fn ended<R: AllocGlobal + Threads + Wait + Sync>(
+/// Whether a command ends with this status, having written this output and this line of a fault.
+fn ends<R: AllocGlobal + Threads + Wait + Sync>(
     rt: &R,
     words: &[&str],
-    setting: &Setting<'_>,
-) -> Result<End, Fail> {
+    setting: Setting,
+    status: u8,
+    output: &[u8],
+    line: &[u8],
+) -> Result<bool, Fail> {
     let alloc = rt.alloc();
-    let folder = Texts {
-        program: setting.program.map(|text| text.as_bytes()),
-        scripts: setting.scripts.map(|text| text.as_bytes()),
-        reads: setting.reads,
-    };
     let mut owned = Vec::new(alloc);
     for word in words {
         owned.push(String::from_str(alloc, word)?)?;
     }
-    let mut output = Narrow {
+    let mut written = Narrow {
         bytes: Vec::new(alloc),
-        writes: setting.writes,
+        writes: setting.output,
+        is_silent: setting.is_silent,
     };
-    let mut faults = Narrow {
+    let mut told = Narrow {
         bytes: Vec::new(alloc),
-        writes: setting.lines,
+        writes: setting.line,
+        is_silent: setting.is_silent,
     };
-    let status = command(rt, &folder, &owned, &mut output, &mut faults);
-    Ok(End {
-        status,
-        output: output.bytes,
-        line: faults.bytes,
-    })
+    let ended = command(rt, &setting, &owned, &mut written, &mut told);
+    Ok(ended == status && written.bytes.as_slice() == output && told.bytes.as_slice() == line)
 }
 
 #[test]
 fn a_failed_output_leaves_a_beginning(rt: HostRuntime) -> Result<(), Fail> {
-    for (words, text) in [(CHECK, "accepted 1\n"), (RUN, JOURNAL)] {
-        let text = text.as_bytes();
-        for writes in 0..text.len() {
-            let end = ended(
-                &rt,
-                words,
-                &Setting {
-                    writes,
-                    ..ample(Some(PROGRAM), Some(SCRIPTS))
-                },
-            )?;
-            assert_eq!(rt; end.status, 3, "after {writes} writes");
-            assert_eq!(rt; end.output.as_slice(), &text[..writes]);
-            assert_eq!(rt; end.line.as_slice(), b"error output\n".as_slice());
+    for is_silent in [false, true] {
+        for (words, text) in [(CHECK, ACCEPTED), (RUN, JOURNAL)] {
+            let text = text.as_bytes();
+            let whole = Setting { is_silent, ..WHOLE };
+            assert!(&rt; ends(&rt, words, whole, 0, text, b"")?);
+            for output in 0..text.len() {
+                let setting = Setting { output, ..whole };
+                assert!(&rt;
+                    ends(&rt, words, setting, 3, &text[..output], b"error output\n")?,
+                    "{output}"
+                );
+            }
         }
     }
     Ok(())
@@ -183,39 +172,39 @@ fn a_failed_output_leaves_a_beginning(rt: HostRuntime) -> Result<(), Fail> {
 #[test]
 fn a_failed_read_is_a_fault_of_a_file(rt: HostRuntime) -> Result<(), Fail> {
     for words in [CHECK, RUN] {
-        for reads in 0..2usize {
-            let end = ended(
-                &rt,
-                words,
-                &Setting {
-                    reads,
-                    ..ample(Some(PROGRAM), Some(SCRIPTS))
-                },
-            )?;
-            assert_eq!(rt; end.status, 3, "after {reads} reads");
-            assert!(rt; end.output.is_empty());
-            assert_eq!(rt; end.line.as_slice(), b"error file\n".as_slice());
+        for program in 0..=PROGRAM.len() {
+            let setting = Setting { program, ..WHOLE };
+            assert!(&rt;
+                ends(&rt, words, setting, 3, b"", b"error file\n")?,
+                "{program}"
+            );
         }
+    }
+    for scripts in 0..=SCRIPTS.len() {
+        // (a read that fails comes before a write that would)
+        let setting = Setting {
+            scripts,
+            output: 0,
+            ..WHOLE
+        };
+        assert!(&rt;
+            ends(&rt, RUN, setting, 3, b"", b"error file\n")?,
+            "{scripts}"
+        );
     }
     Ok(())
 }
 
 #[test]
 fn a_failed_line_changes_no_status(rt: HostRuntime) -> Result<(), Fail> {
-    for lines in 0..12usize {
-        let end = ended(
-            &rt,
-            CHECK,
-            &Setting {
-                lines,
-                ..ample(None, None)
-            },
-        )?;
-        assert_eq!(rt; end.status, 3, "after {lines} writes");
-        assert_eq!(rt;
-            end.line.as_slice(),
-            &b"error file\n".as_slice()[..lines.min(11)]
-        );
+    let text = b"error file\n".as_slice();
+    for line in 0..text.len() {
+        let setting = Setting {
+            is_empty: true,
+            line,
+            ..WHOLE
+        };
+        assert!(&rt; ends(&rt, CHECK, setting, 3, b"", &text[..line])?, "{line}");
     }
     Ok(())
 }
