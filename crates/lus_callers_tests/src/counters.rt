@@ -2,7 +2,7 @@
 ghost use Rattle.std.specs.Prelude.{◌≡◌, [], IfOk};
 
 use lus_callers::lus_machine::{Machine, compile};
-use lus_callers::lus_shared::{Seat, SeatNode};
+use lus_callers::lus_shared::{Journal, Seat, SeatNode};
 use lus_program::NodeId;
 use lus_requests::{Reply, Request};
 use lus_values::{Memory, Row, Value};
@@ -53,4 +53,19 @@ pub(crate) fn counts(reply: &Reply, number: i64) -> bool {
         },
         _ => false,
     }
+}
+
+/// Whether a call was answered, by this number.
+pub(crate) fn gives<E: Drop>(answer: Result<Reply, E>, number: i64) -> bool {
+    match answer {
+        Ok(reply) => counts(&reply, number),
+        Err(_) => false,
+    }
+}
+
+/// Whether so many steps were entered, in order.
+pub(crate) fn has_counted(journal: &Journal, steps: usize) -> bool {
+    let mut entries = journal.entries.iter().enumerate();
+    journal.entries.len() == steps
+        && entries.all(|(place, entry)| counts(&entry.reply, place as i64))
 }

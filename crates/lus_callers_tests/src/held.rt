@@ -1,7 +1,7 @@
 //! A machine that another thread has.
 ghost use Rattle.std.specs.Prelude.{◌≡◌};
 
-use crate::counters::{a_counter, a_step, counts};
+use crate::counters::{a_counter, a_step, gives};
 use lus_callers::lus_shared::{Busy, Seat, SeatNode, TryError};
 use lus_requests::Request;
 use std::sync::Wait;
@@ -13,10 +13,6 @@ use std::thread::{Threads, join};
 const TAKEN: u64 = 1;
 
 const REFUSED: u64 = 2;
-
-const FREE: u64 = 3;
-
-const BEGUN: u64 = 2;
 
 // How far both threads are, and whether one waited in vain.
 #[derive(Drop)]
@@ -45,20 +41,22 @@ impl Signs {
     }
 }
 
-// Has the machine until the other seat was refused.
+// Has the machine until the other seat was refused, and some turns more.
 fn holds(node: &SeatNode, seat: Seat, signs: &Signs)
     requires { seat.instance ≡ node.now }
 {
     if let Ok(held) = node.hold(seat) {
         signs.give(TAKEN);
         signs.wait_for(REFUSED);
+        for _ in 0..1_000u32 {
+            thread::yield_now();
+        }
         node.release(held);
-        signs.give(FREE);
     }
 }
 
-// Whether all calls are refused while the machine is taken, and the one after that is answered.
-fn is_refused<R: Wait>(
+// Whether all calls that don't wait are refused while the machine is taken, and one that begins then, and waits, is answered.
+fn is_answered<R: Wait>(
     rt: &R,
     node: &SeatNode,
     mut seat: Seat,
@@ -76,70 +74,10 @@ fn is_refused<R: Wait>(
         }
     }
     signs.give(REFUSED);
-    signs.wait_for(FREE);
-    match node.call(rt, &mut seat, request) {
-        Ok(reply) => refused && counts(&reply, 0),
-        Err(_) => false,
-    }
+    refused && gives(node.call(rt, &mut seat, request), 0)
 }
 
 // Both at once; whether all went as said.
-fn meets<R: Threads + Wait + Sync>(
-    rt: &R,
-    node: &SeatNode,
-    first: Seat,
-    second: Seat,
-    request: &Request,
-    signs: &Signs,
-) -> bool
-    requires first { first.instance ≡ node.now }
-    requires second { second.instance ≡ node.now }
-{
-    let (_, refused) = join(
-        rt,
-        || -> ()
-            requires { first.instance ≡ node.now }
-        { holds(node, first, signs) },
-        || -> bool
-            requires { second.instance ≡ node.now }
-        { is_refused(rt, node, second, request, signs) },
-    );
-    refused && !signs.is_late()
-}
-
-// Has the machine until the other seat's call begins, and some turns more.
-fn holds_on(node: &SeatNode, seat: Seat, signs: &Signs)
-    requires { seat.instance ≡ node.now }
-{
-    if let Ok(held) = node.hold(seat) {
-        signs.give(TAKEN);
-        signs.wait_for(BEGUN);
-        for _ in 0..1_000u32 {
-            thread::yield_now();
-        }
-        node.release(held);
-    }
-}
-
-// Whether a call that begins while the machine is taken is answered.
-fn is_answered<R: Wait>(
-    rt: &R,
-    node: &SeatNode,
-    mut seat: Seat,
-    request: &Request,
-    signs: &Signs,
-) -> bool
-    requires { seat.instance ≡ node.now }
-{
-    signs.wait_for(TAKEN);
-    signs.give(BEGUN);
-    match node.call(rt, &mut seat, request) {
-        Ok(reply) => counts(&reply, 0),
-        Err(_) => false,
-    }
-}
-
-// Both at once; whether the call waited for its reply.
 fn waits<R: Threads + Wait + Sync>(
     rt: &R,
     node: &SeatNode,
@@ -155,7 +93,7 @@ fn waits<R: Threads + Wait + Sync>(
         rt,
         || -> ()
             requires { first.instance ≡ node.now }
-        { holds_on(node, first, signs) },
+        { holds(node, first, signs) },
         || -> bool
             requires { second.instance ≡ node.now }
         { is_answered(rt, node, second, request, signs) },
@@ -163,27 +101,15 @@ fn waits<R: Threads + Wait + Sync>(
     answered && !signs.is_late()
 }
 
-fn no_signs() -> Signs {
-    Signs {
-        reached: AtomicU64::new(0),
-        late: AtomicU64::new(0),
-    }
-}
-
 #[test]
 fn calls_wait_while_held(rt: HostRuntime) -> Result<(), Fail> {
     let alloc = rt.alloc();
     let (node, first, second) = a_counter(alloc)?;
     let step = a_step(alloc);
-    assert!(&rt; waits(&rt, &node, first, second, &step, &no_signs()));
-    Ok(())
-}
-
-#[test]
-fn calls_are_refused_while_held(rt: HostRuntime) -> Result<(), Fail> {
-    let alloc = rt.alloc();
-    let (node, first, second) = a_counter(alloc)?;
-    let step = a_step(alloc);
-    assert!(&rt; meets(&rt, &node, first, second, &step, &no_signs()));
+    let signs = Signs {
+        reached: AtomicU64::new(0),
+        late: AtomicU64::new(0),
+    };
+    assert!(&rt; waits(&rt, &node, first, second, &step, &signs));
     Ok(())
 }

@@ -1,13 +1,9 @@
 //! Calls at nodes that are shared and callers on threads, over both kinds of instances: what a host relies on there, and tests.
 #![tactic(auto)]
 
-#[cfg(test)]
-mod callers;
 mod calls;
 #[cfg(test)]
 mod counters;
-#[cfg(test)]
-mod gates;
 #[cfg(test)]
 mod held;
 #[cfg(test)]
@@ -17,8 +13,6 @@ mod promises;
 mod runs;
 #[cfg(test)]
 mod seats;
-#[cfg(test)]
-mod strangers;
 #[cfg(test)]
 mod turns;
 

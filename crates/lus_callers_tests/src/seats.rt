@@ -1,24 +1,11 @@
 //! Nodes of both kinds that are closed, with all of their seats and without one.
 
-ghost use Rattle.std.specs.Prelude.{◌≡◌, [], IfOk};
-
-use crate::runs::{TWO, a_program, a_step, gives, is_journal};
-use lus_callers::lus_machine::Machine;
+use crate::counters::{a_machine, a_step, gives, has_counted};
 use lus_callers::lus_shared::{LockedNode, SeatNode, Shared, Strangers};
 use lus_values::Memory;
 use std::alloc::Global;
 use std::sync::Wait;
 use std::test::Fail;
-
-fn a_machine(alloc: Global) -> Result<Machine, Memory>
-    ensures { IfOk result (λ m. m.history ≡ []) }
-{
-    let program = a_program(alloc)?;
-    if !program.has(TWO[0]) {
-        return Err(Memory);
-    }
-    Machine::new(alloc, program, TWO[0])
-}
 
 // Whether this seat's next step gives this number.
 fn steps<N: Shared, R: Wait>(
@@ -31,10 +18,7 @@ fn steps<N: Shared, R: Wait>(
     requires { N.belongs node.now seat.old }
     ensures { N.belongs node.now seat.new }
 {
-    match node.call(rt, seat, &a_step(alloc)) {
-        Ok(reply) => gives(&reply, Some(number)),
-        Err(_) => false,
-    }
+    gives(node.call(rt, seat, &a_step(alloc)), number)
 }
 
 // Whether a close with these seats leaves two steps.
@@ -53,7 +37,7 @@ where
     seats.push(first)?;
     seats.push(second)?;
     match node.close(seats) {
-        Ok(journal) => Ok(is_journal(&journal, &[Some(0), Some(1)])),
+        Ok(journal) => Ok(has_counted(&journal, 2)),
         Err(strangers) => {
             let Strangers { node: _, seats: _ } = strangers;
             Ok(false)
