@@ -1,15 +1,7 @@
-//! Texts and their tokens.
+//! Texts and their tokens. That each word and symbol is one is seen by the programs of `rows/` and of examples/.
 
-use lus_syntax::{Place, Span, Symbol, Token, TokenKind, Word, lex};
-use std::alloc::Global;
+use lus_syntax::{Place, Span, Symbol, Token, TokenKind, lex};
 use std::test::Fail;
-
-fn is_word(token: &Token, wanted: Word) -> bool {
-    match token.kind {
-        TokenKind::Keyword(word) => word == wanted,
-        _ => false,
-    }
-}
 
 fn is_symbol(token: &Token, wanted: Symbol) -> bool {
     match token.kind {
@@ -27,96 +19,12 @@ fn is_plain(token: &Token, wanted: &str) -> bool {
     }
 }
 
-fn are_words(tokens: &[Token], wanted: &[Word]) -> bool {
-    tokens.len() == wanted.len()
-        && tokens
-            .iter()
-            .zip(wanted.iter())
-            .all(|(token, word)| is_word(token, *word))
-}
-
-fn are_symbols(tokens: &[Token], wanted: &[Symbol]) -> bool {
-    tokens.len() == wanted.len()
-        && tokens
-            .iter()
-            .zip(wanted.iter())
-            .all(|(token, symbol)| is_symbol(token, *symbol))
-}
-
 fn are_plain(tokens: &[Token], wanted: &[&str]) -> bool {
     tokens.len() == wanted.len()
         && tokens
             .iter()
             .zip(wanted.iter())
             .all(|(token, text)| is_plain(token, text))
-}
-
-#[test]
-fn each_word_is_a_keyword(rt: HostRuntime) -> Result<(), Fail> {
-    let text =
-        "node function returns var let tel type const enum struct bool int true false not and or xor if then else div mod pre fby when merge nor";
-    let words = [
-        Word::Node,
-        Word::Function,
-        Word::Returns,
-        Word::Var,
-        Word::Let,
-        Word::Tel,
-        Word::Type,
-        Word::Const,
-        Word::Enum,
-        Word::Struct,
-        Word::Bool,
-        Word::Int,
-        Word::True,
-        Word::False,
-        Word::Not,
-        Word::And,
-        Word::Or,
-        Word::Xor,
-        Word::If,
-        Word::Then,
-        Word::Else,
-        Word::Div,
-        Word::Mod,
-        Word::Pre,
-        Word::Fby,
-        Word::When,
-        Word::Merge,
-        Word::Nor,
-    ];
-    assert!(rt; are_words(&lex(rt.alloc(), text)?, words.as_slice()));
-    Ok(())
-}
-
-#[test]
-fn each_symbol_is_a_token(rt: HostRuntime) -> Result<(), Fail> {
-    let symbols = [
-        Symbol::Open,
-        Symbol::Close,
-        Symbol::OpenBrace,
-        Symbol::CloseBrace,
-        Symbol::Comma,
-        Symbol::Semicolon,
-        Symbol::Colon,
-        Symbol::Dot,
-        Symbol::Equal,
-        Symbol::NotEqual,
-        Symbol::Less,
-        Symbol::AtMost,
-        Symbol::Greater,
-        Symbol::AtLeast,
-        Symbol::Arrow,
-        Symbol::Implies,
-        Symbol::Plus,
-        Symbol::Minus,
-        Symbol::Star,
-        Symbol::Slash,
-        Symbol::Sharp,
-    ];
-    let text = "(){},;:.=<><<=>>=->=>+-*/#";
-    assert!(rt; are_symbols(&lex(rt.alloc(), text)?, symbols.as_slice()));
-    Ok(())
 }
 
 #[test]
