@@ -7,51 +7,28 @@ use lus_faults::{extent_of, start_of};
 use lus_syntax::{Expr, Infix, ListOperator, Part, Prefix, Span};
 use std::alloc::AllocError;
 
-/// An operator's text.
-fn infix_text(op: Infix) -> &'static str {
+/// An operator's text, the type that its operands have, where it is always one, and the type of what it gives, where that isn't theirs.
+fn infix_form(op: Infix) -> (&'static str, Option<Kind>, Option<Kind>) {
+    let truth = Some(Kind::Bool);
+    let number = Some(Kind::Int);
     match op {
-        Infix::Fby => "fby",
-        Infix::Arrow => "->",
-        Infix::Implies => "=>",
-        Infix::Or => "or",
-        Infix::Xor => "xor",
-        Infix::And => "and",
-        Infix::Equal => "=",
-        Infix::NotEqual => "<>",
-        Infix::Less => "<",
-        Infix::AtMost => "<=",
-        Infix::Greater => ">",
-        Infix::AtLeast => ">=",
-        Infix::Add => "+",
-        Infix::Subtract => "-",
-        Infix::Multiply => "*",
-        Infix::Divide => "div",
-        Infix::Remainder => "mod",
-    }
-}
-
-/// The type that an operator's operands have, where it is always one.
-fn operand_kind(op: Infix) -> Option<Kind> {
-    match op {
-        Infix::Implies | Infix::Or | Infix::Xor | Infix::And => Some(Kind::Bool),
-        Infix::Less | Infix::AtMost | Infix::Greater | Infix::AtLeast => Some(Kind::Int),
-        Infix::Add | Infix::Subtract | Infix::Multiply | Infix::Divide | Infix::Remainder => {
-            Some(Kind::Int)
-        }
-        Infix::Fby | Infix::Arrow | Infix::Equal | Infix::NotEqual => None,
-    }
-}
-
-/// The type of what an operator gives.
-fn given_kind(op: Infix, operand: Kind) -> Kind {
-    match op {
-        Infix::Implies | Infix::Or | Infix::Xor | Infix::And => Kind::Bool,
-        Infix::Less | Infix::AtMost | Infix::Greater | Infix::AtLeast => Kind::Bool,
-        Infix::Equal | Infix::NotEqual => Kind::Bool,
-        Infix::Add | Infix::Subtract | Infix::Multiply | Infix::Divide | Infix::Remainder => {
-            Kind::Int
-        }
-        Infix::Fby | Infix::Arrow => operand,
+        Infix::Fby => ("fby", None, None),
+        Infix::Arrow => ("->", None, None),
+        Infix::Implies => ("=>", truth, truth),
+        Infix::Or => ("or", truth, truth),
+        Infix::Xor => ("xor", truth, truth),
+        Infix::And => ("and", truth, truth),
+        Infix::Equal => ("=", None, truth),
+        Infix::NotEqual => ("<>", None, truth),
+        Infix::Less => ("<", number, truth),
+        Infix::AtMost => ("<=", number, truth),
+        Infix::Greater => (">", number, truth),
+        Infix::AtLeast => (">=", number, truth),
+        Infix::Add => ("+", number, number),
+        Infix::Subtract => ("-", number, number),
+        Infix::Multiply => ("*", number, number),
+        Infix::Divide => ("div", number, number),
+        Infix::Remainder => ("mod", number, number),
     }
 }
 
@@ -175,8 +152,8 @@ pub fn binary(
         start: start_of(left),
         length: to.end().byte.saturating_sub(from.start.byte),
     };
-    let operator = infix_text(op);
-    match operand_kind(op) {
+    let (operator, operands, given_kind) = infix_form(op);
+    match operands {
         Some(wanted) => {
             if wanted.differs(first) {
                 let told = wrong_operand(given, main, operator, wanted, left, first);
@@ -194,7 +171,7 @@ pub fn binary(
             }
         }
     }
-    Ok(given_kind(op, first))
+    Ok(given_kind.unwrap_or(first))
 }
 
 /// A choice by a condition.
