@@ -46,9 +46,7 @@ static LISTS: [Row; 8] = [
     },
     Row {
         place: Place::Constant,
-        found: Piece::Is(&[
-            "+", "-", "*", "/", "div", "mod", "->", "=>", "and", "or", "xor", "fby", "when",
-        ]),
+        found: Piece::Joining,
         sentence: "a constant is one value, and no expression",
         note: "Write the value itself, or a node without inputs that gives it.",
         ..ANY

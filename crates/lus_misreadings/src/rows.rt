@@ -4,7 +4,7 @@ use crate::fault::{Fault, is_name, is_next, is_number};
 use crate::phrase::Phrase;
 use crate::remark::{Change, Remark, Text, Trust, told};
 use crate::surroundings::{Place, brace_before, stands};
-use crate::words::{RECKONERS, compares, is_any, is_variable, leads};
+use crate::words::{RECKONERS, compares, is_any, is_variable, joins, leads};
 use lus_faults::slice_of;
 use lus_syntax::{Token, TokenKind};
 
@@ -25,6 +25,8 @@ pub enum Piece {
     Leading,
     /// What compares or reckons.
     Reckoning,
+    /// Between two operands, or behind one, and no comparison.
+    Joining,
     Name,
     Number,
     Zero,
@@ -111,6 +113,7 @@ fn is_piece(fault: &Fault<'_>, token: &Token<'_>, piece: Piece) -> bool {
         Piece::Is(texts) => is_any(text, texts),
         Piece::Not(other) | Piece::Other(other) => text != other,
         Piece::Reckoning => compares(text) || is_any(text, &RECKONERS),
+        Piece::Joining => joins(text),
         Piece::Leading => leads(text) || is_any(text, &["(", ","]),
         Piece::Name => is_name(Some(token)),
         Piece::Number => is_number(Some(token)),

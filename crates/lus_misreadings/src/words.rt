@@ -33,9 +33,14 @@ pub fn compares(text: &str) -> bool {
     is_any(text, &ORDERS) || is_any(text, &EQUALITIES)
 }
 
+/// Whether a text that is no comparison stands between two operands, or behind one.
+pub fn joins(text: &str) -> bool {
+    is_any(text, &RECKONERS) || is_any(text, &OTHERS)
+}
+
 /// Whether a text stands between two operands, or behind one.
 pub fn is_infix(text: &str) -> bool {
-    compares(text) || is_any(text, &RECKONERS) || is_any(text, &OTHERS)
+    compares(text) || joins(text)
 }
 
 /// Whether an operand stands behind a text.
