@@ -4,4 +4,4 @@
 mod telling;
 
 pub use lus_faults;
-pub use telling::finding_of;
+pub use telling::{finding_of, spelling_finding};

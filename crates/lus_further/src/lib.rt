@@ -8,7 +8,9 @@ mod parts;
 mod pieces;
 mod scan;
 mod told;
+mod window;
 mod words;
 
 pub use parts::{part_at, tried_part, without_declaration};
 pub use told::Told;
+pub use window::{Window, further_on, window_at};

@@ -3,6 +3,7 @@
 use crate::cutting::{Cut, blanked};
 use crate::naming::{cut_from, keep_from};
 use crate::pieces::{Piece, Pieces, pieces_of};
+use crate::window::window_round;
 use lus_faults::offset_of;
 use lus_syntax::{Refusal, RefusalNumber};
 use std::alloc::{AllocError, Global};
@@ -19,22 +20,6 @@ fn kept(alloc: Global, pieces: &Pieces<'_>) -> Result<Option<String>, AllocError
         }
     }
     blanked(alloc, pieces.source, &cuts, pieces.source.len())
-}
-
-/// The declaration at a byte and the one before it, without what stands behind: all that its grammar needs.
-fn window(alloc: Global, pieces: &Pieces<'_>, byte: usize) -> Result<Option<String>, AllocError> {
-    let place = pieces.place_at(byte).unwrap_or(0);
-    let Some(last) = pieces.pieces.get(place).copied() else {
-        return Ok(None);
-    };
-    let mut cuts = Vec::new(alloc);
-    if place > 1
-        && let Some(first) = pieces.pieces.get(place - 1)
-    {
-        let end = first.start;
-        cuts.push(Cut { start: 0, end })?;
-    }
-    blanked(alloc, pieces.source, &cuts, last.end)
 }
 
 /// Cuts the equations and the locals of a node.
@@ -116,7 +101,8 @@ fn needed(
     kept(alloc, pieces)
 }
 
-/// What of a source is needed to say what is wrong at a byte, where all else is blank; nothing where that is all of it.
+/// What of a source is needed to say what is wrong at a byte, where all else is blank; nothing where that is all of it, and where
+/// its tokens or its grammar are at fault (`window_at`).
 pub fn part_at(
     alloc: Global,
     source: &str,
@@ -125,14 +111,34 @@ pub fn part_at(
 ) -> Result<Option<String>, AllocError> {
     let mut pieces = pieces_of(alloc, source)?;
     match number {
-        RefusalNumber::Lexical => window(alloc, &pieces, byte),
-        RefusalNumber::Unsupported => window(alloc, &pieces, byte),
-        RefusalNumber::Syntax => window(alloc, &pieces, byte),
+        RefusalNumber::Lexical | RefusalNumber::Unsupported | RefusalNumber::Syntax => Ok(None),
         RefusalNumber::Name => among_heads(alloc, &mut pieces, byte),
         RefusalNumber::Limit => needed_among_heads(alloc, &mut pieces, byte),
         RefusalNumber::Memory => Ok(None),
         _ => needed(alloc, &mut pieces, byte),
     }
+}
+
+/// The declaration at a byte and the one before it.
+fn part_round(alloc: Global, source: &str, byte: usize) -> Result<Option<String>, AllocError> {
+    match window_round(alloc, source, byte)? {
+        Some(window) => Ok(Some(window.text)),
+        None => Ok(None),
+    }
+}
+
+/// What the declarations at two bytes need, where they are one, and all else is blank.
+fn needed_at_both(
+    alloc: Global,
+    source: &str,
+    first: usize,
+    second: usize,
+) -> Result<Option<String>, AllocError> {
+    let mut pieces = pieces_of(alloc, source)?;
+    if pieces.place_at(first) != pieces.place_at(second) {
+        return Ok(None);
+    }
+    needed(alloc, &mut pieces, second)
 }
 
 /// What of a changed source shows whether a change at one byte helps against a refusal at another: what the declaration there
@@ -144,15 +150,12 @@ pub fn tried_part(
     fault: usize,
     edit: usize,
 ) -> Result<Option<String>, AllocError> {
-    let mut pieces = pieces_of(alloc, changed)?;
     match number {
-        RefusalNumber::Lexical => window(alloc, &pieces, fault),
-        RefusalNumber::Unsupported => window(alloc, &pieces, fault),
-        RefusalNumber::Syntax => window(alloc, &pieces, fault),
-        RefusalNumber::Limit => Ok(None),
-        RefusalNumber::Memory => Ok(None),
-        _ if pieces.place_at(fault) == pieces.place_at(edit) => needed(alloc, &mut pieces, edit),
-        _ => Ok(None),
+        RefusalNumber::Lexical | RefusalNumber::Unsupported | RefusalNumber::Syntax => part_round(
+            alloc, changed, fault,
+        ),
+        RefusalNumber::Limit | RefusalNumber::Memory => Ok(None),
+        _ => needed_at_both(alloc, changed, fault, edit),
     }
 }
 

@@ -29,7 +29,7 @@ fn text_of<'t>(source: &'t str, word: Word) -> &'t str {
 }
 
 /// Whether a word opens a declaration, and that of a node. Most words are ruled out by their first byte.
-fn opened_by(source: &str, word: Word) -> Option<bool> {
+pub(crate) fn opened_by(source: &str, word: Word) -> Option<bool> {
     let Some(b'n' | b'f' | b't' | b'c') = source.as_bytes().get(word.start) else {
         return None;
     };

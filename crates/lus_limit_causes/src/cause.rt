@@ -135,7 +135,7 @@ fn of_tree(
     large_node(alloc, tree, tokens, refusal)
 }
 
-/// What is said of a limit that is passed; nothing where it is none of declarations, of types and nodes, or of depth.
+/// What is said of a limit that is passed; nothing where it is none of declarations, or of types and nodes.
 pub fn limit_cause(
     alloc: Global,
     source: &str,
@@ -146,7 +146,26 @@ pub fn limit_cause(
     };
     match parse(alloc, &tokens) {
         Ok(tree) => of_tree(alloc, &tree, &tokens, refusal),
-        Err(found) if found.number == RefusalNumber::Limit => Ok(Some(too_deep(alloc)?)),
         Err(_) => Ok(None),
+    }
+}
+
+/// Whether a text spells no tree that is within the limit of depth.
+fn is_too_deep(alloc: Global, source: &str) -> bool {
+    let Ok(tokens) = lex(alloc, source) else {
+        return false;
+    };
+    match parse(alloc, &tokens) {
+        Ok(_) => false,
+        Err(found) => found.number == RefusalNumber::Limit,
+    }
+}
+
+/// What is said of a text with an expression that is too deep; nothing of others.
+pub fn depth_cause(alloc: Global, source: &str) -> Result<Option<Finding>, AllocError> {
+    if is_too_deep(alloc, source) {
+        Ok(Some(too_deep(alloc)?))
+    } else {
+        Ok(None)
     }
 }

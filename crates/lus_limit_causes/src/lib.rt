@@ -5,4 +5,4 @@ mod cause;
 mod counts;
 mod depths;
 
-pub use cause::limit_cause;
+pub use cause::{depth_cause, limit_cause};

@@ -3,11 +3,11 @@
 use crate::explanation::Explanation;
 use crate::further::{further_faults, push_faults};
 use crate::sentences::{fault_of, sentence_of};
-use lus_causes::finding_of;
 use lus_causes::lus_faults::{Edit, Finding, edited, further_marks, offset_of, push_finding};
+use lus_causes::{finding_of, spelling_finding};
 use lus_cli::lus_host::lus_machine::check;
 use lus_cli::lus_host::text_of;
-use lus_further::{part_at, tried_part};
+use lus_further::{further_on, part_at, tried_part, window_at};
 use lus_syntax::{Refusal, RefusalNumber};
 use std::alloc::{AllocError, Global};
 
@@ -83,7 +83,45 @@ fn plain_finding(alloc: Global, refusal: &Refusal) -> Result<Finding, AllocError
     Finding::new(alloc, sentence, 1).with_note(alloc, sentence_of(refusal.number))
 }
 
-/// The finding of a refusal's case, by as much of the source as that needs.
+/// Whether a pass refuses with a number that reads tokens or grammar, and so may be told by what stands round its place alone.
+fn is_of_spelling(number: RefusalNumber) -> bool {
+    matches!(
+        number,
+        RefusalNumber::Lexical
+            | RefusalNumber::Unsupported
+            | RefusalNumber::Syntax
+            | RefusalNumber::Limit
+    )
+}
+
+/// The finding of a refusal's case in a text, with its change of the text only where that was tried and helps.
+fn spelled_in(alloc: Global, text: &str, refusal: &Refusal) -> Result<Option<Finding>, AllocError> {
+    match spelling_finding(alloc, text, refusal)? {
+        Some(finding) => Ok(Some(tried(alloc, text, refusal, finding)?)),
+        None => Ok(None),
+    }
+}
+
+/// The finding of a refusal's case, where what stands round its place shows it.
+fn spelled_finding(
+    alloc: Global,
+    source: &str,
+    refusal: &Refusal,
+) -> Result<Option<Finding>, AllocError> {
+    if !is_of_spelling(refusal.number) {
+        return Ok(None);
+    }
+    let Some(window) = window_at(alloc, source, refusal.line, refusal.column)? else {
+        return spelled_in(alloc, source, refusal);
+    };
+    match spelled_in(alloc, &window.text, refusal)? {
+        Some(finding) => Ok(Some(further_on(finding, window.ahead))),
+        None => Ok(None),
+    }
+}
+
+/// The finding of a refusal's case, by as much of the source as that needs, with its change of the text only where that was tried and
+/// helps.
 fn part_finding(
     alloc: Global,
     source: &str,
@@ -91,7 +129,23 @@ fn part_finding(
 ) -> Result<Option<Finding>, AllocError> {
     let fault = offset_of(source, refusal.line, refusal.column);
     let part = part_at(alloc, source, refusal.number, fault)?;
-    finding_of(alloc, part.as_deref().unwrap_or(source), refusal)
+    match finding_of(alloc, part.as_deref().unwrap_or(source), refusal)? {
+        Some(finding) => Ok(Some(tried(alloc, source, refusal, finding)?)),
+        None => Ok(None),
+    }
+}
+
+/// The finding of a refusal's case, if more is known of it than its number and its place.
+fn case_finding(
+    alloc: Global,
+    source: &str,
+    refusal: &Refusal,
+) -> Result<Option<Finding>, AllocError> {
+    let spelled = spelled_finding(alloc, source, refusal)?;
+    if spelled.is_some() {
+        return Ok(spelled);
+    }
+    part_finding(alloc, source, refusal)
 }
 
 /// What is known of the case of a refusal of a source, or else of its number. A change of the text is told only where it was tried
@@ -101,10 +155,9 @@ pub(crate) fn source_finding(
     source: &str,
     refusal: &Refusal,
 ) -> Result<Finding, AllocError> {
-    let Some(finding) = part_finding(alloc, source, refusal)? else {
+    let Some(finding) = case_finding(alloc, source, refusal)? else {
         return plain_finding(alloc, refusal);
     };
-    let finding = tried(alloc, source, refusal, finding)?;
     if finding.note.is_some() || finding.edit.is_some() {
         return Ok(finding);
     }
