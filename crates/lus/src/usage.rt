@@ -42,13 +42,13 @@ Status: 0 lawful, 1 the program is refused, 2 a wrong line, or no journal,
 3 a file or the output fails, 4 out of memory.
 ";
 
-const LIVE: &str = "usage: lus_live [--json] PROGRAM NODE
+const LIVE: &str = "usage: lus_live [--json | --csv] PROGRAM NODE
        lus_live PROGRAM NODE JOURNAL
 
 Runs a node in a pipe: reads calls from standard input, a line of JSON each, and writes the
-journal's entry of each before it reads the next, or with --json its reply as an object of
-JSON, outputs by name. It goes on behind JOURNAL, which it replays first:
-`lus_live PROGRAM NODE log < calls >> log`, also after a kill at any moment.
+journal's entry of each before it reads the next, or with --json its reply as JSON. With --csv
+it reads inputs as CSV below a line of their names, and writes outputs so. It goes on behind
+JOURNAL, replayed first: `lus_live PROGRAM NODE log < calls >> log`, also after any kill.
 
   [18, 19, 22]                 a step with the inputs in their order, null for an absent one
   {\"inputs\": {\"low\": 19, ..}}  a step with the inputs by their names

@@ -19,9 +19,10 @@ use Rattle.lus_cli.specs.Programs.{IsProgramFault}
 use Rattle.lus_cli.specs.declared.fault.Fault.{Fault}
 use Rattle.lus_cli.specs.declared.fault.Fault.TheVariants as faults
 use Rattle.lus_cli.proofs.ProgramLemmas.{file_then}
+use Rattle.lus_told.specs.Records.{HasToldCsv, HasToldCsvSome}
 use Rattle.lus_told.specs.Telling.{HasToldJson, HasToldJsonSome}
 use Rattle.lus_live.specs.CommandLine.{Asked, Form, behind}
-use Rattle.lus_live.specs.Ends.{AsksBehind, GoesOn, HasGoneOn, HasPlayedIn, IsOfFile, IsQuiet, IsRecoveryFault, IsToldAlone, LiveFails, Lived, LivedOn, Ran, TaskEnds, ToldJson, recovery_fault}
+use Rattle.lus_live.specs.Ends.{AsksBehind, GoesOn, HasGoneOn, HasPlayedIn, IsOfFile, IsQuiet, IsRecoveryFault, IsToldAlone, LiveFails, Lived, LivedOn, Ran, TaskEnds, ToldCsv, ToldJson, recovery_fault}
 
 -- what was played, whether to the end or not
 pub lived : (p : Program) (f : ℕ) (name : Text) (left end : Option Bytes) (ran : Ran) (output : Change)
@@ -36,6 +37,12 @@ pub told_json : (p : Program) (f : ℕ) (left end : Option Bytes) (ran : Ran) (o
     → ToldJson p f left end ran output
 told_json p f left end (Ok score) output all begun = all
 told_json p f left end (Err e) output all begun = begun
+
+pub told_csv : (p : Program) (f : ℕ) (left end : Option Bytes) (ran : Ran) (output : Change)
+    → IfOk ran (λ score. HasToldCsv p f left end output.old output.new score) → OnErr ran (HasToldCsvSome p f left output.old output.new)
+    → ToldCsv p f left end ran output
+told_csv p f left end (Ok score) output all begun = all
+told_csv p f left end (Err e) output all begun = begun
 
 -- what was played, behind what a journal has
 lived_on : (p : Program) (f : ℕ) (name : Text) (start : Start) (left end : Option Bytes) (before : List Entry) (ran : Ran) (output : Change)

@@ -17,21 +17,26 @@ bare = record (new_app (codes "lus_live")) {
   };
 }
 
-abbrev pub json_rule : Rule
-json_rule = record (new_rule (codes "json")) { long = Some (codes "json"); action = Some SetTrue }
+abbrev pub flag_rule : Text → Rule
+flag_rule name = record (new_rule name) { long = Some name; action = Some SetTrue }
 
 abbrev pub node_rule : Rule
 node_rule = record (new_rule (codes "NODE")) { required = true }
 
--- a flag `--json`, a required PROGRAM, a required NODE, and perhaps a JOURNAL
-abbrev pub the_command : App
-the_command = with_rule (with_rule (with_rule (with_rule bare json_rule) program_rule) node_rule) (new_rule (codes "JOURNAL"))
+-- the flags `--json` and `--csv`
+abbrev pub flagged : App
+flagged = with_rule (with_rule bare (flag_rule (codes "json"))) (flag_rule (codes "csv"))
 
--- how it is written what becomes of calls: as a journal, as what comes behind a file's journal, or as objects of JSON
+-- the flags, a required PROGRAM, a required NODE, and perhaps a JOURNAL
+abbrev pub the_command : App
+the_command = with_rule (with_rule (with_rule flagged program_rule) node_rule) (new_rule (codes "JOURNAL"))
+
+-- how it is written what becomes of calls: as a journal, as what comes behind a file's journal, as objects of JSON, or as records
 pub data Form : Type 0 where
   journal : Form
   behind : Text → Form
   json : Form
+  csv : Form
 
 -- a node of a program, and the form
 pub record Asked : Type 0 where
@@ -39,12 +44,13 @@ pub record Asked : Type 0 where
   pub node : Text
   pub form : Form
 
--- only a journal is written behind what a file has
-abbrev pub form_of : Bool → Option Text → Option Form
-form_of false None = Some journal
-form_of false (Some file) = Some (behind file)
-form_of true None = Some json
-form_of true (Some file) = None
+-- only a journal is written behind what a file has, and of the two flags there is one at most
+abbrev pub form_of : Bool → Bool → Option Text → Option Form
+form_of false false None = Some journal
+form_of false false (Some file) = Some (behind file)
+form_of true false None = Some json
+form_of false true None = Some csv
+form_of is_json is_csv file = None
 
 abbrev pub chosen : Option Form → Option Text → Option Text → Option Asked
 chosen None _ _ = None
@@ -52,9 +58,13 @@ chosen (Some form) None _ = None
 chosen (Some form) (Some program) None = None
 chosen (Some form) (Some program) (Some node) = Some (record { program = program; node = node; form = form })
 
+-- whether a flag is among the words
+abbrev pub is_set : Text → List Row → Bool
+is_set name m = is_true (first_of name m)
+
 abbrev pub said : List Row → Option Asked
 said m =
-    chosen (form_of (is_true (first_of (codes "json") m)) (first_of (codes "JOURNAL") m)) (first_of (codes "PROGRAM") m)
+    chosen (form_of (is_set (codes "json") m) (is_set (codes "csv") m) (first_of (codes "JOURNAL") m)) (first_of (codes "PROGRAM") m)
     (first_of (codes "NODE") m)
 
 -- what the words after the program's own name ask for, where they are well formed
@@ -66,6 +76,7 @@ abbrev pub form_seen : StoredForm → Form
 form_seen forms.Journal = journal
 form_seen (forms.Behind file) = behind file.now
 form_seen forms.Json = json
+form_seen forms.Csv = csv
 
 -- a task as plain data
 abbrev pub task_seen : Task → Asked

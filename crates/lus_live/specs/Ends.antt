@@ -14,6 +14,7 @@ use Rattle.lus_told.specs.LiveSpecs.MachineSpecs.Constructors.{names_of}
 use Rattle.lus_told.specs.LiveSpecs.PlaySpecs.declared.error.PlayError.{PlayError}
 use Rattle.lus_told.specs.LiveSpecs.PlaySpecs.declared.error.PlayError.TheVariants as plays
 use Rattle.lus_told.specs.LiveSpecs.PlaySpecs.declared.playing.Score.{Score}
+use Rattle.lus_told.specs.Records.{HasToldCsv, HasToldCsvSome}
 use Rattle.lus_told.specs.Telling.{HasToldJson, HasToldJsonSome}
 use Rattle.lus_cli.specs.HostSpecs.Sources.{ProgramRefused}
 use Rattle.lus_cli.specs.MachineSpecs.Acceptance.{Accepted}
@@ -24,7 +25,7 @@ use Rattle.lus_cli.specs.Ends.{AskedEnds, IsLost}
 use Rattle.lus_cli.specs.Faults.{IsToldBy}
 use Rattle.lus_cli.specs.declared.fault.Fault.{Fault}
 use Rattle.lus_cli.specs.declared.fault.Fault.TheVariants as faults
-use Rattle.lus_live.specs.CommandLine.{Asked, Form, behind, journal, json}
+use Rattle.lus_live.specs.CommandLine.{Asked, Form, behind, csv, journal, json}
 
 -- what became of the lines: all were read, or an error came first
 abbrev pub Ran : Type 0
@@ -49,6 +50,11 @@ abbrev pub ToldJson : Program → ℕ → Option Bytes → Option Bytes → Ran 
 ToldJson p f left end (Ok score) output = HasToldJson p f left end output.old output.new score
 ToldJson p f left end (Err e) output = HasToldJsonSome p f left output.old output.new
 
+-- the steps among the lines below a head make a lawful history, whose outputs are written as records, or after an error a beginning of that
+abbrev pub ToldCsv : Program → ℕ → Option Bytes → Option Bytes → Ran → Change → Type 0
+ToldCsv p f left end (Ok score) output = HasToldCsv p f left end output.old output.new score
+ToldCsv p f left end (Err e) output = HasToldCsvSome p f left output.old output.new
+
 -- behind what a journal has, lines were played on the node of this number and name
 pub record HasGoneOn (had : Known) (p : Program) (node : ℕ) (name : Text) (left end : Option Bytes) (ran : Ran) (output : Change) : Type 0 where
   pub start : Start
@@ -61,6 +67,7 @@ abbrev pub HasPlayedIn : (Text → Known) → Form → Text → Option Bytes →
 HasPlayedIn known journal name left end ran output p node = Lived p node name left end ran output
 HasPlayedIn known (behind file) name left end ran output p node = HasGoneOn (known file) p node name left end ran output
 HasPlayedIn known json name left end ran output p node = ToldJson p node left end ran output
+HasPlayedIn known csv name left end ran output p node = ToldCsv p node left end ran output
 
 -- this holds of the node of this name of a file's program
 pub record OfNode (file : Known) (name : Text) (HasPlayed : Program → ℕ → Type 0) : Type 0 where
@@ -79,6 +86,7 @@ abbrev pub AsksBehind : Known → Text → Form → Type 0
 AsksBehind file name journal = ⊥
 AsksBehind file name (behind other) = (p : Program) × (node : ℕ) × IsOfFile file p × (node_named p name ≡ Some node)
 AsksBehind file name json = ⊥
+AsksBehind file name csv = ⊥
 
 -- why no line is played: the program's file is lost, it is refused, or it lacks the node; or the journal's file is lost, or a line of it
 -- isn't right; or memory was wanting

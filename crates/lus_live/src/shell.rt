@@ -19,7 +19,7 @@ use lus_told::lus_live_instance::lus_machine::{NodeId, Program};
 use lus_told::lus_live_instance::{
     PlayError, RecoveryError, Score, Start, recover_live, resume_live, run_live,
 };
-use lus_told::run_json;
+use lus_told::{run_csv, run_json};
 use std::alloc::Global;
 use std::sync::Arc;
 
@@ -126,6 +126,7 @@ fn play_on<D: Folder, S: Source, O: Sink, F: Sink>(
             alloc, folder, &program, node, task.node, journal, input, output, faults,
         ),
         Form::Json => Ok(run_json(alloc, &program, node, input, output, faults)),
+        Form::Csv => Ok(run_csv(alloc, &program, node, input, output, faults)),
     }
 }
 
@@ -167,7 +168,8 @@ fn fault_of(error: PlayError) -> Fault
 
 /// Makes the call of each line of the input on the node that the words name, and writes the journal: each entry before the next line
 /// is read. With a journal among the words that is read and replayed first, and written on. With `--json` each reply is written as an
-/// object of JSON, in place of a journal's lines. Gives the status of the process: 0 where all lines were read and each was a call, 2
+/// object of JSON, in place of a journal's lines; with `--csv` the first line names columns of inputs, each other line is the record of a
+/// step, and the outputs are written as records. Gives the status of the process: 0 where all lines were read and each was a call, 2
 /// where one was none, which `faults` is given with its number, else that of the fault.
 pub fn command<D: Folder, S: Source, O: Sink, F: Sink>(
     alloc: Global,

@@ -1,10 +1,10 @@
 //! The words of the command line.
 
 ghost use Rattle.std.specs.Prelude.{◌≡◌, IfOk, Some, None, Err, map, option_map, string_bytes};
-ghost use Rattle.clap.specs.Words.{app_of};
+ghost use Rattle.clap.specs.Words.{app_of, with_rule};
 ghost use Rattle.lus_cli.specs.CommandLine.{is_true};
 ghost use Rattle.lus_cli.specs.declared.words.WordsError.TheVariants.{Mistaken};
-ghost use Rattle.lus_live.specs.CommandLine.{asked, bare, chosen, form_of, form_seen, task_seen, the_command};
+ghost use Rattle.lus_live.specs.CommandLine.{asked, bare, chosen, flag_rule, form_of, form_seen, task_seen, the_command};
 
 use clap::{Arg, ArgAction, Command};
 use lus_cli::{WordsError, matches};
@@ -19,6 +19,8 @@ pub enum Form<'a> {
     Behind(&'a str),
     /// Each reply as an object of JSON.
     Json,
+    /// The outputs of each step as a record of CSV, as which the steps are read.
+    Csv,
 }
 
 /// What the words ask for: lines that are played on a node of a program, which is named by its file.
@@ -39,16 +41,27 @@ fn bare<'a>(alloc: Global) -> Command<'a>
         .disable_version_flag(true)
 }
 
+/// The command with one more flag.
+fn with_flag<'a>(
+    alloc: Global,
+    command: Command<'a>,
+    name: &'a str,
+) -> Result<Command<'a>, AllocError>
+    ensures { IfOk result (λ c. app_of c ≡ with_rule (app_of command.entry) (flag_rule name.entry.now)) }
+{
+    let flag = Arg::new(alloc, name).long(name).action(ArgAction::SetTrue);
+    command.arg(flag)
+}
+
 fn command<'a>(alloc: Global) -> Result<Command<'a>, AllocError>
     ensures shape { IfOk result (λ c. app_of c ≡ the_command) }
 {
-    let json = Arg::new(alloc, "json")
-        .long("json")
-        .action(ArgAction::SetTrue);
     let program = Arg::new(alloc, "PROGRAM").required(true);
     let node = Arg::new(alloc, "NODE").required(true);
     let journal = Arg::new(alloc, "JOURNAL");
-    bare(alloc).arg(json)?.arg(program)?.arg(node)?.arg(journal)
+    let json = with_flag(alloc, bare(alloc), "json")?;
+    let csv = with_flag(alloc, json, "csv")?;
+    csv.arg(program)?.arg(node)?.arg(journal)
 }
 
 /// What the words after the program's own name ask for.
@@ -58,26 +71,38 @@ pub fn read_words<'a>(alloc: Global, words: &'a [String]) -> Result<Task<'a>, Wo
 {
     let matches = matches(command(alloc)?, words)?;
     choose(
-        form_of(matches.get_str("json"), matches.get_str("JOURNAL")),
+        form_of(
+            matches.get_str("json"),
+            matches.get_str("csv"),
+            matches.get_str("JOURNAL"),
+        ),
         matches.get_str("PROGRAM"),
         matches.get_str("NODE"),
     )
     .ok_or(WordsError::Mistaken)
 }
 
-/// Only a journal is written behind what a file has. A flag's value is the text `true` or `false`.
-fn form_of<'a>(json: Option<&'a str>, journal: Option<&'a str>) -> Option<Form<'a>>
-    ensures { option_map form_seen result ≡ form_of (is_true (option_map (λ t. t.now) json.entry)) (option_map (λ t. t.now) journal.entry) }
+/// A flag's value is the text `true` or `false`.
+fn is_set(flag: Option<&str>) -> bool
+    ensures { result ≡ is_true (option_map (λ t. t.now) flag.entry) }
 {
-    let is_json = match json {
+    match flag {
         Some(text) => text == "true",
         None => false,
-    };
-    match (is_json, journal) {
-        (false, None) => Some(Form::Journal),
-        (false, Some(journal)) => Some(Form::Behind(journal)),
-        (true, None) => Some(Form::Json),
-        (true, Some(_)) => None,
+    }
+}
+
+/// Only a journal is written behind what a file has, and of the two flags there is one at most.
+fn form_of<'a>(json: Option<&str>, csv: Option<&str>, journal: Option<&'a str>) -> Option<Form<'a>>
+    ensures { option_map form_seen result ≡ form_of (is_true (option_map (λ t. t.now) json.entry))
+        (is_true (option_map (λ t. t.now) csv.entry)) (option_map (λ t. t.now) journal.entry) }
+{
+    match (is_set(json), is_set(csv), journal) {
+        (false, false, None) => Some(Form::Journal),
+        (false, false, Some(journal)) => Some(Form::Behind(journal)),
+        (true, false, None) => Some(Form::Json),
+        (false, true, None) => Some(Form::Csv),
+        _ => None,
     }
 }
 

@@ -149,8 +149,14 @@ fn explain<F: Sink>(
         Reading::Long => {
             let _ = write_all(faults, b"it has more bytes than a line may have");
         }
-        Reading::Unfinished | Reading::End => {
+        Reading::Unfinished => {
             let _ = write_all(faults, b"the input ends in the middle of it");
+        }
+        Reading::End => {
+            let _ = write_all(
+                faults,
+                b"there is none, and the first has the names of inputs",
+            );
         }
     }
     let _ = write_all(faults, b"\n");

@@ -1,2 +1,3 @@
 pub mod TellingLaws
+pub mod RecordLaws
 pub use Rattle.lus_live_instance.proofs as LiveProofs

@@ -1,2 +1,3 @@
 pub mod Telling
+pub mod Records
 pub use Rattle.lus_live_instance.specs as LiveSpecs

@@ -7,9 +7,9 @@ use Rattle.lus_cli.specs.CodeSpecs.Codes.{program_of}
 use Rattle.lus_cli.specs.Ends.{ReadFails}
 use Rattle.lus_cli.specs.MachineSpecs.Formals.{node_named}
 use Rattle.lus_told.proofs.LiveProofs.LiveLaws.{named_within}
-use Rattle.lus_live.specs.CommandLine.{form_seen, journal, json, task_seen}
+use Rattle.lus_live.specs.CommandLine.{csv, form_seen, journal, json, task_seen}
 use Rattle.lus_live.specs.Ends.{IsOfFile}
-use Rattle.lus_live.proofs.EndLemmas.{lived, task_behind, task_played, told_json}
+use Rattle.lus_live.proofs.EndLemmas.{lived, task_behind, task_played, told_csv, told_json}
 use Rattle.lus_live.proofs.shell.play_on.Goals as goal
 
 pub returns-in_default-clause-ends : goal.returns-in_default-clause-ends
@@ -49,8 +49,16 @@ run_json-requires g c =
     named_within (program_of (arc_value c.in-Ok.program)) c.args.task.node.now c.in-Some.node.0
     (subst (λ p. node_named p c.args.task.node.now ≡ Some c.in-Some.node.0) same named)
 
-pub returns-clause-ends : goal.returns-clause-ends
-returns-clause-ends g c =
+pub run_csv-requires : goal.run_csv-requires
+run_csv-requires g c =
+    let same : program_of c.in_ok-program.program ≡ program_of (arc_value c.in-Ok.program) = ap program_of (sym c.in-Ok.ensures.ok) in
+    let named : node_named (program_of c.in_ok-program.program) c.args.task.node.now ≡ Some c.in-Some.node.0 =
+    sym c.node.ensures ∙ ap (option_map _) c.in-Some.is in
+    named_within (program_of (arc_value c.in-Ok.program)) c.args.task.node.now c.in-Some.node.0
+    (subst (λ p. node_named p c.args.task.node.now ≡ Some c.in-Some.node.0) same named)
+
+pub returns-in-Json-clause-ends : goal.returns-in-Json-clause-ends
+returns-in-Json-clause-ends g c =
     let same : program_of c.in_ok-program.program ≡ program_of (arc_value c.in-Ok.program) = ap program_of (sym c.in-Ok.ensures.ok) in
     let named : node_named (program_of c.in_ok-program.program) c.args.task.node.now ≡ Some c.in-Some.node.0 =
     sym c.node.ensures ∙ ap (option_map _) c.in-Some.is in
@@ -60,3 +68,15 @@ returns-clause-ends g c =
     (subst (IsOfFile (g.D.Folder.known c.args.folder.now c.args.task.program.now)) same c.in_ok-program.ensures.accepted)
     (subst (λ p. node_named p c.args.task.node.now ≡ Some c.in-Some.node.0) same named) json c.run_json.result (ap form_seen c.in-Json.is)
     (told_json _ _ _ _ _ _ c.run_json.ensures.all c.run_json.ensures.begun)
+
+pub returns-clause-ends : goal.returns-clause-ends
+returns-clause-ends g c =
+    let same : program_of c.in_ok-program.program ≡ program_of (arc_value c.in-Ok.program) = ap program_of (sym c.in-Ok.ensures.ok) in
+    let named : node_named (program_of c.in_ok-program.program) c.args.task.node.now ≡ Some c.in-Some.node.0 =
+    sym c.node.ensures ∙ ap (option_map _) c.in-Some.is in
+    task_played (ReadFails g.row.D-File.Denot g.D.File.Source.left g.D.File.Source.failures) (g.D.Folder.known c.args.folder.now)
+    (g.S.Source.left c.args.input.now) (g.S.Source.left c.run_csv.new.input) (task_seen c.args.task) (program_of (arc_value c.in-Ok.program)) c.in-Some.node.0
+    (change (g.O.Sink.written c.args.output.now) (g.O.Sink.written c.run_csv.new.output) (g.O.Sink.failures c.args.output.now) (g.O.Sink.failures c.run_csv.new.output))
+    (subst (IsOfFile (g.D.Folder.known c.args.folder.now c.args.task.program.now)) same c.in_ok-program.ensures.accepted)
+    (subst (λ p. node_named p c.args.task.node.now ≡ Some c.in-Some.node.0) same named) csv c.run_csv.result (ap form_seen c.in-Csv.is)
+    (told_csv _ _ _ _ _ _ c.run_csv.ensures.all c.run_csv.ensures.begun)

@@ -5,7 +5,7 @@ use Rattle.clap.proofs.WalkLemmas.{first_value-rows}
 use Rattle.lus_cli.specs.CommandLine.{Text, is_true}
 use Rattle.lus_cli.specs.declared.words.WordsError.TheVariants.{Mistaken}
 use Rattle.lus_cli.proofs.Lines.{err_part, faulty_asks, faultless_asks, ok_part}
-use Rattle.lus_live.specs.CommandLine.{asked, chosen, form_of, form_seen, said, task_seen, the_command}
+use Rattle.lus_live.specs.CommandLine.{asked, chosen, form_of, form_seen, is_set, said, task_seen, the_command}
 use Rattle.lus_live.proofs.words.read_words.Goals as goal
 
 faulty : (ws : List Text) (a : App) → a ≡ the_command → fault_of a ws ≢ [] → asked ws ≡ None
@@ -28,11 +28,14 @@ asked_is c =
     let found = found_of c.in_ok-matches.matches in
     let command_is : app_of c.in_ok-command.field-0 ≡ the_command = search rules in
     let value : (id : Text) → first_value found id ≡ first_of id (rows_of found) = first_value-rows found in
-    let form : option_map form_seen c.form_of.result ≡ form_of (is_true (first_of (codes "json") (rows_of found))) (first_of (codes "JOURNAL") (rows_of found)) =
-    c.form_of.ensures ∙ ap₂ (λ j b. form_of (is_true j) b) (c.get_str.ensures ∙ value (codes "json")) (c.get_str-2.ensures ∙ value (codes "JOURNAL")) in
+    let form : option_map form_seen c.form_of.result
+    ≡ form_of (is_set (codes "json") (rows_of found)) (is_set (codes "csv") (rows_of found)) (first_of (codes "JOURNAL") (rows_of found)) =
+    c.form_of.ensures
+    ∙ ap₂ (λ f b. f b) (ap₂ (λ j v. form_of (is_true j) (is_true v)) (c.get_str.ensures ∙ value (codes "json")) (c.get_str-2.ensures ∙ value (codes "csv")))
+    (c.get_str-3.ensures ∙ value (codes "JOURNAL")) in
     faultless (map string_bytes c.args.words.now) (app_of c.in_ok-command.field-0) (rows_of found) command_is c.in_ok-matches.ensures.right c.in_ok-matches.ensures.rows
     ∙ sym (c.choose.ensures
-    ∙ ap₂ (λ f n. f n) (ap₂ chosen form (c.get_str-3.ensures ∙ value (codes "PROGRAM"))) (c.get_str-4.ensures ∙ value (codes "NODE")))
+    ∙ ap₂ (λ f n. f n) (ap₂ chosen form (c.get_str-4.ensures ∙ value (codes "PROGRAM"))) (c.get_str-5.ensures ∙ value (codes "NODE")))
 
 pub returns-clause-ok : goal.returns-clause-ok
 returns-clause-ok c = ok_part task_seen Mistaken c.choose.result c.ok_or.result (asked (map string_bytes c.args.words.now)) c.ok_or.ensures.value (asked_is c)
