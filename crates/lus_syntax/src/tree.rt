@@ -1,6 +1,7 @@
 //! The tree of a source, in the order and the words of the grammar.
 
 use crate::token::Span;
+use lus_values::Op;
 
 /// A name where it stands.
 #[derive(Drop)]
@@ -94,22 +95,8 @@ pub enum Prefix {
 pub enum Infix {
     Fby,
     Arrow,
-    Implies,
-    Or,
-    Xor,
-    And,
-    Equal,
-    NotEqual,
-    Less,
-    AtMost,
-    Greater,
-    AtLeast,
-    Add,
-    Subtract,
-    Multiply,
-    Divide,
-    /// The word `mod`: what `Divide`, which rounds toward zero, leaves.
-    Remainder,
+    /// One whose result is computed from the values of both sides: `div` and `/` are one, and `mod` is what it leaves.
+    Compute(Op),
 }
 
 /// An operator before a list of operands.

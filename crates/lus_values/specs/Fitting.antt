@@ -2,9 +2,10 @@
 use Rattle.std.specs.Prelude.{Bool, true, false, ◌&&◌, ◌||◌, nat_eq, List, [], ◌∷◌}
 use Rattle.std.specs.List.{list_all}
 use Rattle.lus_values.specs.declared.operator.Op.{Op}
-use Rattle.lus_values.specs.declared.operator.Op.TheVariants.{Negate, Add, Subtract, Multiply, Divide, Remainder, Not, And, Or, Xor, Implies, Equal, NotEqual, Less, AtMost, Greater, AtLeast, AtMostOne, Nor}
+use Rattle.lus_values.specs.declared.operator.Shape.{Shape}
+use Rattle.lus_values.specs.declared.operator.Shape.TheVariants as shapes
 use Rattle.lus_values.specs.Values.{Value, bool, int, enum, struct, Fields, end, field}
-use Rattle.lus_values.specs.Operators.{is_nil}
+use Rattle.lus_values.specs.Operators.{shape, is_nil}
 
 -- two values are of one kind: structures of as many fields, each pair of one kind; nil is of none
 abbrev mutual
@@ -40,34 +41,19 @@ abbrev pub two : (Value → Value → Bool) → List Value → Bool
 two f (a ∷ b ∷ []) = f a b
 two f _ = false
 
-abbrev pub two_ints : List Value → Bool
-two_ints = two (λ a b. fits_int a && fits_int b)
-
-abbrev pub two_bools : List Value → Bool
-two_bools = two (λ a b. fits_bool a && fits_bool b)
-
 abbrev pub one_or_more : (Value → Bool) → List Value → Bool
 one_or_more f [] = false
 one_or_more f (v ∷ vs) = list_all f (v ∷ vs)
 
+abbrev pub fits_shape : Shape → List Value → Bool
+fits_shape shapes.Int = one fits_int
+fits_shape shapes.Ints = two (λ a b. fits_int a && fits_int b)
+fits_shape shapes.Comparison = two (λ a b. fits_int a && fits_int b)
+fits_shape shapes.Bool = one fits_bool
+fits_shape shapes.Bools = two (λ a b. fits_bool a && fits_bool b)
+fits_shape shapes.Alike = two fit_equality
+fits_shape shapes.Count = one_or_more fits_bool
+
 -- the operands fit the operator, in number and in kind
 abbrev pub fits_op : Op → List Value → Bool
-fits_op Negate = one fits_int
-fits_op Add = two_ints
-fits_op Subtract = two_ints
-fits_op Multiply = two_ints
-fits_op Divide = two_ints
-fits_op Remainder = two_ints
-fits_op Not = one fits_bool
-fits_op And = two_bools
-fits_op Or = two_bools
-fits_op Xor = two_bools
-fits_op Implies = two_bools
-fits_op Equal = two fit_equality
-fits_op NotEqual = two fit_equality
-fits_op Less = two_ints
-fits_op AtMost = two_ints
-fits_op Greater = two_ints
-fits_op AtLeast = two_ints
-fits_op AtMostOne = one_or_more fits_bool
-fits_op Nor = one_or_more fits_bool
+fits_op op = fits_shape (shape op)

@@ -4,7 +4,9 @@ use Rattle.std.specs.Prelude.{ℕ, zero, suc, Bool, true, false, not, ◌&&◌, 
 use Rattle.std.specs.List.{count_by, list_all}
 use Rattle.std.specs.Option.{option_and_then, option_map}
 use Rattle.lus_values.specs.declared.operator.Op.{Op}
-use Rattle.lus_values.specs.declared.operator.Op.TheVariants.{Negate, Add, Subtract, Multiply, Divide, Remainder, Not, And, Or, Xor, Implies, Equal, NotEqual, Less, AtMost, Greater, AtLeast, AtMostOne, Nor}
+use Rattle.lus_values.specs.declared.operator.Op.TheVariants as ops
+use Rattle.lus_values.specs.declared.operator.Shape.{Shape}
+use Rattle.lus_values.specs.declared.operator.Shape.TheVariants as shapes
 use Rattle.lus_values.specs.declared.operator.Operator.{Operator}
 use Rattle.lus_values.specs.declared.operator.Operator.TheVariants.{Compute, If, Structure, Field}
 use Rattle.lus_values.specs.Values.{Value, bool, int, struct, nil, Fields, end, field, fields_of}
@@ -45,49 +47,63 @@ abbrev pub count_true : List Value → Option ℕ
 count_true [] = None
 count_true (v ∷ vs) = if list_all is_bool (v ∷ vs) then Some (count_by is_true (v ∷ vs)) else None
 
--- functions of such operands; no value at others
-abbrev pub on_int : (ℤ → Option ℤ) → List Value → Option Value
-on_int f vs = option_and_then (λ a. option_map int (f a)) (one_int vs)
+-- what an operator makes of the operands that it takes
+pub data Rule : Type 0 where
+  of_int : (ℤ → Option ℤ) → Rule
+  of_ints : (ℤ → ℤ → Option ℤ) → Rule
+  comparing : (ℤ → ℤ → Bool) → Rule
+  of_bool : (Bool → Bool) → Rule
+  of_bools : (Bool → Bool → Bool) → Rule
+  of_alike : (Value → Value → Bool) → Rule
+  counting : (ℕ → Bool) → Rule
 
-abbrev pub on_ints : (ℤ → ℤ → Option ℤ) → List Value → Option Value
-on_ints f vs = option_and_then (λ p. option_map int (f p.0 p.1)) (two_ints vs)
+-- the rule of each operator; `#` says that at most one operand is true, `nor` that none is
+abbrev pub rule : Op → Rule
+rule ops.Negate = of_int (λ a. in_range (neg_ℤ a))
+rule ops.Add = of_ints (λ a b. in_range (a +ℤ b))
+rule ops.Subtract = of_ints (λ a b. in_range (a -ℤ b))
+rule ops.Multiply = of_ints (λ a b. in_range (a *ℤ b))
+rule ops.Divide = of_ints quotient
+rule ops.Remainder = of_ints remainder
+rule ops.Not = of_bool not
+rule ops.And = of_bools (λ a b. a && b)
+rule ops.Or = of_bools (λ a b. a || b)
+rule ops.Xor = of_bools (λ a b. not (bool_equal a b))
+rule ops.Implies = of_bools (λ a b. not a || b)
+rule ops.Equal = of_alike same
+rule ops.NotEqual = of_alike (λ a b. not (same a b))
+rule ops.Less = comparing int_lt
+rule ops.AtMost = comparing int_le
+rule ops.Greater = comparing (λ a b. int_lt b a)
+rule ops.AtLeast = comparing (λ a b. int_le b a)
+rule ops.AtMostOne = counting (λ n. nat_le n 1)
+rule ops.Nor = counting (λ n. nat_eq n 0)
 
-abbrev pub compare_ints : (ℤ → ℤ → Bool) → List Value → Option Value
-compare_ints f vs = option_map (λ p. bool (f p.0 p.1)) (two_ints vs)
+-- what a rule gives for operands of which none is nil; no value for others than it takes
+abbrev pub computed : Rule → List Value → Option Value
+computed (of_int f) vs = option_and_then (λ a. option_map int (f a)) (one_int vs)
+computed (of_ints f) vs = option_and_then (λ p. option_map int (f p.0 p.1)) (two_ints vs)
+computed (comparing f) vs = option_map (λ p. bool (f p.0 p.1)) (two_ints vs)
+computed (of_bool f) vs = option_map (λ a. bool (f a)) (one_bool vs)
+computed (of_bools f) vs = option_map (λ p. bool (f p.0 p.1)) (two_bools vs)
+computed (of_alike f) vs = option_map (λ p. bool (f p.0 p.1)) (two_values vs)
+computed (counting f) vs = option_map (λ n. bool (f n)) (count_true vs)
 
-abbrev pub on_bool : (Bool → Bool) → List Value → Option Value
-on_bool f vs = option_map (λ a. bool (f a)) (one_bool vs)
-
-abbrev pub on_bools : (Bool → Bool → Bool) → List Value → Option Value
-on_bools f vs = option_map (λ p. bool (f p.0 p.1)) (two_bools vs)
-
-abbrev pub compare : (Value → Value → Bool) → List Value → Option Value
-compare f vs = option_map (λ p. bool (f p.0 p.1)) (two_values vs)
-
-abbrev pub on_count : (ℕ → Bool) → List Value → Option Value
-on_count f vs = option_map (λ n. bool (f n)) (count_true vs)
-
--- an operator on operands of which none is nil; `#` says that at most one operand is true, `nor` that none is
 abbrev pub compute : Op → List Value → Option Value
-compute Negate = on_int (λ a. in_range (neg_ℤ a))
-compute Add = on_ints (λ a b. in_range (a +ℤ b))
-compute Subtract = on_ints (λ a b. in_range (a -ℤ b))
-compute Multiply = on_ints (λ a b. in_range (a *ℤ b))
-compute Divide = on_ints quotient
-compute Remainder = on_ints remainder
-compute Not = on_bool not
-compute And = on_bools (λ a b. a && b)
-compute Or = on_bools (λ a b. a || b)
-compute Xor = on_bools (λ a b. not (bool_equal a b))
-compute Implies = on_bools (λ a b. not a || b)
-compute Equal = compare same
-compute NotEqual = compare (λ a b. not (same a b))
-compute Less = compare_ints int_lt
-compute AtMost = compare_ints int_le
-compute Greater = compare_ints (λ a b. int_lt b a)
-compute AtLeast = compare_ints (λ a b. int_le b a)
-compute AtMostOne = on_count (λ n. nat_le n 1)
-compute Nor = on_count (λ n. nat_eq n 0)
+compute op = computed (rule op)
+
+-- what an operator takes and gives, whatever it makes of it
+abbrev pub shape_of : Rule → Shape
+shape_of (of_int f) = shapes.Int
+shape_of (of_ints f) = shapes.Ints
+shape_of (comparing f) = shapes.Comparison
+shape_of (of_bool f) = shapes.Bool
+shape_of (of_bools f) = shapes.Bools
+shape_of (of_alike f) = shapes.Alike
+shape_of (counting f) = shapes.Count
+
+abbrev pub shape : Op → Shape
+shape op = shape_of (rule op)
 
 -- `if c then a else b`
 abbrev pub choose : List Value → Option Value

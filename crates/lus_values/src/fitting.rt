@@ -7,30 +7,22 @@ ghost use Rattle.lus_values.specs.Operators.{is_nil};
 ghost use Rattle.lus_values.specs.Values.{fields_of};
 ghost use Rattle.lus_values.specs.View.{value_of};
 
-use crate::operator::Op;
+use crate::operator::{Op, Shape};
 use crate::value::Value;
 
 /// Whether the operands fit an operator in number and in kind, nil apart: what `apply` asks.
 pub fn fits_op(op: Op, operands: &[Value]) -> bool
     ensures { result ≡ fits_op op (map value_of operands.now) }
 {
-    match op {
-        Op::Negate => matches!(operands, [a] if fits_int(a)),
-        Op::Add
-        | Op::Subtract
-        | Op::Multiply
-        | Op::Divide
-        | Op::Remainder
-        | Op::Less
-        | Op::AtMost
-        | Op::Greater
-        | Op::AtLeast => matches!(operands, [a, b] if fits_int(a) && fits_int(b)),
-        Op::Not => matches!(operands, [a] if fits_bool(a)),
-        Op::And | Op::Or | Op::Xor | Op::Implies => {
-            matches!(operands, [a, b] if fits_bool(a) && fits_bool(b))
+    match op.shape() {
+        Shape::Int => matches!(operands, [a] if fits_int(a)),
+        Shape::Ints | Shape::Comparison => {
+            matches!(operands, [a, b] if fits_int(a) && fits_int(b))
         }
-        Op::Equal | Op::NotEqual => matches!(operands, [a, b] if fit_equality(a, b)),
-        Op::AtMostOne | Op::Nor => !operands.is_empty() && all_fit_bool(operands),
+        Shape::Bool => matches!(operands, [a] if fits_bool(a)),
+        Shape::Bools => matches!(operands, [a, b] if fits_bool(a) && fits_bool(b)),
+        Shape::Alike => matches!(operands, [a, b] if fit_equality(a, b)),
+        Shape::Count => !operands.is_empty() && all_fit_bool(operands),
     }
 }
 

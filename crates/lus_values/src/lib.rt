@@ -16,7 +16,7 @@ pub use equality::same;
 pub use fitting::fits_op;
 pub use memory::Memory;
 pub use names::Names;
-pub use operator::{Op, Operator};
+pub use operator::{Op, Operator, Shape};
 pub use row::{Row, copy_entry};
 pub use text::{print, push_value};
 pub use value::{Value, copy};
