@@ -10,8 +10,8 @@ use crate::text::begins_name;
 use crate::token::{Symbol, TokenKind, Word};
 use std::str;
 
-// The words, and those that are kept back.
-static WORDS: [(&str, Option<Word>); 39] = [
+/// The words of the language, and those that are kept back.
+pub static WORDS: &[(&str, Option<Word>)] = &[
     ("node", Some(Word::Node)),
     ("function", Some(Word::Function)),
     ("returns", Some(Word::Returns)),
@@ -54,7 +54,7 @@ static WORDS: [(&str, Option<Word>); 39] = [
 ];
 
 // The symbols. A longer one stands before a shorter one.
-pub(crate) static SYMBOLS: [(&str, Symbol); 21] = [
+pub(crate) static SYMBOLS: &[(&str, Symbol)] = &[
     ("<>", Symbol::NotEqual),
     ("<=", Symbol::AtMost),
     (">=", Symbol::AtLeast),
@@ -82,14 +82,14 @@ pub(crate) static SYMBOLS: [(&str, Symbol); 21] = [
 fn word_of(text: &str) -> Option<Option<Word>>
     ensures { result ≡ look_up text.now words }
 {
-    look_up(&WORDS, text)
+    look_up(WORDS, text)
 }
 
 #[tactic(auto, unfolding(crate::specs::Texts::symbols))]
 fn symbol_of(text: &str) -> Option<Symbol>
     ensures { result ≡ look_up text.now symbols }
 {
-    look_up(&SYMBOLS, text)
+    look_up(SYMBOLS, text)
 }
 
 // The number that the digits write, within its limit.

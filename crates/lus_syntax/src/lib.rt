@@ -14,6 +14,7 @@ mod text;
 mod token;
 mod tree;
 
+pub use kind::WORDS;
 pub use laws::{one_reading, places_in_words};
 pub use lexer::lex;
 pub use limits::{

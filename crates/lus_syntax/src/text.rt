@@ -38,7 +38,7 @@ fn number_len(bytes: &[u8]) -> usize
 fn symbol_len(bytes: &[u8]) -> Option<usize>
     ensures { result ≡ symbol_len bytes.now }
 {
-    first_len(&SYMBOLS, bytes)
+    first_len(SYMBOLS, bytes)
 }
 
 /// The length of the longest text of a token that begins here.
