@@ -5,7 +5,7 @@ use Rattle.lus_program.specs.Programs.{Expression, literal, variable, operate, p
 use Rattle.lus_values.specs.Lists.{Each, Below}
 use Rattle.lus_values.specs.Operators.{apply}
 use Rattle.lus_streams.specs.Clocks.{Clock, clock_of, Part, at, formal_clock, base_of, branch_clock, parts, all_parts}
-use Rattle.lus_streams.specs.Equations.{Definition, given_by, place_in, equation_clock, definition_in, definition_of, equation_parts, node_parts, Site, sites}
+use Rattle.lus_streams.specs.Equations.{Definition, given_by, equation_clock, definition_of, equation_parts, node_parts, Site, sites}
 use Rattle.lus_streams.specs.OnClock.{DefinedOnClock, PartOnClock, RightOnClock, IsOnClocks}
 use Rattle.lus_streams.specs.Streams.{Instant, instant, Called, nobody, also, World, row_of, entry, called_instant, called_world, holds, is_on, at_last, with_operand, with_operands, where_on, output, value, values, branch, inputs_given, definition_value, Follows, EquationsHold, IsInstant, EachCall, Satisfies}
 use Rattle.lus_streams.specs.Throughout.{Throughout, ThroughoutCalls}

@@ -1,13 +1,11 @@
 -- Operators give no nil on operands without nil.
-use Rattle.std.proofs.Common.{◌≡◌, ℕ, zero, suc, Bool, true, false, not, cond, ◌||◌, ℤ, List, [], ◌∷◌, Option, Some, None, refl, sym, ap, ◌∙◌, subst, IsTrue, if◌then◌else◌}
-use Rattle.lus_values.specs.declared.operator.Op.{Op}
-use Rattle.lus_values.specs.declared.operator.Op.TheVariants.{Negate, Add, Subtract, Multiply, Divide, Remainder, Not, And, Or, Xor, Implies, Equal, NotEqual, Less, AtMost, Greater, AtLeast, AtMostOne, Nor}
+use Rattle.std.proofs.Common.{◌≡◌, ℕ, zero, suc, Bool, true, false, cond, ◌||◌, List, [], ◌∷◌, Option, Some, None, refl, sym, ap, ◌∙◌, subst, IsTrue, if◌then◌else◌}
 use Rattle.lus_values.specs.declared.operator.Operator.{Operator}
 use Rattle.lus_values.specs.declared.operator.Operator.TheVariants.{Compute, If, Structure, Field}
 use Rattle.lus_values.specs.Values.{Value, bool, int, struct, nil, Fields, end, field, fields_of}
 use Rattle.lus_values.specs.Lists.{Each}
 use Rattle.std.specs.Option.{option_and_then, option_map}
-use Rattle.lus_values.specs.Operators.{one_int, two_ints, one_bool, two_bools, two_values, count_true, on_int, on_ints, compare_ints, on_bools, on_count, compare, compute, choose, field_at, project, is_nil, any_nil, give, apply}
+use Rattle.lus_values.specs.Operators.{one_int, two_ints, one_bool, two_bools, two_values, count_true, Rule, of_int, of_ints, comparing, of_bool, of_bools, of_alike, counting, rule, computed, choose, field_at, project, is_nil, any_nil, give, apply}
 pub use Rattle.lus_values.proofs.Equalities.{and_left, and_right, and_true}
 use Rattle.lus_streams.specs.Flags.{nil_free, nil_free_fields, IsNilFree}
 
@@ -28,44 +26,14 @@ map_nil_free : {A : Type 0} (f : A → Value) → ((a : A) → IsTrue (nil_free 
 map_nil_free f h None = tt
 map_nil_free f h (Some a) = h a
 
-on_int_nil_free : (f : ℤ → Option ℤ) (vs : List Value) → IsNilFree (on_int f vs)
-on_int_nil_free f vs = then_nil_free (λ a. option_map int (f a)) (λ a. map_nil_free int (λ z. refl) (f a)) (one_int vs)
-
-on_ints_nil_free : (f : ℤ → ℤ → Option ℤ) (vs : List Value) → IsNilFree (on_ints f vs)
-on_ints_nil_free f vs = then_nil_free (λ p. option_map int (f p.0 p.1)) (λ p. map_nil_free int (λ z. refl) (f p.0 p.1)) (two_ints vs)
-
-compare_ints_nil_free : (f : ℤ → ℤ → Bool) (vs : List Value) → IsNilFree (compare_ints f vs)
-compare_ints_nil_free f vs = map_nil_free (λ p. bool (f p.0 p.1)) (λ p. refl) (two_ints vs)
-
-on_bools_nil_free : (f : Bool → Bool → Bool) (vs : List Value) → IsNilFree (on_bools f vs)
-on_bools_nil_free f vs = map_nil_free (λ p. bool (f p.0 p.1)) (λ p. refl) (two_bools vs)
-
-on_count_nil_free : (f : ℕ → Bool) (vs : List Value) → IsNilFree (on_count f vs)
-on_count_nil_free f vs = map_nil_free (λ n. bool (f n)) (λ n. refl) (count_true vs)
-
-compare_nil_free : (f : Value → Value → Bool) (vs : List Value) → IsNilFree (compare f vs)
-compare_nil_free f vs = map_nil_free (λ p. bool (f p.0 p.1)) (λ p. refl) (two_values vs)
-
-compute_nil_free : (op : Op) (vs : List Value) → IsNilFree (compute op vs)
-compute_nil_free Negate vs = on_int_nil_free _ vs
-compute_nil_free Add vs = on_ints_nil_free _ vs
-compute_nil_free Subtract vs = on_ints_nil_free _ vs
-compute_nil_free Multiply vs = on_ints_nil_free _ vs
-compute_nil_free Divide vs = on_ints_nil_free _ vs
-compute_nil_free Remainder vs = on_ints_nil_free _ vs
-compute_nil_free Not vs = map_nil_free (λ a. bool (not a)) (λ a. refl) (one_bool vs)
-compute_nil_free And vs = on_bools_nil_free _ vs
-compute_nil_free Or vs = on_bools_nil_free _ vs
-compute_nil_free Xor vs = on_bools_nil_free _ vs
-compute_nil_free Implies vs = on_bools_nil_free _ vs
-compute_nil_free Equal vs = compare_nil_free _ vs
-compute_nil_free NotEqual vs = compare_nil_free _ vs
-compute_nil_free Less vs = compare_ints_nil_free _ vs
-compute_nil_free AtMost vs = compare_ints_nil_free _ vs
-compute_nil_free Greater vs = compare_ints_nil_free _ vs
-compute_nil_free AtLeast vs = compare_ints_nil_free _ vs
-compute_nil_free AtMostOne vs = on_count_nil_free _ vs
-compute_nil_free Nor vs = on_count_nil_free _ vs
+computed_nil_free : (r : Rule) (vs : List Value) → IsNilFree (computed r vs)
+computed_nil_free (of_int f) vs = then_nil_free (λ a. option_map int (f a)) (λ a. map_nil_free int (λ z. refl) (f a)) (one_int vs)
+computed_nil_free (of_ints f) vs = then_nil_free (λ p. option_map int (f p.0 p.1)) (λ p. map_nil_free int (λ z. refl) (f p.0 p.1)) (two_ints vs)
+computed_nil_free (comparing f) vs = map_nil_free (λ p. bool (f p.0 p.1)) (λ p. refl) (two_ints vs)
+computed_nil_free (of_bool f) vs = map_nil_free (λ a. bool (f a)) (λ a. refl) (one_bool vs)
+computed_nil_free (of_bools f) vs = map_nil_free (λ p. bool (f p.0 p.1)) (λ p. refl) (two_bools vs)
+computed_nil_free (of_alike f) vs = map_nil_free (λ p. bool (f p.0 p.1)) (λ p. refl) (two_values vs)
+computed_nil_free (counting f) vs = map_nil_free (λ n. bool (f n)) (λ n. refl) (count_true vs)
 
 if_nil_free : (c : Bool) (a b : Value) → IsTrue (nil_free a) → IsTrue (nil_free b) → IsTrue (nil_free (if c then a else b))
 if_nil_free true a b h k = h
@@ -89,7 +57,7 @@ project_nil_free n (struct fs ∷ []) h = field_nil_free fs n h.0
 project_nil_free n _ h = tt
 
 give_nil_free : (o : Operator) (vs : List Value) → AreNilFree vs → IsNilFree (give o vs)
-give_nil_free (Compute op) vs h = compute_nil_free op vs
+give_nil_free (Compute op) vs h = computed_nil_free (rule op) vs
 give_nil_free If vs h = choose_nil_free vs h
 give_nil_free (Structure n) vs h = fields_nil_free vs h
 give_nil_free (Field n) vs h = project_nil_free n vs h
