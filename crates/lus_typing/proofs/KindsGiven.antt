@@ -4,17 +4,16 @@ use Rattle.std.specs.Prelude.{option_map, slice_get, unwrap_or}
 use Rattle.std.specs.List.{list_all}
 use Rattle.std.specs.Option.{option_and_then}
 use Rattle.std.proofs.lemmas.Option.{get_or_from_slice_get}
-use Rattle.lus_values.specs.declared.operator.Op.{Op}
-use Rattle.lus_values.specs.declared.operator.Op.TheVariants as ops
 use Rattle.lus_values.specs.declared.operator.Operator.{Operator}
 use Rattle.lus_values.specs.declared.operator.Operator.TheVariants as operators
 use Rattle.lus_values.specs.Lists.{item}
+use Rattle.lus_values.specs.Operators.{shape}
 use Rattle.lus_program.specs.declared.types.Kind.{Kind}
 use Rattle.lus_program.specs.declared.types.Kind.TheVariants as kinds
 use Rattle.lus_program.specs.Programs.{Expression, literal, variable, operate, pre, arrow, when, merge, call, Operands, none, more, Node, Program, Variable, no_variable, empty_node, node_at}
 use Rattle.lus_values.proofs.Equalities.{and_left, and_right}
-use Rattle.lus_typing.specs.Kinds.{same, all_same, where_true, alike, both, bools_kind, compared, common_kind, the_one}
-use Rattle.lus_typing.specs.Resolved.{only, of_two, op_kind, operation_kind, if_kind, operator_kind, projected, field_kinds, input_kinds, output_kinds, call_results, results, kind_of_variable, test_fits, merged, kind_in, kinds_in}
+use Rattle.lus_typing.specs.Kinds.{same, all_same, where_true, alike, common_kind, the_one}
+use Rattle.lus_typing.specs.Resolved.{takes, operation_kind, if_kind, operator_kind, projected, field_kinds, input_kinds, output_kinds, call_results, results, kind_of_variable, test_fits, merged, kind_in, kinds_in}
 use Rattle.lus_typing.proofs.Options.{and_then_gives, map_gives, where_true_gives, same_is}
 use Rattle.lus_typing.specs.Given.{variable_given, output_given, operator_given, given, last_given}
 
@@ -25,48 +24,6 @@ some_same e = cc
 abbrev last_of : Kind → List Kind → Kind
 last_of k [] = k
 last_of k (l ∷ ls) = last_of l ls
-
-only_gives : (o r : Kind) (ks : List Kind) (k : Kind) → only o r ks ≡ Some k → r ≡ k
-only_gives o r [] k h = cc
-only_gives o r (a ∷ []) k h = some_same (where_true_gives (same o a) (Some r) k h).1
-only_gives o r (a ∷ b ∷ ks) k h = cc
-
-both_gives : (o r : Kind) (ks : List Kind) (k : Kind) → of_two (both o r) ks ≡ Some k → r ≡ k
-both_gives o r [] k h = cc
-both_gives o r (a ∷ []) k h = cc
-both_gives o r (a ∷ b ∷ []) k h = some_same (where_true_gives _ (Some r) k h).1
-both_gives o r (a ∷ b ∷ c ∷ ks) k h = cc
-
-compared_gives : (ks : List Kind) (k : Kind) → of_two compared ks ≡ Some k → kinds.Bool ≡ k
-compared_gives [] k h = cc
-compared_gives (a ∷ []) k h = cc
-compared_gives (a ∷ b ∷ []) k h = some_same (where_true_gives _ (Some kinds.Bool) k h).1
-compared_gives (a ∷ b ∷ c ∷ ks) k h = cc
-
-bools_gives : (ks : List Kind) (k : Kind) → bools_kind ks ≡ Some k → kinds.Bool ≡ k
-bools_gives [] k h = cc
-bools_gives (a ∷ ks) k h = some_same (where_true_gives (list_all (same kinds.Bool) (a ∷ ks)) (Some kinds.Bool) k h).1
-
-operation_gives : (op : Op) (ks : List Kind) (k : Kind) → op_kind op ks ≡ Some k → operation_kind op ≡ k
-operation_gives ops.Negate = only_gives kinds.Int kinds.Int
-operation_gives ops.Add = both_gives kinds.Int kinds.Int
-operation_gives ops.Subtract = both_gives kinds.Int kinds.Int
-operation_gives ops.Multiply = both_gives kinds.Int kinds.Int
-operation_gives ops.Divide = both_gives kinds.Int kinds.Int
-operation_gives ops.Remainder = both_gives kinds.Int kinds.Int
-operation_gives ops.Not = only_gives kinds.Bool kinds.Bool
-operation_gives ops.And = both_gives kinds.Bool kinds.Bool
-operation_gives ops.Or = both_gives kinds.Bool kinds.Bool
-operation_gives ops.Xor = both_gives kinds.Bool kinds.Bool
-operation_gives ops.Implies = both_gives kinds.Bool kinds.Bool
-operation_gives ops.Equal = compared_gives
-operation_gives ops.NotEqual = compared_gives
-operation_gives ops.Less = both_gives kinds.Int kinds.Bool
-operation_gives ops.AtMost = both_gives kinds.Int kinds.Bool
-operation_gives ops.Greater = both_gives kinds.Int kinds.Bool
-operation_gives ops.AtLeast = both_gives kinds.Int kinds.Bool
-operation_gives ops.AtMostOne = bools_gives
-operation_gives ops.Nor = bools_gives
 
 -- a choice gives what its last operand is
 if_gives : (ks : List Kind) (k : Kind) → if_kind ks ≡ Some k → last_of kinds.Bool ks ≡ k
@@ -107,7 +64,7 @@ module _ (p : Program) where
   field_gives n (s ∷ a ∷ ks) k h = cc
 
   operator_gives : (o : Operator) (ks : List Kind) (k : Kind) → operator_kind p o ks ≡ Some k → operator_given p o (last_of kinds.Bool ks) ≡ k
-  operator_gives (operators.Compute op) ks k h = operation_gives op ks k h
+  operator_gives (operators.Compute op) ks k h = some_same (where_true_gives (takes (shape op) ks) (Some (operation_kind op)) k h).1
   operator_gives operators.If ks k h = if_gives ks k h
   operator_gives (operators.Structure t) ks k h = some_same (where_true_gives (all_same (field_kinds p (kinds.Struct t)) ks) (Some (kinds.Struct t)) k h).1
   operator_gives (operators.Field n) ks k h = field_gives n ks k h

@@ -27,13 +27,6 @@ where_true false x = None
 abbrev pub alike : Kind → Kind → Option Kind
 alike k l = where_true (same k l) (Some k)
 
--- two operands of one type, and a result
-abbrev pub both : Kind → Kind → Kind → Kind → Option Kind
-both operand result k l = where_true (same operand k && same operand l) (Some result)
-
-abbrev pub compared : Kind → Kind → Option Kind
-compared k l = where_true (same k l) (Some kinds.Bool)
-
 -- `if`
 abbrev pub choice_kind : Kind → Kind → Kind → Option Kind
 choice_kind c k l = where_true (same kinds.Bool c) (alike k l)
@@ -53,11 +46,6 @@ the_one ks = None
 abbrev pub common_kind : List Kind → Option Kind
 common_kind [] = None
 common_kind (k ∷ ks) = where_true (list_all (same k) ks) (Some k)
-
--- `#` and `nor`: one truth value or more
-abbrev pub bools_kind : List Kind → Option Kind
-bools_kind [] = None
-bools_kind (k ∷ ks) = where_true (list_all (same kinds.Bool) (k ∷ ks)) (Some kinds.Bool)
 
 abbrev pub count : ℕ → List ℕ → ℕ
 count n [] = 0

@@ -1,11 +1,14 @@
 -- What a program keeps that a well-formed tree means. Passes after types rely on this, and on nothing of the tree.
 use Rattle.std.specs.Prelude.{◌≡◌, ◌+◌, ◌++◌, ◌<◌, ◌≤◌, ℕ, Bool, true, false, List, [], ◌∷◌, Option, Some, None, map, flat_map, length, nat_eq, nat_lt, take, drop, slice_get, option_map, IsTrue}
+use Rattle.std.specs.List.{list_all}
 use Rattle.std.specs.Option.{option_and_then}
 use Rattle.lus_values.specs.declared.operator.Op.{Op}
-use Rattle.lus_values.specs.declared.operator.Op.TheVariants as ops
+use Rattle.lus_values.specs.declared.operator.Shape.{Shape}
+use Rattle.lus_values.specs.declared.operator.Shape.TheVariants as shapes
 use Rattle.lus_values.specs.declared.operator.Operator.{Operator}
 use Rattle.lus_values.specs.declared.operator.Operator.TheVariants as operators
 use Rattle.lus_values.specs.Lists.{item, Each, Below}
+use Rattle.lus_values.specs.Operators.{shape}
 use Rattle.lus_syntax.specs.Limits.{most_parts}
 use Rattle.lus_program.specs.declared.expr.Test.{Test}
 use Rattle.lus_program.specs.declared.types.Kind.{Kind}
@@ -13,59 +16,33 @@ use Rattle.lus_program.specs.declared.types.Kind.TheVariants as kinds
 use Rattle.lus_program.specs.Programs.{Expression, literal, variable, operate, pre, arrow, when, merge, call, Operands, none, more, calls, numbered, Declared, Variable, Equation, Node, Program}
 use Rattle.lus_program.specs.Parts.{program_parts}
 use Rattle.lus_graph.specs.Ways.{Uses, HasNoWayBack}
-use Rattle.lus_typing.specs.Kinds.{same, all_same, where_true, alike, both, compared, choice_kind, value_kind, the_one, common_kind, bools_kind, count, fields_in, constructors_in, nothing_declared}
+use Rattle.lus_typing.specs.Kinds.{same, all_same, where_true, alike, choice_kind, value_kind, the_one, common_kind, count, fields_in, constructors_in, nothing_declared}
 
-abbrev pub only : Kind → Kind → List Kind → Option Kind
-only operand result (k ∷ []) = where_true (same operand k) (Some result)
-only operand result ks = None
+-- whether an operator of this shape takes operands of these types (Lustre V6 reference manual, "Predefined operators")
+abbrev pub takes : Shape → List Kind → Bool
+takes shapes.Int ks = all_same (kinds.Int ∷ []) ks
+takes shapes.Ints ks = all_same (kinds.Int ∷ kinds.Int ∷ []) ks
+takes shapes.Comparison ks = all_same (kinds.Int ∷ kinds.Int ∷ []) ks
+takes shapes.Bool ks = all_same (kinds.Bool ∷ []) ks
+takes shapes.Bools ks = all_same (kinds.Bool ∷ kinds.Bool ∷ []) ks
+takes shapes.Alike (k ∷ l ∷ []) = same k l
+takes shapes.Alike ks = false
+takes shapes.Count [] = false
+takes shapes.Count (k ∷ ks) = list_all (same kinds.Bool) (k ∷ ks)
 
-abbrev pub of_two : (Kind → Kind → Option Kind) → List Kind → Option Kind
-of_two f (k ∷ l ∷ []) = f k l
-of_two f ks = None
+-- what one of this shape gives
+abbrev pub shape_kind : Shape → Kind
+shape_kind shapes.Int = kinds.Int
+shape_kind shapes.Ints = kinds.Int
+shape_kind s = kinds.Bool
 
--- what an operation gives for operands of these types (Lustre V6 reference manual, "Predefined operators")
-abbrev pub op_kind : Op → List Kind → Option Kind
-op_kind ops.Negate = only kinds.Int kinds.Int
-op_kind ops.Add = of_two (both kinds.Int kinds.Int)
-op_kind ops.Subtract = of_two (both kinds.Int kinds.Int)
-op_kind ops.Multiply = of_two (both kinds.Int kinds.Int)
-op_kind ops.Divide = of_two (both kinds.Int kinds.Int)
-op_kind ops.Remainder = of_two (both kinds.Int kinds.Int)
-op_kind ops.Not = only kinds.Bool kinds.Bool
-op_kind ops.And = of_two (both kinds.Bool kinds.Bool)
-op_kind ops.Or = of_two (both kinds.Bool kinds.Bool)
-op_kind ops.Xor = of_two (both kinds.Bool kinds.Bool)
-op_kind ops.Implies = of_two (both kinds.Bool kinds.Bool)
-op_kind ops.Equal = of_two compared
-op_kind ops.NotEqual = of_two compared
-op_kind ops.Less = of_two (both kinds.Int kinds.Bool)
-op_kind ops.AtMost = of_two (both kinds.Int kinds.Bool)
-op_kind ops.Greater = of_two (both kinds.Int kinds.Bool)
-op_kind ops.AtLeast = of_two (both kinds.Int kinds.Bool)
-op_kind ops.AtMostOne = bools_kind
-op_kind ops.Nor = bools_kind
-
--- what an operation gives, whatever its operands (Lustre V6 reference manual, "Predefined operators")
+-- what an operation gives, whatever its operands
 abbrev pub operation_kind : Op → Kind
-operation_kind ops.Negate = kinds.Int
-operation_kind ops.Add = kinds.Int
-operation_kind ops.Subtract = kinds.Int
-operation_kind ops.Multiply = kinds.Int
-operation_kind ops.Divide = kinds.Int
-operation_kind ops.Remainder = kinds.Int
-operation_kind ops.Not = kinds.Bool
-operation_kind ops.And = kinds.Bool
-operation_kind ops.Or = kinds.Bool
-operation_kind ops.Xor = kinds.Bool
-operation_kind ops.Implies = kinds.Bool
-operation_kind ops.Equal = kinds.Bool
-operation_kind ops.NotEqual = kinds.Bool
-operation_kind ops.Less = kinds.Bool
-operation_kind ops.AtMost = kinds.Bool
-operation_kind ops.Greater = kinds.Bool
-operation_kind ops.AtLeast = kinds.Bool
-operation_kind ops.AtMostOne = kinds.Bool
-operation_kind ops.Nor = kinds.Bool
+operation_kind op = shape_kind (shape op)
+
+-- what it gives for operands of these types
+abbrev pub op_kind : Op → List Kind → Option Kind
+op_kind op ks = where_true (takes (shape op) ks) (Some (operation_kind op))
 
 abbrev pub if_kind : List Kind → Option Kind
 if_kind (c ∷ k ∷ l ∷ []) = choice_kind c k l

@@ -10,19 +10,14 @@ ghost use Rattle.lus_typing.specs.Resolved.{declared_in, field_kinds, operation_
 ghost use Rattle.lus_typing.specs.Given.{operator_given, output_given, variable_given};
 
 use lus_program::{Declared, Field, Kind, Node, Program};
-use lus_values::{Op, Operator, Value};
+use lus_values::{Op, Operator, Shape, Value};
 
 /// What an operation gives.
 pub fn operation_kind(operation: Op) -> Kind
     ensures { result ≡ operation_kind operation }
 {
-    match operation {
-        Op::Negate => Kind::Int,
-        Op::Add => Kind::Int,
-        Op::Subtract => Kind::Int,
-        Op::Multiply => Kind::Int,
-        Op::Divide => Kind::Int,
-        Op::Remainder => Kind::Int,
+    match operation.shape() {
+        Shape::Int | Shape::Ints => Kind::Int,
         _ => Kind::Bool,
     }
 }
