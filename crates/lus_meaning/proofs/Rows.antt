@@ -83,7 +83,7 @@ abbrev call_g : tree.Expression → tree.Expression → tree.Expression
 call_g a b = tree.Call (n 103) (argument (var 107) (argument a (argument b tree.End)))
 
 abbrev summed : tree.Expression
-summed = tree.Binary infixes.Add (call_g (digit 1) (call_g (digit 2) (digit 3))) (call_g (digit 4) (digit 5))
+summed = tree.Binary (infixes.Compute ops.Add) (call_g (digit 1) (call_g (digit 2) (digit 3))) (call_g (digit 4) (digit 5))
 
 abbrev h : tree.Node
 h = node 104 (group (n 107 ∷ []) (declared 101) ∷ []) (group (n 121 ∷ []) int_name ∷ []) (equation (n 121 ∷ []) summed ∷ [])

@@ -6,10 +6,8 @@ use Rattle.lus_syntax.specs.declared.tree.Prefix.TheVariants as prefixes
 use Rattle.lus_syntax.specs.declared.tree.Infix.{Infix}
 use Rattle.lus_syntax.specs.declared.tree.Infix.TheVariants as infixes
 use Rattle.lus_syntax.specs.declared.tree.ListOperator.{ListOperator}
-use Rattle.lus_syntax.specs.declared.tree.ListOperator.TheVariants as list_operators
 use Rattle.lus_syntax.specs.Trees as tree
 use Rattle.lus_syntax.specs.Trees.{Named, Numeral, Truth, Name, Call, Structure, Merge, Variadic, Field, Parentheses, When, Unary, Binary, If, Parts, End, More, Group, Tree}
-use Rattle.lus_values.specs.declared.operator.Op.{Op}
 use Rattle.lus_values.specs.declared.operator.Op.TheVariants as ops
 use Rattle.lus_values.specs.declared.operator.Operator.TheVariants as operators
 use Rattle.lus_values.specs.Values.{bool, int, nil}
@@ -19,7 +17,7 @@ use Rattle.lus_program.specs.declared.types.Kind.TheVariants as kinds
 use Rattle.lus_program.specs.Programs.{Expression, literal, variable, operate, pre, arrow, fby, when, merge, call, Operands, none, more, calls, numbered, Variable, Equation, Node, Program}
 use Rattle.lus_meaning.specs.Scopes.{Scope, entry}
 use Rattle.lus_meaning.specs.Tables.{scope, groups, group_kinds, kind_named, declared_as}
-use Rattle.lus_meaning.specs.Types.{name_value, kind_of, variable_kind, size_of, fields_of, field_named, branch_places, fields_asked, test_placed}
+use Rattle.lus_meaning.specs.Types.{list_operation, name_value, kind_of, variable_kind, size_of, fields_of, field_named, branch_places, fields_asked, test_placed}
 
 abbrev pub one : Expression → Operands
 one e = more e none
@@ -27,36 +25,15 @@ one e = more e none
 abbrev pub two : Expression → Expression → Operands
 two a b = more a (one b)
 
-abbrev pub compute : Op → Expression → Expression → Expression
-compute op a b = operate (operators.Compute op) (two a b)
-
 abbrev pub prefix_meant : Prefix → Expression → Expression
 prefix_meant prefixes.Not a = operate (operators.Compute ops.Not) (one a)
 prefix_meant prefixes.Negate a = operate (operators.Compute ops.Negate) (one a)
 prefix_meant prefixes.Pre a = pre a
 
 abbrev pub infix_meant : Infix → Expression → Expression → Expression
-infix_meant infixes.Fby = fby
-infix_meant infixes.Arrow = arrow
-infix_meant infixes.Implies = compute ops.Implies
-infix_meant infixes.Or = compute ops.Or
-infix_meant infixes.Xor = compute ops.Xor
-infix_meant infixes.And = compute ops.And
-infix_meant infixes.Equal = compute ops.Equal
-infix_meant infixes.NotEqual = compute ops.NotEqual
-infix_meant infixes.Less = compute ops.Less
-infix_meant infixes.AtMost = compute ops.AtMost
-infix_meant infixes.Greater = compute ops.Greater
-infix_meant infixes.AtLeast = compute ops.AtLeast
-infix_meant infixes.Add = compute ops.Add
-infix_meant infixes.Subtract = compute ops.Subtract
-infix_meant infixes.Multiply = compute ops.Multiply
-infix_meant infixes.Divide = compute ops.Divide
-infix_meant infixes.Remainder = compute ops.Remainder
-
-abbrev pub list_operation : ListOperator → Op
-list_operation list_operators.AtMostOne = ops.AtMostOne
-list_operation list_operators.Nor = ops.Nor
+infix_meant infixes.Fby a b = fby a b
+infix_meant infixes.Arrow a b = arrow a b
+infix_meant (infixes.Compute op) a b = operate (operators.Compute op) (two a b)
 
 abbrev pub variadic_meant : ListOperator → Operands → Expression
 variadic_meant op es = operate (operators.Compute (list_operation op)) es

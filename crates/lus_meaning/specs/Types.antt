@@ -8,40 +8,34 @@ use Rattle.lus_syntax.specs.declared.tree.Prefix.{Prefix}
 use Rattle.lus_syntax.specs.declared.tree.Prefix.TheVariants as prefixes
 use Rattle.lus_syntax.specs.declared.tree.Infix.{Infix}
 use Rattle.lus_syntax.specs.declared.tree.Infix.TheVariants as infixes
+use Rattle.lus_syntax.specs.declared.tree.ListOperator.{ListOperator}
+use Rattle.lus_syntax.specs.declared.tree.ListOperator.TheVariants as list_operators
 use Rattle.lus_syntax.specs.Trees.{Label, Constructor, Boolean, Test, Holds, Fails, Is, Lead, Plain, Of, Branch, Expression, Numeral, Truth, Name, Call, Structure, Merge, Variadic, Field, Parentheses, When, Unary, Binary, If, Parts, End, More}
+use Rattle.lus_values.specs.declared.operator.Op.{Op}
+use Rattle.lus_values.specs.declared.operator.Op.TheVariants as ops
 use Rattle.lus_values.specs.Lists.{item}
-use Rattle.lus_values.specs.Values.{Value, bool, enum}
+use Rattle.lus_values.specs.Values.{Value, enum}
 use Rattle.lus_program.specs.declared.expr.Test.{Test as PlacedTest}
 use Rattle.lus_program.specs.declared.types.Kind.{Kind}
 use Rattle.lus_program.specs.declared.types.Kind.TheVariants as kinds
-use Rattle.lus_program.specs.Programs.{Declared, enumeration, structure, Field as DeclaredField}
-use Rattle.lus_typing.specs.Kinds.{same, all_same, where_true, alike, both, compared, choice_kind, value_kind, the_one, common_kind, bools_kind, count, fields_in, constructors_in, nothing_declared}
+use Rattle.lus_program.specs.Programs.{Declared, Field as DeclaredField}
+use Rattle.lus_typing.specs.Kinds.{same, all_same, where_true, alike, choice_kind, value_kind, the_one, common_kind, count, fields_in, constructors_in, nothing_declared}
+use Rattle.lus_typing.specs.Resolved.{op_kind}
 use Rattle.lus_meaning.specs.declared.entries.Placed.{Placed}
 use Rattle.lus_meaning.specs.Scopes.{Scope, Signature, entry}
 
 abbrev pub prefix_kind : Prefix → Kind → Option Kind
-prefix_kind prefixes.Not k = alike kinds.Bool k
-prefix_kind prefixes.Negate k = alike kinds.Int k
+prefix_kind prefixes.Not k = op_kind ops.Not (k ∷ [])
+prefix_kind prefixes.Negate k = op_kind ops.Negate (k ∷ [])
 prefix_kind prefixes.Pre k = Some k
 
 abbrev pub infix_kind : Infix → Kind → Kind → Option Kind
-infix_kind infixes.Fby = alike
-infix_kind infixes.Arrow = alike
-infix_kind infixes.Implies = both kinds.Bool kinds.Bool
-infix_kind infixes.Or = both kinds.Bool kinds.Bool
-infix_kind infixes.Xor = both kinds.Bool kinds.Bool
-infix_kind infixes.And = both kinds.Bool kinds.Bool
-infix_kind infixes.Equal = compared
-infix_kind infixes.NotEqual = compared
-infix_kind infixes.Less = both kinds.Int kinds.Bool
-infix_kind infixes.AtMost = both kinds.Int kinds.Bool
-infix_kind infixes.Greater = both kinds.Int kinds.Bool
-infix_kind infixes.AtLeast = both kinds.Int kinds.Bool
-infix_kind infixes.Add = both kinds.Int kinds.Int
-infix_kind infixes.Subtract = both kinds.Int kinds.Int
-infix_kind infixes.Multiply = both kinds.Int kinds.Int
-infix_kind infixes.Divide = both kinds.Int kinds.Int
-infix_kind infixes.Remainder = both kinds.Int kinds.Int
+infix_kind (infixes.Compute op) k l = op_kind op (k ∷ l ∷ [])
+infix_kind op k l = alike k l
+
+abbrev pub list_operation : ListOperator → Op
+list_operation list_operators.AtMostOne = ops.AtMostOne
+list_operation list_operators.Nor = ops.Nor
 
 -- the outputs of a call with arguments of these types
 abbrev pub call_kinds : List Kind → Signature → Option (List Kind)
@@ -71,8 +65,8 @@ are_arguments End = true
 are_arguments (More l e ps) = is_argument l && are_arguments ps
 
 -- operands have nothing before them
-abbrev pub variadic_kind : Parts → List Kind → Option Kind
-variadic_kind es ks = where_true (are_arguments es) (bools_kind ks)
+abbrev pub variadic_kind : ListOperator → Parts → List Kind → Option Kind
+variadic_kind op es ks = where_true (are_arguments es) (op_kind (list_operation op) ks)
 
 -- the field of this name, by its place, those before it being n
 abbrev pub field_from : ℕ → List DeclaredField → Text → Option Placed
@@ -202,7 +196,7 @@ module _ (s : Scope) where
     kind_of (Call f es) = option_and_then (λ ks. option_and_then the_one (outputs_of f.text es ks)) (kinds_of es)
     kind_of (Structure t fs) = option_and_then (λ ks. option_and_then (λ k. structure_kind k fs ks) (entry s.types t.text)) (kinds_of fs)
     kind_of (Merge p c bs) = option_and_then (λ ks. option_and_then (λ k. merge_kind k bs ks) (variable_kind c.text)) (kinds_of bs)
-    kind_of (Variadic op p es) = option_and_then (variadic_kind es) (kinds_of es)
+    kind_of (Variadic op p es) = option_and_then (variadic_kind op es) (kinds_of es)
     kind_of (Field a x) = option_and_then (λ k. field_kind k x.text) (kind_of a)
     kind_of (Parentheses p a) = kind_of a
     kind_of (When a t) = option_and_then (λ k. option_map (λ c. k) (test_placed t)) (kind_of a)
