@@ -1,5 +1,5 @@
 -- What a well-typed expression means has no more parts than its size.
-use Rattle.std.proofs.Common.{arith, ◌≡◌, ◌∙◌, refl, sym, ap, ℕ, zero, suc, ◌+◌, ◌≤◌, ◌<◌, nat_eq, nat_le, Bool, true, false, cond, List, [], ◌∷◌, length, map, Option, Some, None}
+use Rattle.std.proofs.Common.{arith, ◌≡◌, ◌∙◌, refl, ap, ℕ, zero, suc, ◌+◌, ◌≤◌, ◌<◌, nat_eq, nat_le, Bool, true, false, cond, List, [], ◌∷◌, length, map, Option, Some, None}
 use Rattle.std.proofs.lemmas.Bool.{eqb-true}
 use Rattle.std.proofs.lemmas.Bool.Decides.{nat_tests}
 use Rattle.std.specs.Prelude.{option_map, unwrap_or}
@@ -9,7 +9,6 @@ use Rattle.lus_syntax.specs.declared.tree.Infix.{Infix}
 use Rattle.lus_syntax.specs.declared.tree.Infix.TheVariants as infixes
 use Rattle.lus_syntax.specs.declared.tree.Prefix.{Prefix}
 use Rattle.lus_syntax.specs.declared.tree.Prefix.TheVariants as prefixes
-use Rattle.lus_syntax.specs.Lexemes.{Text}
 use Rattle.lus_syntax.specs.Trees as tree
 use Rattle.lus_syntax.specs.Trees.{Numeral, Truth, Name, Call, Structure, Merge, Variadic, Field, Parentheses, When, Unary, Binary, If, Parts, End, More}
 use Rattle.lus_values.specs.declared.operator.Operator.TheVariants as operators
@@ -23,7 +22,7 @@ use Rattle.lus_meaning.specs.Scopes.{Scope, entry}
 use Rattle.lus_typing.specs.Kinds.{count, common_kind, choice_kind, the_one, where_true}
 use Rattle.lus_meaning.specs.Types.{each_counted, each_once, size_of, fields_of, field_named, variable_kind, branch_place, branch_places, field_asked, fields_asked, fields_fit, merge_kind, structure_kind, fields_kind, is_structure, variadic_kind, field_kind, prefix_kind, infix_kind, test_placed, outputs_of, name_value, kind_of, kinds_of}
 use Rattle.lus_meaning.specs.WellTyped.{kinds_given}
-use Rattle.lus_meaning.specs.Meaning.{one, beside, in_order_from, in_order, name_meant, field_meant, prefix_meant, infix_meant, fields_meant, branches_meant, structure_meant, meant, all_meant}
+use Rattle.lus_meaning.specs.Meaning.{one, beside, in_order_from, in_order, prefix_meant, infix_meant, fields_meant, branches_meant, meant, all_meant}
 use Rattle.lus_typing.proofs.Options.{and_then_gives, map_gives, where_true_gives}
 use Rattle.lus_few_parts.proofs.TreeSizes.{infix_size, size, sizes}
 
@@ -35,25 +34,21 @@ operands (more e es) = suc (operands es)
 
 -- the parts of the operands beside the numbers from c on
 abbrev above : ℕ → List ℕ → Operands → ℕ
-above c [] es = 0
-above c (n ∷ ns) none = 0
 above c (n ∷ ns) (more e es) = cond (nat_le c n) (parts e) 0 + above c ns es
+above c ns es = 0
 
 perhaps_less : (b : Bool) (x y z : ℕ) → y ≤ z → cond b x 0 + y ≤ x + z
 perhaps_less true x y z h = omega (arith, h)
 perhaps_less false x y z h = omega (arith, h)
 
 above_all : (c : ℕ) (ns : List ℕ) (es : Operands) → above c ns es ≤ parts_all es
-above_all c [] es = omega arith
-above_all c (n ∷ ns) none = omega arith
 above_all c (n ∷ ns) (more e es) = perhaps_less (nat_le c n) (parts e) (above c ns es) (parts_all es) (above_all c ns es)
+above_all c ns es = omega arith
 
 -- what is beyond c is not before it
 next_less : (c n : ℕ) (a b : Bool) → nat_le (suc c) n ≡ a → nat_le c n ≡ b → (w x y z : ℕ) → w + y ≤ z → w + (cond a x 0 + y) ≤ cond b x 0 + z
-next_less c n true true p q w x y z h = omega (arith, h)
-next_less c n false true p q w x y z h = omega (arith, h)
-next_less c n false false p q w x y z h = omega (arith, h)
 next_less c n true false p q w x y z h = absurd (grind (arith, nat_tests, p, q))
+next_less c n a b p q w x y z h = omega (arith, h)
 
 here_less : (c n : ℕ) → c ≡ n → (a b : Bool) → nat_le (suc c) n ≡ a → nat_le c n ≡ b → (x y z : ℕ) → y ≤ z → x + (cond a x 0 + y) ≤ cond b x 0 + z
 here_less c n same false true p q x y z h = omega (arith, h)
@@ -62,11 +57,10 @@ here_less c n same false false p q x y z h = absurd (grind (arith, nat_tests, q,
 
 -- those beyond c are among those from c on
 above_next : (c : ℕ) (ns : List ℕ) (es : Operands) → above (suc c) ns es ≤ above c ns es
-above_next c [] es = omega arith
-above_next c (n ∷ ns) none = omega arith
 above_next c (n ∷ ns) (more e es) =
     let rest : 0 + above (suc c) ns es ≤ above c ns es = omega (arith, above_next c ns es) in
     omega (arith, next_less c n (nat_le (suc c) n) (nat_le c n) refl refl 0 (parts e) (above (suc c) ns es) (above c ns es) rest)
+above_next c ns es = omega arith
 
 -- the operand beside c is one of those from c on, and not beyond
 beside_first : (c n : ℕ) (ns : List ℕ) (e : Expression) (es : Operands) (b : Bool) → nat_eq c n ≡ b
@@ -96,28 +90,12 @@ ordered_few n ns es long once =
 -- ---- forms
 
 prefix_parts : (op : Prefix) (a : Expression) → parts (prefix_meant op a) ≡ suc (parts a)
-prefix_parts prefixes.Not a = omega arith
-prefix_parts prefixes.Negate a = omega arith
 prefix_parts prefixes.Pre a = refl
+prefix_parts op a = omega arith
 
 infix_parts : (op : Infix) (a b : Expression) → parts (infix_meant op a b) ≡ infix_size op + (parts a + parts b)
 infix_parts infixes.Fby a b = omega arith
-infix_parts infixes.Arrow a b = omega arith
-infix_parts infixes.Implies a b = omega arith
-infix_parts infixes.Or a b = omega arith
-infix_parts infixes.Xor a b = omega arith
-infix_parts infixes.And a b = omega arith
-infix_parts infixes.Equal a b = omega arith
-infix_parts infixes.NotEqual a b = omega arith
-infix_parts infixes.Less a b = omega arith
-infix_parts infixes.AtMost a b = omega arith
-infix_parts infixes.Greater a b = omega arith
-infix_parts infixes.AtLeast a b = omega arith
-infix_parts infixes.Add a b = omega arith
-infix_parts infixes.Subtract a b = omega arith
-infix_parts infixes.Multiply a b = omega arith
-infix_parts infixes.Divide a b = omega arith
-infix_parts infixes.Remainder a b = omega arith
+infix_parts op a b = omega arith
 
 module _ (s : Scope) where
   name_parts : (v : Option Value) (o : Option Placed) → parts (elim o [ Some x ↦ variable x.place | None ↦ literal (unwrap_or v nil) ]) ≡ 1
@@ -169,8 +147,6 @@ module _ (s : Scope) where
 
   mutual
     meant_few : (e : tree.Expression) (k : Kind) → kind_of s e ≡ Some k → parts (meant s e) ≤ size e
-    meant_few (Numeral z q) k h = omega arith
-    meant_few (Truth b q) k h = omega arith
     meant_few (Name n) k h = omega (arith, name_parts (name_value s n.text) (entry s.variables n.text))
     meant_few (Call g es) k h =
         let args = and_then_gives (λ ks. option_and_then the_one (outputs_of s g.text es ks)) (kinds_of s es) k h in
@@ -184,7 +160,7 @@ module _ (s : Scope) where
         let known = and_then_gives (λ m. merge_kind s m bs given.0) (variable_kind s c.text) k given.2 in
         omega (arith, merge_few bs given.0 known.0 k (variable_kind s c.text) known.1 known.2, all_meant_few bs given.0 given.1)
     meant_few (Variadic op q es) k h =
-        let args = and_then_gives (variadic_kind es) (kinds_of s es) k h in
+        let args = and_then_gives (variadic_kind op es) (kinds_of s es) k h in
         omega (arith, all_meant_few es args.0 args.1)
     meant_few (Field a x) k h =
         let given = and_then_gives (λ m. field_kind s m x.text) (kind_of s a) k h in
@@ -205,6 +181,7 @@ module _ (s : Scope) where
         let first = and_then_gives (λ l. option_and_then (choice_kind test.0 l) (kind_of s b)) (kind_of s a) k test.2 in
         let last = and_then_gives (choice_kind test.0 first.0) (kind_of s b) k first.2 in
         omega (arith, meant_few c test.0 test.1, meant_few a first.0 first.1, meant_few b last.0 last.1)
+    meant_few e k h = omega arith
 
     all_meant_few : (ps : Parts) (ks : List Kind) → kinds_of s ps ≡ Some ks → parts_all (all_meant s ps) ≤ sizes ps
     all_meant_few End ks h = omega arith
@@ -222,14 +199,4 @@ module _ (s : Scope) where
       let args = and_then_gives (λ ls. outputs_of s g.text es ls) (kinds_of s es) ks h in
       omega (arith, all_meant_few es args.0 args.1)
   given_few (Parentheses q a) ks h = given_few a ks h
-  given_few (Numeral z q) ks h = alone_few (Numeral z q) ks h
-  given_few (Truth b q) ks h = alone_few (Truth b q) ks h
-  given_few (Name n) ks h = alone_few (Name n) ks h
-  given_few (Structure t fs) ks h = alone_few (Structure t fs) ks h
-  given_few (Merge q c bs) ks h = alone_few (Merge q c bs) ks h
-  given_few (Variadic op q es) ks h = alone_few (Variadic op q es) ks h
-  given_few (Field a x) ks h = alone_few (Field a x) ks h
-  given_few (When a t) ks h = alone_few (When a t) ks h
-  given_few (Unary op q a) ks h = alone_few (Unary op q a) ks h
-  given_few (Binary op a b) ks h = alone_few (Binary op a b) ks h
-  given_few (If q c a b) ks h = alone_few (If q c a b) ks h
+  given_few e ks h = alone_few e ks h

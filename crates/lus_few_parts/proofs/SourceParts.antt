@@ -1,6 +1,5 @@
 -- A program has no more parts than its source has bytes.
-use Rattle.std.proofs.Common.{arith, ◌≡◌, refl, sym, ap, ℕ, suc, ◌+◌, ◌≤◌, Bool, true, false, List, [], ◌∷◌, length, map, Option, Some, None, sum_by, true≢false}
-use Rattle.std.specs.Prelude.{IsTrue}
+use Rattle.std.proofs.Common.{arith, ◌≡◌, refl, sym, ℕ, suc, ◌+◌, ◌≤◌, true, List, [], ◌∷◌, length, map, Option, Some, None, sum_by, true≢false}
 use Rattle.std.specs.List.{list_all}
 use Rattle.std.proofs.lemmas.List.Sums.{sum_by-cons}
 use Rattle.lus_values.specs.Lists.{Each}
@@ -19,7 +18,7 @@ use Rattle.lus_meaning.specs.Tables.{scope}
 use Rattle.lus_meaning.specs.WellTyped.{IsTyped, NodeTyped, equation_typed, are_given, kinds_given, left_kinds}
 use Rattle.lus_meaning.specs.Meaning.{meant, equation_meant, equations_meant, node_meant, program_of}
 use Rattle.lus_few_parts.proofs.Weights.{tokens_fit}
-use Rattle.lus_few_parts.proofs.TreeSizes.{size, equation_size, node_size, nodes_fit}
+use Rattle.lus_few_parts.proofs.TreeSizes.{equation_size, node_size, nodes_fit}
 use Rattle.lus_few_parts.proofs.MeantSizes.{given_few}
 
 given_some : (o : Option (List Kind)) (ls : List Kind) → are_given o ls ≡ true → (ks : List Kind) × (o ≡ Some ks)

@@ -1,19 +1,18 @@
 -- An expression has a size that its tokens weigh at least: one for itself, two for `fby`, none for parentheses.
-use Rattle.std.proofs.Common.{arith, ◌≡◌, refl, ap, ℕ, suc, ◌+◌, ◌≤◌, true, false, List, [], ◌∷◌, ◌++◌, Option, Some, None, sum_by}
+use Rattle.std.proofs.Common.{arith, ◌≡◌, ap, ℕ, suc, ◌+◌, ◌≤◌, List, [], ◌∷◌, ◌++◌, Option, Some, sum_by}
 use Rattle.std.proofs.lemmas.List.Sums.{sum_by-cons}
+use Rattle.lus_values.specs.declared.operator.Op.{Op}
 use Rattle.lus_syntax.specs.declared.token.Symbol.TheVariants as symbols
 use Rattle.lus_syntax.specs.declared.token.Word.TheVariants as words
 use Rattle.lus_syntax.specs.declared.tree.Infix.{Infix}
 use Rattle.lus_syntax.specs.declared.tree.Infix.TheVariants as operators
-use Rattle.lus_syntax.specs.declared.tree.Prefix.{Prefix}
-use Rattle.lus_syntax.specs.Lexemes.{Kind, Identifier, Number, Sign, Keyword, Lexeme, tok}
-use Rattle.lus_syntax.specs.Trees.{Named, Label, Constructor, Boolean, Test, Lead, Expression, Numeral, Truth, Name, Call, Structure, Merge, Variadic, Field, Parentheses, When, Unary, Binary, If, Parts, End, More, Equation, Node, Tree}
+use Rattle.lus_syntax.specs.Lexemes.{Sign, Keyword, Lexeme, tok}
+use Rattle.lus_syntax.specs.Trees.{Lead, Expression, Call, Structure, Merge, Variadic, Field, Parentheses, When, Unary, Binary, If, Parts, End, More, Equation, Node, Tree}
 use Rattle.lus_spelling.specs.declared.form.Form.{Form}
-use Rattle.lus_spelling.specs.declared.form.Form.TheVariants as forms
-use Rattle.lus_spelling.specs.Expressions.{ident, label, Level, Implication, Disjunction, Conjunction, Comparison, Sum, Term, infix_of, SpellsTest, Spells, SpellsAll, SpellsPart, number, truth, falsity, name, call_empty, call, structure, variadic, parentheses, undotted, dotted, primary, merge, prefixed, bare, first, next, choice, else_choice, else_value, arrow_choice, arrow_value, arrow, whole, fby, when, final, further, argument, init, branch}
+use Rattle.lus_spelling.specs.Expressions.{ident, label, Level, Implication, Disjunction, Conjunction, Comparison, Sum, Term, joined_at, joins_at, Spells, SpellsAll, SpellsPart, call, structure, variadic, parentheses, undotted, dotted, primary, merge, prefixed, bare, first, next, choice, else_choice, else_value, arrow_choice, arrow_value, arrow, whole, fby, when, final, further, argument, init, branch}
 use Rattle.lus_spelling.specs.Lists.{Repeated, none, again, Nothing}
 use Rattle.lus_spelling.specs.Declarations.{SpellsEquation, equation, SpellsBody, body, SpellsNode, node, SpellsProgram, empty, with_types, with_constants, with_node}
-use Rattle.lus_few_parts.proofs.Weights.{weight, weight_some, weights, weights_append}
+use Rattle.lus_few_parts.proofs.Weights.{weight_some, weights, weights_append}
 
 abbrev pub infix_size : Infix → ℕ
 infix_size operators.Fby = 2
@@ -21,9 +20,6 @@ infix_size op = 1
 
 abbrev mutual
   pub size : Expression → ℕ
-  size (Numeral n s) = 1
-  size (Truth b s) = 1
-  size (Name n) = 1
   size (Call n us) = suc (sizes us)
   size (Structure n us) = suc (sizes us)
   size (Merge s n us) = suc (sizes us)
@@ -34,6 +30,7 @@ abbrev mutual
   size (Unary op s t) = suc (size t)
   size (Binary op a b) = infix_size op + (size a + size b)
   size (If s c a b) = suc (size c + (size a + size b))
+  size e = 1
 
   pub sizes : Parts → ℕ
   sizes End = 0
@@ -46,32 +43,18 @@ equation_size q = suc (size q.right)
 abbrev pub node_size : Node → ℕ
 node_size f = sum_by equation_size f.equations
 
-infix_weighs : (level : Level) (l : Kind) (op : Infix) → infix_of level l ≡ Some op → infix_size op ≤ weight l
-infix_weighs Implication (Sign symbols.Implies) op e = let same : operators.Implies ≡ op = cc in omega (arith, ap infix_size same)
-infix_weighs Disjunction (Keyword words.Or) op e = let same : operators.Or ≡ op = cc in omega (arith, ap infix_size same)
-infix_weighs Disjunction (Keyword words.Xor) op e = let same : operators.Xor ≡ op = cc in omega (arith, ap infix_size same)
-infix_weighs Conjunction (Keyword words.And) op e = let same : operators.And ≡ op = cc in omega (arith, ap infix_size same)
-infix_weighs Comparison (Sign symbols.Equal) op e = let same : operators.Equal ≡ op = cc in omega (arith, ap infix_size same)
-infix_weighs Comparison (Sign symbols.NotEqual) op e = let same : operators.NotEqual ≡ op = cc in omega (arith, ap infix_size same)
-infix_weighs Comparison (Sign symbols.Less) op e = let same : operators.Less ≡ op = cc in omega (arith, ap infix_size same)
-infix_weighs Comparison (Sign symbols.AtMost) op e = let same : operators.AtMost ≡ op = cc in omega (arith, ap infix_size same)
-infix_weighs Comparison (Sign symbols.Greater) op e = let same : operators.Greater ≡ op = cc in omega (arith, ap infix_size same)
-infix_weighs Comparison (Sign symbols.AtLeast) op e = let same : operators.AtLeast ≡ op = cc in omega (arith, ap infix_size same)
-infix_weighs Sum (Sign symbols.Plus) op e = let same : operators.Add ≡ op = cc in omega (arith, ap infix_size same)
-infix_weighs Sum (Sign symbols.Minus) op e = let same : operators.Subtract ≡ op = cc in omega (arith, ap infix_size same)
-infix_weighs Term (Sign symbols.Star) op e = let same : operators.Multiply ≡ op = cc in omega (arith, ap infix_size same)
-infix_weighs Term (Sign symbols.Slash) op e = let same : operators.Divide ≡ op = cc in omega (arith, ap infix_size same)
-infix_weighs Term (Keyword words.Div) op e = let same : operators.Divide ≡ op = cc in omega (arith, ap infix_size same)
-infix_weighs Term (Keyword words.Mod) op e = let same : operators.Remainder ≡ op = cc in omega (arith, ap infix_size same)
-infix_weighs _ _ op e = absurd cc
+-- what joins operands of a level is no `fby`
+joined_size : (level : Level) (o : Option (Level × Op)) (op : Infix) → joins_at level o ≡ Some op → infix_size op ≤ 1
+joined_size Implication (Some (Implication, q)) op e = let same : operators.Compute q ≡ op = cc in omega (arith, ap infix_size same)
+joined_size Disjunction (Some (Disjunction, q)) op e = let same : operators.Compute q ≡ op = cc in omega (arith, ap infix_size same)
+joined_size Conjunction (Some (Conjunction, q)) op e = let same : operators.Compute q ≡ op = cc in omega (arith, ap infix_size same)
+joined_size Comparison (Some (Comparison, q)) op e = let same : operators.Compute q ≡ op = cc in omega (arith, ap infix_size same)
+joined_size Sum (Some (Sum, q)) op e = let same : operators.Compute q ≡ op = cc in omega (arith, ap infix_size same)
+joined_size Term (Some (Term, q)) op e = let same : operators.Compute q ≡ op = cc in omega (arith, ap infix_size same)
+joined_size _ _ op e = absurd cc
 
 mutual
   size_fits : {level : Level} {t : Expression} {ts : List Lexeme} → Spells level t ts → size t ≤ weights ts
-  size_fits (number n s) = omega arith
-  size_fits (truth s) = omega arith
-  size_fits (falsity s) = omega arith
-  size_fits (name n) = omega arith
-  size_fits (call_empty n o e) = omega arith
   size_fits (call n o {us} {ts} h) = omega (arith, sizes_fit h)
   size_fits (structure n o {us} {ts} h) = omega (arith, sizes_fit h)
   size_fits (variadic l op s o {us} {ts} e h) = omega (arith, weight_some l, sizes_fit h)
@@ -83,7 +66,7 @@ mutual
   size_fits (prefixed {level} {operand} {other} l op s {t} {ts} heads e h) = omega (arith, weight_some l, size_fits h)
   size_fits (bare {level} {operand} {other} {t} {ts} heads h) = size_fits h
   size_fits (first {level} {operand} {t} {ts} joins h) = size_fits h
-  size_fits (next {level} {operand} l op s {a} {b} {xs} {ys} joins e may h k) = omega (arith, weights_append xs (tok l s ∷ ys), infix_weighs level l op e, size_fits h, size_fits k)
+  size_fits (next {level} {operand} l op s {a} {b} {xs} {ys} joins e may h k) = omega (arith, weights_append xs (tok l s ∷ ys), joined_size level (joined_at l) op e, weight_some l, size_fits h, size_fits k)
   size_fits (choice i t e {c} {a} {b} {xs} {ys} {zs} h k m) =
       let last = tok (Keyword words.Else) e ∷ zs in
       omega (arith, weights_append xs (tok (Keyword words.Then) t ∷ (ys ++ last)), weights_append ys last, size_fits h, size_fits k, size_fits m)
@@ -95,6 +78,7 @@ mutual
   size_fits (whole {t} {ts} h) = size_fits h
   size_fits (fby s {a} {b} {xs} {ys} h k) = omega (arith, weights_append xs (tok (Keyword words.Fby) s ∷ ys), size_fits h, size_fits k)
   size_fits (when s {a} {c} {xs} {ys} h k) = omega (arith, weights_append xs (tok (Keyword words.When) s ∷ ys), size_fits h)
+  size_fits h = omega arith
 
   sizes_fit : {form : Form} {us : Parts} {ts : List Lexeme} → SpellsAll form us ts → sizes us ≤ weights ts
   sizes_fit (final {form} {l} {t} {xs} {es} h closes) = omega (arith, weights_append xs es, part_fits h)

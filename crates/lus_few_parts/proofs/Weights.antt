@@ -1,6 +1,6 @@
 -- The tokens of a text weigh no more than its bytes, where `fby` weighs two and each other token one.
-use Rattle.std.proofs.Common.{arith, ◌≡◌, ◌∙◌, refl, sym, ap, ℕ, zero, suc, ◌+◌, ◌≤◌, nat_le, Bool, true, false, List, [], ◌∷◌, ◌++◌, length, Option, Some, None, Result, Ok, Err, if◌then◌else◌}
-use Rattle.std.specs.Prelude.{◌&&◌, pos}
+use Rattle.std.proofs.Common.{arith, ◌≡◌, ◌∙◌, refl, sym, ap, ℕ, ◌+◌, ◌≤◌, nat_le, Bool, true, false, List, [], ◌∷◌, ◌++◌, length, Option, Some, None, Result, Ok, if◌then◌else◌}
+use Rattle.std.specs.Prelude.{pos}
 use Rattle.std.specs.List.{list_all}
 use Rattle.std.specs.Str.{bytes_eq}
 use Rattle.std.specs.Char.{is_ascii_digit}
@@ -11,12 +11,11 @@ use Rattle.lus_values.proofs.Equalities.{and_left, and_right}
 use Rattle.lus_syntax.specs.declared.refusal.RefusalNumber.{RefusalNumber}
 use Rattle.lus_syntax.specs.declared.token.Place.{Place}
 use Rattle.lus_syntax.specs.declared.token.Symbol.{Symbol}
-use Rattle.lus_syntax.specs.declared.token.Word.{Word}
 use Rattle.lus_syntax.specs.declared.token.Word.TheVariants as words
 use Rattle.lus_syntax.specs.Lexemes.{Text, Kind, Identifier, Number, Sign, Keyword, Lexeme}
 use Rattle.lus_syntax.specs.Places.{start, end_of, past}
 use Rattle.lus_syntax.specs.Texts.{words as word_table, symbols, look_up, begins_name, of_name, number_within, of_number, of_symbol, meaning}
-use Rattle.lus_syntax.specs.Gaps.{Piece, Gap}
+use Rattle.lus_syntax.specs.Gaps.{Gap}
 use Rattle.lus_syntax.specs.Tokens.{Here, Run, Tokens}
 
 abbrev pub weight : Kind → ℕ

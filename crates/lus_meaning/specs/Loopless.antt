@@ -19,9 +19,8 @@ node_names p = map (λ f. f.name.text) p.nodes
 
 -- the declared type that a type's name names, among these
 abbrev pub named_type : List Text → TypeName → List ℕ
-named_type types (BoolName s) = []
-named_type types (IntName s) = []
 named_type types (DeclaredName n) = option_to_list (place_in types n.text)
+named_type types y = []
 
 abbrev pub definition_uses : List Text → Definition → List ℕ
 definition_uses types (Alias y) = named_type types y

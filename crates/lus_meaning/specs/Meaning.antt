@@ -40,9 +40,8 @@ variadic_meant op es = operate (operators.Compute (list_operation op)) es
 
 -- the operand beside the number c
 abbrev pub beside : ℕ → List ℕ → Operands → Expression
-beside c [] es = literal nil
-beside c (n ∷ ns) none = literal nil
 beside c (n ∷ ns) (more e es) = cond (nat_eq c n) e (beside c ns es)
+beside c ns es = literal nil
 
 -- n operands, in the order of the numbers beside them, from c on
 abbrev pub in_order_from : ℕ → ℕ → List ℕ → Operands → Operands
@@ -54,10 +53,9 @@ in_order n ns es = in_order_from 0 n ns es
 
 -- the place of a type's declaration
 abbrev pub type_number : Kind → ℕ
-type_number kinds.Bool = 0
-type_number kinds.Int = 0
 type_number (kinds.Enum t) = t
 type_number (kinds.Struct t) = t
+type_number k = 0
 
 module _ (s : Scope) where
   abbrev pub variable_place : Text → ℕ

@@ -30,9 +30,8 @@ pub record Known : Type 0 where
   pub nodes : List Text
 
 abbrev pub constructor_names : Definition → List Text
-constructor_names (Alias y) = []
 constructor_names (Enumeration cs) = map text_of cs
-constructor_names (StructureOf fs) = []
+constructor_names d = []
 
 abbrev pub all_constructor_names : List TypeDeclaration → List Text
 all_constructor_names ds = flat_map (λ d. constructor_names d.definition) ds
@@ -50,9 +49,8 @@ known p gs = record {
 }
 
 abbrev pub type_known : List Text → TypeName → Bool
-type_known types (BoolName s) = true
-type_known types (IntName s) = true
 type_known types (DeclaredName n) = is_in types n.text
+type_known types y = true
 
 module _ (k : Known) where
   -- a label is always a constructor
@@ -68,9 +66,8 @@ module _ (k : Known) where
 
   -- which fields a structure has is a question of types
   abbrev pub knows_lead : Lead → Bool
-  knows_lead Plain = true
-  knows_lead (Of x) = true
   knows_lead (Branch p l) = knows_label l
+  knows_lead l = true
 
   -- a variable, a constant or a constructor
   abbrev pub knows_name : Text → Bool
@@ -139,10 +136,8 @@ maybe_known types (Some y) = type_known types y
 
 -- the right side of a constant is a literal or a constructor
 abbrev pub literal_known : List Text → Literal → Bool
-literal_known constructors (Positive z s) = true
-literal_known constructors (Negative m z s) = true
-literal_known constructors (TruthValue b s) = true
 literal_known constructors (ConstructorName c) = is_in constructors c.text
+literal_known constructors v = true
 
 abbrev pub constant_known : Known → Constant → Bool
 constant_known k c = maybe_known k.types c.type_name && literal_known k.constructors c.value

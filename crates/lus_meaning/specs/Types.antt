@@ -57,8 +57,7 @@ index_of c (m ∷ ms) = cond (nat_eq c m) (Some 0) (option_map (λ i. suc i) (in
 
 abbrev pub is_argument : Lead → Bool
 is_argument Plain = true
-is_argument (Of x) = false
-is_argument (Branch p l) = false
+is_argument l = false
 
 abbrev pub are_arguments : Parts → Bool
 are_arguments End = true
@@ -117,15 +116,12 @@ module _ (s : Scope) where
   -- the constructors of a type, as many as there are
   abbrev pub size_of : Kind → ℕ
   size_of kinds.Bool = 2
-  size_of kinds.Int = 0
   size_of (kinds.Enum t) = constructors_in (declared_at t)
-  size_of (kinds.Struct t) = 0
+  size_of k = 0
 
   abbrev pub fields_of : Kind → List DeclaredField
-  fields_of kinds.Bool = []
-  fields_of kinds.Int = []
-  fields_of (kinds.Enum t) = []
   fields_of (kinds.Struct t) = fields_in (declared_at t)
+  fields_of k = []
 
   -- the place of a label among the constructors of a type
   abbrev pub label_place : Kind → Label → Option ℕ
@@ -148,8 +144,7 @@ module _ (s : Scope) where
 
   abbrev pub branch_place : Kind → Lead → Option ℕ
   branch_place k (Branch p l) = label_place k l
-  branch_place k Plain = None
-  branch_place k (Of x) = None
+  branch_place k l = None
 
   -- the constructors before the arrows of a merge over a variable of type k
   abbrev pub branch_places : Kind → Parts → Option (List ℕ)
@@ -158,8 +153,7 @@ module _ (s : Scope) where
 
   abbrev pub field_asked : Kind → Lead → Option Placed
   field_asked k (Of x) = field_named (fields_of k) x.text
-  field_asked k Plain = None
-  field_asked k (Branch p l) = None
+  field_asked k l = None
 
   -- the fields of a structure of type k, as its parts name them
   abbrev pub fields_asked : Kind → Parts → Option (List Placed)

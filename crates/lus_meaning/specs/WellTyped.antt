@@ -47,14 +47,12 @@ abbrev pub constant_typed : Tree → Constant → Bool
 constant_typed p c = elim c.type_name [ None ↦ true | Some y ↦ value_is (literal_value p c.value) (kind_named p y) ]
 
 abbrev pub remembers : Prefix → Bool
-remembers prefixes.Not = false
-remembers prefixes.Negate = false
 remembers prefixes.Pre = true
+remembers op = false
 
 abbrev pub recalls : Infix → Bool
-recalls infixes.Fby = true
-recalls infixes.Arrow = true
-recalls op = false
+recalls (infixes.Compute op) = false
+recalls op = true
 
 abbrev pub is_function : NodeKind → Bool
 is_function node_kinds.Function = true

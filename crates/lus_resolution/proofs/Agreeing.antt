@@ -4,7 +4,7 @@ use Rattle.std.specs.Prelude.{slice_get, option_map}
 use Rattle.std.specs.Str.{bytes_eq}
 use Rattle.lus_values.specs.Lists.{Each}
 use Rattle.lus_syntax.specs.Lexemes.{Text}
-use Rattle.lus_syntax.specs.Trees.{Lead, Plain, Of, Branch, Parts, End, More}
+use Rattle.lus_syntax.specs.Trees.{Lead, Of, Parts, End, More}
 use Rattle.lus_program.specs.declared.types.Kind.{Kind}
 use Rattle.lus_program.specs.Programs.{Field, Node, Program}
 use Rattle.lus_meaning.specs.declared.entries.Placed.{Placed}
@@ -52,8 +52,7 @@ field_at n (f ∷ fs) t x e = field_or n f fs x (bytes_eq t f.name) (field_from 
 module _ (s : Scope) where
   asked_at : (k : Kind) (l : Lead) (x : Placed) → field_asked s k l ≡ Some x → IsField 0 (fields_of s k) x
   asked_at k (Of n) x e = field_at 0 (fields_of s k) n.text x e
-  asked_at k Plain x e = cc
-  asked_at k (Branch p l) x e = cc
+  asked_at k l x e = cc
 
   pub all_asked_at : (k : Kind) (ps : Parts) (xs : List Placed) → fields_asked s k ps ≡ Some xs → Each (IsField 0 (fields_of s k)) xs
   all_asked_at k End [] e = tt

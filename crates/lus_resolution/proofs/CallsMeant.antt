@@ -1,5 +1,5 @@
 -- What holds of each call in what parts mean holds of each call in what their form means.
-use Rattle.std.proofs.Common.{◌≡◌, ap, ℕ, zero, suc, nat_eq, Bool, true, false, cond, List, [], ◌∷◌, Option, Some, None}
+use Rattle.std.proofs.Common.{◌≡◌, ap, ℕ, zero, suc, nat_eq, Bool, true, false, cond, List, ◌∷◌, Option, Some, None}
 use Rattle.lus_syntax.specs.declared.tree.Prefix.{Prefix}
 use Rattle.lus_syntax.specs.declared.tree.Prefix.TheVariants as prefixes
 use Rattle.lus_syntax.specs.declared.tree.Infix.{Infix}
@@ -7,7 +7,7 @@ use Rattle.lus_syntax.specs.declared.tree.Infix.TheVariants as infixes
 use Rattle.lus_syntax.specs.Lexemes.{Text}
 use Rattle.lus_values.specs.declared.operator.Operator.TheVariants as operators
 use Rattle.lus_values.specs.Values.{Value}
-use Rattle.lus_program.specs.Programs.{Expression, literal, variable, operate, Operands, none, more}
+use Rattle.lus_program.specs.Programs.{Expression, literal, variable, operate, Operands, more}
 use Rattle.lus_meaning.specs.declared.entries.Placed.{Placed}
 use Rattle.lus_meaning.specs.Scopes.{Scope, Signature, entry}
 use Rattle.lus_meaning.specs.Meaning.{one, beside, in_order_from, prefix_meant, infix_meant, node_place}
@@ -26,9 +26,8 @@ module _ (P : ℕ → Type 0) where
   cond_called false e d h k = k
 
   beside_called : (c : ℕ) (ms : List ℕ) (es : Operands) → EachCallIn P es → EachCall P (beside c ms es)
-  beside_called c [] es h = tt
-  beside_called c (m ∷ ms) none h = tt
   beside_called c (m ∷ ms) (more e es) h = cond_called (nat_eq c m) e (beside c ms es) h.0 (beside_called c ms es h.1)
+  beside_called c ms es h = tt
 
   pub order_called : (c k : ℕ) (ms : List ℕ) (es : Operands) → EachCallIn P es → EachCallIn P (in_order_from c k ms es)
   order_called c zero ms es h = tt
@@ -43,11 +42,9 @@ module _ (P : ℕ → Type 0) where
   field_called (Some f) a h = (h, tt)
 
   pub prefix_called : (op : Prefix) (a : Expression) → EachCall P a → EachCall P (prefix_meant op a)
-  prefix_called prefixes.Not a h = (h, tt)
-  prefix_called prefixes.Negate a h = (h, tt)
   prefix_called prefixes.Pre a h = h
+  prefix_called op a h = (h, tt)
 
   pub infix_called : (op : Infix) (a b : Expression) → EachCall P a → EachCall P b → EachCall P (infix_meant op a b)
-  infix_called infixes.Fby a b h k = (h, k)
-  infix_called infixes.Arrow a b h k = (h, k)
-  infix_called op a b h k = (h, (k, tt))
+  infix_called (infixes.Compute op) a b h k = (h, (k, tt))
+  infix_called op a b h k = (h, k)

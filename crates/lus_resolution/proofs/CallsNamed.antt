@@ -12,7 +12,7 @@ use Rattle.lus_syntax.specs.Lexemes.{Text}
 use Rattle.lus_syntax.specs.Trees as tree
 use Rattle.lus_syntax.specs.Trees.{Numeral, Truth, Name, Call, Structure, Merge, Variadic, Field, Parentheses, When, Unary, Binary, If, Parts, End, More, Tree}
 use Rattle.lus_program.specs.declared.types.Kind.TheVariants as kinds
-use Rattle.lus_program.specs.Programs.{Expression, literal, variable, operate, pre, arrow, when, merge, call, Operands, none, more, calls, numbered, Equation, Node}
+use Rattle.lus_program.specs.Programs.{Expression, operate, pre, arrow, when, merge, call, Operands, none, more, calls, numbered, Equation, Node}
 use Rattle.lus_values.proofs.Lists.{each_left, each_right, each_append}
 use Rattle.lus_values.proofs.Equalities.{and_left, and_right}
 use Rattle.lus_meaning.specs.Scopes.{Scope, Signature, entry}
@@ -29,14 +29,13 @@ use Rattle.lus_resolution.proofs.CallsMeant.{node_place_is, order_called, name_c
 module _ (Q : ℕ → Type 0) where
   mutual
     pub each_node : (e : Expression) → EachCall Q e → Each Q (nodes_called e)
-    each_node (literal v) h = tt
-    each_node (variable x) h = tt
     each_node (operate o es) h = each_nodes es h
     each_node (pre a) h = each_node a h
     each_node (arrow a b) h = each_append Q (nodes_called a) (nodes_called b) (each_node a h.0) (each_node b h.1)
     each_node (when t a) h = each_node a h
     each_node (merge x bs) h = each_nodes bs h
     each_node (call g c es) h = (h.0, each_nodes es h.1)
+    each_node e h = tt
 
     each_nodes : (es : Operands) → EachCallIn Q es → Each Q (all_nodes_called es)
     each_nodes none h = tt
@@ -46,8 +45,6 @@ module _ (Q : ℕ → Type 0) where
   module _ (s : Scope) (k : Known) (nodes : List Text) (holds : (t : Text) → is_in k.nodes t ≡ true → Each Q (option_to_list (place_in nodes t)) → Q (node_place s t)) where
     mutual
       named_called : (e : tree.Expression) → knows k e ≡ true → Each Q (called nodes e) → EachCall Q (meant s e)
-      named_called (Numeral z p) h each = tt
-      named_called (Truth b p) h each = tt
       named_called (Name m) h each = name_called Q (unwrap_or (name_value s m.text) nil) (entry s.variables m.text)
       named_called (Call f es) h each = (
         holds f.text (and_left (is_in k.nodes f.text) (knows_parts k es) h) (each_left Q (option_to_list (place_in nodes f.text)) (called_in nodes es) each),
@@ -77,6 +74,7 @@ module _ (Q : ℕ → Type 0) where
               (named_called b (and_right (knows k a) (knows k b) both) (each_right Q (called nodes a) (called nodes b) parts), tt),
             ),
           )
+      named_called e h each = tt
 
       all_named : (ps : Parts) → knows_parts k ps ≡ true → Each Q (called_in nodes ps) → EachCallIn Q (all_meant s ps)
       all_named End h each = tt

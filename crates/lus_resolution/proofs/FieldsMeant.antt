@@ -3,7 +3,7 @@ use Rattle.std.proofs.Common.{◌≡◌, List, [], ◌∷◌, length, length-app
 use Rattle.std.proofs.lemmas.List.{length-map}
 use Rattle.std.proofs.lemmas.List.Sums.{sum_by-cons}
 use Rattle.lus_values.specs.Lists.{Each}
-use Rattle.lus_syntax.specs.Trees.{Named, Fields, Definition, Alias, Enumeration, StructureOf, TypeDeclaration, Tree}
+use Rattle.lus_syntax.specs.Trees.{Named, Fields, Definition, StructureOf, TypeDeclaration, Tree}
 use Rattle.lus_program.specs.Programs.{Field}
 use Rattle.lus_meaning.specs.Meaning.{program_of}
 use Rattle.lus_meaning.specs.Refusals.{WellFormed}
@@ -23,9 +23,8 @@ module _ (p : Tree) where
       omega (arith, some, both, rest, sum)
 
   declared_full : (d : Definition) → DefinitionCounted d → HasFields (declared_as p d)
-  declared_full (Alias y) h = tt
-  declared_full (Enumeration cs) h = tt
   declared_full (StructureOf fs) h = let some = h.0 in let many = fields_as_many fs in omega (arith, some, many)
+  declared_full d h = tt
 
   all_full : (ds : List TypeDeclaration) → Each (λ d. DefinitionCounted d.definition) ds → Each HasFields (map (λ d. declared_as p d.definition) ds)
   all_full [] h = tt

@@ -16,7 +16,6 @@ use Rattle.lus_syntax.specs.declared.tree.Prefix.TheVariants as prefixes
 use Rattle.lus_syntax.specs.declared.tree.Infix.{Infix}
 use Rattle.lus_syntax.specs.declared.tree.Infix.TheVariants as infixes
 use Rattle.lus_syntax.specs.declared.tree.ListOperator.{ListOperator}
-use Rattle.lus_syntax.specs.declared.tree.ListOperator.TheVariants as list_operators
 use Rattle.lus_syntax.specs.Lexemes.{Text}
 use Rattle.lus_syntax.specs.Trees as tree
 use Rattle.lus_syntax.specs.Trees.{Label, Constructor, Boolean, Holds, Fails, Is, Numeral, Truth, Name, Call, Structure, Merge, Variadic, Field, Parentheses, When, Unary, Binary, If, Parts, End, More}
@@ -27,11 +26,11 @@ use Rattle.lus_program.specs.Programs.{Expression, variable, literal, operate, w
 use Rattle.lus_meaning.specs.declared.entries.Placed.{Placed}
 use Rattle.lus_meaning.specs.declared.entries.Constructor.{Constructor as EnumConstructor}
 use Rattle.lus_meaning.specs.Scopes.{Scope, entry}
-use Rattle.lus_typing.specs.Kinds.{same, all_same, where_true, choice_kind, bools_kind, value_kind, the_one, common_kind, fields_in, constructors_in}
-use Rattle.lus_meaning.specs.Types.{prefix_kind, infix_kind, variadic_kind, call_kinds, each_counted, each_once, are_arguments, field_named, test_variable, truth_place, variable_kind, name_value, size_of, fields_of, label_place, asked_place, asked_of, test_placed, branch_place, branch_places, fields_asked, merge_kind, structure_kind, field_kind, outputs_of, kind_of, kinds_of}
+use Rattle.lus_typing.specs.Kinds.{same, all_same, where_true, choice_kind, value_kind, the_one, common_kind, fields_in, constructors_in}
+use Rattle.lus_meaning.specs.Types.{prefix_kind, infix_kind, list_operation, variadic_kind, call_kinds, each_counted, each_once, are_arguments, field_named, test_variable, truth_place, variable_kind, name_value, size_of, fields_of, label_place, asked_place, asked_of, test_placed, branch_place, branch_places, fields_asked, merge_kind, structure_kind, field_kind, outputs_of, kind_of, kinds_of}
 use Rattle.lus_meaning.specs.WellTyped.{kinds_given}
 use Rattle.lus_meaning.specs.Meaning.{one, two, in_order, prefix_meant, infix_meant, variadic_meant, variable_place, no_test, test_meant, node_place, structure_meant, branches_meant, meant, all_meant}
-use Rattle.lus_typing.specs.Resolved.{values_of, field_kinds, operator_kind, call_results, results, kind_of_variable, test_fits, merged, kind_in, kinds_in, kinds_given_in}
+use Rattle.lus_typing.specs.Resolved.{values_of, field_kinds, op_kind, operator_kind, call_results, results, kind_of_variable, test_fits, merged, kind_in, kinds_in, kinds_given_in}
 use Rattle.lus_values.proofs.Equalities.{and_left, and_right, and_true}
 use Rattle.lus_typing.proofs.Options.{and_then_gives, map_gives, where_true_gives, same_is, all_same_is, where_true_is, same_self, all_same_self}
 use Rattle.lus_typing.proofs.Numbering.{paired, put}
@@ -43,9 +42,8 @@ use Rattle.lus_resolution.proofs.CallsMeant.{node_place_is}
 -- kinds of branches
 all_common : (k : Kind) (ks : List Kind) (cs : List ℕ) → list_all (same k) ks ≡ true → length cs ≡ length ks → ks ≡ map (λ c. k) cs
 all_common k [] [] h e = refl
-all_common k [] (c ∷ cs) h e = absurd (omega (arith, e))
-all_common k (l ∷ ks) [] h e = absurd (omega (arith, e))
 all_common k (l ∷ ks) (c ∷ cs) h e = ap₂ ◌∷◌ (sym (same_is k l (and_left (same k l) (list_all (same k) ks) h))) (all_common k ks cs (and_right (same k l) (list_all (same k) ks) h) (omega (arith, e)))
+all_common k ks cs h e = absurd (omega (arith, e))
 
 common_gives : (k : Kind) (ks : List Kind) (cs : List ℕ) → common_kind ks ≡ Some k → length cs ≡ length ks → (0 < length cs) × (ks ≡ map (λ c. k) cs)
 common_gives k [] cs h e = cc
@@ -79,10 +77,8 @@ module _ (s : Scope) where
 
 module _ (s : Scope) (p : Program) (f : Node) (agrees : Agrees s p f) where
   size_is : (k : Kind) → size_of s k ≡ values_of p k
-  size_is kinds.Bool = refl
-  size_is kinds.Int = refl
   size_is (kinds.Enum t) = ap constructors_in (agrees.declared t)
-  size_is (kinds.Struct t) = refl
+  size_is k = refl
 
   fields_are : (k : Kind) → map (λ g. g.kind) (fields_of s k) ≡ field_kinds p k
   fields_are (kinds.Struct t) = ap (λ d. map (λ g. g.kind) (fields_in d)) (agrees.declared t)
@@ -165,30 +161,11 @@ module _ (s : Scope) (p : Program) (f : Node) (agrees : Agrees s p f) where
   prefix_is prefixes.Pre a k l h e = h ∙ e
 
   infix_is : (op : Infix) (a b : Expression) (k l m : Kind) → kind_in p f a ≡ Some k → kind_in p f b ≡ Some l → infix_kind op k l ≡ Some m → kind_in p f (infix_meant op a b) ≡ Some m
-  infix_is infixes.Fby a b k l m h g e = ap₂ (paired p f) h g ∙ e
-  infix_is infixes.Arrow a b k l m h g e = ap₂ (paired p f) h g ∙ e
-  infix_is infixes.Implies a b k l m h g e = of_both (operators.Compute ops.Implies) a b k l h g ∙ e
-  infix_is infixes.Or a b k l m h g e = of_both (operators.Compute ops.Or) a b k l h g ∙ e
-  infix_is infixes.Xor a b k l m h g e = of_both (operators.Compute ops.Xor) a b k l h g ∙ e
-  infix_is infixes.And a b k l m h g e = of_both (operators.Compute ops.And) a b k l h g ∙ e
-  infix_is infixes.Equal a b k l m h g e = of_both (operators.Compute ops.Equal) a b k l h g ∙ e
-  infix_is infixes.NotEqual a b k l m h g e = of_both (operators.Compute ops.NotEqual) a b k l h g ∙ e
-  infix_is infixes.Less a b k l m h g e = of_both (operators.Compute ops.Less) a b k l h g ∙ e
-  infix_is infixes.AtMost a b k l m h g e = of_both (operators.Compute ops.AtMost) a b k l h g ∙ e
-  infix_is infixes.Greater a b k l m h g e = of_both (operators.Compute ops.Greater) a b k l h g ∙ e
-  infix_is infixes.AtLeast a b k l m h g e = of_both (operators.Compute ops.AtLeast) a b k l h g ∙ e
-  infix_is infixes.Add a b k l m h g e = of_both (operators.Compute ops.Add) a b k l h g ∙ e
-  infix_is infixes.Subtract a b k l m h g e = of_both (operators.Compute ops.Subtract) a b k l h g ∙ e
-  infix_is infixes.Multiply a b k l m h g e = of_both (operators.Compute ops.Multiply) a b k l h g ∙ e
-  infix_is infixes.Divide a b k l m h g e = of_both (operators.Compute ops.Divide) a b k l h g ∙ e
-  infix_is infixes.Remainder a b k l m h g e = of_both (operators.Compute ops.Remainder) a b k l h g ∙ e
+  infix_is (infixes.Compute op) a b k l m h g e = of_both (operators.Compute op) a b k l h g ∙ e
+  infix_is op a b k l m h g e = ap₂ (paired p f) h g ∙ e
 
-  list_is : (op : ListOperator) (es : Operands) (ks : List Kind) (l : Kind) → kinds_in p f es ≡ Some ks → bools_kind ks ≡ Some l → kind_in p f (variadic_meant op es) ≡ Some l
-  list_is list_operators.AtMostOne es ks l h e = ap (option_and_then (operator_kind p (operators.Compute ops.AtMostOne))) h ∙ e
-  list_is list_operators.Nor es ks l h e = ap (option_and_then (operator_kind p (operators.Compute ops.Nor))) h ∙ e
-
-  variadic_is : (op : ListOperator) (args : Parts) (es : Operands) (ks : List Kind) (l : Kind) → kinds_in p f es ≡ Some ks → variadic_kind args ks ≡ Some l → kind_in p f (variadic_meant op es) ≡ Some l
-  variadic_is op args es ks l h e = list_is op es ks l h (where_true_gives (are_arguments args) (bools_kind ks) l e).1
+  variadic_is : (op : ListOperator) (args : Parts) (es : Operands) (ks : List Kind) (l : Kind) → kinds_in p f es ≡ Some ks → variadic_kind op args ks ≡ Some l → kind_in p f (variadic_meant op es) ≡ Some l
+  variadic_is op args es ks l h e = ap (option_and_then (operator_kind p (operators.Compute (list_operation op)))) h ∙ (where_true_gives (are_arguments args) (op_kind (list_operation op) ks) l e).1
 
   -- fields of a value
   field_form : (o : Option Placed) (x : Placed) (a : Expression) → o ≡ Some x
@@ -304,7 +281,7 @@ module _ (s : Scope) (p : Program) (f : Node) (agrees : Agrees s p f) where
         let known = and_then_gives (λ m. merge_kind s m bs given.0) (variable_kind s c.text) k given.2 in
         merge_is c.text bs (all_meant s bs) given.0 known.0 k (variable_kind s c.text) known.1 known.1 given.1 (all_meant_are bs given.0 given.1) known.2
     meant_is (Variadic op q es) k h =
-        let args = and_then_gives (variadic_kind es) (kinds_of s es) k h in
+        let args = and_then_gives (variadic_kind op es) (kinds_of s es) k h in
         variadic_is op es (all_meant s es) args.0 k (all_meant_are es args.0 args.1) args.2
     meant_is (Field a x) k h =
         let given = and_then_gives (λ m. field_kind s m x.text) (kind_of s a) k h in
@@ -341,18 +318,12 @@ module _ (s : Scope) (p : Program) (f : Node) (agrees : Agrees s p f) where
       one_given p f (meant s e) plain ∙ ap (option_map (λ k. k ∷ [])) (meant_is e given.0 given.1) ∙ ap Some given.2
 
   pub given_is : (e : tree.Expression) (ks : List Kind) → kinds_given s e ≡ Some ks → kinds_given_in p f (meant s e) ≡ Some ks
-  given_is (Numeral z q) ks h = alone_is (Numeral z q) ks tt h
-  given_is (Truth b q) ks h = alone_is (Truth b q) ks tt h
   given_is (Name n) ks h = alone_is (Name n) ks (name_no_call (unwrap_or (name_value s n.text) nil) (entry s.variables n.text)) h
   given_is (Call g es) ks h =
       let args = and_then_gives (λ ls. outputs_of s g.text es ls) (kinds_of s es) ks h in
       ap (option_and_then (results p (node_place s g.text))) (all_meant_are es args.0 args.1) ∙ result_is g.text es args.0 ks args.2
-  given_is (Structure t fs) ks h = alone_is (Structure t fs) ks tt h
-  given_is (Merge q c bs) ks h = alone_is (Merge q c bs) ks tt h
-  given_is (Variadic op q es) ks h = alone_is (Variadic op q es) ks tt h
   given_is (Field a x) ks h = alone_is (Field a x) ks (field_no_call (field_named (fields_of s (unwrap_or (kind_of s a) kinds.Bool)) x.text) (meant s a)) h
   given_is (Parentheses q a) ks h = given_is a ks h
-  given_is (When a t) ks h = alone_is (When a t) ks tt h
   given_is (Unary op q a) ks h = alone_is (Unary op q a) ks (prefix_no_call op (meant s a)) h
   given_is (Binary op a b) ks h = alone_is (Binary op a b) ks (infix_no_call op (meant s a) (meant s b)) h
-  given_is (If q c a b) ks h = alone_is (If q c a b) ks tt h
+  given_is e ks h = alone_is e ks tt h

@@ -5,7 +5,7 @@ use Rattle.std.proofs.lemmas.List.Sums.{sum_by-cons}
 use Rattle.std.specs.Prelude.{option_map}
 use Rattle.lus_values.specs.Lists.{Each}
 use Rattle.lus_syntax.specs.Limits.{most_constructors, most_variables}
-use Rattle.lus_syntax.specs.Trees.{Definition, Alias, Enumeration, StructureOf, Group, Named, Node as SourceNode, Tree, TypeDeclaration}
+use Rattle.lus_syntax.specs.Trees.{Definition, Enumeration, Group, Named, Node as SourceNode, Tree, TypeDeclaration}
 use Rattle.lus_program.specs.Programs.{Variable}
 use Rattle.lus_meaning.specs.Meaning.{node_meant, program_of, test_meant}
 use Rattle.lus_meaning.specs.Refusals.{WellFormed}
@@ -16,9 +16,8 @@ use Rattle.lus_meaning.specs.Tables.{declared_as, groups, kind_named, scope, tex
 use Rattle.lus_typing.specs.Kinds.{constructors_in}
 
 constructors_few : (p : Tree) (d : Definition) → DefinitionCounted d → constructors_in (declared_as p d) ≤ most_constructors
-constructors_few p (Alias y) h = omega arith
 constructors_few p (Enumeration cs) h = let size = length-map cs text_of in omega (arith, h, size)
-constructors_few p (StructureOf fs) h = omega arith
+constructors_few p d h = omega arith
 
 types_few : (p : Tree) (ds : List TypeDeclaration) → Each (λ d. DefinitionCounted d.definition) ds
     → Each (λ d. constructors_in d ≤ most_constructors) (map (λ d. declared_as p d.definition) ds)

@@ -114,9 +114,8 @@ module _ (p : Tree) where
   names_within ds n m (c ∷ cs) h = (omega (arith, h), names_within ds n (suc m) cs (omega (arith, h)))
 
   definition_within : (ds : List Declared) (d : Definition) (n : ℕ) → item nothing_declared ds n ≡ declared_as p d → Each (λ (e : Text × Constructor). IsWithin ds e.1) (constructors_of d n)
-  definition_within ds (Alias y) n h = tt
   definition_within ds (Enumeration cs) n h = names_within ds n 0 cs (ap constructors_in h ∙ length-map cs text_of ∙ omega arith)
-  definition_within ds (StructureOf fs) n h = tt
+  definition_within ds d n h = tt
 
   all_within : (ds : List Declared) (n : ℕ) (ts : List TypeDeclaration) → ((i : ℕ) → item nothing_declared ds (n + i) ≡ item nothing_declared (map (λ d. declared_as p d.definition) ts) i)
       → Each (λ (e : Text × Constructor). IsWithin ds e.1) (flat_map (λ (e : TypeDeclaration × ℕ). constructors_of e.0.definition e.1) (numbered_from n ts))

@@ -6,7 +6,7 @@ use Rattle.std.proofs.lemmas.List.Elements.{Contains-append_cases, Contains-appe
 use Rattle.lus_values.specs.Lists.{item}
 use Rattle.lus_graph.specs.Ways.{Uses, used, Leads, step, then, HasNoWayBack}
 use Rattle.lus_graph.proofs.Steps.{no_item, one_item}
-use Rattle.lus_syntax.specs.Trees.{Named, TypeName, BoolName, IntName, DeclaredName, Fields, Definition, Alias, Enumeration, StructureOf, TypeDeclaration, Tree}
+use Rattle.lus_syntax.specs.Trees.{Named, TypeName, DeclaredName, Fields, Definition, Alias, Enumeration, StructureOf, TypeDeclaration, Tree}
 use Rattle.lus_program.specs.declared.types.Kind.{Kind}
 use Rattle.lus_program.specs.declared.types.Kind.TheVariants as kinds
 use Rattle.lus_program.specs.Programs.{Field}
@@ -40,14 +40,12 @@ group_is k (n ∷ ns) u among = ⊎_elim (structure_is k u) (group_is k ns u) (C
 module _ (p : Tree) where
   -- what the declaration of a type names is what the type uses
   named_uses : (ds : List TypeDeclaration) (t : ℕ) → item [] (map (λ d. definition_uses (type_names p) d.definition) ds) t ≡ definition_uses (type_names p) (item no_definition (map (λ d. d.definition) ds) t)
-  named_uses [] t = refl
-  named_uses (d ∷ ds) zero = refl
   named_uses (d ∷ ds) (suc t) = named_uses ds t
+  named_uses ds t = refl
 
   meant_uses : (ds : List TypeDeclaration) (t : ℕ) → item [] (map declared_uses (map (λ d. declared_as p d.definition) ds)) t ≡ declared_uses (declared_as p (item no_definition (map (λ d. d.definition) ds) t))
-  meant_uses [] t = refl
-  meant_uses (d ∷ ds) zero = refl
   meant_uses (d ∷ ds) (suc t) = meant_uses ds t
+  meant_uses ds t = refl
 
   -- the type of a declaration, its names followed n times
   abbrev followed : ℕ → ℕ → Kind
@@ -66,9 +64,8 @@ module _ (p : Tree) where
 
   -- a type that a declaration of t names
   name_leads : (n t u : ℕ) → Reaches n → (y : TypeName) → ((s : ℕ) → Contains (named_type (type_names p) y) s → Contains (used (tree_uses p) t) s) → of_type (type_names p) kinds.Bool kinds.Int (followed n) y ≡ kinds.Struct u → Leads (tree_uses p) t u
-  name_leads n t u reaches (BoolName s) uses is = cc
-  name_leads n t u reaches (IntName s) uses is = cc
   name_leads n t u reaches (DeclaredName m) uses is = place_leads n t u reaches (place_in (type_names p) m.text) uses is
+  name_leads n t u reaches y uses is = cc
 
   definition_reaches : (n s u : ℕ) → Reaches n → (d : Definition) → ((v : ℕ) → Contains (definition_uses (type_names p) d) v → Contains (used (tree_uses p) s) v) → definition_kind (type_names p) (followed n) s d ≡ kinds.Struct u → (u ≡ s) ⊎ Leads (tree_uses p) s u
   definition_reaches n s u reaches (Alias y) uses is = inr (name_leads n s u reaches y uses is)

@@ -27,14 +27,11 @@ last_of k (l ∷ ls) = last_of l ls
 
 -- a choice gives what its last operand is
 if_gives : (ks : List Kind) (k : Kind) → if_kind ks ≡ Some k → last_of kinds.Bool ks ≡ k
-if_gives [] k h = cc
-if_gives (c ∷ []) k h = cc
-if_gives (c ∷ a ∷ []) k h = cc
 if_gives (c ∷ a ∷ b ∷ []) k h =
     let alikes = where_true_gives (same kinds.Bool c) (alike a b) k h in
     let one = where_true_gives (same a b) (Some a) k alikes.1 in
     sym (same_is a b one.0) ∙ some_same one.1
-if_gives (c ∷ a ∷ b ∷ d ∷ ks) k h = cc
+if_gives ks k h = cc
 
 last_same : (k : Kind) (ks : List Kind) → list_all (same k) ks ≡ true → last_of k ks ≡ k
 last_same k [] h = refl
@@ -49,19 +46,15 @@ common_gives (l ∷ ls) k h = let one = where_true_gives (list_all (same l) ls) 
 
 -- the one of the first n from m on
 first_from : (n m : ℕ) (vs : List Variable) (k : Kind) → the_one (map (λ v. v.kind) (take n (drop m vs))) ≡ Some k → (item no_variable vs m).kind ≡ k
-first_from zero m vs k h = cc
-first_from (suc n) zero [] k h = cc
 first_from (suc zero) zero (v ∷ vs) k h = some_same h
 first_from (suc (suc n)) zero (v ∷ []) k h = some_same h
-first_from (suc (suc n)) zero (v ∷ w ∷ vs) k h = cc
-first_from (suc n) (suc m) [] k h = cc
 first_from (suc n) (suc m) (v ∷ vs) k h = first_from (suc n) m vs k h
+first_from n m vs k h = cc
 
 module _ (p : Program) where
   field_gives : (n : ℕ) (ks : List Kind) (k : Kind) → projected p n ks ≡ Some k → item kinds.Bool (field_kinds p (last_of kinds.Bool ks)) n ≡ k
-  field_gives n [] k h = cc
   field_gives n (s ∷ []) k h = get_or_from_slice_get (field_kinds p s) n k kinds.Bool h
-  field_gives n (s ∷ a ∷ ks) k h = cc
+  field_gives n ks k h = cc
 
   operator_gives : (o : Operator) (ks : List Kind) (k : Kind) → operator_kind p o ks ≡ Some k → operator_given p o (last_of kinds.Bool ks) ≡ k
   operator_gives (operators.Compute op) ks k h = some_same (where_true_gives (takes (shape op) ks) (Some (operation_kind op)) k h).1

@@ -30,8 +30,7 @@ same_is _ _ e = absurd (true≢false (sym e))
 pub all_same_is : (ks ls : List Kind) → all_same ks ls ≡ true → ks ≡ ls
 all_same_is [] [] e = refl
 all_same_is (k ∷ ks) (l ∷ ls) e = ap₂ ◌∷◌ (same_is k l (and_left (same k l) (all_same ks ls) e)) (all_same_is ks ls (and_right (same k l) (all_same ks ls) e))
-all_same_is [] (l ∷ ls) e = absurd (true≢false (sym e))
-all_same_is (k ∷ ks) [] e = absurd (true≢false (sym e))
+all_same_is _ _ e = absurd (true≢false (sym e))
 
 pub where_true_is : {X : Type 0} (b : Bool) (o : Option X) → b ≡ true → where_true b o ≡ o
 where_true_is true o e = refl

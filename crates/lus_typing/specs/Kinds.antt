@@ -16,8 +16,7 @@ same k l = false
 abbrev pub all_same : List Kind → List Kind → Bool
 all_same [] [] = true
 all_same (k ∷ ks) (l ∷ ls) = same k l && all_same ks ls
-all_same [] (l ∷ ls) = false
-all_same (k ∷ ks) [] = false
+all_same ks ls = false
 
 abbrev pub where_true : {X : Type 0} → Bool → Option X → Option X
 where_true true x = x
@@ -35,8 +34,7 @@ abbrev pub value_kind : Value → Option Kind
 value_kind (bool b) = Some kinds.Bool
 value_kind (int z) = Some kinds.Int
 value_kind (enum t c) = Some (kinds.Enum t)
-value_kind (struct fs) = None
-value_kind nil = None
+value_kind v = None
 
 abbrev pub the_one : List Kind → Option Kind
 the_one (k ∷ []) = Some k
@@ -52,14 +50,12 @@ count n [] = 0
 count n (m ∷ ms) = cond (nat_eq n m) (suc (count n ms)) (count n ms)
 
 abbrev pub fields_in : Declared → List Field
-fields_in (alias k) = []
-fields_in (enumeration cs) = []
 fields_in (structure fs) = fs
+fields_in d = []
 
 abbrev pub constructors_in : Declared → ℕ
-constructors_in (alias k) = 0
 constructors_in (enumeration cs) = length cs
-constructors_in (structure fs) = 0
+constructors_in d = 0
 
 abbrev pub nothing_declared : Declared
 nothing_declared = alias kinds.Bool

@@ -26,9 +26,8 @@ takes shapes.Comparison ks = all_same (kinds.Int ∷ kinds.Int ∷ []) ks
 takes shapes.Bool ks = all_same (kinds.Bool ∷ []) ks
 takes shapes.Bools ks = all_same (kinds.Bool ∷ kinds.Bool ∷ []) ks
 takes shapes.Alike (k ∷ l ∷ []) = same k l
-takes shapes.Alike ks = false
-takes shapes.Count [] = false
 takes shapes.Count (k ∷ ks) = list_all (same kinds.Bool) (k ∷ ks)
+takes s ks = false
 
 -- what one of this shape gives
 abbrev pub shape_kind : Shape → Kind
@@ -61,15 +60,12 @@ module _ (p : Program) where
   -- how many values a clock of this type may hold: those of bool or of an enumeration
   abbrev pub values_of : Kind → ℕ
   values_of kinds.Bool = 2
-  values_of kinds.Int = 0
   values_of (kinds.Enum t) = constructors_in (declared_in t)
-  values_of (kinds.Struct t) = 0
+  values_of k = 0
 
   abbrev pub field_kinds : Kind → List Kind
-  field_kinds kinds.Bool = []
-  field_kinds kinds.Int = []
-  field_kinds (kinds.Enum t) = []
   field_kinds (kinds.Struct t) = map (λ f. f.kind) (fields_in (declared_in t))
+  field_kinds k = []
 
   abbrev pub projected : ℕ → List Kind → Option Kind
   projected n (k ∷ []) = slice_get (field_kinds k) n

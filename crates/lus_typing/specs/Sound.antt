@@ -12,10 +12,8 @@ use Rattle.lus_typing.specs.Resolved.{Resolved}
 
 -- the structure that a type is, if it is one
 abbrev pub structures_in : Kind → List ℕ
-structures_in kinds.Bool = []
-structures_in kinds.Int = []
-structures_in (kinds.Enum t) = []
 structures_in (kinds.Struct t) = t ∷ []
+structures_in k = []
 
 abbrev pub declared_uses : Declared → List ℕ
 declared_uses (alias k) = structures_in k
@@ -34,9 +32,8 @@ pub record IsLimited (p : Program) : Type 0 where
 
 -- a structure has fields, as each that can be written has
 abbrev pub HasFields : Declared → Type 0
-HasFields (alias k) = Unit {0}
-HasFields (enumeration cs) = Unit {0}
 HasFields (structure fs) = 0 < length fs
+HasFields d = Unit {0}
 
 abbrev pub HaveFields : Program → Type 0
 HaveFields p = Each HasFields p.types
