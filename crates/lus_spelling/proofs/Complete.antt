@@ -2,6 +2,7 @@
 use Rattle.std.proofs.Common.{◌≡◌, ℕ, ℤ, zero, suc, ◌+◌, ◌-◌, ◌<◌, ◌≤◌, max, Bool, true, false, cond, ltb, leb, length, List, [], ◌∷◌, ◌++◌, Option, Some, None, Result, Ok, Err, refl, sym, ap, subst, ◌∙◌, append_assoc, arith, inl, inr}
 use Rattle.std.proofs.lemmas.Bool.{le-leb, lt-leb, lt-ltb, le-ltb, cases_lt}
 use Rattle.std.proofs.Math.Nat.{max-le, le-max_left, le-max_right}
+use Rattle.lus_values.specs.declared.operator.Op.{Op}
 use Rattle.lus_syntax.specs.declared.token.Span.{Span}
 use Rattle.lus_syntax.specs.declared.token.Symbol.TheVariants as symbols
 use Rattle.lus_syntax.specs.declared.token.Word.TheVariants as words
@@ -13,41 +14,11 @@ use Rattle.lus_spelling.specs.declared.form.Form.{Form}
 use Rattle.lus_spelling.specs.declared.form.Form.TheVariants as forms
 use Rattle.lus_syntax.specs.Lexemes.{Kind, Number, Sign, Keyword, Lexeme, tok}
 use Rattle.lus_syntax.specs.Trees.{Named, Label, Constructor, Boolean, Test, Lead, Plain, Of, Branch, Expression, Numeral, Truth, Name, Call, Structure, Merge, Variadic, Field, Parentheses, When, Unary, Binary, If, Parts, End, More, parts_of}
-use Rattle.lus_spelling.specs.Expressions.{ident, label, depth, deepest, Level, Whole, Arrow, Else, Choice, Implication, Disjunction, Conjunction, Negation, Negated, Comparison, Sum, Term, Signed, Primary, Dotted, Atom, infix_of, may_join, prefix_of, list_operator_of, Joins, implication, disjunction, conjunction, comparison, sum, term, Heads, negation, negated, signed, Spells, SpellsAll, SpellsPart, SpellsTest, Separates, Closes, holds, fails, fails_in, labelled, comma, semicolon, unparted, closed, braced, late, unclosed, number, truth, falsity, name, call_empty, call, structure, variadic, parentheses, undotted, dotted, primary, merge, prefixed, bare, first, next, choice, else_choice, else_value, arrow_choice, arrow_value, arrow, whole, fby, when, final, further, argument, init, branch}
+use Rattle.lus_spelling.specs.Expressions.{ident, label, depth, deepest, Level, Whole, Arrow, Else, Choice, Implication, Disjunction, Conjunction, Negation, Negated, Comparison, Sum, Term, Signed, Primary, Dotted, Atom, joined_at, joins_at, infix_of, may_join, prefix_of, list_operator_of, Joins, implication, disjunction, conjunction, comparison, sum, term, Heads, negation, negated, signed, Spells, SpellsAll, SpellsPart, SpellsTest, Separates, Closes, holds, fails, fails_in, labelled, comma, semicolon, unparted, closed, braced, late, unclosed, number, truth, falsity, name, call_empty, call, structure, variadic, parentheses, undotted, dotted, primary, merge, prefixed, bare, first, next, choice, else_choice, else_value, arrow_choice, arrow_value, arrow, whole, fby, when, final, further, argument, init, branch}
 use Rattle.lus_spelling.specs.Reading.{Fault, Syntax, Deep, Found, found, Read, Reader, ◌>>=◌, front, expect, identifier_at, label_at, closed_name_at, test_at, turn_at, Item, item, lead_at, part_at, Several, onward, parts_at, listed_at, after_open, parentheses_at, name_at, operands_at, plain_at, atom_at, dots_at, dotted_at, primary_at, prefix_at, prefixed_on, prefixed_at, join, two_on, infix_at, no_turn, one_turn, more_at, chain_at, branches_at, choice_at, arrow_on, arrow_at, is_primary, when_on, fby_on, whole_at, read_atom, read_dotted, read_primary, read_signed, read_term, read_sum, read_comparison, read_negated, read_negation, read_conjunction, read_disjunction, read_implication, read_choice, read_else, read_arrow, read_whole, read, opening_of, opening, entry, sampled}
 use Rattle.lus_spelling.proofs.Sound.{front_is, zero_least, max_regroups}
 
 -- ---- what may follow, and what may begin
-
--- how tight the operator is that a token may be
-abbrev heft : Kind → ℕ
-heft (Keyword words.Fby) = 1
-heft (Keyword words.When) = 1
-heft (Sign symbols.Arrow) = 2
-heft (Sign symbols.Implies) = 3
-heft (Keyword words.Or) = 4
-heft (Keyword words.Xor) = 4
-heft (Keyword words.And) = 5
-heft (Sign symbols.Equal) = 6
-heft (Sign symbols.NotEqual) = 6
-heft (Sign symbols.Less) = 6
-heft (Sign symbols.AtMost) = 6
-heft (Sign symbols.Greater) = 6
-heft (Sign symbols.AtLeast) = 6
-heft (Sign symbols.Plus) = 7
-heft (Sign symbols.Minus) = 7
-heft (Sign symbols.Star) = 8
-heft (Sign symbols.Slash) = 8
-heft (Keyword words.Div) = 8
-heft (Keyword words.Mod) = 8
-heft (Sign symbols.Dot) = 10
-heft (Sign symbols.Open) = 11
-heft (Sign symbols.OpenBrace) = 11
-heft _ = 0
-
-abbrev pub weight : List Lexeme → ℕ
-weight [] = 0
-weight (t ∷ ts) = heft t.kind
 
 -- how tight a token's operator must be to go on with a level
 abbrev pub rank : Level → ℕ
@@ -68,25 +39,36 @@ rank Primary = 9
 rank Dotted = 10
 rank Atom = 11
 
+-- how tight the operator is that a token may be
+abbrev joined_heft : Option (Level × Op) → Kind → ℕ
+joined_heft (Some (level, op)) l = rank level
+joined_heft None (Keyword words.Fby) = 1
+joined_heft None (Keyword words.When) = 1
+joined_heft None (Sign symbols.Arrow) = 2
+joined_heft None (Sign symbols.Dot) = 10
+joined_heft None (Sign symbols.Open) = 11
+joined_heft None (Sign symbols.OpenBrace) = 11
+joined_heft None _ = 0
+
+abbrev heft : Kind → ℕ
+heft l = joined_heft (joined_at l) l
+
+abbrev pub weight : List Lexeme → ℕ
+weight [] = 0
+weight (t ∷ ts) = heft t.kind
+
 -- a level's operator weighs what the level does
 operator_heft : (level : Level) (l : Kind) (op : Infix) → infix_of level l ≡ Some op → heft l ≡ rank level
-operator_heft Implication (Sign symbols.Implies) op e = refl
-operator_heft Disjunction (Keyword words.Or) op e = refl
-operator_heft Disjunction (Keyword words.Xor) op e = refl
-operator_heft Conjunction (Keyword words.And) op e = refl
-operator_heft Comparison (Sign symbols.Equal) op e = refl
-operator_heft Comparison (Sign symbols.NotEqual) op e = refl
-operator_heft Comparison (Sign symbols.Less) op e = refl
-operator_heft Comparison (Sign symbols.AtMost) op e = refl
-operator_heft Comparison (Sign symbols.Greater) op e = refl
-operator_heft Comparison (Sign symbols.AtLeast) op e = refl
-operator_heft Sum (Sign symbols.Plus) op e = refl
-operator_heft Sum (Sign symbols.Minus) op e = refl
-operator_heft Term (Sign symbols.Star) op e = refl
-operator_heft Term (Sign symbols.Slash) op e = refl
-operator_heft Term (Keyword words.Div) op e = refl
-operator_heft Term (Keyword words.Mod) op e = refl
-operator_heft _ _ op e = absurd cc
+operator_heft level l op e = go level (joined_at l) e
+  where
+    go : (level : Level) (o : Option (Level × Op)) → joins_at level o ≡ Some op → joined_heft o l ≡ rank level
+    go Implication (Some (Implication, op)) e = refl
+    go Disjunction (Some (Disjunction, op)) e = refl
+    go Conjunction (Some (Conjunction, op)) e = refl
+    go Comparison (Some (Comparison, op)) e = refl
+    go Sum (Some (Sum, op)) e = refl
+    go Term (Some (Term, op)) e = refl
+    go _ _ e = absurd cc
 
 no_infix : (level : Level) (left : Expression) (ts : List Lexeme) → weight ts < rank level → infix_at level left ts ≡ None
 no_infix level left [] lt = refl

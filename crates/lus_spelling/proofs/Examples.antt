@@ -2,6 +2,7 @@
 use Rattle.std.proofs.Common.{arith, ◌≡◌, ◌∙◌, refl, sym, ap, subst, ℕ, true, false, cond, List, [], ◌∷◌, leb, Ok, Err, codes}
 use Rattle.std.proofs.lemmas.List.{append-nil}
 use Rattle.std.specs.Prelude.{pos}
+use Rattle.lus_values.specs.declared.operator.Op.TheVariants as ops
 use Rattle.lus_syntax.specs.declared.token.Span.{Span}
 use Rattle.lus_syntax.specs.declared.token.Symbol.{Symbol}
 use Rattle.lus_syntax.specs.declared.token.Symbol.TheVariants as symbols
@@ -72,14 +73,14 @@ join = Binary
 differences : List Lexeme
 differences = ident a ∷ sign symbols.Minus ∷ ident b ∷ sign symbols.Minus ∷ ident c ∷ []
 
-differences_group_left : Spells Whole (join infixes.Subtract (join infixes.Subtract (Name a) (Name b)) (Name c)) differences
+differences_group_left : Spells Whole (join (infixes.Compute ops.Subtract) (join (infixes.Compute ops.Subtract) (Name a) (Name b)) (Name c)) differences
 unfolding read atom_at plain_at operands_at dots_at dotted_at primary_at prefixed_at more_at chain_at branches_at choice_at arrow_at whole_at name_at parentheses_at read_atom read_dotted read_primary read_signed read_term read_sum read_comparison read_negated read_negation read_conjunction read_disjunction read_implication read_choice read_else read_arrow read_whole differences
 differences_group_left = spelt _ _ 9 3 refl
 
 quotients : List Lexeme
 quotients = ident a ∷ word words.Div ∷ ident b ∷ sign symbols.Star ∷ ident c ∷ []
 
-quotients_group_left : Spells Whole (join infixes.Multiply (join infixes.Divide (Name a) (Name b)) (Name c)) quotients
+quotients_group_left : Spells Whole (join (infixes.Compute ops.Multiply) (join (infixes.Compute ops.Divide) (Name a) (Name b)) (Name c)) quotients
 unfolding read atom_at plain_at operands_at dots_at dotted_at primary_at prefixed_at more_at chain_at branches_at choice_at arrow_at whole_at name_at parentheses_at read_atom read_dotted read_primary read_signed read_term read_sum read_comparison read_negated read_negation read_conjunction read_disjunction read_implication read_choice read_else read_arrow read_whole quotients
 quotients_group_left = spelt _ _ 9 3 refl
 
@@ -93,56 +94,56 @@ arrows_group_right = spelt _ _ 9 3 refl
 negation : List Lexeme
 negation = word words.Not ∷ ident a ∷ word words.And ∷ ident b ∷ []
 
-negation_binds_tighter : Spells Whole (join infixes.And (Unary prefixes.Not here (Name a)) (Name b)) negation
+negation_binds_tighter : Spells Whole (join (infixes.Compute ops.And) (Unary prefixes.Not here (Name a)) (Name b)) negation
 unfolding read atom_at plain_at operands_at dots_at dotted_at primary_at prefixed_at more_at chain_at branches_at choice_at arrow_at whole_at name_at parentheses_at read_atom read_dotted read_primary read_signed read_term read_sum read_comparison read_negated read_negation read_conjunction read_disjunction read_implication read_choice read_else read_arrow read_whole negation
 negation_binds_tighter = spelt _ _ 9 3 refl
 
 minus : List Lexeme
 minus = sign symbols.Minus ∷ ident a ∷ sign symbols.Star ∷ ident b ∷ []
 
-minus_binds_tighter : Spells Whole (join infixes.Multiply (Unary prefixes.Negate here (Name a)) (Name b)) minus
+minus_binds_tighter : Spells Whole (join (infixes.Compute ops.Multiply) (Unary prefixes.Negate here (Name a)) (Name b)) minus
 unfolding read atom_at plain_at operands_at dots_at dotted_at primary_at prefixed_at more_at chain_at branches_at choice_at arrow_at whole_at name_at parentheses_at read_atom read_dotted read_primary read_signed read_term read_sum read_comparison read_negated read_negation read_conjunction read_disjunction read_implication read_choice read_else read_arrow read_whole minus
 minus_binds_tighter = spelt _ _ 9 3 refl
 
 past : List Lexeme
 past = ident a ∷ sign symbols.Arrow ∷ word words.Pre ∷ ident b ∷ sign symbols.Plus ∷ ident c ∷ []
 
-past_binds_tightest : Spells Whole (join infixes.Arrow (Name a) (join infixes.Add (Unary prefixes.Pre here (Name b)) (Name c))) past
+past_binds_tightest : Spells Whole (join infixes.Arrow (Name a) (join (infixes.Compute ops.Add) (Unary prefixes.Pre here (Name b)) (Name c))) past
 unfolding read atom_at plain_at operands_at dots_at dotted_at primary_at prefixed_at more_at chain_at branches_at choice_at arrow_at whole_at name_at parentheses_at read_atom read_dotted read_primary read_signed read_term read_sum read_comparison read_negated read_negation read_conjunction read_disjunction read_implication read_choice read_else read_arrow read_whole past
 past_binds_tightest = spelt _ _ 9 4 refl
 
 choice : List Lexeme
 choice = word words.If ∷ ident c ∷ word words.Then ∷ ident a ∷ word words.Else ∷ ident a ∷ sign symbols.Plus ∷ ident b ∷ []
 
-choice_reaches_far : Spells Whole (If here (Name c) (Name a) (join infixes.Add (Name a) (Name b))) choice
+choice_reaches_far : Spells Whole (If here (Name c) (Name a) (join (infixes.Compute ops.Add) (Name a) (Name b))) choice
 unfolding read atom_at plain_at operands_at dots_at dotted_at primary_at prefixed_at more_at chain_at branches_at choice_at arrow_at whole_at name_at parentheses_at read_atom read_dotted read_primary read_signed read_term read_sum read_comparison read_negated read_negation read_conjunction read_disjunction read_implication read_choice read_else read_arrow read_whole choice
 choice_reaches_far = spelt _ _ 9 3 refl
 
 implication_of_or : List Lexeme
 implication_of_or = ident a ∷ word words.Or ∷ ident b ∷ sign symbols.Implies ∷ ident c ∷ []
 
-implication_binds_weakest : Spells Whole (join infixes.Implies (join infixes.Or (Name a) (Name b)) (Name c)) implication_of_or
+implication_binds_weakest : Spells Whole (join (infixes.Compute ops.Implies) (join (infixes.Compute ops.Or) (Name a) (Name b)) (Name c)) implication_of_or
 unfolding read atom_at plain_at operands_at dots_at dotted_at primary_at prefixed_at more_at chain_at branches_at choice_at arrow_at whole_at name_at parentheses_at read_atom read_dotted read_primary read_signed read_term read_sum read_comparison read_negated read_negation read_conjunction read_disjunction read_implication read_choice read_else read_arrow read_whole implication_of_or
 implication_binds_weakest = spelt _ _ 9 3 refl
 
 negated_right : List Lexeme
 negated_right = ident a ∷ word words.And ∷ word words.Not ∷ ident b ∷ []
 
-negation_inside_and : Spells Whole (join infixes.And (Name a) (Unary prefixes.Not here (Name b))) negated_right
+negation_inside_and : Spells Whole (join (infixes.Compute ops.And) (Name a) (Unary prefixes.Not here (Name b))) negated_right
 unfolding read atom_at plain_at operands_at dots_at dotted_at primary_at prefixed_at more_at chain_at branches_at choice_at arrow_at whole_at name_at parentheses_at read_atom read_dotted read_primary read_signed read_term read_sum read_comparison read_negated read_negation read_conjunction read_disjunction read_implication read_choice read_else read_arrow read_whole negated_right
 negation_inside_and = spelt _ _ 9 3 refl
 
 comparison_of_sums : List Lexeme
 comparison_of_sums = ident a ∷ sign symbols.Plus ∷ ident b ∷ sign symbols.Less ∷ ident c ∷ sign symbols.Star ∷ ident a ∷ []
 
-sums_in_comparisons : Spells Whole (join infixes.Less (join infixes.Add (Name a) (Name b)) (join infixes.Multiply (Name c) (Name a))) comparison_of_sums
+sums_in_comparisons : Spells Whole (join (infixes.Compute ops.Less) (join (infixes.Compute ops.Add) (Name a) (Name b)) (join (infixes.Compute ops.Multiply) (Name c) (Name a))) comparison_of_sums
 unfolding read atom_at plain_at operands_at dots_at dotted_at primary_at prefixed_at more_at chain_at branches_at choice_at arrow_at whole_at name_at parentheses_at read_atom read_dotted read_primary read_signed read_term read_sum read_comparison read_negated read_negation read_conjunction read_disjunction read_implication read_choice read_else read_arrow read_whole comparison_of_sums
 sums_in_comparisons = spelt _ _ 9 3 refl
 
 choice_as_operand : List Lexeme
 choice_as_operand = ident a ∷ sign symbols.Plus ∷ sign symbols.Open ∷ word words.If ∷ ident c ∷ word words.Then ∷ ident a ∷ word words.Else ∷ ident b ∷ sign symbols.Close ∷ []
 
-parentheses_are_kept : Spells Whole (join infixes.Add (Name a) (Parentheses here (If here (Name c) (Name a) (Name b)))) choice_as_operand
+parentheses_are_kept : Spells Whole (join (infixes.Compute ops.Add) (Name a) (Parentheses here (If here (Name c) (Name a) (Name b)))) choice_as_operand
 unfolding read atom_at plain_at operands_at dots_at dotted_at primary_at prefixed_at more_at chain_at branches_at choice_at arrow_at whole_at name_at parentheses_at read_atom read_dotted read_primary read_signed read_term read_sum read_comparison read_negated read_negation read_conjunction read_disjunction read_implication read_choice read_else read_arrow read_whole choice_as_operand
 parentheses_are_kept = spelt _ _ 9 4 refl
 

@@ -1,8 +1,12 @@
 -- What is read is spelled so.
-use Rattle.std.proofs.Common.{◌≡◌, ℕ, zero, suc, ◌+◌, ◌≤◌, max, Bool, true, false, cond, ltb, leb, eqb, length, List, [], ◌∷◌, ◌++◌, Option, Some, None, Result, Ok, Err, refl, sym, ap, subst, ◌∙◌, append_assoc, arith}
+use Rattle.std.proofs.Common.{◌≡◌, ℕ, zero, suc, ◌+◌, ◌≤◌, max, Bool, true, false, cond, ltb, leb, length, List, [], ◌∷◌, ◌++◌, Option, Some, None, Result, Ok, Err, refl, sym, ap, subst, ◌∙◌, append_assoc, arith}
 use Rattle.std.proofs.lemmas.Bool.{eqb-true, ltb-false}
 use Rattle.std.proofs.Math.Nat.{max-le, le-max_left, le-max_right}
+use denote.Enum.Declared.{tag_of}
+use denote.Enum.Bare.{tag_one}
 use Rattle.lus_syntax.specs.declared.token.Span.{Span}
+use Rattle.lus_syntax.specs.contracts.token.Symbol.{the_type as symbol_type}
+use Rattle.lus_syntax.specs.contracts.token.Word.{the_type as word_type}
 use Rattle.lus_syntax.specs.declared.token.Symbol.{Symbol}
 use Rattle.lus_syntax.specs.declared.token.Symbol.TheVariants as symbols
 use Rattle.lus_syntax.specs.declared.token.Word.{Word}
@@ -46,75 +50,20 @@ never_begun false f e = cc
 
 -- ---- tokens at the front
 
-symbol_in : ℕ → Symbol
-symbol_in n = cond (eqb n 0) symbols.Open (cond (eqb n 1) symbols.Close (cond (eqb n 2) symbols.OpenBrace (cond (eqb n 3) symbols.CloseBrace (cond (eqb n 4) symbols.Comma (cond (eqb n 5) symbols.Semicolon (cond (eqb n 6) symbols.Colon (cond (eqb n 7) symbols.Dot (cond (eqb n 8) symbols.Equal (cond (eqb n 9) symbols.NotEqual (cond (eqb n 10) symbols.Less (cond (eqb n 11) symbols.AtMost (cond (eqb n 12) symbols.Greater (cond (eqb n 13) symbols.AtLeast (cond (eqb n 14) symbols.Arrow (cond (eqb n 15) symbols.Implies (cond (eqb n 16) symbols.Plus (cond (eqb n 17) symbols.Minus (cond (eqb n 18) symbols.Star (cond (eqb n 19) symbols.Slash symbols.Sharp)))))))))))))))))))
-
-symbol_in-place : (c : Symbol) → symbol_in (place c) ≡ c
-unfolding symbol_in
-symbol_in-place symbols.Open = refl
-symbol_in-place symbols.Close = refl
-symbol_in-place symbols.OpenBrace = refl
-symbol_in-place symbols.CloseBrace = refl
-symbol_in-place symbols.Comma = refl
-symbol_in-place symbols.Semicolon = refl
-symbol_in-place symbols.Colon = refl
-symbol_in-place symbols.Dot = refl
-symbol_in-place symbols.Equal = refl
-symbol_in-place symbols.NotEqual = refl
-symbol_in-place symbols.Less = refl
-symbol_in-place symbols.AtMost = refl
-symbol_in-place symbols.Greater = refl
-symbol_in-place symbols.AtLeast = refl
-symbol_in-place symbols.Arrow = refl
-symbol_in-place symbols.Implies = refl
-symbol_in-place symbols.Plus = refl
-symbol_in-place symbols.Minus = refl
-symbol_in-place symbols.Star = refl
-symbol_in-place symbols.Slash = refl
-symbol_in-place symbols.Sharp = refl
-
-word_in : ℕ → Word
-word_in n = cond (eqb n 0) words.Node (cond (eqb n 1) words.Function (cond (eqb n 2) words.Returns (cond (eqb n 3) words.Var (cond (eqb n 4) words.Let (cond (eqb n 5) words.Tel (cond (eqb n 6) words.Type (cond (eqb n 7) words.Const (cond (eqb n 8) words.Enum (cond (eqb n 9) words.Struct (cond (eqb n 10) words.Bool (cond (eqb n 11) words.Int (cond (eqb n 12) words.True (cond (eqb n 13) words.False (cond (eqb n 14) words.Not (cond (eqb n 15) words.And (cond (eqb n 16) words.Or (cond (eqb n 17) words.Xor (cond (eqb n 18) words.If (cond (eqb n 19) words.Then (cond (eqb n 20) words.Else (cond (eqb n 21) words.Div (cond (eqb n 22) words.Mod (cond (eqb n 23) words.Pre (cond (eqb n 24) words.Fby (cond (eqb n 25) words.When (cond (eqb n 26) words.Merge words.Nor))))))))))))))))))))))))))
-
-word_in-place : (c : Word) → word_in (word_place c) ≡ c
-unfolding word_in
-word_in-place words.Node = refl
-word_in-place words.Function = refl
-word_in-place words.Returns = refl
-word_in-place words.Var = refl
-word_in-place words.Let = refl
-word_in-place words.Tel = refl
-word_in-place words.Type = refl
-word_in-place words.Const = refl
-word_in-place words.Enum = refl
-word_in-place words.Struct = refl
-word_in-place words.Bool = refl
-word_in-place words.Int = refl
-word_in-place words.True = refl
-word_in-place words.False = refl
-word_in-place words.Not = refl
-word_in-place words.And = refl
-word_in-place words.Or = refl
-word_in-place words.Xor = refl
-word_in-place words.If = refl
-word_in-place words.Then = refl
-word_in-place words.Else = refl
-word_in-place words.Div = refl
-word_in-place words.Mod = refl
-word_in-place words.Pre = refl
-word_in-place words.Fby = refl
-word_in-place words.When = refl
-word_in-place words.Merge = refl
-word_in-place words.Nor = refl
-
-same_place : (c d : Symbol) → place c ≡ place d → c ≡ d
-same_place c d e = sym (symbol_in-place c) ∙ ap symbol_in e ∙ symbol_in-place d
+same_symbol : (c d : Symbol) → place c ≡ place d → c ≡ d
+same_symbol c d e = tag_one symbol_type tt c d (symbol_tag c ∙ e ∙ sym (symbol_tag d))
+  where
+    symbol_tag : (c : Symbol) → tag_of symbol_type c ≡ place c
+    symbol_tag c = grind arith
 
 same_word : (c d : Word) → word_place c ≡ word_place d → c ≡ d
-same_word c d e = sym (word_in-place c) ∙ ap word_in e ∙ word_in-place d
+same_word c d e = tag_one word_type tt c d (word_tag c ∙ e ∙ sym (word_tag d))
+  where
+    word_tag : (c : Word) → tag_of word_type c ≡ word_place c
+    word_tag c = grind arith
 
 is_lexeme-true : (l m : Kind) → is_lexeme l m ≡ true → m ≡ l
-is_lexeme-true (Sign c) (Sign d) e = ap Sign (same_place d c (eqb-true _ _ e))
+is_lexeme-true (Sign c) (Sign d) e = ap Sign (same_symbol d c (eqb-true _ _ e))
 is_lexeme-true (Keyword c) (Keyword d) e = ap Keyword (same_word d c (eqb-true _ _ e))
 is_lexeme-true _ _ e = absurd cc
 
