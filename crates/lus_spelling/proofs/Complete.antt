@@ -79,16 +79,10 @@ no_infix level left (t ∷ ts) lt = go (infix_of level t.kind) refl
     go (Some op) e = let h = operator_heft level t.kind op e in absurd (omega (arith, h))
 
 prefix_opening : (level : Level) (l : Kind) (op : Prefix) → prefix_of level l ≡ Some op → opening_of l ≡ entry level
-prefix_opening Negation (Keyword words.Not) op e = refl
-prefix_opening Negated (Keyword words.Not) op e = refl
-prefix_opening Signed (Keyword words.Pre) op e = refl
-prefix_opening Signed (Sign symbols.Minus) op e = refl
-prefix_opening _ _ op e = absurd cc
+prefix_opening level l op e = grind arith
 
 list_opening : (l : Kind) (op : ListOperator) → list_operator_of l ≡ Some op → opening_of l ≡ 5
-list_opening (Sign symbols.Sharp) op e = refl
-list_opening (Keyword words.Nor) op e = refl
-list_opening _ op e = absurd cc
+list_opening l op e = grind arith
 
 no_prefix : (level : Level) (ts : List Lexeme) → entry level < opening ts → prefix_at level ts ≡ None
 no_prefix level [] lt = refl
@@ -116,38 +110,21 @@ no_merge : (ts : List Lexeme) → 5 ≤ opening ts → front (Keyword words.Merg
 no_merge ts le = no_front (Keyword words.Merge) ts (λ x e. let h = ap opening e in omega (arith, h))
 
 head_entry : {level operand other : Level} → Heads level operand other → entry level < entry other
-head_entry negation = omega arith
-head_entry negated = omega arith
-head_entry signed = omega arith
+head_entry h = grind arith
 
 join_entry : {level operand : Level} → Joins level operand → entry level ≤ entry operand
-join_entry implication = omega arith
-join_entry disjunction = omega arith
-join_entry conjunction = omega arith
-join_entry comparison = omega arith
-join_entry sum = omega arith
-join_entry term = omega arith
+join_entry j = grind arith
 
 -- what a level begins with
 begins : {level : Level} {t : Expression} {ts : List Lexeme} → Spells level t ts → (rest : List Lexeme) → entry level ≤ opening (ts ++ rest)
-begins (number k s) rest = omega arith
-begins (truth s) rest = omega arith
-begins (falsity s) rest = omega arith
-begins (name n) rest = omega arith
-begins (call_empty n o c) rest = omega arith
-begins (call n o d) rest = omega arith
-begins (structure n o d) rest = omega arith
 begins (variadic l op s o at d) rest = let e = list_opening l op at in omega (arith, e)
-begins (parentheses s c d) rest = omega arith
 begins (undotted d) rest = begins d rest
 begins (dotted s x {t} {ts} d) rest = subst (λ (u : List Lexeme). 5 ≤ opening u) (sym (append_assoc ts (tok (Sign symbols.Dot) s ∷ ident x ∷ []) rest)) (begins d (tok (Sign symbols.Dot) s ∷ ident x ∷ rest))
 begins (primary d) rest = omega (arith, begins d rest)
-begins (merge s n d) rest = omega arith
 begins (prefixed {level} l op s h at d) rest = let e = prefix_opening level l op at in omega (arith, e)
 begins (bare h d) rest = let more = head_entry h in omega (arith, more, begins d rest)
 begins (first j d) rest = let more = join_entry j in omega (arith, more, begins d rest)
 begins (next {level} l op s {a} {b} {xs} {ys} j at may d e) rest = subst (λ (u : List Lexeme). entry level ≤ opening u) (sym (append_assoc xs (tok l s ∷ ys) rest)) (begins d (tok l s ∷ (ys ++ rest)))
-begins (choice i t l c a b) rest = omega arith
 begins (else_choice d) rest = begins d rest
 begins (else_value d) rest = omega (arith, begins d rest)
 begins (arrow_choice d) rest = begins d rest
@@ -156,6 +133,7 @@ begins (arrow s {a} {b} {xs} {ys} d e) rest = let h = begins d (tok (Sign symbol
 begins (whole d) rest = begins d rest
 begins (fby s {a} {b} {xs} {ys} d e) rest = let h = begins d (tok (Keyword words.Fby) s ∷ (ys ++ rest)) in subst (λ (u : List Lexeme). 1 ≤ opening u) (sym (append_assoc xs (tok (Keyword words.Fby) s ∷ ys) rest)) (omega (arith, h))
 begins (when s {a} {c} {xs} {ys} d e) rest = let h = begins d (tok (Keyword words.When) s ∷ (ys ++ rest)) in subst (λ (u : List Lexeme). 1 ≤ opening u) (sym (append_assoc xs (tok (Keyword words.When) s ∷ ys) rest)) (omega (arith, h))
+begins _ rest = omega arith
 
 -- ---- what reading a tree gives
 
@@ -195,19 +173,8 @@ pub record Goal (level : Level) (t : Expression) (ts : List Lexeme) : Type 0 whe
   pub dots : IsDotted level → (n : ℕ) (rest : List Lexeme) → weight rest < 11 → Dots t ts n rest
 
 depth_positive : (t : Expression) → 0 < depth t
-depth_positive (Numeral n s) = omega arith
-depth_positive (Truth b s) = omega arith
-depth_positive (Name n) = omega arith
-depth_positive (Call n us) = omega arith
-depth_positive (Structure n us) = omega arith
-depth_positive (Merge s n us) = omega arith
-depth_positive (Variadic op s us) = omega arith
-depth_positive (Field t n) = omega arith
-depth_positive (When t c) = omega arith
-depth_positive (Parentheses s t) = omega arith
-depth_positive (Unary op s t) = omega arith
 depth_positive (Binary op a b) = omega arith
-depth_positive (If s c a b) = omega arith
+depth_positive _ = omega arith
 
 within : (limit : ℕ) (t : Expression) (rest : List Lexeme) → depth t ≤ limit → outcome limit t rest ≡ Ok (found t (depth t) rest)
 within limit t rest le = rw (le-leb (depth t) limit le) refl
@@ -409,16 +376,12 @@ all_starts (final {form} {l} {t} {xs} {es} p c) rest = subst (Starts form) (sym 
 all_starts (further {form} {l} {t} {us} {xs} {ss} {ys} p s d) rest = subst (Starts form) (sym (append_assoc xs (ss ++ ys) rest)) (part_starts p ((ss ++ ys) ++ rest))
 
 closes_turn : {form : Form} {es : List Lexeme} → Closes form es → (rest : List Lexeme) → weight rest < 11 → turn_at form (es ++ rest) ≡ Ok (false, rest)
-closes_turn (closed e) rest lt = refl
-closes_turn (braced e) rest lt = refl
-closes_turn (late s e) rest lt = refl
 closes_turn unclosed rest lt = rw (no_light (Sign symbols.Open) rest lt) refl
+closes_turn _ rest lt = refl
 
 closes_after : {form : Form} {es : List Lexeme} → Closes form es → (rest : List Lexeme) → After form (es ++ rest)
-closes_after (closed e) rest = omega arith
-closes_after (braced e) rest = omega arith
-closes_after (late s e) rest = omega arith
 closes_after unclosed rest = tt
+closes_after _ rest = omega arith
 
 separates_turn : {form : Form} {ss : List Lexeme} → Separates form ss → (ts : List Lexeme) → Starts form ts → turn_at form (ss ++ ts) ≡ Ok (true, ts)
 separates_turn (comma s) ts st = refl
@@ -426,9 +389,8 @@ separates_turn (semicolon s) ts st = rw st.2 refl
 separates_turn unparted ts st = rw st.2 refl
 
 separates_after : {form : Form} {ss : List Lexeme} → Separates form ss → (ts : List Lexeme) → After form (ss ++ ts)
-separates_after (comma s) ts = omega arith
-separates_after (semicolon s) ts = omega arith
 separates_after unparted ts = tt
+separates_after _ ts = omega arith
 
 long : (ts : List Lexeme) → 1 ≤ opening (ts ++ []) → 0 < length ts
 long [] le = absurd (omega (arith, le))
@@ -628,17 +590,10 @@ primary_again t ts d h = record {
 -- ---- prefixes
 
 head_dots : {level operand other : Level} → Heads level operand other → IsDotted level → ⊥
-head_dots negation j = elim j [ ]
-head_dots negated j = elim j [ ]
-head_dots signed j = elim j [ ]
+head_dots h j = grind arith
 
 join_dots : {level operand : Level} → Joins level operand → IsDotted level → ⊥
-join_dots implication j = elim j [ ]
-join_dots disjunction j = elim j [ ]
-join_dots conjunction j = elim j [ ]
-join_dots comparison j = elim j [ ]
-join_dots sum j = elim j [ ]
-join_dots term j = elim j [ ]
+join_dots j d = grind arith
 
 heads_read : {level operand other : Level} → Heads level operand other → (n : ℕ) (ts : List Lexeme) → read (suc n) level ts ≡ prefixed_on (read n operand) (read (suc n) other) ts (prefix_at level ts)
 unfolding read read_negation read_negated read_signed prefixed_at
@@ -647,14 +602,10 @@ heads_read negated n ts = refl
 heads_read signed n ts = refl
 
 head_rank : {level operand other : Level} → Heads level operand other → (rank level ≤ rank operand) × (rank level ≤ rank other)
-head_rank negation = (omega arith, omega arith)
-head_rank negated = (omega arith, omega arith)
-head_rank signed = (omega arith, omega arith)
+head_rank h = (grind arith, grind arith)
 
 head_joins : {level operand other some : Level} → Heads level operand other → Joins level some → ⊥
-head_joins negation j = elim j [ ]
-head_joins negated j = elim j [ ]
-head_joins signed j = elim j [ ]
+head_joins h j = grind arith
 
 prefixed_again : (level operand other : Level) (l : Kind) (op : Prefix) (s : Span) (t : Expression) (ts : List Lexeme) → Heads level operand other → prefix_of level l ≡ Some op → Reads operand t ts → Goal level (Unary op s t) (tok l s ∷ ts)
 prefixed_again level operand other l op s t ts heads at h = record {
@@ -694,12 +645,7 @@ chain_reads sum n ts = refl
 chain_reads term n ts = refl
 
 tighter : {level operand : Level} → Joins level operand → rank level < rank operand
-tighter implication = omega arith
-tighter disjunction = omega arith
-tighter conjunction = omega arith
-tighter comparison = omega arith
-tighter sum = omega arith
-tighter term = omega arith
+tighter j = grind arith
 
 same_operand : {level operand other : Level} → Joins level operand → Joins level other → operand ≡ other
 same_operand implication implication = refl
@@ -932,36 +878,21 @@ climb t ts d h =
     let h8 = reads_of d8 (first_again Implication Disjunction t ts implication h7).reads in
     arrow_value_again t ts d8 h8
 
-atom_shape : {t : Expression} {ts : List Lexeme} → Spells Atom t ts → is_primary t ≡ true
-atom_shape (number k s) = refl
-atom_shape (truth s) = refl
-atom_shape (falsity s) = refl
-atom_shape (name n) = refl
-atom_shape (call_empty n o e) = refl
-atom_shape (call n o d) = refl
-atom_shape (structure n o d) = refl
-atom_shape (variadic l op s o at d) = refl
-atom_shape (parentheses s e d) = refl
-atom_shape (prefixed l op s h at d) = elim h [ ]
-atom_shape (bare h d) = elim h [ ]
-atom_shape (first j d) = elim j [ ]
-atom_shape (next l op s j at may d e) = elim j [ ]
+loose_head : {level operand other : Level} → Heads level operand other → 4 ≤ entry level → ⊥
+loose_head h le = grind arith
 
-dotted_shape : {t : Expression} {ts : List Lexeme} → Spells Dotted t ts → is_primary t ≡ true
-dotted_shape (undotted d) = atom_shape d
-dotted_shape (dotted s x d) = refl
-dotted_shape (prefixed l op s h at d) = elim h [ ]
-dotted_shape (bare h d) = elim h [ ]
-dotted_shape (first j d) = elim j [ ]
-dotted_shape (next l op s j at may d e) = elim j [ ]
+loose_join : {level operand : Level} → Joins level operand → 4 ≤ entry level → ⊥
+loose_join j le = grind arith
 
-primary_shape : {t : Expression} {ts : List Lexeme} → Spells Primary t ts → is_primary t ≡ true
-primary_shape (primary d) = dotted_shape d
-primary_shape (merge s n d) = refl
-primary_shape (prefixed l op s h at d) = elim h [ ]
-primary_shape (bare h d) = elim h [ ]
-primary_shape (first j d) = elim j [ ]
-primary_shape (next l op s j at may d e) = elim j [ ]
+-- what is spelled as a primary or tighter looks like one
+primary_shape : {level : Level} {t : Expression} {ts : List Lexeme} → Spells level t ts → 4 ≤ entry level → is_primary t ≡ true
+primary_shape (undotted d) le = primary_shape d le
+primary_shape (primary d) le = primary_shape d (omega arith)
+primary_shape (prefixed l op s h at d) le = absurd (loose_head h le)
+primary_shape (bare h d) le = absurd (loose_head h le)
+primary_shape (first j d) le = absurd (loose_join j le)
+primary_shape (next l op s j at may d e) le = absurd (loose_join j le)
+primary_shape _ le = grind arith
 
 fby_again : (s : Span) (a b : Expression) (xs ys : List Lexeme) → Spells Primary a xs → Reads Primary a xs → Reads Primary b ys → ReadsWithin Whole (Binary operators.Fby a b) (xs ++ tok (Keyword words.Fby) s ∷ ys)
 unfolding whole_step
@@ -973,17 +904,15 @@ fby_again s a b xs ys d ha hb = reads_from Whole (Binary operators.Fby a b) (xs 
     ∙ whole_is n (xs ++ after)
     ∙ ap (λ (r : Read). r >>= whole_step n) up
     ∙ bind_cond (leb (depth a) (suc n)) (found a (depth a) after) (whole_step n)
-    ∙ ap (λ (p : Bool). cond (leb (depth a) (suc n)) (cond p two (Err Syntax)) (Err Deep)) (primary_shape d)
+    ∙ ap (λ (p : Bool). cond (leb (depth a) (suc n)) (cond p two (Err Syntax)) (Err Deep)) (primary_shape d (omega arith))
     ∙ pair n operators.Fby (read n Primary) keep a b after (ys ++ rest) rest (hb.by n rest (omega (arith, lt))))
 
 pub test_again : {c : Test} {ys : List Lexeme} → SpellsTest c ys → (rest : List Lexeme) → weight rest < 1 → test_at (ys ++ rest) ≡ Ok (c, rest)
 unfolding test_at label_at identifier_at closed_name_at
 test_again (holds n) rest lt = rw (no_light (Sign symbols.Open) rest (omega (arith, lt))) refl
-test_again (fails s n) rest lt = refl
-test_again (fails_in s o c n) rest lt = refl
-test_again (labelled (Constructor m) o c n) rest lt = refl
 test_again (labelled (Boolean true s) o c n) rest lt = refl
 test_again (labelled (Boolean false s) o c n) rest lt = refl
+test_again _ rest lt = refl
 
 both_gone : (b : Bool) → cond b too_deep (Err Deep) ≡ Err Deep
 both_gone true = refl
@@ -1006,7 +935,7 @@ when_again s a c xs ys d ha dc = reads_from Whole (When a c) (xs ++ tok (Keyword
     ∙ whole_is n (xs ++ after)
     ∙ ap (λ (r : Read). r >>= whole_step n) up
     ∙ bind_cond (leb (depth a) (suc n)) left (whole_step n)
-    ∙ ap (λ (p : Bool). cond (leb (depth a) (suc n)) (cond p (test_at (ys ++ rest) >>= step) (Err Syntax)) (Err Deep)) (primary_shape d)
+    ∙ ap (λ (p : Bool). cond (leb (depth a) (suc n)) (cond p (test_at (ys ++ rest) >>= step) (Err Syntax)) (Err Deep)) (primary_shape d (omega arith))
     ∙ ap (λ (r : Result (Test × List Lexeme) Fault). cond (leb (depth a) (suc n)) (r >>= step) (Err Deep)) (test_again dc rest lt)
     ∙ when_cases n a c rest)
 

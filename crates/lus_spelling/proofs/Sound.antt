@@ -598,32 +598,17 @@ module _ (n : ℕ) (arrows values : Reader) (sound : IsSound n Arrow arrows) (va
 
 -- what looks like a primary is one
 pub tight : {level : Level} {t : Expression} {ts : List Lexeme} → Spells level t ts → is_primary t ≡ true → Spells Primary t ts
-tight (number k s) e = primary (undotted (number k s))
-tight (truth s) e = primary (undotted (truth s))
-tight (falsity s) e = primary (undotted (falsity s))
-tight (name n) e = primary (undotted (name n))
-tight (call_empty n o c) e = primary (undotted (call_empty n o c))
-tight (call n o d) e = primary (undotted (call n o d))
-tight (structure n o d) e = primary (undotted (structure n o d))
-tight (variadic l op s o at d) e = primary (undotted (variadic l op s o at d))
-tight (parentheses s c d) e = primary (undotted (parentheses s c d))
-tight (undotted d) e = tight d e
-tight (dotted s x d) e = primary (dotted s x d)
-tight (primary d) e = primary d
-tight (merge s n d) e = merge s n d
-tight (prefixed l op s h at d) e = absurd cc
+tight {level = Atom} d e = primary (undotted d)
+tight {level = Dotted} d e = primary d
+tight {level = Primary} d e = d
 tight (bare h d) e = tight d e
 tight (first j d) e = tight d e
-tight (next l op s j at may a b) e = absurd cc
-tight (choice i t l c a b) e = absurd cc
 tight (else_choice d) e = tight d e
 tight (else_value d) e = tight d e
 tight (arrow_choice d) e = tight d e
 tight (arrow_value d) e = tight d e
-tight (arrow s a b) e = absurd cc
 tight (whole d) e = tight d e
-tight (fby s a b) e = absurd cc
-tight (when s a c) e = absurd cc
+tight _ e = absurd cc
 
 abbrev no_read : Read
 no_read = Err Syntax
