@@ -16,7 +16,7 @@ use Rattle.lus_syntax.specs.Lexemes.{Kind, Number, Sign, Keyword, Lexeme, tok}
 use Rattle.lus_syntax.specs.Trees.{Named, Label, Constructor, Boolean, Test, Lead, Plain, Of, Branch, Expression, Numeral, Truth, Name, Call, Structure, Merge, Variadic, Field, Parentheses, When, Unary, Binary, If, Parts, End, More, parts_of}
 use Rattle.lus_spelling.specs.Expressions.{ident, label, depth, deepest, Level, Whole, Arrow, Else, Choice, Implication, Disjunction, Conjunction, Negation, Negated, Comparison, Sum, Term, Signed, Primary, Dotted, Atom, joined_at, joins_at, infix_of, may_join, prefix_of, list_operator_of, Joins, implication, disjunction, conjunction, comparison, sum, term, Heads, negation, negated, signed, Spells, SpellsAll, SpellsPart, SpellsTest, Separates, Closes, holds, fails, fails_in, labelled, comma, semicolon, unparted, closed, braced, late, unclosed, number, truth, falsity, name, call_empty, call, structure, variadic, parentheses, undotted, dotted, primary, merge, prefixed, bare, first, next, choice, else_choice, else_value, arrow_choice, arrow_value, arrow, whole, fby, when, final, further, argument, init, branch}
 use Rattle.lus_spelling.specs.Reading.{Fault, Syntax, Deep, Found, found, Read, Reader, ◌>>=◌, front, expect, identifier_at, label_at, closed_name_at, test_at, turn_at, Item, item, lead_at, part_at, Several, onward, parts_at, listed_at, after_open, parentheses_at, name_at, operands_at, plain_at, atom_at, dots_at, dotted_at, primary_at, prefix_at, prefixed_on, prefixed_at, join, two_on, infix_at, no_turn, one_turn, more_at, chain_at, branches_at, choice_at, arrow_on, arrow_at, is_primary, when_on, fby_on, whole_at, read_atom, read_dotted, read_primary, read_signed, read_term, read_sum, read_comparison, read_negated, read_negation, read_conjunction, read_disjunction, read_implication, read_choice, read_else, read_arrow, read_whole, read, opening_of, opening, entry, sampled}
-use Rattle.lus_spelling.proofs.Sound.{front_is, zero_least, max_regroups}
+use Rattle.lus_spelling.proofs.Sound.{front_is, zero_least, max_regroups, heads_read, chain_reads}
 
 -- ---- what may follow, and what may begin
 
@@ -595,12 +595,6 @@ head_dots h j = grind arith
 join_dots : {level operand : Level} → Joins level operand → IsDotted level → ⊥
 join_dots j d = grind arith
 
-heads_read : {level operand other : Level} → Heads level operand other → (n : ℕ) (ts : List Lexeme) → read (suc n) level ts ≡ prefixed_on (read n operand) (read (suc n) other) ts (prefix_at level ts)
-unfolding read read_negation read_negated read_signed prefixed_at
-heads_read negation n ts = refl
-heads_read negated n ts = refl
-heads_read signed n ts = refl
-
 head_rank : {level operand other : Level} → Heads level operand other → (rank level ≤ rank operand) × (rank level ≤ rank other)
 head_rank h = (grind arith, grind arith)
 
@@ -634,15 +628,6 @@ bare_again level operand other t ts heads d h = record {
 }
 
 -- ---- operands and operators
-
-chain_reads : {level operand : Level} → Joins level operand → (n : ℕ) (ts : List Lexeme) → read (suc n) level ts ≡ (read (suc n) operand ts >>= more_at (suc n) level n (read n operand))
-unfolding read chain_at read_implication read_disjunction read_conjunction read_comparison read_sum read_term
-chain_reads implication n ts = refl
-chain_reads disjunction n ts = refl
-chain_reads conjunction n ts = refl
-chain_reads comparison n ts = refl
-chain_reads sum n ts = refl
-chain_reads term n ts = refl
 
 tighter : {level operand : Level} → Joins level operand → rank level < rank operand
 tighter j = grind arith

@@ -178,6 +178,23 @@ test_is ts x e = go (front (Keyword words.Not) ts) refl e
         let b = bind_ok (label_at ts) (λ l. tested l.0 l.1 (front (Sign symbols.Open) l.1)) x h in
         tested_is ts b.0.1 b.0.0 x (front (Sign symbols.Open) b.0.1) (label_is ts b.0 b.1) refl b.2
 
+-- ---- levels with operators
+
+pub heads_read : {level operand other : Level} → Heads level operand other → (n : ℕ) (ts : List Lexeme) → read (suc n) level ts ≡ prefixed_on (read n operand) (read (suc n) other) ts (prefix_at level ts)
+unfolding read read_negation read_negated read_signed prefixed_at
+heads_read negation n ts = refl
+heads_read negated n ts = refl
+heads_read signed n ts = refl
+
+pub chain_reads : {level operand : Level} → Joins level operand → (n : ℕ) (ts : List Lexeme) → read (suc n) level ts ≡ (read (suc n) operand ts >>= more_at (suc n) level n (read n operand))
+unfolding read chain_at read_implication read_disjunction read_conjunction read_comparison read_sum read_term
+chain_reads implication n ts = refl
+chain_reads disjunction n ts = refl
+chain_reads conjunction n ts = refl
+chain_reads comparison n ts = refl
+chain_reads sum n ts = refl
+chain_reads term n ts = refl
+
 -- ---- what a reader found
 
 pub record Spelt (limit : ℕ) (level : Level) (ts : List Lexeme) (f : Found) : Type 0 where
@@ -500,10 +517,6 @@ module _ (n : ℕ) (level operand other : Level) (heads : Heads level operand ot
         within = omega (arith, h.within);
       })
 
-  pub prefixed_sound : IsSound (suc n) level (prefixed_at level operands others)
-  unfolding prefixed_at
-  prefixed_sound ts f e = headed ts f (prefix_at level ts) refl e
-
 module _ (level operand : Level) (joins : Joins level operand) (n : ℕ) (operands : Reader) (sound : IsSound n operand operands) (ts : List Lexeme) where
   ended : (left f : Found) (o : Option (Infix × List Lexeme)) → Spelt (suc n) level ts left → no_turn operands left o ≡ Ok f → Spelt (suc n) level ts f
   ended left f None h e = subst (Spelt (suc n) level ts) (same_result left f e) h
@@ -522,12 +535,6 @@ module _ (level operand : Level) (joins : Joins level operand) (n : ℕ) (operan
   unfolding more_at
   more_sound zero left f h e = ended left f (infix_at level left.tree left.rest) h e
   more_sound (suc k) left f h e = turned (more_at k level n operands) (more_sound k) left f (infix_at level left.tree left.rest) refl h e
-
-  pub chain_sound : (firsts : Reader) → IsSound (suc n) operand firsts → (f : Found) → chain_at level n operands firsts ts ≡ Ok f → Spelt (suc n) level ts f
-  unfolding chain_at
-  chain_sound firsts firsts_sound f e =
-      let b = bind_ok (firsts ts) (more_at (suc n) level n operands) f e in
-      more_sound (suc n) b.0 f (lifted (suc n) operand level ts b.0 (λ text s. first joins s) (firsts_sound ts b.0 b.1)) b.2
 
 -- ---- choice
 
@@ -654,92 +661,57 @@ module _ (n : ℕ) (primaries arrows : Reader) (sound : IsSound n Primary primar
 
 -- ---- each level, where its parts are sound
 
-module _ (n : ℕ) (part : Level → Reader) (sound : (level : Level) → IsSound n level (part level)) where
-  atom_step : IsSound (suc n) Atom (read_atom n part)
-  unfolding read_atom
-  atom_step ts f e = atom_sound n (part Whole) (sound Whole) ts f e
+module _ (n : ℕ) (sound : (level : Level) → IsSound n level (read n level)) where
+  abbrev IsSoundAbove : Level → Type 0
+  IsSoundAbove level = IsSound (suc n) level (read (suc n) level)
 
-  dotted_step : IsSound (suc n) Dotted (read_dotted n part)
-  unfolding read_dotted
-  dotted_step ts f e = dotted_sound n ts (read_atom n part) atom_step f e
+  head_step : {level operand other : Level} → Heads level operand other → IsSoundAbove other → IsSoundAbove level
+  head_step {level} {operand} {other} h others_sound ts f e = headed n level operand other h (read n operand) (read (suc n) other) (sound operand) others_sound ts f (prefix_at level ts) refl (sym (heads_read h n ts) ∙ e)
 
-  primary_step : IsSound (suc n) Primary (read_primary n part)
-  unfolding read_primary
-  primary_step ts f e = primary_sound n (part Whole) (sound Whole) (read_dotted n part) dotted_step ts f e
+  chain_step : {level operand : Level} → Joins level operand → IsSoundAbove operand → IsSoundAbove level
+  chain_step {level} {operand} j firsts_sound ts f e =
+      let b = bind_ok (read (suc n) operand ts) (more_at (suc n) level n (read n operand)) f (sym (chain_reads j n ts) ∙ e) in
+      more_sound level operand j n (read n operand) (sound operand) ts (suc n) b.0 f (lifted (suc n) operand level ts b.0 (λ text s. first j s) (firsts_sound ts b.0 b.1)) b.2
 
-  signed_step : IsSound (suc n) Signed (read_signed n part)
-  unfolding read_signed
-  signed_step ts f e = prefixed_sound n Signed Signed Primary signed (part Signed) (read_primary n part) (sound Signed) primary_step ts f e
+  choice_step : (level : Level) → ((t : Expression) (text : List Lexeme) → Spells Choice t text → Spells level t text) → (others : Reader) → IsSound (suc n) level others → IsSound (suc n) level (choice_at (branches_at (read n Whole) (read n Else)) others)
+  choice_step = choice_sound n (read n Whole) (read n Else) (sound Whole) (sound Else)
 
-  term_step : IsSound (suc n) Term (read_term n part)
-  unfolding read_term
-  term_step ts f e = chain_sound Term Signed term n (part Signed) (sound Signed) ts (read_signed n part) signed_step f e
-
-  sum_step : IsSound (suc n) Sum (read_sum n part)
-  unfolding read_sum
-  sum_step ts f e = chain_sound Sum Term sum n (part Term) (sound Term) ts (read_term n part) term_step f e
-
-  comparison_step : IsSound (suc n) Comparison (read_comparison n part)
-  unfolding read_comparison
-  comparison_step ts f e = chain_sound Comparison Sum comparison n (part Sum) (sound Sum) ts (read_sum n part) sum_step f e
-
-  negated_step : IsSound (suc n) Negated (read_negated n part)
-  unfolding read_negated
-  negated_step ts f e = prefixed_sound n Negated Negated Signed negated (part Negated) (read_signed n part) (sound Negated) signed_step ts f e
-
-  negation_step : IsSound (suc n) Negation (read_negation n part)
-  unfolding read_negation
-  negation_step ts f e = prefixed_sound n Negation Negated Comparison negation (part Negated) (read_comparison n part) (sound Negated) comparison_step ts f e
-
-  conjunction_step : IsSound (suc n) Conjunction (read_conjunction n part)
-  unfolding read_conjunction
-  conjunction_step ts f e = chain_sound Conjunction Negation conjunction n (part Negation) (sound Negation) ts (read_negation n part) negation_step f e
-
-  disjunction_step : IsSound (suc n) Disjunction (read_disjunction n part)
-  unfolding read_disjunction
-  disjunction_step ts f e = chain_sound Disjunction Conjunction disjunction n (part Conjunction) (sound Conjunction) ts (read_conjunction n part) conjunction_step f e
-
-  implication_step : IsSound (suc n) Implication (read_implication n part)
-  unfolding read_implication
-  implication_step ts f e = chain_sound Implication Disjunction implication n (part Disjunction) (sound Disjunction) ts (read_disjunction n part) disjunction_step f e
-
-  refuse_sound : (level : Level) → IsSound (suc n) level refuse
-  refuse_sound level ts f e = absurd cc
-
-  choice_step : IsSound (suc n) Choice (read_choice n part)
-  unfolding read_choice
-  choice_step ts f e = choice_sound n (part Whole) (part Else) (sound Whole) (sound Else) Choice (λ t text s. s) refuse (refuse_sound Choice) ts f e
-
-  else_step : IsSound (suc n) Else (read_else n part)
-  unfolding read_else
-  else_step ts f e = choice_sound n (part Whole) (part Else) (sound Whole) (sound Else) Else (λ t text s. else_choice s) (read_implication n part) (λ us g h. lifted (suc n) Implication Else us g (λ text s. else_value s) (implication_step us g h)) ts f e
-
-  arrow_step : IsSound (suc n) Arrow (read_arrow n part)
-  unfolding read_arrow
-  arrow_step ts f e = choice_sound n (part Whole) (part Else) (sound Whole) (sound Else) Arrow (λ t text s. arrow_choice s) (arrow_at n (part Arrow) (read_implication n part)) (arrow_sound n (part Arrow) (read_implication n part) (sound Arrow) implication_step) ts f e
-
-  whole_step : IsSound (suc n) Whole (read_whole n part)
-  unfolding read_whole
-  whole_step ts f e = whole_sound n (part Primary) (read_arrow n part) (sound Primary) arrow_step ts f e
-
-level_step : (n : ℕ) → ((level : Level) → IsSound n level (read n level)) → (level : Level) → IsSound (suc n) level (read (suc n) level)
-unfolding read
-level_step n sound Atom ts f e = atom_step n (read n) sound ts f e
-level_step n sound Dotted ts f e = dotted_step n (read n) sound ts f e
-level_step n sound Primary ts f e = primary_step n (read n) sound ts f e
-level_step n sound Signed ts f e = signed_step n (read n) sound ts f e
-level_step n sound Term ts f e = term_step n (read n) sound ts f e
-level_step n sound Sum ts f e = sum_step n (read n) sound ts f e
-level_step n sound Comparison ts f e = comparison_step n (read n) sound ts f e
-level_step n sound Negated ts f e = negated_step n (read n) sound ts f e
-level_step n sound Negation ts f e = negation_step n (read n) sound ts f e
-level_step n sound Conjunction ts f e = conjunction_step n (read n) sound ts f e
-level_step n sound Disjunction ts f e = disjunction_step n (read n) sound ts f e
-level_step n sound Implication ts f e = implication_step n (read n) sound ts f e
-level_step n sound Choice ts f e = choice_step n (read n) sound ts f e
-level_step n sound Else ts f e = else_step n (read n) sound ts f e
-level_step n sound Arrow ts f e = arrow_step n (read n) sound ts f e
-level_step n sound Whole ts f e = whole_step n (read n) sound ts f e
+  level_step : (level : Level) → IsSoundAbove level
+  unfolding read read_atom read_dotted read_primary read_choice read_else read_arrow read_whole
+  level_step level =
+      let at_atom : IsSoundAbove Atom = atom_sound n (read n Whole) (sound Whole) in
+      let at_dotted : IsSoundAbove Dotted = λ ts. dotted_sound n ts (read (suc n) Atom) at_atom in
+      let at_primary : IsSoundAbove Primary = primary_sound n (read n Whole) (sound Whole) (read (suc n) Dotted) at_dotted in
+      let at_signed = head_step signed at_primary in
+      let at_term = chain_step term at_signed in
+      let at_sum = chain_step sum at_term in
+      let at_comparison = chain_step comparison at_sum in
+      let at_negated = head_step negated at_signed in
+      let at_negation = head_step negation at_comparison in
+      let at_conjunction = chain_step conjunction at_negation in
+      let at_disjunction = chain_step disjunction at_conjunction in
+      let at_implication = chain_step implication at_disjunction in
+      let value_first : IsSound (suc n) Else (read (suc n) Implication) = λ ts f e. lifted (suc n) Implication Else ts f (λ text s. else_value s) (at_implication ts f e) in
+      let refused : IsSound (suc n) Choice refuse = λ ts f e. absurd cc in
+      let at_arrow : IsSoundAbove Arrow = choice_step Arrow (λ t text s. arrow_choice s) (arrow_at n (read n Arrow) (read (suc n) Implication)) (arrow_sound n (read n Arrow) (read (suc n) Implication) (sound Arrow) at_implication) in
+      elim level as IsSoundAbove [
+        | Whole ↦ whole_sound n (read n Primary) (read (suc n) Arrow) (sound Primary) at_arrow
+        | Arrow ↦ at_arrow
+        | Else ↦ choice_step Else (λ t text s. else_choice s) (read (suc n) Implication) value_first
+        | Choice ↦ choice_step Choice (λ t text s. s) refuse refused
+        | Implication ↦ at_implication
+        | Disjunction ↦ at_disjunction
+        | Conjunction ↦ at_conjunction
+        | Negation ↦ at_negation
+        | Negated ↦ at_negated
+        | Comparison ↦ at_comparison
+        | Sum ↦ at_sum
+        | Term ↦ at_term
+        | Signed ↦ at_signed
+        | Primary ↦ at_primary
+        | Dotted ↦ at_dotted
+        | Atom ↦ at_atom
+      ]
 
 pub read_sound : (n : ℕ) (level : Level) → IsSound n level (read n level)
 unfolding read
