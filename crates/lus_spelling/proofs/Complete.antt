@@ -14,8 +14,8 @@ use Rattle.lus_spelling.specs.declared.form.Form.{Form}
 use Rattle.lus_spelling.specs.declared.form.Form.TheVariants as forms
 use Rattle.lus_syntax.specs.Lexemes.{Kind, Number, Sign, Keyword, Lexeme, tok}
 use Rattle.lus_syntax.specs.Trees.{Named, Label, Constructor, Boolean, Test, Lead, Plain, Of, Branch, Expression, Numeral, Truth, Name, Call, Structure, Merge, Variadic, Field, Parentheses, When, Unary, Binary, If, Parts, End, More, parts_of}
-use Rattle.lus_spelling.specs.Expressions.{ident, label, depth, deepest, Level, Whole, Arrow, Else, Choice, Implication, Disjunction, Conjunction, Negation, Negated, Comparison, Sum, Term, Signed, Primary, Dotted, Atom, joined_at, joins_at, infix_of, may_join, prefix_of, list_operator_of, Joins, implication, disjunction, conjunction, comparison, sum, term, Heads, negation, negated, signed, Spells, SpellsAll, SpellsPart, SpellsTest, Separates, Closes, holds, fails, fails_in, labelled, comma, semicolon, unparted, closed, braced, late, unclosed, number, truth, falsity, name, call_empty, call, structure, variadic, parentheses, undotted, dotted, primary, merge, prefixed, bare, first, next, choice, else_choice, else_value, arrow_choice, arrow_value, arrow, whole, fby, when, final, further, argument, init, branch}
-use Rattle.lus_spelling.specs.Reading.{Fault, Syntax, Deep, Found, found, Read, Reader, ◌>>=◌, front, expect, identifier_at, label_at, closed_name_at, test_at, turn_at, Item, item, lead_at, part_at, Several, onward, parts_at, listed_at, after_open, parentheses_at, name_at, operands_at, plain_at, atom_at, dots_at, dotted_at, primary_at, prefix_at, prefixed_on, prefixed_at, join, two_on, infix_at, no_turn, one_turn, more_at, chain_at, branches_at, choice_at, arrow_on, arrow_at, is_primary, when_on, fby_on, whole_at, read_atom, read_dotted, read_primary, read_signed, read_term, read_sum, read_comparison, read_negated, read_negation, read_conjunction, read_disjunction, read_implication, read_choice, read_else, read_arrow, read_whole, read, opening_of, opening, entry, sampled}
+use Rattle.lus_spelling.specs.Expressions.{ident, label, depth, deepest, Level, Whole, Arrow, Else, Choice, Implication, Disjunction, Conjunction, Negation, Negated, Comparison, Sum, Term, Signed, Primary, Dotted, Atom, joined_at, joins_at, infix_of, may_join, prefix_of, list_operator_of, Joins, implication, disjunction, conjunction, comparison, sum, term, Heads, negation, signed, Spells, SpellsAll, SpellsPart, SpellsTest, Separates, Closes, holds, labelled, comma, semicolon, unparted, unclosed, number, truth, falsity, name, call_empty, call, structure, variadic, parentheses, undotted, dotted, primary, merge, prefixed, bare, first, next, choice, else_choice, else_value, arrow_choice, arrow_value, arrow, whole, fby, when, final, further, argument, init, branch}
+use Rattle.lus_spelling.specs.Reading.{Fault, Syntax, Deep, Found, found, Read, Reader, ◌>>=◌, front, expect, identifier_at, label_at, closed_name_at, test_at, turn_at, Item, item, lead_at, part_at, Several, onward, parts_at, listed_at, after_open, parentheses_at, name_at, operands_at, plain_at, atom_at, dots_at, dotted_at, primary_at, prefix_at, prefixed_on, join, two_on, infix_at, no_turn, one_turn, more_at, branches_at, choice_at, arrow_on, arrow_at, is_primary, when_on, fby_on, whole_at, read_atom, read_dotted, read_primary, read_choice, read_else, read_arrow, read_whole, read, opening_of, opening, entry, sampled}
 use Rattle.lus_spelling.proofs.Sound.{front_is, zero_least, max_regroups, heads_read, chain_reads}
 
 -- ---- what may follow, and what may begin
