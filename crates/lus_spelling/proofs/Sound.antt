@@ -1,7 +1,7 @@
 -- What is read is spelled so.
 use Rattle.std.proofs.Common.{◌≡◌, ℕ, zero, suc, ◌+◌, ◌≤◌, max, Bool, true, false, cond, ltb, leb, length, List, [], ◌∷◌, ◌++◌, Option, Some, None, Result, Ok, Err, refl, sym, ap, subst, ◌∙◌, append_assoc, arith}
 use Rattle.std.proofs.lemmas.Bool.{eqb-true, ltb-false}
-use Rattle.std.proofs.Math.Nat.{max-le, le-max_left, le-max_right}
+use Rattle.std.proofs.Math.Nat.{max-le}
 use denote.Enum.Declared.{tag_of}
 use denote.Enum.Bare.{tag_one}
 use Rattle.lus_syntax.specs.declared.token.Span.{Span}
@@ -28,7 +28,11 @@ pub bind_ok : {A B : Type 0} (r : Result A Fault) (f : A → Result B Fault) (y 
 bind_ok (Ok x) f y e = (x, refl, e)
 bind_ok (Err d) f y e = absurd cc
 
-abbrev done : {A : Type 0} → A → Result A Fault
+pub bind_cond : {A B : Type 0} (b : Bool) (x : A) (f : A → Result B Fault) → (cond b (Ok x) (Err Deep) >>= f) ≡ cond b (f x) (Err Deep)
+bind_cond true x f = refl
+bind_cond false x f = refl
+
+abbrev pub done : {A : Type 0} → A → Result A Fault
 done x = Ok x
 
 pub same_result : {A : Type 0} (x y : A) → done x ≡ done y → x ≡ y
@@ -314,18 +318,13 @@ pub record SpeltAll (n : ℕ) (form : Form) (us : List (Lead × Expression)) (d 
   pub within : a.1 ≤ n
 
 pub zero_least : (a : ℕ) → a ≡ max a 0
-zero_least a = let l = le-max_left a 0 in let u : max a 0 ≤ a = max-le (omega arith) (omega arith) in omega (arith, l, u)
+zero_least a = omega arith
 
-zero_first : (a : ℕ) → max 0 a ≡ a
-zero_first a = let l = le-max_right 0 a in let u : max 0 a ≤ a = max-le (omega arith) (omega arith) in omega (arith, l, u)
+pub zero_first : (a : ℕ) → max 0 a ≡ a
+zero_first a = omega arith
 
 pub max_regroups : (a b c : ℕ) → max (max a b) c ≡ max a (max b c)
-max_regroups a b c =
-    let l1 = le-max_left a (max b c) in let l2 = le-max_right a (max b c) in let l3 = le-max_left b c in let l4 = le-max_right b c in
-    let r1 = le-max_left (max a b) c in let r2 = le-max_right (max a b) c in let r3 = le-max_left a b in let r4 = le-max_right a b in
-    let up : max (max a b) c ≤ max a (max b c) = max-le (max-le l1 (omega (arith, l2, l3))) (omega (arith, l2, l4)) in
-    let down : max a (max b c) ≤ max (max a b) c = max-le (omega (arith, r1, r3)) (max-le (omega (arith, r1, r4)) r2) in
-    omega (arith, up, down)
+max_regroups a b c = omega arith
 
 module _ (n : ℕ) (wholes : Reader) (sound : IsSound n Whole wholes) where
   part_sound : (form : Form) (ts : List Lexeme) (p : Item) → part_at form wholes ts ≡ Ok p → SpeltPart n form ts p
