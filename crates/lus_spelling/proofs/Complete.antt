@@ -1,5 +1,5 @@
 -- What is spelled so is read, if it is not too deep.
-use Rattle.std.proofs.Common.{◌≡◌, ℕ, ℤ, zero, suc, ◌+◌, ◌-◌, ◌<◌, ◌≤◌, max, Bool, true, false, cond, ltb, leb, length, List, [], ◌∷◌, ◌++◌, Option, Some, None, Result, Ok, Err, refl, sym, ap, subst, ◌∙◌, append_assoc, length-append, arith, inl, inr}
+use Rattle.std.proofs.Common.{◌≡◌, ℕ, zero, suc, ◌+◌, ◌-◌, ◌<◌, ◌≤◌, max, Bool, true, false, cond, ltb, leb, length, List, [], ◌∷◌, ◌++◌, Option, Some, None, Result, Ok, Err, refl, sym, ap, subst, ◌∙◌, append_assoc, length-append, arith, inl, inr}
 use Rattle.std.proofs.lemmas.Bool.{le-leb, lt-leb, lt-ltb, le-ltb, cases_lt}
 use Rattle.std.proofs.Math.Nat.{max-le, le-max_left, le-max_right}
 use Rattle.lus_values.specs.declared.operator.Op.{Op}
@@ -260,26 +260,6 @@ goal_plain level t ts e h = record { reads = h; grows = λ operand j. absurd (un
 goal_atom : (t : Expression) (ts : List Lexeme) → ((n : ℕ) (rest : List Lexeme) → weight rest < rank Atom → read (suc n) Atom (ts ++ rest) ≡ outcome (suc n) t rest) → Goal Atom t ts
 goal_atom t ts h = record { reads = reads_from Atom t ts h; grows = λ operand j. elim j [ ]; dots = λ d. elim d [ ] }
 
-number_again : (k : ℤ) (s : Span) → Goal Atom (Numeral k s) (tok (Number k) s ∷ [])
-unfolding read read_atom atom_at plain_at
-number_again k s = goal_atom (Numeral k s) (tok (Number k) s ∷ []) (λ n rest lt. sym (within (suc n) (Numeral k s) rest (omega arith)))
-
-truth_again : (s : Span) → Goal Atom (Truth true s) (tok (Keyword words.True) s ∷ [])
-unfolding read read_atom atom_at plain_at
-truth_again s = goal_atom (Truth true s) (tok (Keyword words.True) s ∷ []) (λ n rest lt. sym (within (suc n) (Truth true s) rest (omega arith)))
-
-falsity_again : (s : Span) → Goal Atom (Truth false s) (tok (Keyword words.False) s ∷ [])
-unfolding read read_atom atom_at plain_at
-falsity_again s = goal_atom (Truth false s) (tok (Keyword words.False) s ∷ []) (λ n rest lt. sym (within (suc n) (Truth false s) rest (omega arith)))
-
-name_again : (k : Named) → Goal Atom (Name k) (ident k ∷ [])
-unfolding read read_atom atom_at plain_at name_at
-name_again k = goal_atom (Name k) (ident k ∷ []) (λ n rest lt. rw (no_light (Sign symbols.Open) rest lt, no_light (Sign symbols.OpenBrace) rest lt) (sym (within (suc n) (Name k) rest (omega arith))))
-
-call_empty_again : (k : Named) (o e : Span) → Goal Atom (Call k End) (ident k ∷ tok (Sign symbols.Open) o ∷ tok (Sign symbols.Close) e ∷ [])
-unfolding read read_atom atom_at plain_at name_at
-call_empty_again k o e = goal_atom (Call k End) (ident k ∷ tok (Sign symbols.Open) o ∷ tok (Sign symbols.Close) e ∷ []) (λ n rest lt. sym (within (suc n) (Call k End) rest (omega arith)))
-
 parentheses_again : (s e : Span) (t : Expression) (ts : List Lexeme) → Reads Whole t ts → Goal Atom (Parentheses s t) (tok (Sign symbols.Open) s ∷ (ts ++ tok (Sign symbols.Close) e ∷ []))
 unfolding read read_atom atom_at plain_at parentheses_at
 parentheses_again s e t ts h = goal_atom (Parentheses s t) (tok (Sign symbols.Open) s ∷ (ts ++ tok (Sign symbols.Close) e ∷ [])) (λ n rest lt.
@@ -472,18 +452,6 @@ listed_again make form us ts deep h n rest lt =
     ap (λ (r : Several). r >>= make_step make) (h.by n (length (ts ++ rest) + 1) [] 0 rest lt (omega (arith, size)) (omega arith) ∙ ap (λ (m : ℕ). all_outcome n (listed us) m rest) (zero_first (deepest us)))
     ∙ over (deepest us) n (listed us, deepest us, rest) (make_step make) (outcome (suc n) (make us) rest) (λ far. sym (beyond (suc n) (make us) rest (omega (arith, deep, far))))
     (λ near. ap (λ (vs : Parts). shown (make vs) (suc (deepest us)) rest) (listed_back us) ∙ ap (λ (m : ℕ). shown (make us) m rest) (sym deep) ∙ sym (within (suc n) (make us) rest (omega (arith, deep, near))))
-
-call_again : (m : Named) (o : Span) (us : Parts) (ts : List Lexeme) → SpellsAll forms.Call us ts → ReadsAll forms.Call us ts → Goal Atom (Call m us) (ident m ∷ tok (Sign symbols.Open) o ∷ ts)
-unfolding read read_atom atom_at plain_at name_at
-call_again m o us ts d h = goal_atom (Call m us) (ident m ∷ tok (Sign symbols.Open) o ∷ ts) (λ n rest lt. rw (no_close d rest) (listed_again (Call m) forms.Call us ts refl h n rest lt))
-
-structure_again : (m : Named) (o : Span) (us : Parts) (ts : List Lexeme) → ReadsAll forms.Structure us ts → Goal Atom (Structure m us) (ident m ∷ tok (Sign symbols.OpenBrace) o ∷ ts)
-unfolding read read_atom atom_at plain_at name_at
-structure_again m o us ts h = goal_atom (Structure m us) (ident m ∷ tok (Sign symbols.OpenBrace) o ∷ ts) (λ n rest lt. listed_again (Structure m) forms.Structure us ts refl h n rest lt)
-
-variadic_again : (l : Kind) (op : ListOperator) (s o : Span) (us : Parts) (ts : List Lexeme) → list_operator_of l ≡ Some op → ReadsAll forms.Call us ts → Goal Atom (Variadic op s us) (tok l s ∷ tok (Sign symbols.Open) o ∷ ts)
-unfolding read read_atom atom_at operands_at
-variadic_again l op s o us ts at h = goal_atom (Variadic op s us) (tok l s ∷ tok (Sign symbols.Open) o ∷ ts) (λ n rest lt. rw at (listed_again (Variadic op s) forms.Call us ts refl h n rest lt))
 
 merge_again : (s : Span) (m : Named) (us : Parts) (ts : List Lexeme) → ReadsAll forms.Merge us ts → Goal Primary (Merge s m us) (tok (Keyword words.Merge) s ∷ ident m ∷ ts)
 unfolding read read_primary primary_at identifier_at
@@ -895,15 +863,17 @@ when_again s a c xs ys d ha dc = reads_from Whole (When a c) (xs ++ tok (Keyword
 -- ---- all of it
 
 mutual
+  unfolding read read_atom atom_at plain_at name_at operands_at
+
   goal_of : {level : Level} {t : Expression} {ts : List Lexeme} → Spells level t ts → Goal level t ts
-  goal_of (number k s) = number_again k s
-  goal_of (truth s) = truth_again s
-  goal_of (falsity s) = falsity_again s
-  goal_of (name n) = name_again n
-  goal_of (call_empty n o e) = call_empty_again n o e
-  goal_of (call n o {us} {ts} d) = call_again n o us ts d (all_of d)
-  goal_of (structure n o {us} {ts} d) = structure_again n o us ts (all_of d)
-  goal_of (variadic l op s o {us} {ts} at d) = variadic_again l op s o us ts at (all_of d)
+  goal_of (number k s) = goal_atom (Numeral k s) (tok (Number k) s ∷ []) (λ n rest lt. sym (within (suc n) (Numeral k s) rest (omega arith)))
+  goal_of (truth s) = goal_atom (Truth true s) (tok (Keyword words.True) s ∷ []) (λ n rest lt. sym (within (suc n) (Truth true s) rest (omega arith)))
+  goal_of (falsity s) = goal_atom (Truth false s) (tok (Keyword words.False) s ∷ []) (λ n rest lt. sym (within (suc n) (Truth false s) rest (omega arith)))
+  goal_of (name k) = goal_atom (Name k) (ident k ∷ []) (λ n rest lt. rw (no_light (Sign symbols.Open) rest lt, no_light (Sign symbols.OpenBrace) rest lt) (sym (within (suc n) (Name k) rest (omega arith))))
+  goal_of (call_empty k o e) = goal_atom (Call k End) (ident k ∷ tok (Sign symbols.Open) o ∷ tok (Sign symbols.Close) e ∷ []) (λ n rest lt. sym (within (suc n) (Call k End) rest (omega arith)))
+  goal_of (call m o {us} {ts} d) = goal_atom (Call m us) (ident m ∷ tok (Sign symbols.Open) o ∷ ts) (λ n rest lt. rw (no_close d rest) (listed_again (Call m) forms.Call us ts refl (all_of d) n rest lt))
+  goal_of (structure m o {us} {ts} d) = goal_atom (Structure m us) (ident m ∷ tok (Sign symbols.OpenBrace) o ∷ ts) (λ n rest lt. listed_again (Structure m) forms.Structure us ts refl (all_of d) n rest lt)
+  goal_of (variadic l op s o {us} {ts} at d) = goal_atom (Variadic op s us) (tok l s ∷ tok (Sign symbols.Open) o ∷ ts) (λ n rest lt. rw at (listed_again (Variadic op s) forms.Call us ts refl (all_of d) n rest lt))
   goal_of (undotted {t} {ts} d) = goal_dots t ts (dots_first t ts (reads_of d (goal_of d).reads))
   goal_of (dotted s x {t} {ts} d) = goal_dots (Field t x) (ts ++ tok (Sign symbols.Dot) s ∷ ident x ∷ []) (dots_next t ts s x ((goal_of d).dots is_dotted))
   goal_of (primary {t} {ts} d) = primary_again t ts d (reads_of d (goal_of d).reads)
