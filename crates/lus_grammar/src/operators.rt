@@ -2,8 +2,8 @@
 
 ghost use Rattle.std.specs.Prelude.{◌≡◌, option_map};
 ghost use Rattle.lus_syntax.specs.Lexemes.{Sign, Keyword};
-ghost use Rattle.lus_syntax.specs.View.{tokens_seen, expression_seen};
-ghost use Rattle.lus_spelling.specs.Expressions.{infix_of, mixing_of, mixes, may_join};
+ghost use Rattle.lus_syntax.specs.View.{kind_seen, tokens_seen, expression_seen};
+ghost use Rattle.lus_spelling.specs.Expressions.{joined_at, infix_of, mixing_of, mixes, may_join};
 ghost use Rattle.lus_spelling.specs.Reading.{entry, infix_at, list_operator_at, prefix_at};
 ghost use Rattle.lus_grammar.specs.Rules.{entry_of, level_of, operand_of, head_level, head_operand};
 
@@ -11,6 +11,7 @@ use crate::fault::Tokens;
 use crate::openings::Entry;
 use lus_spelling::Mixing;
 use lus_syntax::{Expr, Infix, ListOperator, Prefix, Span, Symbol, Token, TokenKind, Word};
+use lus_values::Op;
 
 /// The rules that read operands and operators between them.
 #[derive(Clone, Copy, Debug, PartialEq, Eq)]
@@ -35,15 +36,12 @@ fn mixing_of(operator: Infix) -> Mixing
     ensures { result ≡ mixing_of operator }
 {
     match operator {
-        Infix::Implies => Mixing::Implication,
-        Infix::Or => Mixing::Or,
-        Infix::Xor => Mixing::Xor,
-        Infix::Equal
-        | Infix::NotEqual
-        | Infix::Less
-        | Infix::AtMost
-        | Infix::Greater
-        | Infix::AtLeast => Mixing::Comparison,
+        Infix::Compute(Op::Implies) => Mixing::Implication,
+        Infix::Compute(Op::Or) => Mixing::Or,
+        Infix::Compute(Op::Xor) => Mixing::Xor,
+        Infix::Compute(
+            Op::Equal | Op::NotEqual | Op::Less | Op::AtMost | Op::Greater | Op::AtLeast,
+        ) => Mixing::Comparison,
         _ => Mixing::Free,
     }
 }
@@ -70,35 +68,50 @@ fn joins(operator: Infix, left: &Expr) -> bool
     }
 }
 
-fn infix_symbol(chain: Chain, symbol: Symbol) -> Option<Infix>
-    ensures { result ≡ infix_of (level_of chain) (Sign symbol) }
+fn infix_symbol(symbol: Symbol) -> Option<(Chain, Op)>
+    ensures { option_map (λ x. (level_of x.0, x.1)) result ≡ joined_at (Sign symbol) }
 {
-    match (chain, symbol) {
-        (Chain::Implication, Symbol::Implies) => Some(Infix::Implies),
-        (Chain::Comparison, Symbol::Equal) => Some(Infix::Equal),
-        (Chain::Comparison, Symbol::NotEqual) => Some(Infix::NotEqual),
-        (Chain::Comparison, Symbol::Less) => Some(Infix::Less),
-        (Chain::Comparison, Symbol::AtMost) => Some(Infix::AtMost),
-        (Chain::Comparison, Symbol::Greater) => Some(Infix::Greater),
-        (Chain::Comparison, Symbol::AtLeast) => Some(Infix::AtLeast),
-        (Chain::Sum, Symbol::Plus) => Some(Infix::Add),
-        (Chain::Sum, Symbol::Minus) => Some(Infix::Subtract),
-        (Chain::Term, Symbol::Star) => Some(Infix::Multiply),
-        (Chain::Term, Symbol::Slash) => Some(Infix::Divide),
+    match symbol {
+        Symbol::Implies => Some((Chain::Implication, Op::Implies)),
+        Symbol::Equal => Some((Chain::Comparison, Op::Equal)),
+        Symbol::NotEqual => Some((Chain::Comparison, Op::NotEqual)),
+        Symbol::Less => Some((Chain::Comparison, Op::Less)),
+        Symbol::AtMost => Some((Chain::Comparison, Op::AtMost)),
+        Symbol::Greater => Some((Chain::Comparison, Op::Greater)),
+        Symbol::AtLeast => Some((Chain::Comparison, Op::AtLeast)),
+        Symbol::Plus => Some((Chain::Sum, Op::Add)),
+        Symbol::Minus => Some((Chain::Sum, Op::Subtract)),
+        Symbol::Star => Some((Chain::Term, Op::Multiply)),
+        Symbol::Slash => Some((Chain::Term, Op::Divide)),
         _ => None,
     }
 }
 
-fn infix_word(chain: Chain, word: Word) -> Option<Infix>
-    ensures { result ≡ infix_of (level_of chain) (Keyword word) }
+fn infix_word(word: Word) -> Option<(Chain, Op)>
+    ensures { option_map (λ x. (level_of x.0, x.1)) result ≡ joined_at (Keyword word) }
 {
-    match (chain, word) {
-        (Chain::Disjunction, Word::Or) => Some(Infix::Or),
-        (Chain::Disjunction, Word::Xor) => Some(Infix::Xor),
-        (Chain::Conjunction, Word::And) => Some(Infix::And),
-        (Chain::Term, Word::Div) => Some(Infix::Divide),
-        (Chain::Term, Word::Mod) => Some(Infix::Remainder),
+    match word {
+        Word::Or => Some((Chain::Disjunction, Op::Or)),
+        Word::Xor => Some((Chain::Disjunction, Op::Xor)),
+        Word::And => Some((Chain::Conjunction, Op::And)),
+        Word::Div => Some((Chain::Term, Op::Divide)),
+        Word::Mod => Some((Chain::Term, Op::Remainder)),
         _ => None,
+    }
+}
+
+fn infix_of(chain: Chain, kind: &TokenKind) -> Option<Infix>
+    ensures { result ≡ infix_of (level_of chain) (kind_seen kind.now) }
+{
+    let (found, operator) = match *kind {
+        TokenKind::Punctuation(symbol) => infix_symbol(symbol)?,
+        TokenKind::Keyword(word) => infix_word(word)?,
+        TokenKind::Identifier(_) | TokenKind::Number(_) => return None,
+    };
+    if found == chain {
+        Some(Infix::Compute(operator))
+    } else {
+        None
     }
 }
 
@@ -107,30 +120,8 @@ pub fn infix<'a>(chain: Chain, left: &Expr, tokens: Tokens<'a>) -> Option<(Infix
     ensures { option_map (λ x. (x.0, tokens_seen x.1.now)) result
         ≡ infix_at (level_of chain) (expression_seen left.now) (tokens_seen tokens.now) }
 {
-    let (operator, rest) = match *tokens {
-        [] => return None,
-        [
-            Token {
-                kind: TokenKind::Punctuation(symbol),
-                ..
-            },
-            ref rest @ ..,
-        ] => (infix_symbol(chain, symbol)?, rest),
-        [
-            Token {
-                kind: TokenKind::Keyword(word),
-                ..
-            },
-            ref rest @ ..,
-        ] => (infix_word(chain, word)?, rest),
-        [
-            Token {
-                kind: TokenKind::Identifier(_) | TokenKind::Number(_),
-                ..
-            },
-            ..
-        ] => return None,
-    };
+    let (first, rest) = tokens.split_first()?;
+    let operator = infix_of(chain, &first.kind)?;
     if joins(operator, left) {
         Some((operator, rest))
     } else {

@@ -1,7 +1,8 @@
 -- What is spelled so is read, if it is not too deep.
-use Rattle.std.proofs.Common.{◌≡◌, ℕ, ℤ, zero, suc, ◌+◌, ◌-◌, ◌<◌, ◌≤◌, max, Bool, true, false, cond, ltb, leb, length, List, [], ◌∷◌, ◌++◌, Option, Some, None, Result, Ok, Err, refl, sym, ap, subst, ◌∙◌, append_assoc, arith, inl, inr}
+use Rattle.std.proofs.Common.{◌≡◌, ℕ, zero, suc, ◌+◌, ◌-◌, ◌<◌, ◌≤◌, max, Bool, true, false, cond, ltb, leb, length, List, [], ◌∷◌, ◌++◌, Option, Some, None, Result, Ok, Err, refl, sym, ap, subst, ◌∙◌, append_assoc, length-append, arith, inl, inr}
 use Rattle.std.proofs.lemmas.Bool.{le-leb, lt-leb, lt-ltb, le-ltb, cases_lt}
 use Rattle.std.proofs.Math.Nat.{max-le, le-max_left, le-max_right}
+use Rattle.lus_values.specs.declared.operator.Op.{Op}
 use Rattle.lus_syntax.specs.declared.token.Span.{Span}
 use Rattle.lus_syntax.specs.declared.token.Symbol.TheVariants as symbols
 use Rattle.lus_syntax.specs.declared.token.Word.TheVariants as words
@@ -13,41 +14,11 @@ use Rattle.lus_spelling.specs.declared.form.Form.{Form}
 use Rattle.lus_spelling.specs.declared.form.Form.TheVariants as forms
 use Rattle.lus_syntax.specs.Lexemes.{Kind, Number, Sign, Keyword, Lexeme, tok}
 use Rattle.lus_syntax.specs.Trees.{Named, Label, Constructor, Boolean, Test, Lead, Plain, Of, Branch, Expression, Numeral, Truth, Name, Call, Structure, Merge, Variadic, Field, Parentheses, When, Unary, Binary, If, Parts, End, More, parts_of}
-use Rattle.lus_spelling.specs.Expressions.{ident, label, depth, deepest, Level, Whole, Arrow, Else, Choice, Implication, Disjunction, Conjunction, Negation, Negated, Comparison, Sum, Term, Signed, Primary, Dotted, Atom, infix_of, may_join, prefix_of, list_operator_of, Joins, implication, disjunction, conjunction, comparison, sum, term, Heads, negation, negated, signed, Spells, SpellsAll, SpellsPart, SpellsTest, Separates, Closes, holds, fails, fails_in, labelled, comma, semicolon, unparted, closed, braced, late, unclosed, number, truth, falsity, name, call_empty, call, structure, variadic, parentheses, undotted, dotted, primary, merge, prefixed, bare, first, next, choice, else_choice, else_value, arrow_choice, arrow_value, arrow, whole, fby, when, final, further, argument, init, branch}
-use Rattle.lus_spelling.specs.Reading.{Fault, Syntax, Deep, Found, found, Read, Reader, ◌>>=◌, front, expect, identifier_at, label_at, closed_name_at, test_at, turn_at, Item, item, lead_at, part_at, Several, onward, parts_at, listed_at, after_open, parentheses_at, name_at, operands_at, plain_at, atom_at, dots_at, dotted_at, primary_at, prefix_at, prefixed_on, prefixed_at, join, two_on, infix_at, no_turn, one_turn, more_at, chain_at, branches_at, choice_at, arrow_on, arrow_at, is_primary, when_on, fby_on, whole_at, read_atom, read_dotted, read_primary, read_signed, read_term, read_sum, read_comparison, read_negated, read_negation, read_conjunction, read_disjunction, read_implication, read_choice, read_else, read_arrow, read_whole, read, opening_of, opening, entry, sampled}
-use Rattle.lus_spelling.proofs.Sound.{front_is, zero_least, max_regroups}
+use Rattle.lus_spelling.specs.Expressions.{ident, label, depth, deepest, Level, Whole, Arrow, Else, Choice, Implication, Disjunction, Conjunction, Negation, Negated, Comparison, Sum, Term, Signed, Primary, Dotted, Atom, joined_at, joins_at, infix_of, may_join, prefix_of, list_operator_of, Joins, implication, disjunction, conjunction, comparison, sum, term, Heads, negation, signed, Spells, SpellsAll, SpellsPart, SpellsTest, Separates, Closes, holds, labelled, comma, semicolon, unparted, unclosed, number, truth, falsity, name, call_empty, call, structure, variadic, parentheses, undotted, dotted, primary, merge, prefixed, bare, first, next, choice, else_choice, else_value, arrow_choice, arrow_value, arrow, whole, fby, when, final, further, argument, init, branch}
+use Rattle.lus_spelling.specs.Reading.{Fault, Syntax, Deep, Found, found, Read, Reader, ◌>>=◌, front, expect, identifier_at, label_at, closed_name_at, test_at, turn_at, Item, item, lead_at, part_at, Several, onward, parts_at, listed_at, after_open, parentheses_at, name_at, operands_at, plain_at, atom_at, dots_at, dotted_at, primary_at, prefix_at, prefixed_on, join, two_on, infix_at, no_turn, one_turn, more_at, branches_at, choice_at, arrow_on, arrow_at, is_primary, when_on, fby_on, whole_at, read_atom, read_dotted, read_primary, read_choice, read_else, read_arrow, read_whole, read, opening_of, opening, entry, sampled}
+use Rattle.lus_spelling.proofs.Sound.{done, bind_cond, front_is, zero_first, zero_least, max_regroups, heads_read, chain_reads}
 
 -- ---- what may follow, and what may begin
-
--- how tight the operator is that a token may be
-abbrev heft : Kind → ℕ
-heft (Keyword words.Fby) = 1
-heft (Keyword words.When) = 1
-heft (Sign symbols.Arrow) = 2
-heft (Sign symbols.Implies) = 3
-heft (Keyword words.Or) = 4
-heft (Keyword words.Xor) = 4
-heft (Keyword words.And) = 5
-heft (Sign symbols.Equal) = 6
-heft (Sign symbols.NotEqual) = 6
-heft (Sign symbols.Less) = 6
-heft (Sign symbols.AtMost) = 6
-heft (Sign symbols.Greater) = 6
-heft (Sign symbols.AtLeast) = 6
-heft (Sign symbols.Plus) = 7
-heft (Sign symbols.Minus) = 7
-heft (Sign symbols.Star) = 8
-heft (Sign symbols.Slash) = 8
-heft (Keyword words.Div) = 8
-heft (Keyword words.Mod) = 8
-heft (Sign symbols.Dot) = 10
-heft (Sign symbols.Open) = 11
-heft (Sign symbols.OpenBrace) = 11
-heft _ = 0
-
-abbrev pub weight : List Lexeme → ℕ
-weight [] = 0
-weight (t ∷ ts) = heft t.kind
 
 -- how tight a token's operator must be to go on with a level
 abbrev pub rank : Level → ℕ
@@ -68,25 +39,36 @@ rank Primary = 9
 rank Dotted = 10
 rank Atom = 11
 
+-- how tight the operator is that a token may be
+abbrev joined_heft : Option (Level × Op) → Kind → ℕ
+joined_heft (Some (level, op)) l = rank level
+joined_heft None (Keyword words.Fby) = 1
+joined_heft None (Keyword words.When) = 1
+joined_heft None (Sign symbols.Arrow) = 2
+joined_heft None (Sign symbols.Dot) = 10
+joined_heft None (Sign symbols.Open) = 11
+joined_heft None (Sign symbols.OpenBrace) = 11
+joined_heft None _ = 0
+
+abbrev heft : Kind → ℕ
+heft l = joined_heft (joined_at l) l
+
+abbrev pub weight : List Lexeme → ℕ
+weight [] = 0
+weight (t ∷ ts) = heft t.kind
+
 -- a level's operator weighs what the level does
 operator_heft : (level : Level) (l : Kind) (op : Infix) → infix_of level l ≡ Some op → heft l ≡ rank level
-operator_heft Implication (Sign symbols.Implies) op e = refl
-operator_heft Disjunction (Keyword words.Or) op e = refl
-operator_heft Disjunction (Keyword words.Xor) op e = refl
-operator_heft Conjunction (Keyword words.And) op e = refl
-operator_heft Comparison (Sign symbols.Equal) op e = refl
-operator_heft Comparison (Sign symbols.NotEqual) op e = refl
-operator_heft Comparison (Sign symbols.Less) op e = refl
-operator_heft Comparison (Sign symbols.AtMost) op e = refl
-operator_heft Comparison (Sign symbols.Greater) op e = refl
-operator_heft Comparison (Sign symbols.AtLeast) op e = refl
-operator_heft Sum (Sign symbols.Plus) op e = refl
-operator_heft Sum (Sign symbols.Minus) op e = refl
-operator_heft Term (Sign symbols.Star) op e = refl
-operator_heft Term (Sign symbols.Slash) op e = refl
-operator_heft Term (Keyword words.Div) op e = refl
-operator_heft Term (Keyword words.Mod) op e = refl
-operator_heft _ _ op e = absurd cc
+operator_heft level l op e = go level (joined_at l) e
+  where
+    go : (level : Level) (o : Option (Level × Op)) → joins_at level o ≡ Some op → joined_heft o l ≡ rank level
+    go Implication (Some (Implication, op)) e = refl
+    go Disjunction (Some (Disjunction, op)) e = refl
+    go Conjunction (Some (Conjunction, op)) e = refl
+    go Comparison (Some (Comparison, op)) e = refl
+    go Sum (Some (Sum, op)) e = refl
+    go Term (Some (Term, op)) e = refl
+    go _ _ e = absurd cc
 
 no_infix : (level : Level) (left : Expression) (ts : List Lexeme) → weight ts < rank level → infix_at level left ts ≡ None
 no_infix level left [] lt = refl
@@ -97,16 +79,10 @@ no_infix level left (t ∷ ts) lt = go (infix_of level t.kind) refl
     go (Some op) e = let h = operator_heft level t.kind op e in absurd (omega (arith, h))
 
 prefix_opening : (level : Level) (l : Kind) (op : Prefix) → prefix_of level l ≡ Some op → opening_of l ≡ entry level
-prefix_opening Negation (Keyword words.Not) op e = refl
-prefix_opening Negated (Keyword words.Not) op e = refl
-prefix_opening Signed (Keyword words.Pre) op e = refl
-prefix_opening Signed (Sign symbols.Minus) op e = refl
-prefix_opening _ _ op e = absurd cc
+prefix_opening level l op e = grind arith
 
 list_opening : (l : Kind) (op : ListOperator) → list_operator_of l ≡ Some op → opening_of l ≡ 5
-list_opening (Sign symbols.Sharp) op e = refl
-list_opening (Keyword words.Nor) op e = refl
-list_opening _ op e = absurd cc
+list_opening l op e = grind arith
 
 no_prefix : (level : Level) (ts : List Lexeme) → entry level < opening ts → prefix_at level ts ≡ None
 no_prefix level [] lt = refl
@@ -134,38 +110,21 @@ no_merge : (ts : List Lexeme) → 5 ≤ opening ts → front (Keyword words.Merg
 no_merge ts le = no_front (Keyword words.Merge) ts (λ x e. let h = ap opening e in omega (arith, h))
 
 head_entry : {level operand other : Level} → Heads level operand other → entry level < entry other
-head_entry negation = omega arith
-head_entry negated = omega arith
-head_entry signed = omega arith
+head_entry h = grind arith
 
 join_entry : {level operand : Level} → Joins level operand → entry level ≤ entry operand
-join_entry implication = omega arith
-join_entry disjunction = omega arith
-join_entry conjunction = omega arith
-join_entry comparison = omega arith
-join_entry sum = omega arith
-join_entry term = omega arith
+join_entry j = grind arith
 
 -- what a level begins with
 begins : {level : Level} {t : Expression} {ts : List Lexeme} → Spells level t ts → (rest : List Lexeme) → entry level ≤ opening (ts ++ rest)
-begins (number k s) rest = omega arith
-begins (truth s) rest = omega arith
-begins (falsity s) rest = omega arith
-begins (name n) rest = omega arith
-begins (call_empty n o c) rest = omega arith
-begins (call n o d) rest = omega arith
-begins (structure n o d) rest = omega arith
 begins (variadic l op s o at d) rest = let e = list_opening l op at in omega (arith, e)
-begins (parentheses s c d) rest = omega arith
 begins (undotted d) rest = begins d rest
 begins (dotted s x {t} {ts} d) rest = subst (λ (u : List Lexeme). 5 ≤ opening u) (sym (append_assoc ts (tok (Sign symbols.Dot) s ∷ ident x ∷ []) rest)) (begins d (tok (Sign symbols.Dot) s ∷ ident x ∷ rest))
 begins (primary d) rest = omega (arith, begins d rest)
-begins (merge s n d) rest = omega arith
 begins (prefixed {level} l op s h at d) rest = let e = prefix_opening level l op at in omega (arith, e)
 begins (bare h d) rest = let more = head_entry h in omega (arith, more, begins d rest)
 begins (first j d) rest = let more = join_entry j in omega (arith, more, begins d rest)
 begins (next {level} l op s {a} {b} {xs} {ys} j at may d e) rest = subst (λ (u : List Lexeme). entry level ≤ opening u) (sym (append_assoc xs (tok l s ∷ ys) rest)) (begins d (tok l s ∷ (ys ++ rest)))
-begins (choice i t l c a b) rest = omega arith
 begins (else_choice d) rest = begins d rest
 begins (else_value d) rest = omega (arith, begins d rest)
 begins (arrow_choice d) rest = begins d rest
@@ -174,6 +133,7 @@ begins (arrow s {a} {b} {xs} {ys} d e) rest = let h = begins d (tok (Sign symbol
 begins (whole d) rest = begins d rest
 begins (fby s {a} {b} {xs} {ys} d e) rest = let h = begins d (tok (Keyword words.Fby) s ∷ (ys ++ rest)) in subst (λ (u : List Lexeme). 1 ≤ opening u) (sym (append_assoc xs (tok (Keyword words.Fby) s ∷ ys) rest)) (omega (arith, h))
 begins (when s {a} {c} {xs} {ys} d e) rest = let h = begins d (tok (Keyword words.When) s ∷ (ys ++ rest)) in subst (λ (u : List Lexeme). 1 ≤ opening u) (sym (append_assoc xs (tok (Keyword words.When) s ∷ ys) rest)) (omega (arith, h))
+begins _ rest = omega arith
 
 -- ---- what reading a tree gives
 
@@ -213,25 +173,28 @@ pub record Goal (level : Level) (t : Expression) (ts : List Lexeme) : Type 0 whe
   pub dots : IsDotted level → (n : ℕ) (rest : List Lexeme) → weight rest < 11 → Dots t ts n rest
 
 depth_positive : (t : Expression) → 0 < depth t
-depth_positive (Numeral n s) = omega arith
-depth_positive (Truth b s) = omega arith
-depth_positive (Name n) = omega arith
-depth_positive (Call n us) = omega arith
-depth_positive (Structure n us) = omega arith
-depth_positive (Merge s n us) = omega arith
-depth_positive (Variadic op s us) = omega arith
-depth_positive (Field t n) = omega arith
-depth_positive (When t c) = omega arith
-depth_positive (Parentheses s t) = omega arith
-depth_positive (Unary op s t) = omega arith
 depth_positive (Binary op a b) = omega arith
-depth_positive (If s c a b) = omega arith
+depth_positive _ = omega arith
+
+in_limit : {A : Type 0} (d n : ℕ) (x : A) → d ≤ n → cond (leb d n) (done x) (Err Deep) ≡ Ok x
+in_limit d n x le = rw (le-leb d n le) refl
+
+past_limit : {A : Type 0} (d n : ℕ) (x : A) → n < d → cond (leb d n) (done x) (Err Deep) ≡ Err Deep
+past_limit d n x lt = rw (lt-leb d n lt) refl
+
+-- what follows what is within a limit: too deep, or not
+over : {A B : Type 0} (d n : ℕ) (x : A) (f : A → Result B Fault) (target : Result B Fault) → (n < d → Err Deep ≡ target) → (d ≤ n → f x ≡ target) → (cond (leb d n) (done x) (Err Deep) >>= f) ≡ target
+over d n x f target far near =
+    elim (cases_lt n d) [
+      | inl lt ↦ ap (λ r. r >>= f) (past_limit d n x lt) ∙ far lt
+      | inr le ↦ ap (λ r. r >>= f) (in_limit d n x le) ∙ near le
+    ]
 
 within : (limit : ℕ) (t : Expression) (rest : List Lexeme) → depth t ≤ limit → outcome limit t rest ≡ Ok (found t (depth t) rest)
-within limit t rest le = rw (le-leb (depth t) limit le) refl
+within limit t rest le = in_limit (depth t) limit (found t (depth t) rest) le
 
 beyond : (limit : ℕ) (t : Expression) (rest : List Lexeme) → limit < depth t → outcome limit t rest ≡ Err Deep
-beyond limit t rest lt = rw (lt-leb (depth t) limit lt) refl
+beyond limit t rest lt = past_limit (depth t) limit (found t (depth t) rest) lt
 
 none_read : (level : Level) (t : Expression) (ts rest : List Lexeme) → entry level ≤ opening ts → read 0 level ts ≡ outcome 0 t rest
 unfolding read
@@ -251,22 +214,10 @@ reads_from level t ts h = record { by = h }
 abbrev too_deep : Read
 too_deep = Err Deep
 
--- what follows a part: too deep, or not
-over : (n : ℕ) (t : Expression) (rest : List Lexeme) (f : Found → Read) (target : Read) → (n < depth t → Err Deep ≡ target) → (depth t ≤ n → f (found t (depth t) rest) ≡ target) → (outcome n t rest >>= f) ≡ target
-over n t rest f target far near =
-    elim (cases_lt n (depth t)) [
-      | inl lt ↦ ap (λ (r : Read). r >>= f) (beyond n t rest lt) ∙ far lt
-      | inr le ↦ ap (λ (r : Read). r >>= f) (within n t rest le) ∙ near le
-    ]
-
 -- a tree around a part, one deeper
 around : (n : ℕ) (inner outer : Expression) (rest after : List Lexeme) (step : Found → Read) → depth outer ≡ suc (depth inner) → step (found inner (depth inner) rest) ≡ Ok (found outer (depth outer) after) → (outcome n inner rest >>= step) ≡ outcome (suc n) outer after
 around n inner outer rest after step d e =
-    over n inner rest step (outcome (suc n) outer after) (λ lt. sym (beyond (suc n) outer after (omega (arith, d)))) (λ le. e ∙ sym (within (suc n) outer after (omega (arith, d))))
-
-bind_cond : (b : Bool) (f : Found) (m : Found → Read) → (cond b (Ok f) (Err Deep) >>= m) ≡ cond b (m f) (Err Deep)
-bind_cond true f m = refl
-bind_cond false f m = refl
+    over (depth inner) n (found inner (depth inner) rest) step (outcome (suc n) outer after) (λ lt. sym (beyond (suc n) outer after (omega (arith, d)))) (λ le. e ∙ sym (within (suc n) outer after (omega (arith, d))))
 
 -- a step that keeps what was found
 keeps : (limit : ℕ) (t : Expression) (rest : List Lexeme) (f : Found → Read) → f (found t (depth t) rest) ≡ Ok (found t (depth t) rest) → (outcome limit t rest >>= f) ≡ outcome limit t rest
@@ -283,7 +234,7 @@ module _ (n : ℕ) (op : Infix) (operand : Reader) (more : Found → Read) (a b 
       let lost : n < max (depth a) (depth b) → Err Deep ≡ target = λ lt. sym (rw (lt-leb (suc (max (depth a) (depth b))) (suc n) (omega arith)) refl) in
       let left_deep : n < depth a → Err Deep ≡ target = λ far. lost (omega (arith, le-max_left (depth a) (depth b))) in
       let read_both : (outcome n b rest >>= step) ≡ target =
-      over n b rest step target (λ far. lost (omega (arith, le-max_right (depth a) (depth b)))) (λ near.
+      over (depth b) n (found b (depth b) rest) step target (λ far. lost (omega (arith, le-max_right (depth a) (depth b)))) (λ near.
       elim (cases_lt n (depth a)) [
         | inl far ↦ rw (lt-ltb n (depth a) far) (left_deep far)
         | inr le ↦ rw (le-ltb n (depth a) le) (sym (rw (le-leb (suc (max (depth a) (depth b))) (suc n) (omega (arith, max-le le near))) refl))
@@ -293,30 +244,21 @@ module _ (n : ℕ) (op : Infix) (operand : Reader) (more : Found → Read) (a b 
         | inr le ↦ rw (le-leb (depth a) (suc n) le) (ap (λ (r : Read). r >>= step) right ∙ read_both)
       ]
 
+-- ---- levels that have no operators of their own
+
+goal_plain : (level : Level) (t : Expression) (ts : List Lexeme) → entry level ≡ 1 → ReadsWithin level t ts → Goal level t ts
+goal_plain level t ts e h = record { reads = h; grows = λ operand j. absurd (unjoined j e); dots = λ d. absurd (undotted_level d e) }
+  where
+    unjoined : {level operand : Level} → Joins level operand → entry level ≡ 1 → ⊥
+    unjoined j e = grind arith
+
+    undotted_level : {level : Level} → IsDotted level → entry level ≡ 1 → ⊥
+    undotted_level d e = grind arith
+
 -- ---- leaves
 
 goal_atom : (t : Expression) (ts : List Lexeme) → ((n : ℕ) (rest : List Lexeme) → weight rest < rank Atom → read (suc n) Atom (ts ++ rest) ≡ outcome (suc n) t rest) → Goal Atom t ts
 goal_atom t ts h = record { reads = reads_from Atom t ts h; grows = λ operand j. elim j [ ]; dots = λ d. elim d [ ] }
-
-number_again : (k : ℤ) (s : Span) → Goal Atom (Numeral k s) (tok (Number k) s ∷ [])
-unfolding read read_atom atom_at plain_at
-number_again k s = goal_atom (Numeral k s) (tok (Number k) s ∷ []) (λ n rest lt. sym (within (suc n) (Numeral k s) rest (omega arith)))
-
-truth_again : (s : Span) → Goal Atom (Truth true s) (tok (Keyword words.True) s ∷ [])
-unfolding read read_atom atom_at plain_at
-truth_again s = goal_atom (Truth true s) (tok (Keyword words.True) s ∷ []) (λ n rest lt. sym (within (suc n) (Truth true s) rest (omega arith)))
-
-falsity_again : (s : Span) → Goal Atom (Truth false s) (tok (Keyword words.False) s ∷ [])
-unfolding read read_atom atom_at plain_at
-falsity_again s = goal_atom (Truth false s) (tok (Keyword words.False) s ∷ []) (λ n rest lt. sym (within (suc n) (Truth false s) rest (omega arith)))
-
-name_again : (k : Named) → Goal Atom (Name k) (ident k ∷ [])
-unfolding read read_atom atom_at plain_at name_at
-name_again k = goal_atom (Name k) (ident k ∷ []) (λ n rest lt. rw (no_light (Sign symbols.Open) rest lt, no_light (Sign symbols.OpenBrace) rest lt) (sym (within (suc n) (Name k) rest (omega arith))))
-
-call_empty_again : (k : Named) (o e : Span) → Goal Atom (Call k End) (ident k ∷ tok (Sign symbols.Open) o ∷ tok (Sign symbols.Close) e ∷ [])
-unfolding read read_atom atom_at plain_at name_at
-call_empty_again k o e = goal_atom (Call k End) (ident k ∷ tok (Sign symbols.Open) o ∷ tok (Sign symbols.Close) e ∷ []) (λ n rest lt. sym (within (suc n) (Call k End) rest (omega arith)))
 
 parentheses_again : (s e : Span) (t : Expression) (ts : List Lexeme) → Reads Whole t ts → Goal Atom (Parentheses s t) (tok (Sign symbols.Open) s ∷ (ts ++ tok (Sign symbols.Close) e ∷ []))
 unfolding read read_atom atom_at plain_at parentheses_at
@@ -325,18 +267,7 @@ parentheses_again s e t ts h = goal_atom (Parentheses s t) (tok (Sign symbols.Op
     ∙ ap (λ (r : Read). r >>= λ inner. after_open s inner (expect (Sign symbols.Close) inner.rest)) (h.by n (tok (Sign symbols.Close) e ∷ rest) (omega arith))
     ∙ around n t (Parentheses s t) (tok (Sign symbols.Close) e ∷ rest) rest (λ inner. after_open s inner (expect (Sign symbols.Close) inner.rest)) refl refl)
 
-append_length : (xs ys : List Lexeme) → length (xs ++ ys) ≡ length xs + length ys
-append_length [] ys = omega arith
-append_length (x ∷ xs) ys = let h = append_length xs ys in omega (arith, h)
-
 -- ---- parts
-
-over_any : {B : Type 0} (n : ℕ) (t : Expression) (rest : List Lexeme) (f : Found → Result B Fault) (target : Result B Fault) → (n < depth t → Err Deep ≡ target) → (depth t ≤ n → f (found t (depth t) rest) ≡ target) → (outcome n t rest >>= f) ≡ target
-over_any n t rest f target far near =
-    elim (cases_lt n (depth t)) [
-      | inl lt ↦ ap (λ (r : Read). r >>= f) (beyond n t rest lt) ∙ far lt
-      | inr le ↦ ap (λ (r : Read). r >>= f) (within n t rest le) ∙ near le
-    ]
 
 -- what may follow a part
 abbrev After : Form → List Lexeme → Type 0
@@ -349,18 +280,12 @@ part_outcome n l t rest = cond (leb (depth t) n) (Ok (item l t (depth t) rest)) 
 pub record ReadsPart (form : Form) (l : Lead) (t : Expression) (xs : List Lexeme) : Type 0 where
   pub by : (n : ℕ) (rest : List Lexeme) → After form rest → part_at form (read n Whole) (xs ++ rest) ≡ part_outcome n l t rest
 
-near_part : (n : ℕ) (l : Lead) (t : Expression) (rest : List Lexeme) → depth t ≤ n → part_outcome n l t rest ≡ Ok (item l t (depth t) rest)
-near_part n l t rest le = rw (le-leb (depth t) n le) refl
-
-far_part : (n : ℕ) (l : Lead) (t : Expression) (rest : List Lexeme) → n < depth t → part_outcome n l t rest ≡ Err Deep
-far_part n l t rest lt = rw (lt-leb (depth t) n lt) refl
-
 argument_again : (t : Expression) (ts : List Lexeme) → Reads Whole t ts → ReadsPart forms.Call Plain t ts
 unfolding part_at lead_at
 argument_again t ts h = record {
   by = λ n rest lt.
       ap (λ (r : Read). r >>= λ f. Ok (item Plain f.tree f.depth f.rest)) (h.by n rest lt)
-      ∙ over_any n t rest (λ f. Ok (item Plain f.tree f.depth f.rest)) (part_outcome n Plain t rest) (λ far. sym (far_part n Plain t rest far)) (λ le. sym (near_part n Plain t rest le));
+      ∙ over (depth t) n (found t (depth t) rest) (λ f. Ok (item Plain f.tree f.depth f.rest)) (part_outcome n Plain t rest) (λ far. sym (past_limit (depth t) n (item Plain t (depth t) rest) far)) (λ le. sym (in_limit (depth t) n (item Plain t (depth t) rest) le));
 }
 
 init_again : (x : Named) (e : Span) (t : Expression) (ts : List Lexeme) → Reads Whole t ts → ReadsPart forms.Structure (Of x) t (ident x ∷ tok (Sign symbols.Equal) e ∷ ts)
@@ -368,7 +293,7 @@ unfolding part_at lead_at identifier_at
 init_again x e t ts h = record {
   by = λ n rest lt.
       ap (λ (r : Read). r >>= λ f. Ok (item (Of x) f.tree f.depth f.rest)) (h.by n rest lt)
-      ∙ over_any n t rest (λ f. Ok (item (Of x) f.tree f.depth f.rest)) (part_outcome n (Of x) t rest) (λ far. sym (far_part n (Of x) t rest far)) (λ le. sym (near_part n (Of x) t rest le));
+      ∙ over (depth t) n (found t (depth t) rest) (λ f. Ok (item (Of x) f.tree f.depth f.rest)) (part_outcome n (Of x) t rest) (λ far. sym (past_limit (depth t) n (item (Of x) t (depth t) rest) far)) (λ le. sym (in_limit (depth t) n (item (Of x) t (depth t) rest) le));
 }
 
 label_again : (l : Label) (rest : List Lexeme) → label_at (label l ∷ rest) ≡ Ok (l, rest)
@@ -393,7 +318,7 @@ branch_again l o a c t ts h = record {
       ap (λ (q : Result (Label × List Lexeme) Fault). branch_lead o q >>= branch_value n) (label_again l (tok (Sign symbols.Arrow) a ∷ ((ts ++ tok (Sign symbols.Close) c ∷ []) ++ rest)))
       ∙ ap (λ (r : List Lexeme). read n Whole r >>= branch_step o l) (append_assoc ts (tok (Sign symbols.Close) c ∷ []) rest)
       ∙ ap (λ (r : Read). r >>= branch_step o l) (h.by n (tok (Sign symbols.Close) c ∷ rest) (omega arith))
-      ∙ over_any n t (tok (Sign symbols.Close) c ∷ rest) (branch_step o l) (part_outcome n (Branch o l) t rest) (λ far. sym (far_part n (Branch o l) t rest far)) (λ le. sym (near_part n (Branch o l) t rest le));
+      ∙ over (depth t) n (found t (depth t) (tok (Sign symbols.Close) c ∷ rest)) (branch_step o l) (part_outcome n (Branch o l) t rest) (λ far. sym (past_limit (depth t) n (item (Branch o l) t (depth t) rest) far)) (λ le. sym (in_limit (depth t) n (item (Branch o l) t (depth t) rest) le));
 }
 
 abbrev listed : Parts → List (Lead × Expression)
@@ -427,16 +352,12 @@ all_starts (final {form} {l} {t} {xs} {es} p c) rest = subst (Starts form) (sym 
 all_starts (further {form} {l} {t} {us} {xs} {ss} {ys} p s d) rest = subst (Starts form) (sym (append_assoc xs (ss ++ ys) rest)) (part_starts p ((ss ++ ys) ++ rest))
 
 closes_turn : {form : Form} {es : List Lexeme} → Closes form es → (rest : List Lexeme) → weight rest < 11 → turn_at form (es ++ rest) ≡ Ok (false, rest)
-closes_turn (closed e) rest lt = refl
-closes_turn (braced e) rest lt = refl
-closes_turn (late s e) rest lt = refl
 closes_turn unclosed rest lt = rw (no_light (Sign symbols.Open) rest lt) refl
+closes_turn _ rest lt = refl
 
 closes_after : {form : Form} {es : List Lexeme} → Closes form es → (rest : List Lexeme) → After form (es ++ rest)
-closes_after (closed e) rest = omega arith
-closes_after (braced e) rest = omega arith
-closes_after (late s e) rest = omega arith
 closes_after unclosed rest = tt
+closes_after _ rest = omega arith
 
 separates_turn : {form : Form} {ss : List Lexeme} → Separates form ss → (ts : List Lexeme) → Starts form ts → turn_at form (ss ++ ts) ≡ Ok (true, ts)
 separates_turn (comma s) ts st = refl
@@ -444,9 +365,8 @@ separates_turn (semicolon s) ts st = rw st.2 refl
 separates_turn unparted ts st = rw st.2 refl
 
 separates_after : {form : Form} {ss : List Lexeme} → Separates form ss → (ts : List Lexeme) → After form (ss ++ ts)
-separates_after (comma s) ts = omega arith
-separates_after (semicolon s) ts = omega arith
 separates_after unparted ts = tt
+separates_after _ ts = omega arith
 
 long : (ts : List Lexeme) → 1 ≤ opening (ts ++ []) → 0 < length ts
 long [] le = absurd (omega (arith, le))
@@ -456,12 +376,6 @@ part_long : {form : Form} {l : Lead} {t : Expression} {xs : List Lexeme} → Spe
 part_long (argument {t} {ts} d) = long ts (begins d [])
 part_long (init x e d) = omega arith
 part_long (branch l o a c d) = omega arith
-
-far_all : (n d : ℕ) (us : List (Lead × Expression)) (rest : List Lexeme) → n < d → Err Deep ≡ all_outcome n us d rest
-far_all n d us rest lt = sym (rw (lt-leb d n lt) refl)
-
-near_all : (n d : ℕ) (us : List (Lead × Expression)) (rest : List Lexeme) → d ≤ n → all_outcome n us d rest ≡ Ok (us, d, rest)
-near_all n d us rest le = rw (le-leb d n le) refl
 
 one_part : (form : Form) (n k : ℕ) (vs : List (Lead × Expression)) (d : ℕ) (ts : List Lexeme) → 0 < k → parts_at k form (read n Whole) vs d ts ≡ (part_at form (read n Whole) ts >>= λ i. turn_at form i.rest >>= λ t. onward (λ us e r. parts_at (k - 1) form (read n Whole) us e r) (vs ++ (i.lead, i.tree) ∷ []) (max d i.depth) t)
 unfolding parts_at
@@ -478,46 +392,40 @@ unfolding part_step
 part_then form l t xs p n k vs d rest target lt after far near =
     one_part form n k vs d (xs ++ rest) lt
     ∙ ap (λ (r : Result Item Fault). r >>= part_step form n k vs d) (p.by n rest after)
-    ∙ elim (cases_lt n (depth t)) [
-      | inl deep ↦ ap (λ (r : Result Item Fault). r >>= part_step form n k vs d) (far_part n l t rest deep) ∙ far deep
-      | inr le ↦ ap (λ (r : Result Item Fault). r >>= part_step form n k vs d) (near_part n l t rest le) ∙ near le
-    ]
+    ∙ over (depth t) n (item l t (depth t) rest) (part_step form n k vs d) target far near
 
 final_again : (form : Form) (l : Lead) (t : Expression) (xs es : List Lexeme) → 0 < length xs → ReadsPart form l t xs → Closes form es → ReadsAll form (More l t End) (xs ++ es)
 unfolding part_step
 final_again form l t xs es some p c = record {
   by = λ n k vs d rest lt fits le.
-      let size = append_length xs es in
+      let size = length-append xs es in
       let top = zero_least (depth t) in
       let same : max d (depth t) ≡ max d (max (depth t) 0) = ap (λ (m : ℕ). max d m) top in
       ap (parts_at k form (read n Whole) vs d) (append_assoc xs es rest)
       ∙ part_then form l t xs p n k vs d (es ++ rest) (all_outcome n (vs ++ (l, t) ∷ []) (max d (max (depth t) 0)) rest) (omega (arith, some, fits, size)) (closes_after c rest)
-      (λ deep. far_all n (max d (max (depth t) 0)) (vs ++ (l, t) ∷ []) rest (let m = le-max_right d (depth t) in omega (arith, deep, m, same)))
+      (λ deep. sym (past_limit (max d (max (depth t) 0)) n (vs ++ (l, t) ∷ [], max d (max (depth t) 0), rest) (let m = le-max_right d (depth t) in omega (arith, deep, m, same))))
       (λ near.
       ap (λ (q : Result (Bool × List Lexeme) Fault). q >>= λ y. onward (λ us e r. parts_at (k - 1) form (read n Whole) us e r) (vs ++ (l, t) ∷ []) (max d (depth t)) y) (closes_turn c rest lt)
-      ∙ sym (near_all n (max d (depth t)) (vs ++ (l, t) ∷ []) rest (max-le le near)) ∙ ap (λ (m : ℕ). all_outcome n (vs ++ (l, t) ∷ []) m rest) same);
+      ∙ sym (in_limit (max d (depth t)) n (vs ++ (l, t) ∷ [], max d (depth t), rest) (max-le le near)) ∙ ap (λ (m : ℕ). all_outcome n (vs ++ (l, t) ∷ []) m rest) same);
 }
 
 further_again : (form : Form) (l : Lead) (t : Expression) (us : Parts) (xs ss ys : List Lexeme) → 0 < length xs → ReadsPart form l t xs → Separates form ss → ((rest : List Lexeme) → Starts form (ys ++ rest)) → ReadsAll form us ys → ReadsAll form (More l t us) (xs ++ (ss ++ ys))
 unfolding part_step
 further_again form l t us xs ss ys some p s starts h = record {
   by = λ n k vs d rest lt fits le.
-      let size = append_length xs (ss ++ ys) in
-      let size2 = append_length ss ys in
+      let size = length-append xs (ss ++ ys) in
+      let size2 = length-append ss ys in
       let same = max_regroups d (depth t) (deepest us) in
       let target = all_outcome n (vs ++ (l, t) ∷ listed us) (max d (max (depth t) (deepest us))) rest in
       ap (parts_at k form (read n Whole) vs d) (append_assoc xs (ss ++ ys) rest ∙ ap (λ (q : List Lexeme). xs ++ q) (append_assoc ss ys rest))
       ∙ part_then form l t xs p n k vs d (ss ++ (ys ++ rest)) target (omega (arith, some, fits, size)) (separates_after s (ys ++ rest))
-      (λ deep. far_all n (max d (max (depth t) (deepest us))) (vs ++ (l, t) ∷ listed us) rest (let m = le-max_right d (max (depth t) (deepest us)) in let m2 = le-max_left (depth t) (deepest us) in omega (arith, deep, m, m2)))
+      (λ deep. sym (past_limit (max d (max (depth t) (deepest us))) n (vs ++ (l, t) ∷ listed us, max d (max (depth t) (deepest us)), rest) (let m = le-max_right d (max (depth t) (deepest us)) in let m2 = le-max_left (depth t) (deepest us) in omega (arith, deep, m, m2))))
       (λ near.
       ap (λ (q : Result (Bool × List Lexeme) Fault). q >>= λ y. onward (λ us e r. parts_at (k - 1) form (read n Whole) us e r) (vs ++ (l, t) ∷ []) (max d (depth t)) y) (separates_turn s (ys ++ rest) (starts rest))
       ∙ h.by n (k - 1) (vs ++ (l, t) ∷ []) (max d (depth t)) rest lt (omega (arith, some, fits, size, size2)) (max-le le near)
       ∙ ap (λ (q : List (Lead × Expression)). all_outcome n q (max (max d (depth t)) (deepest us)) rest) (append_assoc vs ((l, t) ∷ []) (listed us))
       ∙ ap (λ (m : ℕ). all_outcome n (vs ++ (l, t) ∷ listed us) m rest) same);
 }
-
-zero_top : (a : ℕ) → max 0 a ≡ a
-zero_top a = let l = le-max_right 0 a in let u : max 0 a ≤ a = max-le (omega arith) (omega arith) in omega (arith, l, u)
 
 shown : Expression → ℕ → List Lexeme → Read
 shown t d rest = Ok (found t d rest)
@@ -540,26 +448,10 @@ make_step make a = Ok (found (make (parts_of a.0)) (suc a.1) a.2)
 listed_again : (make : Parts → Expression) (form : Form) (us : Parts) (ts : List Lexeme) → depth (make us) ≡ suc (deepest us) → ReadsAll form us ts → (n : ℕ) (rest : List Lexeme) → weight rest < 11 → listed_at make form (read n Whole) (ts ++ rest) ≡ outcome (suc n) (make us) rest
 unfolding listed_at make_step shown
 listed_again make form us ts deep h n rest lt =
-    let size = append_length ts rest in
-    ap (λ (r : Several). r >>= make_step make) (h.by n (length (ts ++ rest) + 1) [] 0 rest lt (omega (arith, size)) (omega arith) ∙ ap (λ (m : ℕ). all_outcome n (listed us) m rest) (zero_top (deepest us)))
-    ∙ elim (cases_lt n (deepest us)) [
-      | inl far ↦ ap (λ (r : Several). r >>= make_step make) (sym (far_all n (deepest us) (listed us) rest far)) ∙ sym (beyond (suc n) (make us) rest (omega (arith, deep, far)))
-      | inr near ↦ ap (λ (r : Several). r >>= make_step make) (near_all n (deepest us) (listed us) rest near)
-          ∙ ap (λ (vs : Parts). shown (make vs) (suc (deepest us)) rest) (listed_back us) ∙ ap (λ (m : ℕ). shown (make us) m rest) (sym deep)
-          ∙ sym (within (suc n) (make us) rest (omega (arith, deep, near)))
-    ]
-
-call_again : (m : Named) (o : Span) (us : Parts) (ts : List Lexeme) → SpellsAll forms.Call us ts → ReadsAll forms.Call us ts → Goal Atom (Call m us) (ident m ∷ tok (Sign symbols.Open) o ∷ ts)
-unfolding read read_atom atom_at plain_at name_at
-call_again m o us ts d h = goal_atom (Call m us) (ident m ∷ tok (Sign symbols.Open) o ∷ ts) (λ n rest lt. rw (no_close d rest) (listed_again (Call m) forms.Call us ts refl h n rest lt))
-
-structure_again : (m : Named) (o : Span) (us : Parts) (ts : List Lexeme) → ReadsAll forms.Structure us ts → Goal Atom (Structure m us) (ident m ∷ tok (Sign symbols.OpenBrace) o ∷ ts)
-unfolding read read_atom atom_at plain_at name_at
-structure_again m o us ts h = goal_atom (Structure m us) (ident m ∷ tok (Sign symbols.OpenBrace) o ∷ ts) (λ n rest lt. listed_again (Structure m) forms.Structure us ts refl h n rest lt)
-
-variadic_again : (l : Kind) (op : ListOperator) (s o : Span) (us : Parts) (ts : List Lexeme) → list_operator_of l ≡ Some op → ReadsAll forms.Call us ts → Goal Atom (Variadic op s us) (tok l s ∷ tok (Sign symbols.Open) o ∷ ts)
-unfolding read read_atom atom_at operands_at
-variadic_again l op s o us ts at h = goal_atom (Variadic op s us) (tok l s ∷ tok (Sign symbols.Open) o ∷ ts) (λ n rest lt. rw at (listed_again (Variadic op s) forms.Call us ts refl h n rest lt))
+    let size = length-append ts rest in
+    ap (λ (r : Several). r >>= make_step make) (h.by n (length (ts ++ rest) + 1) [] 0 rest lt (omega (arith, size)) (omega arith) ∙ ap (λ (m : ℕ). all_outcome n (listed us) m rest) (zero_first (deepest us)))
+    ∙ over (deepest us) n (listed us, deepest us, rest) (make_step make) (outcome (suc n) (make us) rest) (λ far. sym (beyond (suc n) (make us) rest (omega (arith, deep, far))))
+    (λ near. ap (λ (vs : Parts). shown (make vs) (suc (deepest us)) rest) (listed_back us) ∙ ap (λ (m : ℕ). shown (make us) m rest) (sym deep) ∙ sym (within (suc n) (make us) rest (omega (arith, deep, near))))
 
 merge_again : (s : Span) (m : Named) (us : Parts) (ts : List Lexeme) → ReadsAll forms.Merge us ts → Goal Primary (Merge s m us) (tok (Keyword words.Merge) s ∷ ident m ∷ ts)
 unfolding read read_primary primary_at identifier_at
@@ -646,33 +538,16 @@ primary_again t ts d h = record {
 -- ---- prefixes
 
 head_dots : {level operand other : Level} → Heads level operand other → IsDotted level → ⊥
-head_dots negation j = elim j [ ]
-head_dots negated j = elim j [ ]
-head_dots signed j = elim j [ ]
+head_dots h j = grind arith
 
 join_dots : {level operand : Level} → Joins level operand → IsDotted level → ⊥
-join_dots implication j = elim j [ ]
-join_dots disjunction j = elim j [ ]
-join_dots conjunction j = elim j [ ]
-join_dots comparison j = elim j [ ]
-join_dots sum j = elim j [ ]
-join_dots term j = elim j [ ]
-
-heads_read : {level operand other : Level} → Heads level operand other → (n : ℕ) (ts : List Lexeme) → read (suc n) level ts ≡ prefixed_on (read n operand) (read (suc n) other) ts (prefix_at level ts)
-unfolding read read_negation read_negated read_signed prefixed_at
-heads_read negation n ts = refl
-heads_read negated n ts = refl
-heads_read signed n ts = refl
+join_dots j d = grind arith
 
 head_rank : {level operand other : Level} → Heads level operand other → (rank level ≤ rank operand) × (rank level ≤ rank other)
-head_rank negation = (omega arith, omega arith)
-head_rank negated = (omega arith, omega arith)
-head_rank signed = (omega arith, omega arith)
+head_rank h = (grind arith, grind arith)
 
 head_joins : {level operand other some : Level} → Heads level operand other → Joins level some → ⊥
-head_joins negation j = elim j [ ]
-head_joins negated j = elim j [ ]
-head_joins signed j = elim j [ ]
+head_joins h j = grind arith
 
 prefixed_again : (level operand other : Level) (l : Kind) (op : Prefix) (s : Span) (t : Expression) (ts : List Lexeme) → Heads level operand other → prefix_of level l ≡ Some op → Reads operand t ts → Goal level (Unary op s t) (tok l s ∷ ts)
 prefixed_again level operand other l op s t ts heads at h = record {
@@ -702,22 +577,8 @@ bare_again level operand other t ts heads d h = record {
 
 -- ---- operands and operators
 
-chain_reads : {level operand : Level} → Joins level operand → (n : ℕ) (ts : List Lexeme) → read (suc n) level ts ≡ (read (suc n) operand ts >>= more_at (suc n) level n (read n operand))
-unfolding read chain_at read_implication read_disjunction read_conjunction read_comparison read_sum read_term
-chain_reads implication n ts = refl
-chain_reads disjunction n ts = refl
-chain_reads conjunction n ts = refl
-chain_reads comparison n ts = refl
-chain_reads sum n ts = refl
-chain_reads term n ts = refl
-
 tighter : {level operand : Level} → Joins level operand → rank level < rank operand
-tighter implication = omega arith
-tighter disjunction = omega arith
-tighter conjunction = omega arith
-tighter comparison = omega arith
-tighter sum = omega arith
-tighter term = omega arith
+tighter j = grind arith
 
 same_operand : {level operand other : Level} → Joins level operand → Joins level other → operand ≡ other
 same_operand implication implication = refl
@@ -829,22 +690,19 @@ branches_again i t e c a b xs ys zs hc ha hb n rest lt =
     let fc = found c (depth c) (tok (Keyword words.Then) t ∷ ts2) in
     let fa = found a (depth a) (tok (Keyword words.Else) e ∷ ts3) in
     ap (λ (r : Read). r >>= first_part) (hc.by n (tok (Keyword words.Then) t ∷ ts2) (omega arith))
-    ∙ over n c (tok (Keyword words.Then) t ∷ ts2) first_part target left_c (λ near_c.
+    ∙ over (depth c) n fc first_part target left_c (λ near_c.
     ap (λ (r : Read). r >>= second fc) (ha.by n (tok (Keyword words.Else) e ∷ ts3) (omega arith))
-    ∙ over n a (tok (Keyword words.Else) e ∷ ts3) (second fc) target left_a (λ near_a.
+    ∙ over (depth a) n fa (second fc) target left_a (λ near_a.
     ap (λ (r : Read). r >>= third fc fa) (hb.by n rest lt)
-    ∙ over n b rest (third fc fa) target left_b (λ near_b. sym (within (suc n) (If i c a b) rest (omega (arith, max-le near_c (max-le near_a near_b)))))))
+    ∙ over (depth b) n (found b (depth b) rest) (third fc fa) target left_b (λ near_b. sym (within (suc n) (If i c a b) rest (omega (arith, max-le near_c (max-le near_a near_b)))))))
 
 choice_again : (i t e : Span) (c a b : Expression) (xs ys zs : List Lexeme) → Reads Whole c xs → Reads Whole a ys → Reads Else b zs → Goal Choice (If i c a b) (tok (Keyword words.If) i ∷ (xs ++ tok (Keyword words.Then) t ∷ (ys ++ tok (Keyword words.Else) e ∷ zs)))
 unfolding read read_choice choice_at
-choice_again i t e c a b xs ys zs hc ha hb = record {
-  reads = reads_from Choice (If i c a b) (tok (Keyword words.If) i ∷ (xs ++ tok (Keyword words.Then) t ∷ (ys ++ tok (Keyword words.Else) e ∷ zs))) (λ n rest lt.
-      ap (branches_at (read n Whole) (read n Else) i) (append_assoc xs (tok (Keyword words.Then) t ∷ (ys ++ tok (Keyword words.Else) e ∷ zs)) rest
-      ∙ ap (λ (u : List Lexeme). xs ++ tok (Keyword words.Then) t ∷ u) (append_assoc ys (tok (Keyword words.Else) e ∷ zs) rest))
-      ∙ branches_again i t e c a b xs ys zs hc ha hb n rest lt);
-  grows = λ some j. elim j [ ];
-  dots = λ e. elim e [ ];
-}
+choice_again i t e c a b xs ys zs hc ha hb =
+    goal_plain Choice (If i c a b) (tok (Keyword words.If) i ∷ (xs ++ tok (Keyword words.Then) t ∷ (ys ++ tok (Keyword words.Else) e ∷ zs))) refl (reads_from Choice (If i c a b) (tok (Keyword words.If) i ∷ (xs ++ tok (Keyword words.Then) t ∷ (ys ++ tok (Keyword words.Else) e ∷ zs))) (λ n rest lt.
+    ap (branches_at (read n Whole) (read n Else) i) (append_assoc xs (tok (Keyword words.Then) t ∷ (ys ++ tok (Keyword words.Else) e ∷ zs)) rest
+    ∙ ap (λ (u : List Lexeme). xs ++ tok (Keyword words.Then) t ∷ u) (append_assoc ys (tok (Keyword words.Else) e ∷ zs) rest))
+    ∙ branches_again i t e c a b xs ys zs hc ha hb n rest lt))
 
 -- a choice begins with `if`
 begins_if : {t : Expression} {ts : List Lexeme} → Spells Choice t ts → (rest : List Lexeme) → (x : Span × List Lexeme) × (front (Keyword words.If) (ts ++ rest) ≡ Some x)
@@ -869,15 +727,6 @@ else_is_value n ts e = rw e refl
 arrow_is_value : (n : ℕ) (ts : List Lexeme) → front (Keyword words.If) ts ≡ None → read (suc n) Arrow ts ≡ (read (suc n) Implication ts >>= λ left. arrow_on n (read n Arrow) left (front (Sign symbols.Arrow) left.rest))
 unfolding read read_arrow choice_at arrow_at
 arrow_is_value n ts e = rw e refl
-
-goal_else : (t : Expression) (ts : List Lexeme) → ReadsWithin Else t ts → Goal Else t ts
-goal_else t ts h = record { reads = h; grows = λ some j. elim j [ ]; dots = λ e. elim e [ ] }
-
-goal_arrow : (t : Expression) (ts : List Lexeme) → ReadsWithin Arrow t ts → Goal Arrow t ts
-goal_arrow t ts h = record { reads = h; grows = λ some j. elim j [ ]; dots = λ e. elim e [ ] }
-
-goal_whole : (t : Expression) (ts : List Lexeme) → ReadsWithin Whole t ts → Goal Whole t ts
-goal_whole t ts h = record { reads = h; grows = λ some j. elim j [ ]; dots = λ e. elim e [ ] }
 
 else_choice_again : (t : Expression) (ts : List Lexeme) → Spells Choice t ts → Reads Choice t ts → ReadsWithin Else t ts
 else_choice_again t ts d h = reads_from Else t ts (λ n rest lt. let b = begins_if d rest in else_is_choice n (ts ++ rest) b.0 b.1 ∙ h.by (suc n) rest lt)
@@ -950,36 +799,21 @@ climb t ts d h =
     let h8 = reads_of d8 (first_again Implication Disjunction t ts implication h7).reads in
     arrow_value_again t ts d8 h8
 
-atom_shape : {t : Expression} {ts : List Lexeme} → Spells Atom t ts → is_primary t ≡ true
-atom_shape (number k s) = refl
-atom_shape (truth s) = refl
-atom_shape (falsity s) = refl
-atom_shape (name n) = refl
-atom_shape (call_empty n o e) = refl
-atom_shape (call n o d) = refl
-atom_shape (structure n o d) = refl
-atom_shape (variadic l op s o at d) = refl
-atom_shape (parentheses s e d) = refl
-atom_shape (prefixed l op s h at d) = elim h [ ]
-atom_shape (bare h d) = elim h [ ]
-atom_shape (first j d) = elim j [ ]
-atom_shape (next l op s j at may d e) = elim j [ ]
+loose_head : {level operand other : Level} → Heads level operand other → 4 ≤ entry level → ⊥
+loose_head h le = grind arith
 
-dotted_shape : {t : Expression} {ts : List Lexeme} → Spells Dotted t ts → is_primary t ≡ true
-dotted_shape (undotted d) = atom_shape d
-dotted_shape (dotted s x d) = refl
-dotted_shape (prefixed l op s h at d) = elim h [ ]
-dotted_shape (bare h d) = elim h [ ]
-dotted_shape (first j d) = elim j [ ]
-dotted_shape (next l op s j at may d e) = elim j [ ]
+loose_join : {level operand : Level} → Joins level operand → 4 ≤ entry level → ⊥
+loose_join j le = grind arith
 
-primary_shape : {t : Expression} {ts : List Lexeme} → Spells Primary t ts → is_primary t ≡ true
-primary_shape (primary d) = dotted_shape d
-primary_shape (merge s n d) = refl
-primary_shape (prefixed l op s h at d) = elim h [ ]
-primary_shape (bare h d) = elim h [ ]
-primary_shape (first j d) = elim j [ ]
-primary_shape (next l op s j at may d e) = elim j [ ]
+-- what is spelled as a primary or tighter looks like one
+primary_shape : {level : Level} {t : Expression} {ts : List Lexeme} → Spells level t ts → 4 ≤ entry level → is_primary t ≡ true
+primary_shape (undotted d) le = primary_shape d le
+primary_shape (primary d) le = primary_shape d (omega arith)
+primary_shape (prefixed l op s h at d) le = absurd (loose_head h le)
+primary_shape (bare h d) le = absurd (loose_head h le)
+primary_shape (first j d) le = absurd (loose_join j le)
+primary_shape (next l op s j at may d e) le = absurd (loose_join j le)
+primary_shape _ le = grind arith
 
 fby_again : (s : Span) (a b : Expression) (xs ys : List Lexeme) → Spells Primary a xs → Reads Primary a xs → Reads Primary b ys → ReadsWithin Whole (Binary operators.Fby a b) (xs ++ tok (Keyword words.Fby) s ∷ ys)
 unfolding whole_step
@@ -991,17 +825,15 @@ fby_again s a b xs ys d ha hb = reads_from Whole (Binary operators.Fby a b) (xs 
     ∙ whole_is n (xs ++ after)
     ∙ ap (λ (r : Read). r >>= whole_step n) up
     ∙ bind_cond (leb (depth a) (suc n)) (found a (depth a) after) (whole_step n)
-    ∙ ap (λ (p : Bool). cond (leb (depth a) (suc n)) (cond p two (Err Syntax)) (Err Deep)) (primary_shape d)
+    ∙ ap (λ (p : Bool). cond (leb (depth a) (suc n)) (cond p two (Err Syntax)) (Err Deep)) (primary_shape d (omega arith))
     ∙ pair n operators.Fby (read n Primary) keep a b after (ys ++ rest) rest (hb.by n rest (omega (arith, lt))))
 
 pub test_again : {c : Test} {ys : List Lexeme} → SpellsTest c ys → (rest : List Lexeme) → weight rest < 1 → test_at (ys ++ rest) ≡ Ok (c, rest)
 unfolding test_at label_at identifier_at closed_name_at
 test_again (holds n) rest lt = rw (no_light (Sign symbols.Open) rest (omega (arith, lt))) refl
-test_again (fails s n) rest lt = refl
-test_again (fails_in s o c n) rest lt = refl
-test_again (labelled (Constructor m) o c n) rest lt = refl
 test_again (labelled (Boolean true s) o c n) rest lt = refl
 test_again (labelled (Boolean false s) o c n) rest lt = refl
+test_again _ rest lt = refl
 
 both_gone : (b : Bool) → cond b too_deep (Err Deep) ≡ Err Deep
 both_gone true = refl
@@ -1024,27 +856,29 @@ when_again s a c xs ys d ha dc = reads_from Whole (When a c) (xs ++ tok (Keyword
     ∙ whole_is n (xs ++ after)
     ∙ ap (λ (r : Read). r >>= whole_step n) up
     ∙ bind_cond (leb (depth a) (suc n)) left (whole_step n)
-    ∙ ap (λ (p : Bool). cond (leb (depth a) (suc n)) (cond p (test_at (ys ++ rest) >>= step) (Err Syntax)) (Err Deep)) (primary_shape d)
+    ∙ ap (λ (p : Bool). cond (leb (depth a) (suc n)) (cond p (test_at (ys ++ rest) >>= step) (Err Syntax)) (Err Deep)) (primary_shape d (omega arith))
     ∙ ap (λ (r : Result (Test × List Lexeme) Fault). cond (leb (depth a) (suc n)) (r >>= step) (Err Deep)) (test_again dc rest lt)
     ∙ when_cases n a c rest)
 
 -- ---- all of it
 
 mutual
+  unfolding read read_atom atom_at plain_at name_at operands_at
+
   goal_of : {level : Level} {t : Expression} {ts : List Lexeme} → Spells level t ts → Goal level t ts
-  goal_of (number k s) = number_again k s
-  goal_of (truth s) = truth_again s
-  goal_of (falsity s) = falsity_again s
-  goal_of (name n) = name_again n
-  goal_of (call_empty n o e) = call_empty_again n o e
-  goal_of (call n o {us} {ts} d) = call_again n o us ts d (all_of d)
-  goal_of (structure n o {us} {ts} d) = structure_again n o us ts (all_of d)
-  goal_of (variadic l op s o {us} {ts} at d) = variadic_again l op s o us ts at (all_of d)
+  goal_of (number k s) = goal_atom (Numeral k s) (tok (Number k) s ∷ []) (λ n rest lt. sym (within (suc n) (Numeral k s) rest (omega arith)))
+  goal_of (truth s) = goal_atom (Truth true s) (tok (Keyword words.True) s ∷ []) (λ n rest lt. sym (within (suc n) (Truth true s) rest (omega arith)))
+  goal_of (falsity s) = goal_atom (Truth false s) (tok (Keyword words.False) s ∷ []) (λ n rest lt. sym (within (suc n) (Truth false s) rest (omega arith)))
+  goal_of (name k) = goal_atom (Name k) (ident k ∷ []) (λ n rest lt. rw (no_light (Sign symbols.Open) rest lt, no_light (Sign symbols.OpenBrace) rest lt) (sym (within (suc n) (Name k) rest (omega arith))))
+  goal_of (call_empty k o e) = goal_atom (Call k End) (ident k ∷ tok (Sign symbols.Open) o ∷ tok (Sign symbols.Close) e ∷ []) (λ n rest lt. sym (within (suc n) (Call k End) rest (omega arith)))
+  goal_of (call m o {us} {ts} d) = goal_atom (Call m us) (ident m ∷ tok (Sign symbols.Open) o ∷ ts) (λ n rest lt. rw (no_close d rest) (listed_again (Call m) forms.Call us ts refl (all_of d) n rest lt))
+  goal_of (structure m o {us} {ts} d) = goal_atom (Structure m us) (ident m ∷ tok (Sign symbols.OpenBrace) o ∷ ts) (λ n rest lt. listed_again (Structure m) forms.Structure us ts refl (all_of d) n rest lt)
+  goal_of (variadic l op s o {us} {ts} at d) = goal_atom (Variadic op s us) (tok l s ∷ tok (Sign symbols.Open) o ∷ ts) (λ n rest lt. rw at (listed_again (Variadic op s) forms.Call us ts refl (all_of d) n rest lt))
   goal_of (undotted {t} {ts} d) = goal_dots t ts (dots_first t ts (reads_of d (goal_of d).reads))
   goal_of (dotted s x {t} {ts} d) = goal_dots (Field t x) (ts ++ tok (Sign symbols.Dot) s ∷ ident x ∷ []) (dots_next t ts s x ((goal_of d).dots is_dotted))
   goal_of (primary {t} {ts} d) = primary_again t ts d (reads_of d (goal_of d).reads)
   goal_of (merge s n {us} {ts} d) = merge_again s n us ts (all_of d)
-  goal_of (when s {a} {c} {xs} {ys} d dc) = goal_whole (When a c) (xs ++ tok (Keyword words.When) s ∷ ys) (when_again s a c xs ys d (reads_of d (goal_of d).reads) dc)
+  goal_of (when s {a} {c} {xs} {ys} d dc) = goal_plain Whole (When a c) (xs ++ tok (Keyword words.When) s ∷ ys) refl (when_again s a c xs ys d (reads_of d (goal_of d).reads) dc)
   goal_of (parentheses s e {t} {ts} d) = parentheses_again s e t ts (reads_of d (goal_of d).reads)
   goal_of (prefixed {level} {operand} {other} l op s {t} {ts} h at d) = prefixed_again level operand other l op s t ts h at (reads_of d (goal_of d).reads)
   goal_of (bare {level} {operand} {other} {t} {ts} h d) = bare_again level operand other t ts h d (reads_of d (goal_of d).reads)
@@ -1052,13 +886,13 @@ mutual
   goal_of (next {level} {operand} l op s {a} {b} {xs} {ys} j e may da db) =
       goal_chain level operand (Binary op a b) (xs ++ tok l s ∷ ys) j (next_grows level operand l op s a b xs ys j e may ((goal_of da).grows operand j) (reads_of db (goal_of db).reads))
   goal_of (choice i t e {c} {a} {b} {xs} {ys} {zs} dc da db) = choice_again i t e c a b xs ys zs (reads_of dc (goal_of dc).reads) (reads_of da (goal_of da).reads) (reads_of db (goal_of db).reads)
-  goal_of (else_choice {t} {ts} d) = goal_else t ts (else_choice_again t ts d (reads_of d (goal_of d).reads))
-  goal_of (else_value {t} {ts} d) = goal_else t ts (else_value_again t ts d (reads_of d (goal_of d).reads))
-  goal_of (arrow_choice {t} {ts} d) = goal_arrow t ts (arrow_choice_again t ts d (reads_of d (goal_of d).reads))
-  goal_of (arrow_value {t} {ts} d) = goal_arrow t ts (arrow_value_again t ts d (reads_of d (goal_of d).reads))
-  goal_of (arrow s {a} {b} {xs} {ys} da db) = goal_arrow (Binary operators.Arrow a b) (xs ++ tok (Sign symbols.Arrow) s ∷ ys) (arrow_again s a b xs ys da (reads_of da (goal_of da).reads) (reads_of db (goal_of db).reads))
-  goal_of (whole {t} {ts} d) = goal_whole t ts (whole_again t ts (reads_of d (goal_of d).reads))
-  goal_of (fby s {a} {b} {xs} {ys} da db) = goal_whole (Binary operators.Fby a b) (xs ++ tok (Keyword words.Fby) s ∷ ys) (fby_again s a b xs ys da (reads_of da (goal_of da).reads) (reads_of db (goal_of db).reads))
+  goal_of (else_choice {t} {ts} d) = goal_plain Else t ts refl (else_choice_again t ts d (reads_of d (goal_of d).reads))
+  goal_of (else_value {t} {ts} d) = goal_plain Else t ts refl (else_value_again t ts d (reads_of d (goal_of d).reads))
+  goal_of (arrow_choice {t} {ts} d) = goal_plain Arrow t ts refl (arrow_choice_again t ts d (reads_of d (goal_of d).reads))
+  goal_of (arrow_value {t} {ts} d) = goal_plain Arrow t ts refl (arrow_value_again t ts d (reads_of d (goal_of d).reads))
+  goal_of (arrow s {a} {b} {xs} {ys} da db) = goal_plain Arrow (Binary operators.Arrow a b) (xs ++ tok (Sign symbols.Arrow) s ∷ ys) refl (arrow_again s a b xs ys da (reads_of da (goal_of da).reads) (reads_of db (goal_of db).reads))
+  goal_of (whole {t} {ts} d) = goal_plain Whole t ts refl (whole_again t ts (reads_of d (goal_of d).reads))
+  goal_of (fby s {a} {b} {xs} {ys} da db) = goal_plain Whole (Binary operators.Fby a b) (xs ++ tok (Keyword words.Fby) s ∷ ys) refl (fby_again s a b xs ys da (reads_of da (goal_of da).reads) (reads_of db (goal_of db).reads))
 
   all_of : {form : Form} {us : Parts} {ts : List Lexeme} → SpellsAll form us ts → ReadsAll form us ts
   all_of (final {form} {l} {t} {xs} {es} p c) = final_again form l t xs es (part_long p) (part_of p) c

@@ -5,7 +5,7 @@ use Rattle.lus_syntax.specs.Lexemes.{Lexeme}
 use Rattle.lus_spelling.specs.Reading.{Fault, Deep, ◌>>=◌}
 use Rattle.lus_spelling.specs.ReadingDeclarations.{Reads, repeat_on, repeat_at, push_at, others_at, several_at}
 use Rattle.lus_spelling.specs.Lists.{Repeated, none, again, Listed, listed}
-use Rattle.lus_spelling.proofs.Sound.{bind_ok}
+use Rattle.lus_spelling.proofs.Sound.{bind_ok, bind_cond}
 pub use Rattle.lus_spelling.proofs.Sound.{same_result}
 
 pub bind_bind : {A B C : Type 0} (r : Result A Fault) (f : A → Result B Fault) (g : B → Result C Fault) → ((r >>= f) >>= g) ≡ (r >>= λ x. f x >>= g)
@@ -107,10 +107,6 @@ module _ {A : Type 0} (Separator : List Lexeme → Type 0) (Item : A → List Le
     repeated_follows none rest f = f
     repeated_follows (again {a} {bs} {ss} {xs} {ys} s i d) rest f = subst Follows (sym (regroup ss xs ys rest)) (follows ss a xs s i (ys ++ rest))
 
-    fitting : {B : Type 0} (b : Bool) (x : A × List Lexeme) (f : A × List Lexeme → Result B Fault) → (cond b (Ok x) (Err Deep) >>= f) ≡ cond b (f x) (Err Deep)
-    fitting true x f = refl
-    fitting false x f = refl
-
     nested : {B : Type 0} (b c : Bool) (r : Result B Fault) → cond b (cond c r (Err Deep)) (Err Deep) ≡ cond (cond b c false) r (Err Deep)
     nested true c r = refl
     nested false c r = refl
@@ -119,7 +115,7 @@ module _ {A : Type 0} (Separator : List Lexeme → Type 0) (Item : A → List Le
     one_more us a xs rest i f g =
         bind_bind (item (xs ++ rest)) (λ y. Ok (us ++ y.0 ∷ [], y.1)) g
         ∙ ap (λ (r : Reads A). r >>= λ y. g (us ++ y.0 ∷ [], y.1)) (complete a xs i rest f)
-        ∙ fitting (fits a) (a, rest) (λ y. g (us ++ y.0 ∷ [], y.1))
+        ∙ bind_cond (fits a) (a, rest) (λ y. g (us ++ y.0 ∷ [], y.1))
 
     pub repeat_complete : {bs : List A} {text : List Lexeme} → Repeated Separator Item bs text → (k : ℕ) (us : List A) (rest : List Lexeme) → length (text ++ rest) < k → Follows rest → turn rest ≡ None
         → repeat_at turn (push_at turn item) k us (text ++ rest) ≡ cond (every fits bs) (Ok (us ++ bs, rest)) (Err Deep)

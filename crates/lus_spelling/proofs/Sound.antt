@@ -1,8 +1,12 @@
 -- What is read is spelled so.
-use Rattle.std.proofs.Common.{◌≡◌, ℕ, zero, suc, ◌+◌, ◌≤◌, max, Bool, true, false, cond, ltb, leb, eqb, length, List, [], ◌∷◌, ◌++◌, Option, Some, None, Result, Ok, Err, refl, sym, ap, subst, ◌∙◌, append_assoc, arith}
+use Rattle.std.proofs.Common.{◌≡◌, ℕ, zero, suc, ◌+◌, ◌≤◌, max, Bool, true, false, cond, ltb, leb, length, List, [], ◌∷◌, ◌++◌, Option, Some, None, Result, Ok, Err, refl, sym, ap, subst, ◌∙◌, append_assoc, arith}
 use Rattle.std.proofs.lemmas.Bool.{eqb-true, ltb-false}
-use Rattle.std.proofs.Math.Nat.{max-le, le-max_left, le-max_right}
+use Rattle.std.proofs.Math.Nat.{max-le}
+use denote.Enum.Declared.{tag_of}
+use denote.Enum.Bare.{tag_one}
 use Rattle.lus_syntax.specs.declared.token.Span.{Span}
+use Rattle.lus_syntax.specs.contracts.token.Symbol.{the_type as symbol_type}
+use Rattle.lus_syntax.specs.contracts.token.Word.{the_type as word_type}
 use Rattle.lus_syntax.specs.declared.token.Symbol.{Symbol}
 use Rattle.lus_syntax.specs.declared.token.Symbol.TheVariants as symbols
 use Rattle.lus_syntax.specs.declared.token.Word.{Word}
@@ -24,7 +28,11 @@ pub bind_ok : {A B : Type 0} (r : Result A Fault) (f : A → Result B Fault) (y 
 bind_ok (Ok x) f y e = (x, refl, e)
 bind_ok (Err d) f y e = absurd cc
 
-abbrev done : {A : Type 0} → A → Result A Fault
+pub bind_cond : {A B : Type 0} (b : Bool) (x : A) (f : A → Result B Fault) → (cond b (Ok x) (Err Deep) >>= f) ≡ cond b (f x) (Err Deep)
+bind_cond true x f = refl
+bind_cond false x f = refl
+
+abbrev pub done : {A : Type 0} → A → Result A Fault
 done x = Ok x
 
 pub same_result : {A : Type 0} (x y : A) → done x ≡ done y → x ≡ y
@@ -46,75 +54,20 @@ never_begun false f e = cc
 
 -- ---- tokens at the front
 
-symbol_in : ℕ → Symbol
-symbol_in n = cond (eqb n 0) symbols.Open (cond (eqb n 1) symbols.Close (cond (eqb n 2) symbols.OpenBrace (cond (eqb n 3) symbols.CloseBrace (cond (eqb n 4) symbols.Comma (cond (eqb n 5) symbols.Semicolon (cond (eqb n 6) symbols.Colon (cond (eqb n 7) symbols.Dot (cond (eqb n 8) symbols.Equal (cond (eqb n 9) symbols.NotEqual (cond (eqb n 10) symbols.Less (cond (eqb n 11) symbols.AtMost (cond (eqb n 12) symbols.Greater (cond (eqb n 13) symbols.AtLeast (cond (eqb n 14) symbols.Arrow (cond (eqb n 15) symbols.Implies (cond (eqb n 16) symbols.Plus (cond (eqb n 17) symbols.Minus (cond (eqb n 18) symbols.Star (cond (eqb n 19) symbols.Slash symbols.Sharp)))))))))))))))))))
-
-symbol_in-place : (c : Symbol) → symbol_in (place c) ≡ c
-unfolding symbol_in
-symbol_in-place symbols.Open = refl
-symbol_in-place symbols.Close = refl
-symbol_in-place symbols.OpenBrace = refl
-symbol_in-place symbols.CloseBrace = refl
-symbol_in-place symbols.Comma = refl
-symbol_in-place symbols.Semicolon = refl
-symbol_in-place symbols.Colon = refl
-symbol_in-place symbols.Dot = refl
-symbol_in-place symbols.Equal = refl
-symbol_in-place symbols.NotEqual = refl
-symbol_in-place symbols.Less = refl
-symbol_in-place symbols.AtMost = refl
-symbol_in-place symbols.Greater = refl
-symbol_in-place symbols.AtLeast = refl
-symbol_in-place symbols.Arrow = refl
-symbol_in-place symbols.Implies = refl
-symbol_in-place symbols.Plus = refl
-symbol_in-place symbols.Minus = refl
-symbol_in-place symbols.Star = refl
-symbol_in-place symbols.Slash = refl
-symbol_in-place symbols.Sharp = refl
-
-word_in : ℕ → Word
-word_in n = cond (eqb n 0) words.Node (cond (eqb n 1) words.Function (cond (eqb n 2) words.Returns (cond (eqb n 3) words.Var (cond (eqb n 4) words.Let (cond (eqb n 5) words.Tel (cond (eqb n 6) words.Type (cond (eqb n 7) words.Const (cond (eqb n 8) words.Enum (cond (eqb n 9) words.Struct (cond (eqb n 10) words.Bool (cond (eqb n 11) words.Int (cond (eqb n 12) words.True (cond (eqb n 13) words.False (cond (eqb n 14) words.Not (cond (eqb n 15) words.And (cond (eqb n 16) words.Or (cond (eqb n 17) words.Xor (cond (eqb n 18) words.If (cond (eqb n 19) words.Then (cond (eqb n 20) words.Else (cond (eqb n 21) words.Div (cond (eqb n 22) words.Mod (cond (eqb n 23) words.Pre (cond (eqb n 24) words.Fby (cond (eqb n 25) words.When (cond (eqb n 26) words.Merge words.Nor))))))))))))))))))))))))))
-
-word_in-place : (c : Word) → word_in (word_place c) ≡ c
-unfolding word_in
-word_in-place words.Node = refl
-word_in-place words.Function = refl
-word_in-place words.Returns = refl
-word_in-place words.Var = refl
-word_in-place words.Let = refl
-word_in-place words.Tel = refl
-word_in-place words.Type = refl
-word_in-place words.Const = refl
-word_in-place words.Enum = refl
-word_in-place words.Struct = refl
-word_in-place words.Bool = refl
-word_in-place words.Int = refl
-word_in-place words.True = refl
-word_in-place words.False = refl
-word_in-place words.Not = refl
-word_in-place words.And = refl
-word_in-place words.Or = refl
-word_in-place words.Xor = refl
-word_in-place words.If = refl
-word_in-place words.Then = refl
-word_in-place words.Else = refl
-word_in-place words.Div = refl
-word_in-place words.Mod = refl
-word_in-place words.Pre = refl
-word_in-place words.Fby = refl
-word_in-place words.When = refl
-word_in-place words.Merge = refl
-word_in-place words.Nor = refl
-
-same_place : (c d : Symbol) → place c ≡ place d → c ≡ d
-same_place c d e = sym (symbol_in-place c) ∙ ap symbol_in e ∙ symbol_in-place d
+same_symbol : (c d : Symbol) → place c ≡ place d → c ≡ d
+same_symbol c d e = tag_one symbol_type tt c d (symbol_tag c ∙ e ∙ sym (symbol_tag d))
+  where
+    symbol_tag : (c : Symbol) → tag_of symbol_type c ≡ place c
+    symbol_tag c = grind arith
 
 same_word : (c d : Word) → word_place c ≡ word_place d → c ≡ d
-same_word c d e = sym (word_in-place c) ∙ ap word_in e ∙ word_in-place d
+same_word c d e = tag_one word_type tt c d (word_tag c ∙ e ∙ sym (word_tag d))
+  where
+    word_tag : (c : Word) → tag_of word_type c ≡ word_place c
+    word_tag c = grind arith
 
 is_lexeme-true : (l m : Kind) → is_lexeme l m ≡ true → m ≡ l
-is_lexeme-true (Sign c) (Sign d) e = ap Sign (same_place d c (eqb-true _ _ e))
+is_lexeme-true (Sign c) (Sign d) e = ap Sign (same_symbol d c (eqb-true _ _ e))
 is_lexeme-true (Keyword c) (Keyword d) e = ap Keyword (same_word d c (eqb-true _ _ e))
 is_lexeme-true _ _ e = absurd cc
 
@@ -228,6 +181,23 @@ test_is ts x e = go (front (Keyword words.Not) ts) refl e
     go None at h =
         let b = bind_ok (label_at ts) (λ l. tested l.0 l.1 (front (Sign symbols.Open) l.1)) x h in
         tested_is ts b.0.1 b.0.0 x (front (Sign symbols.Open) b.0.1) (label_is ts b.0 b.1) refl b.2
+
+-- ---- levels with operators
+
+pub heads_read : {level operand other : Level} → Heads level operand other → (n : ℕ) (ts : List Lexeme) → read (suc n) level ts ≡ prefixed_on (read n operand) (read (suc n) other) ts (prefix_at level ts)
+unfolding read read_negation read_negated read_signed prefixed_at
+heads_read negation n ts = refl
+heads_read negated n ts = refl
+heads_read signed n ts = refl
+
+pub chain_reads : {level operand : Level} → Joins level operand → (n : ℕ) (ts : List Lexeme) → read (suc n) level ts ≡ (read (suc n) operand ts >>= more_at (suc n) level n (read n operand))
+unfolding read chain_at read_implication read_disjunction read_conjunction read_comparison read_sum read_term
+chain_reads implication n ts = refl
+chain_reads disjunction n ts = refl
+chain_reads conjunction n ts = refl
+chain_reads comparison n ts = refl
+chain_reads sum n ts = refl
+chain_reads term n ts = refl
 
 -- ---- what a reader found
 
@@ -348,18 +318,13 @@ pub record SpeltAll (n : ℕ) (form : Form) (us : List (Lead × Expression)) (d 
   pub within : a.1 ≤ n
 
 pub zero_least : (a : ℕ) → a ≡ max a 0
-zero_least a = let l = le-max_left a 0 in let u : max a 0 ≤ a = max-le (omega arith) (omega arith) in omega (arith, l, u)
+zero_least a = omega arith
 
-zero_first : (a : ℕ) → max 0 a ≡ a
-zero_first a = let l = le-max_right 0 a in let u : max 0 a ≤ a = max-le (omega arith) (omega arith) in omega (arith, l, u)
+pub zero_first : (a : ℕ) → max 0 a ≡ a
+zero_first a = omega arith
 
 pub max_regroups : (a b c : ℕ) → max (max a b) c ≡ max a (max b c)
-max_regroups a b c =
-    let l1 = le-max_left a (max b c) in let l2 = le-max_right a (max b c) in let l3 = le-max_left b c in let l4 = le-max_right b c in
-    let r1 = le-max_left (max a b) c in let r2 = le-max_right (max a b) c in let r3 = le-max_left a b in let r4 = le-max_right a b in
-    let up : max (max a b) c ≤ max a (max b c) = max-le (max-le l1 (omega (arith, l2, l3))) (omega (arith, l2, l4)) in
-    let down : max a (max b c) ≤ max (max a b) c = max-le (omega (arith, r1, r3)) (max-le (omega (arith, r1, r4)) r2) in
-    omega (arith, up, down)
+max_regroups a b c = omega arith
 
 module _ (n : ℕ) (wholes : Reader) (sound : IsSound n Whole wholes) where
   part_sound : (form : Form) (ts : List Lexeme) (p : Item) → part_at form wholes ts ≡ Ok p → SpeltPart n form ts p
@@ -551,10 +516,6 @@ module _ (n : ℕ) (level operand other : Level) (heads : Heads level operand ot
         within = omega (arith, h.within);
       })
 
-  pub prefixed_sound : IsSound (suc n) level (prefixed_at level operands others)
-  unfolding prefixed_at
-  prefixed_sound ts f e = headed ts f (prefix_at level ts) refl e
-
 module _ (level operand : Level) (joins : Joins level operand) (n : ℕ) (operands : Reader) (sound : IsSound n operand operands) (ts : List Lexeme) where
   ended : (left f : Found) (o : Option (Infix × List Lexeme)) → Spelt (suc n) level ts left → no_turn operands left o ≡ Ok f → Spelt (suc n) level ts f
   ended left f None h e = subst (Spelt (suc n) level ts) (same_result left f e) h
@@ -573,12 +534,6 @@ module _ (level operand : Level) (joins : Joins level operand) (n : ℕ) (operan
   unfolding more_at
   more_sound zero left f h e = ended left f (infix_at level left.tree left.rest) h e
   more_sound (suc k) left f h e = turned (more_at k level n operands) (more_sound k) left f (infix_at level left.tree left.rest) refl h e
-
-  pub chain_sound : (firsts : Reader) → IsSound (suc n) operand firsts → (f : Found) → chain_at level n operands firsts ts ≡ Ok f → Spelt (suc n) level ts f
-  unfolding chain_at
-  chain_sound firsts firsts_sound f e =
-      let b = bind_ok (firsts ts) (more_at (suc n) level n operands) f e in
-      more_sound (suc n) b.0 f (lifted (suc n) operand level ts b.0 (λ text s. first joins s) (firsts_sound ts b.0 b.1)) b.2
 
 -- ---- choice
 
@@ -649,32 +604,17 @@ module _ (n : ℕ) (arrows values : Reader) (sound : IsSound n Arrow arrows) (va
 
 -- what looks like a primary is one
 pub tight : {level : Level} {t : Expression} {ts : List Lexeme} → Spells level t ts → is_primary t ≡ true → Spells Primary t ts
-tight (number k s) e = primary (undotted (number k s))
-tight (truth s) e = primary (undotted (truth s))
-tight (falsity s) e = primary (undotted (falsity s))
-tight (name n) e = primary (undotted (name n))
-tight (call_empty n o c) e = primary (undotted (call_empty n o c))
-tight (call n o d) e = primary (undotted (call n o d))
-tight (structure n o d) e = primary (undotted (structure n o d))
-tight (variadic l op s o at d) e = primary (undotted (variadic l op s o at d))
-tight (parentheses s c d) e = primary (undotted (parentheses s c d))
-tight (undotted d) e = tight d e
-tight (dotted s x d) e = primary (dotted s x d)
-tight (primary d) e = primary d
-tight (merge s n d) e = merge s n d
-tight (prefixed l op s h at d) e = absurd cc
+tight {level = Atom} d e = primary (undotted d)
+tight {level = Dotted} d e = primary d
+tight {level = Primary} d e = d
 tight (bare h d) e = tight d e
 tight (first j d) e = tight d e
-tight (next l op s j at may a b) e = absurd cc
-tight (choice i t l c a b) e = absurd cc
 tight (else_choice d) e = tight d e
 tight (else_value d) e = tight d e
 tight (arrow_choice d) e = tight d e
 tight (arrow_value d) e = tight d e
-tight (arrow s a b) e = absurd cc
 tight (whole d) e = tight d e
-tight (fby s a b) e = absurd cc
-tight (when s a c) e = absurd cc
+tight _ e = absurd cc
 
 abbrev no_read : Read
 no_read = Err Syntax
@@ -720,92 +660,57 @@ module _ (n : ℕ) (primaries arrows : Reader) (sound : IsSound n Primary primar
 
 -- ---- each level, where its parts are sound
 
-module _ (n : ℕ) (part : Level → Reader) (sound : (level : Level) → IsSound n level (part level)) where
-  atom_step : IsSound (suc n) Atom (read_atom n part)
-  unfolding read_atom
-  atom_step ts f e = atom_sound n (part Whole) (sound Whole) ts f e
+module _ (n : ℕ) (sound : (level : Level) → IsSound n level (read n level)) where
+  abbrev IsSoundAbove : Level → Type 0
+  IsSoundAbove level = IsSound (suc n) level (read (suc n) level)
 
-  dotted_step : IsSound (suc n) Dotted (read_dotted n part)
-  unfolding read_dotted
-  dotted_step ts f e = dotted_sound n ts (read_atom n part) atom_step f e
+  head_step : {level operand other : Level} → Heads level operand other → IsSoundAbove other → IsSoundAbove level
+  head_step {level} {operand} {other} h others_sound ts f e = headed n level operand other h (read n operand) (read (suc n) other) (sound operand) others_sound ts f (prefix_at level ts) refl (sym (heads_read h n ts) ∙ e)
 
-  primary_step : IsSound (suc n) Primary (read_primary n part)
-  unfolding read_primary
-  primary_step ts f e = primary_sound n (part Whole) (sound Whole) (read_dotted n part) dotted_step ts f e
+  chain_step : {level operand : Level} → Joins level operand → IsSoundAbove operand → IsSoundAbove level
+  chain_step {level} {operand} j firsts_sound ts f e =
+      let b = bind_ok (read (suc n) operand ts) (more_at (suc n) level n (read n operand)) f (sym (chain_reads j n ts) ∙ e) in
+      more_sound level operand j n (read n operand) (sound operand) ts (suc n) b.0 f (lifted (suc n) operand level ts b.0 (λ text s. first j s) (firsts_sound ts b.0 b.1)) b.2
 
-  signed_step : IsSound (suc n) Signed (read_signed n part)
-  unfolding read_signed
-  signed_step ts f e = prefixed_sound n Signed Signed Primary signed (part Signed) (read_primary n part) (sound Signed) primary_step ts f e
+  choice_step : (level : Level) → ((t : Expression) (text : List Lexeme) → Spells Choice t text → Spells level t text) → (others : Reader) → IsSound (suc n) level others → IsSound (suc n) level (choice_at (branches_at (read n Whole) (read n Else)) others)
+  choice_step = choice_sound n (read n Whole) (read n Else) (sound Whole) (sound Else)
 
-  term_step : IsSound (suc n) Term (read_term n part)
-  unfolding read_term
-  term_step ts f e = chain_sound Term Signed term n (part Signed) (sound Signed) ts (read_signed n part) signed_step f e
-
-  sum_step : IsSound (suc n) Sum (read_sum n part)
-  unfolding read_sum
-  sum_step ts f e = chain_sound Sum Term sum n (part Term) (sound Term) ts (read_term n part) term_step f e
-
-  comparison_step : IsSound (suc n) Comparison (read_comparison n part)
-  unfolding read_comparison
-  comparison_step ts f e = chain_sound Comparison Sum comparison n (part Sum) (sound Sum) ts (read_sum n part) sum_step f e
-
-  negated_step : IsSound (suc n) Negated (read_negated n part)
-  unfolding read_negated
-  negated_step ts f e = prefixed_sound n Negated Negated Signed negated (part Negated) (read_signed n part) (sound Negated) signed_step ts f e
-
-  negation_step : IsSound (suc n) Negation (read_negation n part)
-  unfolding read_negation
-  negation_step ts f e = prefixed_sound n Negation Negated Comparison negation (part Negated) (read_comparison n part) (sound Negated) comparison_step ts f e
-
-  conjunction_step : IsSound (suc n) Conjunction (read_conjunction n part)
-  unfolding read_conjunction
-  conjunction_step ts f e = chain_sound Conjunction Negation conjunction n (part Negation) (sound Negation) ts (read_negation n part) negation_step f e
-
-  disjunction_step : IsSound (suc n) Disjunction (read_disjunction n part)
-  unfolding read_disjunction
-  disjunction_step ts f e = chain_sound Disjunction Conjunction disjunction n (part Conjunction) (sound Conjunction) ts (read_conjunction n part) conjunction_step f e
-
-  implication_step : IsSound (suc n) Implication (read_implication n part)
-  unfolding read_implication
-  implication_step ts f e = chain_sound Implication Disjunction implication n (part Disjunction) (sound Disjunction) ts (read_disjunction n part) disjunction_step f e
-
-  refuse_sound : (level : Level) → IsSound (suc n) level refuse
-  refuse_sound level ts f e = absurd cc
-
-  choice_step : IsSound (suc n) Choice (read_choice n part)
-  unfolding read_choice
-  choice_step ts f e = choice_sound n (part Whole) (part Else) (sound Whole) (sound Else) Choice (λ t text s. s) refuse (refuse_sound Choice) ts f e
-
-  else_step : IsSound (suc n) Else (read_else n part)
-  unfolding read_else
-  else_step ts f e = choice_sound n (part Whole) (part Else) (sound Whole) (sound Else) Else (λ t text s. else_choice s) (read_implication n part) (λ us g h. lifted (suc n) Implication Else us g (λ text s. else_value s) (implication_step us g h)) ts f e
-
-  arrow_step : IsSound (suc n) Arrow (read_arrow n part)
-  unfolding read_arrow
-  arrow_step ts f e = choice_sound n (part Whole) (part Else) (sound Whole) (sound Else) Arrow (λ t text s. arrow_choice s) (arrow_at n (part Arrow) (read_implication n part)) (arrow_sound n (part Arrow) (read_implication n part) (sound Arrow) implication_step) ts f e
-
-  whole_step : IsSound (suc n) Whole (read_whole n part)
-  unfolding read_whole
-  whole_step ts f e = whole_sound n (part Primary) (read_arrow n part) (sound Primary) arrow_step ts f e
-
-level_step : (n : ℕ) → ((level : Level) → IsSound n level (read n level)) → (level : Level) → IsSound (suc n) level (read (suc n) level)
-unfolding read
-level_step n sound Atom ts f e = atom_step n (read n) sound ts f e
-level_step n sound Dotted ts f e = dotted_step n (read n) sound ts f e
-level_step n sound Primary ts f e = primary_step n (read n) sound ts f e
-level_step n sound Signed ts f e = signed_step n (read n) sound ts f e
-level_step n sound Term ts f e = term_step n (read n) sound ts f e
-level_step n sound Sum ts f e = sum_step n (read n) sound ts f e
-level_step n sound Comparison ts f e = comparison_step n (read n) sound ts f e
-level_step n sound Negated ts f e = negated_step n (read n) sound ts f e
-level_step n sound Negation ts f e = negation_step n (read n) sound ts f e
-level_step n sound Conjunction ts f e = conjunction_step n (read n) sound ts f e
-level_step n sound Disjunction ts f e = disjunction_step n (read n) sound ts f e
-level_step n sound Implication ts f e = implication_step n (read n) sound ts f e
-level_step n sound Choice ts f e = choice_step n (read n) sound ts f e
-level_step n sound Else ts f e = else_step n (read n) sound ts f e
-level_step n sound Arrow ts f e = arrow_step n (read n) sound ts f e
-level_step n sound Whole ts f e = whole_step n (read n) sound ts f e
+  level_step : (level : Level) → IsSoundAbove level
+  unfolding read read_atom read_dotted read_primary read_choice read_else read_arrow read_whole
+  level_step level =
+      let at_atom : IsSoundAbove Atom = atom_sound n (read n Whole) (sound Whole) in
+      let at_dotted : IsSoundAbove Dotted = λ ts. dotted_sound n ts (read (suc n) Atom) at_atom in
+      let at_primary : IsSoundAbove Primary = primary_sound n (read n Whole) (sound Whole) (read (suc n) Dotted) at_dotted in
+      let at_signed = head_step signed at_primary in
+      let at_term = chain_step term at_signed in
+      let at_sum = chain_step sum at_term in
+      let at_comparison = chain_step comparison at_sum in
+      let at_negated = head_step negated at_signed in
+      let at_negation = head_step negation at_comparison in
+      let at_conjunction = chain_step conjunction at_negation in
+      let at_disjunction = chain_step disjunction at_conjunction in
+      let at_implication = chain_step implication at_disjunction in
+      let value_first : IsSound (suc n) Else (read (suc n) Implication) = λ ts f e. lifted (suc n) Implication Else ts f (λ text s. else_value s) (at_implication ts f e) in
+      let refused : IsSound (suc n) Choice refuse = λ ts f e. absurd cc in
+      let at_arrow : IsSoundAbove Arrow = choice_step Arrow (λ t text s. arrow_choice s) (arrow_at n (read n Arrow) (read (suc n) Implication)) (arrow_sound n (read n Arrow) (read (suc n) Implication) (sound Arrow) at_implication) in
+      elim level as IsSoundAbove [
+        | Whole ↦ whole_sound n (read n Primary) (read (suc n) Arrow) (sound Primary) at_arrow
+        | Arrow ↦ at_arrow
+        | Else ↦ choice_step Else (λ t text s. else_choice s) (read (suc n) Implication) value_first
+        | Choice ↦ choice_step Choice (λ t text s. s) refuse refused
+        | Implication ↦ at_implication
+        | Disjunction ↦ at_disjunction
+        | Conjunction ↦ at_conjunction
+        | Negation ↦ at_negation
+        | Negated ↦ at_negated
+        | Comparison ↦ at_comparison
+        | Sum ↦ at_sum
+        | Term ↦ at_term
+        | Signed ↦ at_signed
+        | Primary ↦ at_primary
+        | Dotted ↦ at_dotted
+        | Atom ↦ at_atom
+      ]
 
 pub read_sound : (n : ℕ) (level : Level) → IsSound n level (read n level)
 unfolding read

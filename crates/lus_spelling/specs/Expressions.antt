@@ -1,6 +1,8 @@
 -- Which tokens spell which expression: one constructor a rule, over the rule that it says.
 -- Lustre V6 reference manual, "Syntax".
 use Rattle.std.specs.Prelude.{◌≡◌, ℕ, ℤ, suc, max, Bool, true, false, List, [], ◌∷◌, ◌++◌, Option, Some, None}
+use Rattle.lus_values.specs.declared.operator.Op.{Op}
+use Rattle.lus_values.specs.declared.operator.Op.TheVariants as ops
 use Rattle.lus_syntax.specs.declared.token.Span.{Span}
 use Rattle.lus_syntax.specs.declared.token.Symbol.TheVariants as symbols
 use Rattle.lus_syntax.specs.declared.token.Word.TheVariants as words
@@ -69,37 +71,51 @@ pub data Level : Type 0 where
 
 -- ---- operators
 
+-- the operator that a token is between operands, and the level whose operands it joins
+abbrev pub joined_at : Kind → Option (Level × Op)
+joined_at (Sign symbols.Implies) = Some (Implication, ops.Implies)
+joined_at (Keyword words.Or) = Some (Disjunction, ops.Or)
+joined_at (Keyword words.Xor) = Some (Disjunction, ops.Xor)
+joined_at (Keyword words.And) = Some (Conjunction, ops.And)
+joined_at (Sign symbols.Equal) = Some (Comparison, ops.Equal)
+joined_at (Sign symbols.NotEqual) = Some (Comparison, ops.NotEqual)
+joined_at (Sign symbols.Less) = Some (Comparison, ops.Less)
+joined_at (Sign symbols.AtMost) = Some (Comparison, ops.AtMost)
+joined_at (Sign symbols.Greater) = Some (Comparison, ops.Greater)
+joined_at (Sign symbols.AtLeast) = Some (Comparison, ops.AtLeast)
+joined_at (Sign symbols.Plus) = Some (Sum, ops.Add)
+joined_at (Sign symbols.Minus) = Some (Sum, ops.Subtract)
+joined_at (Sign symbols.Star) = Some (Term, ops.Multiply)
+joined_at (Sign symbols.Slash) = Some (Term, ops.Divide)
+joined_at (Keyword words.Div) = Some (Term, ops.Divide)
+joined_at (Keyword words.Mod) = Some (Term, ops.Remainder)
+joined_at _ = None
+
+-- an operator, if it joins the operands of a level
+abbrev pub joins_at : Level → Option (Level × Op) → Option Infix
+joins_at Implication (Some (Implication, op)) = Some (operators.Compute op)
+joins_at Disjunction (Some (Disjunction, op)) = Some (operators.Compute op)
+joins_at Conjunction (Some (Conjunction, op)) = Some (operators.Compute op)
+joins_at Comparison (Some (Comparison, op)) = Some (operators.Compute op)
+joins_at Sum (Some (Sum, op)) = Some (operators.Compute op)
+joins_at Term (Some (Term, op)) = Some (operators.Compute op)
+joins_at _ _ = None
+
 -- which operators join the operands of a level
 abbrev pub infix_of : Level → Kind → Option Infix
-infix_of Implication (Sign symbols.Implies) = Some operators.Implies
-infix_of Disjunction (Keyword words.Or) = Some operators.Or
-infix_of Disjunction (Keyword words.Xor) = Some operators.Xor
-infix_of Conjunction (Keyword words.And) = Some operators.And
-infix_of Comparison (Sign symbols.Equal) = Some operators.Equal
-infix_of Comparison (Sign symbols.NotEqual) = Some operators.NotEqual
-infix_of Comparison (Sign symbols.Less) = Some operators.Less
-infix_of Comparison (Sign symbols.AtMost) = Some operators.AtMost
-infix_of Comparison (Sign symbols.Greater) = Some operators.Greater
-infix_of Comparison (Sign symbols.AtLeast) = Some operators.AtLeast
-infix_of Sum (Sign symbols.Plus) = Some operators.Add
-infix_of Sum (Sign symbols.Minus) = Some operators.Subtract
-infix_of Term (Sign symbols.Star) = Some operators.Multiply
-infix_of Term (Sign symbols.Slash) = Some operators.Divide
-infix_of Term (Keyword words.Div) = Some operators.Divide
-infix_of Term (Keyword words.Mod) = Some operators.Remainder
-infix_of _ _ = None
+infix_of level l = joins_at level (joined_at l)
 
 -- how operators mix
 abbrev pub mixing_of : Infix → Mixing
-mixing_of operators.Implies = mixings.Implication
-mixing_of operators.Or = mixings.Or
-mixing_of operators.Xor = mixings.Xor
-mixing_of operators.Equal = mixings.Comparison
-mixing_of operators.NotEqual = mixings.Comparison
-mixing_of operators.Less = mixings.Comparison
-mixing_of operators.AtMost = mixings.Comparison
-mixing_of operators.Greater = mixings.Comparison
-mixing_of operators.AtLeast = mixings.Comparison
+mixing_of (operators.Compute ops.Implies) = mixings.Implication
+mixing_of (operators.Compute ops.Or) = mixings.Or
+mixing_of (operators.Compute ops.Xor) = mixings.Xor
+mixing_of (operators.Compute ops.Equal) = mixings.Comparison
+mixing_of (operators.Compute ops.NotEqual) = mixings.Comparison
+mixing_of (operators.Compute ops.Less) = mixings.Comparison
+mixing_of (operators.Compute ops.AtMost) = mixings.Comparison
+mixing_of (operators.Compute ops.Greater) = mixings.Comparison
+mixing_of (operators.Compute ops.AtLeast) = mixings.Comparison
 mixing_of _ = mixings.Free
 
 -- `=>` and the comparisons don't chain, `or` and `xor` don't mix
