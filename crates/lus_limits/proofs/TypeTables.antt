@@ -1,6 +1,5 @@
 -- Tables of what declared types have, filled along an order.
-use Rattle.std.proofs.Common.{arith, ◌≡◌, ◌∙◌, refl, sym, ap, ℕ, ◌+◌, ◌<◌, ◌≤◌, List, length, get_or, set, take, map, Contains, All, String, Global}
-use Rattle.std.specs.Prelude.{string_bytes}
+use Rattle.std.proofs.Common.{arith, ◌≡◌, ◌∙◌, refl, sym, ap, ℕ, ◌+◌, ◌<◌, ◌≤◌, List, length, get_or, set, take, map, Contains, All}
 use Rattle.std.proofs.lemmas.List.{length-map, get_or-map, get_or_default}
 use Rattle.lus_syntax.specs.declared.tree.Tree.{Tree as StoredTree}
 use Rattle.lus_syntax.specs.declared.tree.TypeDeclaration.{TypeDeclaration as StoredType}
@@ -33,9 +32,6 @@ module _ (t : StoredTree) where
 
   types_length : length (map type_seen t.types.items) ≡ length t.types.items
   types_length = length-map t.types.items type_seen
-
-  pub names_few : (keys : List (String Global)) (x : ℕ) → length keys ≤ 1000 → map string_bytes keys ≡ type_names (tree_seen t) → x < length t.types.items → x < 1000
-  names_few keys x few named lt = omega (arith, length-map keys string_bytes, ap length named, names_length)
 
   -- a type's definition, as it lies in the tree
   pub definition_here : (x : ℕ) (d : StoredType) → x < length t.types.items → definition_at (tree_seen t) x ≡ definition_seen (get_or t.types.items x d).definition

@@ -12,6 +12,5 @@ mod uses;
 
 pub use counts::check_counts;
 pub use declared_kinds::kinds_of_types;
-pub use loopless::Loopless;
-pub use recursion::check_recursion;
+pub use loopless::{Loopless, check_recursion};
 pub use sizes::check_sizes;

@@ -1,17 +1,19 @@
 //! Sources in which nothing leads back to itself.
 
-ghost use Rattle.std.specs.Prelude.{◌≡◌, ◌≤◌, length, map, string_bytes};
+ghost use Rattle.std.specs.Prelude.{◌≡◌, IfErr, IfOk, OnOk};
 ghost use Rattle.lus_graph.specs.Ways.{IsOrder};
-ghost use Rattle.lus_syntax.specs.Limits.{most_declarations};
+ghost use Rattle.lus_syntax.specs.declared.refusal.RefusalNumber.TheVariants as numbers;
+ghost use Rattle.lus_syntax.specs.Refusals.{HasShape};
 ghost use Rattle.lus_syntax.specs.View.{tree_seen};
+ghost use Rattle.lus_typing.specs.Refusals.{RefusesFor};
 ghost use Rattle.lus_meaning.specs.Loopless.{Loopless as IsLoopless, node_uses as calls_of_nodes, type_names as names_of_types, type_uses as uses_of_types};
 ghost use Rattle.lus_meaning.specs.Named.{Named as IsNamed};
 ghost use Rattle.lus_meaning.specs.Sized.{Counted as IsCounted};
-ghost use Rattle.lus_limits.specs.Orders.{AreOrders};
 
-use indexmap::IndexSet;
-use lus_names::Named;
-use lus_syntax::Tree;
+use crate::recursion::{order_of_nodes, order_of_types};
+use lus_names::{Named, Places};
+use lus_syntax::{Refusal, Tree};
+use std::alloc::Global;
 use std::marker::Model;
 
 /// A source of right names in which nothing leads back to itself, with its types and its nodes in orders in which what one
@@ -40,18 +42,6 @@ impl Model for Loopless {
 }
 
 impl Loopless {
-    /// A source of right names, with orders of its types and its nodes.
-    pub fn new(named: Named, types: Vec<usize>, nodes: Vec<usize>) -> Loopless
-        requires { AreOrders (tree_seen named) types.items nodes.items }
-        ensures { result ≡ named }
-    {
-        Loopless {
-            named,
-            types,
-            nodes,
-        }
-    }
-
     /// The source of right names.
     pub fn named(&self) -> &Named
         ensures same { result.now ≡ self.now }
@@ -69,10 +59,9 @@ impl Loopless {
         self.named.tree()
     }
 
-    /// The names of its types, in the order of their declarations.
-    pub fn type_names(&self) -> &IndexSet<String>
-        ensures names { map string_bytes result.now.keys ≡ names_of_types (tree_seen self.now) }
-        ensures few { length result.now.keys ≤ most_declarations }
+    /// The places of the names of its types.
+    pub fn type_names(&self) -> &Places
+        ensures { result.now ≡ names_of_types (tree_seen self.now) }
     {
         self.named.types()
     }
@@ -90,4 +79,20 @@ impl Loopless {
     {
         &self.nodes
     }
+}
+
+/// Checks that nothing leads back to itself; a refusal stands at a type's name, or at a call's.
+pub fn check_recursion(alloc: Global, named: Named) -> Result<Loopless, Refusal>
+    ensures same { IfOk result (λ loopless. loopless ≡ named) }
+    ensures ok { OnOk result (IsLoopless (tree_seen named)) }
+    ensures refused { IfErr result (RefusesFor numbers.Recursion (IsLoopless (tree_seen named))) }
+    ensures shaped { IfErr result HasShape }
+{
+    let types = order_of_types(alloc, &named)?;
+    let nodes = order_of_nodes(alloc, &named)?;
+    Ok(Loopless {
+        named,
+        types,
+        nodes,
+    })
 }

@@ -1,34 +1,22 @@
 //! Recursion: a type or a node that leads back to itself.
 
-ghost use Rattle.std.specs.Prelude.{◌≡◌, IfOk, IfErr, OnOk};
+ghost use Rattle.std.specs.Prelude.{◌≡◌, IfOk, IfErr};
 ghost use Rattle.lus_graph.specs.Ways.{HasNoWayBack, IsOrder};
 ghost use Rattle.lus_syntax.specs.declared.refusal.RefusalNumber.TheVariants as numbers;
 ghost use Rattle.lus_syntax.specs.Refusals.{HasShape};
 ghost use Rattle.lus_syntax.specs.View.{tree_seen};
 ghost use Rattle.lus_limits.specs.GraphErrors.{number_of};
 ghost use Rattle.lus_typing.specs.Refusals.{RefusesFor};
-ghost use Rattle.lus_meaning.specs.Loopless.{Loopless as IsLoopless, node_uses as calls_of_nodes, type_uses as uses_of_types};
+ghost use Rattle.lus_meaning.specs.Loopless.{node_uses as calls_of_nodes, type_uses as uses_of_types};
 
-use crate::loopless::Loopless;
 use crate::uses::{node_uses, type_uses};
 use lus_graph::{GraphError, order_of};
 use lus_names::Named;
 use lus_syntax::{Expr, Part, Place, Refusal, RefusalNumber, Tree};
 use std::alloc::Global;
 
-/// Checks that nothing leads back to itself; a refusal stands at a type's name, or at a call's.
-pub fn check_recursion(alloc: Global, named: Named) -> Result<Loopless, Refusal>
-    ensures same { IfOk result (λ loopless. loopless ≡ named) }
-    ensures ok { OnOk result (IsLoopless (tree_seen named)) }
-    ensures refused { IfErr result (RefusesFor numbers.Recursion (IsLoopless (tree_seen named))) }
-    ensures shaped { IfErr result HasShape }
-{
-    let types = order_of_types(alloc, &named)?;
-    let nodes = order_of_nodes(alloc, &named)?;
-    Ok(Loopless::new(named, types, nodes))
-}
-
-fn order_of_types(alloc: Global, named: &Named) -> Result<Vec<usize>, Refusal>
+/// The places of types, each behind those of the types that it names.
+pub fn order_of_types(alloc: Global, named: &Named) -> Result<Vec<usize>, Refusal>
     ensures order { IfOk result (λ order. IsOrder (uses_of_types (tree_seen named.now)) order.items) }
     ensures refused { IfErr result (RefusesFor numbers.Recursion (HasNoWayBack (uses_of_types (tree_seen named.now)))) }
     ensures shaped { IfErr result HasShape }
@@ -40,7 +28,8 @@ fn order_of_types(alloc: Global, named: &Named) -> Result<Vec<usize>, Refusal>
     }
 }
 
-fn order_of_nodes(alloc: Global, named: &Named) -> Result<Vec<usize>, Refusal>
+/// The places of nodes, each behind those of the nodes that it calls.
+pub fn order_of_nodes(alloc: Global, named: &Named) -> Result<Vec<usize>, Refusal>
     ensures order { IfOk result (λ order. IsOrder (calls_of_nodes (tree_seen named.now)) order.items) }
     ensures refused { IfErr result (RefusesFor numbers.Recursion (HasNoWayBack (calls_of_nodes (tree_seen named.now)))) }
     ensures shaped { IfErr result HasShape }

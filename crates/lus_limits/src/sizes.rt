@@ -1,6 +1,6 @@
 //! How large types are, and how deep calls go, against the limits of the language.
 
-ghost use Rattle.std.specs.Prelude.{◌≡◌, suc, IfErr, OnOk, map, string_bytes, sum_by};
+ghost use Rattle.std.specs.Prelude.{◌≡◌, suc, IfErr, OnOk, map, sum_by};
 ghost use Rattle.lus_values.specs.Lists.{item};
 ghost use Rattle.lus_syntax.specs.Limits.{most_leaves, most_nesting};
 ghost use Rattle.lus_syntax.specs.View.{definition_seen, fields_seen, tree_seen};
@@ -11,8 +11,8 @@ ghost use Rattle.lus_limits.specs.Limits.{IsLimited};
 use crate::calls::check_calls;
 use crate::loopless::Loopless;
 use crate::named::of_name;
-use indexmap::IndexSet;
 use lus_meaning::Fault;
+use lus_names::Places;
 use lus_syntax::{Definition, Fields, MOST_LEAVES, MOST_NESTING};
 use std::alloc::Global;
 
@@ -50,8 +50,8 @@ fn check_types(alloc: Global, loopless: &Loopless) -> Result<(), Fault>
 }
 
 /// The leaves of a type, if they are within the limit, by those of the types that its declaration names.
-fn leaves_of(types: &IndexSet<String>, definition: &Definition, leaves: &[usize]) -> Option<usize>
-    ensures { let count = definition_leaves (map string_bytes types.now.keys) (item 1 leaves.now) (definition_seen definition.now) in
+fn leaves_of(types: &Places, definition: &Definition, leaves: &[usize]) -> Option<usize>
+    ensures { let count = definition_leaves types.now (item 1 leaves.now) (definition_seen definition.now) in
         IsLimited most_leaves count result }
 {
     match definition {
@@ -62,8 +62,8 @@ fn leaves_of(types: &IndexSet<String>, definition: &Definition, leaves: &[usize]
 }
 
 /// The leaves of all fields, if they are within the limit.
-fn leaves_of_fields(types: &IndexSet<String>, groups: &[Fields], leaves: &[usize]) -> Option<usize>
-    ensures { let each = group_leaves (map string_bytes types.now.keys) (item 1 leaves.now) in
+fn leaves_of_fields(types: &Places, groups: &[Fields], leaves: &[usize]) -> Option<usize>
+    ensures { let each = group_leaves types.now (item 1 leaves.now) in
         IsLimited most_leaves (sum_by each (map fields_seen groups.now)) result }
 {
     let mut left = MOST_LEAVES;
@@ -76,8 +76,8 @@ fn leaves_of_fields(types: &IndexSet<String>, groups: &[Fields], leaves: &[usize
 }
 
 /// How deep structures stand in a type, if that is within the limit, by the types that its declaration names.
-fn nesting_of(types: &IndexSet<String>, definition: &Definition, nesting: &[usize]) -> Option<usize>
-    ensures { let depth = definition_nesting (map string_bytes types.now.keys) (item 0 nesting.now) (definition_seen definition.now) in
+fn nesting_of(types: &Places, definition: &Definition, nesting: &[usize]) -> Option<usize>
+    ensures { let depth = definition_nesting types.now (item 0 nesting.now) (definition_seen definition.now) in
         IsLimited most_nesting depth result }
 {
     match definition {
@@ -87,8 +87,8 @@ fn nesting_of(types: &IndexSet<String>, definition: &Definition, nesting: &[usiz
     }
 }
 
-fn deepest_field(types: &IndexSet<String>, groups: &[Fields], nesting: &[usize]) -> usize
-    ensures { let each = group_nesting (map string_bytes types.now.keys) (item 0 nesting.now) in
+fn deepest_field(types: &Places, groups: &[Fields], nesting: &[usize]) -> usize
+    ensures { let each = group_nesting types.now (item 0 nesting.now) in
         result ≡ greatest each (map fields_seen groups.now) }
 {
     let mut deepest = 0;

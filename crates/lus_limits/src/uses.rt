@@ -1,37 +1,30 @@
 //! What the types and the nodes of a source use.
 
-ghost use Rattle.std.specs.Prelude.{◌≡◌, ◌≤◌, ◌++◌, IfOk, OnOk, length, map, string_bytes};
+ghost use Rattle.std.specs.Prelude.{◌≡◌, ◌++◌, IfOk, OnOk, map};
 ghost use Rattle.std.specs.Option.{option_to_list};
 ghost use Rattle.lus_graph.specs.Walks.{uses_of};
-ghost use Rattle.lus_syntax.specs.Limits.{most_declarations};
 ghost use Rattle.lus_syntax.specs.Trees.{parts_of};
 ghost use Rattle.lus_syntax.specs.View.{definition_seen, expression_seen, node_seen, tree_seen, type_name_seen, part_seen};
 ghost use Rattle.lus_meaning.specs.Loopless.{called, called_in, calls_of, definition_uses as uses_of_definition, named_type, node_uses as calls_of_nodes, place_in, type_uses as uses_of_types};
 
-use indexmap::IndexSet;
-use lus_names::Named;
+use lus_names::{Named, Places};
 use lus_syntax::{Definition, Expr, Node, Part, TypeName};
 use lus_values::Memory;
 use std::alloc::Global;
 
 /// Appends the place of a name among these, where it is one of them.
-fn push_place(names: &IndexSet<String>, name: &str, found: &mut Vec<u32>) -> Result<(), Memory>
-    requires few { length names.now.keys ≤ most_declarations }
-    ensures { OnOk result (found.new.items ≡ found.old.items ++ option_to_list (place_in (map string_bytes names.now.keys) name.now)) }
+fn push_place(names: &Places, name: &str, found: &mut Vec<u32>) -> Result<(), Memory>
+    ensures { OnOk result (found.new.items ≡ found.old.items ++ option_to_list (place_in names.now name.now)) }
 {
-    match names.get_index_of(name) {
-        Some(place) => {
-            found.push(place as u32)?;
-            Ok(())
-        }
-        None => Ok(()),
+    if let Some(place) = names.place(name) {
+        found.push(place)?;
     }
+    Ok(())
 }
 
 /// Appends the declared type that a type's name names.
-fn push_named(types: &IndexSet<String>, name: &TypeName, found: &mut Vec<u32>) -> Result<(), Memory>
-    requires few { length types.now.keys ≤ most_declarations }
-    ensures { OnOk result (found.new.items ≡ found.old.items ++ named_type (map string_bytes types.now.keys) (type_name_seen name.now)) }
+fn push_named(types: &Places, name: &TypeName, found: &mut Vec<u32>) -> Result<(), Memory>
+    ensures { OnOk result (found.new.items ≡ found.old.items ++ named_type types.now (type_name_seen name.now)) }
 {
     match name {
         TypeName::Bool(_) => Ok(()),
@@ -43,11 +36,10 @@ fn push_named(types: &IndexSet<String>, name: &TypeName, found: &mut Vec<u32>) -
 /// The types that a definition names.
 fn definition_uses(
     alloc: Global,
-    types: &IndexSet<String>,
+    types: &Places,
     definition: &Definition,
 ) -> Result<Vec<u32>, Memory>
-    requires few { length types.now.keys ≤ most_declarations }
-    ensures { IfOk result (λ found. found.items ≡ uses_of_definition (map string_bytes types.now.keys) (definition_seen definition.now)) }
+    ensures { IfOk result (λ found. found.items ≡ uses_of_definition types.now (definition_seen definition.now)) }
 {
     let mut found = Vec::new(alloc);
     match definition {
@@ -80,9 +72,8 @@ pub fn type_uses(alloc: Global, named: &Named) -> Result<Vec<Vec<u32>>, Memory>
 
 /// Appends the nodes that an expression calls.
 #[cycle(calls)]
-fn push_called(nodes: &IndexSet<String>, expr: &Expr, found: &mut Vec<u32>) -> Result<(), Memory>
-    requires few { length nodes.now.keys ≤ most_declarations }
-    ensures { OnOk result (found.new.items ≡ found.old.items ++ called (map string_bytes nodes.now.keys) (expression_seen expr.now)) }
+fn push_called(nodes: &Places, expr: &Expr, found: &mut Vec<u32>) -> Result<(), Memory>
+    ensures { OnOk result (found.new.items ≡ found.old.items ++ called nodes.now (expression_seen expr.now)) }
 {
     match expr {
         Expr::Number(_, _) => Ok(()),
@@ -113,13 +104,8 @@ fn push_called(nodes: &IndexSet<String>, expr: &Expr, found: &mut Vec<u32>) -> R
 
 /// Appends the nodes that parts call.
 #[cycle(calls)]
-fn push_called_in(
-    nodes: &IndexSet<String>,
-    parts: &[Part],
-    found: &mut Vec<u32>,
-) -> Result<(), Memory>
-    requires few { length nodes.now.keys ≤ most_declarations }
-    ensures { let more = called_in (map string_bytes nodes.now.keys) (parts_of (map part_seen parts.now)) in
+fn push_called_in(nodes: &Places, parts: &[Part], found: &mut Vec<u32>) -> Result<(), Memory>
+    ensures { let more = called_in nodes.now (parts_of (map part_seen parts.now)) in
         OnOk result (found.new.items ≡ found.old.items ++ more) }
 {
     for part in parts {
@@ -142,9 +128,8 @@ pub fn node_uses(alloc: Global, named: &Named) -> Result<Vec<Vec<u32>>, Memory>
 }
 
 /// The nodes that a node calls.
-fn node_calls(alloc: Global, nodes: &IndexSet<String>, node: &Node) -> Result<Vec<u32>, Memory>
-    requires few { length nodes.now.keys ≤ most_declarations }
-    ensures { IfOk result (λ found. found.items ≡ calls_of (map string_bytes nodes.now.keys) (node_seen node.now)) }
+fn node_calls(alloc: Global, nodes: &Places, node: &Node) -> Result<Vec<u32>, Memory>
+    ensures { IfOk result (λ found. found.items ≡ calls_of nodes.now (node_seen node.now)) }
 {
     let mut found = Vec::new(alloc);
     for equation in &node.equations {

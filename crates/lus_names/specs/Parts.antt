@@ -7,10 +7,6 @@ use Rattle.lus_syntax.specs.Trees.{Equation, Group, Node, Tree}
 use Rattle.lus_meaning.specs.Tables.{text_of, groups}
 use Rattle.lus_meaning.specs.Named.{DefinitionNamed, Distinct, Known, NodeNamed, constant_known, defined_names, has_left, is_in, known, knows, left_names, names_in, test_known, type_known}
 
--- no names
-abbrev pub nothing : Known
-nothing = record { variables = []; constants = []; constructors = []; types = []; nodes = [] }
-
 -- what stands for something in a node's text
 abbrev pub in_node : Known → Node → Known
 in_node k f = record k { variables = names_in (groups f) }
@@ -43,8 +39,8 @@ pub record AreDistinct (p : Tree) : Type 0 where
   pub values : Distinct ((known p []).constants ++ (known p []).constructors)
   pub nodes : Distinct (known p []).nodes
 
--- what each declaration uses is declared
-pub record UsesKnown (p : Tree) : Type 0 where
-  pub definitions : Each (λ d. DefinitionNamed (known p []).types d.definition) p.types
-  pub constants : IsTrue (list_all (constant_known (known p [])) p.constants)
-  pub nodes : Each (λ f. NodeNamed (in_node (known p []) f) f) p.nodes
+-- what each declaration uses is among these names
+pub record UsesKnown (k : Known) (p : Tree) : Type 0 where
+  pub definitions : Each (λ d. DefinitionNamed k.types d.definition) p.types
+  pub constants : IsTrue (list_all (constant_known k) p.constants)
+  pub nodes : Each (λ f. NodeNamed (in_node k f) f) p.nodes

@@ -1,51 +1,60 @@
 //! What a source declares: the tables of its types, values and nodes.
 
-ghost use Rattle.std.specs.Prelude.{◌≡◌, ◌++◌, [], map, not, is_none, OnOk, IfErr, true, false};
+ghost use Rattle.std.specs.Prelude.{◌≡◌, ◌++◌, [], map, not, is_none, IfOk, OnOk, IfErr, true, false};
 ghost use Rattle.std.specs.List.{list_all};
 ghost use Rattle.lus_syntax.specs.View.{constant_seen, definition_seen, names_seen, node_seen, tree_seen, type_seen};
 ghost use Rattle.lus_meaning.specs.Tables.{text_of};
 ghost use Rattle.lus_meaning.specs.Named.{Distinct, all_constructor_names, all_new, constructor_names, is_in, known};
 ghost use Rattle.lus_meaning.specs.ScopeView.{Faulty};
 ghost use Rattle.lus_names.specs.NameView.{known_seen, texts};
-ghost use Rattle.lus_names.specs.Parts.{AreDistinct, nothing};
+ghost use Rattle.lus_names.specs.Parts.{AreDistinct};
 
 use crate::names::{Names, declare, has};
 use crate::refusing::refuse;
 use indexmap::IndexSet;
 use lus_meaning::Fault;
 use lus_syntax::{Constant, Definition, Name, Node, Place, Tree, TypeDeclaration};
+use std::alloc::Global;
 use std::slice;
 
-/// Declares the types, the values and the nodes of a source; a fault at a name that stands twice in its space.
-pub fn declare_all(names: &mut Names, tree: &Tree) -> Result<(), Fault>
-    requires empty { known_seen names.old ≡ nothing }
-    ensures tables { OnOk result (known_seen names.new ≡ known (tree_seen tree.now) []) }
+/// The names of a source's types, values and nodes; a fault at a name that stands twice in its space.
+pub fn declared(alloc: Global, tree: &Tree) -> Result<Names, Fault>
+    ensures tables { IfOk result (λ names. known_seen names ≡ known (tree_seen tree.now) []) }
     ensures distinct { OnOk result (AreDistinct (tree_seen tree.now)) }
     ensures doubled { IfErr result (Faulty (AreDistinct (tree_seen tree.now) → ⊥)) }
 {
-    declare_types(&mut names.types, &tree.types)?;
-    declare_values(&mut names.constants, &mut names.constructors, tree)?;
-    declare_nodes(&mut names.nodes, &tree.nodes)
+    let mut types = IndexSet::new(alloc);
+    declare_types(&mut types, &tree.types)?;
+    let (constants, constructors) = declared_values(alloc, tree)?;
+    let mut nodes = IndexSet::new(alloc);
+    declare_nodes(&mut nodes, &tree.nodes)?;
+    Ok(Names {
+        variables: IndexSet::new(alloc),
+        constants,
+        constructors,
+        types,
+        nodes,
+    })
 }
 
-/// Declares constants and constructors, which are one space.
-fn declare_values(
-    constants: &mut IndexSet<String>,
-    constructors: &mut IndexSet<String>,
+/// Constants and constructors, which are one space.
+fn declared_values(
+    alloc: Global,
     tree: &Tree,
-) -> Result<(), Fault>
-    requires no_constants { texts constants.old.keys ≡ [] }
-    requires no_constructors { texts constructors.old.keys ≡ [] }
-    ensures constants { OnOk result (texts constants.new.keys ≡ (known (tree_seen tree.now) []).constants) }
-    ensures constructors { OnOk result (texts constructors.new.keys ≡ (known (tree_seen tree.now) []).constructors) }
+) -> Result<(IndexSet<String>, IndexSet<String>), Fault>
+    ensures constants { IfOk result (λ x. texts x.0.keys ≡ (known (tree_seen tree.now) []).constants) }
+    ensures constructors { IfOk result (λ x. texts x.1.keys ≡ (known (tree_seen tree.now) []).constructors) }
     ensures distinct { let names = known (tree_seen tree.now) [] in
         OnOk result (Distinct (names.constants ++ names.constructors)) }
     ensures doubled { let names = known (tree_seen tree.now) [] in
         IfErr result (Faulty (Distinct (names.constants ++ names.constructors) → ⊥)) }
 {
-    declare_constants(constants, &tree.constants)?;
-    declare_constructors(constructors, &tree.types)?;
-    refuse(doubled_value(constants, tree))
+    let mut constants = IndexSet::new(alloc);
+    declare_constants(&mut constants, &tree.constants)?;
+    let mut constructors = IndexSet::new(alloc);
+    declare_constructors(&mut constructors, &tree.types)?;
+    refuse(doubled_value(&constants, tree))?;
+    Ok((constants, constructors))
 }
 
 fn declare_types(table: &mut IndexSet<String>, types: &[TypeDeclaration]) -> Result<(), Fault>

@@ -17,10 +17,11 @@ use lus_syntax::{Equation, Group, Name, Node, Place};
 use std::alloc::Global;
 
 /// Checks that equations define each output and each local of a node once, and nothing else, each at least one of them.
+/// Variables that stand twice are a fault too.
 pub fn check_lefts(alloc: Global, node: &Node) -> Result<(), Fault>
-    requires distinct { Distinct (names_in (groups (node_seen node.now))) }
     ensures named { OnOk result (LeftsNamed (node_seen node.now)) }
-    ensures refused { IfErr result (Faulty (LeftsNamed (node_seen node.now) → ⊥)) }
+    ensures refused { let f = node_seen node.now in
+        IfErr result (Faulty (Distinct (names_in (groups f)) → LeftsNamed f → ⊥)) }
 {
     refuse(without_left(node))?;
     let defined = defined_table(alloc, node)?;
@@ -30,11 +31,10 @@ pub fn check_lefts(alloc: Global, node: &Node) -> Result<(), Fault>
     refuse(without_equation(&left, node))
 }
 
-/// The outputs and the locals of a node whose variables are distinct.
+/// The outputs and the locals of a node, where its variables are distinct.
 fn defined_table(alloc: Global, node: &Node) -> Result<IndexSet<String>, Fault>
-    requires distinct { Distinct (names_in (groups (node_seen node.now))) }
     ensures names { IfOk result (λ table. texts table.keys ≡ defined_names (node_seen node.now)) }
-    ensures memory { IfErr result (Faulty ⊥) }
+    ensures doubled { IfErr result (Faulty (Distinct (names_in (groups (node_seen node.now))) → ⊥)) }
 {
     let mut table = IndexSet::new(alloc);
     declare_groups(&mut table, &node.outputs)?;

@@ -10,5 +10,4 @@ mod names;
 mod nodes;
 mod refusing;
 
-pub use checking::check_names;
-pub use named::Named;
+pub use named::{Named, Places, check_names};

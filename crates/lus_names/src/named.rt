@@ -1,26 +1,57 @@
 //! Sources whose names are right.
 
-ghost use Rattle.std.specs.Prelude.{◌≡◌, ◌≤◌, length, map, string_bytes};
-ghost use Rattle.lus_syntax.specs.Limits.{most_declarations};
+ghost use Rattle.std.specs.Prelude.{◌≡◌, IfErr, IfOk, OnOk};
 ghost use Rattle.lus_syntax.specs.View.{tree_seen};
-ghost use Rattle.lus_meaning.specs.Loopless.{node_names, type_names};
+ghost use Rattle.lus_meaning.specs.Loopless.{node_names, place_in, type_names};
 ghost use Rattle.lus_meaning.specs.Named.{Named as IsNamed};
+ghost use Rattle.lus_meaning.specs.ScopeView.{Faulty};
 ghost use Rattle.lus_meaning.specs.Sized.{Counted as IsCounted};
-ghost use Rattle.lus_names.specs.NameView.{known_seen};
-ghost use Rattle.lus_names.specs.Sources.{HasNames};
 
-use crate::names::Names;
+use crate::checking::names_of;
 use indexmap::IndexSet;
-use lus_meaning::Counted;
+use lus_meaning::{Counted, Fault};
 use lus_syntax::Tree;
+use std::alloc::Global;
 use std::marker::Model;
 
-/// A counted source whose names are declared once, and used as what they are declared, with the names of its declarations.
-/// Contracts see it as its tree.
+/// Names by their places, no more than a source may declare. Contracts see them as the names in their order.
+#[derive(Drop)]
+pub struct Places {
+    names: IndexSet<String>,
+}
+
+impl Model for Places {
+    ghost use Rattle.std.specs.Prelude.{List, ◌≤◌, length};
+    ghost use Rattle.lus_syntax.specs.Lexemes.{Text};
+    ghost use Rattle.lus_syntax.specs.Limits.{most_declarations};
+    ghost use Rattle.lus_names.specs.NameView.{texts};
+
+    ghost Value = { List Text };
+
+    ghost view = { λ p. texts p.names.keys };
+
+    ghost invariant = { λ p. length p.names.keys ≤ most_declarations };
+}
+
+impl Places {
+    /// The place of a name, if it is among them.
+    pub fn place(&self, name: &str) -> Option<u32>
+        ensures { result ≡ place_in self.now name.now }
+    {
+        match self.names.get_index_of(name) {
+            Some(place) => Some(place as u32),
+            None => None,
+        }
+    }
+}
+
+/// A counted source whose names are declared once, and used as what they are declared, with the places of its types and
+/// nodes. Contracts see it as its tree.
 #[derive(Drop)]
 pub struct Named {
     counted: Counted,
-    names: Names,
+    types: Places,
+    nodes: Places,
 }
 
 impl Model for Named {
@@ -28,7 +59,6 @@ impl Model for Named {
     ghost use Rattle.lus_syntax.specs.contracts.tree.Expr as source_expr;
     ghost use Rattle.lus_syntax.specs.declared.tree.Tree.{Tree as StoredTree};
     ghost use Rattle.lus_syntax.specs.View.{tree_seen};
-    ghost use Rattle.lus_names.specs.NameView.{known_seen};
     ghost use Rattle.lus_names.specs.Sources.{HasNames};
 
     ghost Value = { StoredTree };
@@ -37,18 +67,10 @@ impl Model for Named {
 
     ghost view = { λ n. n.counted };
 
-    ghost invariant = { λ n. HasNames (tree_seen n.counted) (known_seen n.names) };
+    ghost invariant = { λ n. HasNames (tree_seen n.counted) n.types n.nodes };
 }
 
 impl Named {
-    /// A counted source, whose names are right, with those of its declarations.
-    pub fn new(counted: Counted, names: Names) -> Named
-        requires { HasNames (tree_seen counted) (known_seen names) }
-        ensures { result ≡ counted }
-    {
-        Named { counted, names }
-    }
-
     /// The source.
     pub fn tree(&self) -> &Tree
         ensures same { result.now ≡ self.now }
@@ -58,19 +80,35 @@ impl Named {
         self.counted.tree()
     }
 
-    /// The names of its types, in the order of their declarations.
-    pub fn types(&self) -> &IndexSet<String>
-        ensures names { map string_bytes result.now.keys ≡ type_names (tree_seen self.now) }
-        ensures few { length result.now.keys ≤ most_declarations }
+    /// The places of its types.
+    pub fn types(&self) -> &Places
+        ensures { result.now ≡ type_names (tree_seen self.now) }
     {
-        &self.names.types
+        &self.types
     }
 
-    /// The names of its nodes, in the order of their declarations.
-    pub fn nodes(&self) -> &IndexSet<String>
-        ensures names { map string_bytes result.now.keys ≡ node_names (tree_seen self.now) }
-        ensures few { length result.now.keys ≤ most_declarations }
+    /// The places of its nodes.
+    pub fn nodes(&self) -> &Places
+        ensures { result.now ≡ node_names (tree_seen self.now) }
     {
-        &self.names.nodes
+        &self.nodes
     }
+}
+
+/// Checks the names of a source. A fault stands at the name: a doubled one where it is declared again, an unknown one where it
+/// is used, an output or a local without an equation where it is declared, an equation with nothing on its left at its node's
+/// name.
+pub fn check_names(alloc: Global, counted: Counted) -> Result<Named, Fault>
+    ensures same { IfOk result (λ named. named ≡ counted) }
+    ensures named { OnOk result (IsNamed (tree_seen counted)) }
+    ensures refused { IfErr result (Faulty (IsNamed (tree_seen counted) → ⊥)) }
+{
+    let names = names_of(alloc, counted.tree())?;
+    let types = Places { names: names.types };
+    let nodes = Places { names: names.nodes };
+    Ok(Named {
+        counted,
+        types,
+        nodes,
+    })
 }

@@ -11,7 +11,6 @@ ghost use Rattle.lus_meaning.specs.ScopeView.{Faulty};
 use indexmap::IndexSet;
 use lus_meaning::Fault;
 use lus_syntax::{Expr, Label, Lead, Name, Part, Place, Test};
-use std::alloc::Global;
 
 /// The names of each space, in the order of their declarations.
 #[derive(Drop)]
@@ -50,20 +49,6 @@ impl Names {
     ghost use Rattle.lus_syntax.specs.View.{name_seen, lead_seen, label_seen, test_seen};
     ghost use Rattle.lus_meaning.specs.Named.{is_in, knows_lead, knows_label, knows_test, knows_name as name_known};
     ghost use Rattle.lus_names.specs.NameView.{known_seen};
-    ghost use Rattle.lus_names.specs.Parts.{nothing};
-
-    /// No names yet.
-    pub fn new(alloc: Global) -> Self
-        ensures { known_seen result ≡ nothing }
-    {
-        Names {
-            variables: IndexSet::new(alloc),
-            constants: IndexSet::new(alloc),
-            constructors: IndexSet::new(alloc),
-            types: IndexSet::new(alloc),
-            nodes: IndexSet::new(alloc),
-        }
-    }
 
     fn knows_name(&self, name: &str) -> bool
         ensures { result ≡ name_known (known_seen self.now) name.now }

@@ -1,9 +1,9 @@
-use Rattle.std.proofs.Common.{rules, ◌≡◌, ◌∙◌, sym, ap, ◌<◌, length, get_or, length-set, map}
-use Rattle.std.specs.Prelude.{string_bytes}
+use Rattle.std.proofs.Common.{arith, rules, ◌≡◌, ◌≤◌, ◌∙◌, sym, ap, ◌<◌, length, get_or, length-set}
+use Rattle.std.proofs.lemmas.List.{length-map}
 use Rattle.lus_syntax.specs.declared.tree.TypeDeclaration.{TypeDeclaration}
-use Rattle.lus_syntax.specs.View.{definition_seen, tree_seen}
+use Rattle.lus_syntax.specs.View.{definition_seen, tree_seen, type_seen}
 use Rattle.lus_meaning.specs.Tables.{definition_at}
-use Rattle.lus_limits.proofs.TypeTables.{type_fits, kind_more, kinds_whole, definition_here, names_few}
+use Rattle.lus_limits.proofs.TypeTables.{type_fits, kind_more, kinds_whole, definition_here}
 use Rattle.lus_limits.proofs.declared_kinds.kinds_of_types.Goals as goal
 
 pub index-requires : goal.index-requires
@@ -11,11 +11,13 @@ index-requires c =
     let fits : get_or c.types-order.result.now c.loop-place.place-index 0 < length c.args.loopless.now.types.items = type_fits c.args.loopless.now c.types-order.result.now c.types-order.ensures c.loop-place.place-index c.loop-place-test.true in
     search rules
 
-pub kind_of-requires : goal.kind_of-requires
-kind_of-requires c =
-    let fits : get_or c.types-order.result.now c.loop-place.place-index 0 < length c.args.loopless.now.types.items = type_fits c.args.loopless.now c.types-order.result.now c.types-order.ensures c.loop-place.place-index c.loop-place-test.true in
-    let few : get_or c.types-order.result.now c.loop-place.place-index 0 < 1000 = names_few c.args.loopless.now c.type_names-types.result.now.keys _ c.type_names-types.ensures.few c.type_names-types.ensures.names fits in
-    search rules
+pub overflow_cast-place : goal.overflow_cast-place
+overflow_cast-place c =
+    let t = c.args.loopless.now in
+    let fits : get_or c.types-order.result.now c.loop-place.place-index 0 < length t.types.items = type_fits t c.types-order.result.now c.types-order.ensures c.loop-place.place-index c.loop-place-test.true in
+    let few : length (tree_seen t).types ≤ 1000 = rw (← c.tree-tree.ensures.same) c.tree-tree.ensures.counted.types in
+    let small : get_or c.types-order.result.now c.loop-place.place-index 0 < 1000 = omega (arith, fits, few, length-map t.types.items type_seen) in
+    omega (arith, small)
 
 pub index_mut-requires : goal.index_mut-requires
 index_mut-requires c =
@@ -34,7 +36,7 @@ loop-place-preserved c =
     let is = rw c.deref.ensures.value at c.kind_of.ensures in
     record {
       size = length-set c.loop-place.kinds.items x c.kind_of.result ∙ c.loop-place.invariant.size;
-      filled = kind_more t c.types-order.result.now c.types-order.ensures i (map string_bytes c.type_names-types.result.now.keys) c.loop-place.kinds.items c.kind_of.result c.index.result.now.definition c.loop-place-test.true c.type_names-types.ensures.names c.loop-place.invariant.size here is c.loop-place.invariant.filled;
+      filled = kind_more t c.types-order.result.now c.types-order.ensures i c.type_names-types.result.now c.loop-place.kinds.items c.kind_of.result c.index.result.now.definition c.loop-place-test.true c.type_names-types.ensures c.loop-place.invariant.size here is c.loop-place.invariant.filled;
     }
 
 pub returns : goal.returns

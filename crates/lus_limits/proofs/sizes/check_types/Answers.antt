@@ -1,5 +1,4 @@
 use Rattle.std.proofs.Common.{rules, ◌≡◌, ◌∙◌, sym, ap, refl, ◌<◌, ◌≤◌, length, get_or, length-set, map}
-use Rattle.std.specs.Prelude.{string_bytes}
 use Rattle.std.proofs.lemmas.List.Elements.{All-set}
 use Rattle.lus_syntax.specs.declared.tree.TypeDeclaration.{TypeDeclaration}
 use Rattle.lus_syntax.specs.View.{definition_seen, tree_seen}
@@ -33,7 +32,7 @@ loop-place-preserved c =
     let i = c.loop-place.place-index in
     let lt = c.loop-place-test.true in
     let x = get_or c.types-order.result.now i 0 in
-    let names = map string_bytes c.type_names-types.result.now.keys in
+    let names = c.type_names-types.result.now in
     let leaves = c.loop-place.leaves.items in
     let nesting = c.loop-place.nesting.items in
     let count = c.in-Some.count in
@@ -48,10 +47,10 @@ loop-place-preserved c =
     record {
       leaves_size = length-set leaves x count ∙ is.leaves_size;
       leaves_small = All-set (λ n. n ≤ 1024) leaves x count counted.1 is.leaves_small;
-      leaves_filled = leaves_more t c.types-order.result.now o i names leaves count d lt c.type_names-types.ensures.names here is.leaves_size is.leaves_filled counted.0;
+      leaves_filled = leaves_more t c.types-order.result.now o i names leaves count d lt c.type_names-types.ensures here is.leaves_size is.leaves_filled counted.0;
       nesting_size = length-set nesting x depth ∙ is.nesting_size;
       nesting_small = All-set (λ n. n ≤ 64) nesting x depth deep.1 is.nesting_small;
-      nesting_filled = nesting_more t c.types-order.result.now o i names nesting depth d lt c.type_names-types.ensures.names here is.nesting_size is.nesting_filled deep.0;
+      nesting_filled = nesting_more t c.types-order.result.now o i names nesting depth d lt c.type_names-types.ensures here is.nesting_size is.nesting_filled deep.0;
     }
 
 pub returns-in_default-clause-err : goal.returns-in_default-clause-err
@@ -59,26 +58,26 @@ returns-in_default-clause-err c bounded =
     let t = c.args.loopless.now in
     let i = c.loop-place.place-index in
     let x = get_or c.types-order.result.now i 0 in
-    let names = map string_bytes c.type_names-types.result.now.keys in
+    let names = c.type_names-types.result.now in
     let d = c.index-declaration.result.now.definition in
     let fits : x < length t.types.items = type_fits t c.types-order.result.now c.types-order.ensures i c.loop-place-test.true in
     let here : definition_at (tree_seen t) x ≡ definition_seen d =
     definition_here t x c.index-declaration.result.now fits ∙ ap (λ (d : TypeDeclaration). definition_seen d.definition) (sym (rw c.tree-tree.ensures.same at c.index-declaration.ensures)) in
     let past = rw c.deref.ensures.value at c.in_default.ensures in
-    leaves_past t c.types-order.result.now c.types-order.ensures i names c.loop-place.leaves.items (definition_leaves names (item 1 c.loop-place.leaves.items) (definition_seen d)) d c.loop-place-test.true c.type_names-types.ensures.names here c.loop-place.invariant.leaves_filled refl past bounded.leaves
+    leaves_past t c.types-order.result.now c.types-order.ensures i names c.loop-place.leaves.items (definition_leaves names (item 1 c.loop-place.leaves.items) (definition_seen d)) d c.loop-place-test.true c.type_names-types.ensures here c.loop-place.invariant.leaves_filled refl past bounded.leaves
 
 pub returns-in_default-nesting_of-clause-err : goal.returns-in_default-nesting_of-clause-err
 returns-in_default-nesting_of-clause-err c bounded =
     let t = c.args.loopless.now in
     let i = c.loop-place.place-index in
     let x = get_or c.types-order.result.now i 0 in
-    let names = map string_bytes c.type_names-types.result.now.keys in
+    let names = c.type_names-types.result.now in
     let d = c.index-declaration.result.now.definition in
     let fits : x < length t.types.items = type_fits t c.types-order.result.now c.types-order.ensures i c.loop-place-test.true in
     let here : definition_at (tree_seen t) x ≡ definition_seen d =
     definition_here t x c.index-declaration.result.now fits ∙ ap (λ (d : TypeDeclaration). definition_seen d.definition) (sym (rw c.tree-tree.ensures.same at c.index-declaration.ensures)) in
     let past = rw c.deref-in-loop-place.ensures.value at c.in_default-nesting_of.ensures in
-    nesting_past t c.types-order.result.now c.types-order.ensures i names c.loop-place.nesting.items (definition_nesting names (item 0 c.loop-place.nesting.items) (definition_seen d)) d c.loop-place-test.true c.type_names-types.ensures.names here c.loop-place.invariant.nesting_filled refl past bounded.nesting
+    nesting_past t c.types-order.result.now c.types-order.ensures i names c.loop-place.nesting.items (definition_nesting names (item 0 c.loop-place.nesting.items) (definition_seen d)) d c.loop-place-test.true c.type_names-types.ensures here c.loop-place.invariant.nesting_filled refl past bounded.nesting
 
 pub returns-clause-ok : goal.returns-clause-ok
 returns-clause-ok c =

@@ -1,5 +1,4 @@
 use Rattle.std.proofs.Common.{◌≡◌, ◌++◌, drop, map}
-use Rattle.std.specs.Prelude.{string_bytes}
 use Rattle.lus_syntax.specs.Trees.{parts_of}
 use Rattle.lus_syntax.specs.View.{part_seen}
 use Rattle.lus_meaning.specs.Loopless.{called_in}
@@ -7,4 +6,4 @@ use Rattle.lus_limits.proofs.uses.+calls.Given as goal
 
 abbrev pub invariant-push_called_in-loop-part : goal.invariant-push_called_in-loop-part
 invariant-push_called_in-loop-part l =
-    l.found.items ++ called_in (map string_bytes l.nodes.keys) (parts_of (map part_seen (drop l.part-index l.parts))) ≡ l.initial.found.items ++ called_in (map string_bytes l.nodes.keys) (parts_of (map part_seen l.parts))
+    l.found.items ++ called_in l.nodes (parts_of (map part_seen (drop l.part-index l.parts))) ≡ l.initial.found.items ++ called_in l.nodes (parts_of (map part_seen l.parts))

@@ -1,5 +1,4 @@
 use Rattle.std.proofs.Common.{◌≡◌, ◌∙◌, ap, sym, map}
-use Rattle.std.specs.Prelude.{string_bytes}
 use Rattle.std.proofs.lemmas.List.{take_all}
 use Rattle.std.proofs.lemmas.Simd.{map-map}
 use Rattle.lus_graph.specs.Walks.{uses_of}
@@ -9,6 +8,6 @@ use Rattle.lus_limits.proofs.uses.node_uses.Goals as goal
 
 pub returns : goal.returns
 returns c =
-    let all : uses_of c.loop-node.uses.items ≡ map (λ f. calls_of (map string_bytes c.nodes-nodes.result.now.keys) (node_seen f)) c.tree-tree.result.now.nodes.items =
-    c.loop-node.invariant ∙ ap (map (λ f. calls_of (map string_bytes c.nodes-nodes.result.now.keys) (node_seen f))) (take_all c.loop-node.node-index c.deref-node-items.result.now c.loop-node-test.false ∙ c.deref-node-items.ensures.value) in
-    all ∙ rw (← c.nodes-nodes.ensures.names, ← c.tree-tree.ensures.same) (sym (map-map (calls_of (map string_bytes c.nodes-nodes.result.now.keys)) node_seen c.tree-tree.result.now.nodes.items))
+    let all : uses_of c.loop-node.uses.items ≡ map (λ f. calls_of c.nodes-nodes.result.now (node_seen f)) c.tree-tree.result.now.nodes.items =
+    c.loop-node.invariant ∙ ap (map (λ f. calls_of c.nodes-nodes.result.now (node_seen f))) (take_all c.loop-node.node-index c.deref-node-items.result.now c.loop-node-test.false ∙ c.deref-node-items.ensures.value) in
+    all ∙ rw (← c.nodes-nodes.ensures, ← c.tree-tree.ensures.same) (sym (map-map (calls_of c.nodes-nodes.result.now) node_seen c.tree-tree.result.now.nodes.items))

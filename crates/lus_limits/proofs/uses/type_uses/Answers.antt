@@ -1,5 +1,4 @@
 use Rattle.std.proofs.Common.{◌≡◌, ◌∙◌, ap, sym, map}
-use Rattle.std.specs.Prelude.{string_bytes}
 use Rattle.std.proofs.lemmas.List.{take_all}
 use Rattle.std.proofs.lemmas.Simd.{map-map}
 use Rattle.lus_graph.specs.Walks.{uses_of}
@@ -9,6 +8,6 @@ use Rattle.lus_limits.proofs.uses.type_uses.Goals as goal
 
 pub returns : goal.returns
 returns c =
-    let all : uses_of c.loop-declaration.uses.items ≡ map (λ d. definition_uses (map string_bytes c.types-types.result.now.keys) (definition_seen d.definition)) c.tree-tree.result.now.types.items =
-    c.loop-declaration.invariant ∙ ap (map (λ d. definition_uses (map string_bytes c.types-types.result.now.keys) (definition_seen d.definition))) (take_all c.loop-declaration.declaration-index c.deref-declaration-items.result.now c.loop-declaration-test.false ∙ c.deref-declaration-items.ensures.value) in
-    all ∙ rw (← c.types-types.ensures.names, ← c.tree-tree.ensures.same) (sym (map-map (λ d. definition_uses (map string_bytes c.types-types.result.now.keys) d.definition) type_seen c.tree-tree.result.now.types.items))
+    let all : uses_of c.loop-declaration.uses.items ≡ map (λ d. definition_uses c.types-types.result.now (definition_seen d.definition)) c.tree-tree.result.now.types.items =
+    c.loop-declaration.invariant ∙ ap (map (λ d. definition_uses c.types-types.result.now (definition_seen d.definition))) (take_all c.loop-declaration.declaration-index c.deref-declaration-items.result.now c.loop-declaration-test.false ∙ c.deref-declaration-items.ensures.value) in
+    all ∙ rw (← c.types-types.ensures, ← c.tree-tree.ensures.same) (sym (map-map (λ d. definition_uses c.types-types.result.now d.definition) type_seen c.tree-tree.result.now.types.items))

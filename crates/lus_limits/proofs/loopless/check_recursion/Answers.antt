@@ -1,10 +1,10 @@
 use Rattle.lus_graph.proofs.NoWayBack.{order_has_none}
 use Rattle.lus_syntax.specs.View.{tree_seen}
 use Rattle.lus_meaning.specs.Loopless.{Loopless, node_uses, type_uses}
-use Rattle.lus_limits.proofs.recursion.check_recursion.Goals as goal
+use Rattle.lus_limits.proofs.loopless.check_recursion.Goals as goal
 
-pub new-requires : goal.new-requires
-new-requires c =
+pub invariant_of-result : goal.invariant_of-result
+invariant_of-result c =
     let p = tree_seen c.args.named in
     record {
       loopless = record {
