@@ -50,5 +50,5 @@ kind_of-structure s n fs ks k = ap (option_and_then (λ ks. option_and_then (λ 
 pub kind_of-merge : (s : Scope) (p : Span) (n : Named) (bs : Parts) (ks : List Kind) → kinds_of s bs ≡ Some ks → kind_of s (Merge p n bs) ≡ option_and_then (λ k. merge_kind s k bs ks) (variable_kind s n.text)
 kind_of-merge s p n bs ks k = ap (option_and_then (λ ks. option_and_then (λ k. merge_kind s k bs ks) (variable_kind s n.text))) k
 
-pub kind_of-variadic : (s : Scope) (op : ListOperator) (p : Span) (es : Parts) (ks : List Kind) → kinds_of s es ≡ Some ks → kind_of s (Variadic op p es) ≡ variadic_kind es ks
-kind_of-variadic s op p es ks k = ap (option_and_then (variadic_kind es)) k
+pub kind_of-variadic : (s : Scope) (op : ListOperator) (p : Span) (es : Parts) (ks : List Kind) → kinds_of s es ≡ Some ks → kind_of s (Variadic op p es) ≡ variadic_kind op es ks
+kind_of-variadic s op p es ks k = ap (option_and_then (variadic_kind op es)) k

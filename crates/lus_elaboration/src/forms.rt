@@ -3,10 +3,10 @@
 ghost use Rattle.std.specs.Prelude.{◌≡◌, Some, None, IfOk, IfErr};
 ghost use Rattle.lus_syntax.specs.View.{name_seen, test_seen, label_seen};
 ghost use Rattle.lus_program.specs.Programs.{operate};
-ghost use Rattle.lus_program.specs.View.{expression_in, expression_of};
+ghost use Rattle.lus_program.specs.View.{expression_in, expression_of, operands_of};
 ghost use Rattle.lus_typing.specs.Kinds.{choice_kind as kind_of_choice};
 ghost use Rattle.lus_meaning.specs.Types.{name_kind, prefix_kind as kind_of_prefix, infix_kind as kind_of_infix, field_kind, test_placed as placed_test, truth_place as place_of_truth, label_place as place_of_label, asked_place as place_asked, test_variable as variable_of_test};
-ghost use Rattle.lus_meaning.specs.Meaning.{name_meant, prefix_meant, infix_meant, compute as computed, one, field_meant};
+ghost use Rattle.lus_meaning.specs.Meaning.{name_meant, prefix_meant, infix_meant, one, field_meant};
 ghost use Rattle.lus_meaning.specs.ScopeView.{scope_of, Faulty};
 ghost use Rattle.lus_elaboration.specs.Wholes.{choice_meant, meaning, sampled_kind, sampled_meant};
 
@@ -48,6 +48,18 @@ pub fn boxed(alloc: Global, place: Place, form: Form) -> Result<Box<Expr>, Alloc
     ensures { IfOk result (λ x. expression_of x.value ≡ expression_in form) }
 {
     Ok(Box::new(alloc, Expr { place, form })?)
+}
+
+/// An operator on these operands, with its first token at this place.
+pub fn operated(
+    alloc: Global,
+    place: Place,
+    operator: Operator,
+    operands: Vec<Expr>,
+) -> Result<Box<Expr>, AllocError>
+    ensures { IfOk result (λ x. expression_of x.value ≡ operate operator (operands_of operands.items)) }
+{
+    boxed(alloc, place, Form::Operate(operator, operands))
 }
 
 /// A name: a variable hides a constant or a constructor.
@@ -142,21 +154,10 @@ fn joined(
             boxed(alloc, place, Form::Arrow(left, kept))
         }
         Infix::Arrow => boxed(alloc, place, Form::Arrow(left, right)),
-        Infix::Implies => compute(alloc, place, Op::Implies, left, right),
-        Infix::Or => compute(alloc, place, Op::Or, left, right),
-        Infix::Xor => compute(alloc, place, Op::Xor, left, right),
-        Infix::And => compute(alloc, place, Op::And, left, right),
-        Infix::Equal => compute(alloc, place, Op::Equal, left, right),
-        Infix::NotEqual => compute(alloc, place, Op::NotEqual, left, right),
-        Infix::Less => compute(alloc, place, Op::Less, left, right),
-        Infix::AtMost => compute(alloc, place, Op::AtMost, left, right),
-        Infix::Greater => compute(alloc, place, Op::Greater, left, right),
-        Infix::AtLeast => compute(alloc, place, Op::AtLeast, left, right),
-        Infix::Add => compute(alloc, place, Op::Add, left, right),
-        Infix::Subtract => compute(alloc, place, Op::Subtract, left, right),
-        Infix::Multiply => compute(alloc, place, Op::Multiply, left, right),
-        Infix::Divide => compute(alloc, place, Op::Divide, left, right),
-        Infix::Remainder => compute(alloc, place, Op::Remainder, left, right),
+        Infix::Compute(op) => {
+            let operands = vec![in alloc; Box::into_inner(left), Box::into_inner(right)]?;
+            operated(alloc, place, Operator::Compute(op), operands)
+        }
     }
 }
 
@@ -169,20 +170,7 @@ fn operate_one(
     ensures { IfOk result (λ x. expression_of x.value ≡ operate operator (one (expression_of operand.value))) }
 {
     let operands = vec![in alloc; Box::into_inner(operand)]?;
-    boxed(alloc, place, Form::Operate(operator, operands))
-}
-
-fn compute(
-    alloc: Global,
-    place: Place,
-    op: Op,
-    left: Box<Expr>,
-    right: Box<Expr>,
-) -> Result<Box<Expr>, AllocError>
-    ensures { IfOk result (λ x. expression_of x.value ≡ computed op (expression_of left.value) (expression_of right.value)) }
-{
-    let operands = vec![in alloc; Box::into_inner(left), Box::into_inner(right)]?;
-    boxed(alloc, place, Form::Operate(Operator::Compute(op), operands))
+    operated(alloc, place, operator, operands)
 }
 
 /// `if`
@@ -205,10 +193,8 @@ pub fn choice(
         Box::into_inner(left.expr),
         Box::into_inner(right.expr),
     ]?;
-    Ok(Elaborated {
-        expr: boxed(alloc, place, Form::Operate(Operator::If, operands))?,
-        kind,
-    })
+    let expr = operated(alloc, place, Operator::If, operands)?;
+    Ok(Elaborated { expr, kind })
 }
 
 /// A field of a structure.

@@ -2,13 +2,15 @@
 
 ghost use Rattle.std.specs.Prelude.{◌≡◌};
 ghost use Rattle.std.specs.List.{list_all};
-ghost use Rattle.lus_typing.specs.Kinds.{same as same_kind, all_same as all_same_kinds, alike as alike_kind, both as kind_of_both, compared as kind_of_comparison, choice_kind as kind_of_choice, bools_kind as kind_of_bools, the_one as one_kind, common_kind as kind_of_all, value_kind as kind_of_value};
+ghost use Rattle.lus_typing.specs.Kinds.{same as same_kind, all_same as all_same_kinds, alike as alike_kind, choice_kind as kind_of_choice, the_one as one_kind, common_kind as kind_of_all, value_kind as kind_of_value};
+ghost use Rattle.lus_typing.specs.Resolved.{op_kind as kind_of_op, takes as shape_takes};
 ghost use Rattle.lus_meaning.specs.Types.{prefix_kind as kind_of_prefix, infix_kind as kind_of_infix};
 ghost use Rattle.lus_values.specs.View.{value_of};
 
 use lus_program::Kind;
 use lus_syntax::{Infix, Prefix};
-use lus_values::Value;
+use lus_typing::operation_kind;
+use lus_values::{Op, Shape, Value};
 
 pub fn same(left: Kind, right: Kind) -> bool
     ensures { result ≡ same_kind left right }
@@ -44,34 +46,39 @@ pub fn alike(left: Kind, right: Kind) -> Option<Kind>
     if same(left, right) { Some(left) } else { None }
 }
 
+/// Whether an operator of this shape takes operands of these types.
+fn takes(shape: Shape, operands: &[Kind]) -> bool
+    ensures { result ≡ shape_takes shape operands.now }
+{
+    match shape {
+        Shape::Int => all_same(&[Kind::Int], operands),
+        Shape::Ints | Shape::Comparison => all_same(&[Kind::Int, Kind::Int], operands),
+        Shape::Bool => all_same(&[Kind::Bool], operands),
+        Shape::Bools => all_same(&[Kind::Bool, Kind::Bool], operands),
+        Shape::Alike => matches!(operands, [left, right] if same(*left, *right)),
+        Shape::Count => !operands.is_empty() && all_are(Kind::Bool, operands),
+    }
+}
+
+/// What an operation gives for operands of these types, where it takes them.
+pub fn op_kind(operation: Op, operands: &[Kind]) -> Option<Kind>
+    ensures { result ≡ kind_of_op operation operands.now }
+{
+    if takes(operation.shape(), operands) {
+        Some(operation_kind(operation))
+    } else {
+        None
+    }
+}
+
 /// The type of an operator before an operand of this type.
 pub fn prefix_kind(op: Prefix, operand: Kind) -> Option<Kind>
     ensures { result ≡ kind_of_prefix op operand }
 {
     match op {
-        Prefix::Not => alike(Kind::Bool, operand),
-        Prefix::Negate => alike(Kind::Int, operand),
+        Prefix::Not => op_kind(Op::Not, &[operand]),
+        Prefix::Negate => op_kind(Op::Negate, &[operand]),
         Prefix::Pre => Some(operand),
-    }
-}
-
-fn both(operand: Kind, given: Kind, left: Kind, right: Kind) -> Option<Kind>
-    ensures { result ≡ kind_of_both operand given left right }
-{
-    if same(operand, left) && same(operand, right) {
-        Some(given)
-    } else {
-        None
-    }
-}
-
-fn compared(left: Kind, right: Kind) -> Option<Kind>
-    ensures { result ≡ kind_of_comparison left right }
-{
-    if same(left, right) {
-        Some(Kind::Bool)
-    } else {
-        None
     }
 }
 
@@ -81,16 +88,7 @@ pub fn infix_kind(op: Infix, left: Kind, right: Kind) -> Option<Kind>
 {
     match op {
         Infix::Fby | Infix::Arrow => alike(left, right),
-        Infix::Implies | Infix::Or | Infix::Xor | Infix::And => {
-            both(Kind::Bool, Kind::Bool, left, right)
-        }
-        Infix::Equal | Infix::NotEqual => compared(left, right),
-        Infix::Less | Infix::AtMost | Infix::Greater | Infix::AtLeast => {
-            both(Kind::Int, Kind::Bool, left, right)
-        }
-        Infix::Add | Infix::Subtract | Infix::Multiply | Infix::Divide | Infix::Remainder => {
-            both(Kind::Int, Kind::Int, left, right)
-        }
+        Infix::Compute(operation) => op_kind(operation, &[left, right]),
     }
 }
 
@@ -110,9 +108,8 @@ pub fn the_one(outputs: &[Kind]) -> Option<Kind>
     ensures { result ≡ one_kind outputs.now }
 {
     match outputs {
-        [] => None,
         [kind] => Some(*kind),
-        [_, _, ..] => None,
+        _ => None,
     }
 }
 
@@ -141,22 +138,6 @@ pub fn common_kind(branches: &[Kind]) -> Option<Kind>
     }
 }
 
-/// The type of an operator before operands of these types.
-pub fn bools_kind(operands: &[Kind]) -> Option<Kind>
-    ensures { result ≡ kind_of_bools operands.now }
-{
-    match operands {
-        [] => None,
-        [_, _rest @ ..] => {
-            if all_are(Kind::Bool, operands) {
-                Some(Kind::Bool)
-            } else {
-                None
-            }
-        }
-    }
-}
-
 /// The type of a constant's value.
 pub fn value_kind(value: &Value) -> Option<Kind>
     ensures { result ≡ kind_of_value (value_of value.now) }
@@ -165,7 +146,6 @@ pub fn value_kind(value: &Value) -> Option<Kind>
         Value::Bool(_) => Some(Kind::Bool),
         Value::Int(_) => Some(Kind::Int),
         Value::Enum(enumeration, _) => Some(Kind::Enum(*enumeration)),
-        Value::Struct(_) => None,
-        Value::Nil => None,
+        _ => None,
     }
 }

@@ -5,14 +5,14 @@ ghost use Rattle.lus_syntax.specs.View.{name_seen, lead_seen};
 ghost use Rattle.lus_program.specs.Programs.{call as call_meant};
 ghost use Rattle.lus_program.specs.View.{operands_of};
 ghost use Rattle.lus_typing.specs.Kinds.{all_same as all_same_kinds};
-ghost use Rattle.lus_meaning.specs.Types.{are_arguments as arguments_alone, branch_place as place_of_branch, branch_places as places_of_branches, field_asked as asked_field, fields_asked as asked_fields, outputs_of, variadic_kind};
-ghost use Rattle.lus_meaning.specs.Meaning.{list_operation as operation_of_list, node_place, variadic_meant};
+ghost use Rattle.lus_meaning.specs.Types.{are_arguments as arguments_alone, branch_place as place_of_branch, branch_places as places_of_branches, field_asked as asked_field, fields_asked as asked_fields, list_operation as operation_of_list, outputs_of, variadic_kind};
+ghost use Rattle.lus_meaning.specs.Meaning.{node_place, variadic_meant};
 ghost use Rattle.lus_meaning.specs.ScopeView.{scope_of, Faulty};
 ghost use Rattle.lus_elaboration.specs.Wholes.{call_kind, meaning, merge_over, merge_over_kind, parts_seen, structure_of, structure_of_kind};
 
 use crate::arrangement::arranged;
-use crate::forms::{Elaborated, boxed, label_place, place_of};
-use crate::kinds::{all_same, bools_kind, common_kind, same, the_one};
+use crate::forms::{Elaborated, boxed, label_place, operated, place_of};
+use crate::kinds::{all_same, common_kind, op_kind, same, the_one};
 use lus_meaning::{Fault, Placed, Scope, Signature, field as field_named};
 use lus_program::{Expr, Form, Kind};
 use lus_syntax::{Label, Lead, ListOperator, Name, Part, Place};
@@ -25,8 +25,7 @@ fn are_arguments(parts: &[Part]) -> bool
     for part in parts {
         match &part.lead {
             Lead::Plain => {}
-            Lead::Field(_) => return false,
-            Lead::Branch(_, _) => return false,
+            _ => return false,
         }
     }
     true
@@ -100,21 +99,19 @@ pub fn variadic(
     operands: Vec<Expr>,
     kinds: &[Kind],
 ) -> Result<Elaborated, Fault>
-    ensures typed { IfOk result (λ x. variadic_kind (parts_seen arguments.now) kinds.now ≡ Some x.kind) }
+    ensures typed { IfOk result (λ x. variadic_kind op (parts_seen arguments.now) kinds.now ≡ Some x.kind) }
     ensures meant { IfOk result (λ x. meaning x ≡ variadic_meant op (operands_of operands.items)) }
-    ensures refused { IfErr result (Faulty (variadic_kind (parts_seen arguments.now) kinds.now ≡ None)) }
+    ensures refused { IfErr result (Faulty (variadic_kind op (parts_seen arguments.now) kinds.now ≡ None)) }
 {
     if !are_arguments(arguments) {
         return Err(Fault::At(place));
     }
-    let Some(kind) = bools_kind(kinds) else {
+    let operation = list_operation(op);
+    let Some(kind) = op_kind(operation, kinds) else {
         return Err(Fault::At(place));
     };
-    let operator = Operator::Compute(list_operation(op));
-    Ok(Elaborated {
-        expr: boxed(alloc, place, Form::Operate(operator, operands))?,
-        kind,
-    })
+    let expr = operated(alloc, place, Operator::Compute(operation), operands)?;
+    Ok(Elaborated { expr, kind })
 }
 
 fn branch_place(scope: &Scope, kind: Kind, lead: &Lead) -> Option<u32>
@@ -122,8 +119,7 @@ fn branch_place(scope: &Scope, kind: Kind, lead: &Lead) -> Option<u32>
 {
     match lead {
         Lead::Branch(_, label) => label_place(scope, kind, label),
-        Lead::Plain => None,
-        Lead::Field(_) => None,
+        _ => None,
     }
 }
 
@@ -188,8 +184,7 @@ fn field_asked(scope: &Scope, kind: Kind, lead: &Lead) -> Option<Placed>
 {
     match lead {
         Lead::Field(name) => field_named(scope.fields_of(kind), &name.text),
-        Lead::Plain => None,
-        Lead::Branch(_, _) => None,
+        _ => None,
     }
 }
 
@@ -276,14 +271,8 @@ pub fn structure(
     let Some(operands) = arranged(alloc, size, places, operands)? else {
         return Err(Fault::At(place));
     };
-    Ok(Elaborated {
-        expr: boxed(
-            alloc,
-            place,
-            Form::Operate(Operator::Structure(declaration), operands),
-        )?,
-        kind,
-    })
+    let expr = operated(alloc, place, Operator::Structure(declaration), operands)?;
+    Ok(Elaborated { expr, kind })
 }
 
 /// The place of a part: its field, its label, or its value.

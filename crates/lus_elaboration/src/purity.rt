@@ -13,23 +13,13 @@ use lus_syntax::{Expr, Infix, NodeKind, Part, Place, Prefix};
 fn remembers(op: Prefix) -> bool
     ensures { result ≡ remembers_past op }
 {
-    match op {
-        Prefix::Not => false,
-        Prefix::Negate => false,
-        Prefix::Pre => true,
-    }
+    matches!(op, Prefix::Pre)
 }
 
 fn recalls(op: Infix) -> bool
     ensures { result ≡ recalls_past op }
 {
-    match op {
-        Infix::Fby | Infix::Arrow => true,
-        Infix::Implies | Infix::Or | Infix::Xor | Infix::And => false,
-        Infix::Equal | Infix::NotEqual => false,
-        Infix::Less | Infix::AtMost | Infix::Greater | Infix::AtLeast => false,
-        Infix::Add | Infix::Subtract | Infix::Multiply | Infix::Divide | Infix::Remainder => false,
-    }
+    matches!(op, Infix::Fby | Infix::Arrow)
 }
 
 fn calls_function(scope: &Scope, name: &str) -> bool

@@ -2,10 +2,8 @@ use Rattle.std.proofs.Common.{◌≡◌, ◌∙◌, ap, sym, rules, map, Some, l
 use Rattle.std.proofs.lemmas.List.{length-map}
 use Rattle.lus_syntax.specs.View.{part_seen, name_seen}
 use Rattle.lus_syntax.specs.Trees.{parts_of}
-use Rattle.lus_values.specs.declared.operator.Operator.TheVariants as operators
 use Rattle.lus_program.specs.declared.types.Kind.TheVariants as kinds
 use Rattle.lus_program.specs.View.{operands_of, field_of}
-use Rattle.lus_program.proofs.OperandViews.{seen_operate}
 use Rattle.lus_meaning.specs.Scopes.{entry}
 use Rattle.lus_meaning.specs.Types.{fields_of}
 use Rattle.lus_meaning.specs.Meaning.{in_order}
@@ -24,6 +22,5 @@ returns-clause-meant c =
     let placed : c.in_ok-places.places.items ≡ map (λ x. x.place) c.in_ok-asked.asked.items = rw (← c.deref-3.ensures.value) c.in_ok-places.ensures in
     let sized : size ≡ length (fields_of s (kinds.Struct t)) = sym (length-map c.fields_of-size.result.now field_of) ∙ ap length c.fields_of-size.ensures.fields in
     let ordered : out ≡ in_order size c.in_ok-places.places.items (operands_of c.args.operands.items) = rw c.in-Some-2.is at c.in_ok-operands.ensures.order in
-    c.in_ok-boxed.ensures
-    ∙ seen_operate (operators.Structure t) c.in-Some-2.operands
+    c.in_ok-expr.ensures
     ∙ structure_is s n t (parts_of (map part_seen c.args.fields.now)) c.in_ok-asked.asked.items c.in_ok-places.places.items size out (operands_of c.args.operands.items) named c.in_ok-asked.ensures.fields placed sized ordered
