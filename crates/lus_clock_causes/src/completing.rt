@@ -5,6 +5,7 @@ use crate::placing::{Misplaced, bare};
 use crate::sampling::is_whole;
 use lus_faults::{Edit, extent_of, slice_of};
 use lus_syntax::{Definition, Equation, Expr, Infix, Name, Prefix, Tree, TypeName};
+use lus_values::Shape;
 use std::alloc::{AllocError, Global};
 
 /// How often a type's name may stand for another one, and how many branches a `merge` that is shown may have.
@@ -68,10 +69,10 @@ fn kind_of_variable<'t>(clocks: &Clocks<'t>, name: &str) -> Option<Kind<'t>> {
 fn kind_of_infix<'t>(infix: Infix) -> Option<Kind<'t>> {
     match infix {
         Infix::Fby | Infix::Arrow => None,
-        Infix::Add | Infix::Subtract | Infix::Multiply | Infix::Divide | Infix::Remainder => Some(
-            Kind::Number,
-        ),
-        _ => Some(Kind::Truth),
+        Infix::Compute(op) => match op.shape() {
+            Shape::Int | Shape::Ints => Some(Kind::Number),
+            _ => Some(Kind::Truth),
+        },
     }
 }
 

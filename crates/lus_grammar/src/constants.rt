@@ -6,9 +6,9 @@ ghost use Rattle.lus_grammar.specs.Answers.{Gives, read_as, all_read_as};
 ghost use Rattle.lus_spelling.specs.ReadingDeclarations.{several_at, at_name, negative_at, literal_at, type_of_at, constant_at};
 
 use crate::fault::{ParseError, Parsed, Tokens};
-use crate::front::{begins_name, expect_symbol, identifier, symbol};
+use crate::front::{begins_name, expect_symbol, identifier, name, symbol};
 use crate::types::type_name;
-use lus_syntax::{Constant, Literal, Name, Span, Symbol, Token, TokenKind, TypeName, Word};
+use lus_syntax::{Constant, Literal, Span, Symbol, Token, TokenKind, TypeName, Word};
 use std::alloc::Global;
 
 /// The number after a minus.
@@ -16,16 +16,12 @@ use std::alloc::Global;
 fn negative(minus: Span, tokens: Tokens<'_>) -> Parsed<'_, Literal>
     ensures { Gives (read_as literal_seen) result (negative_at minus (tokens_seen tokens.now)) }
 {
-    match *tokens {
-        [
-            Token {
-                kind: TokenKind::Number(number),
-                span,
-            },
-            ref rest @ ..,
-        ] => Ok((Literal::Negative(minus, number, span), rest)),
-        _ => Err(ParseError::Syntax(tokens.len())),
+    if let Some((first, rest)) = tokens.split_first() {
+        if let TokenKind::Number(number) = first.kind {
+            return Ok((Literal::Negative(minus, number, first.span), rest));
+        }
     }
+    Err(ParseError::Syntax(tokens.len()))
 }
 
 /// A constant's value.
@@ -33,48 +29,15 @@ fn negative(minus: Span, tokens: Tokens<'_>) -> Parsed<'_, Literal>
 fn literal(alloc: Global, tokens: Tokens<'_>) -> Parsed<'_, Literal>
     ensures { Gives (read_as literal_seen) result (literal_at (tokens_seen tokens.now)) }
 {
-    match *tokens {
-        [
-            Token {
-                kind: TokenKind::Number(number),
-                span,
-            },
-            ref rest @ ..,
-        ] => Ok((Literal::Number(number, span), rest)),
-        [
-            Token {
-                kind: TokenKind::Punctuation(Symbol::Minus),
-                span,
-            },
-            ref rest @ ..,
-        ] => negative(span, rest),
-        [
-            Token {
-                kind: TokenKind::Keyword(Word::True),
-                span,
-            },
-            ref rest @ ..,
-        ] => Ok((Literal::Truth(true, span), rest)),
-        [
-            Token {
-                kind: TokenKind::Keyword(Word::False),
-                span,
-            },
-            ref rest @ ..,
-        ] => Ok((Literal::Truth(false, span), rest)),
-        [
-            Token {
-                kind: TokenKind::Identifier(text),
-                span,
-            },
-            ref rest @ ..,
-        ] => {
-            let name = Name {
-                text: String::from_str(alloc, text)?,
-                span,
-            };
-            Ok((Literal::Constructor(name), rest))
-        }
+    let Some((&Token { kind, span }, rest)) = tokens.split_first() else {
+        return Err(ParseError::Syntax(0));
+    };
+    match kind {
+        TokenKind::Number(number) => Ok((Literal::Number(number, span), rest)),
+        TokenKind::Punctuation(Symbol::Minus) => negative(span, rest),
+        TokenKind::Keyword(Word::True) => Ok((Literal::Truth(true, span), rest)),
+        TokenKind::Keyword(Word::False) => Ok((Literal::Truth(false, span), rest)),
+        TokenKind::Identifier(text) => Ok((Literal::Constructor(name(alloc, text, span)?), rest)),
         _ => Err(ParseError::Syntax(tokens.len())),
     }
 }

@@ -10,7 +10,7 @@ ghost use Rattle.lus_grammar.specs.Rules.{level_of, operand_of, head_level, head
 ghost use Rattle.lus_grammar.specs.Answers.{Gives, tree_read, part_read, parts_read};
 
 use crate::fault::{ParseError, Read, Tokens};
-use crate::front::{begun, expect_symbol, expect_word, identifier, symbol, word};
+use crate::front::{begun, expect_symbol, expect_word, identifier, name, symbol, word};
 use crate::openings::{Entry, nothing_left};
 use crate::operators::{
     Chain, Head, after_prefix, head_entry, infix, list_operator, operand_entry, prefix,
@@ -304,13 +304,7 @@ fn plain(alloc: Global, limit: u32, tokens: Tokens<'_>) -> Read<'_>
     };
     match *kind {
         TokenKind::Number(number) => Ok((Box::new(alloc, Expr::Number(number, *span))?, 1, rest)),
-        TokenKind::Identifier(text) => {
-            let name = Name {
-                text: String::from_str(alloc, text)?,
-                span: *span,
-            };
-            named(alloc, limit, name, rest)
-        }
+        TokenKind::Identifier(text) => named(alloc, limit, name(alloc, text, *span)?, rest),
         TokenKind::Keyword(word) => truth(alloc, word, *span, tokens.len(), rest),
         TokenKind::Punctuation(_) => parentheses(alloc, limit, tokens),
     }

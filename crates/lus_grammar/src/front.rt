@@ -1,7 +1,8 @@
 //! Tokens at the front: symbols, words, names, labels and tests.
 
-ghost use Rattle.std.specs.Prelude.{◌≡◌, option_map};
+ghost use Rattle.std.specs.Prelude.{◌≡◌, Ok, option_map};
 ghost use Rattle.lus_syntax.specs.Lexemes.{Sign, Keyword};
+ghost use Rattle.lus_syntax.specs.Trees.{named};
 ghost use Rattle.lus_syntax.specs.View.{tokens_seen, name_seen, label_seen, test_seen};
 ghost use Rattle.lus_spelling.specs.Reading.{front, expect, identifier_at, label_at, closed_name_at, test_at};
 ghost use Rattle.lus_spelling.specs.ReadingDeclarations.{skip, further, begins_named, begins_equation};
@@ -15,20 +16,9 @@ use std::alloc::Global;
 pub fn symbol(wanted: Symbol, tokens: Tokens<'_>) -> Option<(Span, Tokens<'_>)>
     ensures { option_map (λ x. (x.0, tokens_seen x.1.now)) result ≡ front (Sign wanted) (tokens_seen tokens.now) }
 {
-    match *tokens {
-        [
-            Token {
-                kind: TokenKind::Punctuation(found),
-                span,
-            },
-            ref rest @ ..,
-        ] => {
-            if found == wanted {
-                Some((span, rest))
-            } else {
-                None
-            }
-        }
+    let (first, rest) = tokens.split_first()?;
+    match first.kind {
+        TokenKind::Punctuation(found) if found == wanted => Some((first.span, rest)),
         _ => None,
     }
 }
@@ -37,20 +27,9 @@ pub fn symbol(wanted: Symbol, tokens: Tokens<'_>) -> Option<(Span, Tokens<'_>)>
 pub fn word(wanted: Word, tokens: Tokens<'_>) -> Option<(Span, Tokens<'_>)>
     ensures { option_map (λ x. (x.0, tokens_seen x.1.now)) result ≡ front (Keyword wanted) (tokens_seen tokens.now) }
 {
-    match *tokens {
-        [
-            Token {
-                kind: TokenKind::Keyword(found),
-                span,
-            },
-            ref rest @ ..,
-        ] => {
-            if found == wanted {
-                Some((span, rest))
-            } else {
-                None
-            }
-        }
+    let (first, rest) = tokens.split_first()?;
+    match first.kind {
+        TokenKind::Keyword(found) if found == wanted => Some((first.span, rest)),
         _ => None,
     }
 }
@@ -107,32 +86,31 @@ pub fn begun<T>(found: T, tokens: Tokens<'_>) -> (T, Tokens<'_>)
 pub fn begins_name(tokens: Tokens<'_>) -> bool
     ensures { result ≡ begins_named (tokens_seen tokens.now) }
 {
-    matches!(
-        tokens,
-        [
-            Token {
-                kind: TokenKind::Identifier(_),
-                ..
-            },
-            ..
-        ]
-    )
+    match tokens.first() {
+        Some(first) => matches!(first.kind, TokenKind::Identifier(_)),
+        None => false,
+    }
 }
 
 /// Whether an equation may stand at the front.
 pub fn begins_equation(tokens: Tokens<'_>) -> bool
     ensures { result ≡ begins_equation (tokens_seen tokens.now) }
 {
+    let Some(first) = tokens.first() else {
+        return false;
+    };
     matches!(
-        tokens,
-        [
-            Token {
-                kind: TokenKind::Identifier(_) | TokenKind::Punctuation(Symbol::Open),
-                ..
-            },
-            ..
-        ]
+        first.kind,
+        TokenKind::Identifier(_) | TokenKind::Punctuation(Symbol::Open)
     )
+}
+
+/// The name that a token spells.
+pub fn name(alloc: Global, text: &str, span: Span) -> Result<Name, ParseError>
+    ensures { Gives name_seen result (Ok (named text.now span)) }
+{
+    let text = String::from_str(alloc, text)?;
+    Ok(Name { text, span })
 }
 
 /// A name at the front.
@@ -140,22 +118,12 @@ pub fn begins_equation(tokens: Tokens<'_>) -> bool
 pub fn identifier(alloc: Global, tokens: Tokens<'_>) -> Result<(Name, Tokens<'_>), ParseError>
     ensures { Gives (λ x. (name_seen x.0, tokens_seen x.1.now)) result (identifier_at (tokens_seen tokens.now)) }
 {
-    match *tokens {
-        [
-            Token {
-                kind: TokenKind::Identifier(text),
-                span,
-            },
-            ref rest @ ..,
-        ] => {
-            let name = Name {
-                text: String::from_str(alloc, text)?,
-                span,
-            };
-            Ok((name, rest))
+    if let Some((first, rest)) = tokens.split_first() {
+        if let TokenKind::Identifier(text) = first.kind {
+            return Ok((name(alloc, text, first.span)?, rest));
         }
-        _ => Err(ParseError::Syntax(tokens.len())),
     }
+    Err(ParseError::Syntax(tokens.len()))
 }
 
 /// A constructor or a truth value at the front.
@@ -163,34 +131,13 @@ pub fn identifier(alloc: Global, tokens: Tokens<'_>) -> Result<(Name, Tokens<'_>
 pub fn label(alloc: Global, tokens: Tokens<'_>) -> Result<(Label, Tokens<'_>), ParseError>
     ensures { Gives (λ x. (label_seen x.0, tokens_seen x.1.now)) result (label_at (tokens_seen tokens.now)) }
 {
-    match *tokens {
-        [
-            Token {
-                kind: TokenKind::Identifier(text),
-                span,
-            },
-            ref rest @ ..,
-        ] => {
-            let name = Name {
-                text: String::from_str(alloc, text)?,
-                span,
-            };
-            Ok((Label::Constructor(name), rest))
-        }
-        [
-            Token {
-                kind: TokenKind::Keyword(Word::True),
-                span,
-            },
-            ref rest @ ..,
-        ] => Ok((Label::Truth(true, span), rest)),
-        [
-            Token {
-                kind: TokenKind::Keyword(Word::False),
-                span,
-            },
-            ref rest @ ..,
-        ] => Ok((Label::Truth(false, span), rest)),
+    let Some((&Token { kind, span }, rest)) = tokens.split_first() else {
+        return Err(ParseError::Syntax(0));
+    };
+    match kind {
+        TokenKind::Identifier(text) => Ok((Label::Constructor(name(alloc, text, span)?), rest)),
+        TokenKind::Keyword(Word::True) => Ok((Label::Truth(true, span), rest)),
+        TokenKind::Keyword(Word::False) => Ok((Label::Truth(false, span), rest)),
         _ => Err(ParseError::Syntax(tokens.len())),
     }
 }

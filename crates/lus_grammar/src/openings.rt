@@ -10,7 +10,7 @@ use crate::fault::{ParseError, Tokens};
 use lus_syntax::{Symbol, TokenKind, Word};
 
 /// The loosest rule that may begin where an expression is read; each tighter one may as well.
-#[derive(Clone, Copy, Debug, PartialEq, Eq)]
+#[derive(Clone, Copy)]
 pub enum Entry {
     Choice,
     Negation,

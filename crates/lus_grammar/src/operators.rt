@@ -3,18 +3,18 @@
 ghost use Rattle.std.specs.Prelude.{◌≡◌, option_map};
 ghost use Rattle.lus_syntax.specs.Lexemes.{Sign, Keyword};
 ghost use Rattle.lus_syntax.specs.View.{kind_seen, tokens_seen, expression_seen};
-ghost use Rattle.lus_spelling.specs.Expressions.{joined_at, infix_of, mixing_of, mixes, may_join};
+ghost use Rattle.lus_spelling.specs.Expressions.{joined_at, infix_of, mixing_of, mixes, may_join, prefix_of, list_operator_of};
 ghost use Rattle.lus_spelling.specs.Reading.{entry, infix_at, list_operator_at, prefix_at};
 ghost use Rattle.lus_grammar.specs.Rules.{entry_of, level_of, operand_of, head_level, head_operand};
 
 use crate::fault::Tokens;
 use crate::openings::Entry;
 use lus_spelling::Mixing;
-use lus_syntax::{Expr, Infix, ListOperator, Prefix, Span, Symbol, Token, TokenKind, Word};
+use lus_syntax::{Expr, Infix, ListOperator, Prefix, Span, Symbol, TokenKind, Word};
 use lus_values::Op;
 
 /// The rules that read operands and operators between them.
-#[derive(Clone, Copy, Debug, PartialEq, Eq)]
+#[derive(Clone, Copy, PartialEq, Eq)]
 pub enum Chain {
     Implication,
     Disjunction,
@@ -25,7 +25,7 @@ pub enum Chain {
 }
 
 /// The rules that read operators before an operand.
-#[derive(Clone, Copy, Debug, PartialEq, Eq)]
+#[derive(Clone, Copy)]
 pub enum Head {
     Negation,
     Negated,
@@ -129,51 +129,31 @@ pub fn infix<'a>(chain: Chain, left: &Expr, tokens: Tokens<'a>) -> Option<(Infix
     }
 }
 
+fn prefix_of(head: Head, kind: &TokenKind) -> Option<Prefix>
+    ensures { result ≡ prefix_of (head_level head) (kind_seen kind.now) }
+{
+    match (head, *kind) {
+        (Head::Negation | Head::Negated, TokenKind::Keyword(Word::Not)) => Some(Prefix::Not),
+        (Head::Signed, TokenKind::Keyword(Word::Pre)) => Some(Prefix::Pre),
+        (Head::Signed, TokenKind::Punctuation(Symbol::Minus)) => Some(Prefix::Negate),
+        _ => None,
+    }
+}
+
 /// An operator before an operand, its span, and the tokens after it.
 pub fn prefix(head: Head, tokens: Tokens<'_>) -> Option<(Prefix, Span, Tokens<'_>)>
     ensures { option_map (λ x. (x.0, x.1, tokens_seen x.2.now)) result ≡ prefix_at (head_level head) (tokens_seen tokens.now) }
 {
-    match (head, tokens) {
-        (
-            Head::Negation,
-            [
-                Token {
-                    kind: TokenKind::Keyword(Word::Not),
-                    span,
-                },
-                rest @ ..,
-            ],
-        ) => Some((Prefix::Not, *span, rest)),
-        (
-            Head::Negated,
-            [
-                Token {
-                    kind: TokenKind::Keyword(Word::Not),
-                    span,
-                },
-                rest @ ..,
-            ],
-        ) => Some((Prefix::Not, *span, rest)),
-        (
-            Head::Signed,
-            [
-                Token {
-                    kind: TokenKind::Keyword(Word::Pre),
-                    span,
-                },
-                rest @ ..,
-            ],
-        ) => Some((Prefix::Pre, *span, rest)),
-        (
-            Head::Signed,
-            [
-                Token {
-                    kind: TokenKind::Punctuation(Symbol::Minus),
-                    span,
-                },
-                rest @ ..,
-            ],
-        ) => Some((Prefix::Negate, *span, rest)),
+    let (first, rest) = tokens.split_first()?;
+    Some((prefix_of(head, &first.kind)?, first.span, rest))
+}
+
+fn list_operator_of(kind: &TokenKind) -> Option<ListOperator>
+    ensures { result ≡ list_operator_of (kind_seen kind.now) }
+{
+    match *kind {
+        TokenKind::Punctuation(Symbol::Sharp) => Some(ListOperator::AtMostOne),
+        TokenKind::Keyword(Word::Nor) => Some(ListOperator::Nor),
         _ => None,
     }
 }
@@ -182,23 +162,8 @@ pub fn prefix(head: Head, tokens: Tokens<'_>) -> Option<(Prefix, Span, Tokens<'_
 pub fn list_operator(tokens: Tokens<'_>) -> Option<(ListOperator, Span, Tokens<'_>)>
     ensures { option_map (λ x. (x.0, x.1, tokens_seen x.2.now)) result ≡ list_operator_at (tokens_seen tokens.now) }
 {
-    match tokens {
-        [
-            Token {
-                kind: TokenKind::Punctuation(Symbol::Sharp),
-                span,
-            },
-            rest @ ..,
-        ] => Some((ListOperator::AtMostOne, *span, rest)),
-        [
-            Token {
-                kind: TokenKind::Keyword(Word::Nor),
-                span,
-            },
-            rest @ ..,
-        ] => Some((ListOperator::Nor, *span, rest)),
-        _ => None,
-    }
+    let (first, rest) = tokens.split_first()?;
+    Some((list_operator_of(&first.kind)?, first.span, rest))
 }
 
 /// The rule for what stands after an operator before an operand.

@@ -40,14 +40,11 @@ fn with_node(alloc: Global, kind: NodeKind, found: Tree, tokens: Tokens<'_>) -> 
 fn declaration(alloc: Global, found: Tree, tokens: Tokens<'_>) -> Parsed<'_, Tree>
     ensures { Gives (read_as tree_seen) result (declaration_at most_depth (tree_seen found) (tokens_seen tokens.now)) }
 {
-    match tokens {
-        [
-            Token {
-                kind: TokenKind::Keyword(Word::Type),
-                ..
-            },
-            rest @ ..,
-        ] => {
+    let Some((first, rest)) = tokens.split_first() else {
+        return Err(ParseError::Syntax(0));
+    };
+    match first.kind {
+        TokenKind::Keyword(Word::Type) => {
             let (types, rest) = type_declarations(alloc, found.types, rest)?;
             let tree = Tree {
                 types,
@@ -56,13 +53,7 @@ fn declaration(alloc: Global, found: Tree, tokens: Tokens<'_>) -> Parsed<'_, Tre
             };
             Ok((tree, rest))
         }
-        [
-            Token {
-                kind: TokenKind::Keyword(Word::Const),
-                ..
-            },
-            rest @ ..,
-        ] => {
+        TokenKind::Keyword(Word::Const) => {
             let (constants, rest) = constants(alloc, found.constants, rest)?;
             let tree = Tree {
                 types: found.types,
@@ -71,20 +62,8 @@ fn declaration(alloc: Global, found: Tree, tokens: Tokens<'_>) -> Parsed<'_, Tre
             };
             Ok((tree, rest))
         }
-        [
-            Token {
-                kind: TokenKind::Keyword(Word::Node),
-                ..
-            },
-            rest @ ..,
-        ] => with_node(alloc, NodeKind::Node, found, rest),
-        [
-            Token {
-                kind: TokenKind::Keyword(Word::Function),
-                ..
-            },
-            rest @ ..,
-        ] => with_node(alloc, NodeKind::Function, found, rest),
+        TokenKind::Keyword(Word::Node) => with_node(alloc, NodeKind::Node, found, rest),
+        TokenKind::Keyword(Word::Function) => with_node(alloc, NodeKind::Function, found, rest),
         _ => Err(ParseError::Syntax(tokens.len())),
     }
 }

@@ -7,7 +7,9 @@ ghost use Rattle.lus_grammar.specs.Answers.{Gives, read_as, all_read_as};
 ghost use Rattle.lus_spelling.specs.ReadingDeclarations.{several_at, further, at_name, names_at, type_name_at, fields_at, enumeration_at, structure_at, definition_at, type_at};
 
 use crate::fault::{ParseError, Parsed, Tokens};
-use crate::front::{begins_name, expect_symbol, further, identifier, skip_symbol, symbol, word};
+use crate::front::{
+    begins_name, expect_symbol, further, identifier, name, skip_symbol, symbol, word,
+};
 use lus_syntax::{
     Definition, Fields, Name, Symbol, Token, TokenKind, TypeDeclaration, TypeName, Word,
 };
@@ -33,34 +35,13 @@ pub fn names(alloc: Global, tokens: Tokens<'_>) -> Parsed<'_, Vec<Name>>
 pub fn type_name(alloc: Global, tokens: Tokens<'_>) -> Parsed<'_, TypeName>
     ensures { Gives (read_as type_name_seen) result (type_name_at (tokens_seen tokens.now)) }
 {
-    match *tokens {
-        [
-            Token {
-                kind: TokenKind::Keyword(Word::Bool),
-                span,
-            },
-            ref rest @ ..,
-        ] => Ok((TypeName::Bool(span), rest)),
-        [
-            Token {
-                kind: TokenKind::Keyword(Word::Int),
-                span,
-            },
-            ref rest @ ..,
-        ] => Ok((TypeName::Int(span), rest)),
-        [
-            Token {
-                kind: TokenKind::Identifier(text),
-                span,
-            },
-            ref rest @ ..,
-        ] => {
-            let name = Name {
-                text: String::from_str(alloc, text)?,
-                span,
-            };
-            Ok((TypeName::Declared(name), rest))
-        }
+    let Some((&Token { kind, span }, rest)) = tokens.split_first() else {
+        return Err(ParseError::Syntax(0));
+    };
+    match kind {
+        TokenKind::Keyword(Word::Bool) => Ok((TypeName::Bool(span), rest)),
+        TokenKind::Keyword(Word::Int) => Ok((TypeName::Int(span), rest)),
+        TokenKind::Identifier(text) => Ok((TypeName::Declared(name(alloc, text, span)?), rest)),
         _ => Err(ParseError::Syntax(tokens.len())),
     }
 }

@@ -3,14 +3,10 @@
 use crate::fault::{Fault, is_name};
 use crate::phrase::Phrase;
 use crate::remark::{Remark, Text, Trust, replacing, told};
-use crate::trial::{token_of, tokens_of};
-use lus_faults::{are_near, slice_of};
-use lus_syntax::TokenKind;
+use crate::trial::token_of;
+use lus_faults::are_near;
+use lus_syntax::{TokenKind, WORDS};
 use std::alloc::{AllocError, Global};
-
-/// The words that a wrong one may be meant as.
-const WORDS: &str =
-    "node function returns var let tel type const enum struct true false not and or xor if then else div mod pre fby when merge nor int";
 
 /// Whether more of a declaration is read, from behind its fault on, with a word in place of one of its tokens.
 fn helps(
@@ -32,11 +28,13 @@ fn word_for(
 ) -> Result<Option<&'static str>, AllocError> {
     let mut best = None;
     let mut least = usize::MAX;
-    for token in &tokens_of(alloc, WORDS) {
-        let word = slice_of(WORDS, token.span);
-        if let Some(apart) = are_near(alloc, fault.text(place), word)? {
-            if apart < least && helps(alloc, fault, place, token.kind)? {
-                best = Some(word);
+    for (text, word) in WORDS {
+        let Some(word) = word else {
+            continue;
+        };
+        if let Some(apart) = are_near(alloc, fault.text(place), text)? {
+            if apart < least && helps(alloc, fault, place, TokenKind::Keyword(*word))? {
+                best = Some(*text);
                 least = apart;
             }
         }

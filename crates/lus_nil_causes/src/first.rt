@@ -1,6 +1,7 @@
 //! First values, by types.
 
 use lus_syntax::{Definition, Expr, Group, Infix, Literal, Name, Node, Prefix, Tree, TypeName};
+use lus_values::Shape;
 
 /// The type of a variable, as it is declared.
 fn type_in<'t>(groups: &'t [Group], text: &str) -> Option<&'t TypeName> {
@@ -93,9 +94,10 @@ pub fn first_value<'t>(tree: &'t Tree, node: &'t Node, expr: &Expr) -> Option<&'
         Expr::Unary(Prefix::Negate, _, _) => Some("0"),
         Expr::Binary(op, left, _) => match op {
             Infix::Fby | Infix::Arrow => first_value(tree, node, left),
-            Infix::Add | Infix::Subtract | Infix::Multiply => Some("0"),
-            Infix::Divide | Infix::Remainder => Some("0"),
-            _ => Some("false"),
+            Infix::Compute(op) => match op.shape() {
+                Shape::Int | Shape::Ints => Some("0"),
+                _ => Some("false"),
+            },
         },
         Expr::If(_, _, left, _) => first_value(tree, node, left),
     }

@@ -6,30 +6,6 @@ use lus_program::Program;
 use lus_values::{Memory, Names, Op, Value, push_value};
 use std::alloc::Global;
 
-/// The sign of an operator.
-fn sign(op: Op) -> &'static str {
-    match op {
-        Op::Negate | Op::Subtract => "-",
-        Op::Add => "+",
-        Op::Multiply => "*",
-        Op::Divide => "div",
-        Op::Remainder => "mod",
-        Op::Not => "not",
-        Op::And => "and",
-        Op::Or => "or",
-        Op::Xor => "xor",
-        Op::Implies => "=>",
-        Op::Equal => "=",
-        Op::NotEqual => "<>",
-        Op::Less => "<",
-        Op::AtMost => "<=",
-        Op::Greater => ">",
-        Op::AtLeast => ">=",
-        Op::AtMostOne => "#",
-        Op::Nor => "nor",
-    }
-}
-
 /// Why an operation has no value.
 fn cause(op: Op, operands: &[Value]) -> &'static str {
     match (op, operands) {
@@ -39,7 +15,7 @@ fn cause(op: Op, operands: &[Value]) -> &'static str {
 }
 
 fn push_operation(text: &mut String, names: &Names, faulty: &Faulty) -> Result<(), Memory> {
-    let sign = sign(faulty.op());
+    let sign = faulty.op().sign();
     match faulty.operands() {
         [left, right] => {
             push_value(text, left, names)?;

@@ -57,18 +57,22 @@ abbrev pub weight : List Lexeme → ℕ
 weight [] = 0
 weight (t ∷ ts) = heft t.kind
 
+-- what joins the operands of a level is computed, and stands at that level
+pub joined_by : (level : Level) (l : Kind) (op : Infix) → infix_of level l ≡ Some op → (o : Op) × (op ≡ operators.Compute o) × (joined_at l ≡ Some (level, o))
+joined_by level l op e = go level (joined_at l) e
+  where
+    go : (level : Level) (j : Option (Level × Op)) → joins_at level j ≡ Some op → (o : Op) × (op ≡ operators.Compute o) × (j ≡ Some (level, o))
+    go Implication (Some (Implication, o)) e = (o, cc, refl)
+    go Disjunction (Some (Disjunction, o)) e = (o, cc, refl)
+    go Conjunction (Some (Conjunction, o)) e = (o, cc, refl)
+    go Comparison (Some (Comparison, o)) e = (o, cc, refl)
+    go Sum (Some (Sum, o)) e = (o, cc, refl)
+    go Term (Some (Term, o)) e = (o, cc, refl)
+    go _ _ e = absurd cc
+
 -- a level's operator weighs what the level does
 operator_heft : (level : Level) (l : Kind) (op : Infix) → infix_of level l ≡ Some op → heft l ≡ rank level
-operator_heft level l op e = go level (joined_at l) e
-  where
-    go : (level : Level) (o : Option (Level × Op)) → joins_at level o ≡ Some op → joined_heft o l ≡ rank level
-    go Implication (Some (Implication, op)) e = refl
-    go Disjunction (Some (Disjunction, op)) e = refl
-    go Conjunction (Some (Conjunction, op)) e = refl
-    go Comparison (Some (Comparison, op)) e = refl
-    go Sum (Some (Sum, op)) e = refl
-    go Term (Some (Term, op)) e = refl
-    go _ _ e = absurd cc
+operator_heft level l op e = let j = joined_by level l op e in ap (λ o. joined_heft o l) j.2
 
 no_infix : (level : Level) (left : Expression) (ts : List Lexeme) → weight ts < rank level → infix_at level left ts ≡ None
 no_infix level left [] lt = refl

@@ -2,8 +2,7 @@
 use Rattle.std.proofs.Common.{◌≡◌, ℕ, zero, suc, ◌+◌, ◌≤◌, max, Bool, true, false, cond, ltb, leb, length, List, [], ◌∷◌, ◌++◌, Option, Some, None, Result, Ok, Err, refl, sym, ap, subst, ◌∙◌, append_assoc, arith}
 use Rattle.std.proofs.lemmas.Bool.{eqb-true, ltb-false}
 use Rattle.std.proofs.Math.Nat.{max-le}
-use denote.Enum.Declared.{tag_of}
-use denote.Enum.Bare.{tag_one}
+use denote.Enum.Bare.{same_true}
 use Rattle.lus_syntax.specs.declared.token.Span.{Span}
 use Rattle.lus_syntax.specs.contracts.token.Symbol.{the_type as symbol_type}
 use Rattle.lus_syntax.specs.contracts.token.Word.{the_type as word_type}
@@ -20,7 +19,7 @@ use Rattle.lus_spelling.specs.declared.form.Form.TheVariants as forms
 use Rattle.lus_syntax.specs.Lexemes.{Kind, Identifier, Number, Sign, Keyword, Lexeme, tok}
 use Rattle.lus_syntax.specs.Trees.{Named, named, Label, Constructor, Boolean, Test, Holds, Fails, Is, Lead, Plain, Of, Branch, Expression, Numeral, Truth, Name, Call, Structure, Merge, Variadic, Field, Parentheses, When, Unary, Binary, If, Parts, End, parts_of}
 use Rattle.lus_spelling.specs.Expressions.{ident, label, depth, deepest, Level, Whole, Arrow, Else, Choice, Implication, Disjunction, Conjunction, Negation, Negated, Comparison, Sum, Term, Signed, Primary, Dotted, Atom, infix_of, may_join, prefix_of, list_operator_of, Joins, implication, disjunction, conjunction, comparison, sum, term, Heads, negation, negated, signed, Spells, SpellsAll, SpellsPart, SpellsTest, Separates, Closes, holds, fails, fails_in, labelled, comma, semicolon, unparted, closed, braced, late, unclosed, number, truth, falsity, name, call_empty, call, structure, variadic, parentheses, undotted, dotted, primary, merge, prefixed, bare, first, next, choice, else_choice, else_value, arrow_choice, arrow_value, arrow, whole, fby, when, final, further, argument, init, branch}
-use Rattle.lus_spelling.specs.Reading.{Fault, Syntax, Deep, Found, found, Read, Reader, ◌>>=◌, place, word_place, is_lexeme, front, expected, expect, named_on, identifier_at, label_on, label_at, closed_name_at, denied, tested, test_on, test_at, after_argument, after_semicolon, after_init, after_branch, turn_at, Item, item, lead_on, lead_at, tail_at, part_at, Several, onward, parts_at, listed_at, after_open, parentheses_on, parentheses_at, truth_on, call_on, brace_on, name_on, name_at, with_operator, list_operator_at, operands_on, operands_at, atom_on, plain_at, atom_or, atom_at, no_dot, one_dot, dots_at, dotted_at, merge_on, primary_at, with_operand, prefix_at, prefixed_on, prefixed_at, join, two_on, allowed, infix_at, no_turn, one_turn, more_at, chain_at, branches_at, choice_on, choice_at, arrow_on, arrow_at, is_primary, when_on, fby_on, whole_at, refuse, read_atom, read_dotted, read_primary, read_signed, read_term, read_sum, read_comparison, read_negated, read_negation, read_conjunction, read_disjunction, read_implication, read_choice, read_else, read_arrow, read_whole, read, opening, entry, sampled as sampled_by}
+use Rattle.lus_spelling.specs.Reading.{Fault, Syntax, Deep, Found, found, Read, Reader, ◌>>=◌, is_lexeme, front, expected, expect, named_on, identifier_at, label_on, label_at, closed_name_at, denied, tested, test_on, test_at, after_argument, after_semicolon, after_init, after_branch, turn_at, Item, item, lead_on, lead_at, tail_at, part_at, Several, onward, parts_at, listed_at, after_open, parentheses_on, parentheses_at, truth_on, call_on, brace_on, name_on, name_at, with_operator, list_operator_at, operands_on, operands_at, atom_on, plain_at, atom_or, atom_at, no_dot, one_dot, dots_at, dotted_at, merge_on, primary_at, with_operand, prefix_at, prefixed_on, prefixed_at, join, two_on, allowed, infix_at, no_turn, one_turn, more_at, chain_at, branches_at, choice_on, choice_at, arrow_on, arrow_at, is_primary, when_on, fby_on, whole_at, refuse, read_atom, read_dotted, read_primary, read_signed, read_term, read_sum, read_comparison, read_negated, read_negation, read_conjunction, read_disjunction, read_implication, read_choice, read_else, read_arrow, read_whole, read, opening, entry, sampled as sampled_by}
 
 -- ---- steps that may fail
 
@@ -54,21 +53,9 @@ never_begun false f e = cc
 
 -- ---- tokens at the front
 
-same_symbol : (c d : Symbol) → place c ≡ place d → c ≡ d
-same_symbol c d e = tag_one symbol_type tt c d (symbol_tag c ∙ e ∙ sym (symbol_tag d))
-  where
-    symbol_tag : (c : Symbol) → tag_of symbol_type c ≡ place c
-    symbol_tag c = grind arith
-
-same_word : (c d : Word) → word_place c ≡ word_place d → c ≡ d
-same_word c d e = tag_one word_type tt c d (word_tag c ∙ e ∙ sym (word_tag d))
-  where
-    word_tag : (c : Word) → tag_of word_type c ≡ word_place c
-    word_tag c = grind arith
-
 is_lexeme-true : (l m : Kind) → is_lexeme l m ≡ true → m ≡ l
-is_lexeme-true (Sign c) (Sign d) e = ap Sign (same_symbol d c (eqb-true _ _ e))
-is_lexeme-true (Keyword c) (Keyword d) e = ap Keyword (same_word d c (eqb-true _ _ e))
+is_lexeme-true (Sign c) (Sign d) e = ap Sign (same_true symbol_type tt d c e)
+is_lexeme-true (Keyword c) (Keyword d) e = ap Keyword (same_true word_type tt d c e)
 is_lexeme-true _ _ e = absurd cc
 
 some_if : {A : Type 0} (b : Bool) (x y : A) → cond b (Some x) None ≡ Some y → (b ≡ true) × (x ≡ y)

@@ -32,9 +32,6 @@ label (Boolean false s) = tok (Keyword words.False) s
 -- one for a leaf, and else one more than the deepest part
 abbrev mutual
   pub depth : Expression → ℕ
-  depth (Numeral n s) = 1
-  depth (Truth b s) = 1
-  depth (Name n) = 1
   depth (Call n us) = suc (deepest us)
   depth (Structure n us) = suc (deepest us)
   depth (Merge s n us) = suc (deepest us)
@@ -45,6 +42,7 @@ abbrev mutual
   depth (Unary op s t) = suc (depth t)
   depth (Binary op a b) = suc (max (depth a) (depth b))
   depth (If s c a b) = suc (max (depth c) (max (depth a) (depth b)))
+  depth _ = 1
 
   pub deepest : Parts → ℕ
   deepest End = 0

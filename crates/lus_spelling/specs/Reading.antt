@@ -1,5 +1,8 @@
 -- Reading expressions from left to right, with a limit on the depth and the first fault that is met.
 use Rattle.std.specs.Prelude.{ℕ, zero, suc, max, Bool, true, false, List, [], ◌∷◌, Option, Some, None, Result, Ok, Err, nat_lt, nat_le, length, ◌++◌, ◌+◌, ◌==◌, if◌then◌else◌}
+use denote.Enum.Bare.{sameb as same}
+use Rattle.lus_syntax.specs.contracts.token.Symbol.{the_type as symbol_type}
+use Rattle.lus_syntax.specs.contracts.token.Word.{the_type as word_type}
 use Rattle.lus_syntax.specs.declared.token.Span.{Span}
 use Rattle.lus_syntax.specs.declared.token.Symbol.{Symbol}
 use Rattle.lus_syntax.specs.declared.token.Symbol.TheVariants as symbols
@@ -39,64 +42,10 @@ abbrev pub ◌>>=◌ : {A B : Type 0} → Result A Fault → (A → Result B Fau
 (Ok x) >>= f = f x
 (Err e) >>= f = Err e
 
--- the numbers of symbols and words
-abbrev pub place : Symbol → ℕ
-place symbols.Open = 0
-place symbols.Close = 1
-place symbols.OpenBrace = 2
-place symbols.CloseBrace = 3
-place symbols.Comma = 4
-place symbols.Semicolon = 5
-place symbols.Colon = 6
-place symbols.Dot = 7
-place symbols.Equal = 8
-place symbols.NotEqual = 9
-place symbols.Less = 10
-place symbols.AtMost = 11
-place symbols.Greater = 12
-place symbols.AtLeast = 13
-place symbols.Arrow = 14
-place symbols.Implies = 15
-place symbols.Plus = 16
-place symbols.Minus = 17
-place symbols.Star = 18
-place symbols.Slash = 19
-place symbols.Sharp = 20
-
-abbrev pub word_place : Word → ℕ
-word_place words.Node = 0
-word_place words.Function = 1
-word_place words.Returns = 2
-word_place words.Var = 3
-word_place words.Let = 4
-word_place words.Tel = 5
-word_place words.Type = 6
-word_place words.Const = 7
-word_place words.Enum = 8
-word_place words.Struct = 9
-word_place words.Bool = 10
-word_place words.Int = 11
-word_place words.True = 12
-word_place words.False = 13
-word_place words.Not = 14
-word_place words.And = 15
-word_place words.Or = 16
-word_place words.Xor = 17
-word_place words.If = 18
-word_place words.Then = 19
-word_place words.Else = 20
-word_place words.Div = 21
-word_place words.Mod = 22
-word_place words.Pre = 23
-word_place words.Fby = 24
-word_place words.When = 25
-word_place words.Merge = 26
-word_place words.Nor = 27
-
 -- whether a token is this symbol or word
 abbrev pub is_lexeme : Kind → Kind → Bool
-is_lexeme (Sign c) (Sign d) = place d == place c
-is_lexeme (Keyword v) (Keyword w) = word_place w == word_place v
+is_lexeme (Sign c) (Sign d) = same symbol_type d c
+is_lexeme (Keyword v) (Keyword w) = same word_type w v
 is_lexeme _ _ = false
 
 -- a symbol or word at the front: its span, and the tokens after it

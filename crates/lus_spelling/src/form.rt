@@ -1,7 +1,7 @@
 //! What parts belong to.
 
 /// A call's arguments or an operator's operands, a structure's fields, or a merge's branches.
-#[derive(Clone, Copy, Debug, PartialEq, Eq)]
+#[derive(Clone, Copy)]
 pub enum Form {
     Call,
     Structure,

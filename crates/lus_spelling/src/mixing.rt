@@ -1,7 +1,7 @@
 //! How operators mix.
 
 /// How an operator mixes with the others of its rule.
-#[derive(Clone, Copy, Debug, PartialEq, Eq)]
+#[derive(Clone, Copy)]
 pub enum Mixing {
     Implication,
     Or,

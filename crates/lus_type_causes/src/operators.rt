@@ -5,30 +5,30 @@ use crate::kinds::Kind;
 use crate::stop::{Clash, Inferred, Stop, ending, told_at};
 use lus_faults::{extent_of, start_of};
 use lus_syntax::{Expr, Infix, ListOperator, Part, Prefix, Span};
+use lus_values::Shape;
 use std::alloc::AllocError;
 
-/// An operator's text, the type that its operands have, where it is always one, and the type of what it gives, where that isn't theirs.
-fn infix_form(op: Infix) -> (&'static str, Option<Kind>, Option<Kind>) {
+/// The type that the operands of an operator have, where it is always one, and the type of what it gives, where that isn't theirs.
+fn kinds_of(shape: Shape) -> (Option<Kind>, Option<Kind>) {
     let truth = Some(Kind::Bool);
     let number = Some(Kind::Int);
+    match shape {
+        Shape::Int | Shape::Ints => (number, number),
+        Shape::Comparison => (number, truth),
+        Shape::Bool | Shape::Bools | Shape::Count => (truth, truth),
+        Shape::Alike => (None, truth),
+    }
+}
+
+/// An operator's text, and those types.
+fn infix_form(op: Infix) -> (&'static str, Option<Kind>, Option<Kind>) {
     match op {
         Infix::Fby => ("fby", None, None),
         Infix::Arrow => ("->", None, None),
-        Infix::Implies => ("=>", truth, truth),
-        Infix::Or => ("or", truth, truth),
-        Infix::Xor => ("xor", truth, truth),
-        Infix::And => ("and", truth, truth),
-        Infix::Equal => ("=", None, truth),
-        Infix::NotEqual => ("<>", None, truth),
-        Infix::Less => ("<", number, truth),
-        Infix::AtMost => ("<=", number, truth),
-        Infix::Greater => (">", number, truth),
-        Infix::AtLeast => (">=", number, truth),
-        Infix::Add => ("+", number, number),
-        Infix::Subtract => ("-", number, number),
-        Infix::Multiply => ("*", number, number),
-        Infix::Divide => ("div", number, number),
-        Infix::Remainder => ("mod", number, number),
+        Infix::Compute(op) => {
+            let (operands, result) = kinds_of(op.shape());
+            (op.sign(), operands, result)
+        }
     }
 }
 

@@ -1,5 +1,5 @@
 -- The tree of a vector of parts is that of their list.
-use Rattle.std.proofs.Common.{ap, sym, ◌∙◌}
+use Rattle.std.proofs.Common.{ap, ◌∙◌}
 use Rattle.lus_syntax.specs.View.{expression_seen}
 use Rattle.lus_syntax.proofs.TreeViews.{seen_variadic}
 use Rattle.lus_grammar.proofs.trees.variadic.Goals as goal
