@@ -1,4 +1,3 @@
-pub mod Appending
+pub mod Rows
 pub mod Placing
-pub mod Groups
 pub mod OfSource

@@ -1,5 +1,5 @@
 -- The tables that the code makes are those of the source.
-use Rattle.std.proofs.Common.{add-one, arith, ◌≡◌, ◌∙◌, refl, sym, ap, subst, ℕ, suc, ◌+◌, ◌≤◌, ◌&&◌, List, [], ◌∷◌, Option, Some, None, Bool, true, false, cond, IsTrue, map, length, sum_by, option_map}
+use Rattle.std.proofs.Common.{add-one, append-nil, arith, not, ◌++◌, ◌≡◌, ◌∙◌, refl, sym, ap, subst, ℕ, suc, ◌+◌, ◌≤◌, ◌&&◌, List, [], ◌∷◌, Option, Some, None, Bool, true, false, cond, IsTrue, map, length, sum_by, option_map}
 use Rattle.std.specs.List.{list_all, position_from}
 use Rattle.std.specs.Str.{bytes_eq}
 use Rattle.std.proofs.lemmas.Bool.{le-leb}
@@ -15,10 +15,15 @@ use Rattle.lus_program.specs.Programs.{Field}
 use Rattle.lus_meaning.specs.declared.entries.Placed.{Placed}
 use Rattle.lus_meaning.specs.Scopes.{Scope, entry}
 use Rattle.lus_meaning.specs.Loopless.{place_in, type_names}
-use Rattle.lus_meaning.specs.Sized.{DefinitionCounted, field_count}
+use Rattle.lus_meaning.specs.Named.{Distinct, Named, all_new, is_in, known, names_in}
+use Rattle.lus_meaning.specs.Sized.{DefinitionCounted, field_count, variable_count}
 use Rattle.lus_meaning.specs.Tables.{AreKinds, all_constructors, all_declared_by, constants_by, declared_by, fields_by, fields_of_kind, group_kinds, groups, kind_at, kind_named, kinds_by, numbered_from, placed, scope, signatures_by, tables, types_by}
 use Rattle.lus_meaning.specs.Types.{has_few_fields}
-use Rattle.lus_tables.specs.ByTable.{kind_in}
+use Rattle.lus_meaning.proofs.AppendedNames.{all_new_apart, appended_are_new}
+use Rattle.lus_meaning.proofs.Steps.{and_first, and_second}
+use Rattle.lus_tables.specs.ByTable.{all_placed, entered, kind_in, names}
+use Rattle.lus_tables.proofs.Placing.{length-kinds_by, names-kinds_by}
+use Rattle.lus_tables.proofs.Rows.{placed_new}
 
 -- ---- types
 
@@ -51,7 +56,7 @@ module _ (p : Tree) where
 abbrev row_with : {X : Type 0} → (ℕ → X) → TypeDeclaration × ℕ → Text × X
 row_with f e = (e.0.name.text, f e.1)
 
-rows_agree : {X : Type 0} (f g : ℕ → X) (ds : List TypeDeclaration) (n m : ℕ) → n + length ds ≤ m → Below m (λ t. f t ≡ g t)
+pub rows_agree : {X : Type 0} (f g : ℕ → X) (ds : List TypeDeclaration) (n m : ℕ) → n + length ds ≤ m → Below m (λ t. f t ≡ g t)
     → map (row_with f) (numbered_from n ds) ≡ map (row_with g) (numbered_from n ds)
 rows_agree f g [] n m within same = refl
 rows_agree f g (d ∷ ds) n m within same =
@@ -60,23 +65,33 @@ rows_agree f g (d ∷ ds) n m within same =
 
 -- ---- tables
 
+-- of right names the constants are distinct, and so are the constructors
+module _ (p : Tree) (named : Named p) where
+  pub constants_distinct : Distinct (known p []).constants
+  constants_distinct = and_first (all_new [] (known p []).constants) _ (sym (appended_are_new [] (known p []).constants (known p []).constructors) ∙ named.values)
+
+  pub constructors_distinct : Distinct (known p []).constructors
+  constructors_distinct =
+      let k = known p [] in
+      let behind : all_new k.constants k.constructors ≡ true = and_second (all_new [] k.constants) _ (sym (appended_are_new [] k.constants k.constructors) ∙ named.values) in
+      and_second (list_all (λ n. not (is_in k.constants n)) k.constructors) (all_new [] k.constructors) (sym (all_new_apart k.constants [] k.constructors) ∙ ap (λ l. all_new l k.constructors) (append-nil k.constants) ∙ behind)
+
 -- what each table is made of
-pub record IsMade (p : Tree) (ks : List Kind) (s : Scope) : Type 0 where
+pub record IsMade (p : Tree) (s : Scope) : Type 0 where
   pub variables : s.variables ≡ []
-  pub types : s.types ≡ types_by (item kinds.Bool ks) p.types
+  pub types : s.types ≡ types_by (kind_at p) p.types
   pub declared : s.declared ≡ all_declared_by (kind_in s.types) p.types
   pub constructors : s.constructors ≡ all_constructors p
   pub constants : s.constants ≡ constants_by s.constructors p.constants
   pub nodes : s.nodes ≡ signatures_by (kind_in s.types) p.nodes
 
-pub made_of_source : (p : Tree) (ks : List Kind) (s : Scope) → AreKinds p ks → IsMade p ks s → s ≡ tables p
-made_of_source p ks s are made =
-    let types : s.types ≡ (tables p).types = made.types ∙ rows_agree (item kinds.Bool ks) (kind_at p) p.types 0 (length p.types) (omega arith) are.each in
-    let kind : kind_in s.types ≡ kind_named p = ap kind_in types ∙ kind_in-tables p in
+pub made_of_source : (p : Tree) (s : Scope) → IsMade p s → s ≡ tables p
+made_of_source p s made =
+    let kind : kind_in s.types ≡ kind_named p = ap kind_in made.types ∙ kind_in-tables p in
     let declared : s.declared ≡ (tables p).declared = made.declared ∙ ap (λ k. all_declared_by k p.types) kind in
     let constants : s.constants ≡ (tables p).constants = made.constants ∙ ap (λ cs. constants_by cs p.constants) made.constructors in
     let nodes : s.nodes ≡ (tables p).nodes = made.nodes ∙ ap (λ k. signatures_by k p.nodes) kind in
-    λ i. record { variables = made.variables i; constants = constants i; constructors = made.constructors i; types = types i; declared = declared i; nodes = nodes i }
+    λ i. record { variables = made.variables i; constants = constants i; constructors = made.constructors i; types = made.types i; declared = declared i; nodes = nodes i }
 
 -- ---- few fields
 
@@ -99,8 +114,12 @@ module _ (kind : TypeName → Kind) where
 
 -- ---- variables
 
-pub entered_of_source : (p : Tree) (s : Scope) (vs : List (Text × Placed)) (f : Node) → record s { variables = [] } ≡ tables p → vs ≡ placed (kinds_by (kind_in s.types) (groups f)) → record s { variables = vs } ≡ scope p f
-entered_of_source p s vs f made are =
-    let kind : kind_in s.types ≡ kind_named p = ap (λ t. kind_in t.types) made ∙ kind_in-tables p in
-    let placed_by : vs ≡ placed (group_kinds p (groups f)) = are ∙ ap (λ k. placed (kinds_by k (groups f))) kind in
-    λ i. record (made i) { variables = placed_by i }
+-- a node whose variables are few and distinct is entered as it is meant
+pub entered_of_source : (p : Tree) (f : Node) → Distinct (names_in (groups f)) → variable_count (groups f) ≤ 1000 → entered (tables p) f ≡ scope p f
+entered_of_source p f distinct few =
+    let kind = kind_named p in
+    let xs = kinds_by kind (groups f) in
+    let new : all_new [] (names xs) ≡ true = ap (all_new []) (names-kinds_by kind (groups f)) ∙ distinct in
+    let all : all_placed [] xs ≡ placed xs = placed_new xs [] new (omega (arith, length-kinds_by kind (groups f))) in
+    ap (λ k. let s : Scope = record (tables p) { variables = all_placed [] (kinds_by k (groups f)) } in s) (kind_in-tables p)
+    ∙ ap (λ vs. let s : Scope = record (tables p) { variables = vs } in s) all

@@ -8,6 +8,8 @@ mod types;
 mod values;
 mod variables;
 
-pub use scopes::{enter, tables};
+pub use scopes::tables;
+pub use table::saturated;
 pub use types::kind_of_name;
 pub use values::literal;
+pub use variables::enter;

@@ -1,17 +1,16 @@
 //! The nodes of a source, as calls see them.
 
-ghost use Rattle.std.specs.Prelude.{◌≡◌, ◌≤◌, ◌++◌, IfOk, OnOk, length, map};
-ghost use Rattle.lus_syntax.specs.Limits.{most_declarations};
-ghost use Rattle.lus_syntax.specs.View.{group_seen, names_seen, node_seen};
-ghost use Rattle.lus_meaning.specs.Named.{Distinct};
+ghost use Rattle.std.specs.Prelude.{◌≡◌, ◌++◌, IfOk, OnOk, map};
+ghost use Rattle.lus_syntax.specs.View.{group_seen, names_seen, node_seen, tree_seen};
 ghost use Rattle.lus_meaning.specs.ScopeView.{entries_of, signature_of};
 ghost use Rattle.lus_meaning.specs.Tables.{each_of, kinds_by, signature_by, signatures_by};
 ghost use Rattle.lus_tables.specs.ByTable.{kind_told};
 
-use crate::table::declare;
+use crate::table::put;
 use crate::types::kind_of_name;
 use indexmap::IndexMap;
 use lus_meaning::Signature;
+use lus_names::Named;
 use lus_program::Kind;
 use lus_syntax::{Group, Name, Node};
 use lus_values::Memory;
@@ -21,17 +20,16 @@ use std::alloc::Global;
 pub fn nodes(
     alloc: Global,
     types: &IndexMap<String, Kind>,
-    nodes: &[Node],
+    named: &Named,
 ) -> Result<IndexMap<String, Signature>, Memory>
-    requires few { length nodes.now ≤ most_declarations }
-    requires distinct { Distinct (map (λ f. f.name.text) (map node_seen nodes.now)) }
-    ensures { let signatures = signatures_by (kind_told types.now.entries) (map node_seen nodes.now) in
+    ensures { let signatures = signatures_by (kind_told types.now.entries) (tree_seen named.now).nodes in
         IfOk result (λ table. entries_of signature_of table.entries ≡ signatures) }
 {
+    let nodes = named.tree().nodes.as_slice();
     let mut table = IndexMap::new(alloc);
     for (place, node) in nodes.iter().enumerate() {
         let signature = signature(alloc, types, node, place as u32)?;
-        declare(&mut table, &node.name, signature)?;
+        put(&mut table, &node.name, signature)?;
     }
     Ok(table)
 }

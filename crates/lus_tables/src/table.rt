@@ -1,22 +1,16 @@
 //! Tables of names.
 
-ghost use Rattle.std.specs.Prelude.{◌≡◌, ◌∷◌, [], OnOk, false, string_bytes};
-ghost use Rattle.lus_meaning.specs.Named.{is_in};
+ghost use Rattle.std.specs.Prelude.{◌≡◌, OnOk, string_bytes};
 ghost use Rattle.lus_meaning.specs.Scopes.{entry};
-ghost use Rattle.lus_tables.specs.ByTable.{Gains, names, told};
+ghost use Rattle.lus_tables.specs.ByTable.{row_put, saturated as at_most_largest, told};
 
 use indexmap::IndexMap;
 use lus_syntax::Name;
 use lus_values::Memory;
 
-/// Appends a name that the table has not.
-pub fn declare<X: Drop>(
-    table: &mut IndexMap<String, X>,
-    name: &Name,
-    value: X,
-) -> Result<(), Memory>
-    requires { is_in (names (told table.old.entries)) (string_bytes name.now.text) ≡ false }
-    ensures { OnOk result (Gains table.old.entries table.new.entries ((string_bytes name.now.text, value) ∷ [])) }
+/// Puts what a name stands for into a table: behind what stands there, or in the place of what the name stood for.
+pub fn put<X: Drop>(table: &mut IndexMap<String, X>, name: &Name, value: X) -> Result<(), Memory>
+    ensures { OnOk result (told table.new.entries ≡ row_put (told table.old.entries) (string_bytes name.now.text, value)) }
 {
     table.insert(name.text.clone()?, value)?;
     Ok(())
@@ -27,4 +21,15 @@ pub fn find<X: Copy>(table: &IndexMap<String, X>, name: &str) -> Option<X>
     ensures { result ≡ entry (told table.now.entries) name.now }
 {
     table.get(name).copied()
+}
+
+/// A number as it is stored; the largest one in place of those that are larger.
+pub fn saturated(number: usize) -> u32
+    ensures { result ≡ at_most_largest number }
+{
+    if number < 4294967295 {
+        number as u32
+    } else {
+        4294967295
+    }
 }

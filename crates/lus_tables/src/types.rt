@@ -1,16 +1,14 @@
 //! The types of a source: what each type's name means, and what its declaration declares.
 
-ghost use Rattle.std.specs.Prelude.{◌≡◌, ◌++◌, IfOk, OnOk, length, map, string_bytes};
-ghost use Rattle.lus_syntax.specs.View.{definition_seen, fields_seen, names_seen, type_name_seen, type_seen};
-ghost use Rattle.lus_values.specs.Lists.{item};
-ghost use Rattle.lus_program.specs.declared.types.Kind.TheVariants.{Bool as BoolKind};
+ghost use Rattle.std.specs.Prelude.{◌≡◌, ◌++◌, IfOk, OnOk, map, string_bytes};
+ghost use Rattle.lus_syntax.specs.View.{definition_seen, fields_seen, names_seen, tree_seen, type_name_seen, type_seen};
 ghost use Rattle.lus_program.specs.View.{declared_of, field_of};
-ghost use Rattle.lus_meaning.specs.Named.{Distinct};
-ghost use Rattle.lus_meaning.specs.Tables.{all_declared_by, declared_by, fields_by, fields_of_kind, text_of, types_by};
+ghost use Rattle.lus_meaning.specs.Tables.{all_declared_by, declared_by, fields_by, fields_of_kind, kind_at, text_of, types_by};
 ghost use Rattle.lus_tables.specs.ByTable.{kind_told, told};
 
-use crate::table::{declare, find};
+use crate::table::{find, put};
 use indexmap::IndexMap;
+use lus_limits::{Loopless, kinds_of_types};
 use lus_program::{Declared, Field, Kind};
 use lus_syntax::{Definition, Fields, Name, TypeDeclaration, TypeName};
 use lus_values::Memory;
@@ -31,18 +29,15 @@ pub fn kind_of_name(types: &IndexMap<String, Kind>, name: &TypeName) -> Kind
 }
 
 /// The table of types.
-pub fn types(
-    alloc: Global,
-    declarations: &[TypeDeclaration],
-    kinds: &[Kind],
-) -> Result<IndexMap<String, Kind>, Memory>
-    requires alike { length kinds.now ≡ length declarations.now }
-    requires distinct { Distinct (map (λ d. d.name.text) (map type_seen declarations.now)) }
-    ensures { IfOk result (λ table. told table.entries ≡ types_by (item BoolKind kinds.now) (map type_seen declarations.now)) }
+pub fn types(alloc: Global, loopless: &Loopless) -> Result<IndexMap<String, Kind>, Memory>
+    ensures { let p = tree_seen loopless.now in
+        IfOk result (λ table. told table.entries ≡ types_by (kind_at p) p.types) }
 {
+    let kinds = kinds_of_types(alloc, loopless)?;
+    let declarations = loopless.tree().types.as_slice();
     let mut table = IndexMap::new(alloc);
     for (place, declaration) in declarations.iter().enumerate() {
-        declare(&mut table, &declaration.name, kinds[place])?;
+        put(&mut table, &declaration.name, kinds[place])?;
     }
     Ok(table)
 }

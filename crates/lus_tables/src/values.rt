@@ -1,69 +1,59 @@
 //! The constructors and the constants of a source.
 
-ghost use Rattle.std.specs.Prelude.{◌≡◌, ◌≤◌, IfOk, OnOk, length, map, true};
-ghost use Rattle.lus_syntax.specs.Limits.{most_constructors, most_declarations};
-ghost use Rattle.lus_syntax.specs.View.{constant_seen, definition_seen, literal_seen, names_seen, type_seen};
-ghost use Rattle.lus_values.specs.Lists.{Each};
+ghost use Rattle.std.specs.Prelude.{◌≡◌, IfOk, OnOk};
+ghost use Rattle.lus_syntax.specs.View.{definition_seen, literal_seen, names_seen, tree_seen};
 ghost use Rattle.lus_values.specs.View.{value_of};
-ghost use Rattle.lus_meaning.specs.Named.{Distinct, all_constructor_names, all_new, constructor_names};
 ghost use Rattle.lus_meaning.specs.ScopeView.{entries_of};
-ghost use Rattle.lus_meaning.specs.Sized.{DefinitionCounted};
-ghost use Rattle.lus_meaning.specs.Tables.{constants_by, constructors_by, constructors_from, constructors_of, minus, text_of, value_in};
-ghost use Rattle.lus_tables.specs.ByTable.{Gains, names as names_in, told};
+ghost use Rattle.lus_meaning.specs.Tables.{constants_by, constructors_by, minus, value_in};
+ghost use Rattle.lus_tables.specs.ByTable.{rows_put, stored_constructors, stored_from, told};
 
-use crate::table::{declare, find};
+use crate::table::{find, put, saturated};
 use indexmap::IndexMap;
 use lus_meaning::Constructor;
-use lus_syntax::{Constant, Definition, Literal, Name, TypeDeclaration};
+use lus_names::Named;
+use lus_syntax::{Definition, Literal, Name};
 use lus_values::{Memory, Value};
 use std::alloc::Global;
 
 /// The table of constructors.
-pub fn constructors(
-    alloc: Global,
-    declarations: &[TypeDeclaration],
-) -> Result<IndexMap<String, Constructor>, Memory>
-    requires few { length declarations.now ≤ most_declarations }
-    requires counted { Each (λ d. DefinitionCounted d.definition) (map type_seen declarations.now) }
-    requires distinct { Distinct (all_constructor_names (map type_seen declarations.now)) }
-    ensures { IfOk result (λ table. told table.entries ≡ constructors_by (map type_seen declarations.now)) }
+pub fn constructors(alloc: Global, named: &Named) -> Result<IndexMap<String, Constructor>, Memory>
+    ensures { IfOk result (λ table. told table.entries ≡ constructors_by (tree_seen named.now).types) }
 {
+    let declarations = named.tree().types.as_slice();
     let mut table = IndexMap::new(alloc);
     for (place, declaration) in declarations.iter().enumerate() {
-        declare_constructors(&mut table, place as u32, &declaration.definition)?;
+        put_constructors(&mut table, place as u32, &declaration.definition)?;
     }
     Ok(table)
 }
 
-/// Appends the constructors that a type has.
-fn declare_constructors(
+/// Puts the constructors that a type has into a table.
+fn put_constructors(
     table: &mut IndexMap<String, Constructor>,
     enumeration: u32,
     definition: &Definition,
 ) -> Result<(), Memory>
-    requires counted { DefinitionCounted (definition_seen definition.now) }
-    requires new { all_new (names_in (told table.old.entries)) (constructor_names (definition_seen definition.now)) ≡ true }
-    ensures { OnOk result (Gains table.old.entries table.new.entries (constructors_of (definition_seen definition.now) enumeration)) }
+    ensures { let more = stored_constructors (definition_seen definition.now) enumeration in
+        OnOk result (told table.new.entries ≡ rows_put (told table.old.entries) more) }
 {
     match definition {
         Definition::Alias(_) => Ok(()),
-        Definition::Enumeration(names) => declare_in_order(table, enumeration, names),
+        Definition::Enumeration(names) => put_in_order(table, enumeration, names),
         Definition::Structure(_) => Ok(()),
     }
 }
 
-fn declare_in_order(
+fn put_in_order(
     table: &mut IndexMap<String, Constructor>,
     enumeration: u32,
     names: &[Name],
 ) -> Result<(), Memory>
-    requires few { length names.now ≤ most_constructors }
-    requires new { all_new (names_in (told table.old.entries)) (map text_of (names_seen names.now)) ≡ true }
-    ensures { OnOk result (Gains table.old.entries table.new.entries (constructors_from enumeration 0 (names_seen names.now))) }
+    ensures { let more = stored_from enumeration 0 (names_seen names.now) in
+        OnOk result (told table.new.entries ≡ rows_put (told table.old.entries) more) }
 {
     for (number, name) in names.iter().enumerate() {
-        let place = number as u32;
-        declare(table, name, Constructor { enumeration, place })?;
+        let place = saturated(number);
+        put(table, name, Constructor { enumeration, place })?;
     }
     Ok(())
 }
@@ -72,16 +62,16 @@ fn declare_in_order(
 pub fn constants(
     alloc: Global,
     constructors: &IndexMap<String, Constructor>,
-    constants: &[Constant],
+    named: &Named,
 ) -> Result<IndexMap<String, Value>, Memory>
-    requires distinct { Distinct (map (λ c. c.name.text) (map constant_seen constants.now)) }
-    ensures { let values = constants_by (told constructors.now.entries) (map constant_seen constants.now) in
+    ensures { let values = constants_by (told constructors.now.entries) (tree_seen named.now).constants in
         IfOk result (λ table. entries_of value_of table.entries ≡ values) }
 {
+    let constants = named.tree().constants.as_slice();
     let mut table = IndexMap::new(alloc);
     for constant in constants {
         let value = literal(constructors, &constant.value);
-        declare(&mut table, &constant.name, value)?;
+        put(&mut table, &constant.name, value)?;
     }
     Ok(table)
 }
