@@ -1,7 +1,6 @@
 -- An expression has a size that its tokens weigh at least: one for itself, two for `fby`, none for parentheses.
 use Rattle.std.proofs.Common.{arith, ◌≡◌, ap, ℕ, suc, ◌+◌, ◌≤◌, List, [], ◌∷◌, ◌++◌, Option, Some, sum_by}
 use Rattle.std.proofs.lemmas.List.Sums.{sum_by-cons}
-use Rattle.lus_values.specs.declared.operator.Op.{Op}
 use Rattle.lus_syntax.specs.declared.token.Symbol.TheVariants as symbols
 use Rattle.lus_syntax.specs.declared.token.Word.TheVariants as words
 use Rattle.lus_syntax.specs.declared.tree.Infix.{Infix}
@@ -9,9 +8,10 @@ use Rattle.lus_syntax.specs.declared.tree.Infix.TheVariants as operators
 use Rattle.lus_syntax.specs.Lexemes.{Sign, Keyword, Lexeme, tok}
 use Rattle.lus_syntax.specs.Trees.{Lead, Expression, Call, Structure, Merge, Variadic, Field, Parentheses, When, Unary, Binary, If, Parts, End, More, Equation, Node, Tree}
 use Rattle.lus_spelling.specs.declared.form.Form.{Form}
-use Rattle.lus_spelling.specs.Expressions.{ident, label, Level, Implication, Disjunction, Conjunction, Comparison, Sum, Term, joined_at, joins_at, Spells, SpellsAll, SpellsPart, call, structure, variadic, parentheses, undotted, dotted, primary, merge, prefixed, bare, first, next, choice, else_choice, else_value, arrow_choice, arrow_value, arrow, whole, fby, when, final, further, argument, init, branch}
+use Rattle.lus_spelling.specs.Expressions.{ident, label, Level, Spells, SpellsAll, SpellsPart, call, structure, variadic, parentheses, undotted, dotted, primary, merge, prefixed, bare, first, next, choice, else_choice, else_value, arrow_choice, arrow_value, arrow, whole, fby, when, final, further, argument, init, branch}
 use Rattle.lus_spelling.specs.Lists.{Repeated, none, again, Nothing}
 use Rattle.lus_spelling.specs.Declarations.{SpellsEquation, equation, SpellsBody, body, SpellsNode, node, SpellsProgram, empty, with_types, with_constants, with_node}
+use Rattle.lus_spelling.proofs.Complete.{joined_by}
 use Rattle.lus_few_parts.proofs.Weights.{weight_some, weights, weights_append}
 
 abbrev pub infix_size : Infix → ℕ
@@ -43,16 +43,6 @@ equation_size q = suc (size q.right)
 abbrev pub node_size : Node → ℕ
 node_size f = sum_by equation_size f.equations
 
--- what joins operands of a level is no `fby`
-joined_size : (level : Level) (o : Option (Level × Op)) (op : Infix) → joins_at level o ≡ Some op → infix_size op ≤ 1
-joined_size Implication (Some (Implication, q)) op e = let same : operators.Compute q ≡ op = cc in omega (arith, ap infix_size same)
-joined_size Disjunction (Some (Disjunction, q)) op e = let same : operators.Compute q ≡ op = cc in omega (arith, ap infix_size same)
-joined_size Conjunction (Some (Conjunction, q)) op e = let same : operators.Compute q ≡ op = cc in omega (arith, ap infix_size same)
-joined_size Comparison (Some (Comparison, q)) op e = let same : operators.Compute q ≡ op = cc in omega (arith, ap infix_size same)
-joined_size Sum (Some (Sum, q)) op e = let same : operators.Compute q ≡ op = cc in omega (arith, ap infix_size same)
-joined_size Term (Some (Term, q)) op e = let same : operators.Compute q ≡ op = cc in omega (arith, ap infix_size same)
-joined_size _ _ op e = absurd cc
-
 mutual
   size_fits : {level : Level} {t : Expression} {ts : List Lexeme} → Spells level t ts → size t ≤ weights ts
   size_fits (call n o {us} {ts} h) = omega (arith, sizes_fit h)
@@ -66,7 +56,8 @@ mutual
   size_fits (prefixed {level} {operand} {other} l op s {t} {ts} heads e h) = omega (arith, weight_some l, size_fits h)
   size_fits (bare {level} {operand} {other} {t} {ts} heads h) = size_fits h
   size_fits (first {level} {operand} {t} {ts} joins h) = size_fits h
-  size_fits (next {level} {operand} l op s {a} {b} {xs} {ys} joins e may h k) = omega (arith, weights_append xs (tok l s ∷ ys), joined_size level (joined_at l) op e, weight_some l, size_fits h, size_fits k)
+  size_fits (next {level} {operand} l op s {a} {b} {xs} {ys} joins e may h k) =
+      omega (arith, weights_append xs (tok l s ∷ ys), ap infix_size (joined_by level l op e).1, weight_some l, size_fits h, size_fits k)
   size_fits (choice i t e {c} {a} {b} {xs} {ys} {zs} h k m) =
       let last = tok (Keyword words.Else) e ∷ zs in
       omega (arith, weights_append xs (tok (Keyword words.Then) t ∷ (ys ++ last)), weights_append ys last, size_fits h, size_fits k, size_fits m)
