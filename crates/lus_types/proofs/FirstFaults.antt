@@ -15,10 +15,6 @@ use Rattle.lus_meaning.specs.Refusals.{FirstFails, HasFewParts}
 pub constants_fail : (p : Tree) → list_all (constant_typed p) p.constants ≡ false → IsTyped p → ⊥
 constants_fail p failed typed = let held : list_all (constant_typed p) p.constants ≡ true = typed.constants in cc
 
-pub nodes_hold : {X E : Type 0} (p : Tree) (r : Result X E) → list_all (constant_typed p) p.constants ≡ true → OnOk r (Each (NodeTyped p) p.nodes) → OnOk r (IsTyped p)
-nodes_hold p (Ok x) constants nodes = let held : IsTrue (list_all (constant_typed p) p.constants) = search (rules, constants) in record { constants = held; nodes = nodes }
-nodes_hold p (Err e) constants nodes = nodes
-
 pub recursion_fails : (p : Tree) (n : RefusalNumber) → Counted p → Named p → (n ≢ numbers.Memory → (Loopless p → ⊥) × (n ≡ numbers.Recursion)) → n ≢ numbers.Memory → FirstFails p n
 recursion_fails p n counted named fails other = let wrong = fails other in rw wrong.1 (counted, named, wrong.0)
 

@@ -1,36 +1,63 @@
--- A node of the code is the one that is meant, part by part.
-use Rattle.std.proofs.Common.{◌≡◌, ◌∙◌, ap, sym, ℕ, List, map, flat_map, true, false}
+-- What the tables of a source say of its constants and nodes is what the source says.
+use Rattle.std.proofs.Common.{arith, ◌≡◌, ◌∙◌, ap, ap₂, refl, subst, sym, ℕ, ◌≤◌, ◌++◌, List, [], ◌∷◌, true, length, map, flat_map}
+use Rattle.std.specs.Prelude.{None, Some, option_map}
 use Rattle.std.specs.List.{list_all}
-use Rattle.std.specs.Prelude.{option_map, string_bytes}
+use Rattle.std.proofs.lemmas.List.Sums.{sum_by-append}
 use Rattle.lus_syntax.specs.declared.tree.NodeKind.{NodeKind}
 use Rattle.lus_syntax.specs.Lexemes.{Text}
 use Rattle.lus_syntax.specs.Trees as tree
-use Rattle.lus_program.specs.declared.node.Node.{Node as StoredNode}
+use Rattle.lus_values.specs.Lists.{Each}
 use Rattle.lus_program.specs.declared.types.Kind.{Kind}
 use Rattle.lus_program.specs.Programs.{Variable, Equation, Node}
-use Rattle.lus_program.specs.View.{equations_from, node_of, variable_of}
+use Rattle.lus_meaning.specs.Named.{NodeNamed, known}
 use Rattle.lus_meaning.specs.Scopes.{Scope}
 use Rattle.lus_meaning.specs.Sized.{variable_count}
-use Rattle.lus_meaning.specs.Tables.{groups, kind_named, scope}
+use Rattle.lus_meaning.specs.Tables.{groups, kind_named, literal_value, scope, tables}
 use Rattle.lus_meaning.specs.Meaning.{equations_meant, node_meant, test_meant, variables_of}
-use Rattle.lus_meaning.specs.WellTyped.{NodeTyped, test_typed}
-use Rattle.lus_types.specs.GroupVariables.{variables_in}
-use Rattle.lus_tables.proofs.Groups.{length-kinds_by}
-use Rattle.lus_tables.proofs.OfSource.{kind_in-tables}
+use Rattle.lus_meaning.specs.WellTyped.{NodeTyped, constant_typed, value_is}
+use Rattle.lus_types.specs.ByScope.{AreTypedIn, IsTypedIn, constant_fits, node_in, nodes_in, variables_in}
+use Rattle.lus_tables.specs.ByTable.{entered, saturated}
+use Rattle.lus_tables.proofs.OfSource.{entered_of_source, kind_in-tables}
+use Rattle.lus_tables.proofs.Placing.{length-kinds_by}
+use Rattle.lus_tables.proofs.Rows.{saturated-small}
 
-variables_are : (p : tree.Tree) (f : tree.Node) (gs : List tree.Group) → flat_map (variables_in (scope p f)) gs ≡ flat_map (variables_of p (scope p f)) gs
-variables_are p f gs = ap (λ (kind : tree.TypeName → Kind). flat_map (λ g. map (λ n. record { name = n.text; kind = kind g.type_name; test = option_map (test_meant (scope p f)) g.test }) g.names) gs) (kind_in-tables p)
-
-same_node : (k l : NodeKind) (a b : Text) (m n o q : ℕ) (us vs : List Variable) (es fs : List Equation) → k ≡ l → a ≡ b → m ≡ n → o ≡ q → us ≡ vs → es ≡ fs
+pub same_node : (k l : NodeKind) (a b : Text) (m n o q : ℕ) (us vs : List Variable) (es fs : List Equation) → k ≡ l → a ≡ b → m ≡ n → o ≡ q → us ≡ vs → es ≡ fs
     → (let x : Node = record { kind = k; name = a; inputs = m; outputs = o; variables = us; equations = es } in x) ≡ record { kind = l; name = b; inputs = n; outputs = q; variables = vs; equations = fs }
 same_node k l a b m n o q us vs es fs kind name inputs outputs variables equations = cc
 
-pub node_is : (p : tree.Tree) (f : tree.Node) (s : Scope) (n : StoredNode) → s ≡ scope p f → n.kind ≡ f.kind → string_bytes n.name ≡ f.name.text → n.inputs ≡ variable_count f.inputs → n.outputs ≡ variable_count f.outputs
-    → map variable_of n.variables.items ≡ flat_map (variables_in s) (groups f) → equations_from 0 n.equations.items ≡ equations_meant s 0 f.equations → node_of n ≡ node_meant p f
-node_is p f s n scoped kind name inputs outputs variables equations =
-    same_node _ _ _ _ _ _ _ _ _ _ _ _ kind name (inputs ∙ sym (length-kinds_by (kind_named p) f.inputs)) (outputs ∙ sym (length-kinds_by (kind_named p) f.outputs))
-    (variables ∙ ap (λ t. flat_map (variables_in t) (groups f)) scoped ∙ variables_are p f (groups f))
-    (equations ∙ ap (λ t. equations_meant t 0 f.equations) scoped)
+module _ (p : tree.Tree) where
+  pub constants_are : (cs : List tree.Constant) → list_all (constant_fits (tables p)) cs ≡ list_all (constant_typed p) cs
+  constants_are cs = ap (λ (kind : tree.TypeName → Kind). list_all (λ (c : tree.Constant). elim c.type_name [ None ↦ true | Some y ↦ value_is (literal_value p c.value) (kind y) ]) cs) (kind_in-tables p)
 
-pub tests_fail : (p : tree.Tree) (f : tree.Node) (s : Scope) → s ≡ scope p f → list_all (λ g. test_typed s g.test) (groups f) ≡ false → NodeTyped p f → ⊥
-tests_fail p f s scoped failed typed = let held : list_all (λ g. test_typed s g.test) (groups f) ≡ true = rw scoped typed.tests in cc
+  variables_are : (f : tree.Node) (gs : List tree.Group) → flat_map (variables_in (scope p f)) gs ≡ flat_map (variables_of p (scope p f)) gs
+  variables_are f gs = ap (λ (kind : tree.TypeName → Kind). flat_map (λ g. map (λ n. record { name = n.text; kind = kind g.type_name; test = option_map (test_meant (scope p f)) g.test }) g.names) gs) (kind_in-tables p)
+
+  -- what a node has of variables of one part is few where it has few in all
+  module _ (f : tree.Node) (few : variable_count (groups f) ≤ 1000) where
+    counted : saturated (variable_count f.inputs) ≡ variable_count f.inputs
+    counted = saturated-small (variable_count f.inputs) (omega (arith, few, sum_by-append (λ g. length g.names) f.inputs (f.outputs ++ f.locals)))
+
+    counted_too : saturated (variable_count f.outputs) ≡ variable_count f.outputs
+    counted_too = saturated-small (variable_count f.outputs) (omega (arith, few, sum_by-append (λ g. length g.names) f.inputs (f.outputs ++ f.locals), sum_by-append (λ g. length g.names) f.outputs f.locals))
+
+    node_is : node_in (scope p f) f ≡ node_meant p f
+    node_is =
+        same_node _ _ _ _ _ _ _ _ _ _ _ _ refl refl (counted ∙ sym (length-kinds_by (kind_named p) f.inputs)) (counted_too ∙ sym (length-kinds_by (kind_named p) f.outputs))
+        (variables_are f (groups f)) refl
+
+  pub nodes_are : (fs : List tree.Node) → Each (λ f. NodeNamed (known p (groups f)) f) fs → Each (λ f. variable_count (groups f) ≤ 1000) fs → nodes_in (tables p) fs ≡ map (node_meant p) fs
+  nodes_are [] named few = refl
+  nodes_are (f ∷ fs) named few =
+      ap₂ (λ (g : Node) gs. g ∷ gs) (ap (λ s. node_in s f) (entered_of_source p f named.0.distinct few.0) ∙ node_is f few.0) (nodes_are fs named.1 few.1)
+
+  pub nodes_typed : (fs : List tree.Node) → Each (λ f. NodeNamed (known p (groups f)) f) fs → Each (λ f. variable_count (groups f) ≤ 1000) fs → AreTypedIn (tables p) fs → Each (NodeTyped p) fs
+  nodes_typed [] named few typed = typed
+  nodes_typed (f ∷ fs) named few typed =
+      let first = subst (λ s. IsTypedIn s f) (entered_of_source p f named.0.distinct few.0) typed.0 in
+      (record { tests = first.tests; equations = first.equations; memory = first.memory }, nodes_typed fs named.1 few.1 typed.1)
+
+  pub nodes_fit : (fs : List tree.Node) → Each (λ f. NodeNamed (known p (groups f)) f) fs → Each (λ f. variable_count (groups f) ≤ 1000) fs → Each (NodeTyped p) fs → AreTypedIn (tables p) fs
+  nodes_fit [] named few typed = typed
+  nodes_fit (f ∷ fs) named few typed =
+      let first : IsTypedIn (scope p f) f = record { tests = typed.0.tests; equations = typed.0.equations; memory = typed.0.memory } in
+      (subst (λ s. IsTypedIn s f) (sym (entered_of_source p f named.0.distinct few.0)) first, nodes_fit fs named.1 few.1 typed.1)

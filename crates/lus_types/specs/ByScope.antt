@@ -1,12 +1,19 @@
--- The variables that a group declares, by the table of a node.
-use Rattle.std.specs.Prelude.{Bool, List, map, option_map}
+-- What a source means and whether it is well typed, by what the names in its text stand for.
+use Rattle.std.specs.Prelude.{Bool, true, List, Option, Some, None, IsTrue, flat_map, map, option_map}
 use Rattle.std.specs.List.{list_all}
-use Rattle.lus_syntax.specs.Trees.{Named, Group}
-use Rattle.lus_program.specs.Programs.{Variable}
+use Rattle.lus_syntax.specs.Trees.{Named, Constant, Group, Node as SourceNode}
+use Rattle.lus_values.specs.Lists.{Each}
+use Rattle.lus_program.specs.Programs.{Node, Variable}
 use Rattle.lus_meaning.specs.Scopes.{Scope}
-use Rattle.lus_meaning.specs.Meaning.{test_meant}
-use Rattle.lus_meaning.specs.WellTyped.{test_typed}
-use Rattle.lus_tables.specs.ByTable.{kind_in}
+use Rattle.lus_meaning.specs.Sized.{variable_count}
+use Rattle.lus_meaning.specs.Tables.{groups, value_in}
+use Rattle.lus_meaning.specs.Meaning.{equations_meant, test_meant}
+use Rattle.lus_meaning.specs.WellTyped.{equation_typed, memory_fits, test_typed, value_is}
+use Rattle.lus_tables.specs.ByTable.{entered, kind_in, saturated}
+
+-- a constant with a declared type has that type
+abbrev pub constant_fits : Scope → Constant → Bool
+constant_fits s c = elim c.type_name [ None ↦ true | Some y ↦ value_is (value_in s.constructors c.value) (kind_in s.types y) ]
 
 -- the variable of this name that a group declares
 abbrev pub variable_in : Scope → Group → Named → Variable
@@ -19,3 +26,28 @@ variables_in s g = map (variable_in s g) g.names
 -- whether the tests of groups are well typed
 abbrev pub tests_typed : Scope → List Group → Bool
 tests_typed s gs = list_all (λ g. test_typed s g.test) gs
+
+-- the node that is meant
+abbrev pub node_in : Scope → SourceNode → Node
+node_in s f = record {
+  kind = f.kind;
+  name = f.name.text;
+  inputs = saturated (variable_count f.inputs);
+  outputs = saturated (variable_count f.outputs);
+  variables = flat_map (variables_in s) (groups f);
+  equations = equations_meant s 0 f.equations;
+}
+
+-- it is well typed
+pub record IsTypedIn (s : Scope) (f : SourceNode) : Type 0 where
+  pub tests : IsTrue (tests_typed s (groups f))
+  pub equations : IsTrue (list_all (equation_typed s) f.equations)
+  pub memory : IsTrue (memory_fits f.kind s f.equations)
+
+-- nodes, each with its own variables
+
+abbrev pub nodes_in : Scope → List SourceNode → List Node
+nodes_in s fs = map (λ f. node_in (entered s f) f) fs
+
+abbrev pub AreTypedIn : Scope → List SourceNode → Type 0
+AreTypedIn s fs = Each (λ f. IsTypedIn (entered s f) f) fs

@@ -1,2 +1,2 @@
-pub mod GroupVariables
+pub mod ByScope
 pub mod Numbers

@@ -1,25 +1,24 @@
 //! Nodes: the tests of their variables and their equations are well typed, and a function keeps no memory.
 
-ghost use Rattle.std.specs.Prelude.{◌≡◌, ◌≤◌, ◌+◌, ◌++◌, IfOk, IfErr, OnOk, flat_map, is_none, length, map, option_map, true, false};
+ghost use Rattle.std.specs.Prelude.{◌≡◌, ◌+◌, ◌++◌, IfOk, IfErr, OnOk, flat_map, is_none, length, map, option_map, true, false};
 ghost use Rattle.std.specs.List.{list_all};
-ghost use Rattle.lus_syntax.specs.Limits.{most_variables};
-ghost use Rattle.lus_syntax.specs.View.{equation_seen, group_seen, node_seen, test_seen, tree_seen};
+ghost use Rattle.lus_syntax.specs.View.{equation_seen, group_seen, node_seen, test_seen};
 ghost use Rattle.lus_program.specs.View.{equations_from, node_of, variable_of};
-ghost use Rattle.lus_meaning.specs.Tables.{groups, scope as scope_in};
+ghost use Rattle.lus_meaning.specs.Tables.{groups};
 ghost use Rattle.lus_meaning.specs.Sized.{variable_count};
-ghost use Rattle.lus_meaning.specs.Meaning.{equations_meant, node_meant, test_meant};
-ghost use Rattle.lus_meaning.specs.WellTyped.{NodeTyped, equation_typed, is_pure, memory_fits, test_typed};
+ghost use Rattle.lus_meaning.specs.Meaning.{equations_meant, test_meant};
+ghost use Rattle.lus_meaning.specs.WellTyped.{equation_typed, is_pure, memory_fits, test_typed};
 ghost use Rattle.lus_meaning.specs.ScopeView.{scope_of, Faulty};
-ghost use Rattle.lus_types.specs.GroupVariables.{tests_typed, variables_in};
+ghost use Rattle.lus_tables.specs.ByTable.{saturated};
+ghost use Rattle.lus_types.specs.ByScope.{IsTypedIn, node_in, tests_typed, variables_in};
 
 use lus_elaboration::{clock_variable, equation, memory, test_placed};
 use lus_meaning::{Fault, Scope};
 use lus_program::{Equation, Node, Test, Variable};
 use lus_syntax::{
     Equation as SourceEquation, Group, Node as SourceNode, NodeKind, Place, Test as SourceTest,
-    Tree,
 };
-use lus_tables::kind_of_name;
+use lus_tables::{kind_of_name, saturated as stored};
 use std::alloc::Global;
 
 /// The test of a group of variables, where it has one.
@@ -81,11 +80,10 @@ struct Variables {
 
 /// The variables of a node.
 fn node_variables(alloc: Global, scope: &Scope, source: &SourceNode) -> Result<Variables, Fault>
-    requires { variable_count (groups (node_seen source.now)) ≤ most_variables }
     ensures meant { let meant = flat_map (variables_in (scope_of scope.now)) (groups (node_seen source.now)) in
         IfOk result (λ v. map variable_of v.all.items ≡ meant) }
-    ensures inputs { IfOk result (λ v. v.inputs ≡ variable_count (node_seen source.now).inputs) }
-    ensures outputs { IfOk result (λ v. v.outputs ≡ variable_count (node_seen source.now).outputs) }
+    ensures inputs { IfOk result (λ v. v.inputs ≡ saturated (variable_count (node_seen source.now).inputs)) }
+    ensures outputs { IfOk result (λ v. v.outputs ≡ saturated (variable_count (node_seen source.now).outputs)) }
     ensures typed { OnOk result (tests_typed (scope_of scope.now) (groups (node_seen source.now)) ≡ true) }
     ensures refused { IfErr result (Faulty (tests_typed (scope_of scope.now) (groups (node_seen source.now)) ≡ false)) }
 {
@@ -97,8 +95,8 @@ fn node_variables(alloc: Global, scope: &Scope, source: &SourceNode) -> Result<V
     push_groups(scope, &source.locals, &mut all)?;
     Ok(Variables {
         all,
-        inputs: inputs as u32,
-        outputs: outputs as u32,
+        inputs: stored(inputs),
+        outputs: stored(outputs),
     })
 }
 
@@ -146,12 +144,10 @@ fn check_memory(scope: &Scope, kind: NodeKind, sources: &[SourceEquation]) -> Re
 }
 
 /// A node, as the program has it, where it is well typed.
-pub fn node(alloc: Global, tree: &Tree, scope: &Scope, source: &SourceNode) -> Result<Node, Fault>
-    requires scoped { scope_of scope.now ≡ scope_in (tree_seen tree.now) (node_seen source.now) }
-    requires few { variable_count (groups (node_seen source.now)) ≤ most_variables }
-    ensures meant { IfOk result (λ n. node_of n ≡ node_meant (tree_seen tree.now) (node_seen source.now)) }
-    ensures typed { OnOk result (NodeTyped (tree_seen tree.now) (node_seen source.now)) }
-    ensures refused { IfErr result (Faulty (NodeTyped (tree_seen tree.now) (node_seen source.now) → ⊥)) }
+pub fn node(alloc: Global, scope: &Scope, source: &SourceNode) -> Result<Node, Fault>
+    ensures meant { IfOk result (λ n. node_of n ≡ node_in (scope_of scope.now) (node_seen source.now)) }
+    ensures typed { OnOk result (IsTypedIn (scope_of scope.now) (node_seen source.now)) }
+    ensures refused { IfErr result (Faulty (IsTypedIn (scope_of scope.now) (node_seen source.now) → ⊥)) }
 {
     let variables = node_variables(alloc, scope, source)?;
     let equations = equations(alloc, scope, &source.equations)?;

@@ -4,17 +4,16 @@ ghost use Rattle.std.specs.Prelude.{◌≡◌, ◌≢◌, ◌≤◌, IfErr, IfOk
 ghost use Rattle.lus_syntax.specs.declared.refusal.RefusalNumber.TheVariants as numbers;
 ghost use Rattle.lus_syntax.specs.Limits.{most_parts};
 ghost use Rattle.lus_syntax.specs.Refusals.{HasShape};
-ghost use Rattle.lus_syntax.specs.View.{tree_seen};
-ghost use Rattle.lus_values.specs.Lists.{Each};
+ghost use Rattle.lus_syntax.specs.View.{node_seen, tree_seen};
 ghost use Rattle.lus_program.specs.Parts.{program_parts};
 ghost use Rattle.lus_program.specs.View.{node_of, program_seen};
 ghost use Rattle.lus_meaning.specs.Named.{Named as IsNamed};
 ghost use Rattle.lus_meaning.specs.Sized.{Bounded, Counted as IsCounted};
-ghost use Rattle.lus_meaning.specs.Tables.{tables as tables_of};
-ghost use Rattle.lus_meaning.specs.Meaning.{node_meant, program_of};
+ghost use Rattle.lus_meaning.specs.Meaning.{program_of};
 ghost use Rattle.lus_typing.specs.Refusals.{RefusesFor};
-ghost use Rattle.lus_meaning.specs.WellTyped.{IsTyped, NodeTyped};
+ghost use Rattle.lus_meaning.specs.WellTyped.{IsTyped};
 ghost use Rattle.lus_meaning.specs.ScopeView.{Faulty, scope_of};
+ghost use Rattle.lus_types.specs.ByScope.{AreTypedIn, nodes_in};
 ghost use Rattle.lus_types.specs.Numbers.{number_of};
 
 use crate::constants::check_constants;
@@ -24,7 +23,7 @@ use lus_limits::{Loopless, check_counts, check_sizes};
 use lus_meaning::{Counted, Fault, Scope};
 use lus_names::{Named, check_names};
 use lus_program::{Node, Program};
-use lus_syntax::{Refusal, RefusalNumber, Tree};
+use lus_syntax::{Node as SourceNode, Refusal, RefusalNumber, Tree};
 use lus_tables::{enter, tables};
 use std::alloc::Global;
 
@@ -108,42 +107,27 @@ fn program(alloc: Global, loopless: &Loopless) -> Result<Program, Fault>
     ensures means { IfOk result (λ q. program_seen q ≡ program_of (tree_seen loopless.now)) }
     ensures refused { IfErr result (Faulty (IsTyped (tree_seen loopless.now) → ⊥)) }
 {
+    let tree = loopless.tree();
     let mut scope = tables(alloc, loopless)?;
-    let nodes = typed(alloc, loopless.tree(), &mut scope)?;
+    check_constants(&scope, &tree.constants)?;
+    let nodes = nodes(alloc, &mut scope, &tree.nodes)?;
     Ok(Program {
         types: scope.declared,
         nodes,
     })
 }
 
-/// The nodes of a source whose constants have the types that they declare.
-fn typed(alloc: Global, tree: &Tree, scope: &mut Scope) -> Result<Vec<Node>, Fault>
-    requires counted { IsCounted (tree_seen tree.now) }
-    requires named { IsNamed (tree_seen tree.now) }
-    requires scoped { scope_of scope.old ≡ tables_of (tree_seen tree.now) }
-    ensures ok { OnOk result (IsTyped (tree_seen tree.now)) }
-    ensures meant { IfOk result (λ ns. map node_of ns.items ≡ map (node_meant (tree_seen tree.now)) (tree_seen tree.now).nodes) }
-    ensures declared { OnOk result ((scope_of scope.new).declared ≡ (tables_of (tree_seen tree.now)).declared) }
-    ensures refused { IfErr result (Faulty (IsTyped (tree_seen tree.now) → ⊥)) }
+/// Nodes, each by its own variables.
+fn nodes(alloc: Global, scope: &mut Scope, sources: &[SourceNode]) -> Result<Vec<Node>, Fault>
+    ensures typed { OnOk result (AreTypedIn (scope_of scope.old) (map node_seen sources.now)) }
+    ensures meant { IfOk result (λ ns. map node_of ns.items ≡ nodes_in (scope_of scope.old) (map node_seen sources.now)) }
+    ensures declared { OnOk result ((scope_of scope.new).declared ≡ (scope_of scope.old).declared) }
+    ensures refused { IfErr result (Faulty (AreTypedIn (scope_of scope.old) (map node_seen sources.now) → ⊥)) }
 {
-    check_constants(tree, scope)?;
-    nodes(alloc, tree, scope)
-}
-
-/// The nodes of a source, each by its own variables.
-fn nodes(alloc: Global, tree: &Tree, scope: &mut Scope) -> Result<Vec<Node>, Fault>
-    requires counted { IsCounted (tree_seen tree.now) }
-    requires named { IsNamed (tree_seen tree.now) }
-    requires scoped { scope_of scope.old ≡ tables_of (tree_seen tree.now) }
-    ensures ok { OnOk result (Each (NodeTyped (tree_seen tree.now)) (tree_seen tree.now).nodes) }
-    ensures meant { IfOk result (λ ns. map node_of ns.items ≡ map (node_meant (tree_seen tree.now)) (tree_seen tree.now).nodes) }
-    ensures declared { OnOk result ((scope_of scope.new).declared ≡ (tables_of (tree_seen tree.now)).declared) }
-    ensures refused { IfErr result (Faulty (Each (NodeTyped (tree_seen tree.now)) (tree_seen tree.now).nodes → ⊥)) }
-{
-    let mut nodes = Vec::with_capacity(alloc, tree.nodes.len())?;
-    for source in &tree.nodes {
+    let mut nodes = Vec::with_capacity(alloc, sources.len())?;
+    for source in sources {
         enter(alloc, scope, source)?;
-        nodes.push(node(alloc, tree, scope, source)?)?;
+        nodes.push(node(alloc, scope, source)?)?;
     }
     Ok(nodes)
 }

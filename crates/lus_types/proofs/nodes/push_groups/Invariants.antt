@@ -4,7 +4,7 @@ use Rattle.lus_syntax.specs.View.{group_seen}
 use Rattle.lus_program.specs.View.{variable_of}
 use Rattle.lus_meaning.specs.WellTyped.{test_typed}
 use Rattle.lus_meaning.specs.ScopeView.{scope_of}
-use Rattle.lus_types.specs.GroupVariables.{variables_in}
+use Rattle.lus_types.specs.ByScope.{variables_in}
 use Rattle.lus_types.proofs.nodes.push_groups.Given as goal
 
 abbrev pub invariant-loop-group : goal.invariant-loop-group
