@@ -1,6 +1,7 @@
 //! A name that nothing declares.
 
-use lus_faults::{Edit, Finding, nearest};
+use crate::said::{Said, told_of};
+use lus_faults::nearest;
 use lus_syntax::Name;
 use std::alloc::{AllocError, Global};
 
@@ -16,15 +17,15 @@ pub enum Role {
 }
 
 impl Role {
-    /// What there is none of.
-    fn as_str(self) -> &'static str {
+    /// The sentence on a name that there is none of.
+    fn sentence(self) -> &'static str {
         match self {
-            Role::Value => "no variable, constant or constructor",
-            Role::Variable => "no variable of this node",
-            Role::Constructor => "no constructor",
-            Role::Type => "no type",
-            Role::Node => "no node",
-            Role::Left => "no output and no local",
+            Role::Value => "no variable, constant or constructor is named `{}`",
+            Role::Variable => "no variable of this node is named `{}`",
+            Role::Constructor => "no constructor is named `{}`",
+            Role::Type => "no type is named `{}`",
+            Role::Node => "no node is named `{}`",
+            Role::Left => "no output and no local is named `{}`",
         }
     }
 }
@@ -103,41 +104,30 @@ fn note_on(found: Use<'_>) -> &'static str {
     }
 }
 
-/// What is said of a name that nothing declares, and what is written in its place.
-fn replaced(
-    alloc: Global,
-    found: Use<'_>,
-    finding: Finding,
-    note: &str,
-    meant: &str,
-) -> Result<Finding, AllocError> {
-    let edit = Edit {
-        byte: found.name.span.start.byte,
-        length: found.name.span.length,
-        text: String::from_str(alloc, meant)?,
-    };
-    Ok(finding.with_note(alloc, note)?.with_edit(Some(edit)))
-}
-
 /// What is said of a name that nothing declares, with the nearest of the names that could be meant.
-pub fn unknown(alloc: Global, found: Use<'_>, names: &[&str]) -> Result<Finding, AllocError> {
+pub fn unknown<'t>(
+    alloc: Global,
+    found: Use<'t>,
+    names: &[&'t str],
+) -> Result<Said<'t>, AllocError> {
     let text = found.name.text.as_str();
-    let role = found.role.as_str();
-    let sentence = format!(in alloc; "{role} is named `{text}`")?;
-    let finding = Finding::new(alloc, sentence, found.name.span.length);
+    let said = told_of(found.name, found.role.sentence(), note_on(found));
     if found.role == Role::Type
         && let Some(foreign) = foreign_type(text)
     {
-        return match foreign.meant {
-            Some(meant) => replaced(alloc, found, finding, foreign.note, meant),
-            None => finding.with_note(alloc, foreign.note),
-        };
+        return Ok(Said {
+            note: foreign.note,
+            meant: foreign.meant,
+            ..said
+        });
     }
-    match nearest(alloc, text, names)? {
-        Some(meant) => {
-            let note = format!(in alloc; "There is `{meant}`, which is spelled nearly alike.")?;
-            replaced(alloc, found, finding, &note, meant)
-        }
-        None => finding.with_note(alloc, note_on(found)),
+    let meant = nearest(alloc, text, names)?;
+    if meant.is_none() {
+        return Ok(said);
     }
+    Ok(Said {
+        note: "There is `{}`, which is spelled nearly alike.",
+        meant,
+        ..said
+    })
 }
