@@ -40,7 +40,7 @@ fn note_on(found: Misplaced<'_>) -> &'static str {
     }
 }
 
-/// Adds how an expression comes to the clock of its place.
+/// Adds the equation that an expression stands in, and how it comes to the clock of its place.
 fn add_advice(
     alloc: Global,
     source: &str,
@@ -49,6 +49,10 @@ fn add_advice(
     found: Misplaced<'_>,
     finding: &mut Finding,
 ) -> Result<(), AllocError> {
+    if let Some(left) = equation.left.first() {
+        let name = left.text.as_str();
+        finding.relate(left.span, format!(in alloc; "the equation of `{name}`")?)?;
+    }
     if let Some(tick) = clocks.leading(found.has, found.wanted) {
         let test = tick.test(alloc)?;
         return add_sampled(alloc, source, equation, found, &test, finding);
@@ -74,10 +78,6 @@ fn told(
     let span = extent_of(source, found.expr);
     let sentence = sentence_on(alloc, source, found)?;
     let mut finding = Finding::new(alloc, sentence, span.length);
-    if let Some(left) = equation.left.first() {
-        let name = left.text.as_str();
-        finding.relate(left.span, format!(in alloc; "the equation of `{name}`")?)?;
-    }
     add_advice(alloc, source, clocks, equation, found, &mut finding)?;
     Ok(finding)
 }

@@ -54,8 +54,19 @@ pub fn wrong_clock(
     let tested = tick.variable.text.as_str();
     let sentence = format!(in alloc; "the clock of the {what} `{text}` can't test `{tested}`")?;
     let mut finding = Finding::new(alloc, sentence, name.span.length);
-    let label = format!(in alloc; "`{tested}` is tested here")?;
-    finding.relate(tick.variable.span, label)?;
-    finding.note = Some(String::from_str(alloc, note)?);
+    complete(alloc, &mut finding, tick.variable, note)?;
     Ok(Some(finding))
+}
+
+/// Adds the variable that is tested, and a note.
+fn complete(
+    alloc: Global,
+    finding: &mut Finding,
+    tested: &Name,
+    note: &str,
+) -> Result<(), AllocError> {
+    let text = tested.text.as_str();
+    finding.relate(tested.span, format!(in alloc; "`{text}` is tested here")?)?;
+    finding.note = Some(String::from_str(alloc, note)?);
+    Ok(())
 }

@@ -102,21 +102,15 @@ pub fn off_clock<'t>(
         return found;
     }
     match expr {
-        Expr::Number(_, _) => None,
-        Expr::Truth(_, _) => None,
-        Expr::Name(_) => None,
-        Expr::Call(name, parts) => {
-            if looking.clocks.is_plain(name.text.as_str()) {
-                return in_parts(looking, parts, wanted);
-            }
-            None
-        }
-        Expr::Structure(_, parts) | Expr::Variadic(_, _, parts) => {
+        Expr::Number(_, _) | Expr::Truth(_, _) | Expr::Name(_) => None,
+        Expr::Call(name, _) if !looking.clocks.is_plain(name.text.as_str()) => None,
+        Expr::Call(_, parts) | Expr::Structure(_, parts) | Expr::Variadic(_, _, parts) => {
             in_parts(looking, parts, wanted)
         }
         Expr::Merge(_, variable, parts) => in_branches(looking, variable, parts),
-        Expr::Field(operand, _) => off_clock(looking, operand, wanted),
-        Expr::Parentheses(_, inner) => off_clock(looking, inner, wanted),
+        Expr::Field(operand, _) | Expr::Parentheses(_, operand) => {
+            off_clock(looking, operand, wanted)
+        }
         Expr::When(operand, test) => {
             let inside = looking.clocks.clock(variable_of(test).text.as_str())?;
             off_clock(looking, operand, inside)
@@ -139,13 +133,11 @@ pub fn off_clock<'t>(
                 })
             }
         },
-        Expr::If(_, condition, left, right) => match off_clock(looking, condition, wanted) {
-            Some(found) => Some(found),
-            None => match off_clock(looking, left, wanted) {
-                Some(found) => Some(found),
-                None => off_clock(looking, right, wanted),
-            },
-        },
+        Expr::If(_, condition, left, right) => {
+            off_clock(looking, condition, wanted)
+                .or(off_clock(looking, left, wanted))
+                .or(off_clock(looking, right, wanted))
+        }
     }
 }
 

@@ -47,11 +47,13 @@ fn edit_of(alloc: Global, name: &Name, meant: &str) -> Result<Edit, AllocError> 
     })
 }
 
-/// The texts of what is said.
-pub fn finding_of(alloc: Global, said: &Said<'_>) -> Result<Finding, AllocError> {
-    let text = said.name.text.as_str();
-    let sentence = worded(alloc, said.sentence, text)?;
-    let mut finding = Finding::new(alloc, sentence, said.name.span.length);
+/// Adds the texts behind a sentence.
+fn complete(
+    alloc: Global,
+    finding: &mut Finding,
+    text: &str,
+    said: &Said<'_>,
+) -> Result<(), AllocError> {
     if let Some((span, label)) = said.beside {
         finding.relate(span, worded(alloc, label, text)?)?;
     }
@@ -59,5 +61,14 @@ pub fn finding_of(alloc: Global, said: &Said<'_>) -> Result<Finding, AllocError>
     if let Some(meant) = said.meant {
         finding.edit = Some(edit_of(alloc, said.name, meant)?);
     }
+    Ok(())
+}
+
+/// The texts of what is said.
+pub fn finding_of(alloc: Global, said: &Said<'_>) -> Result<Finding, AllocError> {
+    let text = said.name.text.as_str();
+    let sentence = worded(alloc, said.sentence, text)?;
+    let mut finding = Finding::new(alloc, sentence, said.name.span.length);
+    complete(alloc, &mut finding, text, said)?;
     Ok(finding)
 }

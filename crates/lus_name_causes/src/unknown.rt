@@ -37,46 +37,47 @@ pub struct Use<'t> {
     pub role: Role,
 }
 
-/// A type's name in other languages: the type that is meant, if there is one, and what is said of it.
-#[derive(Clone, Copy)]
-struct Foreign {
-    meant: Option<&'static str>,
-    note: &'static str,
+/// What other languages call `bool`, `int`, numbers with a point, and texts.
+static TRUTHS: [&str; 2] = ["boolean", "_Bool"];
+
+static NUMBERS: [&str; 13] = [
+    "integer", "int8", "int16", "int32", "int64", "uint8", "uint16", "uint32", "uint64", "byte",
+    "short", "long", "nat",
+];
+
+static POINTED: [&str; 4] = ["float", "double", "float32", "float64"];
+
+static TEXTS: [&str; 2] = ["char", "string"];
+
+/// Whether a text is one of some.
+fn is_any(text: &str, texts: &[&str]) -> bool {
+    for other in texts {
+        if *other == text {
+            return true;
+        }
+    }
+    false
 }
 
-/// What other languages call the types.
-fn foreign_type(text: &str) -> Option<Foreign> {
-    match text {
-        "boolean" | "_Bool" => Some(Foreign {
-            meant: Some("bool"),
-            note: "It is called `bool`.",
-        }),
-        "integer"
-        | "int8"
-        | "int16"
-        | "int32"
-        | "int64"
-        | "uint8"
-        | "uint16"
-        | "uint32"
-        | "uint64"
-        | "byte"
-        | "short"
-        | "long"
-        | "nat" => Some(Foreign {
-            meant: Some("int"),
-            note: "All numbers have one type, `int`: whole numbers of 64 bits.",
-        }),
-        "float" | "double" | "float32" | "float64" => Some(Foreign {
-            meant: None,
-            note: "Numbers with a point are left out: write `int`, and count in hundredths.",
-        }),
-        "char" | "string" => Some(Foreign {
-            meant: None,
-            note: "There are no texts: write an enumeration, as in `type state = enum { Off, On };`.",
-        }),
-        _ => None,
+/// The type that is meant by what other languages call one, if there is one, and what is said of it.
+fn foreign_type(text: &str) -> Option<(Option<&'static str>, &'static str)> {
+    if is_any(text, &TRUTHS) {
+        return Some((Some("bool"), "It is called `bool`."));
     }
+    if is_any(text, &NUMBERS) {
+        let note = "All numbers have one type, `int`: whole numbers of 64 bits.";
+        return Some((Some("int"), note));
+    }
+    if is_any(text, &POINTED) {
+        let note = "Numbers with a point are left out: write `int`, and count in hundredths.";
+        return Some((None, note));
+    }
+    if is_any(text, &TEXTS) {
+        let note =
+            "There are no texts: write an enumeration, as in `type state = enum { Off, On };`.";
+        return Some((None, note));
+    }
+    None
 }
 
 /// What is said of a node's name that other languages have, or of any.
@@ -113,11 +114,11 @@ pub fn unknown<'t>(
     let text = found.name.text.as_str();
     let said = told_of(found.name, found.role.sentence(), note_on(found));
     if found.role == Role::Type
-        && let Some(foreign) = foreign_type(text)
+        && let Some((meant, note)) = foreign_type(text)
     {
         return Ok(Said {
-            note: foreign.note,
-            meant: foreign.meant,
+            note,
+            meant,
             ..said
         });
     }
