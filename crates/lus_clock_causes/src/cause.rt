@@ -1,10 +1,10 @@
 //! What is said of a fault of clocks.
 
-use crate::clock::{Clocks, clocks_of};
-use crate::completing::{completed, slower};
+use crate::clock::Clocks;
+use crate::completing::completed;
 use crate::declared::wrong_clock;
 use crate::placing::{Looking, Misplaced, in_equation};
-use crate::sampling::{faster, sampled};
+use crate::sampling::add_sampled;
 use lus_faults::{Finding, extent_of, slice_of};
 use lus_syntax::{Equation, Node, Refusal, Tree};
 use std::alloc::{AllocError, Global};
@@ -21,42 +21,65 @@ fn node_at(tree: &Tree, line: u32, column: u32) -> Option<&Node> {
     found
 }
 
-/// What is said of an expression that is on another clock than its place.
-fn told<'t>(
-    alloc: Global,
-    source: &str,
-    clocks: &Clocks<'t>,
-    equation: &Equation,
-    found: Misplaced<'t>,
-) -> Result<Finding, AllocError> {
-    let span = extent_of(source, found.expr);
-    let text = slice_of(source, span);
+/// The sentence on an expression that is on another clock than its place.
+fn sentence_on(alloc: Global, source: &str, found: Misplaced<'_>) -> Result<String, AllocError> {
+    let text = slice_of(source, extent_of(source, found.expr));
     let has = found.has.told(alloc)?;
     let wanted = found.wanted.told(alloc)?;
-    let sentence = format!(in alloc; "`{text}` is {has}, and this place is {wanted}")?;
-    let mut finding = Finding::new(alloc, sentence, span.length);
-    if let Some(left) = equation.left.first() {
-        let name = left.text.as_str();
-        finding.relate(left.span, format!(in alloc; "the equation of `{name}`")?)?;
-    }
-    if let Some(tick) = faster(clocks, found) {
-        let test = tick.test(alloc)?;
-        return sampled(alloc, source, equation, found, &test, finding);
-    }
-    if let Some(tick) = slower(clocks, found) {
-        let note =
-            "Complete the slower side by `merge`, with a value for the other instants, or declare the left side on its clock.";
-        let edit = completed(alloc, source, clocks, equation, found, tick)?;
-        return Ok(finding.with_note(alloc, note)?.with_edit(edit));
-    }
-    let note = match (found.has.newest, found.wanted.newest) {
+    format!(in alloc; "`{text}` is {has}, and this place is {wanted}")
+}
+
+/// What is said of clocks that no single test leads between.
+fn note_on(found: Misplaced<'_>) -> &'static str {
+    match (found.has.newest, found.wanted.newest) {
         (None, Some(_)) => "Sample the faster side by `when`.",
         (Some(_), None) =>
             "Complete the slower side by `merge`, or declare the left side on its clock.",
         _ =>
             "Bring both to one clock: sample the faster side by `when`, or complete the slower one by `merge`.",
-    };
-    finding.with_note(alloc, note)
+    }
+}
+
+/// Adds the equation that an expression stands in, and how it comes to the clock of its place.
+fn add_advice(
+    alloc: Global,
+    source: &str,
+    clocks: Clocks<'_>,
+    equation: &Equation,
+    found: Misplaced<'_>,
+    finding: &mut Finding,
+) -> Result<(), AllocError> {
+    if let Some(left) = equation.left.first() {
+        let name = left.text.as_str();
+        finding.relate(left.span, format!(in alloc; "the equation of `{name}`")?)?;
+    }
+    if let Some(tick) = clocks.leading(found.has, found.wanted) {
+        let test = tick.test(alloc)?;
+        return add_sampled(alloc, source, equation, found, &test, finding);
+    }
+    let mut note = note_on(found);
+    if let Some(tick) = clocks.leading(found.wanted, found.has) {
+        note =
+            "Complete the slower side by `merge`, with a value for the other instants, or declare the left side on its clock.";
+        finding.edit = completed(alloc, source, clocks, equation, found, tick)?;
+    }
+    finding.note = Some(String::from_str(alloc, note)?);
+    Ok(())
+}
+
+/// What is said of an expression that is on another clock than its place.
+fn told(
+    alloc: Global,
+    source: &str,
+    clocks: Clocks<'_>,
+    equation: &Equation,
+    found: Misplaced<'_>,
+) -> Result<Finding, AllocError> {
+    let span = extent_of(source, found.expr);
+    let sentence = sentence_on(alloc, source, found)?;
+    let mut finding = Finding::new(alloc, sentence, span.length);
+    add_advice(alloc, source, clocks, equation, found, &mut finding)?;
+    Ok(finding)
 }
 
 /// What is said of a fault of clocks, where it is found again at its place.
@@ -69,19 +92,19 @@ pub fn clock_cause(
     let Some(node) = node_at(tree, refusal.line, refusal.column) else {
         return Ok(None);
     };
-    let clocks = clocks_of(alloc, tree, node)?;
-    let found = wrong_clock(alloc, &clocks, node, refusal.line, refusal.column)?;
+    let clocks = Clocks { tree, node };
+    let found = wrong_clock(alloc, clocks, refusal.line, refusal.column)?;
     if found.is_some() {
         return Ok(found);
     }
     let looking = Looking {
-        clocks: &clocks,
+        clocks,
         line: refusal.line,
         column: refusal.column,
     };
     for equation in &node.equations {
         if let Some(found) = in_equation(looking, equation) {
-            return Ok(Some(told(alloc, source, &clocks, equation, found)?));
+            return Ok(Some(told(alloc, source, clocks, equation, found)?));
         }
     }
     Ok(None)

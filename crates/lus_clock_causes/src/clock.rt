@@ -1,6 +1,5 @@
 //! Clocks of a node's variables.
 
-use indexmap::IndexMap;
 use lus_syntax::{Group, Label, Name, Node, Test, Tree, TypeName};
 use std::alloc::{AllocError, Global};
 
@@ -17,34 +16,25 @@ pub struct Clock<'t> {
     pub newest: Option<Tick<'t>>,
 }
 
-/// The variables of a node, by their names, with their clocks and their types; the nodes whose inputs and outputs all are on the
-/// base clock; and the tree that declares them.
-#[derive(Drop)]
+/// A node, whose variables have clocks and types, and the tree that it stands in.
+#[derive(Clone, Copy)]
 pub struct Clocks<'t> {
     pub tree: &'t Tree,
-    of: IndexMap<String, Clock<'t>>,
-    types: IndexMap<String, &'t TypeName>,
-    plain: IndexMap<String, bool>,
+    pub node: &'t Node,
 }
 
 impl<'t> Clock<'t> {
     /// The clock at which a test holds.
     pub fn on(test: &'t Test) -> Clock<'t> {
-        let tick = match test {
-            Test::Holds(variable) => Tick {
-                variable,
-                label: "true",
-            },
-            Test::Fails(_, variable) => Tick {
-                variable,
-                label: "false",
-            },
-            Test::Is(label, variable) => Tick {
-                variable,
-                label: text_of_label(label),
-            },
+        let label = match test {
+            Test::Holds(_) => "true",
+            Test::Fails(_, _) => "false",
+            Test::Is(label, _) => text_of_label(label),
         };
-        Clock { newest: Some(tick) }
+        let variable = variable_of(test);
+        Clock {
+            newest: Some(Tick { variable, label }),
+        }
     }
 
     /// Whether two clocks are one.
@@ -85,6 +75,15 @@ impl<'t> Tick<'t> {
     }
 }
 
+/// The variable of a test.
+pub fn variable_of(test: &Test) -> &Name {
+    match test {
+        Test::Holds(variable) => variable,
+        Test::Fails(_, variable) => variable,
+        Test::Is(_, variable) => variable,
+    }
+}
+
 /// The text of a label.
 pub fn text_of_label(label: &Label) -> &str {
     match label {
@@ -94,19 +93,16 @@ pub fn text_of_label(label: &Label) -> &str {
     }
 }
 
-/// Adds the variables of groups.
-fn add<'t>(clocks: &mut Clocks<'t>, groups: &'t [Group]) -> Result<(), AllocError> {
+/// The group among some that declares a variable.
+fn declaring<'t>(groups: &'t [Group], name: &str) -> Option<&'t Group> {
     for group in groups {
-        let clock = match &group.test {
-            Some(test) => Clock::on(test),
-            None => Clock { newest: None },
-        };
-        for name in &group.names {
-            clocks.of.insert(name.text.clone()?, clock)?;
-            clocks.types.insert(name.text.clone()?, &group.type_name)?;
+        for variable in &group.names {
+            if variable.text.as_str() == name {
+                return Some(group);
+            }
         }
     }
-    Ok(())
+    None
 }
 
 /// Whether all variables of groups are on the base clock.
@@ -119,41 +115,46 @@ fn are_plain(groups: &[Group]) -> bool {
     true
 }
 
-/// The clocks of a node's variables, in its source.
-pub fn clocks_of<'t>(
-    alloc: Global,
-    tree: &'t Tree,
-    node: &'t Node,
-) -> Result<Clocks<'t>, AllocError> {
-    let mut clocks = Clocks {
-        tree,
-        of: IndexMap::new(alloc),
-        types: IndexMap::new(alloc),
-        plain: IndexMap::new(alloc),
-    };
-    add(&mut clocks, &node.inputs)?;
-    add(&mut clocks, &node.outputs)?;
-    add(&mut clocks, &node.locals)?;
-    for other in &tree.nodes {
-        let is_plain = are_plain(&other.inputs) && are_plain(&other.outputs);
-        clocks.plain.insert(other.name.text.clone()?, is_plain)?;
-    }
-    Ok(clocks)
-}
-
 impl<'t> Clocks<'t> {
+    /// The group that declares a variable.
+    fn group(self, name: &str) -> Option<&'t Group> {
+        declaring(&self.node.inputs, name)
+            .or(declaring(&self.node.outputs, name))
+            .or(declaring(&self.node.locals, name))
+    }
+
     /// The clock of a variable.
-    pub fn clock(&self, name: &str) -> Option<Clock<'t>> {
-        self.of.get(name).copied()
+    pub fn clock(self, name: &str) -> Option<Clock<'t>> {
+        Some(match &self.group(name)?.test {
+            Some(test) => Clock::on(test),
+            None => Clock { newest: None },
+        })
+    }
+
+    /// The newest test of a variable's clock, if it has one.
+    pub fn newest(self, name: &str) -> Option<Tick<'t>> {
+        self.clock(name)?.newest
+    }
+
+    /// The test that leads from one clock to another, where one does.
+    pub fn leading(self, from: Clock<'_>, to: Clock<'t>) -> Option<Tick<'t>> {
+        let tick = to.newest?;
+        let tested = self.clock(tick.variable.text.as_str())?;
+        if tested.is(from) { Some(tick) } else { None }
     }
 
     /// The name of a variable's type.
-    pub fn type_name(&self, name: &str) -> Option<&'t TypeName> {
-        self.types.get(name).copied()
+    pub fn type_name(self, name: &str) -> Option<&'t TypeName> {
+        Some(&self.group(name)?.type_name)
     }
 
     /// Whether a node has all its inputs and outputs on the base clock.
-    pub fn is_plain(&self, name: &str) -> bool {
-        self.plain.get(name).copied().unwrap_or(false)
+    pub fn is_plain(self, name: &str) -> bool {
+        for node in &self.tree.nodes {
+            if node.name.text.as_str() == name {
+                return are_plain(&node.inputs) && are_plain(&node.outputs);
+            }
+        }
+        false
     }
 }

@@ -21,17 +21,6 @@ enum Kind<'t> {
     Enumeration(&'t [Name]),
 }
 
-/// The test that leads from the clock of an expression's place to its own, where one does.
-pub fn slower<'t>(clocks: &Clocks<'t>, found: Misplaced<'t>) -> Option<Tick<'t>> {
-    let tick = found.has.newest?;
-    let tested = clocks.clock(tick.variable.text.as_str())?;
-    if tested.is(found.wanted) {
-        Some(tick)
-    } else {
-        None
-    }
-}
-
 fn definition_of<'t>(tree: &'t Tree, name: &str) -> Option<&'t Definition> {
     for declaration in &tree.types {
         if declaration.name.text.as_str() == name {
@@ -61,7 +50,7 @@ fn kind_of_type<'t>(tree: &'t Tree, type_name: &'t TypeName) -> Option<Kind<'t>>
 }
 
 /// The kind of a variable.
-fn kind_of_variable<'t>(clocks: &Clocks<'t>, name: &str) -> Option<Kind<'t>> {
+fn kind_of_variable<'t>(clocks: Clocks<'t>, name: &str) -> Option<Kind<'t>> {
     kind_of_type(clocks.tree, clocks.type_name(name)?)
 }
 
@@ -78,7 +67,7 @@ fn kind_of_infix<'t>(infix: Infix) -> Option<Kind<'t>> {
 
 /// The kind of an expression, where its variables or its operators tell it.
 #[cycle(kinds)]
-fn kind_of<'t>(clocks: &Clocks<'t>, expr: &'t Expr) -> Option<Kind<'t>> {
+fn kind_of<'t>(clocks: Clocks<'t>, expr: &'t Expr) -> Option<Kind<'t>> {
     match expr {
         Expr::Number(_, _) => Some(Kind::Number),
         Expr::Truth(_, _) => Some(Kind::Truth),
@@ -145,7 +134,7 @@ fn push_branches(
 }
 
 /// The kind of the variable that a `merge` is over, unless it has too many branches.
-fn merged_kind<'t>(clocks: &Clocks<'t>, tick: Tick<'t>) -> Option<Kind<'t>> {
+fn merged_kind<'t>(clocks: Clocks<'t>, tick: Tick<'t>) -> Option<Kind<'t>> {
     match kind_of_variable(clocks, tick.variable.text.as_str())? {
         Kind::Enumeration(constructors) if constructors.len() > MOST_BRANCHES => None,
         Kind::Number => None,
@@ -157,7 +146,7 @@ fn merged_kind<'t>(clocks: &Clocks<'t>, tick: Tick<'t>) -> Option<Kind<'t>> {
 pub fn completed(
     alloc: Global,
     source: &str,
-    clocks: &Clocks<'_>,
+    clocks: Clocks<'_>,
     equation: &Equation,
     found: Misplaced<'_>,
     tick: Tick<'_>,

@@ -17,57 +17,56 @@ fn at<'t>(groups: &'t [Group], line: u32, column: u32) -> Option<&'t Name> {
     None
 }
 
-/// What is said of a variable whose clock tests one that it may not.
-fn told(
+/// The variable at a place, what it is, and what is said of the clock that is declared of it.
+fn declared_at<'t>(
+    node: &'t Node,
+    line: u32,
+    column: u32,
+) -> Option<(&'t Name, &'static str, &'static str)> {
+    if let Some(name) = at(&node.inputs, line, column) {
+        let note =
+            "The clock of an input tests an input, and no clock leads back to its own variable.";
+        return Some((name, "input", note));
+    }
+    if let Some(name) = at(&node.outputs, line, column) {
+        let note =
+            "The clock of an output tests an input or an output, and no clock leads back to its own variable.";
+        return Some((name, "output", note));
+    }
+    let name = at(&node.locals, line, column)?;
+    Some((name, "local", "No clock leads back to its own variable."))
+}
+
+/// What is said of a declared clock at a place: of a variable whose clock tests one that it may not.
+pub fn wrong_clock(
     alloc: Global,
-    clocks: &Clocks<'_>,
-    name: &Name,
-    what: &str,
-    note: &str,
+    clocks: Clocks<'_>,
+    line: u32,
+    column: u32,
 ) -> Result<Option<Finding>, AllocError> {
-    let text = name.text.as_str();
-    let Some(clock) = clocks.clock(text) else {
+    let Some((name, what, note)) = declared_at(clocks.node, line, column) else {
         return Ok(None);
     };
-    let Some(tick) = clock.newest else {
+    let text = name.text.as_str();
+    let Some(tick) = clocks.newest(text) else {
         return Ok(None);
     };
     let tested = tick.variable.text.as_str();
     let sentence = format!(in alloc; "the clock of the {what} `{text}` can't test `{tested}`")?;
     let mut finding = Finding::new(alloc, sentence, name.span.length);
-    finding.relate(
-        tick.variable.span,
-        format!(in alloc; "`{tested}` is tested here")?,
-    )?;
-    Ok(Some(finding.with_note(alloc, note)?))
+    complete(alloc, &mut finding, tick.variable, note)?;
+    Ok(Some(finding))
 }
 
-/// What is said of a declared clock at a place.
-pub fn wrong_clock(
+/// Adds the variable that is tested, and a note.
+fn complete(
     alloc: Global,
-    clocks: &Clocks<'_>,
-    node: &Node,
-    line: u32,
-    column: u32,
-) -> Result<Option<Finding>, AllocError> {
-    if let Some(name) = at(&node.inputs, line, column) {
-        let note =
-            "The clock of an input tests an input, and no clock leads back to its own variable.";
-        return told(alloc, clocks, name, "input", note);
-    }
-    if let Some(name) = at(&node.outputs, line, column) {
-        let note =
-            "The clock of an output tests an input or an output, and no clock leads back to its own variable.";
-        return told(alloc, clocks, name, "output", note);
-    }
-    if let Some(name) = at(&node.locals, line, column) {
-        return told(
-            alloc,
-            clocks,
-            name,
-            "local",
-            "No clock leads back to its own variable.",
-        );
-    }
-    Ok(None)
+    finding: &mut Finding,
+    tested: &Name,
+    note: &str,
+) -> Result<(), AllocError> {
+    let text = tested.text.as_str();
+    finding.relate(tested.span, format!(in alloc; "`{text}` is tested here")?)?;
+    finding.note = Some(String::from_str(alloc, note)?);
+    Ok(())
 }

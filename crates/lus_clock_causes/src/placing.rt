@@ -1,6 +1,6 @@
 //! Where an expression isn't on the clock of its place.
 
-use crate::clock::{Clock, Clocks, Tick, text_of_label};
+use crate::clock::{Clock, Clocks, Tick, text_of_label, variable_of};
 use lus_faults::start_of;
 use lus_syntax::{Equation, Expr, Infix, Lead, Name, Part, Prefix};
 
@@ -43,27 +43,31 @@ impl<'t> Misplaced<'t> {
     }
 }
 
-/// What is looked through: the clocks of a node's variables, and the place that is looked for.
+/// What is looked through: a node, and the place that is looked for.
 #[derive(Clone, Copy)]
-pub struct Looking<'t, 'c> {
-    pub clocks: &'c Clocks<'t>,
+pub struct Looking<'t> {
+    pub clocks: Clocks<'t>,
     pub line: u32,
     pub column: u32,
 }
 
-impl<'t, 'c> Looking<'t, 'c> {
+impl<'t> Looking<'t> {
     /// The expression, where it stands at the place and on another clock than it should.
-    fn compared(self, expr: &'t Expr, has: Clock<'t>, wanted: Clock<'t>) -> Option<Misplaced<'t>> {
+    fn compared(self, expr: &'t Expr, wanted: Clock<'t>) -> Option<Misplaced<'t>> {
         let start = start_of(expr);
-        if start.line == self.line && start.column == self.column && !has.is(wanted) {
-            return Some(Misplaced {
-                expr,
-                memory: None,
-                has,
-                wanted,
-            });
+        if start.line != self.line || start.column != self.column {
+            return None;
         }
-        None
+        let has = own_clock(self.clocks, expr)?;
+        if has.is(wanted) {
+            return None;
+        }
+        Some(Misplaced {
+            expr,
+            memory: None,
+            has,
+            wanted,
+        })
     }
 }
 
@@ -77,7 +81,7 @@ pub fn bare(expr: &Expr) -> &Expr {
 }
 
 /// The clock that an expression has wherever it stands: that of a variable, of a `when` or of a `merge`, in parentheses or not.
-fn own_clock<'t>(clocks: &Clocks<'t>, expr: &'t Expr) -> Option<Clock<'t>> {
+fn own_clock<'t>(clocks: Clocks<'t>, expr: &'t Expr) -> Option<Clock<'t>> {
     match bare(expr) {
         Expr::Name(name) => clocks.clock(name.text.as_str()),
         Expr::Merge(_, variable, _) => clocks.clock(variable.text.as_str()),
@@ -89,35 +93,26 @@ fn own_clock<'t>(clocks: &Clocks<'t>, expr: &'t Expr) -> Option<Clock<'t>> {
 /// The first part of an expression at the place that isn't on its clock, where the expression should be on this one.
 #[cycle(placing)]
 pub fn off_clock<'t>(
-    looking: Looking<'t, '_>,
+    looking: Looking<'t>,
     expr: &'t Expr,
     wanted: Clock<'t>,
 ) -> Option<Misplaced<'t>> {
-    if let Some(has) = own_clock(looking.clocks, expr) {
-        let found = looking.compared(expr, has, wanted);
-        if found.is_some() {
-            return found;
-        }
+    let found = looking.compared(expr, wanted);
+    if found.is_some() {
+        return found;
     }
     match expr {
-        Expr::Number(_, _) => None,
-        Expr::Truth(_, _) => None,
-        Expr::Name(_) => None,
-        Expr::Call(name, parts) => {
-            if looking.clocks.is_plain(name.text.as_str()) {
-                return in_parts(looking, parts, wanted);
-            }
-            None
-        }
-        Expr::Structure(_, parts) | Expr::Variadic(_, _, parts) => {
+        Expr::Number(_, _) | Expr::Truth(_, _) | Expr::Name(_) => None,
+        Expr::Call(name, _) if !looking.clocks.is_plain(name.text.as_str()) => None,
+        Expr::Call(_, parts) | Expr::Structure(_, parts) | Expr::Variadic(_, _, parts) => {
             in_parts(looking, parts, wanted)
         }
         Expr::Merge(_, variable, parts) => in_branches(looking, variable, parts),
-        Expr::Field(operand, _) => off_clock(looking, operand, wanted),
-        Expr::Parentheses(_, inner) => off_clock(looking, inner, wanted),
+        Expr::Field(operand, _) | Expr::Parentheses(_, operand) => {
+            off_clock(looking, operand, wanted)
+        }
         Expr::When(operand, test) => {
-            let tested = Clock::on(test).newest?;
-            let inside = looking.clocks.clock(tested.variable.text.as_str())?;
+            let inside = looking.clocks.clock(variable_of(test).text.as_str())?;
             off_clock(looking, operand, inside)
         }
         Expr::Unary(prefix, _, operand) => {
@@ -138,19 +133,17 @@ pub fn off_clock<'t>(
                 })
             }
         },
-        Expr::If(_, condition, left, right) => match off_clock(looking, condition, wanted) {
-            Some(found) => Some(found),
-            None => match off_clock(looking, left, wanted) {
-                Some(found) => Some(found),
-                None => off_clock(looking, right, wanted),
-            },
-        },
+        Expr::If(_, condition, left, right) => {
+            off_clock(looking, condition, wanted)
+                .or(off_clock(looking, left, wanted))
+                .or(off_clock(looking, right, wanted))
+        }
     }
 }
 
 #[cycle(placing)]
 fn in_parts<'t>(
-    looking: Looking<'t, '_>,
+    looking: Looking<'t>,
     parts: &'t [Part],
     wanted: Clock<'t>,
 ) -> Option<Misplaced<'t>> {
@@ -166,7 +159,7 @@ fn in_parts<'t>(
 /// Each branch is on the clock of the merged variable with its own label.
 #[cycle(placing)]
 fn in_branches<'t>(
-    looking: Looking<'t, '_>,
+    looking: Looking<'t>,
     variable: &'t Name,
     parts: &'t [Part],
 ) -> Option<Misplaced<'t>> {
@@ -188,7 +181,7 @@ fn in_branches<'t>(
 }
 
 /// The first part of an equation at the place that isn't on its clock.
-pub fn in_equation<'t>(looking: Looking<'t, '_>, equation: &'t Equation) -> Option<Misplaced<'t>> {
+pub fn in_equation<'t>(looking: Looking<'t>, equation: &'t Equation) -> Option<Misplaced<'t>> {
     let first = equation.left.first()?;
     let wanted = looking.clocks.clock(first.text.as_str())?;
     off_clock(looking, &equation.right, wanted)

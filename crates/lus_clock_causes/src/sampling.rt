@@ -1,21 +1,9 @@
 //! An expression that is on a faster clock than its place, and how it is sampled.
 
-use crate::clock::{Clocks, Tick};
 use crate::placing::{Misplaced, bare};
 use lus_faults::{Edit, Finding, extent_of, slice_of, start_of};
 use lus_syntax::{Equation, Expr, Span};
 use std::alloc::{AllocError, Global};
-
-/// The test that leads from an expression's clock to that of its place, where one does.
-pub fn faster<'t>(clocks: &Clocks<'t>, found: Misplaced<'t>) -> Option<Tick<'t>> {
-    let tick = found.wanted.newest?;
-    let tested = clocks.clock(tick.variable.text.as_str())?;
-    if tested.is(found.has) {
-        Some(tick)
-    } else {
-        None
-    }
-}
 
 /// The last byte that is no blank.
 fn last_byte(bytes: &[u8]) -> u8 {
@@ -61,16 +49,13 @@ fn sampling(
 ) -> Result<Edit, AllocError> {
     let span = extent_of(source, expr);
     let inner = bare(expr);
-    let text = slice_of(source, extent_of(source, inner));
-    let operand = if matches!(inner, Expr::Name(_)) {
-        String::from_str(alloc, text)?
-    } else {
-        format!(in alloc; "({text})")?
-    };
-    let text = if is_whole(source, equation, span) {
-        format!(in alloc; "{operand} when {test}")?
-    } else {
-        format!(in alloc; "({operand} when {test})")?
+    let operand = slice_of(source, extent_of(source, inner));
+    let is_whole = is_whole(source, equation, span);
+    let text = match (matches!(inner, Expr::Name(_)), is_whole) {
+        (true, true) => format!(in alloc; "{operand} when {test}")?,
+        (true, false) => format!(in alloc; "({operand} when {test})")?,
+        (false, true) => format!(in alloc; "({operand}) when {test}")?,
+        (false, false) => format!(in alloc; "(({operand}) when {test})")?,
     };
     Ok(Edit {
         byte: span.start.byte,
@@ -79,31 +64,43 @@ fn sampling(
     })
 }
 
-/// What is said of an expression that a test samples: where it is remembered, the memory is sampled, and not what it remembers.
-pub fn sampled(
+/// What is said of an expression that is remembered before it is sampled.
+fn note_on(
+    alloc: Global,
+    source: &str,
+    found: Misplaced<'_>,
+    memory: &Expr,
+    test: &str,
+) -> Result<String, AllocError> {
+    let name = slice_of(source, extent_of(source, found.expr));
+    let text = slice_of(source, extent_of(source, memory));
+    let first = if matches!(memory, Expr::Binary(_, _, _)) {
+        ""
+    } else {
+        "init -> "
+    };
+    format!(in alloc;
+        "`{text}` is taken on the clock of `{name}`, then sampled: `({first}{text}) when {test}`; with `{name} when {test}` inside, only the instants of `{test}` are remembered."
+    )
+}
+
+/// Adds what is said of an expression that a test samples: where it is remembered, the memory is sampled, and not what it remembers.
+pub fn add_sampled(
     alloc: Global,
     source: &str,
     equation: &Equation,
     found: Misplaced<'_>,
     test: &str,
-    finding: Finding,
-) -> Result<Finding, AllocError> {
+    finding: &mut Finding,
+) -> Result<(), AllocError> {
     let Some(memory) = found.memory else {
-        let edit = sampling(alloc, source, equation, found.expr, test)?;
-        let note = "Sample the faster side by `when`.";
-        return Ok(finding.with_note(alloc, note)?.with_edit(Some(edit)));
+        finding.note = Some(String::from_str(alloc, "Sample the faster side by `when`.")?);
+        finding.edit = Some(sampling(alloc, source, equation, found.expr, test)?);
+        return Ok(());
     };
-    let name = slice_of(source, extent_of(source, found.expr));
-    let text = slice_of(source, extent_of(source, memory));
-    let is_begun = matches!(memory, Expr::Binary(_, _, _));
-    let first = if is_begun { "" } else { "init -> " };
-    let note = format!(in alloc;
-        "`{text}` is taken on the clock of `{name}`, then sampled: `({first}{text}) when {test}`; with `{name} when {test}` inside, only the instants of `{test}` are remembered."
-    )?;
-    let finding = finding.with_note(alloc, &note)?;
-    if !is_begun {
-        return Ok(finding);
+    finding.note = Some(note_on(alloc, source, found, memory, test)?);
+    if matches!(memory, Expr::Binary(_, _, _)) {
+        finding.edit = Some(sampling(alloc, source, equation, memory, test)?);
     }
-    let edit = sampling(alloc, source, equation, memory, test)?;
-    Ok(finding.with_edit(Some(edit)))
+    Ok(())
 }

@@ -1,47 +1,14 @@
 //! What is at the place of a fault of names.
 
-use crate::declared::{candidates, nodes, types, values, variables};
-use crate::doubled::{doubled, doubled_field, twice};
+use crate::declared::{candidates, push_variables};
+use crate::doubled::{declared_twice, twice};
 use crate::equations::{undeclared, undefined, wrong_left};
 use crate::expressions::{Sought, in_expression, in_test, in_type};
+use crate::said::{Said, finding_of};
 use crate::unknown::{Role, Use, unknown};
 use lus_faults::Finding;
-use lus_syntax::{Definition, Group, Literal, Name, Node, Refusal, Tree, TypeDeclaration};
+use lus_syntax::{Definition, Group, Literal, Node, Refusal, Tree, TypeDeclaration};
 use std::alloc::{AllocError, Global};
-
-/// A name at a place that is declared twice among some.
-fn twice_among(
-    alloc: Global,
-    sought: Sought,
-    names: &[&Name],
-    what: &str,
-) -> Result<Option<Finding>, AllocError> {
-    match doubled(sought, names) {
-        Some((second, first)) => Ok(Some(twice(alloc, second, first, what)?)),
-        None => Ok(None),
-    }
-}
-
-/// A name at a place that two declarations of the source have.
-fn declared_twice(
-    alloc: Global,
-    sought: Sought,
-    tree: &Tree,
-) -> Result<Option<Finding>, AllocError> {
-    let found = twice_among(alloc, sought, &types(alloc, tree)?, "type")?;
-    if found.is_some() {
-        return Ok(found);
-    }
-    let found = twice_among(alloc, sought, &values(alloc, tree)?, "value")?;
-    if found.is_some() {
-        return Ok(found);
-    }
-    let found = twice_among(alloc, sought, &nodes(alloc, tree)?, "node")?;
-    if found.is_some() {
-        return Ok(found);
-    }
-    doubled_field(alloc, sought, tree)
-}
 
 /// The name that the definition of a type uses at a place.
 fn in_definition(sought: Sought, declaration: &TypeDeclaration) -> Option<Use<'_>> {
@@ -119,36 +86,68 @@ fn in_node(sought: Sought, node: &Node) -> Option<Use<'_>> {
     None
 }
 
-/// What is said of a node at a place.
-fn node_cause(
+/// What is said of a name that is used at a place, and isn't declared.
+fn used_cause<'t>(
+    alloc: Global,
+    tree: &'t Tree,
+    node: Option<&'t Node>,
+    used: Use<'t>,
+) -> Result<Option<Said<'t>>, AllocError> {
+    let names = candidates(alloc, tree, node, used.role)?;
+    Ok(Some(unknown(alloc, used, &names)?))
+}
+
+/// What is said of a variable of a node at a place that is declared twice.
+fn twice_in<'t>(
     alloc: Global,
     sought: Sought,
-    tree: &Tree,
-    node: &Node,
-) -> Result<Option<Finding>, AllocError> {
-    let found = twice_among(alloc, sought, &variables(alloc, node)?, "variable")?;
+    node: &'t Node,
+) -> Result<Option<Said<'t>>, AllocError> {
+    let mut names = Vec::new(alloc);
+    push_variables(&mut names, node)?;
+    Ok(twice(sought, &names, "the variable `{}` is declared twice"))
+}
+
+/// What is said of a node at a place.
+fn node_cause<'t>(
+    alloc: Global,
+    sought: Sought,
+    tree: &'t Tree,
+    node: &'t Node,
+) -> Result<Option<Said<'t>>, AllocError> {
+    let found = twice_in(alloc, sought, node)?.or(undefined(sought, node));
     if found.is_some() {
         return Ok(found);
     }
-    let found = undefined(alloc, sought, node)?;
+    let found = wrong_left(alloc, sought, tree, node)?;
     if found.is_some() {
         return Ok(found);
     }
-    let found = wrong_left(alloc, sought, node)?;
+    let Some(used) = in_node(sought, node) else {
+        return Ok(None);
+    };
+    match undeclared(node, used) {
+        Some(found) => Ok(Some(found)),
+        None => used_cause(alloc, tree, Some(node), used),
+    }
+}
+
+/// What is said of a source at a place.
+fn cause_of(alloc: Global, sought: Sought, tree: &Tree) -> Result<Option<Said<'_>>, AllocError> {
+    let found = declared_twice(alloc, sought, tree)?;
     if found.is_some() {
         return Ok(found);
     }
-    match in_node(sought, node) {
-        Some(used) => {
-            let found = undeclared(alloc, node, used)?;
-            if found.is_some() {
-                return Ok(found);
-            }
-            let names = candidates(alloc, tree, Some(node), used.role)?;
-            Ok(Some(unknown(alloc, used, &names)?))
+    if let Some(used) = in_declarations(sought, tree) {
+        return used_cause(alloc, tree, None, used);
+    }
+    for node in &tree.nodes {
+        let found = node_cause(alloc, sought, tree, node)?;
+        if found.is_some() {
+            return Ok(found);
         }
-        None => Ok(None),
     }
+    Ok(None)
 }
 
 /// What is said of a fault of names, by what stands at its place.
@@ -161,19 +160,8 @@ pub fn name_cause(
         line: refusal.line,
         column: refusal.column,
     };
-    let found = declared_twice(alloc, sought, tree)?;
-    if found.is_some() {
-        return Ok(found);
+    match cause_of(alloc, sought, tree)? {
+        Some(said) => Ok(Some(finding_of(alloc, &said)?)),
+        None => Ok(None),
     }
-    if let Some(used) = in_declarations(sought, tree) {
-        let names = candidates(alloc, tree, None, used.role)?;
-        return Ok(Some(unknown(alloc, used, &names)?));
-    }
-    for node in &tree.nodes {
-        let found = node_cause(alloc, sought, tree, node)?;
-        if found.is_some() {
-            return Ok(found);
-        }
-    }
-    Ok(None)
 }

@@ -1,28 +1,31 @@
 //! The left sides of equations.
 
-use crate::declared::variables;
+use crate::declared::candidates;
 use crate::expressions::Sought;
+use crate::said::{Said, told_of};
 use crate::unknown::{Role, Use, unknown};
-use lus_faults::Finding;
-use lus_syntax::{Group, Name, Node};
+use lus_syntax::{Group, Name, Node, Tree};
 use std::alloc::{AllocError, Global};
 
-/// The names on the left of equations, one by one.
-fn lefts(alloc: Global, node: &Node) -> Result<Vec<&Name>, AllocError> {
-    let mut names = Vec::new(alloc);
+/// The name on the left of an equation that stands at a place.
+fn left_at(sought: Sought, node: &Node) -> Option<&Name> {
     for equation in &node.equations {
         for name in &equation.left {
-            names.push(name)?;
+            if sought.is_at(name) {
+                return Some(name);
+            }
         }
     }
-    Ok(names)
+    None
 }
 
-/// The first name of a text, another one than that at a place.
-fn named<'t>(names: &[&'t Name], text: &str, other: Sought) -> Option<&'t Name> {
-    for name in names {
-        if name.text.as_str() == text && !other.is_at(name) {
-            return Some(*name);
+/// The first name of a text on the left of an equation, another one than that at a place.
+fn left_named<'t>(node: &'t Node, text: &str, other: Sought) -> Option<&'t Name> {
+    for equation in &node.equations {
+        for name in &equation.left {
+            if name.text.as_str() == text && !other.is_at(name) {
+                return Some(name);
+            }
         }
     }
     None
@@ -40,127 +43,88 @@ fn in_groups<'t>(groups: &'t [Group], text: &str) -> Option<&'t Name> {
     None
 }
 
-/// What is said of an equation for an input.
-fn for_input(alloc: Global, left: &Name, input: &Name) -> Result<Finding, AllocError> {
-    let text = left.text.as_str();
-    let sentence = format!(in alloc; "`{text}` is an input, and has no equation")?;
-    let mut finding = Finding::new(alloc, sentence, left.span.length);
-    finding.relate(
-        input.span,
-        format!(in alloc; "`{text}` is declared as an input")?,
-    )?;
-    finding.with_note(
-        alloc,
-        "Inputs come from outside: write an equation for an output or a local.",
-    )
-}
-
-/// What is said of a second equation for a variable.
-fn second_equation(alloc: Global, left: &Name, first: &Name) -> Result<Finding, AllocError> {
-    let text = left.text.as_str();
-    let sentence = format!(in alloc; "`{text}` has two equations")?;
-    let mut finding = Finding::new(alloc, sentence, left.span.length);
-    finding.relate(
-        first.span,
-        format!(in alloc; "`{text}` has an equation here too")?,
-    )?;
-    finding.with_note(
-        alloc,
-        "An equation holds at each instant, so a variable has one: join the two by `if`.",
-    )
-}
-
-/// What is said of a variable without an equation.
-fn no_equation(alloc: Global, variable: &Name, what: &str) -> Result<Finding, AllocError> {
-    let text = variable.text.as_str();
-    let sentence = format!(in alloc; "the {what} `{text}` has no equation")?;
-    let finding = Finding::new(alloc, sentence, variable.span.length);
-    let note = format!(in alloc;
-        "Each output and each local stands on the left of one equation: write `{text} = ..;` before `tel`."
-    )?;
-    finding.with_note(alloc, &note)
-}
-
 /// What is said of a variable that has an equation and no declaration, where a name is used as one.
-pub fn undeclared(
-    alloc: Global,
-    node: &Node,
-    found: Use<'_>,
-) -> Result<Option<Finding>, AllocError> {
+pub fn undeclared<'t>(node: &'t Node, found: Use<'t>) -> Option<Said<'t>> {
     if found.role != Role::Value && found.role != Role::Variable {
-        return Ok(None);
+        return None;
     }
-    let text = found.name.text.as_str();
     let start = found.name.span.start;
     let place = Sought {
         line: start.line,
         column: start.column,
     };
-    let names = lefts(alloc, node)?;
-    let Some(left) = named(&names, text, place) else {
+    let left = left_named(node, found.name.text.as_str(), place)?;
+    let sentence = "`{}` has an equation but isn't declared";
+    let note = "Declare it before `let`: `var {}: ..;`.";
+    Some(Said {
+        beside: Some((left.span, "the equation of `{}`")),
+        ..told_of(found.name, sentence, note)
+    })
+}
+
+/// What is said of an equation for an input, or of a second one for a variable.
+fn needless<'t>(sought: Sought, node: &'t Node, left: &'t Name) -> Option<Said<'t>> {
+    let text = left.text.as_str();
+    if let Some(input) = in_groups(&node.inputs, text) {
+        let sentence = "`{}` is an input, and has no equation";
+        let note = "Inputs come from outside: write an equation for an output or a local.";
+        return Some(Said {
+            beside: Some((input.span, "`{}` is declared as an input")),
+            ..told_of(left, sentence, note)
+        });
+    }
+    let _declared = in_groups(&node.outputs, text).or(in_groups(&node.locals, text))?;
+    let first = left_named(node, text, sought)?;
+    let note = "An equation holds at each instant, so a variable has one: join the two by `if`.";
+    Some(Said {
+        beside: Some((first.span, "`{}` has an equation here too")),
+        ..told_of(left, "`{}` has two equations", note)
+    })
+}
+
+/// What is said of the name on the left of an equation that stands at a place.
+pub fn wrong_left<'t>(
+    alloc: Global,
+    sought: Sought,
+    tree: &'t Tree,
+    node: &'t Node,
+) -> Result<Option<Said<'t>>, AllocError> {
+    let Some(left) = left_at(sought, node) else {
         return Ok(None);
     };
-    let sentence = format!(in alloc; "`{text}` has an equation but isn't declared")?;
-    let mut finding = Finding::new(alloc, sentence, found.name.span.length);
-    finding.relate(left.span, format!(in alloc; "the equation of `{text}`")?)?;
-    let note = format!(in alloc; "Declare it before `let`: `var {text}: ..;`.")?;
-    Ok(Some(finding.with_note(alloc, &note)?))
+    let found = needless(sought, node, left);
+    if found.is_some() {
+        return Ok(found);
+    }
+    let used = Use {
+        name: left,
+        role: Role::Left,
+    };
+    let names = candidates(alloc, tree, Some(node), used.role)?;
+    Ok(Some(unknown(alloc, used, &names)?))
 }
 
-/// The name on the left of an equation that stands at a place.
-pub fn wrong_left(
-    alloc: Global,
-    sought: Sought,
-    node: &Node,
-) -> Result<Option<Finding>, AllocError> {
-    let names = lefts(alloc, node)?;
-    for left in &names {
-        if sought.is_at(left) {
-            let text = left.text.as_str();
-            if let Some(input) = in_groups(&node.inputs, text) {
-                return Ok(Some(for_input(alloc, left, input)?));
+/// The name of groups that stands at a place.
+fn name_at(sought: Sought, groups: &[Group]) -> Option<&Name> {
+    for group in groups {
+        for name in &group.names {
+            if sought.is_at(name) {
+                return Some(name);
             }
-            let declared = variables(alloc, node)?;
-            if let (Some(_), Some(first)) = (
-                named(&declared, text, sought),
-                named(&names, text, sought),
-            ) {
-                return Ok(Some(second_equation(alloc, left, first)?));
-            }
-            let mut texts = Vec::new(alloc);
-            for name in &declared {
-                texts.push(name.text.as_str())?;
-            }
-            let used = Use {
-                name: *left,
-                role: Role::Left,
-            };
-            let finding = unknown(alloc, used, &texts)?;
-            return Ok(Some(finding));
         }
     }
-    Ok(None)
+    None
 }
 
-/// The variable at a place, an output or a local, where it has no equation.
-pub fn undefined(
-    alloc: Global,
-    sought: Sought,
-    node: &Node,
-) -> Result<Option<Finding>, AllocError> {
-    for group in &node.outputs {
-        for name in &group.names {
-            if sought.is_at(name) {
-                return Ok(Some(no_equation(alloc, name, "output")?));
-            }
+/// What is said of the variable at a place, an output or a local, which has no equation.
+pub fn undefined<'t>(sought: Sought, node: &'t Node) -> Option<Said<'t>> {
+    let note =
+        "Each output and each local stands on the left of one equation: write `{} = ..;` before `tel`.";
+    match name_at(sought, &node.outputs) {
+        Some(name) => Some(told_of(name, "the output `{}` has no equation", note)),
+        None => {
+            let name = name_at(sought, &node.locals)?;
+            Some(told_of(name, "the local `{}` has no equation", note))
         }
     }
-    for group in &node.locals {
-        for name in &group.names {
-            if sought.is_at(name) {
-                return Ok(Some(no_equation(alloc, name, "local")?));
-            }
-        }
-    }
-    Ok(None)
 }

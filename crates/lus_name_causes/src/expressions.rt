@@ -39,10 +39,9 @@ pub fn in_test(sought: Sought, test: &Test) -> Option<Use<'_>> {
     match test {
         Test::Holds(name) => sought.used(name, Role::Variable),
         Test::Fails(_, name) => sought.used(name, Role::Variable),
-        Test::Is(label, name) => match sought.used(name, Role::Variable) {
-            Some(found) => Some(found),
-            None => in_label(sought, label),
-        },
+        Test::Is(label, name) => sought
+            .used(name, Role::Variable)
+            .or(in_label(sought, label)),
     }
 }
 
@@ -59,40 +58,28 @@ pub fn in_type(sought: Sought, type_name: &TypeName) -> Option<Use<'_>> {
 #[cycle(names)]
 pub fn in_expression(sought: Sought, source: &Expr) -> Option<Use<'_>> {
     match source {
-        Expr::Number(_, _) => None,
-        Expr::Truth(_, _) => None,
+        Expr::Number(_, _) | Expr::Truth(_, _) => None,
         Expr::Name(name) => sought.used(name, Role::Value),
-        Expr::Call(name, parts) => match sought.used(name, Role::Node) {
-            Some(found) => Some(found),
-            None => in_parts(sought, parts),
-        },
-        Expr::Structure(name, parts) => match sought.used(name, Role::Type) {
-            Some(found) => Some(found),
-            None => in_parts(sought, parts),
-        },
-        Expr::Merge(_, name, parts) => match sought.used(name, Role::Variable) {
-            Some(found) => Some(found),
-            None => in_parts(sought, parts),
-        },
+        Expr::Call(name, parts) => sought.used(name, Role::Node).or(in_parts(sought, parts)),
+        Expr::Structure(name, parts) => sought.used(name, Role::Type).or(in_parts(sought, parts)),
+        Expr::Merge(_, name, parts) => {
+            sought
+                .used(name, Role::Variable)
+                .or(in_parts(sought, parts))
+        }
         Expr::Variadic(_, _, parts) => in_parts(sought, parts),
-        Expr::Field(operand, _) => in_expression(sought, operand),
-        Expr::Parentheses(_, inner) => in_expression(sought, inner),
-        Expr::When(operand, test) => match in_expression(sought, operand) {
-            Some(found) => Some(found),
-            None => in_test(sought, test),
-        },
-        Expr::Unary(_, _, operand) => in_expression(sought, operand),
-        Expr::Binary(_, left, right) => match in_expression(sought, left) {
-            Some(found) => Some(found),
-            None => in_expression(sought, right),
-        },
-        Expr::If(_, condition, left, right) => match in_expression(sought, condition) {
-            Some(found) => Some(found),
-            None => match in_expression(sought, left) {
-                Some(found) => Some(found),
-                None => in_expression(sought, right),
-            },
-        },
+        Expr::Field(operand, _) | Expr::Parentheses(_, operand) | Expr::Unary(_, _, operand) => {
+            in_expression(sought, operand)
+        }
+        Expr::When(operand, test) => in_expression(sought, operand).or(in_test(sought, test)),
+        Expr::Binary(_, left, right) => {
+            in_expression(sought, left).or(in_expression(sought, right))
+        }
+        Expr::If(_, condition, left, right) => {
+            in_expression(sought, condition)
+                .or(in_expression(sought, left))
+                .or(in_expression(sought, right))
+        }
     }
 }
 

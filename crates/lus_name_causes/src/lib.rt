@@ -6,6 +6,7 @@ mod declared;
 mod doubled;
 mod equations;
 mod expressions;
+mod said;
 mod unknown;
 
 pub use cause::name_cause;

@@ -1,6 +1,7 @@
 //! A name that nothing declares.
 
-use lus_faults::{Edit, Finding, nearest};
+use crate::said::{Said, told_of};
+use lus_faults::nearest;
 use lus_syntax::Name;
 use std::alloc::{AllocError, Global};
 
@@ -16,15 +17,15 @@ pub enum Role {
 }
 
 impl Role {
-    /// What there is none of.
-    fn as_str(self) -> &'static str {
+    /// The sentence on a name that there is none of.
+    fn sentence(self) -> &'static str {
         match self {
-            Role::Value => "no variable, constant or constructor",
-            Role::Variable => "no variable of this node",
-            Role::Constructor => "no constructor",
-            Role::Type => "no type",
-            Role::Node => "no node",
-            Role::Left => "no output and no local",
+            Role::Value => "no variable, constant or constructor is named `{}`",
+            Role::Variable => "no variable of this node is named `{}`",
+            Role::Constructor => "no constructor is named `{}`",
+            Role::Type => "no type is named `{}`",
+            Role::Node => "no node is named `{}`",
+            Role::Left => "no output and no local is named `{}`",
         }
     }
 }
@@ -36,46 +37,47 @@ pub struct Use<'t> {
     pub role: Role,
 }
 
-/// A type's name in other languages: the type that is meant, if there is one, and what is said of it.
-#[derive(Clone, Copy)]
-struct Foreign {
-    meant: Option<&'static str>,
-    note: &'static str,
+/// What other languages call `bool`, `int`, numbers with a point, and texts.
+static TRUTHS: [&str; 2] = ["boolean", "_Bool"];
+
+static NUMBERS: [&str; 13] = [
+    "integer", "int8", "int16", "int32", "int64", "uint8", "uint16", "uint32", "uint64", "byte",
+    "short", "long", "nat",
+];
+
+static POINTED: [&str; 4] = ["float", "double", "float32", "float64"];
+
+static TEXTS: [&str; 2] = ["char", "string"];
+
+/// Whether a text is one of some.
+fn is_any(text: &str, texts: &[&str]) -> bool {
+    for other in texts {
+        if *other == text {
+            return true;
+        }
+    }
+    false
 }
 
-/// What other languages call the types.
-fn foreign_type(text: &str) -> Option<Foreign> {
-    match text {
-        "boolean" | "_Bool" => Some(Foreign {
-            meant: Some("bool"),
-            note: "It is called `bool`.",
-        }),
-        "integer"
-        | "int8"
-        | "int16"
-        | "int32"
-        | "int64"
-        | "uint8"
-        | "uint16"
-        | "uint32"
-        | "uint64"
-        | "byte"
-        | "short"
-        | "long"
-        | "nat" => Some(Foreign {
-            meant: Some("int"),
-            note: "All numbers have one type, `int`: whole numbers of 64 bits.",
-        }),
-        "float" | "double" | "float32" | "float64" => Some(Foreign {
-            meant: None,
-            note: "Numbers with a point are left out: write `int`, and count in hundredths.",
-        }),
-        "char" | "string" => Some(Foreign {
-            meant: None,
-            note: "There are no texts: write an enumeration, as in `type state = enum { Off, On };`.",
-        }),
-        _ => None,
+/// The type that is meant by what other languages call one, if there is one, and what is said of it.
+fn foreign_type(text: &str) -> Option<(Option<&'static str>, &'static str)> {
+    if is_any(text, &TRUTHS) {
+        return Some((Some("bool"), "It is called `bool`."));
     }
+    if is_any(text, &NUMBERS) {
+        let note = "All numbers have one type, `int`: whole numbers of 64 bits.";
+        return Some((Some("int"), note));
+    }
+    if is_any(text, &POINTED) {
+        let note = "Numbers with a point are left out: write `int`, and count in hundredths.";
+        return Some((None, note));
+    }
+    if is_any(text, &TEXTS) {
+        let note =
+            "There are no texts: write an enumeration, as in `type state = enum { Off, On };`.";
+        return Some((None, note));
+    }
+    None
 }
 
 /// What is said of a node's name that other languages have, or of any.
@@ -103,41 +105,30 @@ fn note_on(found: Use<'_>) -> &'static str {
     }
 }
 
-/// What is said of a name that nothing declares, and what is written in its place.
-fn replaced(
-    alloc: Global,
-    found: Use<'_>,
-    finding: Finding,
-    note: &str,
-    meant: &str,
-) -> Result<Finding, AllocError> {
-    let edit = Edit {
-        byte: found.name.span.start.byte,
-        length: found.name.span.length,
-        text: String::from_str(alloc, meant)?,
-    };
-    Ok(finding.with_note(alloc, note)?.with_edit(Some(edit)))
-}
-
 /// What is said of a name that nothing declares, with the nearest of the names that could be meant.
-pub fn unknown(alloc: Global, found: Use<'_>, names: &[&str]) -> Result<Finding, AllocError> {
+pub fn unknown<'t>(
+    alloc: Global,
+    found: Use<'t>,
+    names: &[&'t str],
+) -> Result<Said<'t>, AllocError> {
     let text = found.name.text.as_str();
-    let role = found.role.as_str();
-    let sentence = format!(in alloc; "{role} is named `{text}`")?;
-    let finding = Finding::new(alloc, sentence, found.name.span.length);
+    let said = told_of(found.name, found.role.sentence(), note_on(found));
     if found.role == Role::Type
-        && let Some(foreign) = foreign_type(text)
+        && let Some((meant, note)) = foreign_type(text)
     {
-        return match foreign.meant {
-            Some(meant) => replaced(alloc, found, finding, foreign.note, meant),
-            None => finding.with_note(alloc, foreign.note),
-        };
+        return Ok(Said {
+            note,
+            meant,
+            ..said
+        });
     }
-    match nearest(alloc, text, names)? {
-        Some(meant) => {
-            let note = format!(in alloc; "There is `{meant}`, which is spelled nearly alike.")?;
-            replaced(alloc, found, finding, &note, meant)
-        }
-        None => finding.with_note(alloc, note_on(found)),
+    let meant = nearest(alloc, text, names)?;
+    if meant.is_none() {
+        return Ok(said);
     }
+    Ok(Said {
+        note: "There is `{}`, which is spelled nearly alike.",
+        meant,
+        ..said
+    })
 }

@@ -4,8 +4,9 @@ use crate::equations::check_equation;
 use crate::inferring::Given;
 use crate::kinds::Kind;
 use crate::memory::check_memory;
-use crate::scope::{Scope, enter, kind_of, literal_kind, scope_of};
-use crate::stop::{Clash, Stop, ending, told_at};
+use crate::phrase::Phrase;
+use crate::scope::{Scope, add_node, add_tree, kind_of, literal_kind};
+use crate::stop::{Clash, Stop, finding_of, told_at};
 use crate::tests::check_test;
 use lus_faults::Finding;
 use lus_syntax::{Constant, Group, Literal, Node, Refusal, Span, Tree};
@@ -25,31 +26,29 @@ fn literal_span(value: &Literal) -> Span {
 }
 
 /// A constant of another type than its value.
-fn wrong_constant(
-    given: Given<'_>,
-    constant: &Constant,
+fn wrong_constant<'t>(
+    given: Given<'t>,
+    constant: &'t Constant,
     wanted: Kind,
     kind: Kind,
-) -> Result<Clash, AllocError> {
-    let text = constant.name.text.as_str();
-    let want = wanted.name(given.tree);
-    let has = kind.name(given.tree);
-    let span = literal_span(&constant.value);
-    let sentence = format!(in given.alloc;
-        "the constant `{text}` has type `{want}`, and its value `{has}`"
-    )?;
-    Ok(told_at(given.alloc, span.start, span.length, sentence))
+) -> Clash<'t> {
+    let sentence = Phrase::new(
+        "the constant `{}` has type `{}`, and its value `{}`",
+        constant.name.text.as_str(),
+        wanted.name(given.tree),
+        kind.name(given.tree),
+    );
+    told_at(literal_span(&constant.value), sentence)
 }
 
 /// Ends where a constant's type isn't that of its value.
-fn check_constants(given: Given<'_>) -> Result<(), Stop> {
+fn check_constants(given: Given<'_>) -> Result<(), Stop<'_>> {
     for constant in &given.tree.constants {
         if let Some(name) = &constant.type_name {
             let wanted = kind_of(&given.scope.types, given.tree, name);
             let kind = literal_kind(given.scope, &constant.value);
             if wanted.differs(kind) {
-                let told = wrong_constant(given, constant, wanted, kind)?;
-                return Err(ending(given.alloc, told));
+                return Err(Stop::Found(wrong_constant(given, constant, wanted, kind)));
             }
         }
     }
@@ -57,7 +56,7 @@ fn check_constants(given: Given<'_>) -> Result<(), Stop> {
 }
 
 /// Ends where a declared clock doesn't fit its variable.
-fn check_groups(given: Given<'_>, groups: &[Group]) -> Result<(), Stop> {
+fn check_groups<'t>(given: Given<'t>, groups: &'t [Group]) -> Result<(), Stop<'t>> {
     for group in groups {
         if let Some(test) = &group.test {
             check_test(given, test)?;
@@ -67,7 +66,7 @@ fn check_groups(given: Given<'_>, groups: &[Group]) -> Result<(), Stop> {
 }
 
 /// Ends at the first fault of a node.
-fn check_node(given: Given<'_>, node: &Node) -> Result<(), Stop> {
+fn check_node<'t>(given: Given<'t>, node: &'t Node) -> Result<(), Stop<'t>> {
     check_groups(given, &node.inputs)?;
     check_groups(given, &node.outputs)?;
     check_groups(given, &node.locals)?;
@@ -90,12 +89,40 @@ fn node_at(tree: &Tree, line: u32, column: u32) -> Option<&Node> {
 }
 
 /// The first fault of the constants, and then of a node.
-fn checked(given: Given<'_>, node: Option<&Node>) -> Result<(), Stop> {
+fn checked<'t>(given: Given<'t>, node: Option<&'t Node>) -> Result<(), Stop<'t>> {
     check_constants(given)?;
     match node {
         Some(node) => check_node(given, node),
         None => Ok(()),
     }
+}
+
+/// What is said of a fault of types, once its source and its node are added to a scope.
+fn cause_in(
+    alloc: Global,
+    scope: &mut Scope,
+    source: &str,
+    tree: &Tree,
+    refusal: &Refusal,
+) -> Result<Option<Finding>, AllocError> {
+    add_tree(scope, tree)?;
+    let node = node_at(tree, refusal.line, refusal.column);
+    if let Some(node) = node {
+        add_node(scope, tree, node)?;
+    }
+    let given = Given {
+        alloc,
+        source,
+        tree,
+        scope,
+    };
+    let Err(Stop::Found(clash)) = checked(given, node) else {
+        return Ok(None);
+    };
+    if clash.span.start.line == refusal.line && clash.span.start.column == refusal.column {
+        return Ok(Some(finding_of(alloc, &clash)?));
+    }
+    Ok(None)
 }
 
 /// What is said of a fault of types, where it is found again at its place.
@@ -105,26 +132,6 @@ pub fn type_cause(
     tree: &Tree,
     refusal: &Refusal,
 ) -> Result<Option<Finding>, AllocError> {
-    let mut scope: Scope = scope_of(alloc, tree)?;
-    let node = node_at(tree, refusal.line, refusal.column);
-    if let Some(node) = node {
-        enter(&mut scope, tree, node)?;
-    }
-    let given = Given {
-        alloc,
-        source,
-        tree,
-        scope: &scope,
-    };
-    match checked(given, node) {
-        Ok(()) => Ok(None),
-        Err(Stop::Memory) => Ok(None),
-        Err(Stop::Found(told)) => {
-            let told = Box::into_inner(told);
-            if told.place.line == refusal.line && told.place.column == refusal.column {
-                return Ok(Some(told.finding));
-            }
-            Ok(None)
-        }
-    }
+    let mut scope = Scope::new(alloc);
+    cause_in(alloc, &mut scope, source, tree, refusal)
 }

@@ -3,10 +3,10 @@
 use crate::calls::{called, check_arguments, count_of, variable_at};
 use crate::inferring::{Given, infer, infer_all};
 use crate::kinds::Kind;
-use crate::stop::{Clash, Stop, ending, told_at};
+use crate::phrase::{Phrase, Word};
+use crate::stop::{Clash, Stop, told_at};
 use lus_faults::extent_of;
 use lus_syntax::{Equation, Expr, Group, Name, Node, Part};
-use std::alloc::AllocError;
 
 /// The call that a right side is, parentheses aside.
 #[cycle(inner)]
@@ -38,119 +38,105 @@ fn declared<'t>(node: &'t Node, text: &str) -> Option<&'t Name> {
 }
 
 /// A right side of another type than its variable.
-fn wrong_type(
-    given: Given<'_>,
-    node: &Node,
-    left: &Name,
-    wanted: Kind,
-    right: &Expr,
+fn wrong_type<'t>(
+    given: Given<'t>,
+    node: &'t Node,
+    left: &'t Name,
+    right: &'t Expr,
     kind: Kind,
-) -> Result<Clash, AllocError> {
+) -> Clash<'t> {
     let text = left.text.as_str();
-    let want = wanted.name(given.tree);
+    let want = given.scope.variable(left).name(given.tree);
     let has = kind.name(given.tree);
-    let span = extent_of(given.source, right);
-    let sentence = format!(in given.alloc;
-        "`{text}` has type `{want}`, and its equation gives `{has}`"
-    )?;
-    let told = told_at(given.alloc, span.start, span.length, sentence);
+    let sentence = "`{}` has type `{}`, and its equation gives `{}`";
+    let told = told_at(
+        extent_of(given.source, right),
+        Phrase::new(sentence, text, want, has),
+    );
     match declared(node, text) {
-        Some(name) => told.beside(
-            name.span,
-            format!(in given.alloc; "`{text}` is declared here")?,
-        ),
-        None => Ok(told),
+        Some(name) => told.declared(name),
+        None => told,
     }
 }
 
 /// A right side that gives another count of values than there are variables.
-fn wrong_values(given: Given<'_>, equation: &Equation, found: usize) -> Result<Clash, AllocError> {
-    let span = extent_of(given.source, &equation.right);
-    let wanted = equation.left.len();
-    let sentence = format!(in given.alloc;
-        "variables on the left: {wanted}; values on the right: {found}"
-    )?;
-    let told = told_at(given.alloc, span.start, span.length, sentence);
-    told.noted(
-        given.alloc,
-        "Only a call gives several values, as many as its node has outputs: write an equation for each variable.",
-    )
+fn wrong_values<'t>(given: Given<'t>, equation: &'t Equation, found: usize) -> Clash<'t> {
+    let text = "variables on the left: {}; values on the right: {}";
+    let note =
+        "Only a call gives several values, as many as its node has outputs: write an equation for each variable.";
+    let sentence = Phrase {
+        first: Word::Number(equation.left.len()),
+        second: Word::Number(found),
+        ..Phrase::of(text, "")
+    };
+    told_at(extent_of(given.source, &equation.right), sentence).noted(Phrase::of(note, ""))
 }
 
-fn left_kind(given: Given<'_>, left: &Name) -> Kind {
-    given
-        .scope
-        .variables
-        .get(left.text.as_str())
-        .copied()
-        .unwrap_or(Kind::Unknown)
+/// Ends where a right side has another type than its variable.
+fn check_value<'t>(
+    given: Given<'t>,
+    node: &'t Node,
+    left: &'t Name,
+    right: &'t Expr,
+    kind: Kind,
+) -> Result<(), Stop<'t>> {
+    if given.scope.variable(left).differs(kind) {
+        return Err(Stop::Found(wrong_type(given, node, left, right, kind)));
+    }
+    Ok(())
 }
 
-/// The first fault of a call that is a whole right side.
-fn call_fault(
-    given: Given<'_>,
-    node: &Node,
-    equation: &Equation,
-    callee: &Node,
-) -> Result<Option<Clash>, AllocError> {
+/// Ends where the values of a call that is a whole right side don't fit.
+fn check_results<'t>(
+    given: Given<'t>,
+    node: &'t Node,
+    equation: &'t Equation,
+    callee: &'t Node,
+) -> Result<(), Stop<'t>> {
     let found = count_of(&callee.outputs);
     if found != equation.left.len() {
-        return Ok(Some(wrong_values(given, equation, found)?));
+        return Err(Stop::Found(wrong_values(given, equation, found)));
     }
     for (place, left) in equation.left.iter().enumerate() {
-        let wanted = left_kind(given, left);
         if let Some((_, kind)) = variable_at(given, &callee.outputs, place) {
-            if wanted.differs(kind) {
-                let told = wrong_type(given, node, left, wanted, &equation.right, kind)?;
-                return Ok(Some(told));
-            }
+            check_value(given, node, left, &equation.right, kind)?;
         }
     }
-    Ok(None)
+    Ok(())
 }
 
-/// The fault of a right side that gives one value.
-fn value_fault(
-    given: Given<'_>,
-    node: &Node,
-    equation: &Equation,
-    kind: Kind,
-) -> Result<Option<Clash>, AllocError> {
-    let Some(left) = equation.left.first() else {
-        return Ok(None);
+/// Ends where a call that is a whole right side doesn't fit.
+fn check_call<'t>(
+    given: Given<'t>,
+    node: &'t Node,
+    equation: &'t Equation,
+    name: &'t Name,
+    parts: &'t [Part],
+) -> Result<(), Stop<'t>> {
+    let kinds = infer_all(given, parts)?;
+    let Some(callee) = called(given, name) else {
+        return Ok(());
     };
-    if equation.left.len() != 1 {
-        return Ok(Some(wrong_values(given, equation, 1)?));
-    }
-    let wanted = left_kind(given, left);
-    if wanted.differs(kind) {
-        let told = wrong_type(given, node, left, wanted, &equation.right, kind)?;
-        return Ok(Some(told));
-    }
-    Ok(None)
+    check_arguments(given, name, callee, parts, &kinds)?;
+    check_results(given, node, equation, callee)
 }
 
 /// Ends where an equation's types disagree.
-pub fn check_equation(given: Given<'_>, node: &Node, equation: &Equation) -> Result<(), Stop> {
+pub fn check_equation<'t>(
+    given: Given<'t>,
+    node: &'t Node,
+    equation: &'t Equation,
+) -> Result<(), Stop<'t>> {
     let right = &equation.right;
-    let fault = match whole_call(right) {
-        Some((name, parts)) => {
-            let kinds = infer_all(given, parts)?;
-            match called(given, name) {
-                Some(callee) => {
-                    check_arguments(given, name, callee, parts, &kinds)?;
-                    call_fault(given, node, equation, callee)?
-                }
-                None => None,
-            }
-        }
-        None => {
-            let kind = infer(given, right)?;
-            value_fault(given, node, equation, kind)?
-        }
-    };
-    match fault {
-        Some(told) => Err(ending(given.alloc, told)),
-        None => Ok(()),
+    if let Some((name, parts)) = whole_call(right) {
+        return check_call(given, node, equation, name, parts);
     }
+    let kind = infer(given, right)?;
+    let Some(left) = equation.left.first() else {
+        return Ok(());
+    };
+    if equation.left.len() != 1 {
+        return Err(Stop::Found(wrong_values(given, equation, 1)));
+    }
+    check_value(given, node, left, right, kind)
 }

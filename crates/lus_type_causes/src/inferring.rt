@@ -22,57 +22,29 @@ pub struct Given<'t> {
 
 /// The type of an expression, or the first fault in it: of its parts from left to right, then its own.
 #[cycle(infer)]
-pub fn infer(given: Given<'_>, expr: &Expr) -> Inferred {
+pub fn infer<'t>(given: Given<'t>, expr: &'t Expr) -> Inferred<'t> {
     match expr {
         Expr::Number(_, _) => Ok(Kind::Int),
         Expr::Truth(_, _) => Ok(Kind::Bool),
-        Expr::Name(name) => {
-            let text = name.text.as_str();
-            match given.scope.variables.get(text) {
-                Some(kind) => Ok(*kind),
-                None => Ok(
-                    given
-                        .scope
-                        .values
-                        .get(text)
-                        .copied()
-                        .unwrap_or(Kind::Unknown),
-                ),
-            }
-        }
-        Expr::Call(name, parts) => {
+        Expr::Name(name) => Ok(given.scope.named(name)),
+        Expr::Call(_, parts)
+        | Expr::Structure(_, parts)
+        | Expr::Merge(_, _, parts)
+        | Expr::Variadic(_, _, parts) => {
             let kinds = infer_all(given, parts)?;
-            call(given, name, parts, &kinds)
+            of_list(given, expr, parts, &kinds)
         }
-        Expr::Structure(name, parts) => {
-            let kinds = infer_all(given, parts)?;
-            structure(given, name, parts, &kinds)
-        }
-        Expr::Merge(span, variable, parts) => {
-            let kinds = infer_all(given, parts)?;
-            merge(given, *span, variable, parts, &kinds)
-        }
-        Expr::Variadic(op, span, parts) => {
-            let kinds = infer_all(given, parts)?;
-            variadic(given, *op, *span, parts, &kinds)
-        }
-        Expr::Field(operand, name) => {
+        Expr::Parentheses(_, operand)
+        | Expr::Field(operand, _)
+        | Expr::When(operand, _)
+        | Expr::Unary(_, _, operand) => {
             let kind = infer(given, operand)?;
-            field(given, kind, name)
-        }
-        Expr::Parentheses(_, inner) => infer(given, inner),
-        Expr::When(operand, test) => {
-            let kind = infer(given, operand)?;
-            sampled(given, kind, test)
-        }
-        Expr::Unary(op, span, operand) => {
-            let kind = infer(given, operand)?;
-            unary(given, *op, *span, operand, kind)
+            of_operand(given, expr, operand, kind)
         }
         Expr::Binary(op, left, right) => {
             let first = infer(given, left)?;
             let second = infer(given, right)?;
-            binary(given, *op, left, first, right, second)
+            binary(given, *op, (&**left, first), (&**right, second))
         }
         Expr::If(span, condition, left, right) => {
             let asked = infer(given, condition)?;
@@ -81,8 +53,7 @@ pub fn infer(given: Given<'_>, expr: &Expr) -> Inferred {
             choice(
                 given,
                 *span,
-                condition,
-                asked,
+                (&**condition, asked),
                 (&**left, first),
                 (&**right, second),
             )
@@ -92,11 +63,37 @@ pub fn infer(given: Given<'_>, expr: &Expr) -> Inferred {
 
 /// The types of parts, one by one.
 #[cycle(infer)]
-pub fn infer_all(given: Given<'_>, parts: &[Part]) -> Result<Vec<Kind>, Stop> {
+pub fn infer_all<'t>(given: Given<'t>, parts: &'t [Part]) -> Result<Vec<Kind>, Stop<'t>> {
     let mut kinds = Vec::new(given.alloc);
     for part in parts {
         let kind = infer(given, &part.value)?;
         kinds.push(kind)?;
     }
     Ok(kinds)
+}
+
+/// The type of an expression whose only operand has a type, or its own fault.
+fn of_operand<'t>(given: Given<'t>, expr: &'t Expr, operand: &'t Expr, kind: Kind) -> Inferred<'t> {
+    match expr {
+        Expr::Field(_, name) => field(given, kind, name),
+        Expr::When(_, test) => sampled(given, kind, test),
+        Expr::Unary(op, span, _) => unary(given, *op, *span, operand, kind),
+        _ => Ok(kind),
+    }
+}
+
+/// The type of an expression whose parts have types, or its own fault.
+fn of_list<'t>(
+    given: Given<'t>,
+    expr: &'t Expr,
+    parts: &'t [Part],
+    kinds: &[Kind],
+) -> Inferred<'t> {
+    match expr {
+        Expr::Call(name, _) => call(given, name, parts, kinds),
+        Expr::Structure(name, _) => structure(given, name, parts, kinds),
+        Expr::Merge(span, variable, _) => merge(given, *span, variable, parts, kinds),
+        Expr::Variadic(op, span, _) => variadic(given, *op, *span, parts, kinds),
+        _ => Ok(Kind::Unknown),
+    }
 }

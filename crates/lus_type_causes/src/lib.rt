@@ -9,6 +9,7 @@ mod kinds;
 mod memory;
 mod merges;
 mod operators;
+mod phrase;
 mod scope;
 mod stop;
 mod structures;

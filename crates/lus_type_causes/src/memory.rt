@@ -2,10 +2,10 @@
 
 use crate::calls::called;
 use crate::inferring::Given;
-use crate::stop::{Clash, Stop, ending, told_at};
+use crate::phrase::Phrase;
+use crate::stop::{Clash, Stop, told_at};
 use lus_faults::extent_of;
 use lus_syntax::{Expr, Infix, Name, Node, NodeKind, Part, Prefix, Span};
-use std::alloc::AllocError;
 
 /// What a function doesn't have: an operator with a memory, or a call of a node.
 #[derive(Clone, Copy)]
@@ -14,42 +14,48 @@ enum Kept<'t> {
     Call(&'t Name),
 }
 
+/// The memory of an operator between its operands.
+fn memory_between<'t>(given: Given<'t>, infix: Infix, expr: &'t Expr) -> Option<Kept<'t>> {
+    let text = match infix {
+        Infix::Fby => "fby",
+        Infix::Arrow => "->",
+        _ => return None,
+    };
+    Some(Kept::Operator(text, extent_of(given.source, expr)))
+}
+
+/// The call of a node, which may have a memory.
+fn memory_behind<'t>(given: Given<'t>, name: &'t Name) -> Option<Kept<'t>> {
+    match called(given, name) {
+        Some(node) if node.kind == NodeKind::Function => None,
+        _ => Some(Kept::Call(name)),
+    }
+}
+
 /// The memory that an expression has first.
 #[cycle(kept)]
 fn memory_of<'t>(given: Given<'t>, expr: &'t Expr) -> Option<Kept<'t>> {
     match expr {
-        Expr::Number(_, _) => None,
-        Expr::Truth(_, _) => None,
-        Expr::Name(_) => None,
-        Expr::Call(name, parts) => match called(given, name) {
-            Some(node) if node.kind == NodeKind::Function => memory_in(given, parts),
-            _ => Some(Kept::Call(&**name)),
-        },
-        Expr::Structure(_, parts) => memory_in(given, parts),
-        Expr::Merge(_, _, parts) => memory_in(given, parts),
-        Expr::Variadic(_, _, parts) => memory_in(given, parts),
-        Expr::Field(operand, _) => memory_of(given, operand),
-        Expr::Parentheses(_, inner) => memory_of(given, inner),
-        Expr::When(operand, _) => memory_of(given, operand),
+        Expr::Number(_, _) | Expr::Truth(_, _) | Expr::Name(_) => None,
+        Expr::Call(name, parts) => memory_behind(given, name).or(memory_in(given, parts)),
+        Expr::Structure(_, parts) | Expr::Merge(_, _, parts) | Expr::Variadic(_, _, parts) => {
+            memory_in(given, parts)
+        }
         Expr::Unary(Prefix::Pre, span, _) => Some(Kept::Operator("pre", *span)),
-        Expr::Unary(_, _, operand) => memory_of(given, operand),
-        Expr::Binary(Infix::Fby, _, _) => {
-            Some(Kept::Operator("fby", extent_of(given.source, expr)))
+        Expr::Field(operand, _)
+        | Expr::Parentheses(_, operand)
+        | Expr::When(operand, _)
+        | Expr::Unary(_, _, operand) => memory_of(given, operand),
+        Expr::Binary(infix, left, right) => {
+            memory_between(given, *infix, expr)
+                .or(memory_of(given, left))
+                .or(memory_of(given, right))
         }
-        Expr::Binary(Infix::Arrow, _, _) => {
-            Some(Kept::Operator("->", extent_of(given.source, expr)))
+        Expr::If(_, condition, left, right) => {
+            memory_of(given, condition)
+                .or(memory_of(given, left))
+                .or(memory_of(given, right))
         }
-        Expr::Binary(_, left, right) => match memory_of(given, left) {
-            Some(found) => Some(found),
-            None => memory_of(given, right),
-        },
-        Expr::If(_, condition, left, right) => match memory_of(given, condition) {
-            Some(found) => Some(found),
-            None => match memory_of(given, left) {
-                Some(found) => Some(found),
-                None => memory_of(given, right),
-            },
-        },
     }
 }
 
@@ -66,44 +72,38 @@ fn memory_in<'t>(given: Given<'t>, parts: &'t [Part]) -> Option<Kept<'t>> {
 }
 
 /// What is said of a memory in a function.
-fn fault_of(given: Given<'_>, node: &Node, found: Kept<'_>) -> Result<Clash, AllocError> {
+fn clash_of<'t>(given: Given<'t>, node: &'t Node, found: Kept<'t>) -> Clash<'t> {
     let owner = node.name.text.as_str();
-    let note =
-        "Write `node` in place of `function`: a function has no `pre`, `->` and `fby`, and calls functions alone.";
     match found {
         Kept::Operator(text, span) => {
-            let sentence = format!(in given.alloc;
-                "the function `{owner}` keeps no memory, as `{text}` does"
-            )?;
-            told_at(given.alloc, span.start, span.length, sentence).noted(given.alloc, note)
+            let sentence = "the function `{}` keeps no memory, as `{}` does";
+            told_at(span, Phrase::new(sentence, owner, text, ""))
         }
         Kept::Call(name) => {
-            let text = name.text.as_str();
-            let sentence = format!(in given.alloc;
-                "the function `{owner}` calls `{text}`, which is a node"
-            )?;
-            let told = told_at(given.alloc, name.span.start, name.span.length, sentence);
-            let told = match called(given, name) {
-                Some(callee) => {
-                    let label = format!(in given.alloc; "`{text}` is declared here")?;
-                    told.beside(callee.name.span, label)?
-                }
+            let sentence = "the function `{}` calls `{}`, which is a node";
+            let told = told_at(
+                name.span,
+                Phrase::new(sentence, owner, name.text.as_str(), ""),
+            );
+            match called(given, name) {
+                Some(callee) => told.declared(&callee.name),
                 None => told,
-            };
-            told.noted(given.alloc, note)
+            }
         }
     }
 }
 
 /// Ends where a function keeps a memory.
-pub fn check_memory(given: Given<'_>, node: &Node) -> Result<(), Stop> {
+pub fn check_memory<'t>(given: Given<'t>, node: &'t Node) -> Result<(), Stop<'t>> {
     if node.kind == NodeKind::Node {
         return Ok(());
     }
+    let note =
+        "Write `node` in place of `function`: a function has no `pre`, `->` and `fby`, and calls functions alone.";
     for equation in &node.equations {
         if let Some(found) = memory_of(given, &equation.right) {
-            let told = fault_of(given, node, found)?;
-            return Err(ending(given.alloc, told));
+            let clash = clash_of(given, node, found).noted(Phrase::of(note, ""));
+            return Err(Stop::Found(clash));
         }
     }
     Ok(())

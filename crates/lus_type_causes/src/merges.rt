@@ -2,11 +2,11 @@
 
 use crate::inferring::Given;
 use crate::kinds::Kind;
-use crate::stop::{Clash, Inferred, ending, told_at};
+use crate::phrase::{Phrase, Word};
+use crate::stop::{Clash, Inferred, Stop, told_at};
 use crate::tests::constructors;
-use lus_faults::{extent_of, label_span};
+use lus_faults::label_span;
 use lus_syntax::{Label, Lead, Name, Part, Span};
-use std::alloc::AllocError;
 
 /// The text of a label.
 fn label_text(label: &Label) -> &str {
@@ -17,17 +17,30 @@ fn label_text(label: &Label) -> &str {
     }
 }
 
-/// The labels that a merge over a variable of this type has.
-fn labels_of<'t>(given: Given<'t>, kind: Kind) -> Result<Vec<&'t str>, AllocError> {
-    let mut labels = Vec::new(given.alloc);
+/// How many labels a merge over a variable of this type has.
+fn label_count(given: Given<'_>, kind: Kind) -> usize {
     if kind == Kind::Bool {
-        labels.push("true")?;
-        labels.push("false")?;
+        return 2;
     }
-    for name in constructors(given, kind) {
-        labels.push(name.text.as_str())?;
+    constructors(given, kind).len()
+}
+
+/// The label of a number, from 0, that a merge over a variable of this type has.
+fn label_at<'t>(given: Given<'t>, kind: Kind, number: usize) -> Option<&'t str> {
+    if kind == Kind::Bool {
+        return Some(if number == 0 { "true" } else { "false" });
     }
-    Ok(labels)
+    Some(constructors(given, kind).get(number)?.text.as_str())
+}
+
+/// Whether a merge over a variable of this type has a label.
+fn has_label(given: Given<'_>, kind: Kind, text: &str) -> bool {
+    for number in 0..label_count(given, kind) {
+        if label_at(given, kind, number) == Some(text) {
+            return true;
+        }
+    }
+    false
 }
 
 /// How many branches have a label.
@@ -43,148 +56,147 @@ fn times(parts: &[Part], text: &str) -> usize {
     count
 }
 
-fn has(labels: &[&str], text: &str) -> bool {
-    for label in labels {
-        if *label == text {
-            return true;
-        }
-    }
-    false
-}
-
 /// A variable over which nothing is merged.
-fn no_clock(given: Given<'_>, variable: &Name, kind: Kind) -> Result<Clash, AllocError> {
+fn no_clock<'t>(given: Given<'t>, variable: &'t Name, kind: Kind) -> Clash<'t> {
     let text = variable.text.as_str();
-    let has = kind.name(given.tree);
-    let sentence = format!(in given.alloc;
-        "`merge` wants a `bool` or an enumeration, and `{text}` has type `{has}`"
-    )?;
-    Ok(told_at(
-        given.alloc,
-        variable.span.start,
-        variable.span.length,
-        sentence,
-    ))
+    let sentence = "`merge` wants a `bool` or an enumeration, and `{}` has type `{}`";
+    told_at(
+        variable.span,
+        Phrase::new(sentence, text, kind.name(given.tree), ""),
+    )
 }
 
 /// A label that isn't one of the variable's type.
-fn wrong_label(
-    given: Given<'_>,
-    variable: &Name,
+fn wrong_label<'t>(
+    given: Given<'t>,
+    variable: &'t Name,
     kind: Kind,
-    label: &Label,
-) -> Result<Clash, AllocError> {
-    let text = label_text(label);
+    label: &'t Label,
+) -> Clash<'t> {
     let owner = kind.name(given.tree);
-    let span = label_span(label);
-    let sentence = format!(in given.alloc; "type `{owner}` has no constructor `{text}`")?;
-    let told = told_at(given.alloc, span.start, span.length, sentence);
     let name = variable.text.as_str();
-    told.beside(
+    let sentence = "type `{}` has no constructor `{}`";
+    told_at(
+        label_span(label),
+        Phrase::new(sentence, owner, label_text(label), ""),
+    )
+    .beside(
         variable.span,
-        format!(in given.alloc; "`{name}` has type `{owner}`")?,
+        Phrase::new("`{}` has type `{}`", name, owner, ""),
     )
 }
 
 /// A label that no branch has, or several have.
-fn miscounted(given: Given<'_>, span: Span, text: &str, count: usize) -> Result<Clash, AllocError> {
+fn miscounted<'t>(span: Span, label: &'t str, count: usize) -> Clash<'t> {
     let sentence = if count == 0 {
-        format!(in given.alloc; "no branch has the label `{text}`")?
+        Phrase::of("no branch has the label `{}`", label)
     } else {
-        format!(in given.alloc; "{count} branches have the label `{text}`")?
+        Phrase {
+            first: Word::Number(count),
+            ..Phrase::new("{} branches have the label `{}`", "", label, "")
+        }
     };
-    let told = told_at(given.alloc, span.start, span.length, sentence);
-    told.noted(
-        given.alloc,
-        "A `merge` has one branch for each constructor, or for `true` and `false`, in any order.",
-    )
+    let note =
+        "A `merge` has one branch for each constructor, or for `true` and `false`, in any order.";
+    told_at(span, sentence).noted(Phrase::of(note, ""))
 }
 
 /// Branches of two types.
-fn unlike(
-    given: Given<'_>,
+fn unlike<'t>(
+    given: Given<'t>,
     span: Span,
-    first: (&Part, Kind),
-    second: (&Part, Kind),
-) -> Result<Clash, AllocError> {
+    first: (&'t Part, Kind),
+    second: (&'t Part, Kind),
+) -> Clash<'t> {
     let one = first.1.name(given.tree);
     let other = second.1.name(given.tree);
-    let sentence = format!(in given.alloc; "the branches are of two types, `{one}` and `{other}`")?;
-    let told = told_at(given.alloc, span.start, span.length, sentence);
-    let label = format!(in given.alloc; "this has type `{one}`")?;
-    let told = told.beside(extent_of(given.source, &first.0.value), label)?;
-    let label = format!(in given.alloc; "this has type `{other}`")?;
-    told.beside(extent_of(given.source, &second.0.value), label)
+    let sentence = "the branches are of two types, `{}` and `{}`";
+    told_at(span, Phrase::new(sentence, one, other, ""))
+        .typed(given, &first.0.value, first.1)
+        .typed(given, &second.0.value, second.1)
 }
 
-/// The first fault of the labels and the branches.
-fn fault_of(
-    given: Given<'_>,
-    span: Span,
-    variable: &Name,
-    kind: Kind,
-    parts: &[Part],
-    kinds: &[Kind],
-) -> Result<Option<Clash>, AllocError> {
-    let labels = labels_of(given, kind)?;
-    if labels.is_empty() {
-        let told = match parts.first() {
-            Some(part) => match &part.lead {
-                Lead::Branch(_, label) => wrong_label(given, variable, kind, label)?,
-                _ => no_clock(given, variable, kind)?,
-            },
-            None => no_clock(given, variable, kind)?,
-        };
-        return Ok(Some(told));
+/// A variable over whose type nothing is merged: told at the label of the first branch, if there is one.
+fn no_labels<'t>(given: Given<'t>, variable: &'t Name, kind: Kind, parts: &'t [Part]) -> Clash<'t> {
+    match parts.first() {
+        Some(part) => match &part.lead {
+            Lead::Branch(_, label) => wrong_label(given, variable, kind, label),
+            _ => no_clock(given, variable, kind),
+        },
+        None => no_clock(given, variable, kind),
     }
+}
+
+/// Ends where a branch has a label that isn't one of its variable's type.
+fn check_labels<'t>(
+    given: Given<'t>,
+    variable: &'t Name,
+    kind: Kind,
+    parts: &'t [Part],
+) -> Result<(), Stop<'t>> {
     for part in parts {
         if let Lead::Branch(_, label) = &part.lead {
-            if !has(&labels, label_text(label)) {
-                return Ok(Some(wrong_label(given, variable, kind, label)?));
+            if !has_label(given, kind, label_text(label)) {
+                return Err(Stop::Found(wrong_label(given, variable, kind, label)));
             }
         }
     }
-    for text in &labels {
-        let count = times(parts, *text);
+    Ok(())
+}
+
+/// Ends where a label of a type has no branch, or several.
+fn check_counts<'t>(
+    given: Given<'t>,
+    span: Span,
+    kind: Kind,
+    parts: &'t [Part],
+) -> Result<(), Stop<'t>> {
+    for number in 0..label_count(given, kind) {
+        let label = label_at(given, kind, number).unwrap_or("");
+        let count = times(parts, label);
         if count != 1 {
-            return Ok(Some(miscounted(given, span, *text, count)?));
+            return Err(Stop::Found(miscounted(span, label, count)));
         }
     }
+    Ok(())
+}
+
+/// Ends where branches have two types.
+fn check_types<'t>(
+    given: Given<'t>,
+    span: Span,
+    parts: &'t [Part],
+    kinds: &[Kind],
+) -> Result<(), Stop<'t>> {
     let mut first: Option<(&Part, Kind)> = None;
     for (place, part) in parts.iter().enumerate() {
         let kind = kinds.get(place).copied().unwrap_or(Kind::Unknown);
-        match first {
-            None => first = Some((part, kind)),
-            Some(before) => {
-                if before.1.differs(kind) {
-                    return Ok(Some(unlike(given, span, before, (part, kind))?));
-                }
-            }
+        let before = first.unwrap_or((part, kind));
+        if before.1.differs(kind) {
+            return Err(Stop::Found(unlike(given, span, before, (part, kind))));
         }
+        first = Some(before);
     }
-    Ok(None)
+    Ok(())
 }
 
 /// A merge over a variable.
-pub fn merge(
-    given: Given<'_>,
+pub fn merge<'t>(
+    given: Given<'t>,
     span: Span,
-    variable: &Name,
-    parts: &[Part],
+    variable: &'t Name,
+    parts: &'t [Part],
     kinds: &[Kind],
-) -> Inferred {
-    let text = variable.text.as_str();
-    let kind = given
-        .scope
-        .variables
-        .get(text)
-        .copied()
-        .unwrap_or(Kind::Unknown);
+) -> Inferred<'t> {
+    let kind = given.scope.variable(variable);
     if kind == Kind::Unknown {
         return Ok(kind);
     }
-    match fault_of(given, span, variable, kind, parts, kinds)? {
-        Some(told) => Err(ending(given.alloc, told)),
-        None => Ok(kinds.first().copied().unwrap_or(Kind::Unknown)),
+    if label_count(given, kind) == 0 {
+        return Err(Stop::Found(no_labels(given, variable, kind, parts)));
     }
+    check_labels(given, variable, kind, parts)?;
+    check_counts(given, span, kind, parts)?;
+    check_types(given, span, parts, kinds)?;
+    Ok(kinds.first().copied().unwrap_or(Kind::Unknown))
 }

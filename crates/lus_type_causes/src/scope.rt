@@ -2,7 +2,7 @@
 
 use crate::kinds::Kind;
 use indexmap::IndexMap;
-use lus_syntax::{Constant, Definition, Group, Literal, Name, Node, Tree, TypeName};
+use lus_syntax::{Definition, Group, Literal, Name, Node, Tree, TypeName};
 use std::alloc::{AllocError, Global};
 
 /// The names of a source, and of one of its nodes.
@@ -12,6 +12,42 @@ pub struct Scope {
     pub values: IndexMap<String, Kind>,
     pub nodes: IndexMap<String, usize>,
     pub variables: IndexMap<String, Kind>,
+}
+
+impl Scope {
+    /// No names.
+    pub fn new(alloc: Global) -> Scope {
+        Scope {
+            types: IndexMap::new(alloc),
+            values: IndexMap::new(alloc),
+            nodes: IndexMap::new(alloc),
+            variables: IndexMap::new(alloc),
+        }
+    }
+
+    /// The type of a name in an expression.
+    pub fn named(&self, name: &Name) -> Kind {
+        match self.variable(name) {
+            Kind::Unknown => self.value(name),
+            kind => kind,
+        }
+    }
+
+    /// The type of the constant or the constructor of a name.
+    pub fn value(&self, name: &Name) -> Kind {
+        self.values
+            .get(name.text.as_str())
+            .copied()
+            .unwrap_or(Kind::Unknown)
+    }
+
+    /// The type of the variable of a name.
+    pub fn variable(&self, name: &Name) -> Kind {
+        self.variables
+            .get(name.text.as_str())
+            .copied()
+            .unwrap_or(Kind::Unknown)
+    }
 }
 
 /// The type that a type's name stands for, through aliases.
@@ -58,19 +94,8 @@ pub fn literal_kind(scope: &Scope, value: &Literal) -> Kind {
         Literal::Number(_, _) => Kind::Int,
         Literal::Negative(_, _, _) => Kind::Int,
         Literal::Truth(_, _) => Kind::Bool,
-        Literal::Constructor(name) => {
-            scope
-                .values
-                .get(name.text.as_str())
-                .copied()
-                .unwrap_or(Kind::Unknown)
-        }
+        Literal::Constructor(name) => scope.value(name),
     }
-}
-
-fn add_constant(scope: &mut Scope, constant: &Constant) -> Result<(), AllocError> {
-    let kind = literal_kind(scope, &constant.value);
-    add(&mut scope.values, &constant.name, kind)
 }
 
 fn add_groups(scope: &mut Scope, tree: &Tree, groups: &[Group]) -> Result<(), AllocError> {
@@ -83,8 +108,10 @@ fn add_groups(scope: &mut Scope, tree: &Tree, groups: &[Group]) -> Result<(), Al
     Ok(())
 }
 
-fn add_constructors(scope: &mut Scope, tree: &Tree) -> Result<(), AllocError> {
+/// Adds the types of a source, and their constructors.
+fn add_types(scope: &mut Scope, tree: &Tree) -> Result<(), AllocError> {
     for (place, declaration) in tree.types.iter().enumerate() {
+        add(&mut scope.types, &declaration.name, place)?;
         if let Definition::Enumeration(names) = &declaration.definition {
             for name in names {
                 add(&mut scope.values, name, Kind::Declared(place))?;
@@ -94,29 +121,21 @@ fn add_constructors(scope: &mut Scope, tree: &Tree) -> Result<(), AllocError> {
     Ok(())
 }
 
-/// What names stand for in a source, outside its nodes.
-pub fn scope_of(alloc: Global, tree: &Tree) -> Result<Scope, AllocError> {
-    let mut scope = Scope {
-        types: IndexMap::new(alloc),
-        values: IndexMap::new(alloc),
-        nodes: IndexMap::new(alloc),
-        variables: IndexMap::new(alloc),
-    };
-    for (place, declaration) in tree.types.iter().enumerate() {
-        add(&mut scope.types, &declaration.name, place)?;
-    }
+/// Adds what names stand for in a source, outside its nodes.
+pub fn add_tree(scope: &mut Scope, tree: &Tree) -> Result<(), AllocError> {
+    add_types(scope, tree)?;
     for (place, node) in tree.nodes.iter().enumerate() {
         add(&mut scope.nodes, &node.name, place)?;
     }
-    add_constructors(&mut scope, tree)?;
     for constant in &tree.constants {
-        add_constant(&mut scope, constant)?;
+        let kind = literal_kind(scope, &constant.value);
+        add(&mut scope.values, &constant.name, kind)?;
     }
-    Ok(scope)
+    Ok(())
 }
 
 /// Adds the variables of a node.
-pub fn enter(scope: &mut Scope, tree: &Tree, node: &Node) -> Result<(), AllocError> {
+pub fn add_node(scope: &mut Scope, tree: &Tree, node: &Node) -> Result<(), AllocError> {
     add_groups(scope, tree, &node.inputs)?;
     add_groups(scope, tree, &node.outputs)?;
     add_groups(scope, tree, &node.locals)

@@ -1,67 +1,156 @@
-//! Where an inference of types ends.
+//! Where an inference of types ends, and what is said there.
 
+use crate::inferring::Given;
 use crate::kinds::Kind;
-use lus_faults::Finding;
-use lus_syntax::{Place, Span};
+use crate::phrase::{Phrase, push_phrase, text_of};
+use lus_faults::{Edit, Finding, extent_of, nearest};
+use lus_syntax::{Expr, Fields, Name, Span};
 use std::alloc::{AllocError, AllocFailed, Global};
 
-/// A fault of types: where it is told, and what is said.
-#[derive(Drop)]
-pub struct Clash {
-    pub place: Place,
-    pub finding: Finding,
+/// A further place, and what is there.
+type Beside<'t> = Option<(Span, Phrase<'t>)>;
+
+/// A fault of types: a sentence on its place, up to two further places, a note, and the name in whose place the nearest of some
+/// fields is written.
+#[derive(Clone, Copy)]
+pub struct Clash<'t> {
+    pub span: Span,
+    sentence: Phrase<'t>,
+    first: Beside<'t>,
+    second: Beside<'t>,
+    note: Option<Phrase<'t>>,
+    meant: Option<(&'t Name, &'t [Fields])>,
 }
 
 /// Why an expression has no type: a fault, or out of memory.
-#[derive(Drop)]
-pub enum Stop {
+#[derive(Clone, Copy)]
+pub enum Stop<'t> {
     Memory,
-    Found(Box<Clash>),
+    Found(Clash<'t>),
 }
 
 /// The type of an expression.
-pub type Inferred = Result<Kind, Stop>;
+pub type Inferred<'t> = Result<Kind, Stop<'t>>;
 
-impl From<AllocError> for Stop {
-    fn from(_error: AllocError) -> Stop {
+impl<'t> From<AllocError> for Stop<'t> {
+    fn from(_error: AllocError) -> Stop<'t> {
         Stop::Memory
     }
 }
 
-impl<T: Drop> From<AllocFailed<T>> for Stop {
-    fn from(_error: AllocFailed<T>) -> Stop {
+impl<'t, T: Drop> From<AllocFailed<T>> for Stop<'t> {
+    fn from(_error: AllocFailed<T>) -> Stop<'t> {
         Stop::Memory
     }
 }
 
-/// A fault at a place, on so many bytes.
-pub fn told_at(alloc: Global, place: Place, length: u32, sentence: String) -> Clash {
+/// A fault at a place.
+pub fn told_at<'t>(span: Span, sentence: Phrase<'t>) -> Clash<'t> {
     Clash {
-        place,
-        finding: Finding::new(alloc, sentence, length),
+        span,
+        sentence,
+        first: None,
+        second: None,
+        note: None,
+        meant: None,
     }
 }
 
-impl Clash {
+impl<'t> Clash<'t> {
     /// The fault with a further place.
-    pub fn beside(mut self, span: Span, label: String) -> Result<Clash, AllocError> {
-        self.finding.relate(span, label)?;
-        Ok(self)
+    pub fn beside(self, span: Span, label: Phrase<'t>) -> Clash<'t> {
+        match self.first {
+            None => Clash {
+                first: Some((span, label)),
+                ..self
+            },
+            Some(_) => Clash {
+                second: Some((span, label)),
+                ..self
+            },
+        }
+    }
+
+    /// The fault beside the declaration of a name.
+    pub fn declared(self, name: &'t Name) -> Clash<'t> {
+        self.beside(
+            name.span,
+            Phrase::of("`{}` is declared here", name.text.as_str()),
+        )
+    }
+
+    /// The fault beside an expression that has a type.
+    pub fn typed(self, given: Given<'t>, expr: &'t Expr, kind: Kind) -> Clash<'t> {
+        let label = Phrase::of("this has type `{}`", kind.name(given.tree));
+        self.beside(extent_of(given.source, expr), label)
     }
 
     /// The fault with a note.
-    pub fn noted(self, alloc: Global, note: &str) -> Result<Clash, AllocError> {
-        Ok(Clash {
-            place: self.place,
-            finding: self.finding.with_note(alloc, note)?,
-        })
+    pub fn noted(self, note: Phrase<'t>) -> Clash<'t> {
+        Clash {
+            note: Some(note),
+            ..self
+        }
+    }
+
+    /// The fault with the nearest of some fields in the place of a name.
+    pub fn meaning(self, name: &'t Name, groups: &'t [Fields]) -> Clash<'t> {
+        Clash {
+            meant: Some((name, groups)),
+            ..self
+        }
     }
 }
 
-/// Ends an inference with a fault.
-pub fn ending(alloc: Global, clash: Clash) -> Stop {
-    match Box::new(alloc, clash) {
-        Ok(clash) => Stop::Found(clash),
-        Err(_) => Stop::Memory,
+/// Adds a further place, if there is one.
+fn relate(alloc: Global, finding: &mut Finding, beside: Beside<'_>) -> Result<(), AllocError> {
+    match beside {
+        Some((span, label)) => finding.relate(span, text_of(alloc, &label)?),
+        None => Ok(()),
     }
+}
+
+/// The names of fields.
+fn names_of(alloc: Global, groups: &[Fields]) -> Result<Vec<&str>, AllocError> {
+    let mut names = Vec::new(alloc);
+    for group in groups {
+        for field in &group.names {
+            names.push(field.text.as_str())?;
+        }
+    }
+    Ok(names)
+}
+
+/// The nearest of some fields in the place of a name.
+fn edit_of(alloc: Global, name: &Name, groups: &[Fields]) -> Result<Option<Edit>, AllocError> {
+    let names = names_of(alloc, groups)?;
+    match nearest(alloc, name.text.as_str(), &names)? {
+        Some(meant) => Ok(Some(Edit {
+            byte: name.span.start.byte,
+            length: name.span.length,
+            text: String::from_str(alloc, meant)?,
+        })),
+        None => Ok(None),
+    }
+}
+
+/// Adds what is said of a fault.
+fn complete(alloc: Global, finding: &mut Finding, clash: &Clash<'_>) -> Result<(), AllocError> {
+    push_phrase(&mut finding.sentence, &clash.sentence)?;
+    relate(alloc, finding, clash.first)?;
+    relate(alloc, finding, clash.second)?;
+    if let Some(note) = clash.note {
+        finding.note = Some(text_of(alloc, &note)?);
+    }
+    if let Some((name, groups)) = clash.meant {
+        finding.edit = edit_of(alloc, name, groups)?;
+    }
+    Ok(())
+}
+
+/// What is said of a fault.
+pub fn finding_of(alloc: Global, clash: &Clash<'_>) -> Result<Finding, AllocError> {
+    let mut finding = Finding::new(alloc, String::new(alloc), clash.span.length);
+    complete(alloc, &mut finding, clash)?;
+    Ok(finding)
 }

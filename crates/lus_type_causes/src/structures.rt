@@ -2,11 +2,10 @@
 
 use crate::inferring::Given;
 use crate::kinds::Kind;
+use crate::phrase::{Phrase, Word};
 use crate::scope::kind_of;
-use crate::stop::{Clash, Inferred, ending, told_at};
-use lus_faults::{Edit, extent_of, nearest};
+use crate::stop::{Clash, Inferred, Stop, told_at};
 use lus_syntax::{Definition, Fields, Lead, Name, Part, Span, TypeDeclaration};
-use std::alloc::AllocError;
 
 /// The declaration of a structure's type.
 fn structure_of<'t>(given: Given<'t>, kind: Kind) -> Option<(&'t TypeDeclaration, &'t [Fields])> {
@@ -36,90 +35,57 @@ fn field_of<'t>(given: Given<'t>, groups: &'t [Fields], text: &str) -> Option<(&
     None
 }
 
-/// A field that a structure doesn't have: told at a place, with the nearest that it has.
-fn no_field(
-    given: Given<'_>,
-    main: Span,
-    name: &Name,
-    declaration: &TypeDeclaration,
-    groups: &[Fields],
-) -> Result<Clash, AllocError> {
+/// A field that a structure doesn't have, with the nearest that it has.
+fn no_field<'t>(
+    name: &'t Name,
+    declaration: &'t TypeDeclaration,
+    groups: &'t [Fields],
+) -> Clash<'t> {
     let text = name.text.as_str();
     let owner = declaration.name.text.as_str();
-    let sentence = format!(in given.alloc; "`{owner}` has no field `{text}`")?;
-    let told = told_at(given.alloc, main.start, main.length, sentence);
-    let told = told.beside(
-        declaration.name.span,
-        format!(in given.alloc; "`{owner}` is declared here")?,
-    )?;
-    let mut names = Vec::new(given.alloc);
-    for group in groups {
-        for field in &group.names {
-            names.push(field.text.as_str())?;
-        }
-    }
-    let Some(meant) = nearest(given.alloc, text, &names)? else {
-        return Ok(told);
-    };
-    let edit = Edit {
-        byte: name.span.start.byte,
-        length: name.span.length,
-        text: String::from_str(given.alloc, meant)?,
-    };
-    Ok(Clash {
-        place: told.place,
-        finding: told.finding.with_edit(Some(edit)),
-    })
+    told_at(
+        name.span,
+        Phrase::new("`{}` has no field `{}`", owner, text, ""),
+    )
+    .declared(&declaration.name)
+    .meaning(name, groups)
 }
 
 /// What has no fields.
-fn no_structure(given: Given<'_>, main: Span, kind: Kind) -> Result<Clash, AllocError> {
-    let has = kind.name(given.tree);
-    let sentence = format!(in given.alloc; "a value of type `{has}` has no fields")?;
-    Ok(told_at(given.alloc, main.start, main.length, sentence))
+fn no_structure<'t>(given: Given<'t>, main: Span, kind: Kind) -> Stop<'t> {
+    let sentence = "a value of type `{}` has no fields";
+    Stop::Found(told_at(main, Phrase::of(sentence, kind.name(given.tree))))
 }
 
 /// A field of a value.
-pub fn field(given: Given<'_>, kind: Kind, name: &Name) -> Inferred {
+pub fn field<'t>(given: Given<'t>, kind: Kind, name: &'t Name) -> Inferred<'t> {
     if kind == Kind::Unknown {
         return Ok(kind);
     }
-    let main = name.span;
     let Some((declaration, groups)) = structure_of(given, kind) else {
-        return Err(ending(given.alloc, no_structure(given, main, kind)?));
+        return Err(no_structure(given, name.span, kind));
     };
     match field_of(given, groups, name.text.as_str()) {
         Some((_, kind)) => Ok(kind),
-        None => {
-            let told = no_field(given, main, name, declaration, groups)?;
-            Err(ending(given.alloc, told))
-        }
+        None => Err(Stop::Found(no_field(name, declaration, groups))),
     }
 }
 
 /// A structure's value for a field of another type.
-fn wrong_value(
-    given: Given<'_>,
-    owner: &Name,
-    part: &Part,
+fn wrong_value<'t>(
+    given: Given<'t>,
+    owner: &'t Name,
+    part: &'t Part,
     kind: Kind,
-    field: (&Name, Kind),
-) -> Result<Clash, AllocError> {
+    field: (&'t Name, Kind),
+) -> Clash<'t> {
     let text = field.0.text.as_str();
     let want = field.1.name(given.tree);
     let has = kind.name(given.tree);
-    let sentence = format!(in given.alloc;
-        "the field `{text}` has type `{want}`, and is given `{has}`"
-    )?;
-    let told = told_at(given.alloc, owner.span.start, owner.span.length, sentence);
-    let told = told.beside(
-        extent_of(given.source, &part.value),
-        format!(in given.alloc; "this has type `{has}`")?,
-    )?;
-    told.beside(
-        field.0.span,
-        format!(in given.alloc; "`{text}` is declared here")?,
-    )
+    let sentence = "the field `{}` has type `{}`, and is given `{}`";
+    told_at(owner.span, Phrase::new(sentence, text, want, has))
+        .typed(given, &part.value, kind)
+        .declared(field.0)
 }
 
 /// How often the parts of a structure name a field.
@@ -136,64 +102,84 @@ fn times(parts: &[Part], text: &str) -> usize {
 }
 
 /// A field that a structure's value names never, or more than once.
-fn miscounted(
-    given: Given<'_>,
-    owner: &Name,
-    groups: &[Fields],
-    parts: &[Part],
-) -> Result<Option<Clash>, AllocError> {
-    for group in groups {
-        for field in &group.names {
-            let text = field.text.as_str();
-            let count = times(parts, text);
-            if count != 1 {
-                let sentence = if count == 0 {
-                    format!(in given.alloc; "the field `{text}` is missing")?
-                } else {
-                    format!(in given.alloc; "the field `{text}` has {count} values")?
-                };
-                let told = told_at(given.alloc, owner.span.start, owner.span.length, sentence);
-                let label = format!(in given.alloc; "`{text}` is declared here")?;
-                let told = told.beside(field.span, label)?;
-                let note = "A structure's value has each field exactly once, in any order.";
-                return Ok(Some(told.noted(given.alloc, note)?));
-            }
+fn miscounted<'t>(owner: &'t Name, field: &'t Name, count: usize) -> Clash<'t> {
+    let name = field.text.as_str();
+    let sentence = if count == 0 {
+        Phrase::of("the field `{}` is missing", name)
+    } else {
+        Phrase {
+            second: Word::Number(count),
+            ..Phrase::of("the field `{}` has {} values", name)
         }
-    }
-    Ok(None)
+    };
+    let note = "A structure's value has each field exactly once, in any order.";
+    told_at(owner.span, sentence)
+        .declared(field)
+        .noted(Phrase::of(note, ""))
 }
 
-/// The first fault of the parts of a structure's value.
-fn fault_of(
-    given: Given<'_>,
-    owner: &Name,
-    declaration: &TypeDeclaration,
-    groups: &[Fields],
-    parts: &[Part],
-    kinds: &[Kind],
-) -> Result<Option<Clash>, AllocError> {
+/// Ends where the parts of a structure's value name a field that it doesn't have.
+fn check_names<'t>(
+    given: Given<'t>,
+    declaration: &'t TypeDeclaration,
+    groups: &'t [Fields],
+    parts: &'t [Part],
+) -> Result<(), Stop<'t>> {
     for part in parts {
         if let Lead::Field(name) = &part.lead {
             if field_of(given, groups, name.text.as_str()).is_none() {
-                return Ok(Some(no_field(given, name.span, name, declaration, groups)?));
+                return Err(Stop::Found(no_field(name, declaration, groups)));
             }
         }
     }
+    Ok(())
+}
+
+/// Ends where the parts of a structure's value have other types than its fields.
+fn check_values<'t>(
+    given: Given<'t>,
+    owner: &'t Name,
+    groups: &'t [Fields],
+    parts: &'t [Part],
+    kinds: &[Kind],
+) -> Result<(), Stop<'t>> {
     for (place, part) in parts.iter().enumerate() {
         let kind = kinds.get(place).copied().unwrap_or(Kind::Unknown);
         if let Lead::Field(name) = &part.lead {
             if let Some(field) = field_of(given, groups, name.text.as_str()) {
                 if field.1.differs(kind) {
-                    return Ok(Some(wrong_value(given, owner, part, kind, field)?));
+                    return Err(Stop::Found(wrong_value(given, owner, part, kind, field)));
                 }
             }
         }
     }
-    miscounted(given, owner, groups, parts)
+    Ok(())
+}
+
+/// Ends where the parts of a structure's value don't name each field once.
+fn check_counts<'t>(
+    owner: &'t Name,
+    groups: &'t [Fields],
+    parts: &'t [Part],
+) -> Result<(), Stop<'t>> {
+    for group in groups {
+        for field in &group.names {
+            let count = times(parts, field.text.as_str());
+            if count != 1 {
+                return Err(Stop::Found(miscounted(owner, field, count)));
+            }
+        }
+    }
+    Ok(())
 }
 
 /// A structure's value.
-pub fn structure(given: Given<'_>, owner: &Name, parts: &[Part], kinds: &[Kind]) -> Inferred {
+pub fn structure<'t>(
+    given: Given<'t>,
+    owner: &'t Name,
+    parts: &'t [Part],
+    kinds: &[Kind],
+) -> Inferred<'t> {
     let Some(place) = given.scope.types.get(owner.text.as_str()).copied() else {
         return Ok(Kind::Unknown);
     };
@@ -206,10 +192,10 @@ pub fn structure(given: Given<'_>, owner: &Name, parts: &[Part], kinds: &[Kind])
         None => Kind::Unknown,
     };
     let Some((declaration, groups)) = structure_of(given, kind) else {
-        return Err(ending(given.alloc, no_structure(given, owner.span, kind)?));
+        return Err(no_structure(given, owner.span, kind));
     };
-    match fault_of(given, owner, declaration, groups, parts, kinds)? {
-        Some(told) => Err(ending(given.alloc, told)),
-        None => Ok(kind),
-    }
+    check_names(given, declaration, groups, parts)?;
+    check_values(given, owner, groups, parts, kinds)?;
+    check_counts(owner, groups, parts)?;
+    Ok(kind)
 }

@@ -2,9 +2,9 @@
 
 use crate::inferring::Given;
 use crate::kinds::Kind;
-use crate::stop::{Clash, Inferred, Stop, ending, told_at};
+use crate::phrase::Phrase;
+use crate::stop::{Clash, Inferred, Stop, told_at};
 use lus_syntax::{Definition, Label, Name, Test};
-use std::alloc::AllocError;
 
 /// The constructors of an enumeration; no other type has any.
 pub fn constructors<'t>(given: Given<'t>, kind: Kind) -> &'t [Name] {
@@ -48,46 +48,36 @@ fn variable_of(test: &Test) -> &Name {
 }
 
 /// A test that doesn't fit its variable.
-fn wrong_test(given: Given<'_>, name: &Name, kind: Kind) -> Result<Clash, AllocError> {
+fn wrong_test<'t>(given: Given<'t>, name: &'t Name, kind: Kind) -> Clash<'t> {
     let text = name.text.as_str();
     let has = kind.name(given.tree);
-    let sentence = format!(in given.alloc;
-        "this test doesn't fit `{text}`, which has type `{has}`"
-    )?;
-    let told = told_at(given.alloc, name.span.start, name.span.length, sentence);
-    match constructors(given, kind).first() {
-        Some(constructor) => {
-            let label = constructor.text.as_str();
-            let note = format!(in given.alloc;
-                "Write the constructor and the variable, as `when {label}({text})`."
-            )?;
-            told.noted(given.alloc, &note)
-        }
-        None => told.noted(
-            given.alloc,
-            "A `bool` is tested by `when c` or `when not c`, an enumeration by `when A(k)`; no other type is.",
-        ),
-    }
+    let sentence = "this test doesn't fit `{}`, which has type `{}`";
+    let label = match constructors(given, kind).first() {
+        Some(constructor) => constructor.text.as_str(),
+        None => "",
+    };
+    let note = if label.is_empty() {
+        "A `bool` is tested by `when c` or `when not c`, an enumeration by `when A(k)`; no other type is."
+    } else {
+        "Write the constructor and the variable, as `when {}({})`."
+    };
+    told_at(name.span, Phrase::new(sentence, text, has, "")).noted(Phrase::new(
+        note, label, text, "",
+    ))
 }
 
 /// Ends where a test doesn't fit its variable.
-pub fn check_test(given: Given<'_>, test: &Test) -> Result<(), Stop> {
+pub fn check_test<'t>(given: Given<'t>, test: &'t Test) -> Result<(), Stop<'t>> {
     let name = variable_of(test);
-    let text = name.text.as_str();
-    let kind = given
-        .scope
-        .variables
-        .get(text)
-        .copied()
-        .unwrap_or(Kind::Unknown);
+    let kind = given.scope.variable(name);
     if kind == Kind::Unknown || fits(given, test, kind) {
         return Ok(());
     }
-    Err(ending(given.alloc, wrong_test(given, name, kind)?))
+    Err(Stop::Found(wrong_test(given, name, kind)))
 }
 
 /// What `when` gives.
-pub fn sampled(given: Given<'_>, kind: Kind, test: &Test) -> Inferred {
+pub fn sampled<'t>(given: Given<'t>, kind: Kind, test: &'t Test) -> Inferred<'t> {
     check_test(given, test)?;
     Ok(kind)
 }

@@ -1,5 +1,5 @@
 -- The names are those that the rules speak of.
-use Rattle.std.proofs.Common.{◌≡◌, [], subst, sym}
+use Rattle.std.proofs.Common.{[], subst, sym}
 use Rattle.lus_syntax.specs.View.{tree_seen}
 use Rattle.lus_meaning.specs.Named.{Known, known}
 use Rattle.lus_meaning.proofs.Faults.{passed_on}
