@@ -19,7 +19,7 @@ use crate::parts::{lead, tail, turn};
 use crate::primaries::{dots, sampled, truth};
 use crate::trees;
 use lus_spelling::{Form, primary_shape};
-use lus_syntax::{Expr, Infix, ListOperator, Name, Part, Span, Symbol, Token, TokenKind, Word};
+use lus_syntax::{Expr, Infix, Name, Part, Span, Symbol, Token, TokenKind, Word};
 use std::alloc::Global;
 
 /// Parts, the greatest depth among them, and the tokens after what closes them.

@@ -1,9 +1,9 @@
 -- Places of names.
-use Rattle.std.proofs.Common.{arith, ◌≡◌, ◌∙◌, ◌+◌, ◌<◌, refl, ap, ℕ, suc, Bool, true, false, List, [], ◌∷◌, Option, Some, All, length, map, cond, zero-add, String, Global}
+use Rattle.std.proofs.Common.{arith, ◌+◌, ◌<◌, ℕ, suc, Bool, true, false, List, [], ◌∷◌, Option, Some, All, length, cond, zero-add}
 use Rattle.std.specs.Option.{option_to_list}
 use Rattle.std.proofs.lemmas.List.Elements.{All-nil, All-cons, All-weaker}
 use Rattle.lus_syntax.specs.Lexemes.{Text}
-use Rattle.std.specs.List.{position, position_from}
+use Rattle.std.specs.List.{position_from}
 use Rattle.std.specs.Str.{bytes_eq}
 use Rattle.lus_meaning.specs.Loopless.{place_in}
 

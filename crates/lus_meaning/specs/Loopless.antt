@@ -5,7 +5,7 @@ use Rattle.std.specs.Option.{option_to_list}
 use Rattle.std.specs.Str.{bytes_eq}
 use Rattle.lus_graph.specs.Ways.{Uses, HasNoWayBack}
 use Rattle.lus_syntax.specs.Lexemes.{Text}
-use Rattle.lus_syntax.specs.Trees.{Expression, Numeral, Truth, Name, Call, Structure, Merge, Variadic, Field, Parentheses, When, Unary, Binary, If, Parts, End, More, TypeName, BoolName, IntName, DeclaredName, Definition, Alias, Enumeration, StructureOf, Node, Tree}
+use Rattle.lus_syntax.specs.Trees.{Expression, Numeral, Truth, Name, Call, Structure, Merge, Variadic, Field, Parentheses, When, Unary, Binary, If, Parts, End, More, TypeName, DeclaredName, Definition, Alias, Enumeration, StructureOf, Node, Tree}
 
 -- the place of a name among these
 abbrev pub place_in : List Text → Text → Option ℕ

@@ -10,7 +10,7 @@ use Rattle.lus_values.specs.Values.{nil}
 use Rattle.lus_graph.specs.Ways.{Uses, used, Leads, step, then, HasNoWayBack}
 use Rattle.lus_syntax.specs.Lexemes.{Text}
 use Rattle.lus_syntax.specs.Trees as tree
-use Rattle.lus_syntax.specs.Trees.{Numeral, Truth, Name, Call, Structure, Merge, Variadic, Field, Parentheses, When, Unary, Binary, If, Parts, End, More, Tree}
+use Rattle.lus_syntax.specs.Trees.{Name, Call, Structure, Merge, Variadic, Field, Parentheses, When, Unary, Binary, If, Parts, End, More, Tree}
 use Rattle.lus_program.specs.declared.types.Kind.TheVariants as kinds
 use Rattle.lus_program.specs.Programs.{Expression, operate, pre, arrow, when, merge, call, Operands, none, more, calls, numbered, Equation, Node}
 use Rattle.lus_values.proofs.Lists.{each_left, each_right, each_append}

@@ -10,7 +10,7 @@ use Rattle.std.specs.Str.{bytes_eq}
 use Rattle.lus_values.specs.Lists.{item, Each}
 use Rattle.lus_syntax.specs.Lexemes.{Text}
 use Rattle.lus_syntax.specs.Trees as tree
-use Rattle.lus_syntax.specs.Trees.{Definition, Alias, Enumeration, StructureOf, TypeDeclaration, Group, Tree}
+use Rattle.lus_syntax.specs.Trees.{Definition, Enumeration, TypeDeclaration, Group, Tree}
 use Rattle.lus_program.specs.declared.types.Kind.{Kind}
 use Rattle.lus_program.specs.Programs.{Declared, Variable, Node}
 use Rattle.lus_values.proofs.Lists.{each_append}

@@ -1,12 +1,11 @@
 -- What is read is spelled so.
 use Rattle.std.proofs.Common.{◌≡◌, ℕ, zero, suc, ◌+◌, ◌≤◌, max, Bool, true, false, cond, ltb, leb, length, List, [], ◌∷◌, ◌++◌, Option, Some, None, Result, Ok, Err, refl, sym, ap, subst, ◌∙◌, append_assoc, arith}
-use Rattle.std.proofs.lemmas.Bool.{eqb-true, ltb-false}
+use Rattle.std.proofs.lemmas.Bool.{ltb-false}
 use Rattle.std.proofs.Math.Nat.{max-le}
 use denote.Enum.Bare.{same_true}
 use Rattle.lus_syntax.specs.declared.token.Span.{Span}
 use Rattle.lus_syntax.specs.contracts.token.Symbol.{the_type as symbol_type}
 use Rattle.lus_syntax.specs.contracts.token.Word.{the_type as word_type}
-use Rattle.lus_syntax.specs.declared.token.Symbol.{Symbol}
 use Rattle.lus_syntax.specs.declared.token.Symbol.TheVariants as symbols
 use Rattle.lus_syntax.specs.declared.token.Word.{Word}
 use Rattle.lus_syntax.specs.declared.token.Word.TheVariants as words

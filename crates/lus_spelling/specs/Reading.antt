@@ -1,10 +1,9 @@
 -- Reading expressions from left to right, with a limit on the depth and the first fault that is met.
-use Rattle.std.specs.Prelude.{ℕ, zero, suc, max, Bool, true, false, List, [], ◌∷◌, Option, Some, None, Result, Ok, Err, nat_lt, nat_le, length, ◌++◌, ◌+◌, ◌==◌, if◌then◌else◌}
+use Rattle.std.specs.Prelude.{ℕ, zero, suc, max, Bool, true, false, List, [], ◌∷◌, Option, Some, None, Result, Ok, Err, nat_lt, nat_le, length, ◌++◌, ◌+◌, if◌then◌else◌}
 use denote.Enum.Bare.{sameb as same}
 use Rattle.lus_syntax.specs.contracts.token.Symbol.{the_type as symbol_type}
 use Rattle.lus_syntax.specs.contracts.token.Word.{the_type as word_type}
 use Rattle.lus_syntax.specs.declared.token.Span.{Span}
-use Rattle.lus_syntax.specs.declared.token.Symbol.{Symbol}
 use Rattle.lus_syntax.specs.declared.token.Symbol.TheVariants as symbols
 use Rattle.lus_syntax.specs.declared.token.Word.{Word}
 use Rattle.lus_syntax.specs.declared.token.Word.TheVariants as words

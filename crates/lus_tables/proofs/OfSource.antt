@@ -1,5 +1,5 @@
 -- The tables that the code makes are those of the source.
-use Rattle.std.proofs.Common.{add-one, append-nil, arith, not, ◌++◌, ◌≡◌, ◌∙◌, refl, sym, ap, subst, ℕ, suc, ◌+◌, ◌≤◌, ◌&&◌, List, [], ◌∷◌, Option, Some, None, Bool, true, false, cond, IsTrue, map, length, sum_by, option_map}
+use Rattle.std.proofs.Common.{add-one, append-nil, arith, not, ◌≡◌, ◌∙◌, refl, sym, ap, subst, ℕ, suc, ◌+◌, ◌≤◌, ◌&&◌, List, [], ◌∷◌, Option, Some, None, Bool, true, false, cond, IsTrue, map, length, sum_by, option_map}
 use Rattle.std.specs.List.{list_all, position_from}
 use Rattle.std.specs.Str.{bytes_eq}
 use Rattle.std.proofs.lemmas.Bool.{le-leb}
@@ -7,17 +7,16 @@ use Rattle.std.proofs.lemmas.List.{length-map}
 use Rattle.std.proofs.lemmas.List.Concat.{length-flat_map}
 use Rattle.lus_syntax.specs.Lexemes.{Text}
 use Rattle.lus_syntax.specs.Trees.{TypeName, BoolName, IntName, DeclaredName, Fields, Definition, Alias, Enumeration, StructureOf, TypeDeclaration, Node, Tree}
-use Rattle.lus_values.specs.Lists.{Below, Each, item}
+use Rattle.lus_values.specs.Lists.{Below, Each}
 use Rattle.lus_values.proofs.Lists.{below_at}
 use Rattle.lus_program.specs.declared.types.Kind.{Kind}
 use Rattle.lus_program.specs.declared.types.Kind.TheVariants as kinds
 use Rattle.lus_program.specs.Programs.{Field}
-use Rattle.lus_meaning.specs.declared.entries.Placed.{Placed}
 use Rattle.lus_meaning.specs.Scopes.{Scope, entry}
 use Rattle.lus_meaning.specs.Loopless.{place_in, type_names}
 use Rattle.lus_meaning.specs.Named.{Distinct, Named, all_new, is_in, known, names_in}
 use Rattle.lus_meaning.specs.Sized.{DefinitionCounted, field_count, variable_count}
-use Rattle.lus_meaning.specs.Tables.{AreKinds, all_constructors, all_declared_by, constants_by, declared_by, fields_by, fields_of_kind, group_kinds, groups, kind_at, kind_named, kinds_by, numbered_from, placed, scope, signatures_by, tables, types_by}
+use Rattle.lus_meaning.specs.Tables.{all_constructors, all_declared_by, constants_by, declared_by, fields_by, fields_of_kind, groups, kind_at, kind_named, kinds_by, numbered_from, placed, scope, signatures_by, tables, types_by}
 use Rattle.lus_meaning.specs.Types.{has_few_fields}
 use Rattle.lus_meaning.proofs.AppendedNames.{all_new_apart, appended_are_new}
 use Rattle.lus_meaning.proofs.Steps.{and_first, and_second}

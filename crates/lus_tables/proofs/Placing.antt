@@ -7,12 +7,11 @@ use Rattle.lus_syntax.specs.Lexemes.{Text}
 use Rattle.lus_syntax.specs.Trees.{Named, TypeName, Group, Definition, Alias, Enumeration, StructureOf, TypeDeclaration}
 use Rattle.lus_values.specs.Lists.{Each}
 use Rattle.lus_program.specs.declared.types.Kind.{Kind}
-use Rattle.lus_meaning.specs.declared.entries.Constructor.{Constructor}
 use Rattle.lus_meaning.specs.Named.{all_constructor_names, constructor_names, names_in}
 use Rattle.lus_meaning.specs.Sized.{DefinitionCounted, variable_count}
 use Rattle.lus_meaning.specs.Tables.{constructors_from, constructors_of, each_of, kinds_by, numbered_from, text_of}
 use Rattle.lus_meaning.proofs.Steps.{drop_step}
-use Rattle.lus_tables.specs.ByTable.{names, saturated, stored_constructors, stored_from}
+use Rattle.lus_tables.specs.ByTable.{names, stored_constructors, stored_from}
 use Rattle.lus_tables.proofs.Rows.{saturated-small}
 
 -- numbered things, the first of them and the others

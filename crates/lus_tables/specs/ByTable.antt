@@ -1,5 +1,5 @@
 -- The tables of a source's names as the code fills them.
-use Rattle.std.specs.Prelude.{◌++◌, ℕ, min, List, [], ◌∷◌, Some, None, String, cond, length, map}
+use Rattle.std.specs.Prelude.{ℕ, min, List, [], ◌∷◌, Some, None, String, cond, length, map}
 use Rattle.std.specs.Global.{Global}
 use Rattle.std.specs.Str.{bytes_eq}
 use Rattle.lus_syntax.specs.Lexemes.{Text}

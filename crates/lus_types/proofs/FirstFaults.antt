@@ -1,15 +1,13 @@
 -- What a pass that fails says of the whole source, where those before it held.
-use Rattle.std.proofs.Common.{rules, IsTrue, ◌≡◌, ◌≢◌, Result, Ok, Err, inl, inr, true, false}
-use Rattle.std.specs.Prelude.{OnOk}
+use Rattle.std.proofs.Common.{◌≡◌, ◌≢◌, inl, inr, true, false}
 use Rattle.std.specs.List.{list_all}
 use Rattle.lus_syntax.specs.declared.refusal.RefusalNumber.{RefusalNumber}
 use Rattle.lus_syntax.specs.declared.refusal.RefusalNumber.TheVariants as numbers
 use Rattle.lus_syntax.specs.Trees.{Tree}
-use Rattle.lus_values.specs.Lists.{Each}
 use Rattle.lus_meaning.specs.Named.{Named}
 use Rattle.lus_meaning.specs.Loopless.{Loopless}
 use Rattle.lus_meaning.specs.Sized.{Bounded, Counted}
-use Rattle.lus_meaning.specs.WellTyped.{IsTyped, NodeTyped, constant_typed}
+use Rattle.lus_meaning.specs.WellTyped.{IsTyped, constant_typed}
 use Rattle.lus_meaning.specs.Refusals.{FirstFails, HasFewParts}
 
 pub constants_fail : (p : Tree) → list_all (constant_typed p) p.constants ≡ false → IsTyped p → ⊥

@@ -10,13 +10,12 @@ use Rattle.lus_values.specs.Lists.{Each}
 use Rattle.lus_program.specs.declared.types.Kind.{Kind}
 use Rattle.lus_program.specs.Programs.{Variable, Equation, Node}
 use Rattle.lus_meaning.specs.Named.{NodeNamed, known}
-use Rattle.lus_meaning.specs.Scopes.{Scope}
 use Rattle.lus_meaning.specs.Sized.{variable_count}
 use Rattle.lus_meaning.specs.Tables.{groups, kind_named, literal_value, scope, tables}
-use Rattle.lus_meaning.specs.Meaning.{equations_meant, node_meant, test_meant, variables_of}
+use Rattle.lus_meaning.specs.Meaning.{node_meant, test_meant, variables_of}
 use Rattle.lus_meaning.specs.WellTyped.{NodeTyped, constant_typed, value_is}
 use Rattle.lus_types.specs.ByScope.{AreTypedIn, IsTypedIn, constant_fits, node_in, nodes_in, variables_in}
-use Rattle.lus_tables.specs.ByTable.{entered, saturated}
+use Rattle.lus_tables.specs.ByTable.{saturated}
 use Rattle.lus_tables.proofs.OfSource.{entered_of_source, kind_in-tables}
 use Rattle.lus_tables.proofs.Placing.{length-kinds_by}
 use Rattle.lus_tables.proofs.Rows.{saturated-small}

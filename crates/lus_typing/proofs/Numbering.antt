@@ -3,7 +3,7 @@ use Rattle.std.proofs.Common.{◌≡◌, ◌∙◌, refl, ap, ap₂, ℕ, suc, �
 use Rattle.std.specs.Prelude.{option_map}
 use Rattle.std.specs.Option.{option_and_then}
 use Rattle.lus_program.specs.declared.types.Kind.{Kind}
-use Rattle.lus_program.specs.Programs.{Expression, literal, variable, operate, pre, arrow, when, merge, call, Operands, none, more, calls, all_calls, numbered, all_numbered, Node, Program}
+use Rattle.lus_program.specs.Programs.{Expression, operate, pre, arrow, when, merge, call, Operands, none, more, calls, all_calls, numbered, all_numbered, Node, Program}
 use Rattle.lus_typing.specs.Kinds.{alike, where_true, the_one}
 use Rattle.lus_typing.specs.Resolved.{operator_kind, results, kind_of_variable, test_fits, merged, kind_in, kinds_in, kinds_given_in, nodes_called, all_nodes_called}
 

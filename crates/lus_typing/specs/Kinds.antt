@@ -1,7 +1,7 @@
 -- Types of operands and results, and what a declared type holds. Lustre V6 reference manual, "Predefined operators", "Types".
 use Rattle.std.specs.Prelude.{◌&&◌, ℕ, suc, Bool, true, false, List, [], ◌∷◌, Option, Some, None, cond, length, nat_eq}
 use Rattle.std.specs.List.{list_all}
-use Rattle.lus_values.specs.Values.{Value, bool, int, enum, struct, nil}
+use Rattle.lus_values.specs.Values.{Value, bool, int, enum}
 use Rattle.lus_program.specs.declared.types.Kind.{Kind}
 use Rattle.lus_program.specs.declared.types.Kind.TheVariants as kinds
 use Rattle.lus_program.specs.Programs.{Declared, alias, enumeration, structure, Field}

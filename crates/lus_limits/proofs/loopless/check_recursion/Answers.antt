@@ -1,6 +1,6 @@
 use Rattle.lus_graph.proofs.NoWayBack.{order_has_none}
 use Rattle.lus_syntax.specs.View.{tree_seen}
-use Rattle.lus_meaning.specs.Loopless.{Loopless, node_uses, type_uses}
+use Rattle.lus_meaning.specs.Loopless.{node_uses, type_uses}
 use Rattle.lus_limits.proofs.loopless.check_recursion.Goals as goal
 
 pub invariant_of-result : goal.invariant_of-result

@@ -1,4 +1,4 @@
-use Rattle.std.proofs.Common.{rules, ◌≡◌, ◌∙◌, sym, ap, refl, ◌<◌, ◌≤◌, length, get_or, length-set, map}
+use Rattle.std.proofs.Common.{rules, ◌≡◌, ◌∙◌, sym, ap, refl, ◌<◌, ◌≤◌, length, get_or, length-set}
 use Rattle.std.proofs.lemmas.List.Elements.{All-set}
 use Rattle.lus_syntax.specs.declared.tree.TypeDeclaration.{TypeDeclaration}
 use Rattle.lus_syntax.specs.View.{definition_seen, tree_seen}

@@ -1,4 +1,4 @@
-use Rattle.std.proofs.Common.{rules, ◌≡◌, ◌∙◌, sym, map, max}
+use Rattle.std.proofs.Common.{rules, ◌≡◌, ◌∙◌, sym, max}
 use Rattle.lus_values.specs.Lists.{item}
 use Rattle.lus_syntax.specs.View.{fields_seen}
 use Rattle.lus_meaning.specs.Sized.{group_nesting}

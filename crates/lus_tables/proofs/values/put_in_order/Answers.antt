@@ -1,9 +1,8 @@
-use Rattle.std.proofs.Common.{◌≡◌, ◌∙◌, ◌+◌, ap, map, drop}
+use Rattle.std.proofs.Common.{◌≡◌, ◌∙◌, ap, map}
 use Rattle.std.specs.Prelude.{string_bytes}
-use Rattle.lus_syntax.specs.View.{name_seen, names_seen}
+use Rattle.lus_syntax.specs.View.{name_seen}
 use Rattle.lus_meaning.specs.declared.entries.Constructor.{Constructor}
-use Rattle.lus_meaning.specs.Tables.{numbered_from}
-use Rattle.lus_tables.specs.ByTable.{row_put, saturated, stored_from, told}
+use Rattle.lus_tables.specs.ByTable.{row_put, saturated, told}
 use Rattle.lus_tables.proofs.Placing.{numbered_step}
 use Rattle.lus_tables.proofs.Rows.{put_step}
 use Rattle.lus_tables.proofs.values.put_in_order.Goals as goal

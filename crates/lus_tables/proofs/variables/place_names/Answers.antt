@@ -1,10 +1,9 @@
-use Rattle.std.proofs.Common.{◌≡◌, ◌∙◌, ◌+◌, List, ap, length, map, drop, sym}
+use Rattle.std.proofs.Common.{◌≡◌, ◌∙◌, ◌+◌, List, ap, length, drop, sym}
 use Rattle.std.proofs.lemmas.List.{length-map}
 use Rattle.std.specs.Prelude.{string_bytes}
 use Rattle.lus_syntax.specs.declared.tree.Name.{Name}
 use Rattle.lus_syntax.specs.View.{names_seen}
 use Rattle.lus_meaning.specs.declared.entries.Placed.{Placed}
-use Rattle.lus_meaning.specs.ScopeView.{entries_of}
 use Rattle.lus_meaning.specs.Tables.{each_of}
 use Rattle.lus_meaning.proofs.Steps.{drop_step}
 use Rattle.lus_tables.specs.ByTable.{all_placed, row_put, saturated, told}

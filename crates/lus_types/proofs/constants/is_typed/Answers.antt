@@ -1,4 +1,4 @@
-use Rattle.std.proofs.Common.{◌∙◌, ap, refl, sym}
+use Rattle.std.proofs.Common.{◌∙◌, ap, sym}
 use Rattle.lus_syntax.specs.View.{literal_seen, type_name_seen}
 use Rattle.lus_meaning.specs.ScopeView.{scope_of}
 use Rattle.lus_meaning.specs.Tables.{value_in}

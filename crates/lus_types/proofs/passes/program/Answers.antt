@@ -1,8 +1,7 @@
-use Rattle.std.proofs.Common.{◌≡◌, ◌∙◌, List, ap, ap₂, map, subst, sym, true}
+use Rattle.std.proofs.Common.{◌≡◌, ◌∙◌, List, ap, ap₂, map, subst, sym}
 use Rattle.std.specs.List.{list_all}
 use Rattle.lus_syntax.specs.declared.tree.Constant.{Constant as StoredConstant}
 use Rattle.lus_syntax.specs.declared.tree.Node.{Node as StoredNode}
-use Rattle.lus_syntax.specs.declared.tree.Tree.{Tree as StoredTree}
 use Rattle.lus_syntax.specs.View.{constant_seen, node_seen, tree_seen}
 use Rattle.lus_program.specs.Programs.{Declared, Node, Program}
 use Rattle.lus_program.specs.View.{program_seen}
