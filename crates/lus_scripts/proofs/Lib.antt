@@ -1,4 +1,6 @@
 pub mod Lists
+pub mod Numbers
+pub mod Spelled
 pub mod Checks
 pub mod DistinctNames
 pub mod Values

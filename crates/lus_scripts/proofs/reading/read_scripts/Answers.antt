@@ -1,7 +1,6 @@
 -- Instances of scripts are of nodes that there are, and scripts of a JSON value are never refused as no JSON.
 use Rattle.std.proofs.Common.{◌≡◌, ◌∙◌, ap, ◌⊎◌, inl, inr, IfErr, Ok, Err, Result}
 use Rattle.std.proofs.lemmas.Result.{IfOk-weaker}
-use Rattle.serde_json.specs.View.{view}
 use Rattle.lus_program.specs.View.{program_seen}
 use Rattle.lus_scripts.specs.Scripts.{scripts_of}
 use Rattle.lus_scripts.specs.View.{scripts_seen}
