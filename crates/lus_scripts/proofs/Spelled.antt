@@ -172,15 +172,16 @@ shorter old rest a e = omega (arith, ap length e)
 pub read_gives : (text : List ℕ) (tape : List Token) → tape ≡ tokens text → IsSome (document text) → ((j : Json) → document text ≡ Some j → BeginsWith tape j)
     → are_readable 0 tape ≡ true → read text ≡ Some (json_at tape)
 unfolding read
-read_gives text tape same some begins readable = rw (sym same, readable) (go (document text) refl some)
+read_gives text tape same some starts readable =
+    ap (λ b. if b then document text else None) (ap (are_readable 0) (sym same) ∙ readable) ∙ go (document text) refl some
   where
     go : (o : Option Json) → document text ≡ o → IsSome o → o ≡ Some (json_at tape)
-    go None e h = absurd h
-    go (Some j) e h = ap Some (sym (at_value tape j (begins j e)))
+    go None e h = absurd (cc)
+    go (Some j) e h = ap Some (sym (at_value tape j (starts j e)))
 
 pub unread : (text : List ℕ) (tape : List Token) → tape ≡ tokens text → are_readable 0 tape ≡ false → read text ≡ None
 unfolding read
-unread text tape same unreadable = rw (sym same, unreadable) refl
+unread text tape same unreadable = ap (λ b. if b then document text else None) (ap (are_readable 0) (sym same) ∙ unreadable)
 
 pub no_document : (text : List ℕ) → document text ≡ None → read text ≡ None
 unfolding read

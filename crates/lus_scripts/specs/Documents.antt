@@ -51,13 +51,13 @@ keys_left ts = keys_in (json_at (Token.begin_object ∷ ts))
 abbrev pub has_keys : (List Text → Bool) → Json → Bool
 has_keys are d = option_map_or (λ ms. are (keys_of ms)) (as_object d) false
 
--- each of these keys is one of those
-abbrev pub are_among : Text → List Text → List Text → Bool
-are_among key others = list_all (λ k. bytes_eq k key || list_any (bytes_eq k) others)
+-- a key is this one or one of the others
+abbrev pub is_among : Text → List Text → Text → Bool
+is_among key others k = bytes_eq k key || list_any (bytes_eq k) others
 
 -- an object that has no other keys than these
 abbrev pub has_only : Text → List Text → Json → Bool
-has_only key others = has_keys (are_among key others)
+has_only key others = has_keys (list_all (is_among key others))
 
 -- ---- numbers
 

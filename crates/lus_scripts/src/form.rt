@@ -1,8 +1,9 @@
 //! The form of scripts, before names are looked up and the values of steps are read.
 
 ghost use Rattle.std.specs.Prelude.{◌≡◌, ◌⊎◌, ◌∷◌, [], IfErr, IfOk, Some, None, Err, map, option_map, codes};
-ghost use Rattle.std.specs.List.{list_all};
-ghost use Rattle.lus_scripts.specs.Documents.{are_among, has_only, slot_of};
+ghost use Rattle.std.specs.List.{list_all, list_any};
+ghost use Rattle.std.specs.Str.{bytes_eq};
+ghost use Rattle.lus_scripts.specs.Documents.{has_only, is_among, slot_of};
 ghost use Rattle.lus_scripts.specs.Forms.{alone_at, as_list, ask_of, burst_of, call_form, caller_form, callers_form, calls_form, each, form_of, instance_form, instances_form, is_letter, is_list, is_name, is_name_byte, name_of, reset_of, starts_with_letter, step, two_members};
 ghost use Rattle.lus_scripts.specs.View.{ask_seen, call_seen, caller_seen, form_seen, instance_seen};
 
@@ -48,13 +49,26 @@ pub(crate) struct Form<'t, 'v> {
     pub callers: Vec<CallerForm<'t, 'v>>,
 }
 
+fn stands_among(found: &str, others: &[&str]) -> bool
+    ensures { result ≡ list_any (λ k. bytes_eq found.now k.now) others.now }
+{
+    others.iter().any(|other| found == *other)
+}
+
+/// Whether a key is this one or one of the others.
+fn is_among(found: &str, key: &str, others: &[&str]) -> bool
+    ensures { result ≡ is_among key.now (map (λ k. k.now) others.now) found.now }
+{
+    found == key || stands_among(found, others)
+}
+
 /// Whether each of these keys is this one or one of the others.
 fn are_among(key: &str, others: &[&str], keys: Keys<'_, '_>) -> bool
-    ensures { result ≡ are_among key.now (map (λ k. k.now) others.now) keys.entry }
+    ensures { result ≡ list_all (is_among key.now (map (λ k. k.now) others.now)) keys.entry }
 {
     let mut left = keys;
     while let Some(found) = left.next() {
-        if !(found == key || others.iter().any(|other| found == *other)) {
+        if !is_among(found, key, others) {
             return false;
         }
     }
@@ -159,7 +173,8 @@ pub(crate) fn is_list(value: &Json<'_, '_>) -> bool
     value.items().is_some()
 }
 
-fn read_step<'t, 'v>(list: Json<'t, 'v>) -> Option<Ask<'t, 'v>>
+/// A step with the values of a list.
+pub(crate) fn read_step<'t, 'v>(list: Json<'t, 'v>) -> Option<Ask<'t, 'v>>
     ensures { option_map ask_seen result ≡ option_map step (as_list list.entry) }
 {
     if is_list(&list) {
@@ -184,7 +199,8 @@ fn are_lists(values: Items<'_, '_>) -> bool
 fn read_burst<'t, 'v>(value: Json<'t, 'v>) -> Option<Ask<'t, 'v>>
     ensures { option_map ask_seen result ≡ burst_of value.entry }
 {
-    if are_lists(value.items()?) {
+    let lists = value.items()?;
+    if are_lists(lists) {
         Some(Ask::Burst(value))
     } else {
         None

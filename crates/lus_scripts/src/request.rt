@@ -1,6 +1,8 @@
 //! Reading one request to a node.
 
 ghost use Rattle.std.specs.Prelude.{◌≡◌, ◌⊎◌, IfErr, IfOk, IsUtf8, Err, Some, None, map, option_map, slice_get, take};
+ghost use Rattle.std.specs.List.{list_any};
+ghost use Rattle.std.specs.Str.{bytes_eq};
 ghost use Rattle.lus_values.specs.View.{entry_of};
 ghost use Rattle.lus_program.specs.View.{node_of, program_seen, variable_of};
 ghost use Rattle.lus_scripts.specs.Documents.{has_keys};
@@ -9,7 +11,7 @@ ghost use Rattle.lus_scripts.specs.Requests.{are_inputs, asked_alone, inputs_in,
 ghost use Rattle.lus_scripts.specs.View.{ask_seen};
 
 use crate::document::{Json, Keys};
-use crate::form::{Ask, alone_at, is_list, read_ask};
+use crate::form::{Ask, alone_at, is_list, read_ask, read_step};
 use crate::parsing::parse;
 use crate::reading::{Scope, read_request as read_asked};
 use crate::refusal::ScriptRefusal;
@@ -25,9 +27,10 @@ fn asked_alone<'t, 'v>(request: Json<'t, 'v>) -> Option<Ask<'t, 'v>>
     ensures { option_map ask_seen result ≡ asked_alone request.entry }
 {
     if is_list(&request) {
-        return Some(Ask::Step(request));
+        read_step(request)
+    } else {
+        read_ask(&request, &[])
     }
-    read_ask(&request, &[])
 }
 
 fn inputs_in<'t, 'v>(request: &Json<'t, 'v>) -> Option<Json<'t, 'v>>
@@ -53,13 +56,19 @@ fn inputs_of(node: Option<&Node>) -> &[Variable]
     }
 }
 
+fn is_input(inputs: &[Variable], key: &str) -> bool
+    ensures { result ≡ list_any (λ v. bytes_eq key.now v.name) (map variable_of inputs.now) }
+{
+    inputs.iter().any(|input| key == input.name.as_str())
+}
+
 /// Whether each of these keys is an input's name.
 fn are_inputs(inputs: &[Variable], keys: Keys<'_, '_>) -> bool
     ensures { result ≡ are_inputs (map variable_of inputs.now) keys.entry }
 {
     let mut left = keys;
     while let Some(key) = left.next() {
-        if !inputs.iter().any(|input| key == input.name.as_str()) {
+        if !is_input(inputs, key) {
             return false;
         }
     }

@@ -1,6 +1,8 @@
 //! Values of steps, read by the types of the inputs where they stand.
 
 ghost use Rattle.std.specs.Prelude.{◌≡◌, ◌⊎◌, IfErr, IfOk, Err, Some, None, map, option_map, option_and_then};
+ghost use Rattle.std.specs.List.{list_any};
+ghost use Rattle.std.specs.Str.{bytes_eq};
 ghost use Rattle.json.specs.Find.{get};
 ghost use Rattle.lus_values.specs.View.{entry_of, value_of};
 ghost use Rattle.lus_program.specs.View.{field_of, node_of, program_seen};
@@ -43,13 +45,19 @@ fn fields_at(program: &Program, kind: Option<Kind>) -> Option<&[Field]>
     }
 }
 
+fn is_field(fields: &[Field], key: &str) -> bool
+    ensures { result ≡ list_any (λ f. bytes_eq key.now f.name) (map field_of fields.now) }
+{
+    fields.iter().any(|field| key == field.name.as_str())
+}
+
 /// Whether each of these keys is a field's name.
 fn are_fields(fields: &[Field], keys: Keys<'_, '_>) -> bool
     ensures { result ≡ are_fields (map field_of fields.now) keys.entry }
 {
     let mut left = keys;
     while let Some(key) = left.next() {
-        if !fields.iter().any(|field| key == field.name.as_str()) {
+        if !is_field(fields, key) {
             return false;
         }
     }
@@ -175,7 +183,8 @@ fn read_items(
     let mut row = Vec::new(alloc);
     while let Some(item) = left.next() {
         let kind = input_kind(node, row.len());
-        row.push(read_item(alloc, program, names, kind, &item)?)?;
+        let value = read_item(alloc, program, names, kind, &item)?;
+        row.push(value)?;
     }
     Ok(Row::new(row))
 }

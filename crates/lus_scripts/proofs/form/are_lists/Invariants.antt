@@ -5,7 +5,7 @@ use Rattle.lus_scripts.specs.Forms.{is_list}
 use Rattle.lus_scripts.proofs.form.are_lists.Given as goal
 
 abbrev pub invariant-loop-value : goal.invariant-loop-value
-invariant-loop-value l = list_all is_list l.initial.values ≡ list_all is_list l.left
+invariant-loop-value l = list_all is_list l.initial.left ≡ list_all is_list l.left
 
 abbrev pub decreases-loop-value : goal.decreases-loop-value
 decreases-loop-value l = length l.left

@@ -5,7 +5,7 @@ use Rattle.lus_scripts.specs.View.{instance_seen}
 use Rattle.lus_scripts.proofs.form.read_instances.Given as goal
 
 abbrev pub invariant-loop-instance : goal.invariant-loop-instance
-invariant-loop-instance l = each instance_form l.initial.instances ≡ option_map (λ rest. map instance_seen l.forms.items ++ rest) (each instance_form l.left)
+invariant-loop-instance l = each instance_form l.initial.left ≡ option_map (λ rest. map instance_seen l.forms.items ++ rest) (each instance_form l.left)
 
 abbrev pub decreases-loop-instance : goal.decreases-loop-instance
 decreases-loop-instance l = length l.left

@@ -7,7 +7,7 @@ use Rattle.lus_scripts.proofs.value.read_items.Given as goal
 
 abbrev pub invariant-loop-item : goal.invariant-loop-item
 invariant-loop-item l =
-    row_from (program_seen l.program) l.names (option_map (λ f. node_of f.now) l.node) 0 l.initial.items
+    row_from (program_seen l.program) l.names (option_map (λ f. node_of f.now) l.node) 0 l.initial.left
     ≡ option_map (λ rest. map entry_of l.row.items ++ rest)
     (row_from (program_seen l.program) l.names (option_map (λ f. node_of f.now) l.node) (length l.row.items) l.left)
 

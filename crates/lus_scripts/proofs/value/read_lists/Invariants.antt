@@ -7,7 +7,7 @@ use Rattle.lus_scripts.proofs.value.read_lists.Given as goal
 
 abbrev pub invariant-loop-list : goal.invariant-loop-list
 invariant-loop-list l =
-    each (listed_row (program_seen l.program) l.names (option_map (λ f. node_of f.now) l.node)) l.initial.lists
+    each (listed_row (program_seen l.program) l.names (option_map (λ f. node_of f.now) l.node)) l.initial.left
     ≡ option_map (λ rest. l.rows.items ++ rest) (each (listed_row (program_seen l.program) l.names (option_map (λ f. node_of f.now) l.node)) l.left)
 
 abbrev pub decreases-loop-list : goal.decreases-loop-list
