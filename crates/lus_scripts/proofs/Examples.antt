@@ -7,6 +7,7 @@ use Rattle.lus_syntax.specs.declared.tree.NodeKind.TheVariants as node_kinds
 use Rattle.lus_program.specs.declared.types.Kind.TheVariants.{Int, Enum}
 use Rattle.lus_program.specs.Programs.{Declared, enumeration, Variable, Node, Program}
 use Rattle.lus_requests.specs.declared.request.Request.TheVariants.{Step, Reset, Save, Restore, Burst}
+use Rattle.lus_scripts.specs.Documents.{number_below}
 use Rattle.lus_scripts.specs.Scripts.{scripts_of, instance_of, value_of_json}
 use Rattle.lus_scripts.specs.declared.refusal.ScriptRefusal.TheVariants.{Form, Unknown, Double}
 
@@ -64,7 +65,7 @@ calls_are_read : scripts_of program names (whole (one (instance (codes "k") (cod
           ∷ record { on = 0; request = Restore 3 }
           ∷ []) ∷ [];
     })
-unfolding instance_of value_of_json
+unfolding instance_of value_of_json number_below
 calls_are_read = refl
 
 nothing_is_asked : scripts_of program names (whole (array no_items) (array no_items)) ≡ Ok (record { instances = []; callers = []; calls = [] })

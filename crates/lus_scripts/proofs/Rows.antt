@@ -60,5 +60,5 @@ scalar_bool names d b none is = ap (λ i. scalar_by names i (Some b) (as_str d))
 
 pub scalar_word : (names : Names) (d : Json) (s : Option Text) → None ≡ int_of d → None ≡ as_bool d → s ≡ as_str d
     → option_map (λ c. enum c.0 c.1) (option_and_then (numbers_of names) s) ≡ scalar names d
-scalar_word names d s none no is =
-    ap (λ i. scalar_by names i None s) none ∙ ap (λ o. scalar_by names (int_of d) o s) no ∙ ap (scalar_by names (int_of d) (as_bool d)) is ∙ scalar_is names d
+scalar_word names d s none other is =
+    ap (λ i. scalar_by names i None s) none ∙ ap (λ o. scalar_by names (int_of d) o s) other ∙ ap (scalar_by names (int_of d) (as_bool d)) is ∙ scalar_is names d

@@ -1,6 +1,6 @@
 //! Reading one request to a node.
 
-ghost use Rattle.std.specs.Prelude.{◌≡◌, ◌⊎◌, IfErr, IfOk, IsUtf8, Err, Some, None, map, option_map, slice_get, take};
+ghost use Rattle.std.specs.Prelude.{◌≡◌, ◌⊎◌, IfErr, IfOk, IsUtf8, Err, Some, None, map, option_map, string_bytes, slice_get, take};
 ghost use Rattle.std.specs.List.{list_any};
 ghost use Rattle.std.specs.Str.{bytes_eq};
 ghost use Rattle.lus_values.specs.View.{entry_of};
@@ -56,10 +56,16 @@ fn inputs_of(node: Option<&Node>) -> &[Variable]
     }
 }
 
+fn has_name(inputs: &[Variable], name: &str) -> bool
+    ensures { result ≡ list_any (λ v. bytes_eq name.now (string_bytes v.name)) inputs.now }
+{
+    inputs.iter().any(|input| name == input.name.as_str())
+}
+
 fn is_input(inputs: &[Variable], key: &str) -> bool
     ensures { result ≡ list_any (λ v. bytes_eq key.now v.name) (map variable_of inputs.now) }
 {
-    inputs.iter().any(|input| key == input.name.as_str())
+    has_name(inputs, key)
 }
 
 /// Whether each of these keys is an input's name.

@@ -1,6 +1,6 @@
 //! Values of steps, read by the types of the inputs where they stand.
 
-ghost use Rattle.std.specs.Prelude.{◌≡◌, ◌⊎◌, IfErr, IfOk, Err, Some, None, map, option_map, option_and_then};
+ghost use Rattle.std.specs.Prelude.{◌≡◌, ◌⊎◌, IfErr, IfOk, Err, Some, None, map, option_map, string_bytes, option_and_then};
 ghost use Rattle.std.specs.List.{list_any};
 ghost use Rattle.std.specs.Str.{bytes_eq};
 ghost use Rattle.json.specs.Find.{get};
@@ -45,10 +45,16 @@ fn fields_at(program: &Program, kind: Option<Kind>) -> Option<&[Field]>
     }
 }
 
+fn has_name(fields: &[Field], name: &str) -> bool
+    ensures { result ≡ list_any (λ f. bytes_eq name.now (string_bytes f.name)) fields.now }
+{
+    fields.iter().any(|field| name == field.name.as_str())
+}
+
 fn is_field(fields: &[Field], key: &str) -> bool
     ensures { result ≡ list_any (λ f. bytes_eq key.now f.name) (map field_of fields.now) }
 {
-    fields.iter().any(|field| key == field.name.as_str())
+    has_name(fields, key)
 }
 
 /// Whether each of these keys is a field's name.

@@ -34,12 +34,14 @@ returns-in-Ok-clause-json c = λ same utf8. absurd (go c.from_json.result c.from
 pub returns-in-Ok-clause-refused : goal.returns-in-Ok-clause-refused
 returns-in-Ok-clause-refused c = λ short.
     IfErr-weaker c.from_json.result _ _
-    (λ e why. elim why [ inl memory ↦ inl memory
-        | inr refused ↦ inr (inr (c.in-Ok.ensures.ok.0, c.of.result, c.in-Ok.ensures.ok.1 ∙ ap Some (sym c.of.ensures), refused)) ])
+    (λ e why. elim why [
+      | inl memory ↦ inl memory
+      | inr refused ↦ inr (inr (c.in-Ok.ensures.ok.0, c.of.result, c.in-Ok.ensures.ok.1 ∙ ap Some (sym c.of.ensures), refused))
+    ])
     c.from_json.ensures.refused
 
-pub returns-in-Err-clause-json : goal.returns-in-Err-clause-json
-returns-in-Err-clause-json c = λ same utf8. elim c.in-Err.ensures.refused [ inl memory ↦ absurd (cc) | inr none ↦ none.1 utf8 ]
+pub returns-clause-json : goal.returns-clause-json
+returns-clause-json c = λ same utf8. elim c.in-Err.ensures.refused [ inl memory ↦ absurd (cc) | inr none ↦ none.1 utf8 ]
 
-pub returns-in-Err-clause-refused : goal.returns-in-Err-clause-refused
-returns-in-Err-clause-refused c = λ short. elim c.in-Err.ensures.refused [ inl memory ↦ inl memory | inr none ↦ inr (inl none.0) ]
+pub returns-clause-refused : goal.returns-clause-refused
+returns-clause-refused c = λ short. elim c.in-Err.ensures.refused [ inl memory ↦ inl memory | inr none ↦ inr (inl none.0) ]

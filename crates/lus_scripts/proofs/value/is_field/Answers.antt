@@ -1,12 +1,9 @@
 -- A name is looked for among those of the code.
-use Rattle.std.proofs.Common.{rules, ◌≡◌, ◌∙◌, sym, string_bytes}
-use Rattle.std.specs.List.{list_any}
+use Rattle.std.proofs.Common.{◌∙◌, sym}
 use Rattle.std.specs.Str.{bytes_eq}
 use Rattle.lus_program.specs.View.{field_of}
 use Rattle.lus_scripts.proofs.Lists.{list_any-map}
 use Rattle.lus_scripts.proofs.value.is_field.Goals as goal
 
 pub returns : goal.returns
-returns c =
-    let told : c.any.result ≡ list_any (λ f. bytes_eq c.args.key.now (string_bytes f.name)) c.args.fields.now = search rules in
-    told ∙ sym (list_any-map (λ f. bytes_eq c.args.key.now f.name) field_of c.args.fields.now)
+returns c = c.has_name.ensures ∙ sym (list_any-map (λ f. bytes_eq c.args.key.now f.name) field_of c.args.fields.now)
