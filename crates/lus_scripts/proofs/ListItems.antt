@@ -7,7 +7,7 @@ use Rattle.std.proofs.lemmas.List.{map-append}
 use Rattle.json.specs.Json.{Json, Items}
 use Rattle.json.specs.Find.{as_array}
 use Rattle.lus_scripts.specs.Documents.{items_in, listed}
-use Rattle.lus_scripts.specs.Forms.{Ask, as_list, both, burst, burst_of, each, is_list, step}
+use Rattle.lus_scripts.specs.Forms.{as_list, both, burst, burst_of, each, is_list, step}
 
 listed_is : (ds : List Json) (o : Option Items) → Some ds ≡ option_map listed o → option_map_or listed o [] ≡ ds
 listed_is ds None is = absurd (cc)

@@ -1,10 +1,10 @@
 -- Requests that are read by themselves.
-use Rattle.std.proofs.Common.{◌≡◌, ◌∙◌, refl, ℕ, ap, sym, List, [], Bool, true, false, is_some, length, map, min, take, Option, Some, None, option_map, option_and_then, Result, Ok, Err, IfOk, IfErr, IsUtf8, ◌⊎◌, inl, inr}
+use Rattle.std.proofs.Common.{◌≡◌, ◌∙◌, refl, ℕ, ap, sym, List, [], true, false, is_some, length, map, min, take, Option, Some, None, option_map, option_and_then, Result, Ok, Err, IfOk, IfErr, IsUtf8, ◌⊎◌, inl, inr}
 use Rattle.std.proofs.lemmas.List.{take-map, take_min}
 use Rattle.json.specs.Json.{Json}
 use Rattle.lus_scripts.specs.Documents.{read}
 use Rattle.lus_values.specs.Names.{Text, Names}
-use Rattle.lus_scripts.specs.Forms.{Ask, ask_of, step}
+use Rattle.lus_scripts.specs.Forms.{ask_of, step}
 use Rattle.lus_program.specs.Programs.{Node, Program}
 use Rattle.lus_requests.specs.declared.request.Request.{Request}
 use Rattle.lus_scripts.specs.declared.refusal.ScriptRefusal.{ScriptRefusal}

@@ -1,16 +1,15 @@
 -- Values of JSON at the place of a type.
-use Rattle.std.proofs.Common.{◌≡◌, ◌∙◌, refl, ap, ap₂, sym, ℕ, zero, suc, ◌-◌, ◌<◌, ◌==◌, List, length, Option, Some, None, option_map, true, if◌then◌else◌, arith, Result, IfOk}
+use Rattle.std.proofs.Common.{◌≡◌, ◌∙◌, refl, ap, ap₂, sym, ℕ, zero, suc, ◌-◌, ◌<◌, List, Option, Some, None, option_map, true, if◌then◌else◌, arith, Result, IfOk}
 use Rattle.std.specs.Prelude.{option_and_then}
 use Rattle.std.specs.Option.{ok_or}
-use Rattle.std.proofs.lemmas.Grind.{common_steps}
-use Rattle.json.specs.Json.{Json, null, boolean, number, string, array, object, Members}
-use Rattle.json.specs.Find.{as_bool, as_object, as_str, get}
+use Rattle.json.specs.Json.{Json, null, boolean, number, string, array, object}
+use Rattle.json.specs.Find.{as_object, get}
 use Rattle.lus_values.specs.Names.{Names, Text}
 use Rattle.lus_values.specs.Values.{Value, struct, fields_of}
 use Rattle.lus_program.specs.declared.types.Kind.{Kind}
 use Rattle.lus_syntax.specs.Limits.{most_nesting}
 use Rattle.lus_program.specs.Programs.{Field, Program}
-use Rattle.lus_scripts.specs.Documents.{int_of, keys_of}
+use Rattle.lus_scripts.specs.Documents.{keys_of}
 use Rattle.lus_scripts.specs.Forms.{each}
 use Rattle.lus_scripts.specs.Scripts.{are_fields, fields_at, fields_value, scalar, value_at, value_of_json}
 

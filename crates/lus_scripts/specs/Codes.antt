@@ -1,5 +1,5 @@
 -- How the logic stores a value of JSON: as its tokens.
-use Rattle.std.proofs.Common.{◌≡◌, ◌∙◌, sym, ap, ℕ, ◌≤◌, List, [], ◌++◌, length, arith, append-nil, length-append}
+use Rattle.std.proofs.Common.{◌≡◌, ◌∙◌, sym, ap, ◌≤◌, List, [], ◌++◌, length, arith, append-nil, length-append}
 use Rattle.std.specs.Coded.{Coded, code_by, coded_list}
 use Rattle.json.specs.Token.{Token, tokens_code}
 use Rattle.json.specs.Json.{Json, null, boolean, number, string, array, object, Items, no_items, item, Members, no_members, member, value}

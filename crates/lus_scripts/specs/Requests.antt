@@ -1,5 +1,5 @@
 -- One request to a node, as a JSON value says it by itself: `[18, 19, 22]`, `{"reset": true}`, `{"inputs": {"low": 19}}`.
-use Rattle.std.specs.Prelude.{◌==◌, ◌&&◌, Bool, List, [], take, Option, Some, None, is_some, option_map, option_and_then, codes, if◌then◌else◌}
+use Rattle.std.specs.Prelude.{Bool, List, [], take, Option, Some, None, option_map, option_and_then, codes, if◌then◌else◌}
 use Rattle.std.specs.List.{list_all, list_any}
 use Rattle.std.specs.Str.{bytes_eq}
 use Rattle.json.specs.Json.{Json}

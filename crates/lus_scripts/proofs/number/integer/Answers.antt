@@ -1,5 +1,5 @@
 -- By what `parse` says.
-use Rattle.std.proofs.Common.{◌∙◌, ◌^◌, ap, sym}
+use Rattle.std.proofs.Common.{◌∙◌, ap, sym}
 use Rattle.lus_scripts.specs.Documents.{begins_number}
 use Rattle.lus_scripts.proofs.Numbers.{integer_parsed, integer_none}
 use Rattle.lus_scripts.proofs.number.integer.Goals as goal

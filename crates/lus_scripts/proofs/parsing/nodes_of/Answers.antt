@@ -1,5 +1,5 @@
 -- A tape has the value of its text, where that is read.
-use Rattle.std.proofs.Common.{rules, None, ◌≡◌, ◌∙◌, ap, refl, sym, inl, inr, true, false}
+use Rattle.std.proofs.Common.{rules, None, ◌≡◌, ◌∙◌, ap, refl, sym, inr, true, false}
 use Rattle.json.specs.Json.{document}
 use Rattle.lus_scripts.specs.Documents.{are_readable}
 use Rattle.lus_scripts.proofs.Spelled.{no_document, read_gives, unread}

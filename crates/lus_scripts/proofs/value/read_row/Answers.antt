@@ -1,5 +1,5 @@
 -- The items are those of the list.
-use Rattle.std.proofs.Common.{rules, ◌≡◌, ap, sym, Some, None, []}
+use Rattle.std.proofs.Common.{rules, ◌≡◌, Some, None, []}
 use Rattle.lus_scripts.specs.Documents.{items_in}
 use Rattle.lus_scripts.specs.Forms.{as_list}
 use Rattle.lus_scripts.proofs.ListItems.{items_listed, items_none}
