@@ -1,4 +1,8 @@
 pub mod Lists
+pub mod Numbers
+pub mod ListItems
+pub mod Rows
+pub mod Spelled
 pub mod Checks
 pub mod DistinctNames
 pub mod Values

@@ -1,0 +1,16 @@
+-- By what `parse` says.
+use Rattle.std.proofs.Common.{◌∙◌, ap, sym}
+use Rattle.lus_scripts.specs.Documents.{begins_number}
+use Rattle.lus_scripts.proofs.Numbers.{integer_parsed, integer_none}
+use Rattle.lus_scripts.proofs.number.integer.Goals as goal
+
+pub returns-then-begins_number : goal.returns-then-begins_number
+returns-then-begins_number c =
+    c.ok.ensures.value
+    ∙ integer_parsed c.args.text.now c.parse.result
+    (ap begins_number (sym c.as_bytes.ensures.value) ∙ sym c.begins_number.ensures ∙ c.if-begins_number.true) c.parse.ensures.value.0
+
+pub returns-else-begins_number : goal.returns-else-begins_number
+returns-else-begins_number c =
+    integer_none c.args.text.now
+    (ap begins_number (sym c.as_bytes.ensures.value) ∙ sym c.begins_number.ensures ∙ c.if-begins_number.false)
