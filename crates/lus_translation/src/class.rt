@@ -131,5 +131,6 @@ pub fn class_with(
             firsts: 0,
             variables: 0,
         },
+        whole: None,
     })
 }
