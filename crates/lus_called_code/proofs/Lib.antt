@@ -1,3 +1,4 @@
 pub mod Reading
 pub mod Given
 pub mod Local
+pub mod Nested
