@@ -2,3 +2,4 @@ pub mod Reading
 pub mod Given
 pub mod Local
 pub mod Nested
+pub mod Answering
