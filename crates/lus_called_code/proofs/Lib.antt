@@ -3,3 +3,4 @@ pub mod Given
 pub mod Local
 pub mod Nested
 pub mod Answering
+pub mod Composed
