@@ -4,3 +4,4 @@ pub mod Local
 pub mod Nested
 pub mod Answering
 pub mod Composed
+pub mod Added
