@@ -1,5 +1,5 @@
 -- Classes that all have their places can be run.
-use Rattle.std.proofs.Common.{◌≡◌, ◌∙◌, ℕ, suc, ◌<◌, List, [], ◌∷◌, length, Contains, Some, slice_get, get_or, refl, sym, ap, subst, arith, nat_lt}
+use Rattle.std.proofs.Common.{◌≡◌, ◌∙◌, ℕ, suc, ◌<◌, List, [], ◌∷◌, length, Contains, IfSome, Some, slice_get, get_or, refl, sym, ap, subst, arith, nat_lt}
 use Rattle.std.proofs.lemmas.Option.{slice_get_within, slice_get-get_or}
 use Rattle.lus_values.specs.Lists.{item, Each}
 use Rattle.lus_classes.specs.ClassesOf.{InTurn}
@@ -10,6 +10,7 @@ use Rattle.lus_flat_classes.specs.Parts.{AreParts}
 use Rattle.lus_flat_classes.specs.Places.{HasRoom, InOrder, IsPart}
 use Rattle.lus_flat_classes.specs.Turns.{AreMaking, AreReady, GivesSome, HasTurns, IsReady}
 use Rattle.lus_flat_classes.specs.View.{class_of, steps_of}
+use Rattle.lus_flat_classes.specs.Wholes.{IsWhole}
 use Rattle.lus_places.specs.Placing.{no_room, together, placed_calls, parts_end, room_with, EndsWithin, IsPlaced}
 use Rattle.lus_places.specs.Shaped.{CanAllBePlaced, CallsClass, CanBePlaced}
 use Rattle.lus_places.proofs.Placed.{placed_are_well}
@@ -110,4 +111,5 @@ module _ (old new : List Class) (rooms : List Extent) (done : List ℕ) (is : Is
       subst (IsReady new) same (record {
         room = room_of c was.given (item no_room rooms g) was.placed shape was.calls;
         turns = turns_kept rooms c was.given (item no_room rooms g) was.placed shape.turns;
+        whole = subst (λ o. IfSome o (IsWhole new was.given)) (sym (ap (λ d. d.whole) was.placed.same ∙ shape.whole)) tt;
       })

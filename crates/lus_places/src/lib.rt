@@ -6,4 +6,4 @@ mod placing;
 mod room;
 
 pub use laws::placed_are_well;
-pub use placing::place_classes;
+pub use placing::{order_of_classes, place_classes};

@@ -37,7 +37,7 @@ fn uses_in(alloc: Global, classes: &[Class]) -> Result<Vec<Vec<u32>>, Memory>
 }
 
 /// All classes in an order in which each comes after those that it calls.
-fn order_of_classes(alloc: Global, classes: &[Class]) -> Result<Vec<usize>, Memory>
+pub fn order_of_classes(alloc: Global, classes: &[Class]) -> Result<Vec<usize>, Memory>
     requires { AreNested (classes_of classes.now) }
     ensures { IfOk result (λ order. IsOrder (class_uses classes.now) order.items) }
 {

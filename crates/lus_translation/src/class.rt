@@ -1,6 +1,6 @@
 //! The class of a node whose equations have their turns.
 
-ghost use Rattle.std.specs.Prelude.{◌≡◌, Some, [], IfOk, OnOk, length};
+ghost use Rattle.std.specs.Prelude.{◌≡◌, None, Some, [], IfOk, OnOk, length};
 ghost use Rattle.lus_program.specs.View.{node_of};
 ghost use Rattle.lus_values.specs.Lists.{Each};
 ghost use Rattle.lus_flat_classes.specs.Parts.{AreParts};
@@ -104,6 +104,7 @@ pub fn class_with(
     ensures outputs { IfOk result (λ c. c.outputs ≡ node.now.outputs) }
     ensures parts { IfOk result (λ c. AreParts c.tests.items c.steps.items c.steps.items c.parts.items) }
     ensures given { IfOk result (λ c. Each GivesAny c.steps.items) }
+    ensures whole { IfOk result (λ c. c.whole ≡ None) }
 {
     let mut built = Built {
         steps: Vec::new(alloc),

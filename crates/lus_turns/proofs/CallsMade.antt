@@ -181,8 +181,8 @@ calls_node p f c ts (s ∷ ss) (q ∷ qs) n are known = (
 -- a class that belongs to its node and whose calls are those of its equations has its turns
 pub classes_are_turned : (p : Program) (f : Node) → IsReady p f → (qs : List StoredEquation) → f.equations ≡ equations_from 0 qs → (c : StoredClass) → IsClassOf p f (class_of c)
     → (class_of c).calls ≡ calls_form p f f.equations → c.outputs ≡ f.outputs → AreParts c.tests.items c.steps.items c.steps.items c.parts.items → Each GivesAny c.steps.items
-    → (HaveOneLeft f → KeepsFew f c) → IsTurned p f c
-classes_are_turned p f ready qs is c belongs same_calls outputs parts any kept =
+    → (HaveOneLeft f → KeepsFew f c) → c.whole ≡ None → IsTurned p f c
+classes_are_turned p f ready qs is c belongs same_calls outputs parts any kept whole =
     let d = class_of c in
     let size : length d.calls ≡ length c.calls.items = length-map c.calls.items (call_of c.tests.items) in
     let all = made p f ready qs is d belongs same_calls in
@@ -199,4 +199,5 @@ classes_are_turned p f ready qs is c belongs same_calls outputs parts any kept =
       };
       calls = calls_node p f d c.tests.items (sites p f) c.calls.items 0 belongs.calls (calls_known p d all);
       kept = kept;
+      whole = whole;
     }

@@ -3,7 +3,7 @@ use Rattle.std.proofs.lemmas.List.{map-set, length-map}
 use Rattle.lus_running.specs.Instants.{forgotten}
 use Rattle.lus_running.proofs.Placing.{forgotten_length, forgotten_item, none_forgotten, all_taken}
 use Rattle.lus_following.proofs.TakenOver.{next_same}
-use Rattle.lus_running.proofs.running.forget.Goals as goal
+use Rattle.lus_running.proofs.resetting.forget.Goals as goal
 
 pub loop-variable-init : goal.loop-variable-init
 loop-variable-init g c = sym (none_forgotten c.args.from (map g.T.Held.entry c.args.row.now))
