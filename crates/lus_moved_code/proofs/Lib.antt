@@ -1,0 +1,3 @@
+mod Alike
+mod Copying
+mod Places
