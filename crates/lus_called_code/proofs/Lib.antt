@@ -3,3 +3,5 @@ pub mod Given
 pub mod Local
 pub mod Nested
 pub mod Answering
+pub mod Composed
+pub mod Added
