@@ -1,5 +1,5 @@
 -- Classes that are the same but for their wholes keep to the same counts.
-use Rattle.std.proofs.Common.{◌≡◌, ◌+◌, ◌≤◌, ℕ, List, Some, slice_get, subst, sym, ap}
+use Rattle.std.proofs.Common.{◌≡◌, ◌+◌, ◌≤◌, ℕ, List, subst, sym, ap}
 use Rattle.lus_values.specs.Lists.{item}
 use Rattle.lus_flat_classes.specs.declared.class.Class.{Class}
 use Rattle.lus_flat_classes.specs.declared.class.Extent.{Extent}
