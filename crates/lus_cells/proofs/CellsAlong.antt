@@ -1,5 +1,5 @@
 -- The cells of nodes along an order.
-use Rattle.std.proofs.Common.{◌≡◌, ◌∙◌, refl, sym, ap, ap₂, subst, arith, ℕ, suc, ◌+◌, ◌<◌, ◌≤◌, List, [], ◌∷◌, length, map, max, take, set, get_or, sum_by, Contains, All, ⊎_elim}
+use Rattle.std.proofs.Common.{◌≡◌, ◌∙◌, refl, sym, ap, ap₂, subst, arith, ℕ, suc, ◌+◌, ◌<◌, ◌≤◌, List, [], ◌∷◌, length, map, max, take, set, get_or, sum_by, Contains, All, flat_map, ⊎_elim}
 use Rattle.std.specs.Prelude.{min}
 use Rattle.std.specs.List.{range_with_len}
 use Rattle.std.proofs.lemmas.Bool.{cases_lt}
@@ -14,17 +14,26 @@ use Rattle.lus_syntax.specs.Limits.{most_cells}
 use Rattle.lus_program.specs.declared.node.Node.{Node as StoredNode}
 use Rattle.lus_program.specs.Programs.{Expression, Node, Program, empty_node, node_at}
 use Rattle.lus_program.specs.View.{expression_of, node_of}
-use Rattle.lus_typing.specs.Resolved.{EquationFits, NodeResolved, Resolved, program_uses, kind_in}
+use Rattle.lus_typing.specs.Resolved.{EquationFits, NodeResolved, Resolved, nodes_called, program_uses, kind_in}
 use Rattle.lus_typing.proofs.TypedParts.{HasKind}
-use Rattle.lus_cells.specs.Calls.{nodes_used}
-use Rattle.lus_cells.specs.Cells.{leaves_given, kind_leaves, node_cells, AreLeaves, AreCells, AreStateCells, FitsCells}
+use Rattle.lus_typing.specs.Leaves.{AreLeaves, AreTheLeaves, kind_leaves}
+use Rattle.lus_cells.specs.Cells.{leaves_given, node_cells, AreCells, AreStateCells, FitsCells}
 use Rattle.lus_cells.specs.Given.{given_leaves, counted}
-use Rattle.lus_cells.specs.Uses.{AreCappedLeaves}
 use Rattle.lus_graph.proofs.AlongOrders.{IsLocal, GivesNothing, IsFilled, uses_before, solution, solves, filled_more, filled_all}
 use Rattle.lus_typing.proofs.KindsGiven.{given_is}
-use Rattle.lus_cells.proofs.LeavesAlong.{IsAlike, alike_sum, capped_alike}
 use Rattle.lus_cells.proofs.Numbering.{cells_stored}
-use Rattle.lus_cells.proofs.Related.{kind_related, equations_related}
+use Rattle.lus_cells.proofs.Related.{equations_related}
+
+-- two numbers are alike up to m
+abbrev IsAlike : ℕ → ℕ → ℕ → Type 0
+IsAlike m a b = min a m ≡ min b m
+
+alike_sum : (m a a' b b' : ℕ) → IsAlike m a a' → IsAlike m b b' → IsAlike m (a + b) (a' + b')
+alike_sum m a a' b b' first rest = omega (arith, first, rest)
+
+-- the nodes that a node calls
+abbrev nodes_used : Node → List ℕ
+nodes_used f = flat_map (λ q. nodes_called q.right) f.equations
 
 pub node_is : (fs : List StoredNode) (x : ℕ) (f : StoredNode) → x < length fs → f ≡ get_or fs x f → item empty_node (map node_of fs) x ≡ node_of f
 node_is fs x f lt here = get_or-map node_of fs x f empty_node lt ∙ ap node_of (sym here)
@@ -98,7 +107,7 @@ module _ (p : Program) (resolved : Resolved p) where
     pub node_fits : (i : ℕ) → i < length order → get_or order i 0 < length p.nodes
     node_fits i lt = omega (arith, o.within (get_or order i 0) (i, lt, get_or_default order i (get_or order i 0) 0 lt), nodes_count)
 
-    module _ (leaves : List ℕ) (capped : AreCappedLeaves p leaves) (exact : List ℕ) (are : AreCells p exact) (i : ℕ) (table : List ℕ) (lt : i < length order) (size : length table ≡ length p.nodes) (filled : IsFilled 0 (item 0 exact) (take i order) table) where
+    module _ (leaves : List ℕ) (leaves_are : AreTheLeaves p leaves) (exact : List ℕ) (are : AreCells p exact) (i : ℕ) (table : List ℕ) (lt : i < length order) (size : length table ≡ length p.nodes) (filled : IsFilled 0 (item 0 exact) (take i order) table) where
       -- the table has what the next node calls
       known : (g : ℕ) → Contains (nodes_used (node_at p (get_or order i 0))) g → item 0 table g ≡ item 0 exact g
       known g among = ⊎_elim
@@ -111,8 +120,9 @@ module _ (p : Program) (resolved : Resolved p) where
 
       sized : (f : Node) (e : Expression) → HasKind p f e → IsAlike 4294967295 (given_leaves p f leaves e) (leaves_given are.leaves (kind_in p f e))
       sized f e h =
-          let alike = kind_related (IsAlike 4294967295) (λ n. refl) (alike_sum 4294967295) (item 1 leaves) are.leaves h.0 (λ t among. capped_alike 4294967295 (item 1 leaves t) (are.leaves t) (capped.capped are.leaves are.leaves_are t)) in
-          ap (λ k. min (kind_leaves (item 1 leaves) k) 4294967295) (given_is p f e h.0 h.1) ∙ alike ∙ ap (λ k. min (leaves_given are.leaves k) 4294967295) (sym h.1)
+          ap (λ k. min (kind_leaves (item 1 leaves) k) 4294967295) (given_is p f e h.0 h.1)
+          ∙ ap (λ (at : ℕ → ℕ). min (kind_leaves at h.0) 4294967295) (leaves_are.only are.leaves are.leaves_are)
+          ∙ ap (λ k. min (leaves_given are.leaves k) 4294967295) (sym h.1)
 
       counted_right : min (sum_by (λ q. counted p (node_at p (get_or order i 0)) leaves table q.right) (node_at p (get_or order i 0)).equations) 4294967295 ≡ min (item 0 exact (get_or order i 0)) 4294967295
       counted_right =
@@ -148,10 +158,10 @@ module _ (p : Program) (resolved : Resolved p) where
         omega (arith, few, many)
 
     -- the whole table
-    pub cells_whole : (leaves : List ℕ) → AreCappedLeaves p leaves → (i : ℕ) (table : List ℕ) → length order ≤ i → length table ≡ length p.nodes → All (λ n. n ≤ most_cells) table
+    pub cells_whole : (leaves : List ℕ) → AreTheLeaves p leaves → (i : ℕ) (table : List ℕ) → length order ≤ i → length table ≡ length p.nodes → All (λ n. n ≤ most_cells) table
         → ((exact : List ℕ) → AreCells p exact → IsFilled 0 (item 0 exact) (take i order) table) → AreStateCells p table
-    cells_whole leaves capped i table le size small filled =
-        let some = some_cells capped.leaves capped.leaves_are in
+    cells_whole leaves leaves_are i table le size small filled =
+        let some = some_cells (item 1 leaves) leaves_are.are in
         let exact = some.0 in
         let are = some.1 in
         let n = length p.nodes in

@@ -11,9 +11,9 @@ use Rattle.lus_program.specs.declared.node.Program.{Program as StoredProgram}
 use Rattle.lus_program.specs.Programs.{node_at}
 use Rattle.lus_program.specs.View.{expression_of, node_of, program_seen}
 use Rattle.lus_typing.specs.Resolved.{Resolved, program_uses}
+use Rattle.lus_typing.specs.Leaves.{AreTheLeaves}
 use Rattle.lus_cells.specs.Cells.{AreCells, FitsCells, NamesTooMany}
 use Rattle.lus_cells.specs.Given.{counted}
-use Rattle.lus_cells.specs.Uses.{AreCappedLeaves}
 use Rattle.lus_graph.proofs.AlongOrders.{IsFilled}
 use Rattle.lus_cells.proofs.CellsAlong.{cells_more, count_right, node_fits, node_is, over_most, some_cells, too_many}
 
@@ -26,7 +26,7 @@ module _ (p : StoredProgram) where
     pub place_fits : (i : ℕ) → i < length order → get_or order i 0 < length p.nodes.items
     place_fits i lt = omega (arith, node_fits (program_seen p) resolved order o i lt, seen_count)
 
-    module _ (leaves : List ℕ) (capped : AreCappedLeaves (program_seen p) leaves) (i : ℕ) (table : List ℕ) (lt : i < length order) (size : length table ≡ length p.nodes.items)
+    module _ (leaves : List ℕ) (leaves_are : AreTheLeaves (program_seen p) leaves) (i : ℕ) (table : List ℕ) (lt : i < length order) (size : length table ≡ length p.nodes.items)
         (filled : (exact : List ℕ) → AreCells (program_seen p) exact → IsFilled 0 (item 0 exact) (take i order) table)
         (node : StoredNode) (here : node ≡ get_or p.nodes.items (get_or order i 0) node)
         (count : ℕ) (is : count ≡ min (sum_by (λ q. counted (program_seen p) (node_of node) leaves table (expression_of q.right)) node.equations.items) 4294967295) where
@@ -34,7 +34,7 @@ module _ (p : StoredProgram) where
       seen = node_is p.nodes.items (get_or order i 0) node (place_fits i lt) here
 
       right : (exact : List ℕ) → AreCells (program_seen p) exact → count ≡ min (item 0 exact (get_or order i 0)) 4294967295
-      right exact are = count_right (program_seen p) resolved order o leaves capped exact are i table lt (size ∙ sym seen_count) (filled exact are) node count seen is
+      right exact are = count_right (program_seen p) resolved order o leaves leaves_are exact are i table lt (size ∙ sym seen_count) (filled exact are) node count seen is
 
       over : most_cells < count → (exact : List ℕ) → AreCells (program_seen p) exact → most_cells < item 0 exact (get_or order i 0)
       over past exact are = over_most most_cells 4294967295 (item 0 exact (get_or order i 0)) count past (right exact are)
@@ -46,7 +46,7 @@ module _ (p : StoredProgram) where
       -- and the node is one with too many
       pub names_it : most_cells < count → (line column : ℕ) → line ≡ node.place.line → column ≡ node.place.column → NamesTooMany p line column
       names_it past line column line_is column_is =
-          let some = some_cells (program_seen p) resolved order o capped.leaves capped.leaves_are in
+          let some = some_cells (program_seen p) resolved order o (item 1 leaves) leaves_are.are in
           record {
             number = get_or order i 0;
             node = node;
@@ -58,4 +58,4 @@ module _ (p : StoredProgram) where
 
       -- within it the table is right at one node more
       pub count_more : count ≤ most_cells → (exact : List ℕ) → AreCells (program_seen p) exact → IsFilled 0 (item 0 exact) (take (i + 1) order) (set table (get_or order i 0) count)
-      count_more few exact are = cells_more (program_seen p) resolved order o leaves capped exact are i table lt (size ∙ sym seen_count) (filled exact are) count few (right exact are)
+      count_more few exact are = cells_more (program_seen p) resolved order o leaves leaves_are exact are i table lt (size ∙ sym seen_count) (filled exact are) count few (right exact are)

@@ -1,34 +1,15 @@
 -- What is said of an expression doesn't hang on the numbers of its calls.
-use Rattle.std.proofs.Common.{◌≡◌, ◌∙◌, ap, ap₂, sym, refl, ℕ, suc, ◌+◌, List, [], ◌∷◌, ◌++◌, max, flat_map, sum_by}
+use Rattle.std.proofs.Common.{◌≡◌, ◌∙◌, ap, ap₂, sym, refl, ℕ, suc, ◌+◌, List, [], ◌∷◌, max, sum_by}
 use Rattle.std.proofs.lemmas.List.Sums.{sum_by-cons}
 use Rattle.lus_program.specs.declared.types.Kind.{Kind}
 use Rattle.lus_program.specs.declared.types.Kind.TheVariants as kinds
 use Rattle.lus_program.specs.declared.node.Equation.{Equation as StoredEquation}
 use Rattle.lus_program.specs.Programs.{Expression, literal, variable, operate, pre, arrow, when, merge, call, Operands, none, more, calls, numbered, all_numbered, Node, Program}
 use Rattle.lus_program.specs.View.{expression_of, equations_from}
-use Rattle.lus_typing.specs.Resolved.{nodes_called, all_nodes_called}
-use Rattle.lus_cells.specs.Cells.{expression_cells, operand_cells, kind_leaves}
+use Rattle.lus_typing.specs.Leaves.{kind_leaves}
+use Rattle.lus_cells.specs.Cells.{expression_cells, operand_cells}
 use Rattle.lus_typing.specs.Given.{operator_given, given, last_given}
 use Rattle.lus_cells.specs.Given.{given_leaves}
-
-mutual
-  called_numbered : (n : ℕ) (e : Expression) → nodes_called (numbered n e) ≡ nodes_called e
-  called_numbered n (literal v) = refl
-  called_numbered n (variable x) = refl
-  called_numbered n (operate o es) = all_called_numbered n es
-  called_numbered n (pre a) = called_numbered n a
-  called_numbered n (arrow a b) = ap₂ ◌++◌ (called_numbered n a) (called_numbered (n + calls a) b)
-  called_numbered n (when t a) = called_numbered n a
-  called_numbered n (merge x bs) = all_called_numbered n bs
-  called_numbered n (call g c es) = ap (λ gs. g ∷ gs) (all_called_numbered (suc n) es)
-
-  all_called_numbered : (n : ℕ) (es : Operands) → all_nodes_called (all_numbered n es) ≡ all_nodes_called es
-  all_called_numbered n none = refl
-  all_called_numbered n (more e es) = ap₂ ◌++◌ (called_numbered n e) (all_called_numbered (n + calls e) es)
-
-pub called_stored : (n : ℕ) (qs : List StoredEquation) → flat_map (λ q. nodes_called q.right) (equations_from n qs) ≡ flat_map (λ q. nodes_called (expression_of q.right)) qs
-called_stored n [] = refl
-called_stored n (q ∷ qs) = ap₂ ◌++◌ (called_numbered n (expression_of q.right)) (called_stored (n + calls (expression_of q.right)) qs)
 
 module _ (p : Program) (f : Node) where
   mutual

@@ -4,12 +4,10 @@ use Rattle.std.proofs.lemmas.List.Elements.{Contains-append_left, Contains-appen
 use Rattle.std.proofs.lemmas.List.Sums.{sum_by-cons}
 use Rattle.lus_values.specs.Lists.{Each}
 use Rattle.lus_program.specs.declared.types.Kind.{Kind}
-use Rattle.lus_program.specs.declared.types.Kind.TheVariants as kinds
-use Rattle.lus_program.specs.Programs.{Expression, literal, variable, operate, pre, arrow, when, merge, call, Operands, none, more, Declared, alias, enumeration, structure, Field, Equation, Node, Program}
+use Rattle.lus_program.specs.Programs.{Expression, literal, variable, operate, pre, arrow, when, merge, call, Operands, none, more, Equation, Node, Program}
 use Rattle.lus_typing.specs.Resolved.{EquationFits, kinds_given_in, nodes_called, all_nodes_called}
 use Rattle.lus_typing.proofs.TypedParts.{HasKind, HaveKinds, operate_typed, both_typed, when_typed, merge_typed, call_typed, more_typed, whole_call, whole_typed, fits_given}
-use Rattle.lus_cells.specs.Cells.{kind_leaves, declared_leaves, expression_cells, operand_cells}
-use Rattle.lus_typing.specs.Sound.{structures_in, declared_uses}
+use Rattle.lus_cells.specs.Cells.{expression_cells, operand_cells}
 
 module _ (R : ℕ → ℕ → Type 0) (same : (n : ℕ) → R n n) (sum : (a a' b b' : ℕ) → R a a' → R b b' → R (a + b) (a' + b')) where
   -- a sum of one more
@@ -17,26 +15,6 @@ module _ (R : ℕ → ℕ → Type 0) (same : (n : ℕ) → R n n) (sum : (a a' 
   cons_related f g x xs first rest =
       let whole = sum (f x) (g x) (sum_by f xs) (sum_by g xs) first rest in
       subst (λ n. R n (sum_by g (x ∷ xs))) (sym (sum_by-cons f x xs)) (subst (λ n. R (f x + sum_by f xs) n) (sym (sum_by-cons g x xs)) whole)
-
-  module _ (at at' : ℕ → ℕ) where
-    pub kind_related : (k : Kind) → ((t : ℕ) → Contains (structures_in k) t → R (at t) (at' t)) → R (kind_leaves at k) (kind_leaves at' k)
-    kind_related kinds.Bool h = same 1
-    kind_related kinds.Int h = same 1
-    kind_related (kinds.Enum t) h = same 1
-    kind_related (kinds.Struct t) h = h t (0, omega arith, refl)
-
-    fields_related : (fs : List Field) → ((t : ℕ) → Contains (flat_map (λ g. structures_in g.kind) fs) t → R (at t) (at' t)) → R (sum_by (λ g. kind_leaves at g.kind) fs) (sum_by (λ g. kind_leaves at' g.kind) fs)
-    fields_related [] h = same 0
-    fields_related (g ∷ fs) h =
-        let rest = flat_map (λ g. structures_in g.kind) fs in
-        cons_related (λ g. kind_leaves at g.kind) (λ g. kind_leaves at' g.kind) g fs
-        (kind_related g.kind (λ t among. h t (Contains-append_left (structures_in g.kind) rest t among)))
-        (fields_related fs (λ t among. h t (Contains-append_right (structures_in g.kind) rest t among)))
-
-    pub declared_related : (d : Declared) → ((t : ℕ) → Contains (declared_uses d) t → R (at t) (at' t)) → R (declared_leaves at d) (declared_leaves at' d)
-    declared_related (alias k) h = kind_related k h
-    declared_related (enumeration cs) h = same 1
-    declared_related (structure fs) h = fields_related fs h
 
   module _ (p : Program) (f : Node) (size size' : Expression → ℕ) (sized : (e : Expression) → HasKind p f e → R (size e) (size' e)) (at at' : ℕ → ℕ) where
     abbrev AreCalled : List ℕ → Type 0

@@ -6,31 +6,10 @@ use Rattle.lus_syntax.specs.Limits.{most_cells}
 use Rattle.lus_program.specs.declared.node.Node.{Node as StoredNode}
 use Rattle.lus_program.specs.declared.node.Program.{Program as StoredProgram}
 use Rattle.lus_program.specs.declared.types.Kind.{Kind}
-use Rattle.lus_program.specs.declared.types.Kind.TheVariants as kinds
-use Rattle.lus_program.specs.Programs.{Expression, literal, variable, operate, pre, arrow, when, merge, call, Operands, none, more, Declared, alias, enumeration, structure, Node, Program, node_at}
+use Rattle.lus_program.specs.Programs.{Expression, literal, variable, operate, pre, arrow, when, merge, call, Operands, none, more, Node, Program, node_at}
 use Rattle.lus_program.specs.View.{program_seen}
-use Rattle.lus_typing.specs.Resolved.{declared_in, kind_in}
-
--- the leaves of a type, where declared type t has `at t`: bool, int and an enumeration have one
-abbrev pub kind_leaves : (ℕ → ℕ) → Kind → ℕ
-kind_leaves at kinds.Bool = 1
-kind_leaves at kinds.Int = 1
-kind_leaves at (kinds.Enum t) = 1
-kind_leaves at (kinds.Struct t) = at t
-
--- a structure has those of its fields
-abbrev pub declared_leaves : (ℕ → ℕ) → Declared → ℕ
-declared_leaves at (alias k) = kind_leaves at k
-declared_leaves at (enumeration cs) = 1
-declared_leaves at (structure fs) = sum_by (λ g. kind_leaves at g.kind) fs
-
--- the leaves of each declared type
-abbrev pub AreLeaves : Program → (ℕ → ℕ) → Type 0
-AreLeaves p at = (t : ℕ) → at t ≡ declared_leaves at (declared_in p t)
-
--- each declared type has a leaf
-abbrev pub HaveLeaves : Program → Type 0
-HaveLeaves p = (at : ℕ → ℕ) → AreLeaves p at → (t : ℕ) → 1 ≤ at t
+use Rattle.lus_typing.specs.Resolved.{kind_in}
+pub use Rattle.lus_typing.specs.Leaves.{kind_leaves, AreLeaves, HaveLeaves}
 
 -- the leaves of what an expression gives
 abbrev pub leaves_given : (ℕ → ℕ) → Option Kind → ℕ

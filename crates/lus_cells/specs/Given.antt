@@ -3,7 +3,12 @@ use Rattle.std.specs.Prelude.{ℕ, List}
 use Rattle.lus_values.specs.Lists.{item}
 use Rattle.lus_program.specs.Programs.{Expression, Operands, Node, Program}
 use Rattle.lus_typing.specs.Given.{given}
-use Rattle.lus_cells.specs.Cells.{kind_leaves, expression_cells, operand_cells}
+use Rattle.lus_typing.specs.Leaves.{kind_leaves}
+use Rattle.lus_cells.specs.Cells.{expression_cells, operand_cells}
+
+-- the greatest count that a table holds
+abbrev pub most : ℕ
+most = 4294967295
 
 module _ (p : Program) (f : Node) where
   -- the leaves of what an expression gives, in this table

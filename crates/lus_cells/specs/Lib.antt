@@ -1,4 +1,2 @@
-pub mod Calls
 pub mod Cells
 pub mod Given
-pub mod Uses

@@ -8,11 +8,9 @@ ghost use Rattle.lus_syntax.specs.Refusals.{HasShape};
 ghost use Rattle.lus_program.specs.View.{program_seen};
 ghost use Rattle.lus_typing.specs.Refusals.{RefusesFor};
 ghost use Rattle.lus_typing.specs.Resolved.{Resolved, program_uses};
+ghost use Rattle.lus_typing.specs.Leaves.{AreTheLeaves};
 ghost use Rattle.lus_cells.specs.Cells.{AreStateCells, FitsCells, HaveLeaves, NamesTooMany};
-ghost use Rattle.lus_cells.specs.Uses.{AreCappedLeaves};
 
-use crate::leaves::leaves_along;
-use crate::orders::{order_of_nodes, order_of_types};
 use crate::weights::node_cells;
 use lus_program::{Node, Program};
 use lus_syntax::{MOST_CELLS, Refusal, RefusalNumber};
@@ -28,11 +26,7 @@ pub fn cells_of_nodes(alloc: Global, typed: &Typed) -> Result<Vec<u32>, Refusal>
     ensures placed { IfErr result (λ e. e.number ≢ numbers.Memory → NamesTooMany typed.now e.line e.column) }
     ensures shaped { IfErr result HasShape }
 {
-    let program = typed.program();
-    let types = order_of_types(alloc, program)?;
-    let leaves = leaves_along(alloc, program, &types)?;
-    let nodes = order_of_nodes(alloc, program)?;
-    cells_along(alloc, program, &leaves, &nodes)
+    cells_along(alloc, typed.program(), typed.leaves(), typed.nodes())
 }
 
 /// The state cells of each node, by an order in which the nodes that one calls stand before it.
@@ -43,7 +37,7 @@ fn cells_along(
     order: &[usize],
 ) -> Result<Vec<u32>, Refusal>
     requires resolved { Resolved (program_seen program.now) }
-    requires leaves { AreCappedLeaves (program_seen program.now) leaves.now }
+    requires leaves { AreTheLeaves (program_seen program.now) leaves.now }
     requires order { IsOrder (program_uses (program_seen program.now)) order.now }
     ensures ok { IfOk result (λ cells. AreStateCells (program_seen program.now) cells.items) }
     ensures refused { IfErr result (RefusesFor numbers.Limit (FitsCells (program_seen program.now))) }

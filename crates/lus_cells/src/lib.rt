@@ -2,8 +2,6 @@
 #![tactic(auto)]
 
 mod counting;
-mod leaves;
-mod orders;
 mod weights;
 
 pub use counting::cells_of_nodes;

@@ -5,10 +5,9 @@ ghost use Rattle.lus_values.specs.Lists.{item};
 ghost use Rattle.lus_program.specs.declared.types.Kind.TheVariants.{Bool as OfBool};
 ghost use Rattle.lus_program.specs.View.{expression_of, node_of, operands_of, program_seen};
 ghost use Rattle.lus_typing.specs.Given.{given, last_given};
-ghost use Rattle.lus_cells.specs.Given.{all_counted, counted};
-ghost use Rattle.lus_cells.specs.Uses.{most};
+ghost use Rattle.lus_typing.specs.Leaves.{kind_leaves as leaves_in};
+ghost use Rattle.lus_cells.specs.Given.{all_counted, counted, most};
 
-use crate::leaves::kind_leaves;
 use lus_program::{Expr, Form, Kind, Node, Program};
 use lus_typing::{operator_kind, output_kind, value_kind, variable_kind};
 
@@ -37,6 +36,18 @@ impl Weight {
             kind: self.kind,
             cells: self.cells.saturating_add(more),
         }
+    }
+}
+
+/// The leaves of a type, by those of the declared types; one for an unknown type.
+fn kind_leaves(leaves: &[u32], kind: Kind) -> u32
+    ensures { result ≡ leaves_in (item 1 leaves.now) kind }
+{
+    match kind {
+        Kind::Bool => 1,
+        Kind::Int => 1,
+        Kind::Enum(_) => 1,
+        Kind::Struct(number) => leaves.get(number as usize).copied().unwrap_or(1),
     }
 }
 

@@ -27,17 +27,15 @@ module _ (t : StoredTree) where
   pub uses_length : length (type_uses (tree_seen t)) ≡ length t.types.items
   uses_length = length-map (map type_seen t.types.items) (λ d. definition_uses (type_names (tree_seen t)) d.definition) ∙ length-map t.types.items type_seen
 
-  names_length : length (type_names (tree_seen t)) ≡ length t.types.items
-  names_length = length-map (map type_seen t.types.items) (λ d. d.name.text) ∙ length-map t.types.items type_seen
-
-  types_length : length (map type_seen t.types.items) ≡ length t.types.items
+  pub types_length : length (map type_seen t.types.items) ≡ length t.types.items
   types_length = length-map t.types.items type_seen
 
   -- a type's definition, as it lies in the tree
-  pub definition_here : (x : ℕ) (d : StoredType) → x < length t.types.items → definition_at (tree_seen t) x ≡ definition_seen (get_or t.types.items x d).definition
-  definition_here x d lt =
+  pub definition_here : (x : ℕ) (d : StoredType) → x < length t.types.items → d ≡ get_or t.types.items x d → definition_at (tree_seen t) x ≡ definition_seen d.definition
+  definition_here x d lt here =
       get_or-map (λ e. e.definition) (map type_seen t.types.items) x (type_seen d) no_definition (omega (arith, types_length))
       ∙ ap (λ (e : TypeDeclaration). e.definition) (get_or-map type_seen t.types.items x d (type_seen d) lt)
+      ∙ ap (λ (e : StoredType). definition_seen e.definition) (sym here)
 
   module _ (order : List ℕ) (o : IsOrder (type_uses (tree_seen t)) order) where
     size_fits : length order ≤ length (map type_seen t.types.items)
@@ -70,19 +68,19 @@ module _ (t : StoredTree) where
     count = types_length ∙ sym uses_length
 
     module _ (i : ℕ) (names : List Text) (table : List ℕ) (v : ℕ) (d : StoredDefinition) (lt : i < length order) (named : names ≡ type_names (tree_seen t)) (here : definition_at (tree_seen t) (get_or order i 0) ≡ definition_seen d) where
-      leaves_right : v ≡ definition_leaves names (item 1 table) (definition_seen d) → v ≡ definition_leaves (type_names (tree_seen t)) (item 1 table) (definition_at (tree_seen t) (get_or order i 0))
-      leaves_right is = is ∙ rw (here, named) refl
+      leaves_is : v ≡ definition_leaves names (item 1 table) (definition_seen d) → v ≡ definition_leaves (type_names (tree_seen t)) (item 1 table) (definition_at (tree_seen t) (get_or order i 0))
+      leaves_is is = is ∙ rw (here, named) refl
 
       pub leaves_more : length table ≡ length t.types.items → IsFilled 1 (leaves_at (tree_seen t)) (take i order) table → v ≡ definition_leaves names (item 1 table) (definition_seen d)
           → IsFilled 1 (leaves_at (tree_seen t)) (take (i + 1) order) (set table (get_or order i 0) v)
       leaves_more size filled is =
           let p = tree_seen t in
-          one_more (type_uses p) order o (types_inside p) (length p.types) 0 1 1024 (λ at k. definition_leaves (type_names p) at (definition_at p k)) (leaves_step_local p) count i table v lt (size ∙ sym types_length) filled (leaves_right is)
+          one_more (type_uses p) order o (types_inside p) (length p.types) 0 1 1024 (λ at k. definition_leaves (type_names p) at (definition_at p k)) (leaves_step_local p) count i table v lt (size ∙ sym types_length) filled (leaves_is is)
 
       pub leaves_past : IsFilled 1 (leaves_at (tree_seen t)) (take i order) table → v ≡ definition_leaves names (item 1 table) (definition_seen d) → 1024 < v → Below (length (map type_seen t.types.items)) (λ k. leaves_at (tree_seen t) k ≤ 1024) → ⊥
       leaves_past filled is past =
           let p = tree_seen t in
-          one_past (type_uses p) order o (types_inside p) (length p.types) 0 1 1024 (λ at k. definition_leaves (type_names p) at (definition_at p k)) (leaves_step_local p) count i table v lt filled (leaves_right is) past
+          one_past (type_uses p) order o (types_inside p) (length p.types) 0 1 1024 (λ at k. definition_leaves (type_names p) at (definition_at p k)) (leaves_step_local p) count i table v lt filled (leaves_is is) past
 
       nesting_right : v ≡ definition_nesting names (item 0 table) (definition_seen d) → v ≡ definition_nesting (type_names (tree_seen t)) (item 0 table) (definition_at (tree_seen t) (get_or order i 0))
       nesting_right is = is ∙ rw (here, named) refl
@@ -103,6 +101,9 @@ module _ (t : StoredTree) where
     leaves_whole i table le size filled small =
         let p = tree_seen t in
         all_within (type_uses p) order o (types_inside p) (length p.types) 0 1 1024 (λ at k. definition_leaves (type_names p) at (definition_at p k)) (leaves_step_local p) count i table le (size ∙ sym types_length) filled small
+
+    pub leaves_right : (i : ℕ) (table : List ℕ) → length order ≤ i → IsFilled 1 (leaves_at (tree_seen t)) (take i order) table → (k : ℕ) → k < length (map type_seen t.types.items) → item 1 table k ≡ leaves_at (tree_seen t) k
+    leaves_right i table le filled k lt = filled_all (type_uses (tree_seen t)) order o 1 (leaves_at (tree_seen t)) table i k le filled (omega (arith, lt, count))
 
     pub nesting_whole : (i : ℕ) (table : List ℕ) → length order ≤ i → length table ≡ length t.types.items → IsFilled 0 (nesting_at (tree_seen t)) (take i order) table → All (λ k. k ≤ 64) table
         → Below (length (map type_seen t.types.items)) (λ k. nesting_at (tree_seen t) k ≤ 64)

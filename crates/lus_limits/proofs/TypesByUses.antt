@@ -1,17 +1,17 @@
 -- What a declared type has comes from what the types have that its declaration names.
-use Rattle.std.proofs.Common.{arith, ◌≡◌, refl, ap, ℕ, zero, suc, ◌*◌, ◌<◌, List, [], ◌∷◌, Option, Some, None, length, get_or, map, flat_map, sum_by, Contains, All}
+use Rattle.std.proofs.Common.{arith, ◌≡◌, refl, ap, ℕ, suc, ◌*◌, ◌<◌, List, [], ◌∷◌, Option, Some, None, length, flat_map, sum_by, Contains, All}
 use Rattle.std.specs.Option.{option_to_list}
 use Rattle.std.proofs.lemmas.List.{length-map}
 use Rattle.std.proofs.lemmas.List.Elements.{Contains-append_left, Contains-append_right, All-nil, All-append, All-contains}
 use Rattle.std.proofs.lemmas.List.Sums.{sum_by-cons}
 use Rattle.lus_syntax.specs.Lexemes.{Text}
-use Rattle.lus_syntax.specs.Trees.{TypeName, BoolName, IntName, DeclaredName, Fields, Definition, Alias, Enumeration, StructureOf, TypeDeclaration, Tree}
+use Rattle.lus_syntax.specs.Trees.{TypeName, BoolName, IntName, DeclaredName, Fields, Definition, Alias, Enumeration, StructureOf, Tree}
 use Rattle.lus_program.specs.declared.types.Kind.{Kind}
 use Rattle.lus_program.specs.declared.types.Kind.TheVariants as kinds
-use Rattle.lus_graph.specs.Ways.{used}
 use Rattle.lus_meaning.specs.Loopless.{place_in, type_names, named_type, definition_uses, type_uses}
-use Rattle.lus_meaning.specs.Tables.{of_type, definition_at, no_definition, definition_kind}
+use Rattle.lus_meaning.specs.Tables.{of_type, definition_at, definition_kind}
 use Rattle.lus_meaning.specs.Sized.{greatest, definition_leaves, definition_nesting}
+use Rattle.lus_meaning.proofs.TypesMeant.{used_is}
 use Rattle.lus_limits.proofs.NamePlaces.{places_inside}
 use Rattle.lus_graph.proofs.AlongOrders.{IsLocal, IsInside}
 
@@ -78,15 +78,6 @@ module _ (types : List Text) where
   definition_inside (Alias y) = named_inside y
   definition_inside (Enumeration cs) = All-nil (λ t. t < length types)
   definition_inside (StructureOf fs) = fields_inside fs
-
--- what a place's declaration names
-declared_uses : (types : List Text) (ds : List TypeDeclaration) (t : ℕ) → get_or (map (λ d. definition_uses types d.definition) ds) t [] ≡ definition_uses types (get_or (map (λ d. d.definition) ds) t no_definition)
-declared_uses types [] t = refl
-declared_uses types (d ∷ ds) zero = refl
-declared_uses types (d ∷ ds) (suc t) = declared_uses types ds t
-
-pub used_is : (p : Tree) (t : ℕ) → used (type_uses p) t ≡ definition_uses (type_names p) (definition_at p t)
-used_is p t = declared_uses (type_names p) p.types t
 
 pub types_inside : (p : Tree) → IsInside (type_uses p)
 types_inside p t y among =

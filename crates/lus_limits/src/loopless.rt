@@ -79,6 +79,18 @@ impl Loopless {
     {
         &self.nodes
     }
+
+    /// The places of its nodes, each behind those of the nodes that it calls; the source is given up.
+    pub fn into_nodes(self) -> Vec<usize>
+        ensures { IsOrder (calls_of_nodes (tree_seen self)) result.items }
+    {
+        let Loopless {
+            named: _,
+            types: _,
+            nodes,
+        } = self;
+        nodes
+    }
 }
 
 /// Checks that nothing leads back to itself; a refusal stands at a type's name, or at a call's.

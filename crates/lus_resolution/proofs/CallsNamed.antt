@@ -1,5 +1,7 @@
--- The nodes that a program calls are those that the text calls, so none leads back to itself.
+-- The nodes that a program calls are those that the text calls, so none leads back to itself, and an order of the text's nodes
+-- is one of the program's.
 use Rattle.std.proofs.Common.{arith, ◌≡◌, ◌∙◌, refl, sym, ap, subst, ℕ, zero, suc, ◌+◌, ◌<◌, Bool, true, false, ◌&&◌, ◌||◌, cond, List, [], ◌∷◌, ◌++◌, length, map, Some}
+use Rattle.std.proofs.lemmas.List.{length-map}
 use Rattle.std.proofs.lemmas.List.Elements.{Contains-append_right}
 use Rattle.std.specs.Prelude.{flat_map, unwrap_or, Contains, slice_index_or}
 use Rattle.std.specs.List.{list_all, position_from}
@@ -7,7 +9,8 @@ use Rattle.std.specs.Option.{option_to_list}
 use Rattle.std.specs.Str.{bytes_eq}
 use Rattle.lus_values.specs.Lists.{item, Each}
 use Rattle.lus_values.specs.Values.{nil}
-use Rattle.lus_graph.specs.Ways.{Uses, used, Leads, step, then, HasNoWayBack}
+use Rattle.lus_graph.specs.Ways.{step, HasNoWayBack, IsOrder}
+use Rattle.lus_graph.proofs.NoWayBack.{led_nowhere_back, led_order}
 use Rattle.lus_syntax.specs.Lexemes.{Text}
 use Rattle.lus_syntax.specs.Trees as tree
 use Rattle.lus_syntax.specs.Trees.{Name, Call, Structure, Merge, Variadic, Field, Parentheses, When, Unary, Binary, If, Parts, End, More, Tree}
@@ -98,10 +101,6 @@ each_contains Q [] each y k lt is = absurd (omega (arith, lt))
 each_contains Q (x ∷ xs) each y zero lt is = subst Q is each.0
 each_contains Q (x ∷ xs) each y (suc k) lt is = each_contains Q xs each.1 y k (omega (arith, lt)) is
 
-leads_included : (a b : Uses) → ((x y : ℕ) → Contains (used a x) y → Contains (used b x) y) → {x z : ℕ} → Leads a x z → Leads b x z
-leads_included a b h (step {x} {y} c) = step (h x y c)
-leads_included a b h (then {x} {y} {z} c way) = then (h x y c) (leads_included a b h way)
-
 module _ (p : Tree) where
   -- the place of a name is that of its signature
   record IsFound (n : ℕ) (fs : List tree.Node) (t : Text) : Type 0 where
@@ -154,4 +153,8 @@ module _ (p : Tree) where
   uses_included (f ∷ fs) named (suc x) y c = uses_included fs named.1 x y c
 
   pub meant_loopless : Each (λ f. NodeNamed (known p (groups f)) f) p.nodes → HasNoWayBack (node_uses p) → HasNoWayBack (program_uses (program_of p))
-  meant_loopless named ends x way = ends x (leads_included (program_uses (program_of p)) (node_uses p) (uses_included p.nodes named) way)
+  meant_loopless named = led_nowhere_back (node_uses p) (program_uses (program_of p)) (λ x y among. step (uses_included p.nodes named x y among))
+
+  pub meant_order : Each (λ f. NodeNamed (known p (groups f)) f) p.nodes → (order : List ℕ) → IsOrder (node_uses p) order → IsOrder (program_uses (program_of p)) order
+  meant_order named = led_order (node_uses p) (program_uses (program_of p)) (λ x y among. step (uses_included p.nodes named x y among))
+      (length-map (map (node_meant p) p.nodes) (λ f. flat_map (λ (q : Equation). nodes_called q.right) f.equations) ∙ length-map p.nodes (node_meant p) ∙ sym (length-map p.nodes (calls_of (node_names p))))

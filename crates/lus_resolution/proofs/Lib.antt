@@ -11,8 +11,6 @@ pub mod Places
 pub mod Lefts
 pub mod NodesMeant
 pub mod CallsNamed
-pub mod TypesMeant
-pub mod FieldsMeant
 pub mod Limited
 pub mod ProgramsMeant
 mod Examples

@@ -1,15 +1,15 @@
 -- What a well-formed tree means is sound.
 use Rattle.lus_resolution.specs.Laws.{MeantProgramsAreSound}
+use Rattle.lus_meaning.proofs.FieldsMeant.{meant_fields}
+use Rattle.lus_meaning.proofs.TypesMeant.{types_loopless}
 use Rattle.lus_resolution.proofs.CallsNamed.{meant_loopless}
-use Rattle.lus_resolution.proofs.FieldsMeant.{meant_fields}
 use Rattle.lus_resolution.proofs.Limited.{meant_limited}
 use Rattle.lus_resolution.proofs.NodesMeant.{meant_nodes_resolved}
-use Rattle.lus_resolution.proofs.TypesMeant.{types_loopless}
 
 pub meant_programs_are_sound : MeantProgramsAreSound
 meant_programs_are_sound t formed = record {
   resolved = record { nodes = meant_nodes_resolved t formed; loopless = meant_loopless t formed.named.each formed.loopless.nodes; parts = formed.parts };
   loopless = types_loopless t formed.loopless.types;
-  fields = meant_fields t formed;
+  fields = meant_fields t formed.counted;
   limited = meant_limited t formed;
 }

@@ -13,9 +13,6 @@ use Rattle.lus_meaning.specs.Refusals.{FirstFails, HasFewParts}
 pub constants_fail : (p : Tree) → list_all (constant_typed p) p.constants ≡ false → IsTyped p → ⊥
 constants_fail p failed typed = let held : list_all (constant_typed p) p.constants ≡ true = typed.constants in cc
 
-pub recursion_fails : (p : Tree) (n : RefusalNumber) → Counted p → Named p → (n ≢ numbers.Memory → (Loopless p → ⊥) × (n ≡ numbers.Recursion)) → n ≢ numbers.Memory → FirstFails p n
-recursion_fails p n counted named fails other = let wrong = fails other in rw wrong.1 (counted, named, wrong.0)
-
 pub sizes_fail : (p : Tree) (n : RefusalNumber) → Counted p → Named p → Loopless p → (n ≢ numbers.Memory → (Bounded p → ⊥) × (n ≡ numbers.Limit)) → n ≢ numbers.Memory → FirstFails p n
 sizes_fail p n counted named loopless fails other = let wrong = fails other in rw wrong.1 (inr (inl (counted, named, loopless, wrong.0)))
 

@@ -1,6 +1,7 @@
 -- What passes say of one source that they hand on: t is the tree that was given, and c, n and l are what passes of counts, names
 -- and recursion gave of it.
-use Rattle.std.proofs.Common.{◌≡◌, ◌≢◌, ◌≤◌, ◌∙◌, sym, ap, subst}
+use Rattle.std.proofs.Common.{◌≡◌, ◌≢◌, ◌≤◌, ◌∙◌, sym, ap, subst, ℕ, List}
+use Rattle.lus_graph.specs.Ways.{IsOrder}
 use Rattle.lus_syntax.specs.declared.refusal.RefusalNumber.{RefusalNumber}
 use Rattle.lus_syntax.specs.declared.refusal.RefusalNumber.TheVariants as numbers
 use Rattle.lus_syntax.specs.declared.tree.Tree.{Tree as StoredTree}
@@ -8,13 +9,15 @@ use Rattle.lus_syntax.specs.Limits.{most_parts}
 use Rattle.lus_syntax.specs.View.{tree_seen}
 use Rattle.lus_program.specs.Parts.{program_parts}
 use Rattle.lus_program.specs.Programs.{Program}
-use Rattle.lus_typing.specs.Sound.{IsSound}
+use Rattle.lus_typing.specs.Leaves.{AreTheLeaves}
+use Rattle.lus_typing.specs.Sound.{AreFound}
 use Rattle.lus_meaning.specs.Named.{Named}
-use Rattle.lus_meaning.specs.Loopless.{Loopless}
+use Rattle.lus_meaning.specs.Loopless.{Loopless, node_uses}
 use Rattle.lus_meaning.specs.Sized.{Bounded, Counted}
 use Rattle.lus_meaning.specs.WellTyped.{IsTyped}
 use Rattle.lus_meaning.specs.Meaning.{program_of}
 use Rattle.lus_meaning.specs.Refusals.{FirstFails, WellFormed}
+use Rattle.lus_resolution.proofs.CallsNamed.{meant_order}
 use Rattle.lus_resolution.proofs.ProgramsMeant.{meant_programs_are_sound}
 use Rattle.lus_types.proofs.FirstFaults.{sizes_fail, types_fail, parts_fail}
 
@@ -61,5 +64,9 @@ module _ (t c n l : StoredTree) (counted_is : c ≡ t) (named_is : n ≡ c) (loo
         parts = subst (λ (p : Program). program_parts p ≤ most_parts) program_is few;
       }
 
-      pub sound : program_parts q ≤ most_parts → IsSound q
-      sound few = subst IsSound (sym program_is) (meant_programs_are_sound (tree_seen t) (well_formed few))
+      pub found : program_parts q ≤ most_parts → (nodes leaves : List ℕ) → IsOrder (node_uses (tree_seen l)) nodes → AreTheLeaves (program_of (tree_seen l)) leaves → AreFound q nodes leaves
+      found few nodes leaves order leaves_are = subst (λ r. AreFound r nodes leaves) (sym program_is) (record {
+        sound = meant_programs_are_sound (tree_seen t) (well_formed few);
+        order = meant_order (tree_seen t) named.each nodes (subst (λ (u : StoredTree). IsOrder (node_uses (tree_seen u)) nodes) same order);
+        leaves_are = subst (λ (u : StoredTree). AreTheLeaves (program_of (tree_seen u)) leaves) same leaves_are;
+      })

@@ -10,6 +10,7 @@ ghost use Rattle.lus_program.specs.View.{node_of, program_seen};
 ghost use Rattle.lus_meaning.specs.Named.{Named as IsNamed};
 ghost use Rattle.lus_meaning.specs.Sized.{Bounded, Counted as IsCounted};
 ghost use Rattle.lus_meaning.specs.Meaning.{program_of};
+ghost use Rattle.lus_typing.specs.Leaves.{AreTheLeaves};
 ghost use Rattle.lus_typing.specs.Refusals.{RefusesFor};
 ghost use Rattle.lus_meaning.specs.WellTyped.{IsTyped};
 ghost use Rattle.lus_meaning.specs.ScopeView.{Faulty, scope_of};
@@ -64,14 +65,15 @@ pub fn names(alloc: Global, counted: Counted) -> Result<Named, Refusal>
     }
 }
 
-/// Checks the sizes of types and the depth of calls.
-pub fn sizes(alloc: Global, loopless: &Loopless) -> Result<(), Refusal>
+/// Checks the sizes of types and the depth of calls, and gives the leaves of types.
+pub fn sizes(alloc: Global, loopless: &Loopless) -> Result<Vec<u32>, Refusal>
+    ensures leaves { IfOk result (λ leaves. AreTheLeaves (program_of (tree_seen loopless.now)) leaves.items) }
     ensures ok { OnOk result (Bounded (tree_seen loopless.now)) }
     ensures refused { IfErr result (RefusesFor numbers.Limit (Bounded (tree_seen loopless.now))) }
     ensures shaped { IfErr result HasShape }
 {
     match check_sizes(alloc, loopless) {
-        Ok(()) => Ok(()),
+        Ok(leaves) => Ok(leaves),
         Err(fault) => Err(refusal(RefusalNumber::Limit, fault)),
     }
 }

@@ -26,8 +26,8 @@ pub fn check_types(alloc: Global, tree: Tree) -> Result<Typed, Refusal>
     let counted = counts(tree)?;
     let named = names(alloc, counted)?;
     let loopless = check_recursion(alloc, named)?;
-    sizes(alloc, &loopless)?;
+    let leaves = sizes(alloc, &loopless)?;
     let program = types(alloc, &loopless)?;
     parts(&program)?;
-    Ok(Typed::new(program))
+    Ok(Typed::new(program, loopless.into_nodes(), leaves))
 }

@@ -4,3 +4,4 @@ pub mod Calls
 pub mod KindsGiven
 pub mod Numbering
 pub mod Fields
+pub mod OneTable

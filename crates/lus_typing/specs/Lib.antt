@@ -2,4 +2,5 @@ pub mod Kinds
 pub mod Resolved
 pub mod Given
 pub mod Sound
+pub mod Leaves
 pub mod Refusals

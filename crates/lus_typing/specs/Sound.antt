@@ -2,13 +2,14 @@
 -- are no more nodes, nor is a node or type larger, than a source may declare. Passes after types rely on this, and on nothing of the tree.
 use Rattle.std.specs.Prelude.{◌<◌, ◌≤◌, ℕ, List, [], ◌∷◌, map, flat_map, length}
 use Rattle.lus_values.specs.Lists.{Each}
-use Rattle.lus_graph.specs.Ways.{Uses, HasNoWayBack}
+use Rattle.lus_graph.specs.Ways.{Uses, HasNoWayBack, IsOrder}
 use Rattle.lus_syntax.specs.Limits.{most_declarations, most_variables, most_constructors}
 use Rattle.lus_program.specs.declared.types.Kind.{Kind}
 use Rattle.lus_program.specs.declared.types.Kind.TheVariants as kinds
 use Rattle.lus_program.specs.Programs.{Declared, alias, enumeration, structure, Program}
 use Rattle.lus_typing.specs.Kinds.{constructors_in}
-use Rattle.lus_typing.specs.Resolved.{Resolved}
+use Rattle.lus_typing.specs.Resolved.{Resolved, program_uses}
+use Rattle.lus_typing.specs.Leaves.{AreTheLeaves}
 
 -- the structure that a type is, if it is one
 abbrev pub structures_in : Kind → List ℕ
@@ -43,3 +44,9 @@ pub record IsSound (p : Program) : Type 0 where
   pub loopless : HasNoWayBack (type_uses p)
   pub fields : HaveFields p
   pub limited : IsLimited p
+
+-- what was found of a sound program: an order in which the nodes that one calls stand before it, and the leaves of its types
+pub record AreFound (p : Program) (nodes leaves : List ℕ) : Type 0 where
+  pub sound : IsSound p
+  pub order : IsOrder (program_uses p) nodes
+  pub leaves_are : AreTheLeaves p leaves

@@ -1,17 +1,21 @@
 //! Typed programs.
 
 ghost use Rattle.std.specs.Prelude.{◌≡◌};
-ghost use Rattle.lus_graph.specs.Ways.{HasNoWayBack};
+ghost use Rattle.lus_graph.specs.Ways.{HasNoWayBack, IsOrder};
 ghost use Rattle.lus_program.specs.View.{program_seen};
-ghost use Rattle.lus_typing.specs.Resolved.{Resolved};
-ghost use Rattle.lus_typing.specs.Sound.{HaveFields, IsLimited, IsSound, type_uses};
+ghost use Rattle.lus_typing.specs.Leaves.{AreTheLeaves};
+ghost use Rattle.lus_typing.specs.Resolved.{Resolved, program_uses};
+ghost use Rattle.lus_typing.specs.Sound.{AreFound, HaveFields, IsLimited, type_uses};
 
 use lus_program::Program;
 use std::marker::Model;
 
-/// A program that keeps the rules of names, recursion, limits and types. Contracts see it as that program.
+/// A program that keeps the rules of names, recursion, limits and types, with what was found of it on the way. Contracts see
+/// it as that program.
 pub struct Typed {
     program: Program,
+    nodes: Vec<usize>,
+    leaves: Vec<u32>,
 }
 
 impl Model for Typed {
@@ -19,7 +23,7 @@ impl Model for Typed {
     ghost use Rattle.lus_program.specs.contracts.expr.Expr as program_expr;
     ghost use Rattle.lus_program.specs.declared.node.Program.{Program as StoredProgram};
     ghost use Rattle.lus_program.specs.View.{program_seen};
-    ghost use Rattle.lus_typing.specs.Sound.{IsSound};
+    ghost use Rattle.lus_typing.specs.Sound.{AreFound};
 
     ghost Value = { StoredProgram };
 
@@ -27,16 +31,20 @@ impl Model for Typed {
 
     ghost view = { λ t. t.program };
 
-    ghost invariant = { λ t. IsSound (program_seen t.program) };
+    ghost invariant = { λ t. AreFound (program_seen t.program) t.nodes.items t.leaves.items };
 }
 
 impl Typed {
-    /// A program that keeps the rules.
-    pub fn new(program: Program) -> Typed
-        requires { IsSound (program_seen program) }
+    /// A program that keeps the rules, its nodes each behind those that it calls, and the leaves of its types.
+    pub fn new(program: Program, nodes: Vec<usize>, leaves: Vec<u32>) -> Typed
+        requires { AreFound (program_seen program) nodes.items leaves.items }
         ensures { result ≡ program }
     {
-        Typed { program }
+        Typed {
+            program,
+            nodes,
+            leaves,
+        }
     }
 
     /// The program.
@@ -49,11 +57,29 @@ impl Typed {
     {
         &self.program
     }
+
+    /// The places of its nodes, each behind those of the nodes that it calls.
+    pub fn nodes(&self) -> &[usize]
+        ensures { IsOrder (program_uses (program_seen self.now)) result.now }
+    {
+        &self.nodes
+    }
+
+    /// The leaves of its declared types, one by one.
+    pub fn leaves(&self) -> &[u32]
+        ensures { AreTheLeaves (program_seen self.now) result.now }
+    {
+        &self.leaves
+    }
 }
 
 // By hand, so that crates above call it: what a derive drops is proved again in each of them.
 impl Drop for Typed {
     fn drop(self) {
-        let Typed { program: _ } = self;
+        let Typed {
+            program: _,
+            nodes: _,
+            leaves: _,
+        } = self;
     }
 }

@@ -1,8 +1,6 @@
-use Rattle.std.proofs.Common.{arith, rules, ◌≡◌, ◌≤◌, ◌∙◌, sym, ap, ◌<◌, length, get_or, length-set}
+use Rattle.std.proofs.Common.{arith, rules, ◌≤◌, ◌∙◌, ◌<◌, length, get_or, length-set}
 use Rattle.std.proofs.lemmas.List.{length-map}
-use Rattle.lus_syntax.specs.declared.tree.TypeDeclaration.{TypeDeclaration}
-use Rattle.lus_syntax.specs.View.{definition_seen, tree_seen, type_seen}
-use Rattle.lus_meaning.specs.Tables.{definition_at}
+use Rattle.lus_syntax.specs.View.{tree_seen, type_seen}
 use Rattle.lus_limits.proofs.TypeTables.{type_fits, kind_more, kinds_whole, definition_here}
 use Rattle.lus_limits.proofs.declared_kinds.kinds_of_types.Goals as goal
 
@@ -31,8 +29,7 @@ loop-place-preserved c =
     let i = c.loop-place.place-index in
     let x = get_or c.types-order.result.now i 0 in
     let fits : x < length t.types.items = type_fits t c.types-order.result.now c.types-order.ensures i c.loop-place-test.true in
-    let here : definition_at (tree_seen t) x ≡ definition_seen c.index.result.now.definition =
-    definition_here t x c.index.result.now fits ∙ ap (λ (d : TypeDeclaration). definition_seen d.definition) (sym (rw c.tree-tree.ensures.same at c.index.ensures)) in
+    let here = definition_here t x c.index.result.now fits (rw c.tree-tree.ensures.same at c.index.ensures) in
     let is = rw c.deref.ensures.value at c.kind_of.ensures in
     record {
       size = length-set c.loop-place.kinds.items x c.kind_of.result ∙ c.loop-place.invariant.size;

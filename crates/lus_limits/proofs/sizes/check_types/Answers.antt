@@ -1,11 +1,10 @@
-use Rattle.std.proofs.Common.{rules, ◌≡◌, ◌∙◌, sym, ap, refl, ◌<◌, ◌≤◌, length, get_or, length-set}
+use Rattle.std.proofs.Common.{rules, ◌∙◌, sym, refl, ◌<◌, ◌≤◌, length, get_or, length-set}
 use Rattle.std.proofs.lemmas.List.Elements.{All-set}
-use Rattle.lus_syntax.specs.declared.tree.TypeDeclaration.{TypeDeclaration}
 use Rattle.lus_syntax.specs.View.{definition_seen, tree_seen}
-use Rattle.lus_meaning.specs.Tables.{definition_at}
 use Rattle.lus_values.specs.Lists.{item}
 use Rattle.lus_meaning.specs.Sized.{definition_leaves, definition_nesting}
-use Rattle.lus_limits.proofs.TypeTables.{type_fits, leaves_more, leaves_past, leaves_whole, nesting_more, nesting_past, nesting_whole, definition_here}
+use Rattle.lus_limits.proofs.LeavesMeant.{leaves_meant}
+use Rattle.lus_limits.proofs.TypeTables.{type_fits, types_length, leaves_more, leaves_past, leaves_right, leaves_whole, nesting_more, nesting_past, nesting_whole, definition_here}
 use Rattle.lus_limits.proofs.sizes.check_types.Goals as goal
 
 pub index-declaration-requires : goal.index-declaration-requires
@@ -40,8 +39,7 @@ loop-place-preserved c =
     let is = c.loop-place.invariant in
     let d = c.index-declaration.result.now.definition in
     let fits : x < length t.types.items = type_fits t c.types-order.result.now o i lt in
-    let here : definition_at (tree_seen t) x ≡ definition_seen d =
-    definition_here t x c.index-declaration.result.now fits ∙ ap (λ (d : TypeDeclaration). definition_seen d.definition) (sym (rw c.tree-tree.ensures.same at c.index-declaration.ensures)) in
+    let here = definition_here t x c.index-declaration.result.now fits (rw c.tree-tree.ensures.same at c.index-declaration.ensures) in
     let counted = rw c.deref.ensures.value at c.in-Some.ensures in
     let deep = rw c.deref-in-loop-place.ensures.value at c.in-Some-nesting_of.ensures in
     record {
@@ -61,8 +59,7 @@ returns-in_default-clause-err c bounded =
     let names = c.type_names-types.result.now in
     let d = c.index-declaration.result.now.definition in
     let fits : x < length t.types.items = type_fits t c.types-order.result.now c.types-order.ensures i c.loop-place-test.true in
-    let here : definition_at (tree_seen t) x ≡ definition_seen d =
-    definition_here t x c.index-declaration.result.now fits ∙ ap (λ (d : TypeDeclaration). definition_seen d.definition) (sym (rw c.tree-tree.ensures.same at c.index-declaration.ensures)) in
+    let here = definition_here t x c.index-declaration.result.now fits (rw c.tree-tree.ensures.same at c.index-declaration.ensures) in
     let past = rw c.deref.ensures.value at c.in_default.ensures in
     leaves_past t c.types-order.result.now c.types-order.ensures i names c.loop-place.leaves.items (definition_leaves names (item 1 c.loop-place.leaves.items) (definition_seen d)) d c.loop-place-test.true c.type_names-types.ensures here c.loop-place.invariant.leaves_filled refl past bounded.leaves
 
@@ -74,8 +71,7 @@ returns-in_default-nesting_of-clause-err c bounded =
     let names = c.type_names-types.result.now in
     let d = c.index-declaration.result.now.definition in
     let fits : x < length t.types.items = type_fits t c.types-order.result.now c.types-order.ensures i c.loop-place-test.true in
-    let here : definition_at (tree_seen t) x ≡ definition_seen d =
-    definition_here t x c.index-declaration.result.now fits ∙ ap (λ (d : TypeDeclaration). definition_seen d.definition) (sym (rw c.tree-tree.ensures.same at c.index-declaration.ensures)) in
+    let here = definition_here t x c.index-declaration.result.now fits (rw c.tree-tree.ensures.same at c.index-declaration.ensures) in
     let past = rw c.deref-in-loop-place.ensures.value at c.in_default-nesting_of.ensures in
     nesting_past t c.types-order.result.now c.types-order.ensures i names c.loop-place.nesting.items (definition_nesting names (item 0 c.loop-place.nesting.items) (definition_seen d)) d c.loop-place-test.true c.type_names-types.ensures here c.loop-place.invariant.nesting_filled refl past bounded.nesting
 
@@ -90,3 +86,11 @@ returns-clause-ok c =
       leaves = leaves_whole t c.types-order.result.now o i c.loop-place.leaves.items end is.leaves_size is.leaves_filled is.leaves_small;
       nesting = nesting_whole t c.types-order.result.now o i c.loop-place.nesting.items end is.nesting_size is.nesting_filled is.nesting_small;
     }
+
+pub returns-clause-leaves : goal.returns-clause-leaves
+returns-clause-leaves c =
+    let t = c.args.loopless.now in
+    let is = c.loop-place.invariant in
+    leaves_meant (tree_seen t) c.types-order.result.now c.types-order.ensures c.loop-place.leaves.items (is.leaves_size ∙ sym (types_length t))
+    (leaves_right t c.types-order.result.now c.types-order.ensures c.loop-place.place-index c.loop-place.leaves.items c.loop-place-test.false is.leaves_filled)
+    (rw (← c.tree-tree.ensures.same) c.tree-tree.ensures.counted)

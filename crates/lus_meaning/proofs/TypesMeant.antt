@@ -1,10 +1,12 @@
--- The types of a program lead where the declarations of its tree lead, so nowhere back.
-use Rattle.std.proofs.Common.{arith, ◌≡◌, sym, ap, refl, subst, ℕ, zero, suc, ◌⊎◌, inl, inr, List, [], ◌∷◌, Option, Some, None, map, flat_map, Contains, ⊎_elim}
+-- The types of a program lead where the declarations of its tree lead, so nowhere back, and an order of these is one of those.
+use Rattle.std.proofs.Common.{arith, ◌≡◌, ◌∙◌, sym, ap, refl, subst, ℕ, zero, suc, ◌⊎◌, inl, inr, List, [], ◌∷◌, Option, Some, None, map, flat_map, Contains, ⊎_elim}
 use Rattle.std.specs.Option.{option_to_list}
 use Rattle.std.proofs.lemmas.Grind.{flat_map-append}
+use Rattle.std.proofs.lemmas.List.{length-map}
 use Rattle.std.proofs.lemmas.List.Elements.{Contains-append_cases, Contains-append_left, Contains-append_right}
 use Rattle.lus_values.specs.Lists.{item}
-use Rattle.lus_graph.specs.Ways.{Uses, used, Leads, step, then, HasNoWayBack}
+use Rattle.lus_graph.specs.Ways.{used, Leads, step, then, HasNoWayBack, IsOrder}
+use Rattle.lus_graph.proofs.NoWayBack.{led_nowhere_back, led_order}
 use Rattle.lus_graph.proofs.Steps.{no_item, one_item}
 use Rattle.lus_syntax.specs.Trees.{Named, TypeName, DeclaredName, Fields, Definition, Alias, Enumeration, StructureOf, TypeDeclaration, Tree}
 use Rattle.lus_program.specs.declared.types.Kind.{Kind}
@@ -15,16 +17,6 @@ use Rattle.lus_graph.specs.Along.{within}
 use Rattle.lus_meaning.specs.Tables.{of_type, definition_at, no_definition, definition_kind, kind_named, fields_declared, declared_as}
 use Rattle.lus_meaning.specs.Meaning.{program_of}
 use Rattle.lus_typing.specs.Sound.{structures_in, declared_uses, type_uses}
-
--- ways
-
-on_way : {uses : Uses} {x y z : ℕ} → Leads uses x y → Leads uses y z → Leads uses x z
-on_way (step c) rest = then c rest
-on_way (then c way) rest = then c (on_way way rest)
-
-ways_included : (a b : Uses) → ((x y : ℕ) → Contains (used a x) y → Leads b x y) → {x z : ℕ} → Leads a x z → Leads b x z
-ways_included a b h (step {x} {y} c) = h x y c
-ways_included a b h (then {x} {y} {z} c way) = on_way (h x y c) (ways_included a b h way)
 
 -- structures
 
@@ -72,8 +64,11 @@ module _ (p : Tree) where
   definition_reaches n s u reaches (Enumeration cs) uses is = cc
   definition_reaches n s u reaches (StructureOf fs) uses is = inl (cc)
 
+  pub used_is : (t : ℕ) → used (tree_uses p) t ≡ definition_uses (type_names p) (definition_at p t)
+  used_is t = named_uses p.types t
+
   own_uses : (t v : ℕ) → Contains (definition_uses (type_names p) (definition_at p t)) v → Contains (used (tree_uses p) t) v
-  own_uses t v among = subst (λ us. Contains us v) (sym (named_uses p.types t)) among
+  own_uses t v among = subst (λ us. Contains us v) (sym (used_is t)) among
 
   reaches_all : (n : ℕ) → Reaches n
   reaches_all zero s u is = cc
@@ -96,5 +91,12 @@ module _ (p : Tree) where
   declared_leads t u (Enumeration cs) uses among = elim (no_item among.0 among.1) [ ]
   declared_leads t u (StructureOf fs) uses among = fields_lead t u fs uses among
 
+  types_lead : (t u : ℕ) → Contains (used (type_uses (program_of p)) t) u → Leads (tree_uses p) t u
+  types_lead t u among = declared_leads t u (definition_at p t) (own_uses t) (subst (λ us. Contains us u) (meant_uses p.types t) among)
+
   pub types_loopless : HasNoWayBack (tree_uses p) → HasNoWayBack (type_uses (program_of p))
-  types_loopless ends x way = ends x (ways_included (type_uses (program_of p)) (tree_uses p) (λ t u among. declared_leads t u (definition_at p t) (own_uses t) (subst (λ us. Contains us u) (meant_uses p.types t) among)) way)
+  types_loopless = led_nowhere_back (tree_uses p) (type_uses (program_of p)) types_lead
+
+  pub types_order : (order : List ℕ) → IsOrder (tree_uses p) order → IsOrder (type_uses (program_of p)) order
+  types_order = led_order (tree_uses p) (type_uses (program_of p)) types_lead
+      (length-map (map (λ d. declared_as p d.definition) p.types) declared_uses ∙ length-map p.types (λ d. declared_as p d.definition) ∙ sym (length-map p.types (λ d. definition_uses (type_names p) d.definition)))

@@ -1,4 +1,4 @@
--- Each structure of the program that a well-formed tree means has a field.
+-- Each structure of the program that a counted tree means has a field.
 use Rattle.std.proofs.Common.{◌≡◌, List, [], ◌∷◌, length, length-append, map, refl, arith}
 use Rattle.std.proofs.lemmas.List.{length-map}
 use Rattle.std.proofs.lemmas.List.Sums.{sum_by-cons}
@@ -6,8 +6,7 @@ use Rattle.lus_values.specs.Lists.{Each}
 use Rattle.lus_syntax.specs.Trees.{Named, Fields, Definition, StructureOf, TypeDeclaration, Tree}
 use Rattle.lus_program.specs.Programs.{Field}
 use Rattle.lus_meaning.specs.Meaning.{program_of}
-use Rattle.lus_meaning.specs.Refusals.{WellFormed}
-use Rattle.lus_meaning.specs.Sized.{DefinitionCounted, field_count}
+use Rattle.lus_meaning.specs.Sized.{Counted, DefinitionCounted, field_count}
 use Rattle.lus_typing.specs.Sound.{HasFields, HaveFields}
 use Rattle.lus_meaning.specs.Tables.{declared_as, fields_declared, kind_named}
 
@@ -30,5 +29,5 @@ module _ (p : Tree) where
   all_full [] h = tt
   all_full (d ∷ ds) h = (declared_full d.definition h.0, all_full ds h.1)
 
-pub meant_fields : (t : Tree) → WellFormed t → HaveFields (program_of t)
-meant_fields t formed = all_full t t.types formed.counted.definitions
+pub meant_fields : (t : Tree) → Counted t → HaveFields (program_of t)
+meant_fields t counted = all_full t t.types counted.definitions
