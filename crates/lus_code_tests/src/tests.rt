@@ -84,6 +84,9 @@ fn called_nodes_may_stand_behind_their_callers(rt: HostRuntime) -> Result<(), Fa
         }
     );
     assert_eq!(rt; caller.steps.len(), 2);
+    // the called node's code stands in place of its call
+    let whole = caller.whole.as_ref().ok_or("no whole")?;
+    assert_eq!(rt; whole.cells.len(), 1);
     Ok(())
 }
 
