@@ -3,7 +3,7 @@ use Rattle.std.proofs.lemmas.List.{map-set, length-map, get_or-map}
 use Rattle.lus_following.specs.Followed.{cell_of}
 use Rattle.lus_following.proofs.TakenOver.{next_same}
 use Rattle.lus_running.proofs.Cells.{cell_same}
-use Rattle.lus_running.proofs.running.rest_cells.Goals as goal
+use Rattle.lus_running.proofs.keeping.rest_cells.Goals as goal
 
 pub loop-place-preserved : goal.loop-place-preserved
 loop-place-preserved g c =
