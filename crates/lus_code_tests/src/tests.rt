@@ -2,7 +2,7 @@
 
 use lus_clocks::{check_clocks, check_nil};
 use lus_code::{Code, translate};
-use lus_flat_classes::{Class, Extent, Part};
+use lus_flat_classes::{Call, Class, Extent, Part};
 use lus_grammar::parse;
 use lus_normal::normalise;
 use lus_order::order;
@@ -24,101 +24,100 @@ fn code_of(alloc: Global, text: &str) -> Result<Code, Refusal> {
     translate(alloc, normal)
 }
 
-const COUNTER: &str = "node t() returns (n: int); let n = 0 -> pre n + 1; tel";
+/// A counter, and a node that calls it twice.
+const TWICE: &str =
+    "node t() returns (n: int); let n = 0 -> pre n + 1; tel node o() returns (x, y: int); let x = t(); y = t(); tel";
+
+/// A node that calls a counter, which stands behind it.
+const BEFORE: &str =
+    "node o() returns (x: int); let x = t() + 1; tel node t() returns (n: int); let n = 0 -> pre n + 1; tel";
+
+/// A counter, and a node that computes before and after it calls it.
+const AROUND: &str =
+    "node t() returns (n: int); let n = 0 -> pre n + 1; tel node o(x: int) returns (y: int); var a: int; let a = x + 1; y = a + t() * 2; tel";
+
+/// Whether there are so many cells, first-flags and variables.
+fn is(extent: Extent, cells: u32, firsts: u32, variables: u32) -> bool {
+    extent.cells == cells && extent.firsts == firsts && extent.variables == variables
+}
+
+/// Whether the part of the second call stands behind that of the first.
+fn are_apart(calls: &[Call]) -> bool {
+    match calls {
+        [first, second] => {
+            is(first.offset, 0, 0, 0) && is(first.extent, 1, 1, 1) && is(second.offset, 1, 1, 0)
+        }
+        _ => false,
+    }
+}
+
+fn has_parts_apart(code: &Code) -> bool {
+    match code.classes() {
+        [_, caller] => is(caller.extent, 2, 2, 3) && are_apart(&caller.calls),
+        _ => false,
+    }
+}
+
+fn has_state_cells(code: &Code) -> bool {
+    code.nodes() == 2 && code.cells(NodeId(0)) == 2 && code.cells(NodeId(1)) == 4
+}
 
 #[test]
 fn parts_of_calls_stand_behind_each_other(rt: HostRuntime) -> Result<(), Fail> {
-    let text = format!(in rt.alloc();
-        "{COUNTER} node o() returns (x, y: int); let x = t(); y = t(); tel"
-    )?;
-    let code = code_of(rt.alloc(), &text).ok().ok_or("refused")?;
-    let caller = code.classes().get(1).ok_or("no class")?;
-    assert_eq!(rt;
-        caller.extent,
-        Extent {
-            cells: 2,
-            firsts: 2,
-            variables: 3
-        }
-    );
-    let first = caller.calls.get(0).ok_or("no call")?;
-    assert_eq!(rt;
-        first.offset,
-        Extent {
-            cells: 0,
-            firsts: 0,
-            variables: 0
-        }
-    );
-    assert_eq!(rt;
-        first.extent,
-        Extent {
-            cells: 1,
-            firsts: 1,
-            variables: 1
-        }
-    );
-    let second = caller.calls.get(1).ok_or("no second call")?;
-    assert_eq!(rt;
-        second.offset,
-        Extent {
-            cells: 1,
-            firsts: 1,
-            variables: 0
-        }
-    );
+    let Ok(code) = code_of(rt.alloc(), TWICE) else {
+        panic!(rt; "refused")
+    };
+    assert!(rt; has_parts_apart(&code));
+    assert!(rt; has_state_cells(&code));
     Ok(())
+}
+
+/// Whether one state cell is kept by code in place of a class's parts.
+fn is_whole(class: &Class) -> bool {
+    match &class.whole {
+        Some(whole) => whole.cells.len() == 1,
+        None => false,
+    }
+}
+
+fn has_caller_first(code: &Code) -> bool {
+    match code.classes() {
+        [caller, _] => is(caller.extent, 1, 1, 3) && caller.steps.len() == 2 && is_whole(caller),
+        _ => false,
+    }
 }
 
 #[test]
 fn called_nodes_may_stand_behind_their_callers(rt: HostRuntime) -> Result<(), Fail> {
-    let text = format!(in rt.alloc(); "node o() returns (x: int); let x = t() + 1; tel {COUNTER}")?;
-    let code = code_of(rt.alloc(), &text).ok().ok_or("refused")?;
-    let caller = code.classes().get(0).ok_or("no class")?;
-    assert_eq!(rt;
-        caller.extent,
-        Extent {
-            cells: 1,
-            firsts: 1,
-            variables: 3
+    let Ok(code) = code_of(rt.alloc(), BEFORE) else {
+        panic!(rt; "refused")
+    };
+    assert!(rt; has_caller_first(&code));
+    Ok(())
+}
+
+/// Whether there are so many parts, at least and at most, and the last is made by instructions.
+fn ends_in_code(parts: &[Part], least: usize, most: usize) -> bool {
+    match parts {
+        [.., Part::Code(_, _)] => parts.len() >= least && parts.len() <= most,
+        _ => false,
+    }
+}
+
+fn has_few_parts(code: &Code) -> bool {
+    match code.classes() {
+        [counter, caller] => {
+            ends_in_code(&counter.parts, 1, 1) && ends_in_code(&caller.parts, 2, 3)
         }
-    );
-    assert_eq!(rt; caller.steps.len(), 2);
-    // the called node's code stands in place of its call
-    let whole = caller.whole.as_ref().ok_or("no whole")?;
-    assert_eq!(rt; whole.cells.len(), 1);
-    Ok(())
-}
-
-#[test]
-fn state_cells_are_counted(rt: HostRuntime) -> Result<(), Fail> {
-    let text = format!(in rt.alloc();
-        "{COUNTER} node o() returns (x, y: int); let x = t(); y = t(); tel"
-    )?;
-    let code = code_of(rt.alloc(), &text).ok().ok_or("refused")?;
-    assert_eq!(rt; code.nodes(), 2);
-    assert_eq!(rt; code.cells(NodeId(0)), 2);
-    assert_eq!(rt; code.cells(NodeId(1)), 4);
-    Ok(())
-}
-
-/// Whether the part at a place is made by instructions.
-fn is_code(class: &Class, place: usize) -> bool {
-    matches!(class.parts.get(place), Some(Part::Code(_, _)))
+        _ => false,
+    }
 }
 
 #[test]
 fn neighbours_are_made_by_one_part(rt: HostRuntime) -> Result<(), Fail> {
-    let text = format!(in rt.alloc();
-        "{COUNTER} node o(x: int) returns (y: int); var a: int; let a = x + 1; y = a + t() * 2; tel"
-    )?;
-    let code = code_of(rt.alloc(), &text).ok().ok_or("refused")?;
-    let counter = code.classes().get(0).ok_or("no class")?;
-    assert_eq!(rt; counter.parts.len(), 1);
-    assert!(rt; is_code(counter, 0));
-    let caller = code.classes().get(1).ok_or("no class")?;
-    let count = caller.parts.len();
-    assert!(rt; count == 2 || count == 3);
-    assert!(rt; is_code(caller, count - 1));
+    let Ok(code) = code_of(rt.alloc(), AROUND) else {
+        panic!(rt; "refused")
+    };
+    assert!(rt; has_few_parts(&code));
     Ok(())
 }

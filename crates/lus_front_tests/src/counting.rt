@@ -9,7 +9,7 @@ use lus_normal::Normal;
 use lus_program::NodeId;
 
 /// How many memories and how many marks of a first instant stand in a node.
-#[derive(Clone, Copy, PartialEq, Eq, Debug)]
+#[derive(Clone, Copy)]
 pub struct Counts {
     pub memories: u32,
     pub firsts: u32,

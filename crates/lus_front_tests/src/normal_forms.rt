@@ -4,7 +4,7 @@ use crate::{Counts, check_flags, check_on_clocks, counts_of, order_variables};
 use lus_clocks::{check_clocks, check_nil};
 use lus_grammar::parse;
 use lus_normal::{Normal, normalise};
-use lus_program::{Expr, Form, Node, NodeId};
+use lus_program::{Equation, Expr, Form, Node, NodeId, Program, Variable};
 use lus_syntax::{Refusal, lex};
 use lus_types::check_types;
 use lus_values::{Op, Operator, Value};
@@ -23,41 +23,74 @@ fn normal_of(alloc: Global, text: &str) -> Result<Normal, Refusal> {
     normalise(alloc, order_variables(alloc, initialised)?)
 }
 
+/// A node of a text, and how many memories and marks stand in it.
+struct Case {
+    text: &'static str,
+    node: u32,
+    memories: u32,
+    firsts: u32,
+}
+
 const COUNTER: &str = "node t() returns (n: int); let n = 0 -> pre n + 1; tel";
+
+/// A counter, and a node that calls it.
+const CALLED: &str =
+    "node t() returns (n: int); let n = 0 -> pre n + 1; tel node o(c: bool) returns (y: int when c); let y = t(); tel";
+
+static CASES: [Case; 6] = [
+    Case {
+        text: COUNTER,
+        node: 0,
+        memories: 1,
+        firsts: 1,
+    },
+    Case {
+        text: CALLED,
+        node: 0,
+        memories: 1,
+        firsts: 1,
+    },
+    Case {
+        text: CALLED,
+        node: 1,
+        memories: 0,
+        firsts: 0,
+    },
+    Case {
+        text: "node s(x: int) returns (y: int); let y = x + (0 -> pre y); tel",
+        node: 0,
+        memories: 1,
+        firsts: 1,
+    },
+    Case {
+        text: "node f(x: int) returns (y: int); let y = (-1) fby x; tel",
+        node: 0,
+        memories: 1,
+        firsts: 1,
+    },
+    Case {
+        text: "node m(x: int) returns (y: int); let y = 0 -> pre (1 -> pre (2 fby x)); tel",
+        node: 0,
+        memories: 3,
+        firsts: 3,
+    },
+];
+
+fn are_counted(normal: &Normal, case: &Case) -> bool {
+    if case.node as usize >= normal.nodes() {
+        return false;
+    }
+    let counts = counts_of(normal, NodeId(case.node));
+    counts.memories == case.memories && counts.firsts == case.firsts
+}
 
 #[test]
 fn memories_and_marks_are_counted(rt: HostRuntime) -> Result<(), Fail> {
-    let called = format!(in rt.alloc();
-        "{COUNTER} node o(c: bool) returns (y: int when c); let y = t(); tel"
-    )?;
-    let rows = [
-        (COUNTER, 0, 1, 1),
-        (called.as_str(), 0, 1, 1),
-        (called.as_str(), 1, 0, 0),
-        (
-            "node s(x: int) returns (y: int); let y = x + (0 -> pre y); tel",
-            0,
-            1,
-            1,
-        ),
-        (
-            "node f(x: int) returns (y: int); let y = (-1) fby x; tel",
-            0,
-            1,
-            1,
-        ),
-        (
-            "node m(x: int) returns (y: int); let y = 0 -> pre (1 -> pre (2 fby x)); tel",
-            0,
-            3,
-            3,
-        ),
-    ];
-    for (text, place, memories, firsts) in rows {
-        let normal = normal_of(rt.alloc(), text).ok().ok_or("refused")?;
-        assert!(rt; (place as usize) < normal.nodes(), "{text}");
-        let counts = counts_of(&normal, NodeId(place));
-        assert_eq!(rt; counts, Counts { memories, firsts }, "{text}");
+    for (place, case) in CASES.iter().enumerate() {
+        let Ok(normal) = normal_of(rt.alloc(), case.text) else {
+            panic!(rt; "case {place} is refused")
+        };
+        assert!(rt; are_counted(&normal, case), "case {place}");
     }
     Ok(())
 }
@@ -76,20 +109,6 @@ fn sampled(node: &Node) -> Option<(u32, &Expr)> {
     } else {
         None
     }
-}
-
-#[test]
-fn an_operand_of_when_is_taken_out_on_the_base_clock(rt: HostRuntime) -> Result<(), Fail> {
-    let text = "node w(x: int; c: bool) returns (y: int when c); let y = (10 div x) when c; tel";
-    let normal = normal_of(rt.alloc(), text).ok().ok_or("refused")?;
-    let node = normal.program().nodes.get(0).ok_or("no node")?;
-    let (variable, right) = sampled(node).ok_or("not taken out")?;
-    assert_eq!(rt; variable, 3);
-    assert_eq!(rt; node.variables.len(), 4);
-    let declared = node.variables.get(3).ok_or("not declared")?;
-    assert!(rt; declared.test.is_none());
-    assert!(rt; is_ten_by(right, 0));
-    Ok(())
 }
 
 /// The expression is 10 divided by a variable.
@@ -112,24 +131,66 @@ fn is_ten_by(expr: &Expr, divisor: u32) -> bool {
     }
 }
 
+/// Whether 10 divided by the first input is taken out of the only node to a variable of its own, on the base clock.
+fn is_taken_out(program: &Program) -> bool {
+    let [node] = program.nodes.as_slice() else {
+        return false;
+    };
+    match (sampled(node), node.variables.as_slice()) {
+        (Some((variable, right)), [_, _, _, added]) => {
+            variable == 3 && added.test.is_none() && is_ten_by(right, 0)
+        }
+        _ => false,
+    }
+}
+
+#[test]
+fn an_operand_of_when_is_taken_out_on_the_base_clock(rt: HostRuntime) -> Result<(), Fail> {
+    let text = "node w(x: int; c: bool) returns (y: int when c); let y = (10 div x) when c; tel";
+    let Ok(normal) = normal_of(rt.alloc(), text) else {
+        panic!(rt; "refused")
+    };
+    assert!(rt; is_taken_out(normal.program()));
+    Ok(())
+}
+
+/// Whether each equation has one target, and these are they.
+fn have_targets(equations: &[Equation], wanted: &[u32]) -> bool {
+    for (equation, target) in equations.iter().zip(wanted) {
+        if equation.targets.as_slice() != [*target].as_slice() {
+            return false;
+        }
+    }
+    equations.len() == wanted.len()
+}
+
+/// Whether these variables, and no others, are on the base clock.
+fn are_on_base(variables: &[Variable], wanted: &[bool]) -> bool {
+    for (variable, is_wanted) in variables.iter().zip(wanted) {
+        if variable.test.is_none() != *is_wanted {
+            return false;
+        }
+    }
+    variables.len() == wanted.len()
+}
+
+fn are_outermost_first(program: &Program) -> bool {
+    match program.nodes.as_slice() {
+        [_, node] => {
+            have_targets(&node.equations, &[2, 3, 4, 5])
+                && are_on_base(&node.variables, &[true, true, false, false, true, true])
+        }
+        _ => false,
+    }
+}
+
 #[test]
 fn operands_within_operands_are_taken_out_from_the_outermost(rt: HostRuntime) -> Result<(), Fail> {
     let text = "node f(x: int) returns (y: int); let y = x; tel
         node m(a: int; c: bool) returns (z: int when c); let z = f((0 -> pre f(a)) when c); tel";
-    let normal = normal_of(rt.alloc(), text).ok().ok_or("refused")?;
-    let node = normal.program().nodes.get(1).ok_or("no node")?;
-    let mut targets = Vec::new(rt.alloc());
-    for equation in &node.equations {
-        targets.extend_from_slice(&equation.targets)?;
-    }
-    assert_eq!(rt; targets.as_slice(), [2, 3, 4, 5].as_slice());
-    let mut on_base = Vec::new(rt.alloc());
-    for variable in &node.variables {
-        on_base.push(variable.test.is_none())?;
-    }
-    assert_eq!(rt;
-        on_base.as_slice(),
-        [true, true, false, false, true, true].as_slice()
-    );
+    let Ok(normal) = normal_of(rt.alloc(), text) else {
+        panic!(rt; "refused")
+    };
+    assert!(rt; are_outermost_first(normal.program()));
     Ok(())
 }

@@ -4,19 +4,6 @@ use lus_syntax::{Cycle, Refusal, RefusalNumber};
 use std::alloc::{AllocError, Global};
 use std::test::Fail;
 
-#[test]
-fn a_refusal_prints_its_number_and_place(rt: HostRuntime) -> Result<(), Fail> {
-    let alloc = rt.alloc();
-    let syntax = Refusal::new(RefusalNumber::Syntax, 2, 12);
-    assert_eq!(rt;
-        format!(in alloc; "{syntax}")?.as_str(),
-        "E2 line 2 column 12"
-    );
-    let memory = Refusal::memory();
-    assert_eq!(rt; format!(in alloc; "{memory}")?.as_str(), "E11");
-    Ok(())
-}
-
 fn a_and_b(alloc: Global) -> Result<Vec<String>, AllocError> {
     let mut names = Vec::new(alloc);
     names.push(String::from_str(alloc, "a")?)?;
@@ -24,15 +11,28 @@ fn a_and_b(alloc: Global) -> Result<Vec<String>, AllocError> {
     Ok(names)
 }
 
-#[test]
-fn a_refusal_prints_its_cycle(rt: HostRuntime) -> Result<(), Fail> {
-    let alloc = rt.alloc();
+/// The texts of a fault of the syntax, of one of memory, and of a cycle.
+fn written(alloc: Global) -> Result<String, AllocError> {
+    let syntax = Refusal::new(RefusalNumber::Syntax, 2, 12);
+    let memory = Refusal::memory();
     let cycle = Refusal::with_cycle(1, 50, a_and_b(alloc)?);
+    format!(in alloc; "{syntax}, {memory}, {cycle}")
+}
+
+/// Whether a cycle's names are kept, and none is without names.
+fn are_named(alloc: Global) -> Result<bool, AllocError> {
+    let cycle = Refusal::with_cycle(1, 50, a_and_b(alloc)?);
+    Ok(cycle.cycle.names().len() == 2 && Cycle::none().names().is_empty())
+}
+
+#[test]
+fn a_refusal_prints_its_number_place_and_cycle(rt: HostRuntime) -> Result<(), Fail> {
+    let alloc = rt.alloc();
+    let text = written(alloc)?;
     assert_eq!(rt;
-        format!(in alloc; "{cycle}")?.as_str(),
-        "E7 line 1 column 50 cycle a b"
+        text.as_str(),
+        "E2 line 2 column 12, E11, E7 line 1 column 50 cycle a b"
     );
-    assert_eq!(rt; cycle.cycle.names().len(), 2);
-    assert!(rt; Cycle::none().names().is_empty());
+    assert!(rt; are_named(alloc)?);
     Ok(())
 }

@@ -27,42 +27,53 @@ fn are_plain(tokens: &[Token], wanted: &[&str]) -> bool {
             .all(|(token, text)| is_plain(token, text))
 }
 
+/// Texts and their names and numbers.
+static CASES: [(&str, &[&str]); 8] = [
+    ("nodes Node _1", &["nodes", "Node", "_1"]),
+    ("pre_", &["pre_"]),
+    ("1a", &["1", "a"]),
+    ("007 9223372036854775807", &["7", "9223372036854775807"]),
+    ("a-->b\nc", &["a", "c"]),
+    ("a(* ( * /* **)b/*(* é */c", &["a", "b", "c"]),
+    ("\t\r\n\u{c} ", &[]),
+    ("", &[]),
+];
+
 #[test]
 fn the_longest_text_is_the_token(rt: HostRuntime) -> Result<(), Fail> {
-    for (text, wanted) in [
-        ("nodes Node _1", ["nodes", "Node", "_1"].as_slice()),
-        ("pre_", ["pre_"].as_slice()),
-        ("1a", ["1", "a"].as_slice()),
-        (
-            "007 9223372036854775807",
-            ["7", "9223372036854775807"].as_slice(),
-        ),
-        ("a-->b\nc", ["a", "c"].as_slice()),
-        ("a(* ( * /* **)b/*(* é */c", ["a", "b", "c"].as_slice()),
-        ("\t\r\n\u{c} ", [].as_slice()),
-        ("", [].as_slice()),
-    ] {
+    for (text, wanted) in &CASES {
         assert!(rt; are_plain(&lex(rt.alloc(), text)?, wanted), "at {text}");
     }
     Ok(())
 }
 
+/// Whether a symbol stands between the number 1 and this name or number.
+fn is_between(tokens: &[Token], symbol: Symbol, last: &str) -> bool {
+    match tokens {
+        [one, between, other] => {
+            is_plain(one, "1") && is_symbol(between, symbol) && is_plain(other, last)
+        }
+        _ => false,
+    }
+}
+
 #[test]
 fn symbols_stand_between_names_and_numbers(rt: HostRuntime) -> Result<(), Fail> {
-    for (text, symbol, last) in [("1.5", Symbol::Dot, "5"), ("1-x --", Symbol::Minus, "x")] {
-        let tokens = lex(rt.alloc(), text)?;
-        assert_eq!(rt; tokens.len(), 3, "at {text}");
-        assert!(rt; is_plain(&tokens[0], "1"), "at {text}");
-        assert!(rt; is_symbol(&tokens[1], symbol), "at {text}");
-        assert!(rt; is_plain(&tokens[2], last), "at {text}");
-    }
+    assert!(rt; is_between(&lex(rt.alloc(), "1.5")?, Symbol::Dot, "5"));
+    assert!(rt; is_between(&lex(rt.alloc(), "1-x --")?, Symbol::Minus, "x"));
     Ok(())
+}
+
+/// Whether the first of three tokens has this span.
+fn is_first_at(tokens: &[Token], start: Place, end: Place) -> bool {
+    match tokens {
+        [first, _, _] => first.span == Span { start, length: 2 } && first.span.end() == end,
+        _ => false,
+    }
 }
 
 #[test]
 fn a_span_is_the_slice_of_its_token(rt: HostRuntime) -> Result<(), Fail> {
-    let tokens = lex(rt.alloc(), "(* é\n *) ab <> c")?;
-    assert_eq!(rt; tokens.len(), 3);
     let start = Place {
         byte: 10,
         line: 2,
@@ -73,7 +84,6 @@ fn a_span_is_the_slice_of_its_token(rt: HostRuntime) -> Result<(), Fail> {
         line: 2,
         column: 7,
     };
-    assert!(rt; tokens[0].span == Span { start, length: 2 });
-    assert_eq!(rt; tokens[0].span.end(), end);
+    assert!(rt; is_first_at(&lex(rt.alloc(), "(* é\n *) ab <> c")?, start, end));
     Ok(())
 }

@@ -28,40 +28,34 @@ fn holed(alloc: Global) -> Result<Value, Memory> {
     Ok(Value::Struct(fields))
 }
 
-fn fits_equal(left: Value, right: Value) -> bool {
-    fits_op(Op::Equal, &[left, right])
+/// Whether a structure is equal to its like and to its copy, and not to another.
+fn are_told_apart(alloc: Global) -> Result<bool, Memory> {
+    let value = Box::new(alloc, coloured(alloc, 0)?)?;
+    let like = Box::new(alloc, coloured(alloc, 0)?)?;
+    let other = Box::new(alloc, coloured(alloc, 1)?)?;
+    let twin = copy(alloc, &value)?;
+    Ok(same(&value, &like) && same(&value, &twin) && !same(&value, &other))
+}
+
+/// Whether a structure and this value may be compared.
+fn fits_equal(alloc: Global, other: Box<Value>) -> Result<bool, Memory> {
+    let value = coloured(alloc, 0)?;
+    Ok(fits_op(Op::Equal, &[value, Box::into_inner(other)]))
 }
 
 #[test]
 fn structures_are_equal_field_by_field(rt: HostRuntime) -> Result<(), Fail> {
-    let value = Box::new(rt.alloc(), coloured(rt.alloc(), 0)?)?;
-    let other = Box::new(rt.alloc(), coloured(rt.alloc(), 1)?)?;
-    assert!(rt; same(&value, &coloured(rt.alloc(), 0)?));
-    assert!(rt; !same(&value, &other));
-    Ok(())
-}
-
-#[test]
-fn a_copy_is_equal(rt: HostRuntime) -> Result<(), Fail> {
-    let value = Box::new(rt.alloc(), coloured(rt.alloc(), 0)?)?;
-    let twin = copy(rt.alloc(), &value)?;
-    assert!(rt; same(&value, &twin));
+    assert!(rt; are_told_apart(rt.alloc())?);
     Ok(())
 }
 
 #[test]
 fn structures_without_holes_fit_an_equality(rt: HostRuntime) -> Result<(), Fail> {
-    let value = Box::new(rt.alloc(), coloured(rt.alloc(), 0)?)?;
-    let other = coloured(rt.alloc(), 1)?;
-    assert!(rt; fits_equal(Box::into_inner(value), other));
-    Ok(())
-}
-
-#[test]
-fn structures_with_holes_fit_no_equality(rt: HostRuntime) -> Result<(), Fail> {
-    let value = Box::new(rt.alloc(), coloured(rt.alloc(), 0)?)?;
-    let other = holed(rt.alloc())?;
-    assert!(rt; !fits_equal(Box::into_inner(value), other));
+    let alloc = rt.alloc();
+    let whole = Box::new(alloc, coloured(alloc, 1)?)?;
+    assert!(rt; fits_equal(alloc, whole)?);
+    let with_hole = Box::new(alloc, holed(alloc)?)?;
+    assert!(rt; !fits_equal(alloc, with_hole)?);
     Ok(())
 }
 
@@ -94,14 +88,6 @@ fn written(alloc: Global, names: &Names) -> Result<String, Memory> {
     Ok(text)
 }
 
-#[test]
-fn values_print_with_the_names_of_constructors(rt: HostRuntime) -> Result<(), Fail> {
-    let names = colours(rt.alloc())?;
-    let text = written(rt.alloc(), &names)?;
-    assert_eq!(rt; text.as_str(), "{{true; -9223372036854775808}; Green}nil?");
-    Ok(())
-}
-
 fn are_found(names: &Names) -> bool {
     names.name(1, 0) == Some("Red")
         && names.name(1, 2) == None
@@ -110,9 +96,11 @@ fn are_found(names: &Names) -> bool {
 }
 
 #[test]
-fn names_are_found_both_ways(rt: HostRuntime) -> Result<(), Fail> {
+fn names_are_found_and_printed(rt: HostRuntime) -> Result<(), Fail> {
     let names = colours(rt.alloc())?;
     assert!(rt; are_found(&names));
+    let text = written(rt.alloc(), &names)?;
+    assert_eq!(rt; text.as_str(), "{{true; -9223372036854775808}; Green}nil?");
     Ok(())
 }
 
@@ -124,10 +112,15 @@ fn half_a_row(alloc: Global) -> Result<Row, Memory> {
     Ok(Row::new(items))
 }
 
+/// Whether a copy of a row has its items.
+fn is_copied(alloc: Global) -> Result<bool, Memory> {
+    let row = half_a_row(alloc)?;
+    let twin = row.copy(alloc)?;
+    Ok(matches!(twin.items(), [Some(Value::Int(3)), None]))
+}
+
 #[test]
 fn rows_copy(rt: HostRuntime) -> Result<(), Fail> {
-    let row = half_a_row(rt.alloc())?;
-    let twin = row.copy(rt.alloc())?;
-    assert!(rt; matches!(twin.items(), [Some(Value::Int(3)), None]));
+    assert!(rt; is_copied(rt.alloc())?);
     Ok(())
 }

@@ -9,39 +9,53 @@ use std::alloc::Global;
 use std::mem::forget;
 use std::test::Fail;
 
-/// The text of a reply of a node with these outputs, in a program without types.
-fn told(alloc: Global, outputs: &[Variable], reply: &Reply) -> Result<String, Memory> {
+/// One output, which is called so.
+fn output(alloc: Global, name: &str) -> Result<Vec<Variable>, Memory> {
+    let mut outputs = Vec::new(alloc);
+    outputs.push(Variable {
+        name: String::from_str(alloc, name)?,
+        place: Place::START,
+        kind: Kind::Int,
+        test: None,
+    })?;
+    Ok(outputs)
+}
+
+/// Puts a reply of a node with this output, in a program without types, behind a text.
+fn tell(alloc: Global, text: &mut String, name: &str, reply: &Reply) -> Result<(), Memory> {
     let names = Names::new(alloc);
-    let mut text = String::new(alloc);
+    let outputs = output(alloc, name)?;
     let program = Program {
         types: Vec::new(alloc),
         nodes: Vec::new(alloc),
     };
-    let pushed = push_reply(&mut text, &program, &names, outputs, &Request::Reset, reply);
+    let pushed = push_reply(text, &program, &names, &outputs, &Request::Reset, reply);
     // It owns nothing, and to drop it would be proved anew here.
     forget(program);
-    pushed?;
+    pushed
+}
+
+/// The reply of one number.
+fn number(alloc: Global, number: i64) -> Result<Reply, Memory> {
+    let mut items = Vec::new(alloc);
+    items.push(Some(Value::Int(number)))?;
+    Ok(Reply::Outputs(Row::new(items)))
+}
+
+/// The texts of a number and of a refusal.
+fn told(alloc: Global) -> Result<String, Memory> {
+    let mut text = String::new(alloc);
+    tell(alloc, &mut text, "level", &number(alloc, -3)?)?;
+    tell(alloc, &mut text, "level", &Reply::Refused(Why::Shape))?;
     Ok(text)
 }
 
 #[test]
 fn an_output_is_told_by_its_name(rt: HostRuntime) -> Result<(), Fail> {
-    let alloc = rt.alloc();
-    let level = Variable {
-        name: format!(in alloc; "level")?,
-        place: Place::START,
-        kind: Kind::Int,
-        test: None,
-    };
-    let outputs = vec![in alloc; level]?;
-    let row = Row::new(vec![in alloc; Some(Value::Int(-3))]?);
-    let accepted = told(alloc, &outputs, &Reply::Outputs(row))
-        .ok()
-        .ok_or("memory")?;
-    assert_eq!(rt; accepted.as_str(), "{\"outputs\":{\"level\":-3}}");
-    let refused = told(alloc, &outputs, &Reply::Refused(Why::Shape))
-        .ok()
-        .ok_or("memory")?;
-    assert_eq!(rt; refused.as_str(), "{\"refused\":\"shape\"}");
+    let text = told(rt.alloc())?;
+    assert_eq!(rt;
+        text.as_str(),
+        "{\"outputs\":{\"level\":-3}}{\"refused\":\"shape\"}"
+    );
     Ok(())
 }

@@ -5,6 +5,7 @@ use lus_leaves::{
     write_rows,
 };
 use lus_requests::{Entry, Reply, Request, Why};
+use lus_values::Memory;
 use std::alloc::Global;
 use std::test::Fail;
 
@@ -17,8 +18,8 @@ fn parts(leaf: Leaf) -> (u32, u32, i64) {
     (leaf.kind, leaf.of, leaf.number)
 }
 
-/// A structure of a number and of a constructor, an absent entry and a truth.
-const ROW: [Leaf; 5] = [
+/// A structure of a number and of a constructor, an absent entry and a truth; and a leaf of no kind.
+const LEAVES: [Leaf; 6] = [
     Leaf {
         kind: 4,
         of: 0,
@@ -44,43 +45,79 @@ const ROW: [Leaf; 5] = [
         of: 0,
         number: 1,
     },
+    UNTOUCHED,
 ];
 
-#[test]
-fn rows_are_read_and_written(rt: HostRuntime) -> Result<(), Fail> {
-    let alloc = rt.alloc();
-    let row = row_of(alloc, &ROW).ok().ok_or("memory")?.ok_or("no row")?;
-    assert_eq!(rt; row.items().len(), 3);
-    let mut room = [leaf(9, 9, 9); 6];
-    assert_eq!(rt; write_row(&mut room, &row), 5);
-    for place in 0..5 {
-        assert_eq!(rt; parts(room[place]), parts(ROW[place]));
-    }
-    assert_eq!(rt; parts(room[5]), (9, 9, 9));
-    let none = row_of(alloc, &[leaf(5, 0, 0)]).ok().ok_or("memory")?;
-    assert!(rt; none.is_none());
-    let numbers = [leaf(2, 0, 1), leaf(2, 0, 2), leaf(2, 0, 3), leaf(2, 0, 4)];
-    let rows = rows_of(alloc, &numbers, 2)
-        .ok()
-        .ok_or("memory")?
-        .ok_or("no rows")?;
-    let mut room = [leaf(9, 9, 9); 4];
-    assert_eq!(rt; write_rows(&mut room, &rows), 4);
-    assert_eq!(rt; parts(room[2]), (2, 0, 3));
-    let uneven = rows_of(alloc, &numbers, 3).ok().ok_or("memory")?;
-    assert!(rt; uneven.is_none());
-    Ok(())
+/// What stands in room before it is written to.
+const UNTOUCHED: Leaf = Leaf {
+    kind: 9,
+    of: 9,
+    number: 9,
+};
+
+/// Four numbers.
+fn numbers() -> [Leaf; 4] {
+    [leaf(2, 0, 1), leaf(2, 0, 2), leaf(2, 0, 3), leaf(2, 0, 4)]
 }
 
-#[test]
-fn requests_are_read_and_entries_written(rt: HostRuntime) -> Result<(), Fail> {
-    let alloc = rt.alloc();
-    let none = request_of(alloc, 6, 0, &[]).ok().ok_or("memory")?;
-    assert!(rt; none.is_none());
-    let request = request_of(alloc, 3, 5, &[])
-        .ok()
-        .ok_or("memory")?
-        .ok_or("no request")?;
+fn are_same(found: &[Leaf], wanted: &[Leaf]) -> bool {
+    for (found, wanted) in found.iter().zip(wanted) {
+        if parts(*found) != parts(*wanted) {
+            return false;
+        }
+    }
+    found.len() == wanted.len()
+}
+
+/// Whether all but the last leaf is read as a row of three, which is written as they are, and no more.
+fn is_row_back(alloc: Global) -> Result<bool, Memory> {
+    let Some(row) = row_of(alloc, &LEAVES[..5])? else {
+        return Ok(false);
+    };
+    let mut room = [UNTOUCHED; 6];
+    let count = write_row(&mut room, &row);
+    Ok(count == 5 && row.items().len() == 3 && are_same(&room, &LEAVES))
+}
+
+/// Whether numbers are read as two rows, which are written as they are.
+fn are_rows_back(alloc: Global) -> Result<bool, Memory> {
+    let Some(rows) = rows_of(alloc, &numbers(), 2)? else {
+        return Ok(false);
+    };
+    let mut room = [UNTOUCHED; 4];
+    let count = write_rows(&mut room, &rows);
+    Ok(count == 4 && are_same(&room, &numbers()))
+}
+
+/// Whether a leaf of no kind is no row, four numbers are no three rows, and a kind of no request is none.
+fn are_none(alloc: Global) -> Result<bool, Memory> {
+    let no_row = row_of(alloc, &[leaf(5, 0, 0)])?.is_none();
+    let no_rows = rows_of(alloc, &numbers(), 3)?.is_none();
+    let no_request = request_of(alloc, 6, 0, &[])?.is_none();
+    Ok(no_row && no_rows && no_request)
+}
+
+/// Whether a restore that was refused is told, and nothing beside it.
+fn is_told(out: EntryOut) -> bool {
+    let EntryOut {
+        caller,
+        request,
+        slot,
+        reply,
+        why,
+        inputs,
+        outputs,
+    } = out;
+    let asked = caller == 2 && request == 3 && slot == 5;
+    let replied = reply == 3 && why == 3;
+    asked && replied && inputs == 0 && outputs == 0
+}
+
+/// Whether the entry of a restore that was refused is told.
+fn is_entry_told(alloc: Global) -> Result<bool, Memory> {
+    let Some(request) = request_of(alloc, 3, 5, &[])? else {
+        return Ok(false);
+    };
     let entry = Entry {
         caller: 2,
         request,
@@ -96,18 +133,11 @@ fn requests_are_read_and_entries_written(rt: HostRuntime) -> Result<(), Fail> {
         outputs: 9,
     };
     write_entry(&mut out, &mut [], &mut [], &entry);
-    let EntryOut {
-        caller,
-        request,
-        slot,
-        reply,
-        why,
-        inputs,
-        outputs,
-    } = out;
-    assert_eq!(rt; (caller, request, slot), (2, 3, 5));
-    assert_eq!(rt; (reply, why), (3, 3));
-    assert_eq!(rt; (inputs, outputs), (0, 0));
+    Ok(is_told(out))
+}
+
+/// Whether a reply without outputs is told.
+fn is_done_told() -> bool {
     let mut answer = Answer {
         kind: 0,
         why: 9,
@@ -115,6 +145,21 @@ fn requests_are_read_and_entries_written(rt: HostRuntime) -> Result<(), Fail> {
     };
     write_reply(&mut answer, &mut [], &Reply::Done);
     let Answer { kind, why, count } = answer;
-    assert_eq!(rt; (kind, why, count), (2, 0, 0));
+    kind == 2 && why == 0 && count == 0
+}
+
+#[test]
+fn rows_are_read_and_written(rt: HostRuntime) -> Result<(), Fail> {
+    let alloc = rt.alloc();
+    assert!(rt; is_row_back(alloc)?);
+    assert!(rt; are_rows_back(alloc)?);
+    assert!(rt; are_none(alloc)?);
+    Ok(())
+}
+
+#[test]
+fn requests_are_read_and_entries_written(rt: HostRuntime) -> Result<(), Fail> {
+    assert!(rt; is_entry_told(rt.alloc())?);
+    assert!(rt; is_done_told());
     Ok(())
 }
