@@ -1,21 +1,23 @@
-//! What later passes rely on, and tests of values, orders, tokens and normal forms. In a crate of their own, since a crate with tests is
-//! proved twice. Which texts are read, and what operators give in programs, is tested by `rows/`, of which nothing is proved anew.
+//! Tests of what is below machines: values, orders, tokens, normal forms, the code of small programs, replies, and what C reads and writes.
+//! In one crate above them all, since a crate with tests is proved twice, and its start is as dear as ten tests. Which texts are read, and
+//! what operators give in programs, is tested by `rows/`, of which nothing is proved anew.
 #![tactic(auto)]
 
-mod counting;
+#[cfg(test)]
+mod codes;
+#[cfg(test)]
+mod leaves;
 #[cfg(test)]
 mod normal_forms;
 #[cfg(test)]
 mod operators;
 #[cfg(test)]
 mod orders;
-mod promises;
 #[cfg(test)]
 mod refusals;
+#[cfg(test)]
+mod replies;
 #[cfg(test)]
 mod tokens;
 #[cfg(test)]
 mod values;
-
-pub use counting::{Counts, counts_of};
-pub use promises::{check_flags, check_on_clocks, order_variables};

@@ -1,10 +1,10 @@
 //! What normal forms of small programs keep, and what is taken out of them.
 
-use crate::{Counts, check_flags, check_on_clocks, counts_of, order_variables};
 use lus_clocks::{check_clocks, check_nil};
 use lus_grammar::parse;
 use lus_normal::{Normal, normalise};
 use lus_program::{Equation, Expr, Form, Node, NodeId, Program, Variable};
+use lus_promises::{check_flags, check_on_clocks, counts_of, order_variables};
 use lus_syntax::{Refusal, lex};
 use lus_types::check_types;
 use lus_values::{Op, Operator, Value};

@@ -1,5 +1,0 @@
-//! Tests of the code that small programs are translated to.
-#![tactic(auto)]
-
-#[cfg(test)]
-mod tests;
