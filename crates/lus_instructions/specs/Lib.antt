@@ -1,2 +1,3 @@
 pub mod Executed
 pub mod Played
+pub mod Seeing

@@ -1,6 +1,6 @@
 //! Copies of values.
 
-ghost use Rattle.std.specs.Prelude.{◌≡◌, IfOk, Some, map, slice_get};
+ghost use Rattle.std.specs.Prelude.{◌≡◌, IfOk, Some};
 ghost use Rattle.lus_values.specs.View.{value_of, entry_of};
 
 use lus_values::{Memory, Value, copy};
@@ -27,18 +27,4 @@ pub fn copy_value(alloc: Global, value: &Value) -> Result<Option<Value>, Memory>
 {
     let value_copy = copied(alloc, value)?;
     Ok(Some(value_copy))
-}
-
-/// A copy of the value at a place; past the values there is nothing.
-pub(crate) fn copy_at(
-    alloc: Global,
-    values: &[Value],
-    place: usize,
-) -> Result<Option<Value>, Memory>
-    ensures { IfOk result (λ v. entry_of v ≡ slice_get (map value_of values.now) place) }
-{
-    match values.get(place) {
-        Some(value) => copy_value(alloc, value),
-        None => Ok(None),
-    }
 }

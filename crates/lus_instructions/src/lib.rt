@@ -4,9 +4,11 @@
 mod entries;
 mod instruction;
 mod operation;
+mod seen;
 mod word;
 
 pub use entries::copy_value;
 pub use instruction::{Instruction, Operand};
-pub use operation::{chosen, of_one, of_three, of_two, operate};
+pub use operation::{chosen, compute_two, decide, operate, project};
+pub use seen::{Seen, see, word_seen};
 pub use word::word_of;

@@ -1,35 +1,20 @@
 //! What operators of the language give.
 
-ghost use Rattle.std.specs.Prelude.{◌≡◌, ◌∷◌, [], IfOk, map};
-ghost use Rattle.lus_values.specs.Operators.{apply, choose, is_nil, project};
-ghost use Rattle.lus_values.specs.declared.operator.Operator.TheVariants.{If};
-ghost use Rattle.lus_values.specs.View.{value_of, entry_of};
+ghost use Rattle.std.specs.Prelude.{◌≡◌, ◌∷◌, [], IfOk, IfSome, Some, map, option_map, slice_get};
+ghost use Rattle.lus_values.specs.Operators.{apply, choose, project};
+ghost use Rattle.lus_values.specs.Values.{bool};
+ghost use Rattle.lus_values.specs.declared.operator.Operator.TheVariants.{Compute, Field, If};
+ghost use Rattle.lus_values.specs.View.{entry_of, value_of};
 ghost use Rattle.lus_classes.specs.Steps.{chosen};
 ghost use Rattle.lus_words.specs.Applied.{applied};
+ghost use Rattle.lus_words.specs.Words.{entry_in};
+ghost use Rattle.lus_instructions.specs.Seeing.{entry_seen};
 
-use crate::entries::{copy_at, copy_value};
-use lus_values::{Memory, Operator, Value, any_nil, try_apply};
+use crate::entries::copy_value;
+use crate::seen::{Seen, is_nil_seen, is_none, see};
+use lus_values::{Memory, Op, Operator, Value, any_nil, same, try_apply};
+use lus_words::{Word, apply_two, is_absent, is_nil};
 use std::alloc::Global;
-
-fn is_nil(value: &Value) -> bool
-    ensures { result ≡ is_nil (value_of value.now) }
-{
-    matches!(value, Value::Nil)
-}
-
-/// What a condition decides: the first of two branches where it is true, the second where it is false.
-fn decide(condition: Value, then: Value, otherwise: Value) -> Option<Value>
-    ensures { entry_of result ≡ apply If (value_of condition ∷ value_of then ∷ value_of otherwise ∷ []) }
-{
-    if is_nil(&condition) || is_nil(&then) || is_nil(&otherwise) {
-        return Some(Value::Nil);
-    }
-    match condition {
-        Value::Bool(true) => Some(then),
-        Value::Bool(false) => Some(otherwise),
-        _ => None,
-    }
-}
 
 /// The branch that a condition chooses.
 fn choose(alloc: Global, values: &[Value]) -> Result<Option<Value>, Memory>
@@ -47,25 +32,35 @@ fn choose(alloc: Global, values: &[Value]) -> Result<Option<Value>, Memory>
     }
 }
 
+/// The value at a place; past the values there is nothing.
+fn value_at(values: &[Value], place: usize) -> Option<&Value>
+    ensures { option_map (λ v. value_of v.now) result ≡ slice_get (map value_of values.now) place }
+{
+    values.get(place)
+}
+
 /// A field of a structure.
-fn project(alloc: Global, field: usize, value: &Value) -> Result<Option<Value>, Memory>
-    ensures { IfOk result (λ v. entry_of v ≡ project field (value_of value.now ∷ [])) }
+fn field_of(value: &Value, field: usize) -> Option<&Value>
+    ensures { option_map (λ v. value_of v.now) result ≡ project field (value_of value.now ∷ []) }
 {
     match value {
-        Value::Struct(fields) => copy_at(alloc, fields, field),
-        Value::Bool(_) => Ok(None),
-        Value::Int(_) => Ok(None),
-        Value::Enum(_, _) => Ok(None),
-        Value::Nil => Ok(None),
+        Value::Struct(fields) => value_at(fields, field),
+        Value::Bool(_) => None,
+        Value::Int(_) => None,
+        Value::Enum(_, _) => None,
+        Value::Nil => None,
     }
 }
 
-/// A field of the one operand.
+/// A copy of a field of the one operand.
 fn project_only(alloc: Global, field: usize, values: &[Value]) -> Result<Option<Value>, Memory>
     ensures { IfOk result (λ v. entry_of v ≡ project field (map value_of values.now)) }
 {
     match values {
-        [value] => project(alloc, field, value),
+        [value] => match field_of(value, field) {
+            Some(found) => copy_value(alloc, found),
+            None => Ok(None),
+        },
         _ => Ok(None),
     }
 }
@@ -89,98 +84,82 @@ pub fn operate(
     }
 }
 
-/// The first of two values where a first-flag is set, else the second.
-pub fn chosen(first: Option<bool>, now: Option<Value>, later: Option<Value>) -> Option<Value>
-    ensures { entry_of result ≡ chosen first (entry_of now) (entry_of later) }
+/// A field of an operand, where it stands.
+#[inline(always)]
+pub fn project<'a>(field: u32, operand: Seen<'a>) -> Seen<'a>
+    ensures { entry_seen result ≡ applied (Field field) (entry_seen operand.entry ∷ []) }
 {
-    match (first, now, later) {
-        (Some(is_first), Some(a), Some(b)) => Some(if is_first { a } else { b }),
+    match operand {
+        Seen::Word(word) => Seen::Word(if is_nil(word) {
+            Word::Nil
+        } else {
+            Word::Absent
+        }),
+        Seen::Structure(value) => match field_of(value, field as usize) {
+            Some(found) => see(found),
+            None => Seen::Word(if is_nil_seen(operand) {
+                Word::Nil
+            } else {
+                Word::Absent
+            }),
+        },
+    }
+}
+
+/// Whether two values are the same, where an operator asks for that and none is nil.
+fn compare(op: Op, left: &Value, right: &Value) -> Option<Word>
+    ensures { IfSome result (λ w. entry_in w ≡ applied (Compute op) (Some (value_of left.now) ∷ Some (value_of right.now) ∷ [])) }
+{
+    if matches!(left, Value::Nil) || matches!(right, Value::Nil) {
+        return None;
+    }
+    match op {
+        Op::Equal => Some(Word::Bool(same(left, right))),
+        Op::NotEqual => Some(Word::Bool(!same(left, right))),
         _ => None,
     }
 }
 
-/// What an operator gives for one value.
-fn operate_one(alloc: Global, operator: Operator, value: Value) -> Result<Option<Value>, Memory>
-    ensures { IfOk result (λ v. entry_of v ≡ apply operator (value_of value ∷ [])) }
-{
-    match operator {
-        Operator::Compute(op) => Ok(try_apply(op, &[value])),
-        _ => operate(alloc, operator, vec![in alloc; value]?),
-    }
-}
-
-/// What an operator gives for two values.
-fn operate_two(
-    alloc: Global,
-    operator: Operator,
-    left: Value,
-    right: Value,
-) -> Result<Option<Value>, Memory>
-    ensures { IfOk result (λ v. entry_of v ≡ apply operator (value_of left ∷ value_of right ∷ [])) }
-{
-    match operator {
-        Operator::Compute(op) => Ok(try_apply(op, &[left, right])),
-        _ => operate(alloc, operator, vec![in alloc; left, right]?),
-    }
-}
-
-/// What an operator gives for three values.
-fn operate_three(
-    alloc: Global,
-    operator: Operator,
-    first: Value,
-    second: Value,
-    third: Value,
-) -> Result<Option<Value>, Memory>
-    ensures { IfOk result (λ v. entry_of v ≡ apply operator (value_of first ∷ value_of second ∷ value_of third ∷ [])) }
-{
-    match operator {
-        Operator::If => Ok(decide(first, second, third)),
-        _ => operate(alloc, operator, vec![in alloc; first, second, third]?),
-    }
-}
-
-/// What an operator gives for one operand, if it has a value.
-pub fn of_one(
-    alloc: Global,
-    operator: Operator,
-    operand: Option<Value>,
-) -> Result<Option<Value>, Memory>
-    ensures { IfOk result (λ v. entry_of v ≡ applied operator (entry_of operand ∷ [])) }
-{
-    match operand {
-        Some(value) => operate_one(alloc, operator, value),
-        None => Ok(None),
-    }
-}
-
-/// What an operator gives for two operands, if each has a value.
-pub fn of_two(
-    alloc: Global,
-    operator: Operator,
-    left: Option<Value>,
-    right: Option<Value>,
-) -> Result<Option<Value>, Memory>
-    ensures { IfOk result (λ v. entry_of v ≡ applied operator (entry_of left ∷ entry_of right ∷ [])) }
+/// What an operator gives for two operands, if both are words, or both are structures and it compares them.
+#[inline(always)]
+pub fn compute_two(op: Op, left: Seen<'_>, right: Seen<'_>) -> Option<Word>
+    ensures { IfSome result (λ w. entry_in w ≡ applied (Compute op) (entry_seen left.entry ∷ entry_seen right.entry ∷ [])) }
 {
     match (left, right) {
-        (Some(a), Some(b)) => operate_two(alloc, operator, a, b),
-        _ => Ok(None),
+        (Seen::Word(x), Seen::Word(y)) => Some(apply_two(op, x, y)),
+        (Seen::Structure(x), Seen::Structure(y)) => compare(op, x, y),
+        _ => None,
     }
 }
 
-/// What an operator gives for three operands, if each has a value.
-pub fn of_three(
-    alloc: Global,
-    operator: Operator,
-    first: Option<Value>,
-    second: Option<Value>,
-    third: Option<Value>,
-) -> Result<Option<Value>, Memory>
-    ensures { IfOk result (λ v. entry_of v ≡ applied operator (entry_of first ∷ entry_of second ∷ entry_of third ∷ [])) }
+/// What a condition decides: the first of two branches where it is true, the second where it is false.
+pub fn decide<'a>(condition: Word, then: Seen<'a>, otherwise: Seen<'a>) -> Seen<'a>
+    ensures { entry_seen result ≡ applied If (entry_in condition ∷ entry_seen then.entry ∷ entry_seen otherwise.entry ∷ []) }
 {
-    match (first, second, third) {
-        (Some(a), Some(b), Some(c)) => operate_three(alloc, operator, a, b, c),
-        _ => Ok(None),
+    if is_absent(condition) || is_none(then) || is_none(otherwise) {
+        return Seen::Word(Word::Absent);
+    }
+    if is_nil(condition) || is_nil_seen(then) || is_nil_seen(otherwise) {
+        return Seen::Word(Word::Nil);
+    }
+    match condition {
+        Word::Bool(true) => then,
+        Word::Bool(false) => otherwise,
+        _ => Seen::Word(Word::Absent),
+    }
+}
+
+/// The first of two operands where a first-flag is set, else the second, if there is a flag and both have a value.
+pub fn chosen<'a>(first: Option<bool>, now: Seen<'a>, later: Seen<'a>) -> Seen<'a>
+    ensures { entry_seen result ≡ chosen first (entry_seen now.entry) (entry_seen later.entry) }
+{
+    match first {
+        Some(is_first) => {
+            if is_none(now) || is_none(later) {
+                return Seen::Word(Word::Absent);
+            }
+            if is_first { now } else { later }
+        }
+        None => Seen::Word(Word::Absent),
     }
 }
