@@ -1,11 +1,8 @@
 //! Rows of what an instance keeps, of one kind.
 
-ghost use Rattle.std.specs.Prelude.{◌≡◌, ◌↔◌, ℕ, Some, IsTrue, IfOk, OnErr, OnOk, slice_get};
-ghost use Rattle.lus_flat_classes.specs.Turns.{CanRun};
-ghost use Rattle.lus_running.specs.Fits.{FitsPresence};
-ghost use Rattle.lus_running.specs.Instances.{HasFormals, IsBack, IsCopy, IsLong, IsNew, IsReset, KeepsSame, LeavesBehind};
+ghost use Rattle.std.specs.Prelude.{◌↔◌, ℕ, IsTrue, IfOk, OnErr, OnOk};
+ghost use Rattle.lus_running.specs.Instances.{CanStep, IsBack, IsCopy, IsLong, IsNew, IsReset, KeepsSame, LeavesBehind};
 ghost use Rattle.lus_running.specs.Instances.{MakesStep, rows_seen};
-ghost use Rattle.lus_running.specs.OnClocks.{Passes};
 
 use crate::error::Failure;
 use crate::resetting::{absent, copy_cells, copy_flags, empty_all, nils, set_all, set_flags};
@@ -101,12 +98,7 @@ impl<T: Held> Rows<T> {
         inputs: &Row,
         outputs: usize,
     ) -> Result<Row, Failure>
-        requires class { CanRun classes.now depth class.now }
-        requires found { slice_get classes.now node ≡ Some class.now }
-        requires long { IsLong class.now.extent (rows_seen T.entry node self.old) }
-        requires formals { HasFormals outputs inputs.now class.now }
-        requires presence { FitsPresence class.now inputs.now }
-        requires passing { Passes classes.now class.now }
+        requires { CanStep classes.now depth class.now inputs.now outputs (rows_seen T.entry node self.old) }
         ensures step { MakesStep classes.now depth class.now outputs (rows_seen T.entry node self.old) inputs.now
             result (rows_seen T.entry node self.new) }
         ensures long { IsLong class.now.extent (rows_seen T.entry node self.new) }

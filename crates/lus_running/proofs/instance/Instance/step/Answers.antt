@@ -12,8 +12,8 @@ use Rattle.lus_running.specs.Stopped.{error_of}
 use Rattle.lus_running.proofs.Seeing.{long_of, told}
 use Rattle.lus_running.proofs.instance.Instance.step.Goals as goal
 
-pub step-requires-clause-class : goal.step-requires-clause-class
-step-requires-clause-class c =
+pub step-requires : goal.step-requires
+step-requires c =
     let s = c.requires.shaped in
     let classes = c.args.classes.now in
     let o = c.args.self.now in
@@ -21,57 +21,14 @@ step-requires-clause-class c =
     let k = c.index-classes-self.result in
     let found : slice_get classes g ≡ Some k = slice_get_read classes (length classes) g k refl (slice_get_within classes g s.class s.found) c.index-classes-self.is in
     let within = subst (λ (j : PlainClass). Each (λ q. WithinDepth (classes_of classes) c.args.depth q.node) j.calls) (class_found classes g k found) c.requires.depth in
-    record { all = c.requires.all; ready = c.requires.all g k found; within = within }
-
-pub step-requires-clause-found : goal.step-requires-clause-found
-step-requires-clause-found c =
-    let s = c.requires.shaped in
-    let classes = c.args.classes.now in
-    let o = c.args.self.now in
-    let g = o.node in
-    let k = c.index-classes-self.result in
-    let found : slice_get classes g ≡ Some k = slice_get_read classes (length classes) g k refl (slice_get_within classes g s.class s.found) c.index-classes-self.is in
-    found
-
-pub step-requires-clause-long : goal.step-requires-clause-long
-step-requires-clause-long c =
-    let s = c.requires.shaped in
-    let classes = c.args.classes.now in
-    let o = c.args.self.now in
-    let g = o.node in
-    let k = c.index-classes-self.result in
-    let found : slice_get classes g ≡ Some k = slice_get_read classes (length classes) g k refl (slice_get_within classes g s.class s.found) c.index-classes-self.is in
-    long_of classes (seen o) k found s
-
-pub step-requires-clause-formals : goal.step-requires-clause-formals
-step-requires-clause-formals c =
-    let s = c.requires.shaped in
-    let classes = c.args.classes.now in
-    let o = c.args.self.now in
-    let g = o.node in
-    let k = c.index-classes-self.result in
-    let found : slice_get classes g ≡ Some k = slice_get_read classes (length classes) g k refl (slice_get_within classes g s.class s.found) c.index-classes-self.is in
-    c.requires.formals k found
-
-pub step-requires-clause-presence : goal.step-requires-clause-presence
-step-requires-clause-presence c =
-    let s = c.requires.shaped in
-    let classes = c.args.classes.now in
-    let o = c.args.self.now in
-    let g = o.node in
-    let k = c.index-classes-self.result in
-    let found : slice_get classes g ≡ Some k = slice_get_read classes (length classes) g k refl (slice_get_within classes g s.class s.found) c.index-classes-self.is in
-    c.requires.presence k found
-
-pub step-requires-clause-passing : goal.step-requires-clause-passing
-step-requires-clause-passing c =
-    let s = c.requires.shaped in
-    let classes = c.args.classes.now in
-    let o = c.args.self.now in
-    let g = o.node in
-    let k = c.index-classes-self.result in
-    let found : slice_get classes g ≡ Some k = slice_get_read classes (length classes) g k refl (slice_get_within classes g s.class s.found) c.index-classes-self.is in
-    record { all = c.requires.passing; own = c.requires.passing g k found }
+    record {
+      class = record { all = c.requires.all; ready = c.requires.all g k found; within = within };
+      passing = record { all = c.requires.passing; own = c.requires.passing g k found };
+      found = found;
+      long = long_of classes (seen o) k found s;
+      formals = c.requires.formals k found;
+      presence = c.requires.presence k found;
+    }
 
 pub returns-in_err-answer-clause-step : goal.returns-in_err-answer-clause-step
 returns-in_err-answer-clause-step c =
