@@ -7,6 +7,7 @@ ghost use Rattle.lus_running.specs.Instances.{MakesStep, rows_seen};
 use crate::error::Failure;
 use crate::resetting::{absent, copy_cells, copy_flags, empty_all, nils, set_all, set_flags};
 use crate::running::{part_of, place, run};
+use crate::setting::Setting;
 use lus_flat_classes::{Class, Extent};
 use lus_following::{Held, Stop};
 use lus_values::{Memory, Row};
@@ -106,13 +107,16 @@ impl<T: Held> Rows<T> {
         ensures behind { OnOk result (LeavesBehind (rows_seen T.entry node self.old) (rows_seen T.entry node self.new)) }
     {
         place(alloc, inputs.items(), &mut self.variables)?;
-        run(
+        let on = Setting {
             alloc,
             classes,
             depth,
             class,
-            &self.cells,
-            &self.firsts,
+            cells: &self.cells,
+            firsts: &self.firsts,
+        };
+        run(
+            &on,
             &mut self.next_cells,
             &mut self.next_firsts,
             &mut self.variables,

@@ -22,8 +22,10 @@ step-requires c =
     let found : slice_get classes g ≡ Some k = slice_get_read classes (length classes) g k refl (slice_get_within classes g s.class s.found) c.index-classes-self.is in
     let within = subst (λ (j : PlainClass). Each (λ q. WithinDepth (classes_of classes) c.args.depth q.node) j.calls) (class_found classes g k found) c.requires.depth in
     record {
-      class = record { all = c.requires.all; ready = c.requires.all g k found; within = within };
-      passing = record { all = c.requires.passing; own = c.requires.passing g k found };
+      class = record {
+        can = record { all = c.requires.all; ready = c.requires.all g k found; within = within };
+        passes = record { all = c.requires.passing; own = c.requires.passing g k found };
+      };
       found = found;
       long = long_of classes (seen o) k found s;
       formals = c.requires.formals k found;

@@ -28,46 +28,21 @@ returns-in_err-place-clause-long g c =
     let wide = ap length vars ∙ c.place.auto.variables ∙ ap length c.deref_mut.ensures.value ∙ long.variables in
     record { cells = long.cells; firsts = long.firsts; next_cells = long.next_cells; next_firsts = long.next_firsts; variables = wide }
 
-pub run-requires-clause-cells : goal.run-requires-clause-cells
-run-requires-clause-cells g c =
+pub run-requires-clause-fits : goal.run-requires-clause-fits
+run-requires-clause-fits g c =
     let entry = g.T.Held.entry in
     let o = c.args.self.now in
-    let long = c.requires.long in
-    ap length c.deref.ensures.value ∙ sym (length-map o.cells.items (cell_of entry)) ∙ long.cells
-
-pub run-requires-clause-firsts : goal.run-requires-clause-firsts
-run-requires-clause-firsts g c =
-    let entry = g.T.Held.entry in
-    let o = c.args.self.now in
-    let long = c.requires.long in
-    ap length c.deref-2.ensures.value ∙ long.firsts
-
-pub run-requires-clause-next_cells : goal.run-requires-clause-next_cells
-run-requires-clause-next_cells g c =
-    let entry = g.T.Held.entry in
-    let o = c.args.self.now in
-    let long = c.requires.long in
-    ap length c.deref_mut-2.ensures.value ∙ sym (length-map o.next_cells.items (cell_of entry)) ∙ long.next_cells
-
-pub run-requires-clause-next_firsts : goal.run-requires-clause-next_firsts
-run-requires-clause-next_firsts g c =
-    let entry = g.T.Held.entry in
-    let o = c.args.self.now in
-    let long = c.requires.long in
-    ap length c.deref_mut-3.ensures.value ∙ long.next_firsts
-
-pub run-requires-clause-variables : goal.run-requires-clause-variables
-run-requires-clause-variables g c =
-    let entry = g.T.Held.entry in
-    let classes = c.args.classes.now in
-    let o = c.args.self.now in
-    let node = c.args.node in
-    let k = c.args.class.now in
     let long = c.requires.long in
     let place_long : length c.place.new.variables ≡ o.variables.len = omega arith in
     let vars = with_items_is o.variables c.place.new.variables place_long in
     let wide = ap length vars ∙ c.place.auto.variables ∙ ap length c.deref_mut.ensures.value ∙ long.variables in
-    ap length c.deref_mut-4.ensures.value ∙ wide
+    record {
+      cells = ap length c.deref.ensures.value ∙ sym (length-map o.cells.items (cell_of entry)) ∙ long.cells;
+      firsts = ap length c.deref-2.ensures.value ∙ long.firsts;
+      next_cells = ap length c.deref_mut-2.ensures.value ∙ sym (length-map o.next_cells.items (cell_of entry)) ∙ long.next_cells;
+      next_firsts = ap length c.deref_mut-3.ensures.value ∙ long.next_firsts;
+      variables = ap length c.deref_mut-4.ensures.value ∙ wide;
+    }
 
 pub run-requires-clause-present : goal.run-requires-clause-present
 run-requires-clause-present g c =
@@ -83,7 +58,7 @@ run-requires-clause-present g c =
     let i = c.args.inputs.now in
     let d = c.args.depth in
     let narrow : length i ≡ k.inputs = c.requires.formals.0 in
-    let room = (c.requires.class.all node k c.requires.found).room in
+    let room = (c.requires.class.can.all node k c.requires.found).room in
     let outputs : k.inputs + c.args.outputs ≤ length k.tests.items = c.requires.formals.1 in
     let within : length k.tests.items ≤ k.extent.variables = room.variables in
     let before = map entry o.variables.items in
@@ -105,7 +80,7 @@ part_of-requires g c =
     let run_long : length c.run.new.variables ≡ o.variables.len = omega arith in
     let all = with_items_is (with_items o.variables c.place.new.variables) c.run.new.variables run_long in
     let all_wide = ap length all ∙ c.run.auto.variables ∙ ap length c.deref_mut-4.ensures.value ∙ wide in
-    let room = (c.requires.class.all node k c.requires.found).room in
+    let room = (c.requires.class.can.all node k c.requires.found).room in
     let outputs : k.inputs + c.args.outputs ≤ length k.tests.items = c.requires.formals.1 in
     let within : length k.tests.items ≤ k.extent.variables = room.variables in
     let width : length c.deref-3.result.now ≡ k.extent.variables = ap length c.deref-3.ensures.value ∙ all_wide in
@@ -197,7 +172,7 @@ returns-in_err-run-clause-step g c =
     let i = c.args.inputs.now in
     let d = c.args.depth in
     let narrow : length i ≡ k.inputs = c.requires.formals.0 in
-    let room = (c.requires.class.all node k c.requires.found).room in
+    let room = (c.requires.class.can.all node k c.requires.found).room in
     let outputs : k.inputs + c.args.outputs ≤ length k.tests.items = c.requires.formals.1 in
     let within : length k.tests.items ≤ k.extent.variables = room.variables in
     let before = map entry o.variables.items in
@@ -206,7 +181,7 @@ returns-in_err-run-clause-step g c =
     let e = c.in_err-run.field-0.0 in
     let failed : c.from_residual-in_err-run.result ≡ Err e = search rules in
     let state = state_in classes (suc d) node (map (cell_of entry) o.cells.items) o.firsts.items in
-    let looks = step_same classes c.requires.class.all c.requires.passing.all (state_in classes (suc d) node (map (cell_of entry) c.deref.result.now) c.deref-2.result.now) node k i c.requires.found narrow (fits_on_clocks k i narrow c.requires.presence) in
+    let looks = step_same classes c.requires.class.can.all c.requires.class.passes.all (state_in classes (suc d) node (map (cell_of entry) c.deref.result.now) c.deref-2.result.now) node k i c.requires.found narrow (fits_on_clocks k i narrow c.requires.presence) in
     let answers = answers_err classes d node k c.args.outputs (map (cell_of entry) c.deref.result.now) c.deref-2.result.now i before (map entry c.deref_mut-4.result.now) c.requires.found narrow enough put looks c.from_residual-in_err-run.result e _ _ state failed c.in_err-run.ensures in
     subst (λ (p : Parts). Reaches k c.args.outputs c.from_residual-in_err-run.result (step (classes_of classes) (state_in classes (suc d) node p.0 p.1) node i) state) (λ j. (map (cell_of entry) (c.deref.ensures.value j), c.deref-2.ensures.value j)) answers
 
@@ -227,7 +202,7 @@ returns-clause-step g c =
     let i = c.args.inputs.now in
     let d = c.args.depth in
     let narrow : length i ≡ k.inputs = c.requires.formals.0 in
-    let room = (c.requires.class.all node k c.requires.found).room in
+    let room = (c.requires.class.can.all node k c.requires.found).room in
     let outputs : k.inputs + c.args.outputs ≤ length k.tests.items = c.requires.formals.1 in
     let within : length k.tests.items ≤ k.extent.variables = room.variables in
     let before = map entry o.variables.items in
@@ -239,7 +214,7 @@ returns-clause-step g c =
     let firsts = ap (λ (v : Vec Bool Global). v.items) c.swap-2.ensures.x_after ∙ with_items_is o.next_firsts c.run.new.next_firsts firsts_long in
     let out = c.new.ensures ∙ c.in_ok-answer.ensures ∙ ap (λ l. take c.args.outputs (drop k.inputs (map entry l))) (c.deref-3.ensures.value ∙ all) in
     let next = state_in classes (suc d) node (map (cell_of entry) c.swap.new.x.items) c.swap-2.new.x.items in
-    let looks = step_same classes c.requires.class.all c.requires.passing.all (state_in classes (suc d) node (map (cell_of entry) c.deref.result.now) c.deref-2.result.now) node k i c.requires.found narrow (fits_on_clocks k i narrow c.requires.presence) in
+    let looks = step_same classes c.requires.class.can.all c.requires.class.passes.all (state_in classes (suc d) node (map (cell_of entry) c.deref.result.now) c.deref-2.result.now) node k i c.requires.found narrow (fits_on_clocks k i narrow c.requires.presence) in
     let answers = answers_ok classes d node k c.args.outputs (map (cell_of entry) c.deref.result.now) c.deref-2.result.now i before (map entry c.deref_mut-4.result.now) c.requires.found narrow enough put looks
     (map (cell_of entry) c.run.new.next_cells) (map (cell_of entry) c.swap.new.x.items) c.run.new.next_firsts c.swap-2.new.x.items (map entry c.run.new.variables) c.new.result outputs c.in_ok-run.ensures cells firsts out in
     subst (λ (p : Parts). Reaches k c.args.outputs (Ok c.new.result) (step (classes_of classes) (state_in classes (suc d) node p.0 p.1) node i) next) (λ j. (map (cell_of entry) (c.deref.ensures.value j), c.deref-2.ensures.value j)) answers

@@ -1,0 +1,16 @@
+//! What instants are run on.
+
+use lus_flat_classes::Class;
+use std::alloc::Global;
+
+/// What an instant of a class is run on: the classes, within which depth calls are nested, and what the node keeps with all that
+/// it calls.
+#[derive(Drop)]
+pub struct Setting<'a, T> {
+    pub alloc: Global,
+    pub classes: &'a [Class],
+    pub depth: usize,
+    pub class: &'a Class,
+    pub cells: &'a [T],
+    pub firsts: &'a [bool],
+}
