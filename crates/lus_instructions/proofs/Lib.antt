@@ -1,2 +1,4 @@
 pub mod Fields
 pub mod Following
+pub mod Growing
+pub mod Longer

@@ -1,3 +1,4 @@
 pub mod Executed
 pub mod Played
 pub mod Seeing
+pub mod Locations

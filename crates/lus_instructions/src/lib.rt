@@ -3,12 +3,18 @@
 
 mod entries;
 mod instruction;
+mod layout;
+mod located;
+mod locating;
 mod operation;
 mod seen;
 mod word;
 
 pub use entries::copy_value;
 pub use instruction::{Instruction, Operand};
+pub use layout::Layout;
+pub use located::{Located, Source, Spot};
+pub use locating::locate_all;
 pub use operation::{chosen, compute_two, decide, operate, project};
 pub use seen::{Seen, see, word_seen};
 pub use word::word_of;
