@@ -4,11 +4,11 @@ use Rattle.std.specs.List.{list_all}
 use Rattle.lus_syntax.specs.declared.refusal.RefusalNumber.{RefusalNumber}
 use Rattle.lus_syntax.specs.declared.refusal.RefusalNumber.TheVariants as numbers
 use Rattle.lus_syntax.specs.Trees.{Tree}
-use Rattle.lus_meaning.specs.Named.{Named}
-use Rattle.lus_meaning.specs.Loopless.{Loopless}
-use Rattle.lus_meaning.specs.Sized.{Bounded, Counted}
-use Rattle.lus_meaning.specs.WellTyped.{IsTyped, constant_typed}
-use Rattle.lus_meaning.specs.Refusals.{FirstFails, HasFewParts}
+use Rattle.lus_source.specs.Named.{Named}
+use Rattle.lus_source.specs.Loopless.{Loopless}
+use Rattle.lus_source.specs.Sized.{Bounded, Counted}
+use Rattle.lus_source.specs.WellTyped.{IsTyped, constant_typed}
+use Rattle.lus_source.specs.Refusals.{FirstFails, HasFewParts}
 
 pub constants_fail : (p : Tree) → list_all (constant_typed p) p.constants ≡ false → IsTyped p → ⊥
 constants_fail p failed typed = let held : list_all (constant_typed p) p.constants ≡ true = typed.constants in cc

@@ -11,14 +11,14 @@ use Rattle.lus_program.specs.Parts.{program_parts}
 use Rattle.lus_program.specs.Programs.{Program}
 use Rattle.lus_typing.specs.Leaves.{AreTheLeaves}
 use Rattle.lus_typing.specs.Sound.{AreFound}
-use Rattle.lus_meaning.specs.Named.{Named}
-use Rattle.lus_meaning.specs.Loopless.{Loopless, node_uses}
-use Rattle.lus_meaning.specs.Sized.{Bounded, Counted}
-use Rattle.lus_meaning.specs.WellTyped.{IsTyped}
-use Rattle.lus_meaning.specs.Meaning.{program_of}
-use Rattle.lus_meaning.specs.Refusals.{FirstFails, WellFormed}
-use Rattle.lus_resolution.proofs.CallsNamed.{meant_order}
-use Rattle.lus_resolution.proofs.ProgramsMeant.{meant_programs_are_sound}
+use Rattle.lus_source.specs.Named.{Named}
+use Rattle.lus_source.specs.Loopless.{Loopless, node_uses}
+use Rattle.lus_source.specs.Sized.{Bounded, Counted}
+use Rattle.lus_source.specs.WellTyped.{IsTyped}
+use Rattle.lus_source.specs.Meaning.{program_of}
+use Rattle.lus_source.specs.Refusals.{FirstFails, WellFormed}
+use Rattle.lus_types.proofs.CallsNamed.{meant_order}
+use Rattle.lus_types.proofs.ProgramsMeant.{meant_programs_are_sound}
 use Rattle.lus_types.proofs.FirstFaults.{sizes_fail, types_fail, parts_fail}
 
 module _ (t c n l : StoredTree) (counted_is : c ≡ t) (named_is : n ≡ c) (loopless_is : l ≡ n) (counted : Counted (tree_seen t)) (named_there : Named (tree_seen c)) (loopless_there : Loopless (tree_seen n)) where

@@ -4,12 +4,12 @@ use Rattle.std.specs.List.{list_all}
 use Rattle.lus_syntax.specs.Trees.{Named, Constant, Group, Node as SourceNode}
 use Rattle.lus_values.specs.Lists.{Each}
 use Rattle.lus_program.specs.Programs.{Node, Variable}
-use Rattle.lus_meaning.specs.Scopes.{Scope}
-use Rattle.lus_meaning.specs.Sized.{variable_count}
-use Rattle.lus_meaning.specs.Tables.{groups, value_in}
-use Rattle.lus_meaning.specs.Meaning.{equations_meant, test_meant}
-use Rattle.lus_meaning.specs.WellTyped.{equation_typed, memory_fits, test_typed, value_is}
-use Rattle.lus_tables.specs.ByTable.{entered, kind_in, saturated}
+use Rattle.lus_source.specs.Scopes.{Scope}
+use Rattle.lus_source.specs.Sized.{variable_count}
+use Rattle.lus_source.specs.Tables.{groups, value_in}
+use Rattle.lus_source.specs.Meaning.{equations_meant, test_meant}
+use Rattle.lus_source.specs.WellTyped.{equation_typed, memory_fits, test_typed, value_is}
+use Rattle.lus_declarations.specs.ByTable.{entered, kind_in, saturated}
 
 -- a constant with a declared type has that type
 abbrev pub constant_fits : Scope → Constant → Bool

@@ -1,8 +1,8 @@
 -- The numbers by which passes refuse.
 use Rattle.lus_syntax.specs.declared.refusal.RefusalNumber.{RefusalNumber}
 use Rattle.lus_syntax.specs.declared.refusal.RefusalNumber.TheVariants as numbers
-use Rattle.lus_meaning.specs.declared.fault.Fault.{Fault}
-use Rattle.lus_meaning.specs.declared.fault.Fault.TheVariants as faults
+use Rattle.lus_source.specs.declared.fault.Fault.{Fault}
+use Rattle.lus_source.specs.declared.fault.Fault.TheVariants as faults
 
 -- the number of a fault in a pass that refuses by this one
 abbrev pub number_of : RefusalNumber → Fault → RefusalNumber

@@ -7,25 +7,23 @@ ghost use Rattle.lus_syntax.specs.Refusals.{HasShape};
 ghost use Rattle.lus_syntax.specs.View.{node_seen, tree_seen};
 ghost use Rattle.lus_program.specs.Parts.{program_parts};
 ghost use Rattle.lus_program.specs.View.{node_of, program_seen};
-ghost use Rattle.lus_meaning.specs.Named.{Named as IsNamed};
-ghost use Rattle.lus_meaning.specs.Sized.{Bounded, Counted as IsCounted};
-ghost use Rattle.lus_meaning.specs.Meaning.{program_of};
+ghost use Rattle.lus_source.specs.Named.{Named as IsNamed};
+ghost use Rattle.lus_source.specs.Sized.{Bounded, Counted as IsCounted};
+ghost use Rattle.lus_source.specs.Meaning.{program_of};
 ghost use Rattle.lus_typing.specs.Leaves.{AreTheLeaves};
 ghost use Rattle.lus_typing.specs.Refusals.{RefusesFor};
-ghost use Rattle.lus_meaning.specs.WellTyped.{IsTyped};
-ghost use Rattle.lus_meaning.specs.ScopeView.{Faulty, scope_of};
+ghost use Rattle.lus_source.specs.WellTyped.{IsTyped};
+ghost use Rattle.lus_source.specs.ScopeView.{Faulty, scope_of};
 ghost use Rattle.lus_types.specs.ByScope.{AreTypedIn, nodes_in};
 ghost use Rattle.lus_types.specs.Numbers.{number_of};
 
 use crate::constants::check_constants;
 use crate::nodes::node;
 use crate::parts::check_parts;
-use lus_limits::{Loopless, check_counts, check_sizes};
-use lus_meaning::{Counted, Fault, Scope};
-use lus_names::{Named, check_names};
+use lus_declarations::{Loopless, Named, check_counts, check_names, check_sizes, enter, tables};
 use lus_program::{Node, Program};
+use lus_source::{Counted, Fault, Scope};
 use lus_syntax::{Node as SourceNode, Refusal, RefusalNumber, Tree};
-use lus_tables::{enter, tables};
 use std::alloc::Global;
 
 /// The refusal of a pass by this number.

@@ -5,11 +5,11 @@ ghost use Rattle.lus_syntax.specs.declared.refusal.RefusalNumber.TheVariants as 
 ghost use Rattle.lus_syntax.specs.Refusals.{HasShape};
 ghost use Rattle.lus_syntax.specs.View.{tree_seen};
 ghost use Rattle.lus_program.specs.View.{program_seen};
-ghost use Rattle.lus_meaning.specs.Meaning.{program_of};
-ghost use Rattle.lus_meaning.specs.Refusals.{FirstFails, WellFormed};
+ghost use Rattle.lus_source.specs.Meaning.{program_of};
+ghost use Rattle.lus_source.specs.Refusals.{FirstFails, WellFormed};
 
 use crate::passes::{counts, names, parts, sizes, types};
-use lus_limits::check_recursion;
+use lus_declarations::check_recursion;
 use lus_syntax::{Refusal, Tree};
 use lus_typing::Typed;
 use std::alloc::Global;

@@ -1,0 +1,17 @@
+pub mod NameLists
+pub mod NewNames
+pub mod GroupNames
+pub mod NodeParts
+pub mod NamePlaces
+pub mod NamesInside
+pub mod Looping
+pub mod Counting
+pub mod AgainstLimits
+pub mod TypesByUses
+pub mod LeavesMeant
+pub mod TypeTables
+pub mod Greatest
+pub mod CallsByUses
+pub mod TableRows
+pub mod Placing
+pub mod OfSource
