@@ -4,7 +4,6 @@ pub mod GroupNames
 pub mod NodeParts
 pub mod NamePlaces
 pub mod NamesInside
-pub mod Looping
 pub mod Counting
 pub mod AgainstLimits
 pub mod TypesByUses

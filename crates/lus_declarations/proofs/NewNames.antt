@@ -4,7 +4,7 @@ use Rattle.std.specs.List.{list_all}
 use Rattle.lus_syntax.specs.Lexemes.{Text}
 use Rattle.lus_source.specs.Named.{Distinct, is_in, all_new}
 use Rattle.lus_source.proofs.AppendedNames.{all_new_apart, appended_are_new}
-use Rattle.lus_source.proofs.Steps.{and_first, and_second}
+use Rattle.lus_values.proofs.Equalities.{and_left, and_right}
 
 -- `now` are declared, `rest` is left of all that are declared behind `before`
 pub record Remaining (now rest before all : List Text) : Type 0 where
@@ -28,12 +28,12 @@ both_distinct first last = appended_are_new [] first last ∙ ap (λ b. all_new 
 pub first_doubled : (first last table : List Text) → table ≡ [] → all_new table first ≡ false → Distinct (first ++ last) → ⊥
 first_doubled first last table empty doubled distinct =
     let doubled : all_new [] first ≡ false = sym (ap (λ t. all_new t first) empty) ∙ doubled in
-    let first_ones : all_new [] first ≡ true = and_first (all_new [] first) _ (sym (both_distinct first last) ∙ distinct) in
+    let first_ones : all_new [] first ≡ true = and_left (all_new [] first) _ (sym (both_distinct first last) ∙ distinct) in
     cc
 
 pub last_distinct : (first last : List Text) → Distinct (first ++ last) → Distinct last
 last_distinct first last distinct =
-    and_second (list_all (λ n. not (is_in first n)) last) (all_new [] last) (and_second (all_new [] first) _ (sym (both_distinct first last) ∙ distinct))
+    and_right (list_all (λ n. not (is_in first n)) last) (all_new [] last) (and_right (all_new [] first) _ (sym (both_distinct first last) ∙ distinct))
 
 pub last_doubled : (first last table : List Text) → table ≡ [] → all_new table last ≡ false → Distinct (first ++ last) → ⊥
 last_doubled first last table empty doubled distinct =
@@ -45,7 +45,7 @@ last_doubled first last table empty doubled distinct =
 pub next_doubled : (first last before table : List Text) → before ≡ [] → table ≡ before ++ first → all_new table last ≡ false → Distinct (first ++ last) → ⊥
 next_doubled first last before table empty grown doubled distinct =
     let doubled : all_new first last ≡ false = sym (ap (λ t. all_new t last) (grown ∙ ap (λ b. b ++ first) empty)) ∙ doubled in
-    let next : all_new first last ≡ true = and_second (all_new [] first) _ (sym (appended_are_new [] first last) ∙ distinct) in
+    let next : all_new first last ≡ true = and_right (all_new [] first) _ (sym (appended_are_new [] first last) ∙ distinct) in
     cc
 
 pub apart : (first last before table : List Text) (b : Bool) → before ≡ [] → table ≡ before ++ first → b ≡ list_all (λ n. not (is_in table n)) last → b ≡ list_all (λ n. not (is_in first n)) last
@@ -53,7 +53,7 @@ apart first last before table b empty grown is = is ∙ ap (λ t. list_all (λ n
 
 pub not_apart : (first last : List Text) (b : Bool) → b ≡ list_all (λ n. not (is_in first n)) last → b ≡ false → Distinct (first ++ last) → ⊥
 not_apart first last b is clash distinct =
-    let separate : list_all (λ n. not (is_in first n)) last ≡ true = and_first (list_all (λ n. not (is_in first n)) last) _ (and_second (all_new [] first) _ (sym (both_distinct first last) ∙ distinct)) in
+    let separate : list_all (λ n. not (is_in first n)) last ≡ true = and_left (list_all (λ n. not (is_in first n)) last) _ (and_right (all_new [] first) _ (sym (both_distinct first last) ∙ distinct)) in
     cc
 
 pub distinct_apart : (first last : List Text) (b : Bool) → all_new [] first ≡ true → all_new [] last ≡ true → b ≡ list_all (λ n. not (is_in first n)) last → b ≡ true → Distinct (first ++ last)

@@ -1,25 +1,23 @@
 -- The tables that the code makes are those of the source.
-use Rattle.std.proofs.Common.{add-one, append-nil, arith, not, ◌≡◌, ◌∙◌, refl, sym, ap, subst, ℕ, suc, ◌+◌, ◌≤◌, ◌&&◌, List, [], ◌∷◌, Option, Some, None, Bool, true, false, cond, IsTrue, map, length, sum_by, option_map}
+use Rattle.std.proofs.Common.{add-one, append-nil, arith, not, ◌≡◌, ◌∙◌, refl, sym, ap, subst, ℕ, suc, ◌+◌, ◌≤◌, ◌&&◌, List, [], ◌∷◌, Option, Some, None, Bool, true, false, cond, IsTrue, map, length, option_map}
 use Rattle.std.specs.List.{list_all, position_from}
 use Rattle.std.specs.Str.{bytes_eq}
 use Rattle.std.proofs.lemmas.Bool.{le-leb}
-use Rattle.std.proofs.lemmas.List.{length-map}
-use Rattle.std.proofs.lemmas.List.Concat.{length-flat_map}
 use Rattle.lus_syntax.specs.Lexemes.{Text}
-use Rattle.lus_syntax.specs.Trees.{TypeName, BoolName, IntName, DeclaredName, Fields, Definition, Alias, Enumeration, StructureOf, TypeDeclaration, Node, Tree}
+use Rattle.lus_syntax.specs.Trees.{TypeName, BoolName, IntName, DeclaredName, Definition, Alias, Enumeration, StructureOf, TypeDeclaration, Node, Tree}
 use Rattle.lus_values.specs.Lists.{Below, Each}
 use Rattle.lus_values.proofs.Lists.{below_at}
 use Rattle.lus_program.specs.declared.types.Kind.{Kind}
 use Rattle.lus_program.specs.declared.types.Kind.TheVariants as kinds
-use Rattle.lus_program.specs.Programs.{Field}
 use Rattle.lus_source.specs.Scopes.{Scope, entry}
 use Rattle.lus_source.specs.Loopless.{place_in, type_names}
 use Rattle.lus_source.specs.Named.{Distinct, Named, all_new, is_in, known, names_in}
-use Rattle.lus_source.specs.Sized.{DefinitionCounted, field_count, variable_count}
-use Rattle.lus_source.specs.Tables.{all_constructors, all_declared_by, constants_by, declared_by, fields_by, fields_of_kind, groups, kind_at, kind_named, kinds_by, numbered_from, placed, scope, signatures_by, tables, types_by}
+use Rattle.lus_source.specs.Sized.{DefinitionCounted, variable_count}
+use Rattle.lus_source.specs.Tables.{all_constructors, all_declared_by, constants_by, declared_by, fields_by, groups, kind_at, kind_named, kinds_by, numbered_from, placed, scope, signatures_by, tables, types_by}
 use Rattle.lus_source.specs.Types.{has_few_fields}
+use Rattle.lus_source.proofs.FieldsMeant.{length-fields_by}
 use Rattle.lus_source.proofs.AppendedNames.{all_new_apart, appended_are_new}
-use Rattle.lus_source.proofs.Steps.{and_first, and_second}
+use Rattle.lus_values.proofs.Equalities.{and_left, and_right}
 use Rattle.lus_declarations.specs.ByTable.{all_placed, entered, kind_in, names}
 use Rattle.lus_declarations.proofs.Placing.{length-kinds_by, names-kinds_by}
 use Rattle.lus_declarations.proofs.TableRows.{placed_new}
@@ -67,13 +65,13 @@ rows_agree f g (d ∷ ds) n m within same =
 -- of right names the constants are distinct, and so are the constructors
 module _ (p : Tree) (named : Named p) where
   pub constants_distinct : Distinct (known p []).constants
-  constants_distinct = and_first (all_new [] (known p []).constants) _ (sym (appended_are_new [] (known p []).constants (known p []).constructors) ∙ named.values)
+  constants_distinct = and_left (all_new [] (known p []).constants) _ (sym (appended_are_new [] (known p []).constants (known p []).constructors) ∙ named.values)
 
   pub constructors_distinct : Distinct (known p []).constructors
   constructors_distinct =
       let k = known p [] in
-      let behind : all_new k.constants k.constructors ≡ true = and_second (all_new [] k.constants) _ (sym (appended_are_new [] k.constants k.constructors) ∙ named.values) in
-      and_second (list_all (λ n. not (is_in k.constants n)) k.constructors) (all_new [] k.constructors) (sym (all_new_apart k.constants [] k.constructors) ∙ ap (λ l. all_new l k.constructors) (append-nil k.constants) ∙ behind)
+      let behind : all_new k.constants k.constructors ≡ true = and_right (all_new [] k.constants) _ (sym (appended_are_new [] k.constants k.constructors) ∙ named.values) in
+      and_right (list_all (λ n. not (is_in k.constants n)) k.constructors) (all_new [] k.constructors) (sym (all_new_apart k.constants [] k.constructors) ∙ ap (λ l. all_new l k.constructors) (append-nil k.constants) ∙ behind)
 
 -- what each table is made of
 pub record IsMade (p : Tree) (s : Scope) : Type 0 where
@@ -95,13 +93,10 @@ made_of_source p s made =
 -- ---- few fields
 
 module _ (kind : TypeName → Kind) where
-  length-fields_by : (fs : List Fields) → length (fields_by kind fs) ≡ field_count fs
-  length-fields_by fs = length-flat_map (λ g. fields_of_kind g.names (kind g.type_name)) fs ∙ ap (λ size. sum_by size fs) (λ i g. length-map {B = Field} g.names (λ n. record { name = n.text; kind = kind g.type_name }) i)
-
   has_few : (d : Definition) → DefinitionCounted d → IsTrue (has_few_fields (declared_by kind d))
   has_few (Alias y) few = refl
   has_few (Enumeration cs) few = refl
-  has_few (StructureOf fs) few = le-leb (length (fields_by kind fs)) 64 (subst (λ n. n ≤ 64) (sym (length-fields_by fs)) few.1)
+  has_few (StructureOf fs) few = le-leb (length (fields_by kind fs)) 64 (subst (λ n. n ≤ 64) (sym (length-fields_by kind fs)) few.1)
 
   and_is : (a b : Bool) → IsTrue a → IsTrue b → IsTrue (a && b)
   and_is true b p q = q

@@ -11,7 +11,7 @@ use Rattle.lus_source.specs.declared.entries.Placed.{Placed}
 use Rattle.lus_source.specs.Named.{is_in, all_new}
 use Rattle.lus_source.specs.ScopeView.{entries_of}
 use Rattle.lus_source.specs.Tables.{placed_from}
-use Rattle.lus_source.proofs.Steps.{and_first, and_second}
+use Rattle.lus_values.proofs.Equalities.{and_left, and_right}
 use Rattle.lus_declarations.specs.ByTable.{all_placed, names, row_put, rows_put, saturated}
 
 -- one row
@@ -51,11 +51,11 @@ seen_put f after before n v y grown is =
 
 -- rows of new names
 
-or_first : (a b : Bool) → (a || b) ≡ false → a ≡ false
+pub or_first : (a b : Bool) → (a || b) ≡ false → a ≡ false
 or_first true b h = cc
 or_first false b h = refl
 
-or_second : (a b : Bool) → (a || b) ≡ false → b ≡ false
+pub or_second : (a b : Bool) → (a || b) ≡ false → b ≡ false
 or_second true b h = cc
 or_second false b h = h
 
@@ -71,10 +71,10 @@ row_absent (e ∷ es) n v absent =
 
 module _ {X : Type 0} (es : List (Text × X)) (n : Text) (v : X) (ns : List Text) (new : all_new (names es) (n ∷ ns) ≡ true) where
   pub first_new : row_put es (n, v) ≡ es ++ (n, v) ∷ []
-  first_new = row_absent es n v (not_true (is_in (names es) n) (and_first (not (is_in (names es) n)) (all_new (names es ++ n ∷ []) ns) new))
+  first_new = row_absent es n v (not_true (is_in (names es) n) (and_left (not (is_in (names es) n)) (all_new (names es ++ n ∷ []) ns) new))
 
   pub others_new : all_new (names (es ++ (n, v) ∷ [])) ns ≡ true
-  others_new = ap (λ l. all_new l ns) (map-append (λ e. e.0) es ((n, v) ∷ [])) ∙ and_second (not (is_in (names es) n)) (all_new (names es ++ n ∷ []) ns) new
+  others_new = ap (λ l. all_new l ns) (map-append (λ e. e.0) es ((n, v) ∷ [])) ∙ and_right (not (is_in (names es) n)) (all_new (names es ++ n ∷ []) ns) new
 
 pub rows_new : {X : Type 0} (rs es : List (Text × X)) → all_new (names es) (names rs) ≡ true → rows_put es rs ≡ es ++ rs
 rows_new [] es new = sym (append-nil es)

@@ -1,7 +1,6 @@
 pub mod NameView
 pub mod Parts
 pub mod Sources
-pub mod GraphErrors
 pub mod Limits
 pub mod Orders
 pub mod ByTable

@@ -1,29 +1,33 @@
 //! Counts of declarations, against the limits of the language.
 
-ghost use Rattle.std.specs.Prelude.{◌≡◌, ◌≤◌, IfOk, OnOk, OnErr, map};
+ghost use Rattle.std.specs.Prelude.{◌≡◌, ◌≤◌, IfErr, IfOk, OnOk, OnErr, map};
 ghost use Rattle.std.specs.Bool.{Decides};
+ghost use Rattle.lus_syntax.specs.declared.refusal.RefusalNumber.TheVariants as numbers;
 ghost use Rattle.lus_syntax.specs.Limits.{most_variables};
+ghost use Rattle.lus_syntax.specs.Refusals.{HasShape};
 ghost use Rattle.lus_syntax.specs.View.{definition_seen, fields_seen, group_seen, node_seen, tree_seen};
+ghost use Rattle.lus_typing.specs.Refusals.{RefusesFor};
 ghost use Rattle.lus_source.specs.Sized.{Counted as IsCounted, DefinitionCounted, field_count, variable_count};
 ghost use Rattle.lus_source.specs.Tables.{groups};
 ghost use Rattle.lus_declarations.specs.Limits.{AreLeft};
 
-use lus_source::Counted;
+use lus_source::{Counted, Fault};
 use lus_syntax::{
     Definition, Fields, Group, MOST_CONSTRUCTORS, MOST_DECLARATIONS, MOST_FIELDS, MOST_VARIABLES,
-    Node, Place, Tree,
+    Node, Place, Refusal, RefusalNumber, Tree,
 };
 
 /// Checks that a source declares no more than the limits admit. The place is that of a name past a limit, or of the type or
 /// the node that has too much.
-pub fn check_counts(tree: Tree) -> Result<Counted, Place>
+pub fn check_counts(tree: Tree) -> Result<Counted, Refusal>
     ensures same { IfOk result (λ counted. counted ≡ tree) }
     ensures ok { OnOk result (IsCounted (tree_seen tree)) }
-    ensures refused { OnErr result (IsCounted (tree_seen tree) → ⊥) }
+    ensures refused { IfErr result (RefusesFor numbers.Limit (IsCounted (tree_seen tree))) }
+    ensures shaped { IfErr result HasShape }
 {
     match counts_fit(&tree) {
         Ok(()) => Ok(Counted::new(tree)),
-        Err(place) => Err(place),
+        Err(place) => Err(Fault::At(place).refusal(RefusalNumber::Limit)),
     }
 }
 

@@ -8,11 +8,13 @@ ghost use Rattle.lus_syntax.specs.View.{tree_seen};
 ghost use Rattle.lus_typing.specs.Refusals.{RefusesFor};
 ghost use Rattle.lus_source.specs.Loopless.{Loopless as IsLoopless, node_uses as calls_of_nodes, type_names as names_of_types, type_uses as uses_of_types};
 ghost use Rattle.lus_source.specs.Named.{Named as IsNamed};
+ghost use Rattle.lus_source.specs.ScopeView.{Faulty};
 ghost use Rattle.lus_source.specs.Sized.{Counted as IsCounted};
 
 use crate::named::{Named, Places};
 use crate::recursion::{order_of_nodes, order_of_types};
-use lus_syntax::{Refusal, Tree};
+use lus_source::Fault;
+use lus_syntax::{Refusal, RefusalNumber, Tree};
 use std::alloc::Global;
 use std::marker::Model;
 
@@ -99,6 +101,18 @@ pub fn check_recursion(alloc: Global, named: Named) -> Result<Loopless, Refusal>
     ensures ok { OnOk result (IsLoopless (tree_seen named)) }
     ensures refused { IfErr result (RefusesFor numbers.Recursion (IsLoopless (tree_seen named))) }
     ensures shaped { IfErr result HasShape }
+{
+    match ordered(alloc, named) {
+        Ok(loopless) => Ok(loopless),
+        Err(fault) => Err(fault.refusal(RefusalNumber::Recursion)),
+    }
+}
+
+/// The source with its orders.
+fn ordered(alloc: Global, named: Named) -> Result<Loopless, Fault>
+    ensures same { IfOk result (λ loopless. loopless ≡ named) }
+    ensures ok { OnOk result (IsLoopless (tree_seen named)) }
+    ensures refused { IfErr result (Faulty (IsLoopless (tree_seen named) → ⊥)) }
 {
     let types = order_of_types(alloc, &named)?;
     let nodes = order_of_nodes(alloc, &named)?;

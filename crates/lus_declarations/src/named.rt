@@ -1,16 +1,18 @@
 //! Sources whose names are right.
 
 ghost use Rattle.std.specs.Prelude.{◌≡◌, IfErr, IfOk, OnOk};
+ghost use Rattle.lus_syntax.specs.declared.refusal.RefusalNumber.TheVariants as numbers;
+ghost use Rattle.lus_syntax.specs.Refusals.{HasShape};
 ghost use Rattle.lus_syntax.specs.View.{tree_seen};
+ghost use Rattle.lus_typing.specs.Refusals.{RefusesFor};
 ghost use Rattle.lus_source.specs.Loopless.{node_names, place_in, type_names};
 ghost use Rattle.lus_source.specs.Named.{Named as IsNamed};
-ghost use Rattle.lus_source.specs.ScopeView.{Faulty};
 ghost use Rattle.lus_source.specs.Sized.{Counted as IsCounted};
 
 use crate::checking::names_of;
 use indexmap::IndexSet;
-use lus_source::{Counted, Fault};
-use lus_syntax::Tree;
+use lus_source::Counted;
+use lus_syntax::{Refusal, RefusalNumber, Tree};
 use std::alloc::Global;
 use std::marker::Model;
 
@@ -98,12 +100,16 @@ impl Named {
 /// Checks the names of a source. A fault stands at the name: a doubled one where it is declared again, an unknown one where it
 /// is used, an output or a local without an equation where it is declared, an equation with nothing on its left at its node's
 /// name.
-pub fn check_names(alloc: Global, counted: Counted) -> Result<Named, Fault>
+pub fn check_names(alloc: Global, counted: Counted) -> Result<Named, Refusal>
     ensures same { IfOk result (λ named. named ≡ counted) }
-    ensures named { OnOk result (IsNamed (tree_seen counted)) }
-    ensures refused { IfErr result (Faulty (IsNamed (tree_seen counted) → ⊥)) }
+    ensures ok { OnOk result (IsNamed (tree_seen counted)) }
+    ensures refused { IfErr result (RefusesFor numbers.Name (IsNamed (tree_seen counted))) }
+    ensures shaped { IfErr result HasShape }
 {
-    let names = names_of(alloc, counted.tree())?;
+    let names = match names_of(alloc, counted.tree()) {
+        Ok(names) => names,
+        Err(fault) => return Err(fault.refusal(RefusalNumber::Name)),
+    };
     let types = Places { names: names.types };
     let nodes = Places { names: names.nodes };
     Ok(Named {

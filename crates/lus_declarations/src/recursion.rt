@@ -1,71 +1,49 @@
 //! Recursion: a type or a node that leads back to itself.
 
-ghost use Rattle.std.specs.Prelude.{◌≡◌, IfOk, IfErr};
+ghost use Rattle.std.specs.Prelude.{IfOk, IfErr};
 ghost use Rattle.lus_graph.specs.Ways.{HasNoWayBack, IsOrder};
-ghost use Rattle.lus_syntax.specs.declared.refusal.RefusalNumber.TheVariants as numbers;
-ghost use Rattle.lus_syntax.specs.Refusals.{HasShape};
 ghost use Rattle.lus_syntax.specs.View.{tree_seen};
-ghost use Rattle.lus_declarations.specs.GraphErrors.{number_of};
-ghost use Rattle.lus_typing.specs.Refusals.{RefusesFor};
 ghost use Rattle.lus_source.specs.Loopless.{node_uses as calls_of_nodes, type_uses as uses_of_types};
+ghost use Rattle.lus_source.specs.ScopeView.{Faulty};
 
 use crate::named::Named;
 use crate::uses::{node_uses, type_uses};
 use lus_graph::{GraphError, order_of};
-use lus_syntax::{Expr, Part, Place, Refusal, RefusalNumber, Tree};
+use lus_source::Fault;
+use lus_syntax::{Expr, Part, Place, Tree};
 use std::alloc::Global;
 
-/// The places of types, each behind those of the types that it names.
-pub fn order_of_types(alloc: Global, named: &Named) -> Result<Vec<usize>, Refusal>
+/// The places of types, each behind those of the types that it names. A fault stands at the name of a type that leads back to
+/// itself.
+pub fn order_of_types(alloc: Global, named: &Named) -> Result<Vec<usize>, Fault>
     ensures order { IfOk result (λ order. IsOrder (uses_of_types (tree_seen named.now)) order.items) }
-    ensures refused { IfErr result (RefusesFor numbers.Recursion (HasNoWayBack (uses_of_types (tree_seen named.now)))) }
-    ensures shaped { IfErr result HasShape }
+    ensures refused { IfErr result (Faulty (HasNoWayBack (uses_of_types (tree_seen named.now)) → ⊥)) }
 {
     let uses = type_uses(alloc, named)?;
     match order_of(alloc, &uses) {
         Ok(order) => Ok(order),
-        Err(error) => Err(looping_type(named.tree(), &error)),
-    }
-}
-
-/// The places of nodes, each behind those of the nodes that it calls.
-pub fn order_of_nodes(alloc: Global, named: &Named) -> Result<Vec<usize>, Refusal>
-    ensures order { IfOk result (λ order. IsOrder (calls_of_nodes (tree_seen named.now)) order.items) }
-    ensures refused { IfErr result (RefusesFor numbers.Recursion (HasNoWayBack (calls_of_nodes (tree_seen named.now)))) }
-    ensures shaped { IfErr result HasShape }
-{
-    let uses = node_uses(alloc, named)?;
-    match order_of(alloc, &uses) {
-        Ok(order) => Ok(order),
-        Err(error) => Err(looping_node(named.tree(), &error)),
-    }
-}
-
-/// At the name of a type that leads back to itself.
-fn looping_type(tree: &Tree, error: &GraphError) -> Refusal
-    ensures number { result.number ≡ number_of error.now }
-    ensures shaped { HasShape result }
-{
-    match error {
-        GraphError::Memory => Refusal::memory(),
-        GraphError::Cycle(cycle) => {
-            let declaration = cycle.first().and_then(|first| tree.types.get(*first));
-            match declaration {
-                Some(declaration) => refusal_at(declaration.name.span.start),
-                None => refusal_at(FIRST_PLACE),
-            }
+        Err(GraphError::Memory) => Err(Fault::Memory),
+        Err(GraphError::Cycle(cycle)) => {
+            let place = place_of_type(named.tree(), &cycle);
+            Err(Fault::At(place.unwrap_or(FIRST_PLACE)))
         }
     }
 }
 
-/// At the name of a call that leads back to the node in which it stands.
-fn looping_node(tree: &Tree, error: &GraphError) -> Refusal
-    ensures number { result.number ≡ number_of error.now }
-    ensures shaped { HasShape result }
+/// The places of nodes, each behind those of the nodes that it calls. A fault stands at the name of a call that leads back to
+/// the node in which it stands.
+pub fn order_of_nodes(alloc: Global, named: &Named) -> Result<Vec<usize>, Fault>
+    ensures order { IfOk result (λ order. IsOrder (calls_of_nodes (tree_seen named.now)) order.items) }
+    ensures refused { IfErr result (Faulty (HasNoWayBack (calls_of_nodes (tree_seen named.now)) → ⊥)) }
 {
-    match error {
-        GraphError::Memory => Refusal::memory(),
-        GraphError::Cycle(cycle) => refusal_at(place_of_call(tree, cycle).unwrap_or(FIRST_PLACE)),
+    let uses = node_uses(alloc, named)?;
+    match order_of(alloc, &uses) {
+        Ok(order) => Ok(order),
+        Err(GraphError::Memory) => Err(Fault::Memory),
+        Err(GraphError::Cycle(cycle)) => {
+            let place = place_of_call(named.tree(), &cycle);
+            Err(Fault::At(place.unwrap_or(FIRST_PLACE)))
+        }
     }
 }
 
@@ -75,11 +53,10 @@ const FIRST_PLACE: Place = Place {
     column: 1,
 };
 
-fn refusal_at(place: Place) -> Refusal
-    ensures number { result.number ≡ numbers.Recursion }
-    ensures shaped { HasShape result }
-{
-    Refusal::new(RefusalNumber::Recursion, place.line, place.column)
+/// Where the first type of a cycle is declared.
+fn place_of_type(tree: &Tree, cycle: &[usize]) -> Option<Place> {
+    let declaration = tree.types.get(*cycle.first()?)?;
+    Some(declaration.name.span.start)
 }
 
 /// Where the first node of a cycle calls the next.

@@ -2,9 +2,12 @@
 
 ghost use Rattle.std.specs.Prelude.{◌≡◌, suc, IfErr, IfOk, OnOk, map, sum_by};
 ghost use Rattle.lus_values.specs.Lists.{item};
+ghost use Rattle.lus_syntax.specs.declared.refusal.RefusalNumber.TheVariants as numbers;
 ghost use Rattle.lus_syntax.specs.Limits.{most_leaves, most_nesting};
+ghost use Rattle.lus_syntax.specs.Refusals.{HasShape};
 ghost use Rattle.lus_syntax.specs.View.{definition_seen, fields_seen, tree_seen};
 ghost use Rattle.lus_typing.specs.Leaves.{AreTheLeaves};
+ghost use Rattle.lus_typing.specs.Refusals.{RefusesFor};
 ghost use Rattle.lus_source.specs.Meaning.{program_of};
 ghost use Rattle.lus_source.specs.ScopeView.{Faulty};
 ghost use Rattle.lus_source.specs.Sized.{Bounded, definition_leaves, definition_nesting, greatest, group_leaves, group_nesting, TypesBounded};
@@ -15,12 +18,24 @@ use crate::loopless::Loopless;
 use crate::named::Places;
 use crate::type_names::of_name;
 use lus_source::Fault;
-use lus_syntax::{Definition, Fields, MOST_LEAVES, MOST_NESTING};
+use lus_syntax::{Definition, Fields, MOST_LEAVES, MOST_NESTING, Refusal, RefusalNumber};
 use std::alloc::Global;
 
-/// Checks leaves and nesting of types and call depth of nodes against the limits, and gives the leaves. A fault stands at the
+/// Checks leaves and nesting of types and call depth of nodes against the limits, and gives the leaves. A refusal stands at the
 /// declared name.
-pub fn check_sizes(alloc: Global, loopless: &Loopless) -> Result<Vec<u32>, Fault>
+pub fn check_sizes(alloc: Global, loopless: &Loopless) -> Result<Vec<u32>, Refusal>
+    ensures leaves { IfOk result (λ leaves. AreTheLeaves (program_of (tree_seen loopless.now)) leaves.items) }
+    ensures ok { OnOk result (Bounded (tree_seen loopless.now)) }
+    ensures refused { IfErr result (RefusesFor numbers.Limit (Bounded (tree_seen loopless.now))) }
+    ensures shaped { IfErr result HasShape }
+{
+    match sizes(alloc, loopless) {
+        Ok(leaves) => Ok(leaves),
+        Err(fault) => Err(fault.refusal(RefusalNumber::Limit)),
+    }
+}
+
+fn sizes(alloc: Global, loopless: &Loopless) -> Result<Vec<u32>, Fault>
     ensures leaves { IfOk result (λ leaves. AreTheLeaves (program_of (tree_seen loopless.now)) leaves.items) }
     ensures ok { OnOk result (Bounded (tree_seen loopless.now)) }
     ensures err { IfErr result (Faulty (Bounded (tree_seen loopless.now) → ⊥)) }

@@ -1,6 +1,8 @@
 -- The tables that the code holds, as lists of entries, and what a fault tells.
 use Rattle.std.specs.Prelude.{List, map, string_bytes, String}
 use Rattle.std.specs.Global.{Global}
+use Rattle.lus_syntax.specs.declared.refusal.RefusalNumber.{RefusalNumber}
+use Rattle.lus_syntax.specs.declared.refusal.RefusalNumber.TheVariants as numbers
 use Rattle.lus_syntax.specs.Lexemes.{Text}
 use Rattle.lus_values.specs.View.{value_of}
 use Rattle.lus_program.specs.View.{declared_of}
@@ -14,6 +16,11 @@ use Rattle.lus_source.specs.Scopes.{Scope, Signature}
 abbrev pub Faulty : Type 0 → Fault → Type 0
 Faulty fact faults.Memory = Unit {0}
 Faulty fact (faults.At place) = fact
+
+-- the number of a fault in a pass that refuses by this one
+abbrev pub number_of : RefusalNumber → Fault → RefusalNumber
+number_of n faults.Memory = numbers.Memory
+number_of n (faults.At place) = n
 
 abbrev pub signature_of : StoredSignature → Signature
 signature_of g = record { place = g.place; kind = g.kind; inputs = g.inputs.items; outputs = g.outputs.items }

@@ -3,7 +3,7 @@
 ghost use Rattle.std.specs.Prelude.{◌≡◌};
 ghost use Rattle.lus_source.specs.declared.fault.Fault.TheVariants.{Memory as OfMemory};
 
-use lus_syntax::Place;
+use lus_syntax::{Place, Refusal, RefusalNumber};
 use lus_values::Memory;
 use std::alloc::{AllocError, AllocFailed};
 
@@ -11,6 +11,24 @@ use std::alloc::{AllocError, AllocFailed};
 pub enum Fault {
     Memory,
     At(Place),
+}
+
+impl Fault {
+    ghost use Rattle.std.specs.Prelude.{◌≡◌, ◌≢◌};
+    ghost use Rattle.lus_syntax.specs.declared.refusal.RefusalNumber.TheVariants as numbers;
+    ghost use Rattle.lus_syntax.specs.Refusals.{HasShape};
+    ghost use Rattle.lus_source.specs.ScopeView.{number_of};
+
+    /// The refusal of a pass that refuses by this number.
+    pub fn refusal(self, number: RefusalNumber) -> Refusal
+        ensures number { result.number ≡ number_of number self }
+        ensures shaped { number ≢ numbers.Memory → HasShape result }
+    {
+        match self {
+            Fault::Memory => Refusal::memory(),
+            Fault::At(place) => Refusal::new(number, place.line, place.column),
+        }
+    }
 }
 
 impl From<Memory> for Fault {

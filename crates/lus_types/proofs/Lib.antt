@@ -24,4 +24,3 @@ pub mod Groups
 pub mod TablesMeant
 pub mod FirstFaults
 pub mod PartSums
-pub mod Passed

@@ -1,7 +1,6 @@
 -- A program that a well-formed source means is within the limits of its declarations.
-use Rattle.std.proofs.Common.{arith, ◌≡◌, ℕ, ◌≤◌, List, [], ◌∷◌, length, map, flat_map, length-append, refl}
+use Rattle.std.proofs.Common.{arith, ◌≡◌, ℕ, ◌≤◌, List, [], ◌∷◌, length, map}
 use Rattle.std.proofs.Math.ListN.{length-map}
-use Rattle.std.proofs.lemmas.List.Sums.{sum_by-cons}
 use Rattle.std.specs.Prelude.{option_map}
 use Rattle.lus_values.specs.Lists.{Each}
 use Rattle.lus_syntax.specs.Limits.{most_constructors, most_variables}
@@ -14,6 +13,7 @@ use Rattle.lus_source.specs.Sized.{DefinitionCounted, variable_count}
 use Rattle.lus_typing.specs.Sound.{IsLimited}
 use Rattle.lus_source.specs.Tables.{declared_as, groups, kind_named, scope, text_of}
 use Rattle.lus_typing.specs.Kinds.{constructors_in}
+use Rattle.lus_declarations.proofs.Placing.{length-for_each}
 
 constructors_few : (p : Tree) (d : Definition) → DefinitionCounted d → constructors_in (declared_as p d) ≤ most_constructors
 constructors_few p (Enumeration cs) h = let size = length-map cs text_of in omega (arith, h, size)
@@ -24,16 +24,6 @@ types_few : (p : Tree) (ds : List TypeDeclaration) → Each (λ d. DefinitionCou
 types_few p [] h = tt
 types_few p (d ∷ ds) h = (constructors_few p d.definition h.0, types_few p ds h.1)
 
--- as many as their groups declare
-as_many : {X : Type 0} (thing : Group → Named → X) (gs : List Group) → length (flat_map (λ g. map (thing g) g.names) gs) ≡ variable_count gs
-as_many thing [] = refl
-as_many thing (g ∷ gs) =
-    let here = length-map g.names (thing g) in
-    let both = length-append (map (thing g) g.names) (flat_map (λ h. map (thing h) h.names) gs) in
-    let rest = as_many thing gs in
-    let sum = sum_by-cons (λ (h : Group). length h.names) g gs in
-    omega (arith, here, both, rest, sum)
-
 abbrev variable_meant : Tree → Scope → Group → Named → Variable
 variable_meant p s g n = record { name = n.text; kind = kind_named p g.type_name; test = option_map (test_meant s) g.test }
 
@@ -43,7 +33,7 @@ few_here h e = omega (arith, h, e)
 variables_few : (p : Tree) (fs : List SourceNode) → Each (λ f. variable_count (groups f) ≤ most_variables) fs
     → Each (λ f. length f.variables ≤ most_variables) (map (node_meant p) fs)
 variables_few p [] h = tt
-variables_few p (f ∷ fs) h = (few_here h.0 (as_many (variable_meant p (scope p f)) (groups f)), variables_few p fs h.1)
+variables_few p (f ∷ fs) h = (few_here h.0 (length-for_each (variable_meant p (scope p f)) (groups f)), variables_few p fs h.1)
 
 pub meant_limited : (t : Tree) → WellFormed t → IsLimited (program_of t)
 meant_limited t formed = record {

@@ -8,6 +8,7 @@ use Rattle.lus_syntax.specs.Lexemes.{Text}
 use Rattle.lus_values.proofs.Equalities.{and_left, and_right}
 use Rattle.lus_source.specs.Named.{is_in, all_new}
 use Rattle.lus_source.proofs.AppendedNames.{is_in-append}
+use Rattle.lus_declarations.proofs.TableRows.{or_first, or_second}
 use Rattle.lus_types.proofs.Texts.{same_text, text_self}
 
 pub list_all_each : {X : Type 0} (test : X → Bool) (xs : List X) → list_all test xs ≡ true → Each (λ x. test x ≡ true) xs
@@ -25,14 +26,6 @@ or_left false b h = cc
 or_false : (a b : Bool) → a ≡ false → b ≡ false → (a || b) ≡ false
 or_false true b h k = h
 or_false false b h k = k
-
-or_first : (a b : Bool) → (a || b) ≡ false → a ≡ false
-or_first true b h = h
-or_first false b h = refl
-
-or_last : (a b : Bool) → (a || b) ≡ false → b ≡ false
-or_last true b h = cc
-or_last false b h = h
 
 pub in_left : (ms ns : List Text) (t : Text) → is_in ms t ≡ true → is_in (ms ++ ns) t ≡ true
 in_left ms ns t h = is_in-append ms ns t ∙ or_left (is_in ms t) (is_in ns t) h
@@ -92,7 +85,7 @@ are_apart before (n ∷ ns) h =
     (new_apart (before ++ n ∷ []) ns rest n (in_right before (n ∷ []) n (or_left (bytes_eq n n) false (text_self n))), are_apart (before ++ n ∷ []) ns rest)
 
 in_tail : (t m : Text) (ms ns : List Text) (b : Bool) → bytes_eq t m ≡ b → is_in (ms ++ ns) m ≡ false → (is_in ms t ≡ true → is_in ns t ≡ false) → (b || is_in ms t) ≡ true → is_in ns t ≡ false
-in_tail t m ms ns true same new rest h = subst (λ u. is_in ns u ≡ false) (sym (same_text t m same)) (or_last (is_in ms m) (is_in ns m) (sym (is_in-append ms ns m) ∙ new))
+in_tail t m ms ns true same new rest h = subst (λ u. is_in ns u ≡ false) (sym (same_text t m same)) (or_second (is_in ms m) (is_in ns m) (sym (is_in-append ms ns m) ∙ new))
 in_tail t m ms ns false same new rest h = rest h
 
 pub apart_parts : (ms ns : List Text) (t : Text) → AreApart (ms ++ ns) → is_in ms t ≡ true → is_in ns t ≡ false
@@ -120,7 +113,7 @@ none_or false m h k = k
 
 pub count_none : (t : Text) (ns : List Text) → is_in ns t ≡ false → text_count t ns ≡ 0
 count_none t [] h = refl
-count_none t (n ∷ ns) h = none_or (bytes_eq t n) (text_count t ns) (or_first (bytes_eq t n) (is_in ns t) h) (count_none t ns (or_last (bytes_eq t n) (is_in ns t) h))
+count_none t (n ∷ ns) h = none_or (bytes_eq t n) (text_count t ns) (or_first (bytes_eq t n) (is_in ns t) h) (count_none t ns (or_second (bytes_eq t n) (is_in ns t) h))
 
 one_or : (t n : Text) (ns : List Text) (b : Bool) → bytes_eq t n ≡ b → is_in ns n ≡ false → (is_in ns t ≡ true → text_count t ns ≡ 1) → (b || is_in ns t) ≡ true → cond b (suc (text_count t ns)) (text_count t ns) ≡ 1
 one_or t n ns true same new rest h = ap (λ m. suc m) (count_none t ns (subst (λ u. is_in ns u ≡ false) (sym (same_text t n same)) new))

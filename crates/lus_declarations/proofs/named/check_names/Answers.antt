@@ -13,18 +13,21 @@ few keys name xs same within = omega (arith, sym (length-map keys string_bytes) 
 
 pub invariant_of-types : goal.invariant_of-types
 invariant_of-types c =
-    few c.in_ok-names.names.types.keys (λ d. d.name.text) (tree_seen c.tree.result.now).types (ap (λ (k : Known). k.types) c.in_ok-names.ensures.tables) c.tree.ensures.counted.types
+    few c.in-Ok.names.types.keys (λ d. d.name.text) (tree_seen c.tree.result.now).types (ap (λ (k : Known). k.types) c.in-Ok.ensures.tables) c.tree.ensures.counted.types
 
 pub invariant_of-nodes : goal.invariant_of-nodes
 invariant_of-nodes c =
-    few c.in_ok-names.names.nodes.keys (λ f. f.name.text) (tree_seen c.tree.result.now).nodes (ap (λ (k : Known). k.nodes) c.in_ok-names.ensures.tables) c.tree.ensures.counted.nodes
+    few c.in-Ok.names.nodes.keys (λ f. f.name.text) (tree_seen c.tree.result.now).nodes (ap (λ (k : Known). k.nodes) c.in-Ok.ensures.tables) c.tree.ensures.counted.nodes
 
 pub invariant_of-result : goal.invariant_of-result
 invariant_of-result c =
-    let has : HasNames (tree_seen c.tree.result.now) (map string_bytes c.in_ok-names.names.types.keys) (map string_bytes c.in_ok-names.names.nodes.keys) = record {
+    let has : HasNames (tree_seen c.tree.result.now) (map string_bytes c.in-Ok.names.types.keys) (map string_bytes c.in-Ok.names.nodes.keys) = record {
       counted = c.tree.ensures.counted;
-      named = c.in_ok-names.ensures.named;
-      types = ap (λ (k : Known). k.types) c.in_ok-names.ensures.tables;
-      nodes = ap (λ (k : Known). k.nodes) c.in_ok-names.ensures.tables;
+      named = c.in-Ok.ensures.named;
+      types = ap (λ (k : Known). k.types) c.in-Ok.ensures.tables;
+      nodes = ap (λ (k : Known). k.nodes) c.in-Ok.ensures.tables;
     } in
     rw (← c.tree.ensures.same) has
+
+pub returns-in-Err-clause-shaped : goal.returns-in-Err-clause-shaped
+returns-in-Err-clause-shaped c = c.refusal.ensures.shaped (λ same. cc)

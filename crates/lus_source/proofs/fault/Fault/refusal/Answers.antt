@@ -1,6 +1,6 @@
 use Rattle.std.proofs.Common.{◌∙◌, sym}
 use Rattle.lus_syntax.proofs.Shapes.{shaped_at, shaped_nowhere}
-use Rattle.lus_types.proofs.passes.refusal.Goals as goal
+use Rattle.lus_source.proofs.fault.Fault.refusal.Goals as goal
 
 pub returns-in-Memory-clause-shaped : goal.returns-in-Memory-clause-shaped
 returns-in-Memory-clause-shaped c = λ other. let m = c.memory.ensures in shaped_nowhere _ m.line m.column m.cycle
