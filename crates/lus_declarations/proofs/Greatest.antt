@@ -1,5 +1,5 @@
 -- The greatest of a list, one item at a time.
-use Rattle.std.proofs.Common.{arith, ◌≡◌, ◌∙◌, refl, sym, ap, ℕ, ◌+◌, ◌<◌, List, [], ◌∷◌, ◌++◌, length, get_or, take, map, max, Contains}
+use Rattle.std.proofs.Common.{arith, ◌≡◌, ◌∙◌, refl, sym, ap, ℕ, ◌+◌, ◌<◌, List, [], ◌∷◌, ◌++◌, length, get_or, take, max, Contains}
 use Rattle.std.proofs.lemmas.Bool.Decides.{nat_tests}
 use Rattle.std.proofs.lemmas.List.Elements.{Contains-append_left, Contains-append_right}
 use Rattle.std.proofs.Math.Seq.{take-suc}
@@ -17,17 +17,6 @@ greatest-push f (x ∷ xs) y =
 
 pub greatest-more : {X : Type 0} (f : X → ℕ) (xs : List X) (i : ℕ) (d : X) → i < length xs → greatest f (take (i + 1) xs) ≡ max (greatest f (take i xs)) (f (get_or xs i d))
 greatest-more f xs i d lt = ap (greatest f) (rw (add-one i) (take-suc xs i d lt)) ∙ greatest-push f (take i xs) (get_or xs i d) ∙ greater-is_max (greatest f (take i xs)) (f (get_or xs i d))
-
-pub greatest-map : {X Y : Type 0} (f : Y → ℕ) (g : X → Y) (xs : List X) → greatest f (map g xs) ≡ greatest (λ x. f (g x)) xs
-greatest-map f g [] = refl
-greatest-map f g (x ∷ xs) = ap (greater (f (g x))) (greatest-map f g xs)
-
-pub greatest-more_map : {X Y : Type 0} (f : Y → ℕ) (g : X → Y) (xs : List X) (i : ℕ) (x : X) → i < length xs → x ≡ get_or xs i x → greatest f (map g (take (i + 1) xs)) ≡ max (greatest f (map g (take i xs))) (f (g x))
-greatest-more_map f g xs i x lt here =
-    let more = greatest-more (λ y. f (g y)) xs i x lt in
-    let read : max (greatest (λ y. f (g y)) (take i xs)) (f (g (get_or xs i x))) ≡ max (greatest f (map g (take i xs))) (f (g x)) =
-    rw (greatest-map f g (take i xs)) (ap (λ y. max (greatest (λ z. f (g z)) (take i xs)) (f (g y))) (sym here)) in
-    greatest-map f g (take (i + 1) xs) ∙ more ∙ read
 
 -- the same of each is the same of the greatest
 pub greatest-same : (f g : ℕ → ℕ) (xs : List ℕ) → ((x : ℕ) → Contains xs x → f x ≡ g x) → greatest f xs ≡ greatest g xs

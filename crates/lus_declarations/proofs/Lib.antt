@@ -10,7 +10,7 @@ pub mod TypesByUses
 pub mod LeavesMeant
 pub mod TypeTables
 pub mod Greatest
-pub mod CallsByUses
+pub mod DeepThings
 pub mod TableRows
 pub mod Placing
 pub mod OfSource

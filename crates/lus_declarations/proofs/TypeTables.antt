@@ -14,10 +14,10 @@ use Rattle.lus_values.proofs.Lists.{below_all}
 use Rattle.lus_graph.specs.Ways.{IsOrder}
 use Rattle.lus_source.specs.Loopless.{definition_uses, type_names, type_uses}
 use Rattle.lus_source.specs.Tables.{definition_at, definition_kind, kind_at, no_definition, AreKinds}
-use Rattle.lus_source.specs.Sized.{definition_leaves, definition_nesting, leaves_at, nesting_at}
+use Rattle.lus_source.specs.Sized.{definition_leaves, leaves_at}
 use Rattle.lus_graph.proofs.AlongOrders.{IsFilled, filled_all}
 use Rattle.lus_declarations.proofs.AgainstLimits.{filled_next, one_more, one_past, all_within}
-use Rattle.lus_declarations.proofs.TypesByUses.{kind_step_local, leaves_step_local, nesting_step_local, types_inside}
+use Rattle.lus_declarations.proofs.TypesByUses.{kind_step_local, leaves_step_local, types_inside}
 
 -- the place of the order at i
 pub at_place : (order : List ℕ) (i : ℕ) → i < length order → Contains order (get_or order i 0)
@@ -82,20 +82,6 @@ module _ (t : StoredTree) where
           let p = tree_seen t in
           one_past (type_uses p) order o (types_inside p) (length p.types) 0 1 1024 (λ at k. definition_leaves (type_names p) at (definition_at p k)) (leaves_step_local p) count i table v lt filled (leaves_is is) past
 
-      nesting_right : v ≡ definition_nesting names (item 0 table) (definition_seen d) → v ≡ definition_nesting (type_names (tree_seen t)) (item 0 table) (definition_at (tree_seen t) (get_or order i 0))
-      nesting_right is = is ∙ rw (here, named) refl
-
-      pub nesting_more : length table ≡ length t.types.items → IsFilled 0 (nesting_at (tree_seen t)) (take i order) table → v ≡ definition_nesting names (item 0 table) (definition_seen d)
-          → IsFilled 0 (nesting_at (tree_seen t)) (take (i + 1) order) (set table (get_or order i 0) v)
-      nesting_more size filled is =
-          let p = tree_seen t in
-          one_more (type_uses p) order o (types_inside p) (length p.types) 0 0 64 (λ at k. definition_nesting (type_names p) at (definition_at p k)) (nesting_step_local p) count i table v lt (size ∙ sym types_length) filled (nesting_right is)
-
-      pub nesting_past : IsFilled 0 (nesting_at (tree_seen t)) (take i order) table → v ≡ definition_nesting names (item 0 table) (definition_seen d) → 64 < v → Below (length (map type_seen t.types.items)) (λ k. nesting_at (tree_seen t) k ≤ 64) → ⊥
-      nesting_past filled is past =
-          let p = tree_seen t in
-          one_past (type_uses p) order o (types_inside p) (length p.types) 0 0 64 (λ at k. definition_nesting (type_names p) at (definition_at p k)) (nesting_step_local p) count i table v lt filled (nesting_right is) past
-
     pub leaves_whole : (i : ℕ) (table : List ℕ) → length order ≤ i → length table ≡ length t.types.items → IsFilled 1 (leaves_at (tree_seen t)) (take i order) table → All (λ k. k ≤ 1024) table
         → Below (length (map type_seen t.types.items)) (λ k. leaves_at (tree_seen t) k ≤ 1024)
     leaves_whole i table le size filled small =
@@ -104,9 +90,3 @@ module _ (t : StoredTree) where
 
     pub leaves_right : (i : ℕ) (table : List ℕ) → length order ≤ i → IsFilled 1 (leaves_at (tree_seen t)) (take i order) table → (k : ℕ) → k < length (map type_seen t.types.items) → item 1 table k ≡ leaves_at (tree_seen t) k
     leaves_right i table le filled k lt = filled_all (type_uses (tree_seen t)) order o 1 (leaves_at (tree_seen t)) table i k le filled (omega (arith, lt, count))
-
-    pub nesting_whole : (i : ℕ) (table : List ℕ) → length order ≤ i → length table ≡ length t.types.items → IsFilled 0 (nesting_at (tree_seen t)) (take i order) table → All (λ k. k ≤ 64) table
-        → Below (length (map type_seen t.types.items)) (λ k. nesting_at (tree_seen t) k ≤ 64)
-    nesting_whole i table le size filled small =
-        let p = tree_seen t in
-        all_within (type_uses p) order o (types_inside p) (length p.types) 0 0 64 (λ at k. definition_nesting (type_names p) at (definition_at p k)) (nesting_step_local p) count i table le (size ∙ sym types_length) filled small

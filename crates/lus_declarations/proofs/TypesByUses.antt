@@ -1,5 +1,5 @@
 -- What a declared type has comes from what the types have that its declaration names.
-use Rattle.std.proofs.Common.{arith, ◌≡◌, refl, ap, ℕ, suc, ◌*◌, ◌<◌, List, [], ◌∷◌, Option, Some, None, length, flat_map, sum_by, Contains, All}
+use Rattle.std.proofs.Common.{arith, ◌≡◌, refl, ap, ℕ, ◌*◌, ◌<◌, List, [], ◌∷◌, Option, Some, None, length, flat_map, sum_by, Contains, All}
 use Rattle.std.specs.Option.{option_to_list}
 use Rattle.std.proofs.lemmas.List.{length-map}
 use Rattle.std.proofs.lemmas.List.Elements.{Contains-append_left, Contains-append_right, All-nil, All-append, All-contains}
@@ -10,7 +10,7 @@ use Rattle.lus_program.specs.declared.types.Kind.{Kind}
 use Rattle.lus_program.specs.declared.types.Kind.TheVariants as kinds
 use Rattle.lus_source.specs.Loopless.{place_in, type_names, named_type, definition_uses, type_uses}
 use Rattle.lus_source.specs.Tables.{of_type, definition_at, definition_kind}
-use Rattle.lus_source.specs.Sized.{greatest, definition_leaves, definition_nesting}
+use Rattle.lus_source.specs.Sized.{definition_leaves}
 use Rattle.lus_source.proofs.TypesMeant.{used_is}
 use Rattle.lus_declarations.proofs.NamesInside.{places_inside}
 use Rattle.lus_graph.proofs.AlongOrders.{IsLocal, IsInside}
@@ -39,24 +39,10 @@ module _ (types : List Text) where
       let rest = sums_local at at' fs (λ t among. agree t (Contains-append_right (named_type types g.type_name) us t among)) in
       sums_same (λ h. length h.names * of_type types 1 1 at h.type_name) (λ h. length h.names * of_type types 1 1 at' h.type_name) g fs (ap (λ n. length g.names * n) first) rest
 
-  greatest_local : (at at' : ℕ → ℕ) (fs : List Fields) → ((t : ℕ) → Contains (flat_map (λ g. named_type types g.type_name) fs) t → at t ≡ at' t)
-      → greatest (λ g. of_type types 0 0 at g.type_name) fs ≡ greatest (λ g. of_type types 0 0 at' g.type_name) fs
-  greatest_local at at' [] agree = refl
-  greatest_local at at' (g ∷ fs) agree =
-      let us = flat_map (λ h. named_type types h.type_name) fs in
-      let first = name_local 0 0 at at' g.type_name (λ t among. agree t (Contains-append_left (named_type types g.type_name) us t among)) in
-      let rest = greatest_local at at' fs (λ t among. agree t (Contains-append_right (named_type types g.type_name) us t among)) in
-      rw (first, rest) refl
-
   leaves_local : (at at' : ℕ → ℕ) (d : Definition) → ((t : ℕ) → Contains (definition_uses types d) t → at t ≡ at' t) → definition_leaves types at d ≡ definition_leaves types at' d
   leaves_local at at' (Alias y) agree = name_local 1 1 at at' y agree
   leaves_local at at' (Enumeration cs) agree = refl
   leaves_local at at' (StructureOf fs) agree = sums_local at at' fs agree
-
-  nesting_local : (at at' : ℕ → ℕ) (d : Definition) → ((t : ℕ) → Contains (definition_uses types d) t → at t ≡ at' t) → definition_nesting types at d ≡ definition_nesting types at' d
-  nesting_local at at' (Alias y) agree = name_local 0 0 at at' y agree
-  nesting_local at at' (Enumeration cs) agree = refl
-  nesting_local at at' (StructureOf fs) agree = ap suc (greatest_local at at' fs agree)
 
   kind_local : (at at' : ℕ → Kind) (k : ℕ) (d : Definition) → ((t : ℕ) → Contains (definition_uses types d) t → at t ≡ at' t) → definition_kind types at k d ≡ definition_kind types at' k d
   kind_local at at' k (Alias y) agree = name_local kinds.Bool kinds.Int at at' y agree
@@ -87,9 +73,6 @@ types_inside p t y among =
 
 pub leaves_step_local : (p : Tree) → IsLocal (type_uses p) (λ at t. definition_leaves (type_names p) at (definition_at p t))
 leaves_step_local p at at' t agree = leaves_local (type_names p) at at' (definition_at p t) (λ y among. agree y (rw (used_is p t) among))
-
-pub nesting_step_local : (p : Tree) → IsLocal (type_uses p) (λ at t. definition_nesting (type_names p) at (definition_at p t))
-nesting_step_local p at at' t agree = nesting_local (type_names p) at at' (definition_at p t) (λ y among. agree y (rw (used_is p t) among))
 
 pub kind_step_local : (p : Tree) → IsLocal (type_uses p) (λ at t. definition_kind (type_names p) at t (definition_at p t))
 kind_step_local p at at' t agree = kind_local (type_names p) at at' t (definition_at p t) (λ y among. agree y (rw (used_is p t) among))

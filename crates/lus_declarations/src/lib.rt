@@ -1,12 +1,12 @@
 //! What a source declares, checked and resolved, before any right side is elaborated.
 #![tactic(auto)]
 
-mod calls;
 mod checking;
 mod counts;
 mod declarations;
 mod declared_kinds;
 mod definitions;
+mod depths;
 mod left;
 mod loopless;
 mod named;

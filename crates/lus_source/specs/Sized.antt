@@ -1,13 +1,13 @@
 -- The limits of a source: counts, and what counts only where nothing leads back to itself.
-use Rattle.std.specs.Prelude.{◌*◌, ◌<◌, ◌≤◌, ℕ, suc, true, false, List, [], ◌∷◌, length, sum_by, nat_lt}
+use Rattle.std.specs.Prelude.{◌+◌, ◌*◌, ◌<◌, ◌≤◌, ℕ, true, false, List, [], ◌∷◌, length, map, replicate, sum_by, nat_lt}
 use Rattle.lus_syntax.specs.Limits.{most_calls_deep, most_constructors, most_declarations, most_fields, most_leaves, most_nesting, most_variables}
 use Rattle.lus_syntax.specs.Lexemes.{Text}
 use Rattle.lus_syntax.specs.Trees.{Fields, Definition, Alias, Enumeration, StructureOf, Group, Tree}
-use Rattle.lus_values.specs.Lists.{Each, Below}
+use Rattle.lus_values.specs.Lists.{item, Each, Below}
 use Rattle.lus_graph.specs.Along.{within}
 use Rattle.lus_source.specs.Tables.{groups, of_type, definition_at}
-use Rattle.lus_graph.specs.Ways.{used}
-use Rattle.lus_source.specs.Loopless.{node_uses, type_names}
+use Rattle.lus_graph.specs.Ways.{Uses, used}
+use Rattle.lus_source.specs.Loopless.{node_uses, type_names, type_uses}
 
 abbrev pub field_count : List Fields → ℕ
 field_count fs = sum_by (λ g. length g.names) fs
@@ -49,32 +49,29 @@ definition_leaves types at (StructureOf fs) = sum_by (group_leaves types at) fs
 abbrev pub leaves_at : Tree → ℕ → ℕ
 leaves_at p = within (length p.types) 0 (λ at t. definition_leaves (type_names p) at (definition_at p t))
 
--- how deep structures stand in fields that are declared together
-abbrev pub group_nesting : List Text → (ℕ → ℕ) → Fields → ℕ
-group_nesting types at g = of_type types 0 0 at g.type_name
+-- how deep things go: each its own levels deeper than the deepest of those that it uses
+abbrev pub depth_in : Uses → List ℕ → ℕ → ℕ
+depth_in uses own = within (length uses) 0 (λ at x. item 0 own x + greatest at (used uses x))
 
-abbrev pub definition_nesting : List Text → (ℕ → ℕ) → Definition → ℕ
-definition_nesting types at (Alias y) = of_type types 0 0 at y
-definition_nesting types at (Enumeration cs) = 0
-definition_nesting types at (StructureOf fs) = suc (greatest (group_nesting types at) fs)
+-- a structure is a level of its own
+abbrev pub own_level : Definition → ℕ
+own_level (StructureOf fs) = 1
+own_level d = 0
 
 -- how deep structures stand in each type: a structure is one deeper than its deepest field
 abbrev pub nesting_at : Tree → ℕ → ℕ
-nesting_at p = within (length p.types) 0 (λ at t. definition_nesting (type_names p) at (definition_at p t))
+nesting_at p = depth_in (type_uses p) (map (λ d. own_level d.definition) p.types)
 
 -- how deep each node's calls go: a node without calls has 1
 abbrev pub call_depth_at : Tree → ℕ → ℕ
-call_depth_at p = within (length p.nodes) 0 (λ at f. suc (greatest at (used (node_uses p) f)))
+call_depth_at p = depth_in (node_uses p) (replicate (length p.nodes) 1)
 
--- no type has too many leaves, or structures too deep in it
-pub record TypesBounded (p : Tree) : Type 0 where
-  pub leaves : Below (length p.types) (λ t. leaves_at p t ≤ most_leaves)
-  pub nesting : Below (length p.types) (λ t. nesting_at p t ≤ most_nesting)
+-- each of the first n is within a limit
+abbrev pub AreWithin : ℕ → (ℕ → ℕ) → ℕ → Type 0
+AreWithin n at most = Below n (λ k. at k ≤ most)
 
--- no node's calls go too deep
-abbrev pub CallsBounded : Tree → Type 0
-CallsBounded p = Below (length p.nodes) (λ f. call_depth_at p f ≤ most_calls_deep)
-
+-- no type has too many leaves, or structures too deep in it, and no node's calls go too deep
 pub record Bounded (p : Tree) : Type 0 where
-  pub types : TypesBounded p
-  pub calls : CallsBounded p
+  pub leaves : AreWithin (length p.types) (leaves_at p) most_leaves
+  pub nesting : AreWithin (length p.types) (nesting_at p) most_nesting
+  pub calls : AreWithin (length p.nodes) (call_depth_at p) most_calls_deep
