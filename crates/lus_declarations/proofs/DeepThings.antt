@@ -43,9 +43,9 @@ module _ (us : List (Vec ℕ Global)) (own : List ℕ) (size : length own ≡ le
       depth_is =
           ap₂ ◌+◌ own_is deepest_is
           ∙ deeper_local (item 0 table) depth (get_or order i 0) (λ y among. ⊎_elim
-            (λ thing. filled y (uses_before (uses_of us) order o.ordered i y lt thing among))
-            (λ past. get_or_past table y 0 (omega (arith, past, long, uses_length us)) ∙ sym (has_depth y ∙ deeper_nothing depth y past))
-            (cases_lt y (length (uses_of us))))
+          (λ thing. filled y (uses_before (uses_of us) order o.ordered i y lt thing among))
+          (λ past. get_or_past table y 0 (omega (arith, past, long, uses_length us)) ∙ sym (has_depth y ∙ deeper_nothing depth y past))
+          (cases_lt y (length (uses_of us))))
           ∙ sym (has_depth (get_or order i 0))
 
       pub depth_more : (v : ℕ) → v ≡ levels + deepest → IsFilled 0 depth (take (i + 1) order) (set table (get_or order i 0) v)

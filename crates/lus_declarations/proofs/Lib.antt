@@ -3,9 +3,7 @@ pub mod NewNames
 pub mod GroupNames
 pub mod NodeParts
 pub mod NamePlaces
-pub mod NamesInside
 pub mod Counting
-pub mod AgainstLimits
 pub mod TypesByUses
 pub mod LeavesMeant
 pub mod TypeTables

@@ -12,7 +12,7 @@ use Rattle.lus_source.specs.Loopless.{place_in, type_names, named_type, definiti
 use Rattle.lus_source.specs.Tables.{of_type, definition_at, definition_kind}
 use Rattle.lus_source.specs.Sized.{definition_leaves}
 use Rattle.lus_source.proofs.TypesMeant.{used_is}
-use Rattle.lus_declarations.proofs.NamesInside.{places_inside}
+use Rattle.lus_declarations.proofs.NamePlaces.{places_inside}
 use Rattle.lus_graph.proofs.AlongOrders.{IsLocal, IsInside}
 
 -- locality

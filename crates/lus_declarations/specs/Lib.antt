@@ -2,5 +2,4 @@ pub mod NameView
 pub mod Parts
 pub mod Sources
 pub mod Limits
-pub mod Orders
 pub mod ByTable

@@ -1,8 +1,9 @@
--- A source of right names.
-use Rattle.std.specs.Prelude.{◌≡◌, List}
+-- What passes have found of a source.
+use Rattle.std.specs.Prelude.{◌≡◌, ℕ, List}
 use Rattle.lus_syntax.specs.Lexemes.{Text}
 use Rattle.lus_syntax.specs.Trees.{Tree}
-use Rattle.lus_source.specs.Loopless.{node_names, type_names}
+use Rattle.lus_graph.specs.Ways.{IsOrder}
+use Rattle.lus_source.specs.Loopless.{Loopless, node_names, node_uses, type_names, type_uses}
 use Rattle.lus_source.specs.Named.{Named}
 use Rattle.lus_source.specs.Sized.{Counted}
 
@@ -12,3 +13,9 @@ pub record HasNames (p : Tree) (ts ns : List Text) : Type 0 where
   pub named : Named p
   pub types : ts ≡ type_names p
   pub nodes : ns ≡ node_names p
+
+-- nothing leads back to itself, and types and nodes stand in orders, each behind those that it uses
+pub record AreOrders (p : Tree) (ts ns : List ℕ) : Type 0 where
+  pub loopless : Loopless p
+  pub types : IsOrder (type_uses p) ts
+  pub nodes : IsOrder (node_uses p) ns

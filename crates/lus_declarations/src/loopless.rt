@@ -32,7 +32,7 @@ impl Model for Loopless {
     ghost use Rattle.lus_syntax.specs.contracts.tree.Expr as source_expr;
     ghost use Rattle.lus_syntax.specs.declared.tree.Tree.{Tree as StoredTree};
     ghost use Rattle.lus_syntax.specs.View.{tree_seen};
-    ghost use Rattle.lus_declarations.specs.Orders.{AreOrders};
+    ghost use Rattle.lus_declarations.specs.Sources.{AreOrders};
 
     ghost Value = { StoredTree };
 

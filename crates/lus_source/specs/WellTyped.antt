@@ -87,10 +87,14 @@ abbrev pub memory_fits : NodeKind → Scope → List Equation → Bool
 memory_fits node_kinds.Node s qs = true
 memory_fits node_kinds.Function s qs = list_all (λ q. is_pure s q.right) qs
 
-pub record NodeTyped (p : Tree) (f : Node) : Type 0 where
-  pub tests : IsTrue (list_all (λ g. test_typed (scope p f) g.test) (groups f))
-  pub equations : IsTrue (list_all (equation_typed (scope p f)) f.equations)
-  pub memory : IsTrue (memory_fits f.kind (scope p f) f.equations)
+-- by what the names in a node's text stand for, it is well typed
+pub record IsTypedIn (s : Scope) (f : Node) : Type 0 where
+  pub tests : IsTrue (list_all (λ g. test_typed s g.test) (groups f))
+  pub equations : IsTrue (list_all (equation_typed s) f.equations)
+  pub memory : IsTrue (memory_fits f.kind s f.equations)
+
+abbrev pub NodeTyped : Tree → Node → Type 0
+NodeTyped p f = IsTypedIn (scope p f) f
 
 pub record IsTyped (p : Tree) : Type 0 where
   pub constants : IsTrue (list_all (constant_typed p) p.constants)

@@ -13,8 +13,8 @@ use Rattle.lus_source.specs.Named.{NodeNamed, known}
 use Rattle.lus_source.specs.Sized.{variable_count}
 use Rattle.lus_source.specs.Tables.{groups, kind_named, literal_value, scope, tables}
 use Rattle.lus_source.specs.Meaning.{node_meant, test_meant, variables_of}
-use Rattle.lus_source.specs.WellTyped.{NodeTyped, constant_typed, value_is}
-use Rattle.lus_types.specs.ByScope.{AreTypedIn, IsTypedIn, constant_fits, node_in, nodes_in, variables_in}
+use Rattle.lus_source.specs.WellTyped.{IsTypedIn, NodeTyped, constant_typed, value_is}
+use Rattle.lus_types.specs.ByScope.{AreTypedIn, constant_fits, node_in, nodes_in, variables_in}
 use Rattle.lus_declarations.specs.ByTable.{saturated}
 use Rattle.lus_declarations.proofs.OfSource.{entered_of_source, kind_in-tables}
 use Rattle.lus_declarations.proofs.Placing.{length-kinds_by}
@@ -52,11 +52,9 @@ module _ (p : tree.Tree) where
   pub nodes_typed : (fs : List tree.Node) → Each (λ f. NodeNamed (known p (groups f)) f) fs → Each (λ f. variable_count (groups f) ≤ 1000) fs → AreTypedIn (tables p) fs → Each (NodeTyped p) fs
   nodes_typed [] named few typed = typed
   nodes_typed (f ∷ fs) named few typed =
-      let first = subst (λ s. IsTypedIn s f) (entered_of_source p f named.0.distinct few.0) typed.0 in
-      (record { tests = first.tests; equations = first.equations; memory = first.memory }, nodes_typed fs named.1 few.1 typed.1)
+      (subst (λ s. IsTypedIn s f) (entered_of_source p f named.0.distinct few.0) typed.0, nodes_typed fs named.1 few.1 typed.1)
 
   pub nodes_fit : (fs : List tree.Node) → Each (λ f. NodeNamed (known p (groups f)) f) fs → Each (λ f. variable_count (groups f) ≤ 1000) fs → Each (NodeTyped p) fs → AreTypedIn (tables p) fs
   nodes_fit [] named few typed = typed
   nodes_fit (f ∷ fs) named few typed =
-      let first : IsTypedIn (scope p f) f = record { tests = typed.0.tests; equations = typed.0.equations; memory = typed.0.memory } in
-      (subst (λ s. IsTypedIn s f) (sym (entered_of_source p f named.0.distinct few.0)) first, nodes_fit fs named.1 few.1 typed.1)
+      (subst (λ s. IsTypedIn s f) (sym (entered_of_source p f named.0.distinct few.0)) typed.0, nodes_fit fs named.1 few.1 typed.1)

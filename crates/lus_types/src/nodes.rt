@@ -7,10 +7,10 @@ ghost use Rattle.lus_program.specs.View.{equations_from, node_of, variable_of};
 ghost use Rattle.lus_source.specs.Tables.{groups};
 ghost use Rattle.lus_source.specs.Sized.{variable_count};
 ghost use Rattle.lus_source.specs.Meaning.{equations_meant, test_meant};
-ghost use Rattle.lus_source.specs.WellTyped.{equation_typed, is_pure, memory_fits, test_typed};
+ghost use Rattle.lus_source.specs.WellTyped.{IsTypedIn, equation_typed, is_pure, memory_fits, test_typed};
 ghost use Rattle.lus_source.specs.ScopeView.{scope_of, Faulty};
 ghost use Rattle.lus_declarations.specs.ByTable.{saturated};
-ghost use Rattle.lus_types.specs.ByScope.{IsTypedIn, node_in, tests_typed, variables_in};
+ghost use Rattle.lus_types.specs.ByScope.{node_in, tests_typed, variables_in};
 
 use lus_declarations::{kind_of_name, saturated as stored};
 use lus_elaboration::{clock_variable, equation, memory, test_placed};

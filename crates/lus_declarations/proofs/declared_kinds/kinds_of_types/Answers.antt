@@ -1,7 +1,12 @@
-use Rattle.std.proofs.Common.{arith, rules, ◌≤◌, ◌∙◌, ◌<◌, length, get_or, length-set}
+use Rattle.std.proofs.Common.{arith, rules, ◌≡◌, ◌≤◌, ◌∙◌, ◌<◌, sym, length, get_or, length-set}
 use Rattle.std.proofs.lemmas.List.{length-map}
 use Rattle.lus_syntax.specs.View.{tree_seen, type_seen}
-use Rattle.lus_declarations.proofs.TypeTables.{type_fits, kind_more, kinds_whole, definition_here}
+use Rattle.lus_values.specs.Lists.{item}
+use Rattle.lus_values.proofs.Lists.{below_all}
+use Rattle.lus_program.specs.declared.types.Kind.TheVariants as kind_names
+use Rattle.lus_source.specs.Tables.{definition_kind, kind_at}
+use Rattle.lus_declarations.proofs.TypeTables.{definition_here, table_more, table_whole, type_fits, types_length}
+use Rattle.lus_declarations.proofs.TypesByUses.{kind_step_local}
 use Rattle.lus_declarations.proofs.declared_kinds.kinds_of_types.Goals as goal
 
 pub index-requires : goal.index-requires
@@ -33,8 +38,14 @@ loop-place-preserved c =
     let is = rw c.deref.ensures.value at c.kind_of.ensures in
     record {
       size = length-set c.loop-place.kinds.items x c.kind_of.result ∙ c.loop-place.invariant.size;
-      filled = kind_more t c.types-order.result.now c.types-order.ensures i c.type_names-types.result.now c.loop-place.kinds.items c.kind_of.result c.index.result.now.definition c.loop-place-test.true c.type_names-types.ensures c.loop-place.invariant.size here is c.loop-place.invariant.filled;
+      filled = table_more t c.types-order.result.now c.types-order.ensures kind_names.Bool kind_names.Bool definition_kind (kind_step_local (tree_seen t)) i c.type_names-types.result.now c.loop-place.kinds.items c.kind_of.result c.index.result.now.definition c.loop-place-test.true c.type_names-types.ensures here c.loop-place.invariant.filled is c.loop-place.invariant.size;
     }
 
 pub returns : goal.returns
-returns c = kinds_whole c.args.loopless.now c.types-order.result.now c.types-order.ensures c.loop-place.place-index c.loop-place.kinds.items c.loop-place-test.false c.loop-place.invariant.size c.loop-place.invariant.filled
+returns c =
+    let t = c.args.loopless.now in
+    let kinds = c.loop-place.kinds.items in
+    record {
+      size = c.loop-place.invariant.size ∙ sym (types_length t);
+      each = below_all (λ k. item kind_names.Bool kinds k ≡ kind_at (tree_seen t) k) (length (tree_seen t).types) (table_whole t c.types-order.result.now c.types-order.ensures kind_names.Bool kind_names.Bool definition_kind (kind_step_local (tree_seen t)) c.loop-place.place-index kinds c.loop-place-test.false c.loop-place.invariant.filled);
+    }

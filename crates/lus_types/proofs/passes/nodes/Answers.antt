@@ -7,7 +7,8 @@ use Rattle.lus_source.specs.Scopes.{Scope}
 use Rattle.lus_source.specs.ScopeView.{scope_of}
 use Rattle.lus_source.proofs.Faults.{passed_on}
 use Rattle.lus_declarations.specs.ByTable.{entered}
-use Rattle.lus_types.specs.ByScope.{IsTypedIn, node_in}
+use Rattle.lus_types.specs.ByScope.{node_in}
+use Rattle.lus_source.specs.WellTyped.{IsTypedIn}
 use Rattle.lus_types.proofs.passes.nodes.Goals as goal
 
 pub loop-source-preserved : goal.loop-source-preserved
