@@ -22,7 +22,8 @@ pub fn too_deep(
     requires order { IsOrder (uses_of uses.now) order.now }
     requires own { length own.now ≡ length uses.now }
     ensures { let depth = depth_in (uses_of uses.now) own.now in
-        IfOk result (λ found. MatchOption found (AreWithin (length uses.now) depth most) (λ place. (place < length uses.now) × (most < depth place))) }
+        let things = length uses.now in
+        IfOk result (λ found. MatchOption found (AreWithin things depth most) (λ place. (place < things) × (most < depth place))) }
 {
     let mut depths = vec![in alloc; 0usize; uses.len()]?;
     for place in order {

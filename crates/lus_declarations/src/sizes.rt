@@ -144,7 +144,8 @@ fn levels_of(definition: &Definition) -> usize
 /// Checks how deep calls go.
 fn check_calls(alloc: Global, loopless: &Loopless) -> Result<(), Fault>
     ensures ok { let p = tree_seen loopless.now in OnOk result (AreWithin (length p.nodes) (call_depth_at p) most_calls_deep) }
-    ensures err { let p = tree_seen loopless.now in IfErr result (Faulty (AreWithin (length p.nodes) (call_depth_at p) most_calls_deep → ⊥)) }
+    ensures err { let p = tree_seen loopless.now in
+        IfErr result (Faulty (AreWithin (length p.nodes) (call_depth_at p) most_calls_deep → ⊥)) }
 {
     let nodes = loopless.tree().nodes.as_slice();
     let uses = node_uses(alloc, loopless.named())?;

@@ -2,7 +2,6 @@
 use Rattle.std.proofs.Common.{◌≡◌, ◌≢◌, ◌≤◌, inl, inr, true, false, sym, subst, ℕ, List}
 use Rattle.std.specs.List.{list_all}
 use Rattle.lus_graph.specs.Ways.{IsOrder}
-use Rattle.lus_syntax.specs.declared.refusal.RefusalNumber.{RefusalNumber}
 use Rattle.lus_syntax.specs.declared.refusal.RefusalNumber.TheVariants as numbers
 use Rattle.lus_syntax.specs.Limits.{most_parts}
 use Rattle.lus_syntax.specs.Trees.{Tree}

@@ -5,4 +5,4 @@ use Rattle.lus_source.specs.Loopless.{calls_of}
 use Rattle.lus_declarations.proofs.uses.node_uses.Given as goal
 
 abbrev pub invariant-loop-node : goal.invariant-loop-node
-invariant-loop-node l = uses_of l.uses.items ≡ map (λ f. calls_of l.nodes (node_seen f)) (take l.node-index l.node-items)
+invariant-loop-node l = uses_of l.uses.items ≡ map (calls_of l.nodes) (map node_seen (take l.node-index l.node-items))

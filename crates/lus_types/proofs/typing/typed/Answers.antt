@@ -17,7 +17,7 @@ returns-clause-ok c =
 pub returns-in_err-leaves-clause-refused : goal.returns-in_err-leaves-clause-refused
 returns-in_err-leaves-clause-refused c =
     let fails = sizes_fail (tree_seen c.args.loopless) c.requires.counted c.requires.named c.requires.loopless c.in_err-leaves.field-0.0 c.in_err-leaves.ensures.refused in
-    let e = err_from_is_err_and c.from_residual-in_err-leaves.result c.from_residual-in_err-leaves.ensures.1 in
+    let e = err_from_is_err_and c.from_residual.result c.from_residual.ensures.1 in
     rw (e.1, e.2) fails
 
 pub returns-in_err-program-clause-refused : goal.returns-in_err-program-clause-refused
