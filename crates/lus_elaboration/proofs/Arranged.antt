@@ -6,8 +6,8 @@ use Rattle.lus_program.specs.declared.expr.Expr.{Expr}
 use Rattle.lus_program.specs.Programs.{Operands, none, more}
 use Rattle.lus_program.specs.View.{expression_of, operands_of}
 use Rattle.lus_typing.specs.Kinds.{count}
-use Rattle.lus_meaning.specs.Types.{each_counted, index_of}
-use Rattle.lus_meaning.specs.Meaning.{beside, in_order_from}
+use Rattle.lus_source.specs.Types.{each_counted, index_of}
+use Rattle.lus_source.specs.Meaning.{beside, in_order_from}
 
 -- c stands first at j
 pub data FoundAt (c : ℕ) : List ℕ → ℕ → Type 0 where

@@ -1,7 +1,7 @@
 -- Types that don't fit fields one by one.
 use Rattle.std.proofs.Common.{arith, ◌≡◌, refl, ℕ, suc, zero, ◌<◌, List, [], ◌∷◌, false, drop, map, length}
 use Rattle.lus_program.specs.declared.types.Kind.{Kind}
-use Rattle.lus_meaning.specs.declared.entries.Placed.{Placed}
+use Rattle.lus_source.specs.declared.entries.Placed.{Placed}
 use Rattle.lus_typing.specs.Kinds.{all_same}
 
 -- no types are left for the fields from this one on

@@ -14,11 +14,11 @@ use Rattle.lus_program.specs.declared.types.Kind.TheVariants as kinds
 use Rattle.lus_program.specs.Programs.{Operands, more, merge, operate}
 use Rattle.lus_program.specs.declared.expr.Expr.{Expr}
 use Rattle.lus_program.specs.View.{expression_of, operands_of}
-use Rattle.lus_meaning.specs.declared.entries.Placed.{Placed}
-use Rattle.lus_meaning.specs.Scopes.{Scope, entry}
+use Rattle.lus_source.specs.declared.entries.Placed.{Placed}
+use Rattle.lus_source.specs.Scopes.{Scope, entry}
 use Rattle.lus_typing.specs.Kinds.{the_one}
-use Rattle.lus_meaning.specs.Types.{branch_places, fields_asked, fields_of, size_of, variable_kind, kind_of, kinds_of, outputs_of, structure_kind, merge_kind, variadic_kind}
-use Rattle.lus_meaning.specs.Meaning.{branches_meant, structure_meant, variable_place, in_order, meant, all_meant}
+use Rattle.lus_source.specs.Types.{branch_places, fields_asked, fields_of, size_of, variable_kind, kind_of, kinds_of, outputs_of, structure_kind, merge_kind, variadic_kind}
+use Rattle.lus_source.specs.Meaning.{branches_meant, structure_meant, variable_place, in_order, meant, all_meant}
 
 pub merge_is : (s : Scope) (n : Text) (clock : Placed) (bs : Parts) (ps : List ℕ) (size : ℕ) (out es : Operands)
     → entry s.variables n ≡ Some clock → branch_places s clock.kind bs ≡ Some ps → size ≡ size_of s clock.kind → out ≡ in_order size ps es

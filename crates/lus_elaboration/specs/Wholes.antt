@@ -10,10 +10,10 @@ use Rattle.lus_program.specs.declared.types.Kind.{Kind}
 use Rattle.lus_program.specs.declared.types.Kind.TheVariants as kinds
 use Rattle.lus_program.specs.Programs.{Expression, Operands, merge, more, operate, when}
 use Rattle.lus_program.specs.View.{expression_of}
-use Rattle.lus_meaning.specs.Scopes.{Scope, entry}
+use Rattle.lus_source.specs.Scopes.{Scope, entry}
 use Rattle.lus_typing.specs.Kinds.{the_one}
-use Rattle.lus_meaning.specs.Types.{merge_kind, outputs_of, structure_kind, test_placed, variable_kind}
-use Rattle.lus_meaning.specs.Meaning.{branches_meant, structure_meant, test_meant, two, variable_place}
+use Rattle.lus_source.specs.Types.{merge_kind, outputs_of, structure_kind, test_placed, variable_kind}
+use Rattle.lus_source.specs.Meaning.{branches_meant, structure_meant, test_meant, two, variable_place}
 use Rattle.lus_elaboration.specs.declared.forms.Elaborated.{Elaborated}
 
 -- the parts of a form, in the order of the text

@@ -2,8 +2,8 @@
 
 ghost use Rattle.std.specs.Prelude.{◌≡◌, IfOk, IfSome, length, is_some};
 ghost use Rattle.lus_program.specs.View.{operands_of};
-ghost use Rattle.lus_meaning.specs.Types.{each_once, index_of as index};
-ghost use Rattle.lus_meaning.specs.Meaning.{in_order};
+ghost use Rattle.lus_source.specs.Types.{each_once, index_of as index};
+ghost use Rattle.lus_source.specs.Meaning.{in_order};
 
 use lus_program::Expr;
 use std::alloc::{AllocError, Global};

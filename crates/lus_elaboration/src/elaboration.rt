@@ -3,15 +3,15 @@
 ghost use Rattle.std.specs.Prelude.{◌≡◌, Some, None, IfOk, IfErr, length};
 ghost use Rattle.lus_syntax.specs.View.{expression_seen};
 ghost use Rattle.lus_program.specs.View.{operands_of};
-ghost use Rattle.lus_meaning.specs.Types.{kind_of, kinds_of};
-ghost use Rattle.lus_meaning.specs.Meaning.{meant, all_meant};
-ghost use Rattle.lus_meaning.specs.ScopeView.{scope_of, Faulty};
+ghost use Rattle.lus_source.specs.Types.{kind_of, kinds_of};
+ghost use Rattle.lus_source.specs.Meaning.{meant, all_meant};
+ghost use Rattle.lus_source.specs.ScopeView.{scope_of, Faulty};
 ghost use Rattle.lus_elaboration.specs.Wholes.{meaning, parts_seen};
 
 use crate::forms::{Elaborated, binary, boxed, choice, field, named, place_of, sampled, unary};
 use crate::parts::{call, merge, structure, variadic};
-use lus_meaning::{Fault, Scope};
 use lus_program::{Expr, Form, Kind};
+use lus_source::{Fault, Scope};
 use lus_syntax::{Expr as Source, Part};
 use lus_values::Value;
 use std::alloc::Global;

@@ -4,17 +4,17 @@ ghost use Rattle.std.specs.Prelude.{◌≡◌, IfOk, IfErr, Some, None, unwrap_o
 ghost use Rattle.lus_syntax.specs.View.{expression_seen, equation_seen, name_seen, names_seen};
 ghost use Rattle.lus_program.specs.View.{expression_of};
 ghost use Rattle.lus_program.specs.declared.types.Kind.TheVariants.{Bool as BoolKind};
-ghost use Rattle.lus_meaning.specs.Types.{variable_kind};
-ghost use Rattle.lus_meaning.specs.Meaning.{meant, targets_meant, variable_place};
-ghost use Rattle.lus_meaning.specs.WellTyped.{kinds_given, left_kinds as kinds_of_left, equation_typed};
-ghost use Rattle.lus_meaning.specs.ScopeView.{scope_of, Faulty};
+ghost use Rattle.lus_source.specs.Types.{variable_kind};
+ghost use Rattle.lus_source.specs.Meaning.{meant, targets_meant, variable_place};
+ghost use Rattle.lus_source.specs.WellTyped.{kinds_given, left_kinds as kinds_of_left, equation_typed};
+ghost use Rattle.lus_source.specs.ScopeView.{scope_of, Faulty};
 
 use crate::elaboration::{elaborate, elaborate_all};
 use crate::forms::{boxed, place_of};
 use crate::kinds::all_same;
 use crate::parts::callee;
-use lus_meaning::{Fault, Scope};
 use lus_program::{Equation, Expr, Form, Kind};
+use lus_source::{Fault, Scope};
 use lus_syntax::{Equation as SourceEquation, Expr as Source, Name, Place};
 use std::alloc::{AllocError, Global};
 

@@ -5,14 +5,14 @@ ghost use Rattle.lus_syntax.specs.View.{name_seen, test_seen, label_seen};
 ghost use Rattle.lus_program.specs.Programs.{operate};
 ghost use Rattle.lus_program.specs.View.{expression_in, expression_of, operands_of};
 ghost use Rattle.lus_typing.specs.Kinds.{choice_kind as kind_of_choice};
-ghost use Rattle.lus_meaning.specs.Types.{name_kind, prefix_kind as kind_of_prefix, infix_kind as kind_of_infix, field_kind, test_placed as placed_test, truth_place as place_of_truth, label_place as place_of_label, asked_place as place_asked, test_variable as variable_of_test};
-ghost use Rattle.lus_meaning.specs.Meaning.{name_meant, prefix_meant, infix_meant, one, field_meant};
-ghost use Rattle.lus_meaning.specs.ScopeView.{scope_of, Faulty};
+ghost use Rattle.lus_source.specs.Types.{name_kind, prefix_kind as kind_of_prefix, infix_kind as kind_of_infix, field_kind, test_placed as placed_test, truth_place as place_of_truth, label_place as place_of_label, asked_place as place_asked, test_variable as variable_of_test};
+ghost use Rattle.lus_source.specs.Meaning.{name_meant, prefix_meant, infix_meant, one, field_meant};
+ghost use Rattle.lus_source.specs.ScopeView.{scope_of, Faulty};
 ghost use Rattle.lus_elaboration.specs.Wholes.{choice_meant, meaning, sampled_kind, sampled_meant};
 
 use crate::kinds::{choice_kind, infix_kind, prefix_kind, same, value_kind};
-use lus_meaning::{Fault, Scope, field as field_named};
 use lus_program::{Expr, Form, Kind, Test};
+use lus_source::{Fault, Scope, field as field_named};
 use lus_syntax::{Expr as Source, Infix, Label, Name, Place, Prefix, Test as SourceTest};
 use lus_values::{Op, Operator};
 use std::alloc::{AllocError, Global};

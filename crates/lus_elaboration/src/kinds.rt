@@ -4,7 +4,7 @@ ghost use Rattle.std.specs.Prelude.{◌≡◌};
 ghost use Rattle.std.specs.List.{list_all};
 ghost use Rattle.lus_typing.specs.Kinds.{same as same_kind, all_same as all_same_kinds, alike as alike_kind, choice_kind as kind_of_choice, the_one as one_kind, common_kind as kind_of_all, value_kind as kind_of_value};
 ghost use Rattle.lus_typing.specs.Resolved.{op_kind as kind_of_op, takes as shape_takes};
-ghost use Rattle.lus_meaning.specs.Types.{prefix_kind as kind_of_prefix, infix_kind as kind_of_infix};
+ghost use Rattle.lus_source.specs.Types.{prefix_kind as kind_of_prefix, infix_kind as kind_of_infix};
 ghost use Rattle.lus_values.specs.View.{value_of};
 
 use lus_program::Kind;

@@ -2,12 +2,12 @@
 
 ghost use Rattle.std.specs.Prelude.{◌≡◌, is_none};
 ghost use Rattle.lus_syntax.specs.View.{expression_seen};
-ghost use Rattle.lus_meaning.specs.WellTyped.{calls_function as function_called, is_pure, are_pure, recalls as recalls_past, remembers as remembers_past};
-ghost use Rattle.lus_meaning.specs.ScopeView.{scope_of};
+ghost use Rattle.lus_source.specs.WellTyped.{calls_function as function_called, is_pure, are_pure, recalls as recalls_past, remembers as remembers_past};
+ghost use Rattle.lus_source.specs.ScopeView.{scope_of};
 ghost use Rattle.lus_elaboration.specs.Wholes.{parts_seen};
 
 use crate::forms::place_of;
-use lus_meaning::Scope;
+use lus_source::Scope;
 use lus_syntax::{Expr, Infix, NodeKind, Part, Place, Prefix};
 
 fn remembers(op: Prefix) -> bool

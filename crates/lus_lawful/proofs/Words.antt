@@ -24,8 +24,8 @@ use Rattle.lus_syntax.proofs.Meanings.{name_meaning, number_meaning, symbol_mean
 use Rattle.lus_spelling.specs.Declarations.{SpellsDefinition, SpellsName, SpellsNames, SpellsNode, SpellsProgram, SpellsType, SpellsTypes, alias, empty, enumeration, name, node, structure, type_declaration, types, with_constants, with_node, with_types}
 use Rattle.lus_spelling.specs.Lists.{Listed, Mark, Nothing, Repeated, again, listed, none}
 use Rattle.lus_program.specs.Programs.{Node as ProgramNode, Program}
-use Rattle.lus_meaning.specs.Meaning.{node_meant, program_of}
-use Rattle.lus_meaning.specs.Tables.{declared_as, text_of}
+use Rattle.lus_source.specs.Meaning.{node_meant, program_of}
+use Rattle.lus_source.specs.Tables.{declared_as, text_of}
 use Rattle.lus_asked.specs.Asked.{IsCaller, is_unbroken}
 use Rattle.lus_lines.specs.Lines.{IsPlain}
 use Rattle.lus_live_instance.specs.MachineSpecs.Acceptance.{IsAccepted}

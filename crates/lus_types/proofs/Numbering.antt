@@ -4,8 +4,8 @@ use Rattle.lus_syntax.specs.Trees as tree
 use Rattle.lus_program.specs.declared.node.Equation.{Equation as StoredEquation}
 use Rattle.lus_program.specs.Programs.{calls, numbered, Equation}
 use Rattle.lus_program.specs.View.{expression_of, equations_from}
-use Rattle.lus_meaning.specs.Scopes.{Scope}
-use Rattle.lus_meaning.specs.Meaning.{equations_meant, meant, variable_place}
+use Rattle.lus_source.specs.Scopes.{Scope}
+use Rattle.lus_source.specs.Meaning.{equations_meant, meant, variable_place}
 
 abbrev pub unnumbered : StoredEquation → Equation
 unnumbered q = record { targets = q.targets.items; right = expression_of q.right }

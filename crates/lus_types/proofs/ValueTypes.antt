@@ -5,7 +5,7 @@ use Rattle.std.specs.Prelude.{option_map}
 use Rattle.lus_program.specs.declared.types.Kind.{Kind}
 use Rattle.lus_values.specs.Values.{Value}
 use Rattle.lus_typing.specs.Kinds.{same, value_kind}
-use Rattle.lus_meaning.specs.WellTyped.{are_given, value_is}
+use Rattle.lus_source.specs.WellTyped.{are_given, value_is}
 
 pub value_is-same : (v : Value) (k l m : Kind) → value_kind v ≡ Some k → l ≡ m → same k l ≡ value_is v m
 value_is-same v k l m is e = ap (same k) e ∙ sym (and-true (same k m)) ∙ sym (ap (λ o. are_given (option_map (λ x. x ∷ []) o) (m ∷ [])) is)

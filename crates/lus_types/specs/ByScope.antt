@@ -1,15 +1,15 @@
 -- What a source means and whether it is well typed, by what the names in its text stand for.
-use Rattle.std.specs.Prelude.{Bool, true, List, Some, None, IsTrue, flat_map, map, option_map}
+use Rattle.std.specs.Prelude.{Bool, true, List, Some, None, flat_map, map, option_map}
 use Rattle.std.specs.List.{list_all}
 use Rattle.lus_syntax.specs.Trees.{Named, Constant, Group, Node as SourceNode}
 use Rattle.lus_values.specs.Lists.{Each}
 use Rattle.lus_program.specs.Programs.{Node, Variable}
-use Rattle.lus_meaning.specs.Scopes.{Scope}
-use Rattle.lus_meaning.specs.Sized.{variable_count}
-use Rattle.lus_meaning.specs.Tables.{groups, value_in}
-use Rattle.lus_meaning.specs.Meaning.{equations_meant, test_meant}
-use Rattle.lus_meaning.specs.WellTyped.{equation_typed, memory_fits, test_typed, value_is}
-use Rattle.lus_tables.specs.ByTable.{entered, kind_in, saturated}
+use Rattle.lus_source.specs.Scopes.{Scope}
+use Rattle.lus_source.specs.Sized.{variable_count}
+use Rattle.lus_source.specs.Tables.{groups, value_in}
+use Rattle.lus_source.specs.Meaning.{equations_meant, test_meant}
+use Rattle.lus_source.specs.WellTyped.{IsTypedIn, test_typed, value_is}
+use Rattle.lus_declarations.specs.ByTable.{entered, kind_in, saturated}
 
 -- a constant with a declared type has that type
 abbrev pub constant_fits : Scope → Constant → Bool
@@ -37,12 +37,6 @@ node_in s f = record {
   variables = flat_map (variables_in s) (groups f);
   equations = equations_meant s 0 f.equations;
 }
-
--- it is well typed
-pub record IsTypedIn (s : Scope) (f : SourceNode) : Type 0 where
-  pub tests : IsTrue (tests_typed s (groups f))
-  pub equations : IsTrue (list_all (equation_typed s) f.equations)
-  pub memory : IsTrue (memory_fits f.kind s f.equations)
 
 -- nodes, each with its own variables
 

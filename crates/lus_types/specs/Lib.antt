@@ -1,2 +1,2 @@
 pub mod ByScope
-pub mod Numbers
+pub mod Laws

@@ -3,13 +3,13 @@
 ghost use Rattle.std.specs.Prelude.{◌≡◌, IfErr, OnOk, false, map, true};
 ghost use Rattle.std.specs.List.{list_all};
 ghost use Rattle.lus_syntax.specs.View.{constant_seen};
-ghost use Rattle.lus_meaning.specs.ScopeView.{Faulty, scope_of};
+ghost use Rattle.lus_source.specs.ScopeView.{Faulty, scope_of};
 ghost use Rattle.lus_types.specs.ByScope.{constant_fits};
 
+use lus_declarations::{kind_of_name, literal};
 use lus_elaboration::{same, value_kind};
-use lus_meaning::{Fault, Scope};
+use lus_source::{Fault, Scope};
 use lus_syntax::{Constant, Literal, Place};
-use lus_tables::{kind_of_name, literal};
 
 /// The place of a literal's first token.
 fn literal_place(literal: &Literal) -> Place {

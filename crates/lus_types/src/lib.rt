@@ -2,10 +2,12 @@
 #![tactic(auto)]
 
 mod constants;
+mod laws;
 mod nodes;
 mod parts;
 mod passes;
 mod typing;
 
+pub use laws::{few_parts, sound};
 pub use lus_typing::Typed;
 pub use typing::check_types;

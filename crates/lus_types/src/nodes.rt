@@ -4,21 +4,21 @@ ghost use Rattle.std.specs.Prelude.{◌≡◌, ◌+◌, ◌++◌, IfOk, IfErr, O
 ghost use Rattle.std.specs.List.{list_all};
 ghost use Rattle.lus_syntax.specs.View.{equation_seen, group_seen, node_seen, test_seen};
 ghost use Rattle.lus_program.specs.View.{equations_from, node_of, variable_of};
-ghost use Rattle.lus_meaning.specs.Tables.{groups};
-ghost use Rattle.lus_meaning.specs.Sized.{variable_count};
-ghost use Rattle.lus_meaning.specs.Meaning.{equations_meant, test_meant};
-ghost use Rattle.lus_meaning.specs.WellTyped.{equation_typed, is_pure, memory_fits, test_typed};
-ghost use Rattle.lus_meaning.specs.ScopeView.{scope_of, Faulty};
-ghost use Rattle.lus_tables.specs.ByTable.{saturated};
-ghost use Rattle.lus_types.specs.ByScope.{IsTypedIn, node_in, tests_typed, variables_in};
+ghost use Rattle.lus_source.specs.Tables.{groups};
+ghost use Rattle.lus_source.specs.Sized.{variable_count};
+ghost use Rattle.lus_source.specs.Meaning.{equations_meant, test_meant};
+ghost use Rattle.lus_source.specs.WellTyped.{IsTypedIn, equation_typed, is_pure, memory_fits, test_typed};
+ghost use Rattle.lus_source.specs.ScopeView.{scope_of, Faulty};
+ghost use Rattle.lus_declarations.specs.ByTable.{saturated};
+ghost use Rattle.lus_types.specs.ByScope.{node_in, tests_typed, variables_in};
 
+use lus_declarations::{kind_of_name, saturated as stored};
 use lus_elaboration::{clock_variable, equation, memory, test_placed};
-use lus_meaning::{Fault, Scope};
 use lus_program::{Equation, Node, Test, Variable};
+use lus_source::{Fault, Scope};
 use lus_syntax::{
     Equation as SourceEquation, Group, Node as SourceNode, NodeKind, Place, Test as SourceTest,
 };
-use lus_tables::{kind_of_name, saturated as stored};
 use std::alloc::Global;
 
 /// The test of a group of variables, where it has one.

@@ -1,82 +1,26 @@
-//! The passes over the declarations of a source, each with the number that it refuses by.
+//! The passes over a source without recursion, each with the number that it refuses by.
 
-ghost use Rattle.std.specs.Prelude.{◌≡◌, ◌≢◌, ◌≤◌, IfErr, IfOk, OnOk, map};
+ghost use Rattle.std.specs.Prelude.{◌≡◌, ◌≤◌, IfErr, IfOk, OnOk, map};
 ghost use Rattle.lus_syntax.specs.declared.refusal.RefusalNumber.TheVariants as numbers;
 ghost use Rattle.lus_syntax.specs.Limits.{most_parts};
 ghost use Rattle.lus_syntax.specs.Refusals.{HasShape};
 ghost use Rattle.lus_syntax.specs.View.{node_seen, tree_seen};
 ghost use Rattle.lus_program.specs.Parts.{program_parts};
 ghost use Rattle.lus_program.specs.View.{node_of, program_seen};
-ghost use Rattle.lus_meaning.specs.Named.{Named as IsNamed};
-ghost use Rattle.lus_meaning.specs.Sized.{Bounded, Counted as IsCounted};
-ghost use Rattle.lus_meaning.specs.Meaning.{program_of};
-ghost use Rattle.lus_typing.specs.Leaves.{AreTheLeaves};
+ghost use Rattle.lus_source.specs.Meaning.{program_of};
 ghost use Rattle.lus_typing.specs.Refusals.{RefusesFor};
-ghost use Rattle.lus_meaning.specs.WellTyped.{IsTyped};
-ghost use Rattle.lus_meaning.specs.ScopeView.{Faulty, scope_of};
+ghost use Rattle.lus_source.specs.WellTyped.{IsTyped};
+ghost use Rattle.lus_source.specs.ScopeView.{Faulty, scope_of};
 ghost use Rattle.lus_types.specs.ByScope.{AreTypedIn, nodes_in};
-ghost use Rattle.lus_types.specs.Numbers.{number_of};
 
 use crate::constants::check_constants;
 use crate::nodes::node;
 use crate::parts::check_parts;
-use lus_limits::{Loopless, check_counts, check_sizes};
-use lus_meaning::{Counted, Fault, Scope};
-use lus_names::{Named, check_names};
+use lus_declarations::{Loopless, enter, tables};
 use lus_program::{Node, Program};
-use lus_syntax::{Node as SourceNode, Refusal, RefusalNumber, Tree};
-use lus_tables::{enter, tables};
+use lus_source::{Fault, Scope};
+use lus_syntax::{Node as SourceNode, Refusal, RefusalNumber};
 use std::alloc::Global;
-
-/// The refusal of a pass by this number.
-fn refusal(number: RefusalNumber, fault: Fault) -> Refusal
-    ensures number { result.number ≡ number_of number fault }
-    ensures shaped { number ≢ numbers.Memory → HasShape result }
-{
-    match fault {
-        Fault::Memory => Refusal::memory(),
-        Fault::At(place) => Refusal::new(number, place.line, place.column),
-    }
-}
-
-/// Checks the counts of declarations.
-pub fn counts(tree: Tree) -> Result<Counted, Refusal>
-    ensures same { IfOk result (λ counted. counted ≡ tree) }
-    ensures ok { OnOk result (IsCounted (tree_seen tree)) }
-    ensures refused { IfErr result (RefusesFor numbers.Limit (IsCounted (tree_seen tree))) }
-    ensures shaped { IfErr result HasShape }
-{
-    match check_counts(tree) {
-        Ok(counted) => Ok(counted),
-        Err(place) => Err(refusal(RefusalNumber::Limit, Fault::At(place))),
-    }
-}
-
-/// Checks the names.
-pub fn names(alloc: Global, counted: Counted) -> Result<Named, Refusal>
-    ensures same { IfOk result (λ named. named ≡ counted) }
-    ensures ok { OnOk result (IsNamed (tree_seen counted)) }
-    ensures refused { IfErr result (RefusesFor numbers.Name (IsNamed (tree_seen counted))) }
-    ensures shaped { IfErr result HasShape }
-{
-    match check_names(alloc, counted) {
-        Ok(named) => Ok(named),
-        Err(fault) => Err(refusal(RefusalNumber::Name, fault)),
-    }
-}
-
-/// Checks the sizes of types and the depth of calls, and gives the leaves of types.
-pub fn sizes(alloc: Global, loopless: &Loopless) -> Result<Vec<u32>, Refusal>
-    ensures leaves { IfOk result (λ leaves. AreTheLeaves (program_of (tree_seen loopless.now)) leaves.items) }
-    ensures ok { OnOk result (Bounded (tree_seen loopless.now)) }
-    ensures refused { IfErr result (RefusesFor numbers.Limit (Bounded (tree_seen loopless.now))) }
-    ensures shaped { IfErr result HasShape }
-{
-    match check_sizes(alloc, loopless) {
-        Ok(leaves) => Ok(leaves),
-        Err(fault) => Err(refusal(RefusalNumber::Limit, fault)),
-    }
-}
 
 /// Checks types, and gives the program that the source means.
 pub fn types(alloc: Global, loopless: &Loopless) -> Result<Program, Refusal>
@@ -87,7 +31,7 @@ pub fn types(alloc: Global, loopless: &Loopless) -> Result<Program, Refusal>
 {
     match program(alloc, loopless) {
         Ok(program) => Ok(program),
-        Err(fault) => Err(refusal(RefusalNumber::Type, fault)),
+        Err(fault) => Err(fault.refusal(RefusalNumber::Type)),
     }
 }
 
@@ -99,7 +43,7 @@ pub fn parts(program: &Program) -> Result<(), Refusal>
 {
     match check_parts(program) {
         Ok(_) => Ok(()),
-        Err(place) => Err(refusal(RefusalNumber::Limit, Fault::At(place))),
+        Err(place) => Err(Fault::At(place).refusal(RefusalNumber::Limit)),
     }
 }
 

@@ -5,11 +5,14 @@ ghost use Rattle.lus_syntax.specs.declared.refusal.RefusalNumber.TheVariants as 
 ghost use Rattle.lus_syntax.specs.Refusals.{HasShape};
 ghost use Rattle.lus_syntax.specs.View.{tree_seen};
 ghost use Rattle.lus_program.specs.View.{program_seen};
-ghost use Rattle.lus_meaning.specs.Meaning.{program_of};
-ghost use Rattle.lus_meaning.specs.Refusals.{FirstFails, WellFormed};
+ghost use Rattle.lus_source.specs.Loopless.{Loopless as IsLoopless};
+ghost use Rattle.lus_source.specs.Meaning.{program_of};
+ghost use Rattle.lus_source.specs.Named.{Named};
+ghost use Rattle.lus_source.specs.Refusals.{FirstFails, WellFormed};
+ghost use Rattle.lus_source.specs.Sized.{Counted};
 
-use crate::passes::{counts, names, parts, sizes, types};
-use lus_limits::check_recursion;
+use crate::passes::{parts, types};
+use lus_declarations::{Loopless, check_counts, check_names, check_recursion, check_sizes};
 use lus_syntax::{Refusal, Tree};
 use lus_typing::Typed;
 use std::alloc::Global;
@@ -23,10 +26,23 @@ pub fn check_types(alloc: Global, tree: Tree) -> Result<Typed, Refusal>
     ensures refused { IfErr result (λ e. e.number ≢ numbers.Memory → FirstFails (tree_seen tree) e.number) }
     ensures shaped { IfErr result HasShape }
 {
-    let counted = counts(tree)?;
-    let named = names(alloc, counted)?;
+    let counted = check_counts(tree)?;
+    let named = check_names(alloc, counted)?;
     let loopless = check_recursion(alloc, named)?;
-    let leaves = sizes(alloc, &loopless)?;
+    typed(alloc, loopless)
+}
+
+/// The checks of sizes, types and parts, of a source in which nothing leads back to itself.
+fn typed(alloc: Global, loopless: Loopless) -> Result<Typed, Refusal>
+    requires counted { Counted (tree_seen loopless) }
+    requires named { Named (tree_seen loopless) }
+    requires loopless { IsLoopless (tree_seen loopless) }
+    ensures ok { OnOk result (WellFormed (tree_seen loopless)) }
+    ensures means { IfOk result (λ typed. program_seen typed ≡ program_of (tree_seen loopless)) }
+    ensures refused { IfErr result (λ e. e.number ≢ numbers.Memory → FirstFails (tree_seen loopless) e.number) }
+    ensures shaped { IfErr result HasShape }
+{
+    let leaves = check_sizes(alloc, &loopless)?;
     let program = types(alloc, &loopless)?;
     parts(&program)?;
     Ok(Typed::new(program, loopless.into_nodes(), leaves))

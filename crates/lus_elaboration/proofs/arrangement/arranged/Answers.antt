@@ -4,8 +4,8 @@ use Rattle.std.proofs.lemmas.Bool.Decides.{nat_tests}
 use Rattle.lus_program.specs.declared.expr.Expr.{Expr}
 use Rattle.lus_program.specs.View.{operands_of}
 use Rattle.lus_typing.specs.Kinds.{count}
-use Rattle.lus_meaning.specs.Types.{each_counted, index_of}
-use Rattle.lus_meaning.specs.Meaning.{beside}
+use Rattle.lus_source.specs.Types.{each_counted, index_of}
+use Rattle.lus_source.specs.Meaning.{beside}
 use Rattle.lus_elaboration.proofs.Arranged.{found, missing, found_within, count-taken, count-others, count-empty, beside-found, beside-others, in_order_push, each_counted-all, each_counted-missing, below_or_last}
 use Rattle.lus_elaboration.proofs.arrangement.arranged.Goals as goal
 

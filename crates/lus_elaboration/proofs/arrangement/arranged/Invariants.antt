@@ -1,7 +1,7 @@
 use Rattle.std.proofs.Common.{◌≡◌, ℕ, ◌+◌, ◌<◌, ◌≤◌, length}
 use Rattle.lus_program.specs.View.{operands_of}
 use Rattle.lus_typing.specs.Kinds.{count}
-use Rattle.lus_meaning.specs.Meaning.{beside, in_order}
+use Rattle.lus_source.specs.Meaning.{beside, in_order}
 use Rattle.lus_elaboration.proofs.arrangement.arranged.Given as goal
 
 abbrev pub invariant-loop-place : goal.invariant-loop-place

@@ -4,9 +4,9 @@ use Rattle.lus_syntax.specs.Trees.{parts_of}
 use Rattle.lus_syntax.specs.View.{expression_seen, part_seen, name_seen}
 use Rattle.lus_syntax.proofs.TreeViews.{seen_call, seen_structure, seen_merge, seen_variadic}
 use Rattle.lus_program.specs.View.{expression_of, operands_of}
-use Rattle.lus_meaning.specs.Types.{kind_of, kinds_of}
-use Rattle.lus_meaning.specs.Meaning.{all_meant, meant}
-use Rattle.lus_meaning.specs.ScopeView.{scope_of}
+use Rattle.lus_source.specs.Types.{kind_of, kinds_of}
+use Rattle.lus_source.specs.Meaning.{all_meant, meant}
+use Rattle.lus_source.specs.ScopeView.{scope_of}
 use Rattle.lus_elaboration.proofs.Meant.{all_meant_is, kind_of-call, kind_of-structure, kind_of-merge, kind_of-variadic}
 use Rattle.lus_elaboration.proofs.elaboration.+elaborate.Goals as goal
 

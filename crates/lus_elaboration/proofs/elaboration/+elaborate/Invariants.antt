@@ -3,9 +3,9 @@ use Rattle.std.specs.Prelude.{option_map}
 use Rattle.lus_syntax.specs.View.{expression_seen, part_seen}
 use Rattle.lus_syntax.specs.Trees.{parts_of}
 use Rattle.lus_program.specs.View.{expression_of}
-use Rattle.lus_meaning.specs.Types.{kinds_of}
-use Rattle.lus_meaning.specs.Meaning.{meant}
-use Rattle.lus_meaning.specs.ScopeView.{scope_of}
+use Rattle.lus_source.specs.Types.{kinds_of}
+use Rattle.lus_source.specs.Meaning.{meant}
+use Rattle.lus_source.specs.ScopeView.{scope_of}
 use Rattle.lus_elaboration.proofs.elaboration.+elaborate.Given as goal
 
 abbrev pub invariant-elaborate_all-loop-part : goal.invariant-elaborate_all-loop-part

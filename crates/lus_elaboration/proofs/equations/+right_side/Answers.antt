@@ -6,10 +6,10 @@ use Rattle.lus_syntax.proofs.TreeViews.{seen_call}
 use Rattle.lus_program.specs.Programs.{call}
 use Rattle.lus_program.specs.View.{operands_of}
 use Rattle.lus_program.proofs.OperandViews as program
-use Rattle.lus_meaning.specs.Types.{kinds_of, outputs_of}
-use Rattle.lus_meaning.specs.Meaning.{meant, all_meant, node_place}
-use Rattle.lus_meaning.specs.WellTyped.{kinds_given}
-use Rattle.lus_meaning.specs.ScopeView.{scope_of}
+use Rattle.lus_source.specs.Types.{kinds_of, outputs_of}
+use Rattle.lus_source.specs.Meaning.{meant, all_meant, node_place}
+use Rattle.lus_source.specs.WellTyped.{kinds_given}
+use Rattle.lus_source.specs.ScopeView.{scope_of}
 use Rattle.lus_elaboration.proofs.equations.+right_side.Goals as goal
 
 pub returns-in_err-operands-in-Call-clause-refused : goal.returns-in_err-operands-in-Call-clause-refused

@@ -1,7 +1,7 @@
 use Rattle.std.proofs.Common.{◌≡◌, take}
 use Rattle.lus_syntax.specs.View.{names_seen}
-use Rattle.lus_meaning.specs.WellTyped.{left_kinds}
-use Rattle.lus_meaning.specs.ScopeView.{scope_of}
+use Rattle.lus_source.specs.WellTyped.{left_kinds}
+use Rattle.lus_source.specs.ScopeView.{scope_of}
 use Rattle.lus_elaboration.proofs.equations.left_kinds.Given as goal
 
 abbrev pub invariant-loop-name : goal.invariant-loop-name

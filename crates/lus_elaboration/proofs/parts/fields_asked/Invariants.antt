@@ -2,8 +2,8 @@ use Rattle.std.proofs.Common.{◌≡◌, ◌++◌, map, drop, length}
 use Rattle.std.specs.Prelude.{option_map}
 use Rattle.lus_syntax.specs.View.{part_seen}
 use Rattle.lus_syntax.specs.Trees.{parts_of}
-use Rattle.lus_meaning.specs.Types.{fields_asked}
-use Rattle.lus_meaning.specs.ScopeView.{scope_of}
+use Rattle.lus_source.specs.Types.{fields_asked}
+use Rattle.lus_source.specs.ScopeView.{scope_of}
 use Rattle.lus_elaboration.proofs.parts.fields_asked.Given as goal
 
 abbrev pub invariant-loop-part : goal.invariant-loop-part

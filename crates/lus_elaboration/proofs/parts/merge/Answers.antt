@@ -3,9 +3,9 @@ use Rattle.lus_syntax.specs.View.{part_seen, name_seen}
 use Rattle.lus_syntax.specs.Trees.{parts_of}
 use Rattle.lus_program.specs.View.{operands_of}
 use Rattle.lus_program.proofs.OperandViews.{seen_merge}
-use Rattle.lus_meaning.specs.Scopes.{entry}
-use Rattle.lus_meaning.specs.Meaning.{in_order}
-use Rattle.lus_meaning.specs.ScopeView.{scope_of}
+use Rattle.lus_source.specs.Scopes.{entry}
+use Rattle.lus_source.specs.Meaning.{in_order}
+use Rattle.lus_source.specs.ScopeView.{scope_of}
 use Rattle.lus_elaboration.proofs.Meant.{merge_is}
 use Rattle.lus_elaboration.proofs.parts.merge.Goals as goal
 

@@ -4,10 +4,10 @@ use Rattle.lus_syntax.specs.View.{part_seen, name_seen}
 use Rattle.lus_syntax.specs.Trees.{parts_of}
 use Rattle.lus_program.specs.declared.types.Kind.TheVariants as kinds
 use Rattle.lus_program.specs.View.{operands_of, field_of}
-use Rattle.lus_meaning.specs.Scopes.{entry}
-use Rattle.lus_meaning.specs.Types.{fields_of}
-use Rattle.lus_meaning.specs.Meaning.{in_order}
-use Rattle.lus_meaning.specs.ScopeView.{scope_of}
+use Rattle.lus_source.specs.Scopes.{entry}
+use Rattle.lus_source.specs.Types.{fields_of}
+use Rattle.lus_source.specs.Meaning.{in_order}
+use Rattle.lus_source.specs.ScopeView.{scope_of}
 use Rattle.lus_elaboration.proofs.Meant.{structure_is}
 use Rattle.lus_elaboration.proofs.parts.structure.Goals as goal
 

@@ -1,8 +1,8 @@
 use Rattle.std.proofs.Common.{◌≡◌, map, drop}
 use Rattle.lus_syntax.specs.View.{part_seen}
 use Rattle.lus_syntax.specs.Trees.{parts_of}
-use Rattle.lus_meaning.specs.WellTyped.{are_pure}
-use Rattle.lus_meaning.specs.ScopeView.{scope_of}
+use Rattle.lus_source.specs.WellTyped.{are_pure}
+use Rattle.lus_source.specs.ScopeView.{scope_of}
 use Rattle.lus_elaboration.proofs.purity.+memory.Given as goal
 
 abbrev pub invariant-memory_in-loop-part : goal.invariant-memory_in-loop-part

@@ -1,7 +1,7 @@
 use Rattle.std.proofs.Common.{◌≡◌, drop, map}
 use Rattle.std.specs.List.{list_all}
 use Rattle.lus_syntax.specs.View.{constant_seen}
-use Rattle.lus_meaning.specs.ScopeView.{scope_of}
+use Rattle.lus_source.specs.ScopeView.{scope_of}
 use Rattle.lus_types.specs.ByScope.{constant_fits}
 use Rattle.lus_types.proofs.constants.check_constants.Given as goal
 

@@ -1,9 +1,9 @@
 use Rattle.std.proofs.Common.{◌∙◌, ap, sym}
 use Rattle.lus_syntax.specs.View.{literal_seen, type_name_seen}
-use Rattle.lus_meaning.specs.ScopeView.{scope_of}
-use Rattle.lus_meaning.specs.Tables.{value_in}
+use Rattle.lus_source.specs.ScopeView.{scope_of}
+use Rattle.lus_source.specs.Tables.{value_in}
 use Rattle.lus_typing.specs.Kinds.{value_kind}
-use Rattle.lus_tables.specs.ByTable.{kind_in}
+use Rattle.lus_declarations.specs.ByTable.{kind_in}
 use Rattle.lus_types.proofs.ValueTypes.{value_is-same}
 use Rattle.lus_types.proofs.constants.is_typed.Goals as goal
 

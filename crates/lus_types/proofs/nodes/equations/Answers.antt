@@ -2,7 +2,7 @@ use Rattle.std.proofs.Common.{arith, ◌∙◌, ap, map}
 use Rattle.std.proofs.lemmas.List.{take_all}
 use Rattle.std.proofs.lemmas.Grind.{common_steps}
 use Rattle.lus_syntax.specs.View.{equation_seen}
-use Rattle.lus_meaning.specs.ScopeView.{scope_of}
+use Rattle.lus_source.specs.ScopeView.{scope_of}
 use Rattle.lus_types.proofs.Numbering.{unnumbered_meant, unnumbered_is, equations_are_meant}
 use Rattle.lus_types.proofs.nodes.equations.Goals as goal
 

@@ -1,8 +1,8 @@
 use Rattle.std.proofs.Common.{◌≡◌, take, drop, map}
 use Rattle.std.specs.List.{list_all}
 use Rattle.lus_syntax.specs.View.{equation_seen}
-use Rattle.lus_meaning.specs.WellTyped.{equation_typed}
-use Rattle.lus_meaning.specs.ScopeView.{scope_of}
+use Rattle.lus_source.specs.WellTyped.{equation_typed}
+use Rattle.lus_source.specs.ScopeView.{scope_of}
 use Rattle.lus_types.proofs.Numbering.{unnumbered, unnumbered_meant}
 use Rattle.lus_types.proofs.nodes.equations.Given as goal
 

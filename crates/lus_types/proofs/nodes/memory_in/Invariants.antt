@@ -1,8 +1,8 @@
 use Rattle.std.proofs.Common.{◌≡◌, drop, map}
 use Rattle.std.specs.List.{list_all}
 use Rattle.lus_syntax.specs.View.{equation_seen}
-use Rattle.lus_meaning.specs.WellTyped.{is_pure}
-use Rattle.lus_meaning.specs.ScopeView.{scope_of}
+use Rattle.lus_source.specs.WellTyped.{is_pure}
+use Rattle.lus_source.specs.ScopeView.{scope_of}
 use Rattle.lus_types.proofs.nodes.memory_in.Given as goal
 
 abbrev pub invariant-loop-source : goal.invariant-loop-source

@@ -1,6 +1,6 @@
 use Rattle.std.proofs.Common.{rules, ◌≡◌, refl}
 use Rattle.std.specs.Prelude.{string_bytes}
-use Rattle.lus_types.proofs.NodesMeant.{same_node}
+use Rattle.lus_types.proofs.TablesMeant.{same_node}
 use Rattle.lus_types.proofs.nodes.node.Goals as goal
 
 pub returns-clause-meant : goal.returns-clause-meant

@@ -1,7 +1,7 @@
 use Rattle.std.proofs.Common.{rules, map}
 use Rattle.lus_syntax.specs.View.{group_seen}
-use Rattle.lus_meaning.specs.WellTyped.{test_typed}
-use Rattle.lus_meaning.specs.ScopeView.{scope_of}
+use Rattle.lus_source.specs.WellTyped.{test_typed}
+use Rattle.lus_source.specs.ScopeView.{scope_of}
 use Rattle.lus_types.proofs.Groups.{all_hold-last}
 use Rattle.lus_types.proofs.nodes.node_variables.Goals as goal
 

@@ -2,7 +2,7 @@ use Rattle.std.proofs.Common.{◌∙◌, ◌++◌, ap, map, flat_map}
 use Rattle.std.proofs.lemmas.List.{take_all}
 use Rattle.lus_syntax.specs.View.{group_seen}
 use Rattle.lus_program.specs.View.{variable_of}
-use Rattle.lus_meaning.specs.ScopeView.{scope_of}
+use Rattle.lus_source.specs.ScopeView.{scope_of}
 use Rattle.lus_types.specs.ByScope.{variables_in}
 use Rattle.lus_types.proofs.Groups.{length-grown}
 use Rattle.lus_types.proofs.nodes.push_groups.Goals as goal

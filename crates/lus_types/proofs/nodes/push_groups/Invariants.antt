@@ -2,8 +2,8 @@ use Rattle.std.proofs.Common.{◌≡◌, ◌++◌, take, drop, map, flat_map}
 use Rattle.std.specs.List.{list_all}
 use Rattle.lus_syntax.specs.View.{group_seen}
 use Rattle.lus_program.specs.View.{variable_of}
-use Rattle.lus_meaning.specs.WellTyped.{test_typed}
-use Rattle.lus_meaning.specs.ScopeView.{scope_of}
+use Rattle.lus_source.specs.WellTyped.{test_typed}
+use Rattle.lus_source.specs.ScopeView.{scope_of}
 use Rattle.lus_types.specs.ByScope.{variables_in}
 use Rattle.lus_types.proofs.nodes.push_groups.Given as goal
 

@@ -3,11 +3,12 @@ use Rattle.std.proofs.lemmas.Grind.{common_steps}
 use Rattle.lus_syntax.specs.View.{node_seen}
 use Rattle.lus_values.proofs.Lists.{each_seen}
 use Rattle.lus_program.specs.View.{node_of}
-use Rattle.lus_meaning.specs.Scopes.{Scope}
-use Rattle.lus_meaning.specs.ScopeView.{scope_of}
-use Rattle.lus_meaning.proofs.Faults.{passed_on}
-use Rattle.lus_tables.specs.ByTable.{entered}
-use Rattle.lus_types.specs.ByScope.{IsTypedIn, node_in}
+use Rattle.lus_source.specs.Scopes.{Scope}
+use Rattle.lus_source.specs.ScopeView.{scope_of}
+use Rattle.lus_source.proofs.Faults.{passed_on}
+use Rattle.lus_declarations.specs.ByTable.{entered}
+use Rattle.lus_types.specs.ByScope.{node_in}
+use Rattle.lus_source.specs.WellTyped.{IsTypedIn}
 use Rattle.lus_types.proofs.passes.nodes.Goals as goal
 
 pub loop-source-preserved : goal.loop-source-preserved

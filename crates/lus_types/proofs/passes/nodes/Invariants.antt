@@ -1,8 +1,8 @@
 use Rattle.std.proofs.Common.{◌≡◌, [], take, map}
 use Rattle.lus_syntax.specs.View.{node_seen}
 use Rattle.lus_program.specs.View.{node_of}
-use Rattle.lus_meaning.specs.Scopes.{Scope}
-use Rattle.lus_meaning.specs.ScopeView.{scope_of}
+use Rattle.lus_source.specs.Scopes.{Scope}
+use Rattle.lus_source.specs.ScopeView.{scope_of}
 use Rattle.lus_types.specs.ByScope.{AreTypedIn, nodes_in}
 use Rattle.lus_types.proofs.passes.nodes.Given as goal
 

@@ -5,15 +5,15 @@ use Rattle.lus_syntax.specs.declared.tree.Node.{Node as StoredNode}
 use Rattle.lus_syntax.specs.View.{constant_seen, node_seen, tree_seen}
 use Rattle.lus_program.specs.Programs.{Declared, Node, Program}
 use Rattle.lus_program.specs.View.{program_seen}
-use Rattle.lus_meaning.specs.Scopes.{Scope}
-use Rattle.lus_meaning.specs.ScopeView.{scope_of}
-use Rattle.lus_meaning.specs.Tables.{tables}
-use Rattle.lus_meaning.specs.Meaning.{program_of}
-use Rattle.lus_meaning.specs.WellTyped.{IsTyped, constant_typed}
-use Rattle.lus_meaning.proofs.Faults.{passed_on}
+use Rattle.lus_source.specs.Scopes.{Scope}
+use Rattle.lus_source.specs.ScopeView.{scope_of}
+use Rattle.lus_source.specs.Tables.{tables}
+use Rattle.lus_source.specs.Meaning.{program_of}
+use Rattle.lus_source.specs.WellTyped.{IsTyped, constant_typed}
+use Rattle.lus_source.proofs.Faults.{passed_on}
 use Rattle.lus_types.specs.ByScope.{AreTypedIn, constant_fits, nodes_in}
 use Rattle.lus_types.proofs.FirstFaults.{constants_fail}
-use Rattle.lus_types.proofs.NodesMeant.{constants_are, nodes_are, nodes_fit, nodes_typed}
+use Rattle.lus_types.proofs.TablesMeant.{constants_are, nodes_are, nodes_fit, nodes_typed}
 use Rattle.lus_types.proofs.passes.program.Goals as goal
 
 abbrev program : List Declared → List Node → Program

@@ -1,0 +1,14 @@
+pub mod NameLists
+pub mod NewNames
+pub mod GroupNames
+pub mod NodeParts
+pub mod NamePlaces
+pub mod Counting
+pub mod TypesByUses
+pub mod LeavesMeant
+pub mod TypeTables
+pub mod Greatest
+pub mod DeepThings
+pub mod TableRows
+pub mod Placing
+pub mod OfSource

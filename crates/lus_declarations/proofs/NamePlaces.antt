@@ -1,0 +1,28 @@
+-- Places of names: among the keys of a table, and that they are places of names.
+use Rattle.std.proofs.Common.{arith, ◌≡◌, ◌∙◌, ◌+◌, ◌<◌, refl, ap, ℕ, suc, Bool, true, false, List, [], ◌∷◌, Option, Some, All, length, map, cond, zero-add, String, Global}
+use Rattle.std.specs.Prelude.{string_bytes}
+use Rattle.std.specs.List.{position, position_from}
+use Rattle.std.specs.Option.{option_to_list}
+use Rattle.std.specs.Str.{bytes_eq}
+use Rattle.std.proofs.lemmas.Iterator.Adapters.{position_from-zero}
+use Rattle.std.proofs.lemmas.List.Elements.{All-nil, All-cons, All-weaker}
+use Rattle.lus_syntax.specs.Lexemes.{Text}
+use Rattle.lus_source.specs.Loopless.{place_in}
+
+places_from : (n : List ℕ) (k : ℕ) (keys : List (String Global)) → position_from (λ t. bytes_eq n (string_bytes t)) k keys ≡ position_from (λ m. bytes_eq n m) k (map string_bytes keys)
+places_from n k [] = refl
+places_from n k (t ∷ keys) = ap (cond (bytes_eq n (string_bytes t)) (Some k)) (places_from n (k + 1) keys)
+
+pub place_found : (n : List ℕ) (keys : List (String Global)) → position (λ t. bytes_eq n (string_bytes t)) keys ≡ place_in (map string_bytes keys) n
+place_found n keys = position_from-zero (λ t. bytes_eq n (string_bytes t)) keys ∙ places_from n 0 keys
+
+within_cons : (b : Bool) (k n : ℕ) (o : Option ℕ) → All (λ t. t < k + 1 + n) (option_to_list o) → All (λ t. t < k + suc n) (option_to_list (cond b (Some k) o))
+within_cons true k n o all = All-cons (λ t. t < k + suc n) k [] (omega arith) (All-nil (λ t. t < k + suc n))
+within_cons false k n o all = All-weaker (λ t. t < k + 1 + n) (λ t. t < k + suc n) (λ t lt. omega arith) (option_to_list o) all
+
+within_from : (test : Text → Bool) (k : ℕ) (names : List Text) → All (λ t. t < k + length names) (option_to_list (position_from test k names))
+within_from test k [] = All-nil (λ t. t < k + 0)
+within_from test k (m ∷ names) = within_cons (test m) k (length names) (position_from test (k + 1) names) (within_from test (k + 1) names)
+
+pub places_inside : (names : List Text) (n : Text) → All (λ t. t < length names) (option_to_list (place_in names n))
+places_inside names n = let all = within_from (λ m. bytes_eq n m) 0 names in rw (← zero-add (length names)) all

@@ -1,0 +1,78 @@
+-- What a declared type has comes from what the types have that its declaration names.
+use Rattle.std.proofs.Common.{arith, ◌≡◌, refl, ap, ℕ, ◌*◌, ◌<◌, List, [], ◌∷◌, Option, Some, None, length, flat_map, sum_by, Contains, All}
+use Rattle.std.specs.Option.{option_to_list}
+use Rattle.std.proofs.lemmas.List.{length-map}
+use Rattle.std.proofs.lemmas.List.Elements.{Contains-append_left, Contains-append_right, All-nil, All-append, All-contains}
+use Rattle.std.proofs.lemmas.List.Sums.{sum_by-cons}
+use Rattle.lus_syntax.specs.Lexemes.{Text}
+use Rattle.lus_syntax.specs.Trees.{TypeName, BoolName, IntName, DeclaredName, Fields, Definition, Alias, Enumeration, StructureOf, Tree}
+use Rattle.lus_program.specs.declared.types.Kind.{Kind}
+use Rattle.lus_program.specs.declared.types.Kind.TheVariants as kinds
+use Rattle.lus_source.specs.Loopless.{place_in, type_names, named_type, definition_uses, type_uses}
+use Rattle.lus_source.specs.Tables.{of_type, definition_at, definition_kind}
+use Rattle.lus_source.specs.Sized.{definition_leaves}
+use Rattle.lus_source.proofs.TypesMeant.{used_is}
+use Rattle.lus_declarations.proofs.NamePlaces.{places_inside}
+use Rattle.lus_graph.proofs.AlongOrders.{IsLocal, IsInside}
+
+-- locality
+
+sums_same : {X : Type 0} (f g : X → ℕ) (x : X) (xs : List X) → f x ≡ g x → sum_by f xs ≡ sum_by g xs → sum_by f (x ∷ xs) ≡ sum_by g (x ∷ xs)
+sums_same f g x xs first rest = omega (arith, sum_by-cons f x xs, sum_by-cons g x xs)
+
+place_local : {X : Type 0} (x : X) (at at' : ℕ → X) (o : Option ℕ) → ((t : ℕ) → Contains (option_to_list o) t → at t ≡ at' t) → ◌≡◌ {A = X} (elim o [ Some t ↦ at t | None ↦ x ]) (elim o [ Some t ↦ at' t | None ↦ x ])
+place_local x at at' None agree = refl
+place_local x at at' (Some t) agree = agree t (0, omega arith, refl)
+
+module _ (types : List Text) where
+  name_local : {X : Type 0} (x y : X) (at at' : ℕ → X) (n : TypeName) → ((t : ℕ) → Contains (named_type types n) t → at t ≡ at' t) → of_type types x y at n ≡ of_type types x y at' n
+  name_local x y at at' (BoolName s) agree = refl
+  name_local x y at at' (IntName s) agree = refl
+  name_local x y at at' (DeclaredName n) agree = place_local x at at' (place_in types n.text) agree
+
+  sums_local : (at at' : ℕ → ℕ) (fs : List Fields) → ((t : ℕ) → Contains (flat_map (λ g. named_type types g.type_name) fs) t → at t ≡ at' t)
+      → sum_by (λ g. length g.names * of_type types 1 1 at g.type_name) fs ≡ sum_by (λ g. length g.names * of_type types 1 1 at' g.type_name) fs
+  sums_local at at' [] agree = refl
+  sums_local at at' (g ∷ fs) agree =
+      let us = flat_map (λ h. named_type types h.type_name) fs in
+      let first = name_local 1 1 at at' g.type_name (λ t among. agree t (Contains-append_left (named_type types g.type_name) us t among)) in
+      let rest = sums_local at at' fs (λ t among. agree t (Contains-append_right (named_type types g.type_name) us t among)) in
+      sums_same (λ h. length h.names * of_type types 1 1 at h.type_name) (λ h. length h.names * of_type types 1 1 at' h.type_name) g fs (ap (λ n. length g.names * n) first) rest
+
+  leaves_local : (at at' : ℕ → ℕ) (d : Definition) → ((t : ℕ) → Contains (definition_uses types d) t → at t ≡ at' t) → definition_leaves types at d ≡ definition_leaves types at' d
+  leaves_local at at' (Alias y) agree = name_local 1 1 at at' y agree
+  leaves_local at at' (Enumeration cs) agree = refl
+  leaves_local at at' (StructureOf fs) agree = sums_local at at' fs agree
+
+  kind_local : (at at' : ℕ → Kind) (k : ℕ) (d : Definition) → ((t : ℕ) → Contains (definition_uses types d) t → at t ≡ at' t) → definition_kind types at k d ≡ definition_kind types at' k d
+  kind_local at at' k (Alias y) agree = name_local kinds.Bool kinds.Int at at' y agree
+  kind_local at at' k (Enumeration cs) agree = refl
+  kind_local at at' k (StructureOf fs) agree = refl
+
+  -- uses are of things
+
+  named_inside : (n : TypeName) → All (λ t. t < length types) (named_type types n)
+  named_inside (BoolName s) = All-nil (λ t. t < length types)
+  named_inside (IntName s) = All-nil (λ t. t < length types)
+  named_inside (DeclaredName n) = places_inside types n.text
+
+  fields_inside : (fs : List Fields) → All (λ t. t < length types) (flat_map (λ g. named_type types g.type_name) fs)
+  fields_inside [] = All-nil (λ t. t < length types)
+  fields_inside (g ∷ fs) = All-append (λ t. t < length types) (named_type types g.type_name) (flat_map (λ h. named_type types h.type_name) fs) (named_inside g.type_name) (fields_inside fs)
+
+  definition_inside : (d : Definition) → All (λ t. t < length types) (definition_uses types d)
+  definition_inside (Alias y) = named_inside y
+  definition_inside (Enumeration cs) = All-nil (λ t. t < length types)
+  definition_inside (StructureOf fs) = fields_inside fs
+
+pub types_inside : (p : Tree) → IsInside (type_uses p)
+types_inside p t y among =
+    let here : Contains (definition_uses (type_names p) (definition_at p t)) y = rw (used_is p t) at among in
+    let lt : y < length (type_names p) = All-contains (λ k. k < length (type_names p)) (definition_uses (type_names p) (definition_at p t)) y (definition_inside (type_names p) (definition_at p t)) here in
+    omega (arith, length-map p.types (λ d. d.name.text), length-map p.types (λ d. definition_uses (type_names p) d.definition))
+
+pub leaves_step_local : (p : Tree) → IsLocal (type_uses p) (λ at t. definition_leaves (type_names p) at (definition_at p t))
+leaves_step_local p at at' t agree = leaves_local (type_names p) at at' (definition_at p t) (λ y among. agree y (rw (used_is p t) among))
+
+pub kind_step_local : (p : Tree) → IsLocal (type_uses p) (λ at t. definition_kind (type_names p) at t (definition_at p t))
+kind_step_local p at at' t agree = kind_local (type_names p) at at' t (definition_at p t) (λ y among. agree y (rw (used_is p t) among))

@@ -1,0 +1,5 @@
+pub mod NameView
+pub mod Parts
+pub mod Sources
+pub mod Limits
+pub mod ByTable

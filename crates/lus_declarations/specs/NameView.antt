@@ -1,0 +1,18 @@
+-- The tables of names that the code holds, as lists of names.
+use Rattle.std.specs.Prelude.{List, map, string_bytes, String}
+use Rattle.std.specs.Global.{Global}
+use Rattle.lus_syntax.specs.Lexemes.{Text}
+use Rattle.lus_declarations.specs.declared.names.Names.{Names}
+use Rattle.lus_source.specs.Named.{Known}
+
+abbrev pub texts : List (String Global) → List Text
+texts keys = map string_bytes keys
+
+abbrev pub known_seen : Names → Known
+known_seen n = record {
+  variables = texts n.variables.keys;
+  constants = texts n.constants.keys;
+  constructors = texts n.constructors.keys;
+  types = texts n.types.keys;
+  nodes = texts n.nodes.keys;
+}

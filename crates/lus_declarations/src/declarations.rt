@@ -1,0 +1,161 @@
+//! What a source declares: the tables of its types, values and nodes.
+
+ghost use Rattle.std.specs.Prelude.{◌≡◌, ◌++◌, [], map, not, is_none, IfOk, OnOk, IfErr, true, false};
+ghost use Rattle.std.specs.List.{list_all};
+ghost use Rattle.lus_syntax.specs.View.{constant_seen, definition_seen, names_seen, node_seen, tree_seen, type_seen};
+ghost use Rattle.lus_source.specs.Tables.{text_of};
+ghost use Rattle.lus_source.specs.Named.{Distinct, all_constructor_names, all_new, constructor_names, is_in, known};
+ghost use Rattle.lus_source.specs.ScopeView.{Faulty};
+ghost use Rattle.lus_declarations.specs.NameView.{known_seen, texts};
+ghost use Rattle.lus_declarations.specs.Parts.{AreDistinct};
+
+use crate::names::{Names, declare, has};
+use crate::refusing::refuse;
+use indexmap::IndexSet;
+use lus_source::Fault;
+use lus_syntax::{Constant, Definition, Name, Node, Place, Tree, TypeDeclaration};
+use std::alloc::Global;
+use std::slice;
+
+/// The names of a source's types, values and nodes; a fault at a name that stands twice in its space.
+pub fn declared(alloc: Global, tree: &Tree) -> Result<Names, Fault>
+    ensures tables { IfOk result (λ names. known_seen names ≡ known (tree_seen tree.now) []) }
+    ensures distinct { OnOk result (AreDistinct (tree_seen tree.now)) }
+    ensures doubled { IfErr result (Faulty (AreDistinct (tree_seen tree.now) → ⊥)) }
+{
+    let mut types = IndexSet::new(alloc);
+    declare_types(&mut types, &tree.types)?;
+    let (constants, constructors) = declared_values(alloc, tree)?;
+    let mut nodes = IndexSet::new(alloc);
+    declare_nodes(&mut nodes, &tree.nodes)?;
+    Ok(Names {
+        variables: IndexSet::new(alloc),
+        constants,
+        constructors,
+        types,
+        nodes,
+    })
+}
+
+/// Constants and constructors, which are one space.
+fn declared_values(
+    alloc: Global,
+    tree: &Tree,
+) -> Result<(IndexSet<String>, IndexSet<String>), Fault>
+    ensures constants { IfOk result (λ x. texts x.0.keys ≡ (known (tree_seen tree.now) []).constants) }
+    ensures constructors { IfOk result (λ x. texts x.1.keys ≡ (known (tree_seen tree.now) []).constructors) }
+    ensures distinct { let names = known (tree_seen tree.now) [] in
+        OnOk result (Distinct (names.constants ++ names.constructors)) }
+    ensures doubled { let names = known (tree_seen tree.now) [] in
+        IfErr result (Faulty (Distinct (names.constants ++ names.constructors) → ⊥)) }
+{
+    let mut constants = IndexSet::new(alloc);
+    declare_constants(&mut constants, &tree.constants)?;
+    let mut constructors = IndexSet::new(alloc);
+    declare_constructors(&mut constructors, &tree.types)?;
+    refuse(doubled_value(&constants, tree))?;
+    Ok((constants, constructors))
+}
+
+fn declare_types(table: &mut IndexSet<String>, types: &[TypeDeclaration]) -> Result<(), Fault>
+    ensures kept { OnOk result (texts table.new.keys ≡ texts table.old.keys ++ map (λ d. d.name.text) (map type_seen types.now)) }
+    ensures new { OnOk result (all_new (texts table.old.keys) (map (λ d. d.name.text) (map type_seen types.now)) ≡ true) }
+    ensures doubled { IfErr result (Faulty (all_new (texts table.old.keys) (map (λ d. d.name.text) (map type_seen types.now)) ≡ false)) }
+{
+    for declaration in types {
+        declare(table, slice::from_ref(&declaration.name))?;
+    }
+    Ok(())
+}
+
+fn declare_constants(table: &mut IndexSet<String>, constants: &[Constant]) -> Result<(), Fault>
+    ensures kept { OnOk result (texts table.new.keys ≡ texts table.old.keys ++ map (λ c. c.name.text) (map constant_seen constants.now)) }
+    ensures new { OnOk result (all_new (texts table.old.keys) (map (λ c. c.name.text) (map constant_seen constants.now)) ≡ true) }
+    ensures doubled { let names = map (λ c. c.name.text) (map constant_seen constants.now) in
+        IfErr result (Faulty (all_new (texts table.old.keys) names ≡ false)) }
+{
+    for constant in constants {
+        declare(table, slice::from_ref(&constant.name))?;
+    }
+    Ok(())
+}
+
+fn declare_nodes(table: &mut IndexSet<String>, nodes: &[Node]) -> Result<(), Fault>
+    ensures kept { OnOk result (texts table.new.keys ≡ texts table.old.keys ++ map (λ f. f.name.text) (map node_seen nodes.now)) }
+    ensures new { OnOk result (all_new (texts table.old.keys) (map (λ f. f.name.text) (map node_seen nodes.now)) ≡ true) }
+    ensures doubled { IfErr result (Faulty (all_new (texts table.old.keys) (map (λ f. f.name.text) (map node_seen nodes.now)) ≡ false)) }
+{
+    for node in nodes {
+        declare(table, slice::from_ref(&node.name))?;
+    }
+    Ok(())
+}
+
+fn declare_constructors(
+    table: &mut IndexSet<String>,
+    types: &[TypeDeclaration],
+) -> Result<(), Fault>
+    ensures kept { OnOk result (texts table.new.keys ≡ texts table.old.keys ++ all_constructor_names (map type_seen types.now)) }
+    ensures new { OnOk result (all_new (texts table.old.keys) (all_constructor_names (map type_seen types.now)) ≡ true) }
+    ensures doubled { IfErr result (Faulty (all_new (texts table.old.keys) (all_constructor_names (map type_seen types.now)) ≡ false)) }
+{
+    for declaration in types {
+        declare(table, constructors_of(&declaration.definition))?;
+    }
+    Ok(())
+}
+
+/// The constructors of an enumeration; no other type has any.
+fn constructors_of(definition: &Definition) -> &[Name]
+    ensures { map text_of (names_seen result.now) ≡ constructor_names (definition_seen definition.now) }
+{
+    match definition {
+        Definition::Alias(_) => &[],
+        Definition::Enumeration(constructors) => constructors.as_slice(),
+        Definition::Structure(_) => &[],
+    }
+}
+
+/// Where a name is declared as a constant and as a constructor: the second of the two.
+fn doubled_value(constants: &IndexSet<String>, tree: &Tree) -> Option<Place>
+    ensures { is_none result ≡ list_all (λ n. not (is_in (texts constants.now.keys) n)) (known (tree_seen tree.now) []).constructors }
+{
+    for declaration in &tree.types {
+        let doubled = doubled_among(
+            constants,
+            &tree.constants,
+            constructors_of(&declaration.definition),
+        );
+        if let Some(place) = doubled {
+            return Some(place);
+        }
+    }
+    None
+}
+
+fn doubled_among(
+    constants: &IndexSet<String>,
+    declared: &[Constant],
+    constructors: &[Name],
+) -> Option<Place>
+    ensures { is_none result ≡ list_all (λ n. not (is_in (texts constants.now.keys) n)) (map text_of (names_seen constructors.now)) }
+{
+    for constructor in constructors {
+        if has(constants, &constructor.text) {
+            return Some(second(constants, declared, constructor));
+        }
+    }
+    None
+}
+
+/// Where the second stands of a constant and the constructor of its name.
+fn second(constants: &IndexSet<String>, declared: &[Constant], constructor: &Name) -> Place {
+    let place = constructor.span.start;
+    let constant = constants
+        .get_index_of(constructor.text.as_str())
+        .and_then(|index| declared.get(index));
+    match constant {
+        Some(constant) if constant.name.span.start.byte > place.byte => constant.name.span.start,
+        _ => place,
+    }
+}

@@ -1,0 +1,35 @@
+//! What a source declares, checked and resolved, before any right side is elaborated.
+#![tactic(auto)]
+
+mod checking;
+mod counts;
+mod declarations;
+mod declared_kinds;
+mod definitions;
+mod depths;
+mod left;
+mod loopless;
+mod named;
+mod names;
+mod nodes;
+mod recursion;
+mod refusing;
+mod scopes;
+mod signatures;
+mod sizes;
+mod table;
+mod type_names;
+mod types;
+mod uses;
+mod values;
+mod variables;
+
+pub use counts::check_counts;
+pub use loopless::{Loopless, check_recursion};
+pub use named::{Named, check_names};
+pub use scopes::tables;
+pub use sizes::check_sizes;
+pub use table::saturated;
+pub use types::kind_of_name;
+pub use values::literal;
+pub use variables::enter;

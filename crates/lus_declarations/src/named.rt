@@ -1,0 +1,120 @@
+//! Sources whose names are right.
+
+ghost use Rattle.std.specs.Prelude.{◌≡◌, IfErr, IfOk, OnOk};
+ghost use Rattle.lus_syntax.specs.declared.refusal.RefusalNumber.TheVariants as numbers;
+ghost use Rattle.lus_syntax.specs.Refusals.{HasShape};
+ghost use Rattle.lus_syntax.specs.View.{tree_seen};
+ghost use Rattle.lus_typing.specs.Refusals.{RefusesFor};
+ghost use Rattle.lus_source.specs.Loopless.{node_names, place_in, type_names};
+ghost use Rattle.lus_source.specs.Named.{Named as IsNamed};
+ghost use Rattle.lus_source.specs.Sized.{Counted as IsCounted};
+
+use crate::checking::names_of;
+use indexmap::IndexSet;
+use lus_source::Counted;
+use lus_syntax::{Refusal, RefusalNumber, Tree};
+use std::alloc::Global;
+use std::marker::Model;
+
+/// Names by their places, no more than a source may declare. Contracts see them as the names in their order.
+#[derive(Drop)]
+pub struct Places {
+    names: IndexSet<String>,
+}
+
+impl Model for Places {
+    ghost use Rattle.std.specs.Prelude.{List, ◌≤◌, length};
+    ghost use Rattle.lus_syntax.specs.Lexemes.{Text};
+    ghost use Rattle.lus_syntax.specs.Limits.{most_declarations};
+    ghost use Rattle.lus_declarations.specs.NameView.{texts};
+
+    ghost Value = { List Text };
+
+    ghost view = { λ p. texts p.names.keys };
+
+    ghost invariant = { λ p. length p.names.keys ≤ most_declarations };
+}
+
+impl Places {
+    /// The place of a name, if it is among them.
+    pub fn place(&self, name: &str) -> Option<u32>
+        ensures { result ≡ place_in self.now name.now }
+    {
+        match self.names.get_index_of(name) {
+            Some(place) => Some(place as u32),
+            None => None,
+        }
+    }
+}
+
+/// A counted source whose names are declared once, and used as what they are declared, with the places of its types and
+/// nodes. Contracts see it as its tree.
+#[derive(Drop)]
+pub struct Named {
+    counted: Counted,
+    types: Places,
+    nodes: Places,
+}
+
+impl Model for Named {
+    ghost use Rattle.std.specs.Coded.{codes};
+    ghost use Rattle.lus_syntax.specs.contracts.tree.Expr as source_expr;
+    ghost use Rattle.lus_syntax.specs.declared.tree.Tree.{Tree as StoredTree};
+    ghost use Rattle.lus_syntax.specs.View.{tree_seen};
+    ghost use Rattle.lus_declarations.specs.Sources.{HasNames};
+
+    ghost Value = { StoredTree };
+
+    ghost coded = { Prim.hlevel (codes, source_expr.the_row.coded) };
+
+    ghost view = { λ n. n.counted };
+
+    ghost invariant = { λ n. HasNames (tree_seen n.counted) n.types n.nodes };
+}
+
+impl Named {
+    /// The source.
+    pub fn tree(&self) -> &Tree
+        ensures same { result.now ≡ self.now }
+        ensures counted { IsCounted (tree_seen result.now) }
+        ensures named { IsNamed (tree_seen result.now) }
+    {
+        self.counted.tree()
+    }
+
+    /// The places of its types.
+    pub fn types(&self) -> &Places
+        ensures { result.now ≡ type_names (tree_seen self.now) }
+    {
+        &self.types
+    }
+
+    /// The places of its nodes.
+    pub fn nodes(&self) -> &Places
+        ensures { result.now ≡ node_names (tree_seen self.now) }
+    {
+        &self.nodes
+    }
+}
+
+/// Checks the names of a source. A fault stands at the name: a doubled one where it is declared again, an unknown one where it
+/// is used, an output or a local without an equation where it is declared, an equation with nothing on its left at its node's
+/// name.
+pub fn check_names(alloc: Global, counted: Counted) -> Result<Named, Refusal>
+    ensures same { IfOk result (λ named. named ≡ counted) }
+    ensures ok { OnOk result (IsNamed (tree_seen counted)) }
+    ensures refused { IfErr result (RefusesFor numbers.Name (IsNamed (tree_seen counted))) }
+    ensures shaped { IfErr result HasShape }
+{
+    let names = match names_of(alloc, counted.tree()) {
+        Ok(names) => names,
+        Err(fault) => return Err(fault.refusal(RefusalNumber::Name)),
+    };
+    let types = Places { names: names.types };
+    let nodes = Places { names: names.nodes };
+    Ok(Named {
+        counted,
+        types,
+        nodes,
+    })
+}

@@ -1,0 +1,180 @@
+//! The names that stand for something, and what uses them.
+
+ghost use Rattle.std.specs.Prelude.{◌≡◌, ◌++◌, map, is_none, OnOk, IfErr, true, false};
+ghost use Rattle.lus_syntax.specs.View.{expression_seen, part_seen, names_seen};
+ghost use Rattle.lus_syntax.specs.Trees.{parts_of};
+ghost use Rattle.lus_source.specs.Tables.{text_of};
+ghost use Rattle.lus_source.specs.Named.{is_in, all_new, knows, knows_parts};
+ghost use Rattle.lus_declarations.specs.NameView.{texts, known_seen};
+ghost use Rattle.lus_source.specs.ScopeView.{Faulty};
+
+use indexmap::IndexSet;
+use lus_source::Fault;
+use lus_syntax::{Expr, Label, Lead, Name, Part, Place, Test};
+
+/// The names of each space, in the order of their declarations.
+#[derive(Drop)]
+pub struct Names {
+    pub variables: IndexSet<String>,
+    pub constants: IndexSet<String>,
+    pub constructors: IndexSet<String>,
+    pub types: IndexSet<String>,
+    pub nodes: IndexSet<String>,
+}
+
+/// Whether a name is among those of a table.
+pub fn has(table: &IndexSet<String>, name: &str) -> bool
+    ensures { result ≡ is_in (texts table.now.keys) name.now }
+{
+    table.contains(name)
+}
+
+/// Adds names to a table; a fault at one that stands there already.
+pub fn declare(table: &mut IndexSet<String>, names: &[Name]) -> Result<(), Fault>
+    ensures kept { OnOk result (texts table.new.keys ≡ texts table.old.keys ++ map text_of (names_seen names.now)) }
+    ensures new { OnOk result (all_new (texts table.old.keys) (map text_of (names_seen names.now)) ≡ true) }
+    ensures doubled { IfErr result (Faulty (all_new (texts table.old.keys) (map text_of (names_seen names.now)) ≡ false)) }
+{
+    for name in names {
+        let (_, is_new) = table.insert_full(name.text.clone()?)?;
+        if !is_new {
+            return Err(Fault::At(name.span.start));
+        }
+    }
+    Ok(())
+}
+
+impl Names {
+    ghost use Rattle.std.specs.Prelude.{◌≡◌, is_none};
+    ghost use Rattle.lus_syntax.specs.View.{name_seen, lead_seen, label_seen, test_seen};
+    ghost use Rattle.lus_source.specs.Named.{is_in, knows_lead, knows_label, knows_test, knows_name as name_known};
+    ghost use Rattle.lus_declarations.specs.NameView.{known_seen};
+
+    fn knows_name(&self, name: &str) -> bool
+        ensures { result ≡ name_known (known_seen self.now) name.now }
+    {
+        has(&self.variables, name) || has(&self.constants, name) || has(&self.constructors, name)
+    }
+
+    fn unknown_label(&self, label: &Label) -> Option<Place>
+        ensures { is_none result ≡ knows_label (known_seen self.now) (label_seen label.now) }
+    {
+        match label {
+            Label::Truth(_, _) => None,
+            Label::Constructor(name) => {
+                if has(&self.constructors, &name.text) {
+                    None
+                } else {
+                    Some(name.span.start)
+                }
+            }
+        }
+    }
+
+    pub fn unknown_test(&self, test: &Test) -> Option<Place>
+        ensures { is_none result ≡ knows_test (known_seen self.now) (test_seen test.now) }
+    {
+        match test {
+            Test::Holds(variable) => self.unknown_variable(variable),
+            Test::Fails(_, variable) => self.unknown_variable(variable),
+            Test::Is(label, variable) => match self.unknown_variable(variable) {
+                Some(place) => Some(place),
+                None => self.unknown_label(label),
+            },
+        }
+    }
+
+    fn unknown_variable(&self, variable: &Name) -> Option<Place>
+        ensures { is_none result ≡ is_in (known_seen self.now).variables (name_seen variable.now).text }
+    {
+        if has(&self.variables, &variable.text) {
+            None
+        } else {
+            Some(variable.span.start)
+        }
+    }
+
+    fn unknown_lead(&self, lead: &Lead) -> Option<Place>
+        ensures { is_none result ≡ knows_lead (known_seen self.now) (lead_seen lead.now) }
+    {
+        match lead {
+            Lead::Plain => None,
+            Lead::Field(_) => None,
+            Lead::Branch(_, label) => self.unknown_label(label),
+        }
+    }
+}
+
+/// The first unknown name of an expression.
+#[cycle(unknown)]
+pub fn unknown(names: &Names, source: &Expr) -> Option<Place>
+    ensures { is_none result ≡ knows (known_seen names.now) (expression_seen source.now) }
+{
+    match source {
+        Expr::Number(_, _) => None,
+        Expr::Truth(_, _) => None,
+        Expr::Name(name) => {
+            if names.knows_name(&name.text) {
+                None
+            } else {
+                Some(name.span.start)
+            }
+        }
+        Expr::Call(name, arguments) => {
+            if has(&names.nodes, &name.text) {
+                unknown_in(names, arguments)
+            } else {
+                Some(name.span.start)
+            }
+        }
+        Expr::Structure(name, fields) => {
+            if has(&names.types, &name.text) {
+                unknown_in(names, fields)
+            } else {
+                Some(name.span.start)
+            }
+        }
+        Expr::Merge(_, variable, branches) => {
+            if has(&names.variables, &variable.text) {
+                unknown_in(names, branches)
+            } else {
+                Some(variable.span.start)
+            }
+        }
+        Expr::Variadic(_, _, operands) => unknown_in(names, operands),
+        Expr::Field(operand, _) => unknown(names, operand),
+        Expr::Parentheses(_, inner) => unknown(names, inner),
+        Expr::When(operand, test) => match unknown(names, operand) {
+            Some(place) => Some(place),
+            None => names.unknown_test(test),
+        },
+        Expr::Unary(_, _, operand) => unknown(names, operand),
+        Expr::Binary(_, left, right) => match unknown(names, left) {
+            Some(place) => Some(place),
+            None => unknown(names, right),
+        },
+        Expr::If(_, condition, left, right) => match unknown(names, condition) {
+            Some(place) => Some(place),
+            None => match unknown(names, left) {
+                Some(place) => Some(place),
+                None => unknown(names, right),
+            },
+        },
+    }
+}
+
+/// The first unknown name of parts.
+#[cycle(unknown)]
+fn unknown_in(names: &Names, parts: &[Part]) -> Option<Place>
+    ensures { is_none result ≡ knows_parts (known_seen names.now) (parts_of (map part_seen parts.now)) }
+{
+    for part in parts {
+        if let Some(place) = names.unknown_lead(&part.lead) {
+            return Some(place);
+        }
+        if let Some(place) = unknown(names, &part.value) {
+            return Some(place);
+        }
+    }
+    None
+}

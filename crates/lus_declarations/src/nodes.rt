@@ -1,0 +1,116 @@
+//! The names of a node.
+
+ghost use Rattle.std.specs.Prelude.{◌≡◌, ◌++◌, map, is_none, OnOk, IfErr, true, false};
+ghost use Rattle.std.specs.List.{list_all};
+ghost use Rattle.lus_values.specs.Lists.{Each};
+ghost use Rattle.lus_syntax.specs.View.{equation_seen, group_seen, node_seen};
+ghost use Rattle.lus_source.specs.Tables.{groups};
+ghost use Rattle.lus_source.specs.Named.{NodeNamed, all_new, knows, names_in, test_known};
+ghost use Rattle.lus_source.specs.ScopeView.{Faulty};
+ghost use Rattle.lus_declarations.specs.NameView.{known_seen, texts};
+ghost use Rattle.lus_declarations.specs.Parts.{group_known, in_node, node_known, outside};
+
+use crate::definitions::unknown_type;
+use crate::left::{check_lefts, declare_groups};
+use crate::names::{Names, unknown};
+use crate::refusing::refuse;
+use indexmap::IndexSet;
+use lus_source::Fault;
+use lus_syntax::{Equation, Group, Node, Place};
+use std::alloc::Global;
+
+/// Checks the names of nodes, one by one.
+pub fn check_nodes(alloc: Global, names: &mut Names, nodes: &[Node]) -> Result<(), Fault>
+    ensures kept { OnOk result (outside (known_seen names.new) ≡ outside (known_seen names.old)) }
+    ensures named { OnOk result (Each (λ f. NodeNamed (in_node (known_seen names.old) f) f) (map node_seen nodes.now)) }
+    ensures refused { IfErr result (Faulty (Each (λ f. NodeNamed (in_node (known_seen names.old) f) f) (map node_seen nodes.now) → ⊥)) }
+{
+    for node in nodes {
+        check_node(alloc, names, node)?;
+    }
+    Ok(())
+}
+
+/// Checks the names of a node. Its variables stand in the table from then on, and no others.
+fn check_node(alloc: Global, names: &mut Names, node: &Node) -> Result<(), Fault>
+    ensures kept { OnOk result (known_seen names.new ≡ in_node (known_seen names.old) (node_seen node.now)) }
+    ensures named { OnOk result (NodeNamed (in_node (known_seen names.old) (node_seen node.now)) (node_seen node.now)) }
+    ensures refused { IfErr result (Faulty (NodeNamed (in_node (known_seen names.old) (node_seen node.now)) (node_seen node.now) → ⊥)) }
+{
+    names.variables.clear();
+    declare_variables(&mut names.variables, node)?;
+    refuse(unknown_in_node(names, node))?;
+    check_lefts(alloc, node)
+}
+
+fn declare_variables(table: &mut IndexSet<String>, node: &Node) -> Result<(), Fault>
+    ensures kept { OnOk result (texts table.new.keys ≡ texts table.old.keys ++ names_in (groups (node_seen node.now))) }
+    ensures new { OnOk result (all_new (texts table.old.keys) (names_in (groups (node_seen node.now))) ≡ true) }
+    ensures doubled { IfErr result (Faulty (all_new (texts table.old.keys) (names_in (groups (node_seen node.now))) ≡ false)) }
+{
+    declare_groups(table, &node.inputs)?;
+    declare_groups(table, &node.outputs)?;
+    declare_groups(table, &node.locals)
+}
+
+/// The first unknown name in the declarations and on the right sides of a node.
+fn unknown_in_node(names: &Names, node: &Node) -> Option<Place>
+    ensures { is_none result ≡ node_known (known_seen names.now) (node_seen node.now) }
+{
+    match unknown_in_declared(names, node) {
+        Some(place) => Some(place),
+        None => unknown_in_equations(names, &node.equations),
+    }
+}
+
+fn unknown_in_declared(names: &Names, node: &Node) -> Option<Place>
+    ensures { is_none result ≡ list_all (group_known (known_seen names.now)) (groups (node_seen node.now)) }
+{
+    match unknown_in_groups(names, &node.inputs) {
+        Some(place) => Some(place),
+        None => match unknown_in_groups(names, &node.outputs) {
+            Some(place) => Some(place),
+            None => unknown_in_groups(names, &node.locals),
+        },
+    }
+}
+
+fn unknown_in_groups(names: &Names, groups: &[Group]) -> Option<Place>
+    ensures { is_none result ≡ list_all (group_known (known_seen names.now)) (map group_seen groups.now) }
+{
+    for group in groups {
+        if let Some(place) = unknown_in_group(names, group) {
+            return Some(place);
+        }
+    }
+    None
+}
+
+fn unknown_in_group(names: &Names, group: &Group) -> Option<Place>
+    ensures { is_none result ≡ group_known (known_seen names.now) (group_seen group.now) }
+{
+    match unknown_type(&names.types, &group.type_name) {
+        Some(place) => Some(place),
+        None => unknown_in_test(names, group),
+    }
+}
+
+fn unknown_in_test(names: &Names, group: &Group) -> Option<Place>
+    ensures { is_none result ≡ test_known (known_seen names.now) (group_seen group.now).test }
+{
+    match &group.test {
+        Some(test) => names.unknown_test(test),
+        None => None,
+    }
+}
+
+fn unknown_in_equations(names: &Names, equations: &[Equation]) -> Option<Place>
+    ensures { is_none result ≡ list_all (λ q. knows (known_seen names.now) q.right) (map equation_seen equations.now) }
+{
+    for equation in equations {
+        if let Some(place) = unknown(names, &equation.right) {
+            return Some(place);
+        }
+    }
+    None
+}

@@ -1,4 +1,0 @@
-pub mod Weights
-pub mod TreeSizes
-pub mod MeantSizes
-pub mod SourceParts

@@ -1,7 +1,0 @@
-use Rattle.std.proofs.Common.{◌≡◌, take}
-use Rattle.lus_values.specs.Lists.{item}
-use Rattle.lus_meaning.specs.Sized.{greatest}
-use Rattle.lus_limits.proofs.calls.deepest_call.Given as goal
-
-abbrev pub invariant-loop-place : goal.invariant-loop-place
-invariant-loop-place l = l.deepest ≡ greatest (item 0 l.depths) (take l.place-index l.called)

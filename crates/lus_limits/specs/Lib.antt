@@ -1,3 +1,0 @@
-pub mod GraphErrors
-pub mod Limits
-pub mod Orders

@@ -1,3 +1,0 @@
-pub mod NameView
-pub mod Parts
-pub mod Sources

@@ -1,9 +1,0 @@
--- What the program keeps that a well-formed tree means.
-use Rattle.lus_syntax.specs.Trees.{Tree}
-use Rattle.lus_meaning.specs.Meaning.{program_of}
-use Rattle.lus_meaning.specs.Refusals.{WellFormed}
-use Rattle.lus_typing.specs.Sound.{IsSound}
-
--- a well-formed tree means a sound program
-abbrev pub MeantProgramsAreSound : Type 0
-MeantProgramsAreSound = (t : Tree) → WellFormed t → IsSound (program_of t)

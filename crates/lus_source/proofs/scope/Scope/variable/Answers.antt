@@ -1,0 +1,6 @@
+use Rattle.std.proofs.Common.{◌∙◌}
+use Rattle.lus_source.proofs.Lookups.{plain_entry_is}
+use Rattle.lus_source.proofs.scope.Scope.variable.Goals as goal
+
+pub returns : goal.returns
+returns c = c.copied.ensures ∙ c.get.ensures.value ∙ plain_entry_is c.args.name.now c.args.self.now.variables.entries

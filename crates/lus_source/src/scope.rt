@@ -1,0 +1,129 @@
+//! What the names in a node's text stand for.
+
+ghost use Rattle.std.specs.Prelude.{◌≡◌, ◌≤◌, IsTrue, length, map};
+ghost use Rattle.std.specs.List.{list_all};
+ghost use Rattle.lus_syntax.specs.Limits.{most_fields};
+ghost use Rattle.lus_program.specs.View.{declared_of, field_of};
+ghost use Rattle.lus_source.specs.Types.{field_named, has_few_fields};
+
+use crate::entries::{Constructor, Placed, Signature};
+use indexmap::IndexMap;
+use lus_program::{Declared, Field, Kind};
+use lus_values::{Memory, Value, copy};
+use std::alloc::Global;
+
+/// The variables of a node, and the constants, constructors, types and nodes of its source; `declared` says what each
+/// type's declaration declares.
+#[derive(Drop)]
+pub struct Scope {
+    pub variables: IndexMap<String, Placed>,
+    pub constants: IndexMap<String, Value>,
+    pub constructors: IndexMap<String, Constructor>,
+    pub types: IndexMap<String, Kind>,
+    pub declared: Vec<Declared>,
+    pub nodes: IndexMap<String, Signature>,
+    ghost few_fields: { IsTrue (list_all has_few_fields (map declared_of declared.items)) },
+}
+
+impl Scope {
+    ghost use Rattle.std.specs.Prelude.{◌≡◌, ◌≤◌, IfOk, length, map, option_map};
+    ghost use Rattle.lus_values.specs.View.{value_of};
+    ghost use Rattle.lus_program.specs.View.{field_of};
+    ghost use Rattle.lus_source.specs.Scopes.{entry};
+    ghost use Rattle.lus_source.specs.ScopeView.{scope_of, signature_of};
+    ghost use Rattle.lus_source.specs.Types.{name_value, size_of as size, fields_of as fields};
+
+    pub fn variable(&self, name: &str) -> Option<Placed>
+        ensures { result ≡ entry (scope_of self.now).variables name.now }
+    {
+        self.variables.get(name).copied()
+    }
+
+    pub fn constant(&self, name: &str) -> Option<&Value>
+        ensures { option_map (λ v. value_of v.now) result ≡ entry (scope_of self.now).constants name.now }
+    {
+        self.constants.get(name)
+    }
+
+    pub fn constructor(&self, name: &str) -> Option<Constructor>
+        ensures { result ≡ entry (scope_of self.now).constructors name.now }
+    {
+        self.constructors.get(name).copied()
+    }
+
+    pub fn kind(&self, name: &str) -> Option<Kind>
+        ensures { result ≡ entry (scope_of self.now).types name.now }
+    {
+        self.types.get(name).copied()
+    }
+
+    pub fn node(&self, name: &str) -> Option<&Signature>
+        ensures { option_map (λ g. signature_of g.now) result ≡ entry (scope_of self.now).nodes name.now }
+    {
+        self.nodes.get(name)
+    }
+
+    /// The value that a constant or a constructor stands for.
+    pub fn value(&self, alloc: Global, name: &str) -> Result<Option<Value>, Memory>
+        ensures { IfOk result (λ v. option_map value_of v ≡ name_value (scope_of self.now) name.now) }
+    {
+        if let Some(constant) = self.constant(name) {
+            return Ok(Some(copy(alloc, constant)?));
+        }
+        match self.constructor(name) {
+            Some(found) => Ok(Some(Value::Enum(found.enumeration, found.place))),
+            None => Ok(None),
+        }
+    }
+
+    /// How many constructors a type has; 2 for bool.
+    pub fn size_of(&self, kind: Kind) -> usize
+        ensures { result ≡ size (scope_of self.now) kind }
+    {
+        match kind {
+            Kind::Bool => 2,
+            Kind::Int => 0,
+            Kind::Enum(declaration) => match self.declared.get(declaration as usize) {
+                Some(Declared::Enumeration(constructors)) => constructors.len(),
+                Some(Declared::Alias(_)) => 0,
+                Some(Declared::Structure(_)) => 0,
+                None => 0,
+            },
+            Kind::Struct(_) => 0,
+        }
+    }
+
+    /// The fields of a structure; no other type has any.
+    pub fn fields_of(&self, kind: Kind) -> &[Field]
+        ensures fields { map field_of result.now ≡ fields (scope_of self.now) kind }
+        ensures few { length result.now ≤ most_fields }
+    {
+        match kind {
+            Kind::Bool => &[],
+            Kind::Int => &[],
+            Kind::Enum(_) => &[],
+            Kind::Struct(declaration) => match self.declared.get(declaration as usize) {
+                Some(Declared::Structure(fields)) => fields.as_slice(),
+                Some(Declared::Alias(_)) => &[],
+                Some(Declared::Enumeration(_)) => &[],
+                None => &[],
+            },
+        }
+    }
+}
+
+/// The field of this name, by its place.
+pub fn field(fields: &[Field], name: &str) -> Option<Placed>
+    requires { length fields.now ≤ most_fields }
+    ensures { result ≡ field_named (map field_of fields.now) name.now }
+{
+    for (place, field) in fields.iter().enumerate() {
+        if name == field.name.as_str() {
+            return Some(Placed {
+                place: place as u32,
+                kind: field.kind,
+            });
+        }
+    }
+    None
+}
