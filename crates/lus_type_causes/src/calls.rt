@@ -1,10 +1,10 @@
 //! Calls, and their arguments.
 
+use crate::clash::{Clash, told_at};
 use crate::inferring::Given;
 use crate::kinds::Kind;
 use crate::phrase::{Phrase, Word};
 use crate::scope::kind_of;
-use crate::stop::{Clash, Inferred, Stop, told_at};
 use lus_syntax::{Group, Name, Node, Part};
 
 /// How many variables groups declare.
@@ -18,7 +18,7 @@ pub fn count_of(groups: &[Group]) -> usize {
 
 /// The variable of groups at a place, and its type.
 pub fn variable_at<'t>(
-    given: Given<'t>,
+    given: Given<'_, 't>,
     groups: &'t [Group],
     place: usize,
 ) -> Option<(&'t Name, Kind)> {
@@ -36,7 +36,7 @@ pub fn variable_at<'t>(
 }
 
 /// The node that a call names.
-pub fn called<'t>(given: Given<'t>, name: &Name) -> Option<&'t Node> {
+pub fn called<'t>(given: Given<'_, 't>, name: &Name) -> Option<&'t Node> {
     let place = given.scope.nodes.get(name.text.as_str()).copied()?;
     given.tree.nodes.get(place)
 }
@@ -59,7 +59,7 @@ fn wrong_count<'t>(name: &'t Name, node: &'t Node, found: usize) -> Clash<'t> {
 
 /// An argument of another type than its input.
 fn wrong_argument<'t>(
-    given: Given<'t>,
+    given: Given<'_, 't>,
     name: &'t Name,
     part: &'t Part,
     number: usize,
@@ -93,46 +93,39 @@ fn wrong_results<'t>(name: &'t Name, node: &'t Node) -> Clash<'t> {
         .noted(Phrase::of(note, ""))
 }
 
-/// Ends where the arguments of a call don't fit.
+/// Tells where the arguments of a call don't fit.
 pub fn check_arguments<'t>(
-    given: Given<'t>,
+    given: Given<'_, 't>,
     name: &'t Name,
     node: &'t Node,
     parts: &'t [Part],
     kinds: &[Kind],
-) -> Result<(), Stop<'t>> {
+) {
     if count_of(&node.inputs) != parts.len() {
-        return Err(Stop::Found(wrong_count(name, node, parts.len())));
+        given.tell(wrong_count(name, node, parts.len()));
     }
     for (place, part) in parts.iter().enumerate() {
         let kind = kinds.get(place).copied().unwrap_or(Kind::Unknown);
         if let Some(formal) = variable_at(given, &node.inputs, place) {
             if formal.1.differs(kind) {
                 let number = place.saturating_add(1);
-                let told = wrong_argument(given, name, part, number, kind, formal);
-                return Err(Stop::Found(told));
+                given.tell(wrong_argument(given, name, part, number, kind, formal));
             }
         }
     }
-    Ok(())
 }
 
 /// A call that gives one value.
-pub fn call<'t>(
-    given: Given<'t>,
-    name: &'t Name,
-    parts: &'t [Part],
-    kinds: &[Kind],
-) -> Inferred<'t> {
+pub fn call<'t>(given: Given<'_, 't>, name: &'t Name, parts: &'t [Part], kinds: &[Kind]) -> Kind {
     let Some(node) = called(given, name) else {
-        return Ok(Kind::Unknown);
+        return Kind::Unknown;
     };
-    check_arguments(given, name, node, parts, kinds)?;
+    check_arguments(given, name, node, parts, kinds);
     if count_of(&node.outputs) != 1 {
-        return Err(Stop::Found(wrong_results(name, node)));
+        given.tell(wrong_results(name, node));
     }
     match variable_at(given, &node.outputs, 0) {
-        Some((_, kind)) => Ok(kind),
-        None => Ok(Kind::Unknown),
+        Some((_, kind)) => kind,
+        None => Kind::Unknown,
     }
 }

@@ -1,16 +1,17 @@
 //! The first fault of types in a source.
 
+use crate::clash::{Clash, finding_of, told_at};
 use crate::equations::check_equation;
 use crate::inferring::Given;
 use crate::kinds::Kind;
 use crate::memory::check_memory;
 use crate::phrase::Phrase;
 use crate::scope::{Scope, add_node, add_tree, kind_of, literal_kind};
-use crate::stop::{Clash, Stop, finding_of, told_at};
 use crate::tests::check_test;
 use lus_faults::Finding;
 use lus_syntax::{Constant, Group, Literal, Node, Refusal, Span, Tree};
 use std::alloc::{AllocError, Global};
+use std::cell::Cell;
 
 /// Where a constant's value stands.
 fn literal_span(value: &Literal) -> Span {
@@ -27,7 +28,7 @@ fn literal_span(value: &Literal) -> Span {
 
 /// A constant of another type than its value.
 fn wrong_constant<'t>(
-    given: Given<'t>,
+    given: Given<'_, 't>,
     constant: &'t Constant,
     wanted: Kind,
     kind: Kind,
@@ -41,39 +42,38 @@ fn wrong_constant<'t>(
     told_at(literal_span(&constant.value), sentence)
 }
 
-/// Ends where a constant's type isn't that of its value.
-fn check_constants(given: Given<'_>) -> Result<(), Stop<'_>> {
+/// Tells where a constant's type isn't that of its value.
+fn check_constants(given: Given<'_, '_>) {
     for constant in &given.tree.constants {
         if let Some(name) = &constant.type_name {
             let wanted = kind_of(&given.scope.types, given.tree, name);
             let kind = literal_kind(given.scope, &constant.value);
             if wanted.differs(kind) {
-                return Err(Stop::Found(wrong_constant(given, constant, wanted, kind)));
+                given.tell(wrong_constant(given, constant, wanted, kind));
             }
         }
     }
-    Ok(())
 }
 
-/// Ends where a declared clock doesn't fit its variable.
-fn check_groups<'t>(given: Given<'t>, groups: &'t [Group]) -> Result<(), Stop<'t>> {
+/// Tells where a declared clock doesn't fit its variable.
+fn check_groups<'t>(given: Given<'_, 't>, groups: &'t [Group]) {
     for group in groups {
         if let Some(test) = &group.test {
-            check_test(given, test)?;
+            check_test(given, test);
         }
     }
-    Ok(())
 }
 
-/// Ends at the first fault of a node.
-fn check_node<'t>(given: Given<'t>, node: &'t Node) -> Result<(), Stop<'t>> {
-    check_groups(given, &node.inputs)?;
-    check_groups(given, &node.outputs)?;
-    check_groups(given, &node.locals)?;
+/// Tells the faults of a node.
+fn check_node<'t>(given: Given<'_, 't>, node: &'t Node) -> Result<(), AllocError> {
+    check_groups(given, &node.inputs);
+    check_groups(given, &node.outputs);
+    check_groups(given, &node.locals);
     for equation in &node.equations {
         check_equation(given, node, equation)?;
     }
-    check_memory(given, node)
+    check_memory(given, node);
+    Ok(())
 }
 
 /// The last node whose name doesn't stand behind a place.
@@ -88,41 +88,49 @@ fn node_at(tree: &Tree, line: u32, column: u32) -> Option<&Node> {
     found
 }
 
-/// The first fault of the constants, and then of a node.
-fn checked<'t>(given: Given<'t>, node: Option<&'t Node>) -> Result<(), Stop<'t>> {
-    check_constants(given)?;
+/// Tells the faults of the constants, and then of a node.
+fn check<'t>(given: Given<'_, 't>, node: Option<&'t Node>) -> Result<(), AllocError> {
+    check_constants(given);
     match node {
         Some(node) => check_node(given, node),
         None => Ok(()),
     }
 }
 
-/// What is said of a fault of types, once its source and its node are added to a scope.
-fn cause_in(
+/// Adds the names of a source, and of the node that a refusal stands in.
+fn fill(scope: &mut Scope, tree: &Tree, refusal: &Refusal) -> Result<(), AllocError> {
+    add_tree(scope, tree)?;
+    match node_at(tree, refusal.line, refusal.column) {
+        Some(node) => add_node(scope, tree, node),
+        None => Ok(()),
+    }
+}
+
+/// What is said of a fault of types, by what names stand for.
+fn cause_in<'t>(
     alloc: Global,
-    scope: &mut Scope,
-    source: &str,
-    tree: &Tree,
+    scope: &'t Scope,
+    source: &'t str,
+    tree: &'t Tree,
     refusal: &Refusal,
 ) -> Result<Option<Finding>, AllocError> {
-    add_tree(scope, tree)?;
-    let node = node_at(tree, refusal.line, refusal.column);
-    if let Some(node) = node {
-        add_node(scope, tree, node)?;
-    }
+    let told = Cell::new(None);
     let given = Given {
         alloc,
         source,
         tree,
         scope,
+        told: &told,
     };
-    let Err(Stop::Found(clash)) = checked(given, node) else {
+    if check(given, node_at(tree, refusal.line, refusal.column)).is_err() {
         return Ok(None);
-    };
-    if clash.span.start.line == refusal.line && clash.span.start.column == refusal.column {
-        return Ok(Some(finding_of(alloc, &clash)?));
     }
-    Ok(None)
+    match told.get() {
+        Some(clash) if clash.is_at(refusal.line, refusal.column) => {
+            Ok(Some(finding_of(alloc, &clash)?))
+        }
+        _ => Ok(None),
+    }
 }
 
 /// What is said of a fault of types, where it is found again at its place.
@@ -133,5 +141,6 @@ pub fn type_cause(
     refusal: &Refusal,
 ) -> Result<Option<Finding>, AllocError> {
     let mut scope = Scope::new(alloc);
-    cause_in(alloc, &mut scope, source, tree, refusal)
+    fill(&mut scope, tree, refusal)?;
+    cause_in(alloc, &scope, source, tree, refusal)
 }

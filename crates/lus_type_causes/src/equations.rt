@@ -1,12 +1,13 @@
 //! Equations: what the right side gives, and what the left side wants.
 
 use crate::calls::{called, check_arguments, count_of, variable_at};
+use crate::clash::{Clash, told_at};
 use crate::inferring::{Given, infer, infer_all};
 use crate::kinds::Kind;
 use crate::phrase::{Phrase, Word};
-use crate::stop::{Clash, Stop, told_at};
 use lus_faults::extent_of;
 use lus_syntax::{Equation, Expr, Group, Name, Node, Part};
+use std::alloc::AllocError;
 
 /// The call that a right side is, parentheses aside.
 #[cycle(inner)]
@@ -39,7 +40,7 @@ fn declared<'t>(node: &'t Node, text: &str) -> Option<&'t Name> {
 
 /// A right side of another type than its variable.
 fn wrong_type<'t>(
-    given: Given<'t>,
+    given: Given<'_, 't>,
     node: &'t Node,
     left: &'t Name,
     right: &'t Expr,
@@ -60,7 +61,7 @@ fn wrong_type<'t>(
 }
 
 /// A right side that gives another count of values than there are variables.
-fn wrong_values<'t>(given: Given<'t>, equation: &'t Equation, found: usize) -> Clash<'t> {
+fn wrong_values<'t>(given: Given<'_, 't>, equation: &'t Equation, found: usize) -> Clash<'t> {
     let text = "variables on the left: {}; values on the right: {}";
     let note =
         "Only a call gives several values, as many as its node has outputs: write an equation for each variable.";
@@ -72,71 +73,68 @@ fn wrong_values<'t>(given: Given<'t>, equation: &'t Equation, found: usize) -> C
     told_at(extent_of(given.source, &equation.right), sentence).noted(Phrase::of(note, ""))
 }
 
-/// Ends where a right side has another type than its variable.
+/// Tells where a right side has another type than its variable.
 fn check_value<'t>(
-    given: Given<'t>,
+    given: Given<'_, 't>,
     node: &'t Node,
     left: &'t Name,
     right: &'t Expr,
     kind: Kind,
-) -> Result<(), Stop<'t>> {
+) {
     if given.scope.variable(left).differs(kind) {
-        return Err(Stop::Found(wrong_type(given, node, left, right, kind)));
+        given.tell(wrong_type(given, node, left, right, kind));
     }
-    Ok(())
 }
 
-/// Ends where the values of a call that is a whole right side don't fit.
+/// Tells where the values of a call that is a whole right side don't fit.
 fn check_results<'t>(
-    given: Given<'t>,
+    given: Given<'_, 't>,
     node: &'t Node,
     equation: &'t Equation,
     callee: &'t Node,
-) -> Result<(), Stop<'t>> {
+) {
     let found = count_of(&callee.outputs);
     if found != equation.left.len() {
-        return Err(Stop::Found(wrong_values(given, equation, found)));
+        given.tell(wrong_values(given, equation, found));
     }
     for (place, left) in equation.left.iter().enumerate() {
         if let Some((_, kind)) = variable_at(given, &callee.outputs, place) {
-            check_value(given, node, left, &equation.right, kind)?;
+            check_value(given, node, left, &equation.right, kind);
         }
     }
-    Ok(())
 }
 
-/// Ends where a call that is a whole right side doesn't fit.
+/// Tells where a call that is a whole right side doesn't fit.
 fn check_call<'t>(
-    given: Given<'t>,
+    given: Given<'_, 't>,
     node: &'t Node,
     equation: &'t Equation,
     name: &'t Name,
     parts: &'t [Part],
-) -> Result<(), Stop<'t>> {
+) -> Result<(), AllocError> {
     let kinds = infer_all(given, parts)?;
-    let Some(callee) = called(given, name) else {
-        return Ok(());
-    };
-    check_arguments(given, name, callee, parts, &kinds)?;
-    check_results(given, node, equation, callee)
+    if let Some(callee) = called(given, name) {
+        check_arguments(given, name, callee, parts, &kinds);
+        check_results(given, node, equation, callee);
+    }
+    Ok(())
 }
 
-/// Ends where an equation's types disagree.
+/// Tells where an equation's types disagree.
 pub fn check_equation<'t>(
-    given: Given<'t>,
+    given: Given<'_, 't>,
     node: &'t Node,
     equation: &'t Equation,
-) -> Result<(), Stop<'t>> {
+) -> Result<(), AllocError> {
     let right = &equation.right;
     if let Some((name, parts)) = whole_call(right) {
         return check_call(given, node, equation, name, parts);
     }
     let kind = infer(given, right)?;
-    let Some(left) = equation.left.first() else {
-        return Ok(());
-    };
-    if equation.left.len() != 1 {
-        return Err(Stop::Found(wrong_values(given, equation, 1)));
+    match equation.left.as_slice() {
+        [] => {}
+        [left] => check_value(given, node, left, right, kind),
+        _ => given.tell(wrong_values(given, equation, 1)),
     }
-    check_value(given, node, left, right, kind)
+    Ok(())
 }

@@ -3,6 +3,7 @@
 
 mod calls;
 mod cause;
+mod clash;
 mod equations;
 mod inferring;
 mod kinds;
@@ -11,7 +12,6 @@ mod merges;
 mod operators;
 mod phrase;
 mod scope;
-mod stop;
 mod structures;
 mod tests;
 

@@ -1,9 +1,9 @@
 //! Functions, which keep no memory.
 
 use crate::calls::called;
+use crate::clash::{Clash, told_at};
 use crate::inferring::Given;
 use crate::phrase::Phrase;
-use crate::stop::{Clash, Stop, told_at};
 use lus_faults::extent_of;
 use lus_syntax::{Expr, Infix, Name, Node, NodeKind, Part, Prefix, Span};
 
@@ -15,7 +15,7 @@ enum Kept<'t> {
 }
 
 /// The memory of an operator between its operands.
-fn memory_between<'t>(given: Given<'t>, infix: Infix, expr: &'t Expr) -> Option<Kept<'t>> {
+fn memory_between<'t>(given: Given<'_, 't>, infix: Infix, expr: &'t Expr) -> Option<Kept<'t>> {
     let text = match infix {
         Infix::Fby => "fby",
         Infix::Arrow => "->",
@@ -25,7 +25,7 @@ fn memory_between<'t>(given: Given<'t>, infix: Infix, expr: &'t Expr) -> Option<
 }
 
 /// The call of a node, which may have a memory.
-fn memory_behind<'t>(given: Given<'t>, name: &'t Name) -> Option<Kept<'t>> {
+fn memory_behind<'t>(given: Given<'_, 't>, name: &'t Name) -> Option<Kept<'t>> {
     match called(given, name) {
         Some(node) if node.kind == NodeKind::Function => None,
         _ => Some(Kept::Call(name)),
@@ -34,7 +34,7 @@ fn memory_behind<'t>(given: Given<'t>, name: &'t Name) -> Option<Kept<'t>> {
 
 /// The memory that an expression has first.
 #[cycle(kept)]
-fn memory_of<'t>(given: Given<'t>, expr: &'t Expr) -> Option<Kept<'t>> {
+fn memory_of<'t>(given: Given<'_, 't>, expr: &'t Expr) -> Option<Kept<'t>> {
     match expr {
         Expr::Number(_, _) | Expr::Truth(_, _) | Expr::Name(_) => None,
         Expr::Call(name, parts) => memory_behind(given, name).or(memory_in(given, parts)),
@@ -61,7 +61,7 @@ fn memory_of<'t>(given: Given<'t>, expr: &'t Expr) -> Option<Kept<'t>> {
 
 /// The memory that parts have first.
 #[cycle(kept)]
-fn memory_in<'t>(given: Given<'t>, parts: &'t [Part]) -> Option<Kept<'t>> {
+fn memory_in<'t>(given: Given<'_, 't>, parts: &'t [Part]) -> Option<Kept<'t>> {
     for part in parts {
         let found = memory_of(given, &part.value);
         if found.is_some() {
@@ -72,7 +72,7 @@ fn memory_in<'t>(given: Given<'t>, parts: &'t [Part]) -> Option<Kept<'t>> {
 }
 
 /// What is said of a memory in a function.
-fn clash_of<'t>(given: Given<'t>, node: &'t Node, found: Kept<'t>) -> Clash<'t> {
+fn clash_of<'t>(given: Given<'_, 't>, node: &'t Node, found: Kept<'t>) -> Clash<'t> {
     let owner = node.name.text.as_str();
     match found {
         Kept::Operator(text, span) => {
@@ -93,18 +93,16 @@ fn clash_of<'t>(given: Given<'t>, node: &'t Node, found: Kept<'t>) -> Clash<'t> 
     }
 }
 
-/// Ends where a function keeps a memory.
-pub fn check_memory<'t>(given: Given<'t>, node: &'t Node) -> Result<(), Stop<'t>> {
+/// Tells where a function keeps a memory.
+pub fn check_memory<'t>(given: Given<'_, 't>, node: &'t Node) {
     if node.kind == NodeKind::Node {
-        return Ok(());
+        return;
     }
     let note =
         "Write `node` in place of `function`: a function has no `pre`, `->` and `fby`, and calls functions alone.";
     for equation in &node.equations {
         if let Some(found) = memory_of(given, &equation.right) {
-            let clash = clash_of(given, node, found).noted(Phrase::of(note, ""));
-            return Err(Stop::Found(clash));
+            given.tell(clash_of(given, node, found).noted(Phrase::of(note, "")));
         }
     }
-    Ok(())
 }

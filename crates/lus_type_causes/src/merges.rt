@@ -1,9 +1,9 @@
 //! Merges, and the labels of their branches.
 
+use crate::clash::{Clash, told_at};
 use crate::inferring::Given;
 use crate::kinds::Kind;
 use crate::phrase::{Phrase, Word};
-use crate::stop::{Clash, Inferred, Stop, told_at};
 use crate::tests::constructors;
 use lus_faults::label_span;
 use lus_syntax::{Label, Lead, Name, Part, Span};
@@ -18,7 +18,7 @@ fn label_text(label: &Label) -> &str {
 }
 
 /// How many labels a merge over a variable of this type has.
-fn label_count(given: Given<'_>, kind: Kind) -> usize {
+fn label_count(given: Given<'_, '_>, kind: Kind) -> usize {
     if kind == Kind::Bool {
         return 2;
     }
@@ -26,7 +26,7 @@ fn label_count(given: Given<'_>, kind: Kind) -> usize {
 }
 
 /// The label of a number, from 0, that a merge over a variable of this type has.
-fn label_at<'t>(given: Given<'t>, kind: Kind, number: usize) -> Option<&'t str> {
+fn label_at<'t>(given: Given<'_, 't>, kind: Kind, number: usize) -> Option<&'t str> {
     if kind == Kind::Bool {
         return Some(if number == 0 { "true" } else { "false" });
     }
@@ -34,7 +34,7 @@ fn label_at<'t>(given: Given<'t>, kind: Kind, number: usize) -> Option<&'t str> 
 }
 
 /// Whether a merge over a variable of this type has a label.
-fn has_label(given: Given<'_>, kind: Kind, text: &str) -> bool {
+fn has_label(given: Given<'_, '_>, kind: Kind, text: &str) -> bool {
     for number in 0..label_count(given, kind) {
         if label_at(given, kind, number) == Some(text) {
             return true;
@@ -57,7 +57,7 @@ fn times(parts: &[Part], text: &str) -> usize {
 }
 
 /// A variable over which nothing is merged.
-fn no_clock<'t>(given: Given<'t>, variable: &'t Name, kind: Kind) -> Clash<'t> {
+fn no_clock<'t>(given: Given<'_, 't>, variable: &'t Name, kind: Kind) -> Clash<'t> {
     let text = variable.text.as_str();
     let sentence = "`merge` wants a `bool` or an enumeration, and `{}` has type `{}`";
     told_at(
@@ -68,7 +68,7 @@ fn no_clock<'t>(given: Given<'t>, variable: &'t Name, kind: Kind) -> Clash<'t> {
 
 /// A label that isn't one of the variable's type.
 fn wrong_label<'t>(
-    given: Given<'t>,
+    given: Given<'_, 't>,
     variable: &'t Name,
     kind: Kind,
     label: &'t Label,
@@ -103,7 +103,7 @@ fn miscounted<'t>(span: Span, label: &'t str, count: usize) -> Clash<'t> {
 
 /// Branches of two types.
 fn unlike<'t>(
-    given: Given<'t>,
+    given: Given<'_, 't>,
     span: Span,
     first: (&'t Part, Kind),
     second: (&'t Part, Kind),
@@ -117,7 +117,12 @@ fn unlike<'t>(
 }
 
 /// A variable over whose type nothing is merged: told at the label of the first branch, if there is one.
-fn no_labels<'t>(given: Given<'t>, variable: &'t Name, kind: Kind, parts: &'t [Part]) -> Clash<'t> {
+fn no_labels<'t>(
+    given: Given<'_, 't>,
+    variable: &'t Name,
+    kind: Kind,
+    parts: &'t [Part],
+) -> Clash<'t> {
     match parts.first() {
         Some(part) => match &part.lead {
             Lead::Branch(_, label) => wrong_label(given, variable, kind, label),
@@ -127,76 +132,59 @@ fn no_labels<'t>(given: Given<'t>, variable: &'t Name, kind: Kind, parts: &'t [P
     }
 }
 
-/// Ends where a branch has a label that isn't one of its variable's type.
-fn check_labels<'t>(
-    given: Given<'t>,
-    variable: &'t Name,
-    kind: Kind,
-    parts: &'t [Part],
-) -> Result<(), Stop<'t>> {
+/// Tells where a branch has a label that isn't one of its variable's type.
+fn check_labels<'t>(given: Given<'_, 't>, variable: &'t Name, kind: Kind, parts: &'t [Part]) {
     for part in parts {
         if let Lead::Branch(_, label) = &part.lead {
             if !has_label(given, kind, label_text(label)) {
-                return Err(Stop::Found(wrong_label(given, variable, kind, label)));
+                given.tell(wrong_label(given, variable, kind, label));
             }
         }
     }
-    Ok(())
 }
 
-/// Ends where a label of a type has no branch, or several.
-fn check_counts<'t>(
-    given: Given<'t>,
-    span: Span,
-    kind: Kind,
-    parts: &'t [Part],
-) -> Result<(), Stop<'t>> {
+/// Tells where a label of a type has no branch, or several.
+fn check_counts<'t>(given: Given<'_, 't>, span: Span, kind: Kind, parts: &'t [Part]) {
     for number in 0..label_count(given, kind) {
         let label = label_at(given, kind, number).unwrap_or("");
         let count = times(parts, label);
         if count != 1 {
-            return Err(Stop::Found(miscounted(span, label, count)));
+            given.tell(miscounted(span, label, count));
         }
     }
-    Ok(())
 }
 
-/// Ends where branches have two types.
-fn check_types<'t>(
-    given: Given<'t>,
-    span: Span,
-    parts: &'t [Part],
-    kinds: &[Kind],
-) -> Result<(), Stop<'t>> {
+/// Tells where branches have two types.
+fn check_types<'t>(given: Given<'_, 't>, span: Span, parts: &'t [Part], kinds: &[Kind]) {
     let mut first: Option<(&Part, Kind)> = None;
     for (place, part) in parts.iter().enumerate() {
         let kind = kinds.get(place).copied().unwrap_or(Kind::Unknown);
         let before = first.unwrap_or((part, kind));
         if before.1.differs(kind) {
-            return Err(Stop::Found(unlike(given, span, before, (part, kind))));
+            given.tell(unlike(given, span, before, (part, kind)));
         }
         first = Some(before);
     }
-    Ok(())
 }
 
 /// A merge over a variable.
 pub fn merge<'t>(
-    given: Given<'t>,
+    given: Given<'_, 't>,
     span: Span,
     variable: &'t Name,
     parts: &'t [Part],
     kinds: &[Kind],
-) -> Inferred<'t> {
+) -> Kind {
     let kind = given.scope.variable(variable);
     if kind == Kind::Unknown {
-        return Ok(kind);
+        return kind;
     }
     if label_count(given, kind) == 0 {
-        return Err(Stop::Found(no_labels(given, variable, kind, parts)));
+        given.tell(no_labels(given, variable, kind, parts));
+        return Kind::Unknown;
     }
-    check_labels(given, variable, kind, parts)?;
-    check_counts(given, span, kind, parts)?;
-    check_types(given, span, parts, kinds)?;
-    Ok(kinds.first().copied().unwrap_or(Kind::Unknown))
+    check_labels(given, variable, kind, parts);
+    check_counts(given, span, kind, parts);
+    check_types(given, span, parts, kinds);
+    kinds.first().copied().unwrap_or(Kind::Unknown)
 }

@@ -1,9 +1,9 @@
 //! Operators, and the types of their operands.
 
+use crate::clash::told_at;
 use crate::inferring::Given;
 use crate::kinds::Kind;
 use crate::phrase::Phrase;
-use crate::stop::{Inferred, Stop, told_at};
 use lus_faults::{extent_of, start_of};
 use lus_syntax::{Expr, Infix, ListOperator, Part, Prefix, Span};
 use lus_values::Shape;
@@ -41,89 +41,89 @@ fn advice(wanted: Kind, kind: Kind) -> &'static str {
     }
 }
 
-/// Ends where an operand has another type than its operator wants.
+/// Tells where an operand has another type than its operator wants.
 fn check_operand<'t>(
-    given: Given<'t>,
+    given: Given<'_, 't>,
     main: Span,
     operator: &'t str,
     wanted: Kind,
     operand: &'t Expr,
     kind: Kind,
-) -> Result<(), Stop<'t>> {
+) {
     if !wanted.differs(kind) {
-        return Ok(());
+        return;
     }
     let want = wanted.name(given.tree);
     let has = kind.name(given.tree);
     let sentence = "`{}` wants type `{}`, and is given `{}`";
-    let told = told_at(main, Phrase::new(sentence, operator, want, has))
+    let clash = told_at(main, Phrase::new(sentence, operator, want, has))
         .typed(given, operand, kind)
         .noted(Phrase::of(advice(wanted, kind), ""));
-    Err(Stop::Found(told))
+    given.tell(clash);
 }
 
-/// Ends where two operands that have to have one type have two.
+/// Tells where two operands that have to have one type have two.
 fn check_alike<'t>(
-    given: Given<'t>,
+    given: Given<'_, 't>,
     main: Span,
     operator: &'t str,
     left: (&'t Expr, Kind),
     right: (&'t Expr, Kind),
-) -> Result<(), Stop<'t>> {
+) {
     if !left.1.differs(right.1) {
-        return Ok(());
+        return;
     }
     let first = left.1.name(given.tree);
     let second = right.1.name(given.tree);
     let sentence = "`{}` wants two values of one type, and is given `{}` and `{}`";
-    let told = told_at(main, Phrase::new(sentence, operator, first, second))
+    let clash = told_at(main, Phrase::new(sentence, operator, first, second))
         .typed(given, left.0, left.1)
         .typed(given, right.0, right.1);
-    Err(Stop::Found(told))
+    given.tell(clash);
 }
 
 /// An operator before its operand.
 pub fn unary<'t>(
-    given: Given<'t>,
+    given: Given<'_, 't>,
     op: Prefix,
     span: Span,
     operand: &'t Expr,
     kind: Kind,
-) -> Inferred<'t> {
+) -> Kind {
     let (wanted, operator) = match op {
-        Prefix::Pre => return Ok(kind),
+        Prefix::Pre => return kind,
         Prefix::Not => (Kind::Bool, "not"),
         Prefix::Negate => (Kind::Int, "-"),
     };
-    check_operand(given, span, operator, wanted, operand, kind)?;
-    Ok(wanted)
+    check_operand(given, span, operator, wanted, operand, kind);
+    wanted
 }
 
 /// An operator before a list of operands, with their types.
 pub fn variadic<'t>(
-    given: Given<'t>,
+    given: Given<'_, 't>,
     op: ListOperator,
     span: Span,
     operands: &'t [Part],
     kinds: &[Kind],
-) -> Inferred<'t> {
+) -> Kind {
     let operator = match op {
         ListOperator::AtMostOne => "#",
         ListOperator::Nor => "nor",
     };
     for (operand, kind) in operands.iter().zip(kinds) {
-        check_operand(given, span, operator, Kind::Bool, &operand.value, *kind)?;
+        check_operand(given, span, operator, Kind::Bool, &operand.value, *kind);
     }
-    Ok(Kind::Bool)
+    Kind::Bool
 }
 
 /// An operator between its operands.
 pub fn binary<'t>(
-    given: Given<'t>,
+    given: Given<'_, 't>,
     op: Infix,
     left: (&'t Expr, Kind),
     right: (&'t Expr, Kind),
-) -> Inferred<'t> {
+) -> Kind {
     let from = start_of(left.0);
     let to = extent_of(given.source, right.0);
     let main = Span {
@@ -133,23 +133,23 @@ pub fn binary<'t>(
     let (operator, operands, given_kind) = infix_form(op);
     match operands {
         Some(wanted) => {
-            check_operand(given, main, operator, wanted, left.0, left.1)?;
-            check_operand(given, main, operator, wanted, right.0, right.1)?;
+            check_operand(given, main, operator, wanted, left.0, left.1);
+            check_operand(given, main, operator, wanted, right.0, right.1);
         }
-        None => check_alike(given, main, operator, left, right)?,
+        None => check_alike(given, main, operator, left, right),
     }
-    Ok(given_kind.unwrap_or(left.1))
+    given_kind.unwrap_or(left.1)
 }
 
 /// A choice by a condition.
 pub fn choice<'t>(
-    given: Given<'t>,
+    given: Given<'_, 't>,
     span: Span,
     condition: (&'t Expr, Kind),
     left: (&'t Expr, Kind),
     right: (&'t Expr, Kind),
-) -> Inferred<'t> {
-    check_operand(given, span, "if", Kind::Bool, condition.0, condition.1)?;
-    check_alike(given, span, "if", left, right)?;
-    Ok(left.1)
+) -> Kind {
+    check_operand(given, span, "if", Kind::Bool, condition.0, condition.1);
+    check_alike(given, span, "if", left, right);
+    left.1
 }

@@ -1,11 +1,11 @@
-//! Where an inference of types ends, and what is said there.
+//! What is said of a fault of types, before texts are made of it.
 
 use crate::inferring::Given;
 use crate::kinds::Kind;
 use crate::phrase::{Phrase, push_phrase, text_of};
 use lus_faults::{Edit, Finding, extent_of, nearest};
 use lus_syntax::{Expr, Fields, Name, Span};
-use std::alloc::{AllocError, AllocFailed, Global};
+use std::alloc::{AllocError, Global};
 
 /// A further place, and what is there.
 type Beside<'t> = Option<(Span, Phrase<'t>)>;
@@ -14,34 +14,12 @@ type Beside<'t> = Option<(Span, Phrase<'t>)>;
 /// fields is written.
 #[derive(Clone, Copy)]
 pub struct Clash<'t> {
-    pub span: Span,
+    span: Span,
     sentence: Phrase<'t>,
     first: Beside<'t>,
     second: Beside<'t>,
     note: Option<Phrase<'t>>,
     meant: Option<(&'t Name, &'t [Fields])>,
-}
-
-/// Why an expression has no type: a fault, or out of memory.
-#[derive(Clone, Copy)]
-pub enum Stop<'t> {
-    Memory,
-    Found(Clash<'t>),
-}
-
-/// The type of an expression.
-pub type Inferred<'t> = Result<Kind, Stop<'t>>;
-
-impl<'t> From<AllocError> for Stop<'t> {
-    fn from(_error: AllocError) -> Stop<'t> {
-        Stop::Memory
-    }
-}
-
-impl<'t, T: Drop> From<AllocFailed<T>> for Stop<'t> {
-    fn from(_error: AllocFailed<T>) -> Stop<'t> {
-        Stop::Memory
-    }
 }
 
 /// A fault at a place.
@@ -57,6 +35,12 @@ pub fn told_at<'t>(span: Span, sentence: Phrase<'t>) -> Clash<'t> {
 }
 
 impl<'t> Clash<'t> {
+    /// Whether the fault is at a line and a column.
+    pub fn is_at(&self, line: u32, column: u32) -> bool {
+        let start = self.span.start;
+        start.line == line && start.column == column
+    }
+
     /// The fault with a further place.
     pub fn beside(self, span: Span, label: Phrase<'t>) -> Clash<'t> {
         match self.first {
@@ -80,7 +64,7 @@ impl<'t> Clash<'t> {
     }
 
     /// The fault beside an expression that has a type.
-    pub fn typed(self, given: Given<'t>, expr: &'t Expr, kind: Kind) -> Clash<'t> {
+    pub fn typed(self, given: Given<'_, 't>, expr: &'t Expr, kind: Kind) -> Clash<'t> {
         let label = Phrase::of("this has type `{}`", kind.name(given.tree));
         self.beside(extent_of(given.source, expr), label)
     }

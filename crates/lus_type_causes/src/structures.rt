@@ -1,14 +1,17 @@
 //! Structures, and their fields.
 
+use crate::clash::{Clash, told_at};
 use crate::inferring::Given;
 use crate::kinds::Kind;
 use crate::phrase::{Phrase, Word};
 use crate::scope::kind_of;
-use crate::stop::{Clash, Inferred, Stop, told_at};
 use lus_syntax::{Definition, Fields, Lead, Name, Part, Span, TypeDeclaration};
 
 /// The declaration of a structure's type.
-fn structure_of<'t>(given: Given<'t>, kind: Kind) -> Option<(&'t TypeDeclaration, &'t [Fields])> {
+fn structure_of<'t>(
+    given: Given<'_, 't>,
+    kind: Kind,
+) -> Option<(&'t TypeDeclaration, &'t [Fields])> {
     let Kind::Declared(place) = kind else {
         return None;
     };
@@ -21,7 +24,11 @@ fn structure_of<'t>(given: Given<'t>, kind: Kind) -> Option<(&'t TypeDeclaration
 }
 
 /// The field of this name, and its type.
-fn field_of<'t>(given: Given<'t>, groups: &'t [Fields], text: &str) -> Option<(&'t Name, Kind)> {
+fn field_of<'t>(
+    given: Given<'_, 't>,
+    groups: &'t [Fields],
+    text: &str,
+) -> Option<(&'t Name, Kind)> {
     for group in groups {
         for name in &group.names {
             if name.text.as_str() == text {
@@ -52,28 +59,32 @@ fn no_field<'t>(
 }
 
 /// What has no fields.
-fn no_structure<'t>(given: Given<'t>, main: Span, kind: Kind) -> Stop<'t> {
+fn no_structure<'t>(given: Given<'_, 't>, main: Span, kind: Kind) -> Clash<'t> {
     let sentence = "a value of type `{}` has no fields";
-    Stop::Found(told_at(main, Phrase::of(sentence, kind.name(given.tree))))
+    told_at(main, Phrase::of(sentence, kind.name(given.tree)))
 }
 
 /// A field of a value.
-pub fn field<'t>(given: Given<'t>, kind: Kind, name: &'t Name) -> Inferred<'t> {
+pub fn field<'t>(given: Given<'_, 't>, kind: Kind, name: &'t Name) -> Kind {
     if kind == Kind::Unknown {
-        return Ok(kind);
+        return kind;
     }
     let Some((declaration, groups)) = structure_of(given, kind) else {
-        return Err(no_structure(given, name.span, kind));
+        given.tell(no_structure(given, name.span, kind));
+        return Kind::Unknown;
     };
     match field_of(given, groups, name.text.as_str()) {
-        Some((_, kind)) => Ok(kind),
-        None => Err(Stop::Found(no_field(name, declaration, groups))),
+        Some((_, kind)) => kind,
+        None => {
+            given.tell(no_field(name, declaration, groups));
+            Kind::Unknown
+        }
     }
 }
 
 /// A structure's value for a field of another type.
 fn wrong_value<'t>(
-    given: Given<'t>,
+    given: Given<'_, 't>,
     owner: &'t Name,
     part: &'t Part,
     kind: Kind,
@@ -118,70 +129,68 @@ fn miscounted<'t>(owner: &'t Name, field: &'t Name, count: usize) -> Clash<'t> {
         .noted(Phrase::of(note, ""))
 }
 
-/// Ends where the parts of a structure's value name a field that it doesn't have.
+/// Tells where the parts of a structure's value name a field that it doesn't have.
 fn check_names<'t>(
-    given: Given<'t>,
+    given: Given<'_, 't>,
     declaration: &'t TypeDeclaration,
     groups: &'t [Fields],
     parts: &'t [Part],
-) -> Result<(), Stop<'t>> {
+) {
     for part in parts {
         if let Lead::Field(name) = &part.lead {
             if field_of(given, groups, name.text.as_str()).is_none() {
-                return Err(Stop::Found(no_field(name, declaration, groups)));
+                given.tell(no_field(name, declaration, groups));
             }
         }
     }
-    Ok(())
 }
 
-/// Ends where the parts of a structure's value have other types than its fields.
+/// Tells where the parts of a structure's value have other types than its fields.
 fn check_values<'t>(
-    given: Given<'t>,
+    given: Given<'_, 't>,
     owner: &'t Name,
     groups: &'t [Fields],
     parts: &'t [Part],
     kinds: &[Kind],
-) -> Result<(), Stop<'t>> {
+) {
     for (place, part) in parts.iter().enumerate() {
         let kind = kinds.get(place).copied().unwrap_or(Kind::Unknown);
         if let Lead::Field(name) = &part.lead {
             if let Some(field) = field_of(given, groups, name.text.as_str()) {
                 if field.1.differs(kind) {
-                    return Err(Stop::Found(wrong_value(given, owner, part, kind, field)));
+                    given.tell(wrong_value(given, owner, part, kind, field));
                 }
             }
         }
     }
-    Ok(())
 }
 
-/// Ends where the parts of a structure's value don't name each field once.
+/// Tells where the parts of a structure's value don't name each field once.
 fn check_counts<'t>(
+    given: Given<'_, 't>,
     owner: &'t Name,
     groups: &'t [Fields],
     parts: &'t [Part],
-) -> Result<(), Stop<'t>> {
+) {
     for group in groups {
         for field in &group.names {
             let count = times(parts, field.text.as_str());
             if count != 1 {
-                return Err(Stop::Found(miscounted(owner, field, count)));
+                given.tell(miscounted(owner, field, count));
             }
         }
     }
-    Ok(())
 }
 
 /// A structure's value.
 pub fn structure<'t>(
-    given: Given<'t>,
+    given: Given<'_, 't>,
     owner: &'t Name,
     parts: &'t [Part],
     kinds: &[Kind],
-) -> Inferred<'t> {
+) -> Kind {
     let Some(place) = given.scope.types.get(owner.text.as_str()).copied() else {
-        return Ok(Kind::Unknown);
+        return Kind::Unknown;
     };
     let kind = match given.tree.types.get(place) {
         Some(declaration) => match &declaration.definition {
@@ -192,10 +201,11 @@ pub fn structure<'t>(
         None => Kind::Unknown,
     };
     let Some((declaration, groups)) = structure_of(given, kind) else {
-        return Err(no_structure(given, owner.span, kind));
+        given.tell(no_structure(given, owner.span, kind));
+        return Kind::Unknown;
     };
-    check_names(given, declaration, groups, parts)?;
-    check_values(given, owner, groups, parts, kinds)?;
-    check_counts(owner, groups, parts)?;
-    Ok(kind)
+    check_names(given, declaration, groups, parts);
+    check_values(given, owner, groups, parts, kinds);
+    check_counts(given, owner, groups, parts);
+    kind
 }

@@ -1,13 +1,13 @@
 //! Tests of clocks.
 
+use crate::clash::{Clash, told_at};
 use crate::inferring::Given;
 use crate::kinds::Kind;
 use crate::phrase::Phrase;
-use crate::stop::{Clash, Inferred, Stop, told_at};
 use lus_syntax::{Definition, Label, Name, Test};
 
 /// The constructors of an enumeration; no other type has any.
-pub fn constructors<'t>(given: Given<'t>, kind: Kind) -> &'t [Name] {
+pub fn constructors<'t>(given: Given<'_, 't>, kind: Kind) -> &'t [Name] {
     let Kind::Declared(place) = kind else {
         return &[];
     };
@@ -22,7 +22,7 @@ pub fn constructors<'t>(given: Given<'t>, kind: Kind) -> &'t [Name] {
 }
 
 /// Whether a test fits a variable of this type.
-fn fits(given: Given<'_>, test: &Test, kind: Kind) -> bool {
+fn fits(given: Given<'_, '_>, test: &Test, kind: Kind) -> bool {
     match test {
         Test::Holds(_) => kind == Kind::Bool,
         Test::Fails(_, _) => kind == Kind::Bool,
@@ -48,7 +48,7 @@ fn variable_of(test: &Test) -> &Name {
 }
 
 /// A test that doesn't fit its variable.
-fn wrong_test<'t>(given: Given<'t>, name: &'t Name, kind: Kind) -> Clash<'t> {
+fn wrong_test<'t>(given: Given<'_, 't>, name: &'t Name, kind: Kind) -> Clash<'t> {
     let text = name.text.as_str();
     let has = kind.name(given.tree);
     let sentence = "this test doesn't fit `{}`, which has type `{}`";
@@ -66,18 +66,17 @@ fn wrong_test<'t>(given: Given<'t>, name: &'t Name, kind: Kind) -> Clash<'t> {
     ))
 }
 
-/// Ends where a test doesn't fit its variable.
-pub fn check_test<'t>(given: Given<'t>, test: &'t Test) -> Result<(), Stop<'t>> {
+/// Tells where a test doesn't fit its variable.
+pub fn check_test<'t>(given: Given<'_, 't>, test: &'t Test) {
     let name = variable_of(test);
     let kind = given.scope.variable(name);
-    if kind == Kind::Unknown || fits(given, test, kind) {
-        return Ok(());
+    if kind != Kind::Unknown && !fits(given, test, kind) {
+        given.tell(wrong_test(given, name, kind));
     }
-    Err(Stop::Found(wrong_test(given, name, kind)))
 }
 
 /// What `when` gives.
-pub fn sampled<'t>(given: Given<'t>, kind: Kind, test: &'t Test) -> Inferred<'t> {
-    check_test(given, test)?;
-    Ok(kind)
+pub fn sampled<'t>(given: Given<'_, 't>, kind: Kind, test: &'t Test) -> Kind {
+    check_test(given, test);
+    kind
 }
