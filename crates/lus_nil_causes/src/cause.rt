@@ -2,7 +2,7 @@
 
 use crate::flags::{Flags, flags_of};
 use crate::wanting::{Sought, Wanting, wanting_at};
-use crate::way::with_way;
+use crate::way::{Given, add_way};
 use lus_faults::{Finding, extent_of};
 use lus_syntax::{Expr, Node, Refusal, Tree};
 use std::alloc::{AllocError, Global};
@@ -19,79 +19,59 @@ fn node_at(tree: &Tree, line: u32, column: u32) -> Option<&Node> {
     found
 }
 
-/// The sentence on what wants a value, how many bytes it takes, and the expression that may have none.
-fn begun<'t>(
-    alloc: Global,
-    source: &str,
-    flags: &Flags<'t>,
-    wanting: Wanting<'t>,
-) -> Result<(Finding, Option<&'t Expr>), AllocError> {
+/// The sentence on what wants a value, in three parts: the second is a name or a word.
+fn sentence_on<'t>(wanting: Wanting<'t>) -> (&'static str, &'t str, &'static str) {
+    let behind = "` may have no value at the first instant";
     match wanting {
-        Wanting::Output(name) => {
-            let text = name.text.as_str();
-            let sentence = format!(in alloc;
-                "the output `{text}` may have no value at the first instant"
-            )?;
-            let finding = Finding::new(alloc, sentence, name.span.length);
-            Ok((finding, right_of(flags, text)))
-        }
-        Wanting::Clock(name) => {
-            let text = name.text.as_str();
-            let sentence = format!(in alloc;
-                "`{text}` is tested by a clock, and may have no value at the first instant"
-            )?;
-            let finding = Finding::new(alloc, sentence, name.span.length);
-            Ok((finding, right_of(flags, text)))
-        }
-        Wanting::Pre(operand) => {
-            let sentence = String::from_str(
-                alloc,
-                "what stands behind `pre` may have no value at the first instant",
-            )?;
-            Ok((
-                Finding::new(alloc, sentence, extent_of(source, operand).length),
-                Some(operand),
-            ))
-        }
-        Wanting::Fby(operand) => {
-            let sentence = String::from_str(
-                alloc,
-                "what stands behind `fby` may have no value at the first instant",
-            )?;
-            Ok((
-                Finding::new(alloc, sentence, extent_of(source, operand).length),
-                Some(operand),
-            ))
-        }
-        Wanting::Argument(name, operand) => {
-            let text = name.text.as_str();
-            let sentence = format!(in alloc;
-                "this argument of `{text}` may have no value at the first instant"
-            )?;
-            Ok((
-                Finding::new(alloc, sentence, extent_of(source, operand).length),
-                Some(operand),
-            ))
-        }
-        Wanting::Branch(operand) => {
-            let sentence = String::from_str(
-                alloc,
-                "this branch of a `merge` may have no value at its first instant",
-            )?;
-            Ok((
-                Finding::new(alloc, sentence, extent_of(source, operand).length),
-                Some(operand),
-            ))
-        }
+        Wanting::Output(name) => ("the output `", name.text.as_str(), behind),
+        Wanting::Clock(name) => (
+            "`",
+            name.text.as_str(),
+            "` is tested by a clock, and may have no value at the first instant",
+        ),
+        Wanting::Pre(_) => ("what stands behind `", "pre", behind),
+        Wanting::Fby(_) => ("what stands behind `", "fby", behind),
+        Wanting::Argument(name, _) => ("this argument of `", name.text.as_str(), behind),
+        Wanting::Branch(_) => (
+            "this branch of a `",
+            "merge",
+            "` may have no value at its first instant",
+        ),
     }
 }
 
-/// The right side of a variable's equation.
-fn right_of<'t>(flags: &Flags<'t>, text: &str) -> Option<&'t Expr> {
-    match flags.equation_of(text) {
-        Some((equation, _)) => Some(&equation.right),
-        None => None,
+/// How many bytes of the source are marked.
+fn length_of(source: &str, wanting: Wanting<'_>) -> u32 {
+    match wanting {
+        Wanting::Output(name) | Wanting::Clock(name) => name.span.length,
+        Wanting::Pre(operand)
+        | Wanting::Fby(operand)
+        | Wanting::Argument(_, operand)
+        | Wanting::Branch(operand) => extent_of(source, operand).length,
     }
+}
+
+/// The expression that may have no value.
+fn wanted_of<'t>(flags: &Flags<'t>, wanting: Wanting<'t>) -> Option<&'t Expr> {
+    match wanting {
+        Wanting::Output(name) | Wanting::Clock(name) => flags.right_of(name.text.as_str()),
+        Wanting::Pre(operand)
+        | Wanting::Fby(operand)
+        | Wanting::Argument(_, operand)
+        | Wanting::Branch(operand) => Some(operand),
+    }
+}
+
+/// What is said of a value that may be nil, by what wants one.
+fn told<'t>(given: Given<'t>, wanting: Wanting<'t>) -> Result<Finding, AllocError> {
+    let (front, word, behind) = sentence_on(wanting);
+    let sentence = format!(in given.alloc; "{front}{word}{behind}")?;
+    let length = length_of(given.source, wanting);
+    let mut finding = Finding::new(given.alloc, sentence, length);
+    if let Some(expr) = wanted_of(given.flags, wanting) {
+        add_way(given, expr, &mut finding)?;
+    }
+    Ok(finding)
 }
 
 /// What is said of a value that may be nil, by what wants one at the place: the way to the `pre` that has none, and how that would
@@ -113,9 +93,11 @@ pub fn nil_cause(
     let Some(wanting) = wanting_at(&flags, sought) else {
         return Ok(None);
     };
-    let (finding, from) = begun(alloc, source, &flags, wanting)?;
-    match from {
-        Some(expr) => Ok(Some(with_way(alloc, source, tree, &flags, expr, finding)?)),
-        None => Ok(Some(finding)),
-    }
+    let given = Given {
+        alloc,
+        source,
+        tree,
+        flags: &flags,
+    };
+    Ok(Some(told(given, wanting)?))
 }

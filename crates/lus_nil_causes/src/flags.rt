@@ -91,12 +91,12 @@ pub fn flags_of(alloc: Global, node: &Node) -> Result<Flags<'_>, AllocError> {
 }
 
 impl<'t> Flags<'t> {
-    /// The equation of a variable, and the variable where it stands on the left.
-    pub fn equation_of(&self, text: &str) -> Option<(&'t Equation, &'t Name)> {
+    /// The right side of a variable's equation.
+    pub fn right_of(&self, text: &str) -> Option<&'t Expr> {
         for equation in &self.node.equations {
             for name in &equation.left {
                 if name.text.as_str() == text {
-                    return Some((equation, name));
+                    return Some(&equation.right);
                 }
             }
         }

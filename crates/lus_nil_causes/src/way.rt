@@ -88,90 +88,102 @@ fn is_enclosed(source: &str, span: Span) -> bool {
     }
 }
 
+/// What a way is looked for in.
+#[derive(Clone, Copy)]
+pub struct Given<'t> {
+    pub alloc: Global,
+    pub source: &'t str,
+    pub tree: &'t Tree,
+    pub flags: &'t Flags<'t>,
+}
+
 /// How `pre` is written with a first value.
-fn edit_of(
-    alloc: Global,
-    source: &str,
-    tree: &Tree,
-    flags: &Flags<'_>,
-    expr: &Expr,
-) -> Result<Option<Edit>, AllocError> {
-    let span = extent_of(source, expr);
-    let text = slice_of(source, span);
-    let Some(first) = first_value(tree, flags.node, expr) else {
+fn edit_of(given: Given<'_>, expr: &Expr) -> Result<Option<Edit>, AllocError> {
+    let span = extent_of(given.source, expr);
+    let text = slice_of(given.source, span);
+    let Some(first) = first_value(given.tree, given.flags.node, expr) else {
         return Ok(None);
     };
-    let written = if is_enclosed(source, span) {
-        format!(in alloc; "{first} -> {text}")?
+    let (open, close) = if is_enclosed(given.source, span) {
+        ("", "")
     } else {
-        format!(in alloc; "({first} -> {text})")?
+        ("(", ")")
     };
     Ok(Some(Edit {
         byte: span.start.byte,
         length: span.length,
-        text: written,
+        text: format!(in given.alloc; "{open}{first} -> {text}{close}")?,
     }))
-}
-
-/// The variable that an expression is.
-fn name_of(expr: &Expr) -> Option<&Name> {
-    match expr {
-        Expr::Name(name) => Some(name),
-        _ => None,
-    }
 }
 
 /// How many variables a way is followed through.
 const MOST_STEPS: usize = 20;
 
-/// A finding with the way from an expression to the `pre` without a first value, each step with its place, and how that would be
-/// written with one.
-pub fn with_way(
-    alloc: Global,
-    source: &str,
-    tree: &Tree,
-    flags: &Flags<'_>,
-    from: &Expr,
-    finding: Finding,
-) -> Result<Finding, AllocError> {
-    let mut told = finding;
+/// Adds a variable of a way, and gives the right side of its equation.
+fn add_variable<'t>(
+    given: Given<'t>,
+    name: &Name,
+    finding: &mut Finding,
+) -> Result<Option<&'t Expr>, AllocError> {
+    let text = name.text.as_str();
+    let label = format!(in given.alloc; "`{text}` may have no value at the first instant")?;
+    finding.relate(name.span, label)?;
+    Ok(given.flags.right_of(text))
+}
+
+/// Adds the `pre` at the end of a way, and how it would be written with a first value.
+fn add_end(given: Given<'_>, expr: &Expr, finding: &mut Finding) -> Result<(), AllocError> {
+    let span = extent_of(given.source, expr);
+    let text = slice_of(given.source, span);
+    let label = format!(in given.alloc; "`{text}` has none at the first instant")?;
+    finding.relate(span, label)?;
+    finding.edit = edit_of(given, expr)?;
+    Ok(())
+}
+
+/// Adds an origin, and gives the expression that the way goes on with.
+fn add_origin<'t>(
+    given: Given<'t>,
+    expr: &'t Expr,
+    finding: &mut Finding,
+) -> Result<Option<&'t Expr>, AllocError> {
+    if let Expr::Name(name) = expr {
+        return add_variable(given, name, finding);
+    }
+    add_end(given, expr, finding)?;
+    Ok(None)
+}
+
+/// Adds the steps of a way, each with its place. Says whether one goes through a branch.
+fn add_steps<'t>(
+    given: Given<'t>,
+    from: &'t Expr,
+    finding: &mut Finding,
+) -> Result<bool, AllocError> {
     let mut current = Some(from);
     let mut is_computed = false;
     for _step in 0..MOST_STEPS {
         let Some(expr) = current else {
-            break;
+            return Ok(is_computed);
         };
-        let Some(origin) = origin_of(flags, expr) else {
-            break;
+        let Some(origin) = origin_of(given.flags, expr) else {
+            return Ok(is_computed);
         };
         is_computed = is_computed || origin.is_computed;
-        if let Some(name) = name_of(origin.expr) {
-            let text = name.text.as_str();
-            told.relate(
-                name.span,
-                format!(in alloc; "`{text}` may have no value at the first instant")?,
-            )?;
-            current = match flags.equation_of(text) {
-                Some((equation, _)) => Some(&equation.right),
-                None => None,
-            };
-        } else {
-            let span = extent_of(source, origin.expr);
-            let text = slice_of(source, span);
-            told.relate(
-                span,
-                format!(in alloc; "`{text}` has none at the first instant")?,
-            )?;
-            let edit = edit_of(alloc, source, tree, flags, origin.expr)?;
-            told = told.with_edit(edit);
-            break;
-        }
+        current = add_origin(given, origin.expr, finding)?;
     }
-    if is_computed {
-        return told.with_note(
-            alloc,
-            "Both branches of an `if` are computed at each instant, also at the first.",
-        );
+    Ok(is_computed)
+}
+
+/// Adds the way from an expression to the `pre` without a first value, and how that would be written with one.
+pub fn add_way<'t>(
+    given: Given<'t>,
+    from: &'t Expr,
+    finding: &mut Finding,
+) -> Result<(), AllocError> {
+    if add_steps(given, from, finding)? {
+        let note = "Both branches of an `if` are computed at each instant, also at the first.";
+        finding.note = Some(String::from_str(given.alloc, note)?);
     }
-    Ok(told)
+    Ok(())
 }
