@@ -13,7 +13,7 @@ mod word;
 pub use entries::copy_value;
 pub use instruction::{Instruction, Operand};
 pub use layout::Layout;
-pub use located::{Located, Source, Spot};
+pub use located::Located;
 pub use locating::locate_all;
 pub use operation::{chosen, compute_two, decide, operate, project};
 pub use seen::{Seen, see, word_seen};
