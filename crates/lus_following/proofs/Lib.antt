@@ -3,4 +3,3 @@ pub mod TakenOver
 pub mod Operands
 pub mod Tallying
 pub mod LocatedSteps
-pub mod Temporaries
