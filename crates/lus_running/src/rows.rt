@@ -4,9 +4,9 @@ ghost use Rattle.std.specs.Prelude.{◌↔◌, ℕ, IsTrue, IfOk, OnErr, OnOk};
 ghost use Rattle.lus_running.specs.Instances.{CanStep, IsBack, IsCopy, IsLong, IsNew, IsReset, KeepsSame, LeavesBehind};
 ghost use Rattle.lus_running.specs.Instances.{MakesStep, rows_seen};
 
+use crate::answering::answer;
 use crate::error::Failure;
 use crate::resetting::{absent, copy_cells, copy_flags, empty_all, nils, set_all, set_flags};
-use crate::running::{part_of, place, run};
 use crate::setting::Setting;
 use lus_flat_classes::{Class, Extent};
 use lus_following::{Held, Stop};
@@ -106,7 +106,6 @@ impl<T: Held> Rows<T> {
         ensures err { OnErr result (KeepsSame (rows_seen T.entry node self.old) (rows_seen T.entry node self.new)) }
         ensures behind { OnOk result (LeavesBehind (rows_seen T.entry node self.old) (rows_seen T.entry node self.new)) }
     {
-        place(alloc, inputs.items(), &mut self.variables)?;
         let on = Setting {
             alloc,
             classes,
@@ -115,14 +114,15 @@ impl<T: Held> Rows<T> {
             cells: &self.cells,
             firsts: &self.firsts,
         };
-        run(
+        let answer = answer(
             &on,
+            inputs.items(),
+            outputs,
             &mut self.next_cells,
             &mut self.next_firsts,
             &mut self.variables,
             &mut self.temporaries,
         )?;
-        let answer = part_of(alloc, &self.variables, class.inputs as usize, outputs)?;
         swap(&mut self.cells, &mut self.next_cells);
         swap(&mut self.firsts, &mut self.next_firsts);
         Ok(Row::new(answer))

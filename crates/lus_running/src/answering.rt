@@ -1,0 +1,98 @@
+//! What an instant of a class answers.
+
+ghost use Rattle.std.specs.Prelude.{◌≡◌, ◌+◌, ◌≤◌, length, map};
+ghost use Rattle.lus_values.specs.View.{entry_of};
+ghost use Rattle.lus_following.specs.Followed.{cell_of};
+ghost use Rattle.lus_running.specs.Answering.{AnswersTo};
+ghost use Rattle.lus_running.specs.OnClocks.{PresentOnClock};
+ghost use Rattle.lus_running.specs.Settings.{CanRunOn, FitsClass, FitsWhole, IsWholeOn};
+
+use crate::error::Failure;
+use crate::following::grow;
+use crate::running::{part_of, place, run};
+use crate::setting::Setting;
+use crate::wholes::run_in_row;
+use lus_flat_classes::Whole;
+use lus_following::Held;
+use lus_values::Value;
+
+/// So many outputs, which stand behind the inputs, of one instant by the whole of a class, in a row that has room for all its places.
+fn answer_in_row<T: Held>(
+    on: &Setting<'_, T>,
+    whole: &Whole,
+    inputs: &[Option<Value>],
+    outputs: usize,
+    next_cells: &mut [T],
+    next_firsts: &mut [bool],
+    row: &mut [T],
+) -> Result<Vec<Option<Value>>, Failure>
+    requires fits { FitsWhole on.now next_cells.old next_firsts.old row.old whole.now }
+    requires room { whole.now.top ≤ length row.old }
+    requires whole { IsWholeOn on.now whole.now }
+    requires inputs { length inputs.now ≡ on.now.class.now.inputs }
+    requires outputs { on.now.class.now.inputs + outputs ≤ length on.now.class.now.tests.items }
+    ensures { AnswersTo T.entry on.now (map entry_of inputs.now) outputs
+        result (map (cell_of T.entry) next_cells.new) next_firsts.new }
+{
+    place(on.alloc, inputs, row)?;
+    run_in_row(on, whole, next_cells, next_firsts, row)?;
+    Ok(part_of(on.alloc, row, on.class.inputs as usize, outputs)?)
+}
+
+/// So many outputs, which stand behind the inputs, of one instant by the parts of a class.
+fn answer_by_parts<T: Held>(
+    on: &Setting<'_, T>,
+    inputs: &[Option<Value>],
+    outputs: usize,
+    next_cells: &mut [T],
+    next_firsts: &mut [bool],
+    variables: &mut [T],
+    temporaries: &mut Vec<T>,
+) -> Result<Vec<Option<Value>>, Failure>
+    requires class { CanRunOn on.now }
+    requires fits { FitsClass on.now next_cells.old next_firsts.old variables.old }
+    requires inputs { length inputs.now ≡ on.now.class.now.inputs }
+    requires outputs { on.now.class.now.inputs + outputs ≤ length on.now.class.now.tests.items }
+    requires present { PresentOnClock on.now.class.now.tests.items (map entry_of inputs.now) }
+    ensures { AnswersTo T.entry on.now (map entry_of inputs.now) outputs
+        result (map (cell_of T.entry) next_cells.new) next_firsts.new }
+{
+    place(on.alloc, inputs, variables)?;
+    run(on, next_cells, next_firsts, variables, temporaries)?;
+    Ok(part_of(on.alloc, variables, on.class.inputs as usize, outputs)?)
+}
+
+/// So many outputs, which stand behind the inputs, of one instant of a class.
+pub fn answer<T: Held>(
+    on: &Setting<'_, T>,
+    inputs: &[Option<Value>],
+    outputs: usize,
+    next_cells: &mut [T],
+    next_firsts: &mut [bool],
+    variables: &mut [T],
+    temporaries: &mut Vec<T>,
+) -> Result<Vec<Option<Value>>, Failure>
+    requires class { CanRunOn on.now }
+    requires fits { FitsClass on.now next_cells.old next_firsts.old variables.old }
+    requires inputs { length inputs.now ≡ on.now.class.now.inputs }
+    requires outputs { on.now.class.now.inputs + outputs ≤ length on.now.class.now.tests.items }
+    requires present { PresentOnClock on.now.class.now.tests.items (map entry_of inputs.now) }
+    ensures { AnswersTo T.entry on.now (map entry_of inputs.now) outputs
+        result (map (cell_of T.entry) next_cells.new) next_firsts.new }
+{
+    match &on.class.whole {
+        Some(whole) => {
+            grow(temporaries, whole.top as usize)?;
+            answer_in_row(on, whole, inputs, outputs, next_cells, next_firsts, temporaries)
+        }
+        None => answer_by_parts(
+            on,
+            inputs,
+            outputs,
+            next_cells,
+            next_firsts,
+            variables,
+            temporaries,
+        ),
+    }
+}
