@@ -1,4 +1,4 @@
-use Rattle.std.proofs.Common.{rules, arith, ◌≡◌, ◌∙◌, ◌≤◌, length, map, take, sym, ap, subst, Err}
+use Rattle.std.proofs.Common.{rules, arith, ◌≡◌, ◌∙◌, ◌≤◌, length, map, Err}
 use Rattle.std.proofs.lemmas.List.{length-map}
 use Rattle.lus_values.specs.View.{entry_of}
 use Rattle.lus_following.specs.Followed.{cell_of}

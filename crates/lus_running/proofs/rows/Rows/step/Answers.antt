@@ -1,4 +1,4 @@
-use Rattle.std.proofs.Common.{rules, arith, ◌≡◌, ◌∙◌, ◌+◌, ◌≤◌, suc, sym, ap, subst, map, take, drop, length, Ok, Err}
+use Rattle.std.proofs.Common.{rules, arith, ◌≡◌, ◌∙◌, suc, sym, ap, subst, map, length, Ok, Err}
 use Rattle.std.proofs.lemmas.List.{with_items_is, length-map}
 use Rattle.lus_classes.specs.Steps.{step}
 use Rattle.lus_flat_classes.specs.Places.{state_in}
