@@ -83,7 +83,15 @@ pub fn answer<T: Held>(
     match &on.class.whole {
         Some(whole) => {
             grow(temporaries, whole.top as usize)?;
-            answer_in_row(on, whole, inputs, outputs, next_cells, next_firsts, temporaries)
+            answer_in_row(
+                on,
+                whole,
+                inputs,
+                outputs,
+                next_cells,
+                next_firsts,
+                temporaries,
+            )
         }
         None => answer_by_parts(
             on,
