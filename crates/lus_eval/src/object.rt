@@ -6,6 +6,7 @@ ghost use Rattle.lus_code.specs.SimulationSpecs.Lineages.{Lineage};
 ghost use Rattle.lus_code.specs.Codes.{ProgramCode, program_of};
 ghost use Rattle.lus_eval.specs.Objects.{IsFault, IsReset, IsObjectOf, MakesStep, ObjectLived};
 
+use crate::copying::row_again;
 use crate::error::StepError;
 use crate::shape::row_fits;
 use crate::stepping::step_instance;
@@ -93,7 +94,7 @@ impl Object {
         step_instance(&mut self.instance, code, inputs)
     }
 
-    /// One more instant as `step` makes it, with its outputs twice, of which the first takes no more memory than it needs. After an
+    /// One more instant as `step` makes it, with its outputs twice, neither in more memory than it needs. After an
     /// error the object is as it was, also where there is memory for the outputs only once.
     pub fn step_twice(&mut self, code: &Code, inputs: &Row) -> Result<(Row, Row), StepError>
         requires shaped { IsObjectOf code.now self.old }
@@ -105,7 +106,7 @@ impl Object {
         ensures err { OnErr result (self.new ≡ self.old) }
     {
         let outputs = step_instance(&mut self.instance, code, inputs)?;
-        match outputs.copy(self.instance.alloc) {
+        match row_again(self.instance.alloc, &outputs) {
             Ok(again) => Ok((outputs, again)),
             Err(Memory) => {
                 self.instance.go_back();

@@ -1,13 +1,12 @@
 //! Reactors.
 
-ghost use Rattle.std.specs.Prelude.{◌≡◌, ◌<◌, ◌++◌, ◌∷◌, [], length, replicate, None, IfOk, IfSome, OnErr};
+ghost use Rattle.std.specs.Prelude.{◌≡◌, ◌<◌, ◌++◌, ◌∷◌, [], length, replicate, None, IfOk, OnErr};
 ghost use Rattle.std.specs.Arc.{arc_value};
 ghost use Rattle.lus_history.specs.Replies.{slots as slot_count};
 ghost use Rattle.lus_eval.specs.CodeSpecs.Codes.{program_of};
-ghost use Rattle.lus_machine.specs.Changes.{Becomes, IsSlot};
 ghost use Rattle.lus_machine.specs.Machines.{IsLawful, entry};
 
-use crate::answers::{Answer, Change, SLOTS, answer_to};
+use crate::answers::{SLOTS, answer_twice};
 use crate::program::Program;
 use lus_eval::Object;
 use lus_program::NodeId;
@@ -55,32 +54,6 @@ fn empty_slots(alloc: Global) -> Result<Vec<Option<Object>>, Memory>
     Ok(slots)
 }
 
-/// The reply of an answer once more; this takes memory only where the answer has the reply once.
-fn once_more(alloc: Global, again: Option<Reply>, reply: &Reply) -> Result<Reply, Memory>
-    requires { IfSome again (λ r. r ≡ reply.now) }
-    ensures same { IfOk result (λ r. r ≡ reply.now) }
-    ensures err { OnErr result (again ≡ None) }
-{
-    match again {
-        Some(again) => Ok(again),
-        None => Ok(reply.copy(alloc)?),
-    }
-}
-
-/// Makes a change; this takes no memory.
-fn take_over(object: &mut Object, slots: &mut Vec<Option<Object>>, change: Change)
-    requires slot { IsSlot change }
-    requires eight { length slots.old.items ≡ slot_count }
-    ensures becomes { Becomes change object.old slots.old.items object.new slots.new.items }
-{
-    match change {
-        Change::Nothing => {}
-        Change::Empty => object.reset(),
-        Change::Next(next) => *object = next,
-        Change::Slot(slot, copy) => slots[slot] = Some(copy),
-    }
-}
-
 impl Reactor {
     /// A reactor that was never called.
     pub fn new(alloc: Global, program: Arc<Program>, node: NodeId) -> Result<Reactor, Memory>
@@ -106,15 +79,14 @@ impl Reactor {
         ensures err { OnErr result (self.new ≡ self.old) }
         ensures legal { IsLawful self.new }
     {
-        let Answer { reply, change, .. } = answer_to(
+        let (reply, _again) = answer_twice(
             self.alloc,
             self.program.code(),
             &mut self.object,
-            &self.slots,
+            &mut self.slots,
             request,
         )?;
         self.trace = self.trace.and(&caller, request, &reply);
-        take_over(&mut self.object, &mut self.slots, change);
         Ok(reply)
     }
 
@@ -133,20 +105,14 @@ impl Reactor {
     {
         let request_kept = request.copy(self.alloc)?;
         entries.reserve(1)?;
-        let Answer {
-            reply,
-            again,
-            change,
-        } = answer_to(
+        let (reply, reply_kept) = answer_twice(
             self.alloc,
             self.program.code(),
             &mut self.object,
-            &self.slots,
+            &mut self.slots,
             request,
         )?;
-        let reply_kept = once_more(self.alloc, again, &reply)?;
         self.trace = self.trace.and(&caller, request, &reply);
-        take_over(&mut self.object, &mut self.slots, change);
         entries.push_reserved(Entry {
             caller,
             request: request_kept,

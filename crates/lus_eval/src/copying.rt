@@ -1,0 +1,32 @@
+//! Rows once more.
+
+ghost use Rattle.std.specs.Prelude.{◌≡◌, IfOk};
+ghost use Rattle.lus_values.specs.View.{entry_of};
+
+use lus_instructions::copy_value;
+use lus_values::{Memory, Row, Value};
+use std::alloc::Global;
+
+/// An equal entry; only a structure is walked.
+#[inline(always)]
+fn entry_again(alloc: Global, entry: &Option<Value>) -> Result<Option<Value>, Memory>
+    ensures { IfOk result (λ e. entry_of e ≡ entry_of entry.now) }
+{
+    match entry {
+        Some(value) => copy_value(alloc, value),
+        None => Ok(None),
+    }
+}
+
+/// An equal row, in no more memory than it needs.
+pub(crate) fn row_again(alloc: Global, row: &Row) -> Result<Row, Memory>
+    ensures { IfOk result (λ r. r ≡ row.now) }
+{
+    let entries = row.items();
+    let mut again = Vec::with_capacity(alloc, entries.len())?;
+    for entry in entries {
+        let entry_copy = entry_again(alloc, entry)?;
+        again.push_reserved(entry_copy);
+    }
+    Ok(Row::new(again))
+}
