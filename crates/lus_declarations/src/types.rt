@@ -56,7 +56,9 @@ fn definition(
         Definition::Enumeration(constructors) => {
             Ok(Declared::Enumeration(texts(alloc, constructors)?))
         }
-        Definition::Structure(groups) => Ok(Declared::Structure(fields(alloc, types, kinds, groups)?)),
+        Definition::Structure(groups) => Ok(Declared::Structure(fields(
+            alloc, types, kinds, groups,
+        )?)),
     }
 }
 

@@ -43,11 +43,7 @@ fn push_constructors(
     }
 }
 
-fn push_in_order(
-    all: &mut Vec<Constructor>,
-    enumeration: u32,
-    names: &[Name],
-) -> Result<(), Memory>
+fn push_in_order(all: &mut Vec<Constructor>, enumeration: u32, names: &[Name]) -> Result<(), Memory>
     requires few { length names.now ≤ most_constructors }
     ensures { let more = map (λ e. e.1) (constructors_from enumeration 0 (names_seen names.now)) in
         OnOk result (all.new.items ≡ all.old.items ++ more) }
