@@ -1,19 +1,17 @@
 -- What the tables of a source say of its constants and nodes is what the source says.
-use Rattle.std.proofs.Common.{arith, ◌≡◌, ◌∙◌, ap, ap₂, refl, subst, sym, ℕ, ◌≤◌, ◌++◌, List, [], ◌∷◌, true, length, map, flat_map}
+use Rattle.std.proofs.Common.{◌≡◌, ap, refl, sym, ℕ, List, true, map, flat_map}
 use Rattle.std.specs.Prelude.{None, Some, option_map}
 use Rattle.std.specs.List.{list_all}
 use Rattle.lus_syntax.specs.declared.tree.NodeKind.{NodeKind}
 use Rattle.lus_syntax.specs.Lexemes.{Text}
 use Rattle.lus_syntax.specs.Trees as tree
-use Rattle.lus_values.specs.Lists.{Each}
 use Rattle.lus_program.specs.declared.types.Kind.{Kind}
 use Rattle.lus_program.specs.Programs.{Variable, Equation, Node}
-use Rattle.lus_source.specs.Named.{Distinct, NodeNamed, known, names_in}
 use Rattle.lus_source.specs.Tables.{groups, kind_named, literal_value, scope, tables}
 use Rattle.lus_source.specs.Meaning.{node_meant, test_meant, variables_of}
-use Rattle.lus_source.specs.WellTyped.{IsTypedIn, NodeTyped, constant_typed, value_is}
+use Rattle.lus_source.specs.WellTyped.{constant_typed, value_is}
 use Rattle.lus_types.specs.ByScope.{constant_fits, node_in, variables_in}
-use Rattle.lus_declarations.proofs.OfSource.{entered_of_source, kind_in-tables}
+use Rattle.lus_declarations.proofs.OfSource.{kind_in-tables}
 use Rattle.lus_declarations.proofs.Placing.{length-kinds_by}
 
 pub same_node : (k l : NodeKind) (a b : Text) (m n o q : ℕ) (us vs : List Variable) (es fs : List Equation) → k ≡ l → a ≡ b → m ≡ n → o ≡ q → us ≡ vs → es ≡ fs
