@@ -9,6 +9,5 @@ pub mod LeavesMeant
 pub mod TypeTables
 pub mod Greatest
 pub mod DeepThings
-pub mod TableRows
 pub mod Placing
 pub mod OfSource

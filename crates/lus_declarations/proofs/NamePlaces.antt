@@ -1,20 +1,11 @@
--- Places of names: among the keys of a table, and that they are places of names.
-use Rattle.std.proofs.Common.{arith, ◌≡◌, ◌∙◌, ◌+◌, ◌<◌, refl, ap, ℕ, suc, Bool, true, false, List, [], ◌∷◌, Option, Some, All, length, map, cond, zero-add, String, Global}
-use Rattle.std.specs.Prelude.{string_bytes}
-use Rattle.std.specs.List.{position, position_from}
+-- Places of names are places of names.
+use Rattle.std.proofs.Common.{arith, ◌+◌, ◌<◌, ℕ, suc, Bool, true, false, List, [], ◌∷◌, Option, Some, All, length, cond, zero-add}
+use Rattle.std.specs.List.{position_from}
 use Rattle.std.specs.Option.{option_to_list}
 use Rattle.std.specs.Str.{bytes_eq}
-use Rattle.std.proofs.lemmas.Iterator.Adapters.{position_from-zero}
 use Rattle.std.proofs.lemmas.List.Elements.{All-nil, All-cons, All-weaker}
 use Rattle.lus_syntax.specs.Lexemes.{Text}
 use Rattle.lus_source.specs.Loopless.{place_in}
-
-places_from : (n : List ℕ) (k : ℕ) (keys : List (String Global)) → position_from (λ t. bytes_eq n (string_bytes t)) k keys ≡ position_from (λ m. bytes_eq n m) k (map string_bytes keys)
-places_from n k [] = refl
-places_from n k (t ∷ keys) = ap (cond (bytes_eq n (string_bytes t)) (Some k)) (places_from n (k + 1) keys)
-
-pub place_found : (n : List ℕ) (keys : List (String Global)) → position (λ t. bytes_eq n (string_bytes t)) keys ≡ place_in (map string_bytes keys) n
-place_found n keys = position_from-zero (λ t. bytes_eq n (string_bytes t)) keys ∙ places_from n 0 keys
 
 within_cons : (b : Bool) (k n : ℕ) (o : Option ℕ) → All (λ t. t < k + 1 + n) (option_to_list o) → All (λ t. t < k + suc n) (option_to_list (cond b (Some k) o))
 within_cons true k n o all = All-cons (λ t. t < k + suc n) k [] (omega arith) (All-nil (λ t. t < k + suc n))

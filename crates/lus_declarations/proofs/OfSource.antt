@@ -1,26 +1,20 @@
--- The tables that the code makes are those of the source.
-use Rattle.std.proofs.Common.{add-one, append-nil, arith, not, ◌≡◌, ◌∙◌, refl, sym, ap, subst, ℕ, suc, ◌+◌, ◌≤◌, ◌&&◌, List, [], ◌∷◌, Option, Some, None, Bool, true, false, cond, IsTrue, map, length, option_map}
+-- What the code finds of names is what the source says.
+use Rattle.std.proofs.Common.{add-one, ◌≡◌, ◌∙◌, refl, sym, ap, subst, ℕ, suc, ◌+◌, ◌≤◌, ◌&&◌, List, [], ◌∷◌, Option, Some, None, Bool, true, false, cond, IsTrue, map, length, option_map}
 use Rattle.std.specs.List.{list_all, position_from}
 use Rattle.std.specs.Str.{bytes_eq}
 use Rattle.std.proofs.lemmas.Bool.{le-leb}
 use Rattle.lus_syntax.specs.Lexemes.{Text}
 use Rattle.lus_syntax.specs.Trees.{TypeName, BoolName, IntName, DeclaredName, Definition, Alias, Enumeration, StructureOf, TypeDeclaration, Node, Tree}
-use Rattle.lus_values.specs.Lists.{Below, Each}
-use Rattle.lus_values.proofs.Lists.{below_at}
+use Rattle.lus_values.specs.Lists.{Each}
 use Rattle.lus_program.specs.declared.types.Kind.{Kind}
 use Rattle.lus_program.specs.declared.types.Kind.TheVariants as kinds
 use Rattle.lus_source.specs.Scopes.{Scope, entry}
 use Rattle.lus_source.specs.Loopless.{place_in, type_names}
-use Rattle.lus_source.specs.Named.{Distinct, Named, all_new, is_in, known, names_in}
-use Rattle.lus_source.specs.Sized.{DefinitionCounted, variable_count}
+use Rattle.lus_source.specs.Sized.{DefinitionCounted}
 use Rattle.lus_source.specs.Tables.{all_constructors, all_declared_by, constants_by, declared_by, fields_by, groups, kind_at, kind_named, kinds_by, numbered_from, placed, scope, signatures_by, tables, types_by}
 use Rattle.lus_source.specs.Types.{has_few_fields}
 use Rattle.lus_source.proofs.FieldsMeant.{length-fields_by}
-use Rattle.lus_source.proofs.AppendedNames.{all_new_apart, appended_are_new}
-use Rattle.lus_values.proofs.Equalities.{and_left, and_right}
-use Rattle.lus_declarations.specs.ByTable.{all_placed, entered, kind_in, names}
-use Rattle.lus_declarations.proofs.Placing.{length-kinds_by, names-kinds_by}
-use Rattle.lus_declarations.proofs.TableRows.{placed_new}
+use Rattle.lus_declarations.specs.ByTable.{entered, kind_in}
 
 -- ---- types
 
@@ -50,28 +44,7 @@ module _ (p : Tree) where
   pub kind_in-tables : kind_in (tables p).types ≡ kind_named p
   kind_in-tables = λ i y. kind_in-table y i
 
-abbrev row_with : {X : Type 0} → (ℕ → X) → TypeDeclaration × ℕ → Text × X
-row_with f e = (e.0.name.text, f e.1)
-
-pub rows_agree : {X : Type 0} (f g : ℕ → X) (ds : List TypeDeclaration) (n m : ℕ) → n + length ds ≤ m → Below m (λ t. f t ≡ g t)
-    → map (row_with f) (numbered_from n ds) ≡ map (row_with g) (numbered_from n ds)
-rows_agree f g [] n m within same = refl
-rows_agree f g (d ∷ ds) n m within same =
-    ap (λ x. (d.name.text, x) ∷ map (row_with f) (numbered_from (suc n) ds)) (below_at (λ t. f t ≡ g t) m same n (omega arith))
-    ∙ ap (λ l. (d.name.text, g n) ∷ l) (rows_agree f g ds (suc n) m (omega arith) same)
-
 -- ---- tables
-
--- of right names the constants are distinct, and so are the constructors
-module _ (p : Tree) (named : Named p) where
-  pub constants_distinct : Distinct (known p []).constants
-  constants_distinct = and_left (all_new [] (known p []).constants) _ (sym (appended_are_new [] (known p []).constants (known p []).constructors) ∙ named.values)
-
-  pub constructors_distinct : Distinct (known p []).constructors
-  constructors_distinct =
-      let k = known p [] in
-      let behind : all_new k.constants k.constructors ≡ true = and_right (all_new [] k.constants) _ (sym (appended_are_new [] k.constants k.constructors) ∙ named.values) in
-      and_right (list_all (λ n. not (is_in k.constants n)) k.constructors) (all_new [] k.constructors) (sym (all_new_apart k.constants [] k.constructors) ∙ ap (λ l. all_new l k.constructors) (append-nil k.constants) ∙ behind)
 
 -- what each table is made of
 pub record IsMade (p : Tree) (s : Scope) : Type 0 where
@@ -108,12 +81,5 @@ module _ (kind : TypeName → Kind) where
 
 -- ---- variables
 
--- a node whose variables are few and distinct is entered as it is meant
-pub entered_of_source : (p : Tree) (f : Node) → Distinct (names_in (groups f)) → variable_count (groups f) ≤ 1000 → entered (tables p) f ≡ scope p f
-entered_of_source p f distinct few =
-    let kind = kind_named p in
-    let xs = kinds_by kind (groups f) in
-    let new : all_new [] (names xs) ≡ true = ap (all_new []) (names-kinds_by kind (groups f)) ∙ distinct in
-    let all : all_placed [] xs ≡ placed xs = placed_new xs [] new (omega (arith, length-kinds_by kind (groups f))) in
-    ap (λ k. let s : Scope = record (tables p) { variables = all_placed [] (kinds_by k (groups f)) } in s) (kind_in-tables p)
-    ∙ ap (λ vs. let s : Scope = record (tables p) { variables = vs } in s) all
+pub entered_of_source : (p : Tree) (f : Node) → entered (tables p) f ≡ scope p f
+entered_of_source p f = ap (λ k. let s : Scope = record (tables p) { variables = placed (kinds_by k (groups f)) } in s) (kind_in-tables p)

@@ -1,9 +1,10 @@
 -- The tables of names that the code holds, as lists of names.
-use Rattle.std.specs.Prelude.{List, map, string_bytes, String}
+use Rattle.std.specs.Prelude.{List, [], map, string_bytes, String}
 use Rattle.std.specs.Global.{Global}
 use Rattle.lus_syntax.specs.Lexemes.{Text}
 use Rattle.lus_declarations.specs.declared.names.Names.{Names}
 use Rattle.lus_source.specs.Named.{Known}
+use Rattle.lus_source.specs.declared.places.Spaces.{Spaces}
 
 abbrev pub texts : List (String Global) → List Text
 texts keys = map string_bytes keys
@@ -16,3 +17,7 @@ known_seen n = record {
   types = texts n.types.keys;
   nodes = texts n.nodes.keys;
 }
+
+-- the names of a source; no variables
+abbrev pub spaces_seen : Spaces → Known
+spaces_seen s = record { variables = []; constants = s.constants; constructors = s.constructors; types = s.types; nodes = s.nodes }

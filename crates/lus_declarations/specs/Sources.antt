@@ -1,18 +1,18 @@
 -- What passes have found of a source.
-use Rattle.std.specs.Prelude.{◌≡◌, ℕ, List}
-use Rattle.lus_syntax.specs.Lexemes.{Text}
+use Rattle.std.specs.Prelude.{◌≡◌, ℕ, List, []}
 use Rattle.lus_syntax.specs.Trees.{Tree}
 use Rattle.lus_graph.specs.Ways.{IsOrder}
-use Rattle.lus_source.specs.Loopless.{Loopless, node_names, node_uses, type_names, type_uses}
-use Rattle.lus_source.specs.Named.{Named}
+use Rattle.lus_source.specs.Loopless.{Loopless, node_uses, type_uses}
+use Rattle.lus_source.specs.Named.{Named, known}
+use Rattle.lus_source.specs.declared.places.Spaces.{Spaces}
 use Rattle.lus_source.specs.Sized.{Counted}
+use Rattle.lus_declarations.specs.NameView.{spaces_seen}
 
--- it keeps the limits of counts, its names are right, and these are those of its types and its nodes
-pub record HasNames (p : Tree) (ts ns : List Text) : Type 0 where
+-- it keeps the limits of counts, its names are right, and these are its names
+pub record HasNames (p : Tree) (names : Spaces) : Type 0 where
   pub counted : Counted p
   pub named : Named p
-  pub types : ts ≡ type_names p
-  pub nodes : ns ≡ node_names p
+  pub spaces : spaces_seen names ≡ known p []
 
 -- nothing leads back to itself, and types and nodes stand in orders, each behind those that it uses
 pub record AreOrders (p : Tree) (ts ns : List ℕ) : Type 0 where

@@ -7,9 +7,9 @@ ghost use Rattle.lus_syntax.specs.View.{definition_seen, tree_seen};
 ghost use Rattle.lus_source.specs.Tables.{AreKinds, definition_kind};
 
 use crate::loopless::Loopless;
-use crate::named::Places;
 use crate::type_names::of_name;
 use lus_program::Kind;
+use lus_source::Places;
 use lus_syntax::Definition;
 use lus_values::Memory;
 use std::alloc::Global;

@@ -11,9 +11,9 @@ ghost use Rattle.lus_source.specs.Named.{Named as IsNamed};
 ghost use Rattle.lus_source.specs.ScopeView.{Faulty};
 ghost use Rattle.lus_source.specs.Sized.{Counted as IsCounted};
 
-use crate::named::{Named, Places};
+use crate::named::Named;
 use crate::recursion::{order_of_nodes, order_of_types};
-use lus_source::Fault;
+use lus_source::{Fault, Places};
 use lus_syntax::{Refusal, RefusalNumber, Tree};
 use std::alloc::Global;
 use std::marker::Model;

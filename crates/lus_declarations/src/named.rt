@@ -1,59 +1,26 @@
 //! Sources whose names are right.
 
-ghost use Rattle.std.specs.Prelude.{◌≡◌, IfErr, IfOk, OnOk};
+ghost use Rattle.std.specs.Prelude.{◌≡◌, [], IfErr, IfOk, OnOk};
 ghost use Rattle.lus_syntax.specs.declared.refusal.RefusalNumber.TheVariants as numbers;
 ghost use Rattle.lus_syntax.specs.Refusals.{HasShape};
 ghost use Rattle.lus_syntax.specs.View.{tree_seen};
 ghost use Rattle.lus_typing.specs.Refusals.{RefusesFor};
-ghost use Rattle.lus_source.specs.Loopless.{node_names, place_in, type_names};
-ghost use Rattle.lus_source.specs.Named.{Named as IsNamed};
+ghost use Rattle.lus_source.specs.Loopless.{node_names, type_names};
+ghost use Rattle.lus_source.specs.Named.{Named as IsNamed, known};
 ghost use Rattle.lus_source.specs.Sized.{Counted as IsCounted};
+ghost use Rattle.lus_declarations.specs.NameView.{spaces_seen};
 
 use crate::checking::names_of;
-use indexmap::IndexSet;
-use lus_source::Counted;
+use lus_source::{Counted, Places, Spaces};
 use lus_syntax::{Refusal, RefusalNumber, Tree};
 use std::alloc::Global;
 use std::marker::Model;
 
-/// Names by their places, no more than a source may declare. Contracts see them as the names in their order.
-#[derive(Drop)]
-pub struct Places {
-    names: IndexSet<String>,
-}
-
-impl Model for Places {
-    ghost use Rattle.std.specs.Prelude.{List, ◌≤◌, length};
-    ghost use Rattle.lus_syntax.specs.Lexemes.{Text};
-    ghost use Rattle.lus_syntax.specs.Limits.{most_declarations};
-    ghost use Rattle.lus_declarations.specs.NameView.{texts};
-
-    ghost Value = { List Text };
-
-    ghost view = { λ p. texts p.names.keys };
-
-    ghost invariant = { λ p. length p.names.keys ≤ most_declarations };
-}
-
-impl Places {
-    /// The place of a name, if it is among them.
-    pub fn place(&self, name: &str) -> Option<u32>
-        ensures { result ≡ place_in self.now name.now }
-    {
-        match self.names.get_index_of(name) {
-            Some(place) => Some(place as u32),
-            None => None,
-        }
-    }
-}
-
-/// A counted source whose names are declared once, and used as what they are declared, with the places of its types and
-/// nodes. Contracts see it as its tree.
+/// A counted source whose names are declared once, and used as what they are declared, with its names. Contracts see it as its tree.
 #[derive(Drop)]
 pub struct Named {
     counted: Counted,
-    types: Places,
-    nodes: Places,
+    names: Spaces,
 }
 
 impl Model for Named {
@@ -69,7 +36,7 @@ impl Model for Named {
 
     ghost view = { λ n. n.counted };
 
-    ghost invariant = { λ n. HasNames (tree_seen n.counted) n.types n.nodes };
+    ghost invariant = { λ n. HasNames (tree_seen n.counted) n.names };
 }
 
 impl Named {
@@ -82,18 +49,25 @@ impl Named {
         self.counted.tree()
     }
 
+    /// Its names.
+    pub fn names(&self) -> &Spaces
+        ensures { spaces_seen result.now ≡ known (tree_seen self.now) [] }
+    {
+        &self.names
+    }
+
     /// The places of its types.
     pub fn types(&self) -> &Places
         ensures { result.now ≡ type_names (tree_seen self.now) }
     {
-        &self.types
+        &self.names.types
     }
 
     /// The places of its nodes.
     pub fn nodes(&self) -> &Places
         ensures { result.now ≡ node_names (tree_seen self.now) }
     {
-        &self.nodes
+        &self.names.nodes
     }
 }
 
@@ -110,11 +84,11 @@ pub fn check_names(alloc: Global, counted: Counted) -> Result<Named, Refusal>
         Ok(names) => names,
         Err(fault) => return Err(fault.refusal(RefusalNumber::Name)),
     };
-    let types = Places { names: names.types };
-    let nodes = Places { names: names.nodes };
-    Ok(Named {
-        counted,
-        types,
-        nodes,
-    })
+    let names = Spaces {
+        types: Places::new(names.types),
+        constants: Places::new(names.constants),
+        constructors: Places::new(names.constructors),
+        nodes: Places::new(names.nodes),
+    };
+    Ok(Named { counted, names })
 }

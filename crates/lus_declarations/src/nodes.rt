@@ -43,7 +43,8 @@ fn check_node(alloc: Global, names: &mut Names, node: &Node) -> Result<(), Fault
     check_lefts(alloc, node)
 }
 
-fn declare_variables(table: &mut IndexSet<String>, node: &Node) -> Result<(), Fault>
+/// Declares the variables of a node.
+pub fn declare_variables(table: &mut IndexSet<String>, node: &Node) -> Result<(), Fault>
     ensures kept { OnOk result (texts table.new.keys ≡ texts table.old.keys ++ names_in (groups (node_seen node.now))) }
     ensures new { OnOk result (all_new (texts table.old.keys) (names_in (groups (node_seen node.now))) ≡ true) }
     ensures doubled { IfErr result (Faulty (all_new (texts table.old.keys) (names_in (groups (node_seen node.now))) ≡ false)) }

@@ -1,31 +1,40 @@
-//! The tables in which the names of a source are looked up.
+//! What the names of a source stand for.
 
 ghost use Rattle.std.specs.Prelude.{◌≡◌, IfOk};
 ghost use Rattle.lus_syntax.specs.View.{tree_seen};
 ghost use Rattle.lus_source.specs.ScopeView.{scope_of};
 ghost use Rattle.lus_source.specs.Tables.{tables as tables_of};
 
+use crate::declared_kinds::kinds_of_types;
 use crate::loopless::Loopless;
 use crate::signatures::nodes;
-use crate::types::{declared, types};
+use crate::types::declared;
 use crate::values::{constants, constructors};
-use indexmap::IndexMap;
-use lus_source::Scope;
+use indexmap::IndexSet;
+use lus_source::{Places, Scope};
 use lus_values::Memory;
 use std::alloc::Global;
 
-/// The tables of a source; no variables.
-pub fn tables(alloc: Global, loopless: &Loopless) -> Result<Scope, Memory>
+/// What the names of a source stand for; no variables.
+pub fn tables(alloc: Global, loopless: &Loopless) -> Result<Scope<'_>, Memory>
     ensures { IfOk result (λ s. scope_of s ≡ tables_of (tree_seen loopless.now)) }
 {
     let named = loopless.named();
-    let types = types(alloc, loopless)?;
-    let declared = declared(alloc, &types, &loopless.tree().types)?;
-    let nodes = nodes(alloc, &types, named)?;
+    let names = named.names();
+    let types = kinds_of_types(alloc, loopless)?;
+    let declared = declared(alloc, &names.types, &types, &named.tree().types)?;
+    let nodes = nodes(alloc, &names.types, &types, named)?;
     let constructors = constructors(alloc, named)?;
-    let constants = constants(alloc, &constructors, named)?;
+    let constants = constants(
+        alloc,
+        &names.constructors,
+        &constructors,
+        &named.tree().constants,
+    )?;
     Ok(Scope {
-        variables: IndexMap::new(alloc),
+        variables: Places::new(IndexSet::new(alloc)),
+        variable_kinds: Vec::new(alloc),
+        names,
         constants,
         constructors,
         types,

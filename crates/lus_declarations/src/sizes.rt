@@ -15,10 +15,9 @@ ghost use Rattle.lus_declarations.specs.Limits.{IsLimited};
 
 use crate::depths::too_deep;
 use crate::loopless::Loopless;
-use crate::named::Places;
 use crate::type_names::of_name;
 use crate::uses::{node_uses, type_uses};
-use lus_source::Fault;
+use lus_source::{Fault, Places};
 use lus_syntax::{
     Definition, Fields, MOST_CALLS_DEEP, MOST_LEAVES, MOST_NESTING, Refusal, RefusalNumber,
     TypeDeclaration,

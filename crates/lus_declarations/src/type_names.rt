@@ -5,7 +5,7 @@ ghost use Rattle.lus_values.specs.Lists.{item};
 ghost use Rattle.lus_syntax.specs.View.{type_name_seen};
 ghost use Rattle.lus_source.specs.Tables.{of_type};
 
-use crate::named::Places;
+use lus_source::Places;
 use lus_syntax::TypeName;
 
 /// What bool has, what int has, or what the table has at the declared type's place; what bool has for an unknown name.

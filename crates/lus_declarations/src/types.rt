@@ -1,77 +1,64 @@
 //! The types of a source: what each type's name means, and what its declaration declares.
 
 ghost use Rattle.std.specs.Prelude.{◌≡◌, ◌++◌, IfOk, OnOk, map, string_bytes};
-ghost use Rattle.lus_syntax.specs.View.{definition_seen, fields_seen, names_seen, tree_seen, type_name_seen, type_seen};
+ghost use Rattle.lus_syntax.specs.View.{definition_seen, fields_seen, names_seen, type_name_seen, type_seen};
 ghost use Rattle.lus_program.specs.View.{declared_of, field_of};
-ghost use Rattle.lus_source.specs.Tables.{all_declared_by, declared_by, fields_by, fields_of_kind, kind_at, text_of, types_by};
-ghost use Rattle.lus_declarations.specs.ByTable.{kind_told, told};
+ghost use Rattle.lus_source.specs.Tables.{all_declared_by, declared_by, fields_by, fields_of_kind, text_of};
+ghost use Rattle.lus_declarations.specs.ByTable.{kind_told};
 
-use crate::declared_kinds::kinds_of_types;
-use crate::loopless::Loopless;
-use crate::table::{find, put};
-use indexmap::IndexMap;
 use lus_program::{Declared, Field, Kind};
+use lus_source::{Places, find};
 use lus_syntax::{Definition, Fields, Name, TypeDeclaration, TypeName};
 use lus_values::Memory;
 use std::alloc::Global;
 
 /// The type that a name means; bool for an unknown one.
-pub fn kind_of_name(types: &IndexMap<String, Kind>, name: &TypeName) -> Kind
-    ensures { result ≡ kind_told types.now.entries (type_name_seen name.now) }
+pub fn kind_of_name(types: &Places, kinds: &[Kind], name: &TypeName) -> Kind
+    ensures { result ≡ kind_told types.now kinds.now (type_name_seen name.now) }
 {
     match name {
         TypeName::Bool(_) => Kind::Bool,
         TypeName::Int(_) => Kind::Int,
-        TypeName::Declared(declared) => match find(types, &declared.text) {
+        TypeName::Declared(declared) => match find(types, kinds, &declared.text).copied() {
             Some(kind) => kind,
             None => Kind::Bool,
         },
     }
 }
 
-/// The table of types.
-pub fn types(alloc: Global, loopless: &Loopless) -> Result<IndexMap<String, Kind>, Memory>
-    ensures { let p = tree_seen loopless.now in
-        IfOk result (λ table. told table.entries ≡ types_by (kind_at p) p.types) }
-{
-    let kinds = kinds_of_types(alloc, loopless)?;
-    let declarations = loopless.tree().types.as_slice();
-    let mut table = IndexMap::new(alloc);
-    for (place, declaration) in declarations.iter().enumerate() {
-        put(&mut table, &declaration.name, kinds[place])?;
-    }
-    Ok(table)
-}
-
 /// What each type's declaration declares.
 pub fn declared(
     alloc: Global,
-    types: &IndexMap<String, Kind>,
+    types: &Places,
+    kinds: &[Kind],
     declarations: &[TypeDeclaration],
 ) -> Result<Vec<Declared>, Memory>
-    ensures { let declared = all_declared_by (kind_told types.now.entries) (map type_seen declarations.now) in
+    ensures { let declared = all_declared_by (kind_told types.now kinds.now) (map type_seen declarations.now) in
         IfOk result (λ all. map declared_of all.items ≡ declared) }
 {
     let mut all = Vec::new(alloc);
     for declaration in declarations {
-        all.push(definition(alloc, types, &declaration.definition)?)?;
+        all.push(definition(alloc, types, kinds, &declaration.definition)?)?;
     }
     Ok(all)
 }
 
 fn definition(
     alloc: Global,
-    types: &IndexMap<String, Kind>,
+    types: &Places,
+    kinds: &[Kind],
     definition: &Definition,
 ) -> Result<Declared, Memory>
-    ensures { IfOk result (λ d. declared_of d ≡ declared_by (kind_told types.now.entries) (definition_seen definition.now)) }
+    ensures { IfOk result (λ d. declared_of d ≡ declared_by (kind_told types.now kinds.now) (definition_seen definition.now)) }
 {
     match definition {
-        Definition::Alias(name) => Ok(Declared::Alias(kind_of_name(types, name))),
+        Definition::Alias(name) => Ok(Declared::Alias(kind_of_name(types, kinds, name))),
         Definition::Enumeration(constructors) => {
             Ok(Declared::Enumeration(texts(alloc, constructors)?))
         }
-        Definition::Structure(groups) => Ok(Declared::Structure(fields(alloc, types, groups)?)),
+        Definition::Structure(groups) => Ok(Declared::Structure(fields(
+            alloc, types, kinds, groups,
+        )?)),
     }
 }
 
@@ -88,14 +75,15 @@ fn texts(alloc: Global, names: &[Name]) -> Result<Vec<String>, Memory>
 
 fn fields(
     alloc: Global,
-    types: &IndexMap<String, Kind>,
+    types: &Places,
+    kinds: &[Kind],
     groups: &[Fields],
 ) -> Result<Vec<Field>, Memory>
-    ensures { IfOk result (λ fields. map field_of fields.items ≡ fields_by (kind_told types.now.entries) (map fields_seen groups.now)) }
+    ensures { IfOk result (λ fields. map field_of fields.items ≡ fields_by (kind_told types.now kinds.now) (map fields_seen groups.now)) }
 {
     let mut fields = Vec::new(alloc);
     for group in groups {
-        let kind = kind_of_name(types, &group.type_name);
+        let kind = kind_of_name(types, kinds, &group.type_name);
         push_fields(&mut fields, &group.names, kind)?;
     }
     Ok(fields)

@@ -7,7 +7,8 @@ ghost use Rattle.lus_syntax.specs.Trees.{parts_of};
 ghost use Rattle.lus_syntax.specs.View.{definition_seen, expression_seen, node_seen, tree_seen, type_name_seen, part_seen};
 ghost use Rattle.lus_source.specs.Loopless.{called, called_in, calls_of, definition_uses as uses_of_definition, named_type, node_uses as calls_of_nodes, place_in, type_uses as uses_of_types};
 
-use crate::named::{Named, Places};
+use crate::named::Named;
+use lus_source::Places;
 use lus_syntax::{Definition, Expr, Node, Part, TypeName};
 use lus_values::Memory;
 use std::alloc::Global;

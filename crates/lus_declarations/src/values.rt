@@ -1,90 +1,86 @@
 //! The constructors and the constants of a source.
 
-ghost use Rattle.std.specs.Prelude.{◌≡◌, IfOk, OnOk};
-ghost use Rattle.lus_syntax.specs.View.{definition_seen, literal_seen, names_seen, tree_seen};
+ghost use Rattle.std.specs.Prelude.{◌≡◌, ◌≤◌, ◌++◌, IfOk, OnOk, length, map};
+ghost use Rattle.std.specs.List.{zip};
+ghost use Rattle.lus_syntax.specs.Limits.{most_constructors};
+ghost use Rattle.lus_syntax.specs.View.{constant_seen, definition_seen, literal_seen, names_seen, tree_seen};
 ghost use Rattle.lus_values.specs.View.{value_of};
-ghost use Rattle.lus_source.specs.ScopeView.{entries_of};
-ghost use Rattle.lus_source.specs.Tables.{constants_by, constructors_by, minus, value_in};
-ghost use Rattle.lus_declarations.specs.ByTable.{rows_put, stored_constructors, stored_from, told};
+ghost use Rattle.lus_source.specs.Sized.{DefinitionCounted};
+ghost use Rattle.lus_source.specs.Tables.{constants_by, constructors_by, constructors_from, constructors_of, minus, value_in};
 
 use crate::named::Named;
-use crate::table::{find, put, saturated};
-use indexmap::IndexMap;
-use lus_source::Constructor;
-use lus_syntax::{Definition, Literal, Name};
+use lus_source::{Constructor, Places, find};
+use lus_syntax::{Constant, Definition, Literal, Name};
 use lus_values::{Memory, Value};
 use std::alloc::Global;
 
-/// The table of constructors.
-pub fn constructors(alloc: Global, named: &Named) -> Result<IndexMap<String, Constructor>, Memory>
-    ensures { IfOk result (λ table. told table.entries ≡ constructors_by (tree_seen named.now).types) }
+/// The constructors of a source, by their places.
+pub fn constructors(alloc: Global, named: &Named) -> Result<Vec<Constructor>, Memory>
+    ensures { IfOk result (λ all. all.items ≡ map (λ e. e.1) (constructors_by (tree_seen named.now).types)) }
 {
     let declarations = named.tree().types.as_slice();
-    let mut table = IndexMap::new(alloc);
+    let mut all = Vec::new(alloc);
     for (place, declaration) in declarations.iter().enumerate() {
-        put_constructors(&mut table, place as u32, &declaration.definition)?;
+        push_constructors(&mut all, place as u32, &declaration.definition)?;
     }
-    Ok(table)
+    Ok(all)
 }
 
-/// Puts the constructors that a type has into a table.
-fn put_constructors(
-    table: &mut IndexMap<String, Constructor>,
+/// Appends the constructors that a type has.
+fn push_constructors(
+    all: &mut Vec<Constructor>,
     enumeration: u32,
     definition: &Definition,
 ) -> Result<(), Memory>
-    ensures { let more = stored_constructors (definition_seen definition.now) enumeration in
-        OnOk result (told table.new.entries ≡ rows_put (told table.old.entries) more) }
+    requires counted { DefinitionCounted (definition_seen definition.now) }
+    ensures { let more = map (λ e. e.1) (constructors_of (definition_seen definition.now) enumeration) in
+        OnOk result (all.new.items ≡ all.old.items ++ more) }
 {
     match definition {
         Definition::Alias(_) => Ok(()),
-        Definition::Enumeration(names) => put_in_order(table, enumeration, names),
+        Definition::Enumeration(names) => push_in_order(all, enumeration, names),
         Definition::Structure(_) => Ok(()),
     }
 }
 
-fn put_in_order(
-    table: &mut IndexMap<String, Constructor>,
-    enumeration: u32,
-    names: &[Name],
-) -> Result<(), Memory>
-    ensures { let more = stored_from enumeration 0 (names_seen names.now) in
-        OnOk result (told table.new.entries ≡ rows_put (told table.old.entries) more) }
+fn push_in_order(all: &mut Vec<Constructor>, enumeration: u32, names: &[Name]) -> Result<(), Memory>
+    requires few { length names.now ≤ most_constructors }
+    ensures { let more = map (λ e. e.1) (constructors_from enumeration 0 (names_seen names.now)) in
+        OnOk result (all.new.items ≡ all.old.items ++ more) }
 {
-    for (number, name) in names.iter().enumerate() {
-        let place = saturated(number);
-        put(table, name, Constructor { enumeration, place })?;
+    for (number, _name) in names.iter().enumerate() {
+        let place = number as u32;
+        all.push(Constructor { enumeration, place })?;
     }
     Ok(())
 }
 
-/// The table of constants.
+/// The values of constants, by these constructors.
 pub fn constants(
     alloc: Global,
-    constructors: &IndexMap<String, Constructor>,
-    named: &Named,
-) -> Result<IndexMap<String, Value>, Memory>
-    ensures { let values = constants_by (told constructors.now.entries) (tree_seen named.now).constants in
-        IfOk result (λ table. entries_of value_of table.entries ≡ values) }
+    names: &Places,
+    constructors: &[Constructor],
+    constants: &[Constant],
+) -> Result<Vec<Value>, Memory>
+    ensures { let table = constants_by (zip names.now constructors.now) (map constant_seen constants.now) in
+        IfOk result (λ all. map value_of all.items ≡ map (λ e. e.1) table) }
 {
-    let constants = named.tree().constants.as_slice();
-    let mut table = IndexMap::new(alloc);
+    let mut all = Vec::new(alloc);
     for constant in constants {
-        let value = literal(constructors, &constant.value);
-        put(&mut table, &constant.name, value)?;
+        all.push(literal(names, constructors, &constant.value))?;
     }
-    Ok(table)
+    Ok(all)
 }
 
 /// The value of a constant's right side; nil for an unknown constructor.
-pub fn literal(constructors: &IndexMap<String, Constructor>, literal: &Literal) -> Value
-    ensures { value_of result ≡ value_in (told constructors.now.entries) (literal_seen literal.now) }
+pub fn literal(names: &Places, constructors: &[Constructor], literal: &Literal) -> Value
+    ensures { value_of result ≡ value_in (zip names.now constructors.now) (literal_seen literal.now) }
 {
     match literal {
         Literal::Number(number, _) => Value::Int(*number),
         Literal::Negative(_, number, _) => Value::Int(negative(*number)),
         Literal::Truth(truth, _) => Value::Bool(*truth),
-        Literal::Constructor(name) => match find(constructors, &name.text) {
+        Literal::Constructor(name) => match find(names, constructors, &name.text).copied() {
             Some(found) => Value::Enum(found.enumeration, found.place),
             None => Value::Nil,
         },

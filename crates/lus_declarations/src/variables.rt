@@ -1,71 +1,60 @@
 //! The variables of a node.
 
-ghost use Rattle.std.specs.Prelude.{◌≡◌, IfOk, OnErr, OnOk, [], map};
-ghost use Rattle.lus_syntax.specs.View.{group_seen, names_seen, node_seen};
-ghost use Rattle.lus_source.specs.ScopeView.{scope_of};
-ghost use Rattle.lus_source.specs.Tables.{each_of, groups, kinds_by};
-ghost use Rattle.lus_declarations.specs.ByTable.{all_placed, entered, kind_told, told};
+ghost use Rattle.std.specs.Prelude.{◌≡◌, ◌≤◌, IfErr, IfOk, OnOk, map};
+ghost use Rattle.lus_syntax.specs.Limits.{most_variables};
+ghost use Rattle.lus_syntax.specs.View.{node_seen};
+ghost use Rattle.lus_source.specs.Named.{Distinct, names_in};
+ghost use Rattle.lus_source.specs.ScopeView.{Faulty, scope_of};
+ghost use Rattle.lus_source.specs.Sized.{variable_count};
+ghost use Rattle.lus_source.specs.Tables.{groups, kinds_by};
+ghost use Rattle.lus_declarations.specs.ByTable.{entered, kind_told};
 
-use crate::table::{put, saturated};
-use crate::types::kind_of_name;
-use indexmap::IndexMap;
+use crate::nodes::declare_variables;
+use crate::signatures::push_kinds;
+use indexmap::IndexSet;
 use lus_program::Kind;
-use lus_source::{Placed, Scope};
-use lus_syntax::{Group, Name, Node};
+use lus_source::{Fault, Places, Scope};
+use lus_syntax::Node;
 use lus_values::Memory;
 use std::alloc::Global;
 
-/// Puts a node's variables in the place of those that the tables have.
-pub fn enter(alloc: Global, scope: &mut Scope, node: &Node) -> Result<(), Memory>
+/// Puts a node's variables in the place of those that the scope has, where they are distinct.
+pub fn enter(alloc: Global, scope: &mut Scope, node: &Node) -> Result<(), Fault>
+    requires few { variable_count (groups (node_seen node.now)) ≤ most_variables }
     ensures entered { OnOk result (scope_of scope.new ≡ entered (scope_of scope.old) (node_seen node.now)) }
-    ensures kept { OnErr result (scope.new ≡ scope.old) }
+    ensures doubled { IfErr result (Faulty (Distinct (names_in (groups (node_seen node.now))) → ⊥)) }
 {
-    scope.variables = variables(alloc, &scope.types, node)?;
+    let names = variable_names(alloc, node)?;
+    let kinds = variable_kinds(alloc, &scope.names.types, &scope.types, node)?;
+    scope.variables = names;
+    scope.variable_kinds = kinds;
     Ok(())
 }
 
-/// The table of a node's variables.
-fn variables(
+/// The names of a node's variables, where they are distinct.
+fn variable_names(alloc: Global, node: &Node) -> Result<Places, Fault>
+    requires few { variable_count (groups (node_seen node.now)) ≤ most_variables }
+    ensures names { IfOk result (λ names. names ≡ names_in (groups (node_seen node.now))) }
+    ensures doubled { IfErr result (Faulty (Distinct (names_in (groups (node_seen node.now))) → ⊥)) }
+{
+    let mut names = IndexSet::new(alloc);
+    declare_variables(&mut names, node)?;
+    Ok(Places::new(names))
+}
+
+/// The types of a node's variables.
+fn variable_kinds(
     alloc: Global,
-    types: &IndexMap<String, Kind>,
+    types: &Places,
+    kinds: &[Kind],
     node: &Node,
-) -> Result<IndexMap<String, Placed>, Memory>
-    ensures { IfOk result (λ table. told table.entries ≡ all_placed [] (kinds_by (kind_told types.now.entries) (groups (node_seen node.now)))) }
+) -> Result<Vec<Kind>, Memory>
+    ensures { let found = map (λ e. e.1) (kinds_by (kind_told types.now kinds.now) (groups (node_seen node.now))) in
+        IfOk result (λ all. all.items ≡ found) }
 {
-    let mut table = IndexMap::new(alloc);
-    place_groups(&mut table, types, &node.inputs)?;
-    place_groups(&mut table, types, &node.outputs)?;
-    place_groups(&mut table, types, &node.locals)?;
-    Ok(table)
-}
-
-/// Places variables in the order of their declarations.
-fn place_groups(
-    table: &mut IndexMap<String, Placed>,
-    types: &IndexMap<String, Kind>,
-    groups: &[Group],
-) -> Result<(), Memory>
-    ensures { let placed = all_placed (told table.old.entries) (kinds_by (kind_told types.now.entries) (map group_seen groups.now)) in
-        OnOk result (told table.new.entries ≡ placed) }
-{
-    for group in groups {
-        let kind = kind_of_name(types, &group.type_name);
-        place_names(table, &group.names, kind)?;
-    }
-    Ok(())
-}
-
-/// Places variables of one type.
-fn place_names(
-    table: &mut IndexMap<String, Placed>,
-    names: &[Name],
-    kind: Kind,
-) -> Result<(), Memory>
-    ensures { OnOk result (told table.new.entries ≡ all_placed (told table.old.entries) (each_of (names_seen names.now) kind)) }
-{
-    for name in names {
-        let place = saturated(table.len());
-        put(table, name, Placed { place, kind })?;
-    }
-    Ok(())
+    let mut all = Vec::new(alloc);
+    push_kinds(&mut all, types, kinds, &node.inputs)?;
+    push_kinds(&mut all, types, kinds, &node.outputs)?;
+    push_kinds(&mut all, types, kinds, &node.locals)?;
+    Ok(all)
 }

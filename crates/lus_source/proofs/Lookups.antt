@@ -1,22 +1,78 @@
--- The entry of a name, as the table gives it.
-use Rattle.std.proofs.Common.{◌≡◌, ◌∙◌, ℕ, refl, ap, List, [], ◌∷◌, Option, Some, None, Bool, true, false, String, Global, option_map, cond, Bor}
-use Rattle.std.specs.Prelude.{string_bytes, option_copied}
+-- What stands at a name's place is its entry.
+use Rattle.std.proofs.Common.{◌≡◌, ◌∙◌, ◌+◌, ℕ, suc, refl, ap, sym, List, [], ◌∷◌, Option, Some, None, Bool, true, false, String, Global, option_map, cond, map, add-one, zero-add, add-zero, Bor, arith, subst}
+use Rattle.std.specs.Prelude.{slice_get, string_bytes}
+use Rattle.std.specs.List.{position, position_from, zip}
+use Rattle.std.specs.Option.{option_and_then, option_copied}
 use Rattle.std.specs.Str.{bytes_eq}
-use Rattle.std.specs.Map.{lookup}
+use Rattle.std.proofs.lemmas.Iterator.Adapters.{position_from-zero}
+use Rattle.lus_syntax.specs.Lexemes.{Text}
+use Rattle.lus_program.specs.declared.types.Kind.{Kind}
+use Rattle.lus_source.specs.declared.entries.Placed.{Placed}
+use Rattle.lus_source.specs.Loopless.{place_in}
 use Rattle.lus_source.specs.Scopes.{entry}
-use Rattle.lus_source.specs.ScopeView.{entries_of}
+use Rattle.lus_source.specs.Tables.{placed, placed_from}
 
-cond_map : {X Y : Type 0} (f : X → Y) (b : Bool) (x r : Option X) → option_map f (cond b x r) ≡ cond b (option_map f x) (option_map f r)
-cond_map f true x r = refl
-cond_map f false x r = refl
+-- places
 
-pub entry_is : {X Y : Type 0} (f : X → Y) (n : List ℕ) (es : List (String Global × X)) → option_map f (lookup (λ k. bytes_eq n (string_bytes k)) es) ≡ entry (entries_of f es) n
-entry_is f n [] = refl
-entry_is f n (e ∷ es) = cond_map f (bytes_eq n (string_bytes e.0)) (Some e.1) (lookup (λ k. bytes_eq n (string_bytes k)) es) ∙ ap (cond (bytes_eq n (string_bytes e.0)) (Some (f e.1))) (entry_is f n es)
+places_from : (n : List ℕ) (k : ℕ) (keys : List (String Global)) → position_from (λ t. bytes_eq n (string_bytes t)) k keys ≡ position_from (λ m. bytes_eq n m) k (map string_bytes keys)
+places_from n k [] = refl
+places_from n k (t ∷ keys) = ap (cond (bytes_eq n (string_bytes t)) (Some k)) (places_from n (k + 1) keys)
 
-pub plain_entry_is : {X : Type 0} (n : List ℕ) (es : List (String Global × X)) → lookup (λ k. bytes_eq n (string_bytes k)) es ≡ entry (entries_of (λ x. x) es) n
-plain_entry_is n [] = refl
-plain_entry_is n (e ∷ es) = ap (cond (bytes_eq n (string_bytes e.0)) (Some e.1)) (plain_entry_is n es)
+pub place_found : (n : List ℕ) (keys : List (String Global)) → position (λ t. bytes_eq n (string_bytes t)) keys ≡ place_in (map string_bytes keys) n
+place_found n keys = position_from-zero (λ t. bytes_eq n (string_bytes t)) keys ∙ places_from n 0 keys
+
+-- entries
+
+chosen : {X : Type 0} (at : ℕ → Option X) (b : Bool) (k : ℕ) (x : X) (here : Option X) (r : Option ℕ) → at k ≡ Some x → here ≡ option_and_then at r → cond b (Some x) here ≡ option_and_then at (cond b (Some k) r)
+chosen at true k x here r is rest = sym is
+chosen at false k x here r is rest = rest
+
+nothing_from : {X : Type 0} (at : ℕ → Option X) (k : ℕ) (test : Text → Bool) (ns : List Text) → ((i : ℕ) → at (k + i) ≡ None) → None ≡ option_and_then at (position_from test k ns)
+nothing_from at k test [] none = refl
+nothing_from at k test (m ∷ ns) none = nothing_here (test m) (nothing_from at (k + 1) test ns (λ i. ap at (omega arith) ∙ none (suc i)))
+  where
+    nothing_here : (b : Bool) → None ≡ option_and_then at (position_from test (k + 1) ns) → None ≡ option_and_then at (cond b (Some k) (position_from test (k + 1) ns))
+    nothing_here true rest = sym (ap at (omega arith) ∙ none 0)
+    nothing_here false rest = rest
+
+entry_from : {X : Type 0} (at : ℕ → Option X) (k : ℕ) (ns : List Text) (vs : List X) (n : Text) → ((i : ℕ) → at (k + i) ≡ slice_get vs i) → entry (zip ns vs) n ≡ option_and_then at (position_from (λ m. bytes_eq n m) k ns)
+entry_from at k [] vs n are = refl
+entry_from at k (m ∷ ns) [] n are = nothing_from at k (λ m. bytes_eq n m) (m ∷ ns) (λ i. are i)
+entry_from at k (m ∷ ns) (v ∷ vs) n are =
+    chosen at (bytes_eq n m) k v (entry (zip ns vs) n) (position_from (λ m. bytes_eq n m) (k + 1) ns) (ap at (omega arith) ∙ are 0)
+    (entry_from at (k + 1) ns vs n (λ i. ap at (omega arith) ∙ are (suc i)))
+
+pub entry_at : {X : Type 0} (ns : List Text) (vs : List X) (n : Text) → option_and_then (slice_get vs) (place_in ns n) ≡ entry (zip ns vs) n
+entry_at ns vs n = sym (entry_from (slice_get vs) 0 ns vs n (λ i. ap (slice_get vs) (zero-add i)))
+
+pub entry_map : {X Y : Type 0} (f : X → Y) (ns : List Text) (vs : List X) (n : Text) → option_map f (entry (zip ns vs) n) ≡ entry (zip ns (map f vs)) n
+entry_map f [] vs n = refl
+entry_map f (m ∷ ns) [] n = refl
+entry_map f (m ∷ ns) (v ∷ vs) n = mapped (bytes_eq n m) (entry_map f ns vs n)
+  where
+    mapped : (b : Bool) → option_map f (entry (zip ns vs) n) ≡ entry (zip ns (map f vs)) n → option_map f (cond b (Some v) (entry (zip ns vs) n)) ≡ cond b (Some (f v)) (entry (zip ns (map f vs)) n)
+    mapped true rest = refl
+    mapped false rest = rest
+
+-- variables
+
+abbrev pub at_place : ℕ → Kind → Placed
+at_place i kind = record { place = i; kind = kind }
+
+placed_entry : (at : ℕ → Option Placed) (k : ℕ) (ns : List Text) (ks : List Kind) (n : Text) → ((i : ℕ) → at (k + i) ≡ option_map (at_place (k + i)) (slice_get ks i))
+    → entry (placed_from k (zip ns ks)) n ≡ option_and_then at (position_from (λ m. bytes_eq n m) k ns)
+placed_entry at k [] ks n are = refl
+placed_entry at k (m ∷ ns) [] n are = nothing_from at k (λ m. bytes_eq n m) (m ∷ ns) are
+placed_entry at k (m ∷ ns) (kind ∷ ks) n are =
+    chosen at (bytes_eq n m) k (at_place k kind) (entry (placed_from (suc k) (zip ns ks)) n) (position_from (λ m. bytes_eq n m) (k + 1) ns)
+    (subst (λ j. at j ≡ Some (at_place j kind)) (add-zero k) (are 0))
+    (ap (λ j. entry (placed_from j (zip ns ks)) n) (sym (add-one k)) ∙ placed_entry at (k + 1) ns ks n (λ i. subst (λ j. at j ≡ option_map (at_place j) (slice_get ks i)) (moved i) (are (suc i))))
+  where
+    moved : (i : ℕ) → k + suc i ≡ k + 1 + i
+    moved i = omega arith
+
+pub variable_at : (ns : List Text) (ks : List Kind) (n : Text) → option_and_then (λ i. option_map (at_place i) (slice_get ks i)) (place_in ns n) ≡ entry (placed (zip ns ks)) n
+variable_at ns ks n = sym (placed_entry (λ i. option_map (at_place i) (slice_get ks i)) 0 ns ks n (λ i. ap (λ j. option_map (at_place (0 + i)) (slice_get ks j)) (zero-add i)))
 
 pub copied_map : {X Y : Type 0} (f : X → Y) (r : Option (Bor X)) → option_map (λ x. f x.now) r ≡ option_map f (option_copied r)
 copied_map f None = refl

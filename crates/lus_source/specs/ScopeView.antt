@@ -1,9 +1,8 @@
--- The tables that the code holds, as lists of entries, and what a fault tells.
-use Rattle.std.specs.Prelude.{List, map, string_bytes, String}
-use Rattle.std.specs.Global.{Global}
+-- What the code holds of a scope, as tables, and what a fault tells.
+use Rattle.std.specs.Prelude.{map}
+use Rattle.std.specs.List.{zip}
 use Rattle.lus_syntax.specs.declared.refusal.RefusalNumber.{RefusalNumber}
 use Rattle.lus_syntax.specs.declared.refusal.RefusalNumber.TheVariants as numbers
-use Rattle.lus_syntax.specs.Lexemes.{Text}
 use Rattle.lus_values.specs.View.{value_of}
 use Rattle.lus_program.specs.View.{declared_of}
 use Rattle.lus_source.specs.declared.fault.Fault.{Fault}
@@ -11,6 +10,7 @@ use Rattle.lus_source.specs.declared.fault.Fault.TheVariants as faults
 use Rattle.lus_source.specs.declared.scope.Scope.{Scope as StoredScope}
 use Rattle.lus_source.specs.declared.entries.Signature.{Signature as StoredSignature}
 use Rattle.lus_source.specs.Scopes.{Scope, Signature}
+use Rattle.lus_source.specs.Tables.{placed}
 
 -- a fault at a place comes only where the fact holds
 abbrev pub Faulty : Type 0 → Fault → Type 0
@@ -25,16 +25,13 @@ number_of n (faults.At place) = n
 abbrev pub signature_of : StoredSignature → Signature
 signature_of g = record { place = g.place; kind = g.kind; inputs = g.inputs.items; outputs = g.outputs.items }
 
--- entries by the bytes of their names
-abbrev pub entries_of : {X Y : Type 0} → (X → Y) → List (String Global × X) → List (Text × Y)
-entries_of f es = map (λ e. (string_bytes e.0, f e.1)) es
-
+-- each name with what stands at its place
 abbrev pub scope_of : StoredScope → Scope
 scope_of s = record {
-  variables = entries_of (λ x. x) s.variables.entries;
-  constants = entries_of value_of s.constants.entries;
-  constructors = entries_of (λ x. x) s.constructors.entries;
-  types = entries_of (λ x. x) s.types.entries;
+  variables = placed (zip s.variables s.variable_kinds.items);
+  constants = zip s.names.now.constants (map value_of s.constants.items);
+  constructors = zip s.names.now.constructors s.constructors.items;
+  types = zip s.names.now.types s.types.items;
   declared = map declared_of s.declared.items;
-  nodes = entries_of signature_of s.nodes.entries;
+  nodes = zip s.names.now.nodes (map signature_of s.nodes.items);
 }

@@ -4,9 +4,11 @@
 mod counted;
 mod entries;
 mod fault;
+mod places;
 mod scope;
 
 pub use counted::Counted;
 pub use entries::{Constructor, Placed, Signature};
 pub use fault::Fault;
+pub use places::{Places, Spaces, find};
 pub use scope::{Scope, field};

@@ -7,25 +7,27 @@ ghost use Rattle.lus_program.specs.View.{declared_of, field_of};
 ghost use Rattle.lus_source.specs.Types.{field_named, has_few_fields};
 
 use crate::entries::{Constructor, Placed, Signature};
-use indexmap::IndexMap;
+use crate::places::{Places, Spaces, at, find};
 use lus_program::{Declared, Field, Kind};
 use lus_values::{Memory, Value, copy};
 use std::alloc::Global;
 
-/// The variables of a node, and the constants, constructors, types and nodes of its source; `declared` says what each
-/// type's declaration declares.
+/// The variables of a node with their types, and what the names of its source stand for, each at its name's place:
+/// the values of constants, constructors, types, and the heads of nodes. `declared` says what each type's declaration declares.
 #[derive(Drop)]
-pub struct Scope {
-    pub variables: IndexMap<String, Placed>,
-    pub constants: IndexMap<String, Value>,
-    pub constructors: IndexMap<String, Constructor>,
-    pub types: IndexMap<String, Kind>,
+pub struct Scope<'a> {
+    pub variables: Places,
+    pub variable_kinds: Vec<Kind>,
+    pub names: &'a Spaces,
+    pub constants: Vec<Value>,
+    pub constructors: Vec<Constructor>,
+    pub types: Vec<Kind>,
     pub declared: Vec<Declared>,
-    pub nodes: IndexMap<String, Signature>,
+    pub nodes: Vec<Signature>,
     ghost few_fields: { IsTrue (list_all has_few_fields (map declared_of declared.items)) },
 }
 
-impl Scope {
+impl<'a> Scope<'a> {
     ghost use Rattle.std.specs.Prelude.{◌≡◌, ◌≤◌, IfOk, length, map, option_map};
     ghost use Rattle.lus_values.specs.View.{value_of};
     ghost use Rattle.lus_program.specs.View.{field_of};
@@ -36,31 +38,37 @@ impl Scope {
     pub fn variable(&self, name: &str) -> Option<Placed>
         ensures { result ≡ entry (scope_of self.now).variables name.now }
     {
-        self.variables.get(name).copied()
+        match self.variables.place(name) {
+            Some(place) => match at(&self.variable_kinds, place as usize).copied() {
+                Some(kind) => Some(Placed { place, kind }),
+                None => None,
+            },
+            None => None,
+        }
     }
 
     pub fn constant(&self, name: &str) -> Option<&Value>
         ensures { option_map (λ v. value_of v.now) result ≡ entry (scope_of self.now).constants name.now }
     {
-        self.constants.get(name)
+        find(&self.names.constants, &self.constants, name)
     }
 
     pub fn constructor(&self, name: &str) -> Option<Constructor>
         ensures { result ≡ entry (scope_of self.now).constructors name.now }
     {
-        self.constructors.get(name).copied()
+        find(&self.names.constructors, &self.constructors, name).copied()
     }
 
     pub fn kind(&self, name: &str) -> Option<Kind>
         ensures { result ≡ entry (scope_of self.now).types name.now }
     {
-        self.types.get(name).copied()
+        find(&self.names.types, &self.types, name).copied()
     }
 
     pub fn node(&self, name: &str) -> Option<&Signature>
         ensures { option_map (λ g. signature_of g.now) result ≡ entry (scope_of self.now).nodes name.now }
     {
-        self.nodes.get(name)
+        find(&self.names.nodes, &self.nodes, name)
     }
 
     /// The value that a constant or a constructor stands for.

@@ -17,30 +17,20 @@ use Rattle.lus_program.specs.declared.types.Kind.TheVariants as kinds
 use Rattle.lus_program.specs.Programs.{Variable, Equation, Node, calls}
 use Rattle.lus_source.specs.declared.entries.Placed.{Placed}
 use Rattle.lus_source.specs.Scopes.{Scope, entry}
-use Rattle.lus_source.specs.Tables.{text_of, numbered_from, each_of, group_kinds, groups, kind_named, scope}
+use Rattle.lus_source.specs.Tables.{text_of, group_kinds, groups, kind_named, placed_from, scope}
 use Rattle.lus_typing.specs.Kinds.{count}
 use Rattle.lus_source.specs.Types.{variable_kind}
 use Rattle.lus_source.specs.Named.{is_in, known, names_in, defined_names, left_names, NodeNamed}
 use Rattle.lus_source.specs.WellTyped.{left_kinds}
 use Rattle.lus_source.specs.Meaning.{variable_place, meant, equations_meant, node_meant, program_of}
 use Rattle.lus_typing.specs.Resolved.{kind_of_variable, targets_of, IsDefined}
+use Rattle.lus_declarations.proofs.Placing.{names-kinds_by}
 use Rattle.lus_types.proofs.Scoped.{variable_kinds, variable_at, scope_agrees}
 use Rattle.lus_types.proofs.KindsMeant.{variable_is}
 use Rattle.lus_types.proofs.Texts.{same_text, text_self}
 use Rattle.lus_types.proofs.Places.{list_all_each, in_right, all_in, in_first, in_last, AreApart, are_apart, apart_parts, one_place, text_count, count_none, count_one}
 
 -- a known name has an entry
-texts_of : (ns : List tree.Named) (k : Kind) → map (λ (e : Text × Kind). e.0) (each_of ns k) ≡ map text_of ns
-texts_of [] k = refl
-texts_of (n ∷ ns) k = ap (λ ts. n.text ∷ ts) (texts_of ns k)
-
-pub names_are : (p : Tree) (gs : List Group) → map (λ (e : Text × Kind). e.0) (group_kinds p gs) ≡ names_in gs
-names_are p [] = refl
-names_are p (g ∷ gs) =
-    map-append (λ (e : Text × Kind). e.0) (each_of g.names (kind_named p g.type_name)) (group_kinds p gs) ∙ ap₂ ◌++◌ (texts_of g.names (kind_named p g.type_name)) (names_are p gs)
-
-abbrev places_from : ℕ → List (Text × Kind) → List (Text × Placed)
-places_from n xs = map (λ (e : (Text × Kind) × ℕ). (e.0.0, record { place = e.1; kind = e.0.1 })) (numbered_from n xs)
 
 abbrev Entered : List (Text × Placed) → Text → Type 0
 Entered xs t = (x : Placed) × (entry xs t ≡ Some x)
@@ -49,9 +39,9 @@ entered_or : (x : Placed) (t : Text) (rest : Option Placed) (b c : Bool) → (c 
 entered_or x t rest true c h k = (x, refl)
 entered_or x t rest false c h k = h k
 
-entered : (n : ℕ) (xs : List (Text × Kind)) (t : Text) → is_in (map (λ (e : Text × Kind). e.0) xs) t ≡ true → Entered (places_from n xs) t
+entered : (n : ℕ) (xs : List (Text × Kind)) (t : Text) → is_in (map (λ (e : Text × Kind). e.0) xs) t ≡ true → Entered (placed_from n xs) t
 entered n [] t h = cc
-entered n (x ∷ xs) t h = entered_or (record { place = n; kind = x.1 }) t (entry (places_from (suc n) xs) t) (bytes_eq t x.0) (is_in (map (λ (e : Text × Kind). e.0) xs) t) (entered (suc n) xs t) h
+entered n (x ∷ xs) t h = entered_or (record { place = n; kind = x.1 }) t (entry (placed_from (suc n) xs) t) (bytes_eq t x.0) (is_in (map (λ (e : Text × Kind). e.0) xs) t) (entered (suc n) xs t) h
 
 place_of_some : (o : Option Placed) (x : Placed) → o ≡ Some x → elim o [ Some y ↦ y.place | None ↦ 0 ] ≡ x.place
 place_of_some None x h = cc
@@ -77,7 +67,7 @@ module _ (p : Tree) (f : tree.Node) (named : NodeNamed (known p (groups f)) f) w
   pub left_entry : (t : Text) → IsLeft t → Entered s.variables t
   left_entry t h =
       let known_name : is_in names t ≡ true = subst (λ ns. is_in ns t ≡ true) (sym names_apart) (in_right (names_in f.inputs) (defined_names f) t h) in
-      entered 0 (group_kinds p (groups f)) t (subst (λ ns. is_in ns t ≡ true) (sym (names_are p (groups f))) known_name)
+      entered 0 (group_kinds p (groups f)) t (subst (λ ns. is_in ns t ≡ true) (sym (names-kinds_by (kind_named p) (groups f))) known_name)
 
   -- the name of a left name's place is that name
   pub name_at : (t : Text) → IsLeft t → slice_get names (variable_place s t) ≡ Some t
@@ -86,7 +76,7 @@ module _ (p : Tree) (f : tree.Node) (named : NodeNamed (known p (groups f)) f) w
       let a = variable_at p f t e.0 e.1 in
       let place : variable_place s t ≡ a.place = place_of_some (entry s.variables t) e.0 e.1 ∙ ap (λ y. y.place) a.is ∙ omega arith in
       ap (slice_get names) place
-      ∙ ap (λ ns. slice_get ns a.place) (sym (names_are p (groups f)))
+      ∙ ap (λ ns. slice_get ns a.place) (sym (names-kinds_by (kind_named p) (groups f)))
       ∙ slice_get-map (λ (e : Text × Kind). e.0) (group_kinds p (groups f)) a.place
       ∙ ap (option_map (λ (e : Text × Kind). e.0)) a.here
       ∙ ap Some (sym (same_text t a.thing.0 a.name_is))
@@ -97,7 +87,7 @@ module _ (p : Tree) (f : tree.Node) (named : NodeNamed (known p (groups f)) f) w
       ∙ ap length (variable_kinds p s (groups f))
       ∙ length-map (group_kinds p (groups f)) (λ (e : Text × Kind). e.1)
       ∙ sym (length-map (group_kinds p (groups f)) (λ (e : Text × Kind). e.0))
-      ∙ ap length (names_are p (groups f))
+      ∙ ap length (names-kinds_by (kind_named p) (groups f))
 
   pub left_within : (t : Text) → IsLeft t → variable_place s t < length g.variables
   left_within t h = let lt = slice_get_within names (variable_place s t) t (name_at t h) in omega (arith, lt, name_count)
@@ -164,7 +154,7 @@ module _ (p : Tree) (f : tree.Node) (named : NodeNamed (known p (groups f)) f) w
     at_apart = subst (λ ns. slice_get ns x ≡ Some t) names_apart here
 
     input_count : length (names_in f.inputs) ≡ g.inputs
-    input_count = ap length (sym (names_are p f.inputs)) ∙ length-map (group_kinds p f.inputs) (λ (e : Text × Kind). e.0)
+    input_count = ap length (sym (names-kinds_by (kind_named p) f.inputs)) ∙ length-map (group_kinds p f.inputs) (λ (e : Text × Kind). e.0)
 
     defined_or : (b : Bool) → nat_lt x g.inputs ≡ b → text_count t (left_names f) ≡ elim b [ true ↦ 0 | false ↦ 1 ]
     defined_or true h =

@@ -8,7 +8,6 @@ use Rattle.lus_syntax.specs.Lexemes.{Text}
 use Rattle.lus_values.proofs.Equalities.{and_left, and_right}
 use Rattle.lus_source.specs.Named.{is_in, all_new}
 use Rattle.lus_source.proofs.AppendedNames.{is_in-append}
-use Rattle.lus_declarations.proofs.TableRows.{or_first, or_second}
 use Rattle.lus_types.proofs.Texts.{same_text, text_self}
 
 pub list_all_each : {X : Type 0} (test : X → Bool) (xs : List X) → list_all test xs ≡ true → Each (λ x. test x ≡ true) xs
@@ -22,6 +21,14 @@ or_right false b h = h
 or_left : (a b : Bool) → a ≡ true → (a || b) ≡ true
 or_left true b h = refl
 or_left false b h = cc
+
+or_first : (a b : Bool) → (a || b) ≡ false → a ≡ false
+or_first true b h = cc
+or_first false b h = refl
+
+or_second : (a b : Bool) → (a || b) ≡ false → b ≡ false
+or_second true b h = cc
+or_second false b h = h
 
 or_false : (a b : Bool) → a ≡ false → b ≡ false → (a || b) ≡ false
 or_false true b h k = h

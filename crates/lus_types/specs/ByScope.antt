@@ -2,14 +2,13 @@
 use Rattle.std.specs.Prelude.{Bool, true, List, Some, None, flat_map, map, option_map}
 use Rattle.std.specs.List.{list_all}
 use Rattle.lus_syntax.specs.Trees.{Named, Constant, Group, Node as SourceNode}
-use Rattle.lus_values.specs.Lists.{Each}
 use Rattle.lus_program.specs.Programs.{Node, Variable}
 use Rattle.lus_source.specs.Scopes.{Scope}
 use Rattle.lus_source.specs.Sized.{variable_count}
 use Rattle.lus_source.specs.Tables.{groups, value_in}
 use Rattle.lus_source.specs.Meaning.{equations_meant, test_meant}
-use Rattle.lus_source.specs.WellTyped.{IsTypedIn, test_typed, value_is}
-use Rattle.lus_declarations.specs.ByTable.{entered, kind_in, saturated}
+use Rattle.lus_source.specs.WellTyped.{test_typed, value_is}
+use Rattle.lus_declarations.specs.ByTable.{kind_in}
 
 -- a constant with a declared type has that type
 abbrev pub constant_fits : Scope → Constant → Bool
@@ -32,16 +31,8 @@ abbrev pub node_in : Scope → SourceNode → Node
 node_in s f = record {
   kind = f.kind;
   name = f.name.text;
-  inputs = saturated (variable_count f.inputs);
-  outputs = saturated (variable_count f.outputs);
+  inputs = variable_count f.inputs;
+  outputs = variable_count f.outputs;
   variables = flat_map (variables_in s) (groups f);
   equations = equations_meant s 0 f.equations;
 }
-
--- nodes, each with its own variables
-
-abbrev pub nodes_in : Scope → List SourceNode → List Node
-nodes_in s fs = map (λ f. node_in (entered s f) f) fs
-
-abbrev pub AreTypedIn : Scope → List SourceNode → Type 0
-AreTypedIn s fs = Each (λ f. IsTypedIn (entered s f) f) fs

@@ -28,8 +28,12 @@ fn is_typed(scope: &Scope, constant: &Constant) -> bool
     let Some(name) = &constant.type_name else {
         return true;
     };
-    match value_kind(&literal(&scope.constructors, &constant.value)) {
-        Some(kind) => same(kind, kind_of_name(&scope.types, name)),
+    match value_kind(&literal(
+        &scope.names.constructors,
+        &scope.constructors,
+        &constant.value,
+    )) {
+        Some(kind) => same(kind, kind_of_name(&scope.names.types, &scope.types, name)),
         None => false,
     }
 }

@@ -1,7 +1,8 @@
 //! Nodes: the tests of their variables and their equations are well typed, and a function keeps no memory.
 
-ghost use Rattle.std.specs.Prelude.{◌≡◌, ◌+◌, ◌++◌, IfOk, IfErr, OnOk, flat_map, is_none, length, map, option_map, true, false};
+ghost use Rattle.std.specs.Prelude.{◌≡◌, ◌≤◌, ◌+◌, ◌++◌, IfOk, IfErr, OnOk, flat_map, is_none, length, map, option_map, true, false};
 ghost use Rattle.std.specs.List.{list_all};
+ghost use Rattle.lus_syntax.specs.Limits.{most_variables};
 ghost use Rattle.lus_syntax.specs.View.{equation_seen, group_seen, node_seen, test_seen};
 ghost use Rattle.lus_program.specs.View.{equations_from, node_of, variable_of};
 ghost use Rattle.lus_source.specs.Tables.{groups};
@@ -9,10 +10,9 @@ ghost use Rattle.lus_source.specs.Sized.{variable_count};
 ghost use Rattle.lus_source.specs.Meaning.{equations_meant, test_meant};
 ghost use Rattle.lus_source.specs.WellTyped.{IsTypedIn, equation_typed, is_pure, memory_fits, test_typed};
 ghost use Rattle.lus_source.specs.ScopeView.{scope_of, Faulty};
-ghost use Rattle.lus_declarations.specs.ByTable.{saturated};
 ghost use Rattle.lus_types.specs.ByScope.{node_in, tests_typed, variables_in};
 
-use lus_declarations::{kind_of_name, saturated as stored};
+use lus_declarations::kind_of_name;
 use lus_elaboration::{clock_variable, equation, memory, test_placed};
 use lus_program::{Equation, Node, Test, Variable};
 use lus_source::{Fault, Scope};
@@ -44,7 +44,7 @@ fn push_group(scope: &Scope, group: &Group, variables: &mut Vec<Variable>) -> Re
     ensures refused { IfErr result (Faulty (test_typed (scope_of scope.now) (group_seen group.now).test ≡ false)) }
 {
     let test = group_test(scope, &group.test)?;
-    let kind = kind_of_name(&scope.types, &group.type_name);
+    let kind = kind_of_name(&scope.names.types, &scope.types, &group.type_name);
     for name in &group.names {
         variables.push(Variable {
             name: name.text.clone()?,
@@ -80,10 +80,11 @@ struct Variables {
 
 /// The variables of a node.
 fn node_variables(alloc: Global, scope: &Scope, source: &SourceNode) -> Result<Variables, Fault>
+    requires few { variable_count (groups (node_seen source.now)) ≤ most_variables }
     ensures meant { let meant = flat_map (variables_in (scope_of scope.now)) (groups (node_seen source.now)) in
         IfOk result (λ v. map variable_of v.all.items ≡ meant) }
-    ensures inputs { IfOk result (λ v. v.inputs ≡ saturated (variable_count (node_seen source.now).inputs)) }
-    ensures outputs { IfOk result (λ v. v.outputs ≡ saturated (variable_count (node_seen source.now).outputs)) }
+    ensures inputs { IfOk result (λ v. v.inputs ≡ variable_count (node_seen source.now).inputs) }
+    ensures outputs { IfOk result (λ v. v.outputs ≡ variable_count (node_seen source.now).outputs) }
     ensures typed { OnOk result (tests_typed (scope_of scope.now) (groups (node_seen source.now)) ≡ true) }
     ensures refused { IfErr result (Faulty (tests_typed (scope_of scope.now) (groups (node_seen source.now)) ≡ false)) }
 {
@@ -95,8 +96,8 @@ fn node_variables(alloc: Global, scope: &Scope, source: &SourceNode) -> Result<V
     push_groups(scope, &source.locals, &mut all)?;
     Ok(Variables {
         all,
-        inputs: stored(inputs),
-        outputs: stored(outputs),
+        inputs: inputs as u32,
+        outputs: outputs as u32,
     })
 }
 
@@ -145,6 +146,7 @@ fn check_memory(scope: &Scope, kind: NodeKind, sources: &[SourceEquation]) -> Re
 
 /// A node, as the program has it, where it is well typed.
 pub fn node(alloc: Global, scope: &Scope, source: &SourceNode) -> Result<Node, Fault>
+    requires few { variable_count (groups (node_seen source.now)) ≤ most_variables }
     ensures meant { IfOk result (λ n. node_of n ≡ node_in (scope_of scope.now) (node_seen source.now)) }
     ensures typed { OnOk result (IsTypedIn (scope_of scope.now) (node_seen source.now)) }
     ensures refused { IfErr result (Faulty (IsTypedIn (scope_of scope.now) (node_seen source.now) → ⊥)) }

@@ -4,14 +4,15 @@ ghost use Rattle.std.specs.Prelude.{◌≡◌, ◌≤◌, IfErr, IfOk, OnOk, map
 ghost use Rattle.lus_syntax.specs.declared.refusal.RefusalNumber.TheVariants as numbers;
 ghost use Rattle.lus_syntax.specs.Limits.{most_parts};
 ghost use Rattle.lus_syntax.specs.Refusals.{HasShape};
-ghost use Rattle.lus_syntax.specs.View.{node_seen, tree_seen};
+ghost use Rattle.lus_syntax.specs.View.{tree_seen};
 ghost use Rattle.lus_program.specs.Parts.{program_parts};
 ghost use Rattle.lus_program.specs.View.{node_of, program_seen};
-ghost use Rattle.lus_source.specs.Meaning.{program_of};
+ghost use Rattle.lus_values.specs.Lists.{Each};
+ghost use Rattle.lus_source.specs.Meaning.{node_meant, program_of};
+ghost use Rattle.lus_source.specs.Tables.{tables as tables_of};
 ghost use Rattle.lus_typing.specs.Refusals.{RefusesFor};
-ghost use Rattle.lus_source.specs.WellTyped.{IsTyped};
+ghost use Rattle.lus_source.specs.WellTyped.{IsTyped, NodeTyped};
 ghost use Rattle.lus_source.specs.ScopeView.{Faulty, scope_of};
-ghost use Rattle.lus_types.specs.ByScope.{AreTypedIn, nodes_in};
 
 use crate::constants::check_constants;
 use crate::nodes::node;
@@ -19,7 +20,7 @@ use crate::parts::check_parts;
 use lus_declarations::{Loopless, enter, tables};
 use lus_program::{Node, Program};
 use lus_source::{Fault, Scope};
-use lus_syntax::{Node as SourceNode, Refusal, RefusalNumber};
+use lus_syntax::{Refusal, RefusalNumber};
 use std::alloc::Global;
 
 /// Checks types, and gives the program that the source means.
@@ -53,10 +54,9 @@ fn program(alloc: Global, loopless: &Loopless) -> Result<Program, Fault>
     ensures means { IfOk result (λ q. program_seen q ≡ program_of (tree_seen loopless.now)) }
     ensures refused { IfErr result (Faulty (IsTyped (tree_seen loopless.now) → ⊥)) }
 {
-    let tree = loopless.tree();
     let mut scope = tables(alloc, loopless)?;
-    check_constants(&scope, &tree.constants)?;
-    let nodes = nodes(alloc, &mut scope, &tree.nodes)?;
+    check_constants(&scope, &loopless.tree().constants)?;
+    let nodes = nodes(alloc, &mut scope, loopless)?;
     Ok(Program {
         types: scope.declared,
         nodes,
@@ -64,12 +64,14 @@ fn program(alloc: Global, loopless: &Loopless) -> Result<Program, Fault>
 }
 
 /// Nodes, each by its own variables.
-fn nodes(alloc: Global, scope: &mut Scope, sources: &[SourceNode]) -> Result<Vec<Node>, Fault>
-    ensures typed { OnOk result (AreTypedIn (scope_of scope.old) (map node_seen sources.now)) }
-    ensures meant { IfOk result (λ ns. map node_of ns.items ≡ nodes_in (scope_of scope.old) (map node_seen sources.now)) }
-    ensures declared { OnOk result ((scope_of scope.new).declared ≡ (scope_of scope.old).declared) }
-    ensures refused { IfErr result (Faulty (AreTypedIn (scope_of scope.old) (map node_seen sources.now) → ⊥)) }
+fn nodes(alloc: Global, scope: &mut Scope, loopless: &Loopless) -> Result<Vec<Node>, Fault>
+    requires scoped { scope_of scope.old ≡ tables_of (tree_seen loopless.now) }
+    ensures typed { let p = tree_seen loopless.now in OnOk result (Each (NodeTyped p) p.nodes) }
+    ensures meant { let p = tree_seen loopless.now in IfOk result (λ ns. map node_of ns.items ≡ map (node_meant p) p.nodes) }
+    ensures declared { OnOk result ((scope_of scope.new).declared ≡ (tables_of (tree_seen loopless.now)).declared) }
+    ensures refused { let p = tree_seen loopless.now in IfErr result (Faulty (Each (NodeTyped p) p.nodes → ⊥)) }
 {
+    let sources = loopless.tree().nodes.as_slice();
     let mut nodes = Vec::with_capacity(alloc, sources.len())?;
     for source in sources {
         enter(alloc, scope, source)?;

@@ -1,33 +1,45 @@
--- The names of types and nodes are as many as these.
-use Rattle.std.proofs.Common.{arith, ◌≡◌, ◌≤◌, ◌∙◌, sym, ap, length, map, List, String, Global}
+-- The names of each space are few, and those of the source.
+use Rattle.std.proofs.Common.{arith, ◌≡◌, ◌≤◌, ◌∙◌, ◌*◌, sym, ap, length, length-append, map, List, [], ◌∷◌, String, Global}
 use Rattle.std.specs.Prelude.{string_bytes}
 use Rattle.std.proofs.lemmas.List.{length-map}
 use Rattle.lus_syntax.specs.Lexemes.{Text}
+use Rattle.lus_syntax.specs.Trees.{Definition, Alias, Enumeration, StructureOf, TypeDeclaration}
 use Rattle.lus_syntax.specs.View.{tree_seen}
-use Rattle.lus_source.specs.Named.{Known}
-use Rattle.lus_declarations.specs.Sources.{HasNames}
+use Rattle.lus_values.specs.Lists.{Each}
+use Rattle.lus_source.specs.Named.{Known, all_constructor_names, constructor_names}
+use Rattle.lus_source.specs.Sized.{DefinitionCounted}
+use Rattle.lus_source.specs.Tables.{text_of}
 use Rattle.lus_declarations.proofs.named.check_names.Goals as goal
 
-few : {X : Type 0} (keys : List (String Global)) (name : X → Text) (xs : List X) → map string_bytes keys ≡ map name xs → length xs ≤ 1000 → length keys ≤ 1000
-few keys name xs same within = omega (arith, sym (length-map keys string_bytes) ∙ ap length same ∙ length-map xs name, within)
+few : (keys : List (String Global)) (names : List Text) → map string_bytes keys ≡ names → length names ≤ 256000 → length keys ≤ 4294967295
+few keys names same within = omega (arith, sym (length-map keys string_bytes) ∙ ap length same, within)
 
-pub invariant_of-types : goal.invariant_of-types
-invariant_of-types c =
-    few c.in-Ok.names.types.keys (λ d. d.name.text) (tree_seen c.tree.result.now).types (ap (λ (k : Known). k.types) c.in-Ok.ensures.tables) c.tree.ensures.counted.types
+few_own : (d : Definition) → DefinitionCounted d → length (constructor_names d) ≤ 256
+few_own (Alias y) h = omega arith
+few_own (Enumeration cs) h = omega (arith, h, length-map cs text_of)
+few_own (StructureOf fs) h = omega arith
 
-pub invariant_of-nodes : goal.invariant_of-nodes
-invariant_of-nodes c =
-    few c.in-Ok.names.nodes.keys (λ f. f.name.text) (tree_seen c.tree.result.now).nodes (ap (λ (k : Known). k.nodes) c.in-Ok.ensures.tables) c.tree.ensures.counted.nodes
+few_constructors : (ds : List TypeDeclaration) → Each (λ d. DefinitionCounted d.definition) ds → length (all_constructor_names ds) ≤ length ds * 256
+few_constructors [] h = omega arith
+few_constructors (d ∷ ds) h = omega (arith, few_own d.definition h.0, few_constructors ds h.1, length-append (constructor_names d.definition) (all_constructor_names ds))
 
-pub invariant_of-result : goal.invariant_of-result
-invariant_of-result c =
-    let has : HasNames (tree_seen c.tree.result.now) (map string_bytes c.in-Ok.names.types.keys) (map string_bytes c.in-Ok.names.nodes.keys) = record {
-      counted = c.tree.ensures.counted;
-      named = c.in-Ok.ensures.named;
-      types = ap (λ (k : Known). k.types) c.in-Ok.ensures.tables;
-      nodes = ap (λ (k : Known). k.nodes) c.in-Ok.ensures.tables;
-    } in
-    rw (← c.tree.ensures.same) has
+pub new-requires-2 : goal.new-requires-2
+new-requires-2 c =
+    let p = tree_seen c.tree.result.now in
+    let count = length-map p.constants (λ k. k.name.text) in
+    record { few = few c.in-Ok.names.constants.keys (map (λ k. k.name.text) p.constants) (ap (λ (k : Known). k.constants) c.in-Ok.ensures.tables) (omega (arith, c.tree.ensures.counted.constants, count)) }
+
+pub new-requires-3 : goal.new-requires-3
+new-requires-3 c =
+    let p = tree_seen c.tree.result.now in
+    let count = few_constructors p.types c.tree.ensures.counted.definitions in
+    record { few = few c.in-Ok.names.constructors.keys (all_constructor_names p.types) (ap (λ (k : Known). k.constructors) c.in-Ok.ensures.tables) (omega (arith, c.tree.ensures.counted.types, count)) }
+
+pub new-requires-4 : goal.new-requires-4
+new-requires-4 c =
+    let p = tree_seen c.tree.result.now in
+    let count = length-map p.nodes (λ f. f.name.text) in
+    record { few = few c.in-Ok.names.nodes.keys (map (λ f. f.name.text) p.nodes) (ap (λ (k : Known). k.nodes) c.in-Ok.ensures.tables) (omega (arith, c.tree.ensures.counted.nodes, count)) }
 
 pub returns-in-Err-clause-shaped : goal.returns-in-Err-clause-shaped
 returns-in-Err-clause-shaped c = c.refusal.ensures.shaped (λ same. cc)

@@ -1,47 +1,56 @@
-use Rattle.std.proofs.Common.{◌≡◌, ◌∙◌, List, IsTrue, ap, map, subst, sym}
-use Rattle.std.specs.List.{list_all}
-use Rattle.lus_syntax.specs.declared.tree.Tree.{Tree as StoredTree}
-use Rattle.lus_syntax.specs.declared.tree.TypeDeclaration.{TypeDeclaration}
-use Rattle.lus_syntax.specs.View.{tree_seen, type_seen}
+-- Each table is the names of its space with what was found for each.
+use Rattle.std.proofs.Common.{◌≡◌, ◌∙◌, List, [], IsTrue, ap, map, subst, sym, length, zero-add}
+use Rattle.std.specs.Prelude.{string_bytes}
+use Rattle.std.specs.List.{list_all, zip}
+use Rattle.lus_syntax.specs.Lexemes.{Text}
+use Rattle.lus_syntax.specs.View.{tree_seen}
+use Rattle.lus_values.specs.Lists.{item}
 use Rattle.lus_values.specs.View.{value_of}
+use Rattle.lus_values.proofs.Lists.{below_at}
+use Rattle.lus_program.specs.declared.types.Kind.TheVariants as kinds
 use Rattle.lus_program.specs.Programs.{Declared}
 use Rattle.lus_program.specs.View.{declared_of}
-use Rattle.lus_source.specs.Scopes.{Scope}
-use Rattle.lus_source.specs.ScopeView.{entries_of, signature_of}
+use Rattle.lus_source.specs.Named.{Known, known}
+use Rattle.lus_source.specs.ScopeView.{signature_of}
 use Rattle.lus_source.specs.Sized.{Counted}
-use Rattle.lus_source.specs.Tables.{all_declared_by}
+use Rattle.lus_source.specs.Tables.{all_constructors, all_declared_by, constants_by, kind_at, placed, signature_by, signatures_by, types_by, value_in}
 use Rattle.lus_source.specs.Types.{has_few_fields}
-use Rattle.lus_declarations.specs.ByTable.{kind_told, told}
+use Rattle.lus_declarations.specs.ByTable.{kind_told}
+use Rattle.lus_declarations.specs.NameView.{spaces_seen}
 use Rattle.lus_declarations.proofs.OfSource.{all_have_few, made_of_source}
+use Rattle.lus_declarations.proofs.Placing.{kinds_listed, names-all_constructors, names-numbered, names-rows, whole}
 use Rattle.lus_declarations.proofs.scopes.tables.Goals as goal
 
 pub invariant_of-result : goal.invariant_of-result
 invariant_of-result c =
     let p = tree_seen c.args.loopless.now in
-    let kind = kind_told c.in_ok-types.types.entries in
-    let counted : Counted p = rw (← c.tree.ensures.same) c.tree.ensures.counted in
+    let kind = kind_told c.names-names.result.now.types c.in_ok-types.types.items in
+    let counted : Counted p = rw (c.tree.ensures.same, c.named-named.ensures.same) at c.tree.ensures.counted in
     let declared : map declared_of c.in_ok-declared.declared.items ≡ all_declared_by kind p.types =
-    c.in_ok-declared.ensures ∙ ap (λ (l : List TypeDeclaration). all_declared_by kind (map type_seen l)) c.deref.ensures.value ∙ ap (λ (t : StoredTree). all_declared_by kind (tree_seen t).types) c.tree.ensures.same in
+    rw (c.deref.ensures.value, c.deref-2.ensures.value, c.tree.ensures.same, c.named-named.ensures.same) at c.in_ok-declared.ensures in
     record { few_fields = subst (λ (l : List Declared). IsTrue (list_all has_few_fields l)) (sym declared) (all_have_few kind p.types counted.definitions) }
 
 pub returns : goal.returns
 returns c =
     let p = tree_seen c.args.loopless.now in
-    let kind = kind_told c.in_ok-types.types.entries in
-    let s : Scope
-    = record {
-      variables = told c.new.result.entries;
-      constants = entries_of value_of c.in_ok-constants.constants.entries;
-      constructors = told c.in_ok-constructors.constructors.entries;
-      types = told c.in_ok-types.types.entries;
-      declared = map declared_of c.in_ok-declared.declared.items;
-      nodes = entries_of signature_of c.in_ok-nodes.nodes.entries;
-    } in
-    made_of_source p s (record {
-      variables = ap (entries_of (λ x. x)) c.new.ensures.empty;
-      types = c.in_ok-types.ensures;
-      declared = c.in_ok-declared.ensures ∙ ap (λ (l : List TypeDeclaration). all_declared_by kind (map type_seen l)) c.deref.ensures.value ∙ ap (λ (t : StoredTree). all_declared_by kind (tree_seen t).types) c.tree.ensures.same;
-      constructors = rw (← c.named-named.ensures.same) c.in_ok-constructors.ensures;
-      constants = rw (← c.named-named.ensures.same) c.in_ok-constants.ensures;
-      nodes = rw (← c.named-named.ensures.same) c.in_ok-nodes.ensures;
+    let ns = c.names-names.result.now in
+    let ks = c.in_ok-types.types.items in
+    let cs = c.in_ok-constructors.constructors.items in
+    let kind = kind_told ns.types ks in
+    let known_constructors = zip ns.constructors cs in
+    let named : spaces_seen ns ≡ known p [] = rw c.named-named.ensures.same at c.names-names.ensures in
+    made_of_source p _ (record {
+      variables = ap (λ (l : List Text). placed (zip l c.new-3.result.items)) (c.new-2.ensures ∙ ap (map string_bytes) c.new.ensures.empty);
+      types =
+          whole (types_by (kind_at p) p.types) ns.types ks (ap (λ (k : Known). k.types) named ∙ sym (names-numbered (λ d. d.name.text) (λ d. kind_at p) 0 p.types))
+          (kinds_listed (kind_at p) p.types ks 0 c.in_ok-types.ensures.size (λ t lt. below_at (λ u. item kinds.Bool ks u ≡ kind_at p u) (length p.types) c.in_ok-types.ensures.each t lt ∙ ap (kind_at p) (sym (zero-add t))));
+      declared = rw (c.deref.ensures.value, c.deref-2.ensures.value, c.tree.ensures.same, c.named-named.ensures.same) at c.in_ok-declared.ensures;
+      constructors = whole (all_constructors p) ns.constructors cs (ap (λ (k : Known). k.constructors) named ∙ sym (names-all_constructors p.types 0)) (rw c.named-named.ensures.same at c.in_ok-constructors.ensures);
+      constants =
+          whole (constants_by known_constructors p.constants) ns.constants (map value_of c.in_ok-constants.constants.items)
+          (ap (λ (k : Known). k.constants) named ∙ sym (names-rows (λ k. k.name.text) (λ k. value_in known_constructors k.value) p.constants))
+          (rw (c.deref-4.ensures.value, c.deref-5.ensures.value, c.tree-2.ensures.same, c.named-named.ensures.same) at c.in_ok-constants.ensures);
+      nodes =
+          whole (signatures_by kind p.nodes) ns.nodes (map signature_of c.in_ok-nodes.nodes.items) (ap (λ (k : Known). k.nodes) named ∙ sym (names-numbered (λ f. f.name.text) (signature_by kind) 0 p.nodes))
+          (rw (c.deref-3.ensures.value, c.named-named.ensures.same) at c.in_ok-nodes.ensures);
     })

@@ -11,5 +11,5 @@ pub returns-in-Some-value_kind : goal.returns-in-Some-value_kind
 returns-in-Some-value_kind c =
     let s = scope_of c.args.scope.now in
     let value = value_in s.constructors (literal_seen c.args.constant.now.value) in
-    let kind = sym (c.in-Some-value_kind.ensures ∙ ap value_kind c.literal.ensures) in
-    rw c.in-Some.is (c.same.ensures ∙ value_is-same value c.in-Some-value_kind.kind c.kind_of_name.result (kind_in s.types (type_name_seen c.in-Some.name)) kind c.kind_of_name.ensures)
+    let kind = sym (c.in-Some-value_kind.ensures ∙ ap value_kind (rw c.deref.ensures.value at c.literal.ensures)) in
+    rw c.in-Some.is (c.same.ensures ∙ value_is-same value c.in-Some-value_kind.kind c.kind_of_name.result (kind_in s.types (type_name_seen c.in-Some.name)) kind (rw c.deref-in-Some-value_kind.ensures.value at c.kind_of_name.ensures))

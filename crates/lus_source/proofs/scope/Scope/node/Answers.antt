@@ -1,7 +1,9 @@
 use Rattle.std.proofs.Common.{◌∙◌, ap, option_map}
 use Rattle.lus_source.specs.ScopeView.{signature_of}
-use Rattle.lus_source.proofs.Lookups.{entry_is, copied_map}
+use Rattle.lus_source.proofs.Lookups.{copied_map, entry_map}
 use Rattle.lus_source.proofs.scope.Scope.node.Goals as goal
 
 pub returns : goal.returns
-returns c = copied_map signature_of c.get.result ∙ ap (option_map signature_of) c.get.ensures.value ∙ entry_is signature_of c.args.name.now c.args.self.now.nodes.entries
+returns c =
+    let s = c.args.self.now in
+    copied_map signature_of c.find.result ∙ ap (option_map signature_of) (rw c.deref.ensures.value at c.find.ensures) ∙ entry_map signature_of s.names.now.nodes s.nodes.items c.args.name.now

@@ -1,7 +1,7 @@
 use Rattle.std.proofs.Common.{◌∙◌, ap, sym}
 use Rattle.lus_source.specs.Loopless.{place_in}
-use Rattle.lus_declarations.proofs.NamePlaces.{place_found}
-use Rattle.lus_declarations.proofs.named.Places.place.Goals as goal
+use Rattle.lus_source.proofs.Lookups.{place_found}
+use Rattle.lus_source.proofs.places.Places.place.Goals as goal
 
 pub returns-in-Some : goal.returns-in-Some
 returns-in-Some c =

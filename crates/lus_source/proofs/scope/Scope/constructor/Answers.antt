@@ -1,6 +1,0 @@
-use Rattle.std.proofs.Common.{◌∙◌}
-use Rattle.lus_source.proofs.Lookups.{plain_entry_is}
-use Rattle.lus_source.proofs.scope.Scope.constructor.Goals as goal
-
-pub returns : goal.returns
-returns c = c.copied.ensures ∙ c.get.ensures.value ∙ plain_entry_is c.args.name.now c.args.self.now.constructors.entries
