@@ -1,9 +1,10 @@
 //! Journals, read line by line.
 
-ghost use Rattle.std.specs.Prelude.{◌≡◌, ◌<◌, ◌^◌, ◌-◌, IfOk, IfErr, Ok, Some, map, option_map};
+ghost use Rattle.std.specs.Prelude.{◌≡◌, ◌<◌, ◌^◌, ◌-◌, IfOk, OnOk, IfErr, Ok, Some, map, option_map};
 ghost use Rattle.lus_diagrams.specs.Journals.{IsFault, IsFaultOf, begun, counted, cut_short, head_of, is_count, is_cut_short, ended, journals_of, next_opened, arity_of, arity_over, arity_with, step, step_within, with_entry};
-ghost use Rattle.lus_diagrams.specs.Accepted.{row_seen};
+ghost use Rattle.lus_diagrams.specs.Accepted.{accepted_rows, row_seen};
 ghost use Rattle.lus_diagrams.specs.JournalView.{journal_seen, reading};
+ghost use Rattle.lus_diagrams.specs.View.{entry_seen};
 
 use crate::accepted::{Row, accepted_rows};
 use crate::cutting::{before_end, cut, parts};
@@ -11,7 +12,8 @@ use crate::entry::{Entry, read_entry};
 use crate::error::JournalError;
 use crate::items::item_count;
 use crate::names::{is_decimal, is_name};
-use std::alloc::Global;
+use std::alloc::{AllocError, Global};
+use std::mem;
 
 /// How many inputs and outputs the accepted instants of an instance have.
 #[derive(Clone, Copy)]
@@ -109,28 +111,39 @@ fn begin<'a>(alloc: Global, number: u64, line: &'a str) -> Result<Journal<'a>, J
     }
 }
 
-/// The journal with the entry of a line.
-fn with_entry<'a>(
+/// The arity of an instance behind an entry of its journal, if the entry's instants fit.
+fn arity_behind(
     alloc: Global,
-    mut journal: Journal<'a>,
+    old: Option<Arity>,
+    entry: &Entry<'_>,
+) -> Result<Option<Option<Arity>>, AllocError>
+    ensures { IfOk result (λ arity. arity ≡ arity_over old (accepted_rows (entry_seen entry.now))) }
+{
+    let rows = accepted_rows(alloc, entry)?;
+    Ok(arity_over(old, &rows))
+}
+
+/// Takes the entry of a line into a journal.
+fn take_entry<'a>(
+    alloc: Global,
+    journal: &mut Journal<'a>,
     number: u64,
     line: &'a str,
-) -> Result<Journal<'a>, JournalError>
-    ensures ok { IfOk result (λ j. with_entry (journal_seen journal.entry) line.now ≡ Some (journal_seen j)) }
-    ensures refused { IfErr result (λ e. IsFault number e (with_entry (journal_seen journal.entry) line.now)) }
+) -> Result<(), JournalError>
+    ensures ok { OnOk result (with_entry (journal_seen journal.old) line.now ≡ Some (journal_seen journal.new)) }
+    ensures refused { IfErr result (λ e. IsFault number e (with_entry (journal_seen journal.old) line.now)) }
 {
     let Some(entry) = read_entry(journal.entries.len() as u64 + 1, line) else {
         return Err(JournalError::Line(number));
     };
-    let rows = accepted_rows(alloc, &entry)?;
-    let Some(arity) = arity_over(journal.arity, &rows) else {
+    let Some(arity) = arity_behind(alloc, journal.arity, &entry)? else {
         return Err(JournalError::Line(number));
     };
     journal.arity = arity;
     journal.is_plain = journal.is_plain && !journal.is_counted;
     journal.is_counted = false;
     journal.entries.push(entry)?;
-    Ok(journal)
+    Ok(())
 }
 
 /// Whether a line is what a crash left of one, with the mark of a run that went on behind it.
@@ -140,105 +153,101 @@ fn is_cut_short(line: &str) -> bool
     before_end(line, "# cut short").is_some()
 }
 
-/// The journal behind a line that a crash cut short.
-fn cut_short(mut journal: Journal<'_>) -> Journal<'_>
-    ensures { journal_seen result ≡ cut_short (journal_seen journal.entry) }
+/// Goes on behind a line that a crash cut short.
+fn pass_cut(journal: &mut Journal<'_>)
+    ensures { journal_seen journal.new ≡ cut_short (journal_seen journal.old) }
 {
     journal.is_counted = false;
     journal.is_plain = false;
-    journal
 }
 
-/// The journal behind the number of its entries.
-fn counted(mut journal: Journal<'_>) -> Journal<'_>
-    ensures { journal_seen result ≡ counted (journal_seen journal.entry) }
+/// Goes on behind the number of a journal's entries.
+fn pass_count(journal: &mut Journal<'_>)
+    ensures { journal_seen journal.new ≡ counted (journal_seen journal.old) }
 {
     journal.is_plain = journal.is_plain && !journal.is_counted;
     journal.is_counted = true;
-    journal
 }
 
 /// Ends a journal, and begins the next one with its first line.
 fn begin_next<'a>(
     alloc: Global,
     whole: &mut Vec<Journal<'a>>,
-    journal: Journal<'a>,
+    journal: &mut Journal<'a>,
     number: u64,
     line: &'a str,
-) -> Result<Journal<'a>, JournalError>
-    ensures ok { IfOk result (λ j. next_opened number (map journal_seen whole.old.items) (journal_seen journal.entry) line.now
-        ≡ Some (reading whole.new (Some j))) }
+) -> Result<(), JournalError>
+    ensures ok { OnOk result (next_opened number (map journal_seen whole.old.items) (journal_seen journal.old) line.now
+        ≡ Some (reading whole.new (Some journal.new))) }
     ensures refused { IfErr result (λ e. IsFault number e
-        (next_opened number (map journal_seen whole.old.items) (journal_seen journal.entry) line.now)) }
+        (next_opened number (map journal_seen whole.old.items) (journal_seen journal.old) line.now)) }
 {
     if !journal.is_counted {
         return Err(JournalError::Line(number));
     }
     let next = begin(alloc, number, line)?;
-    whole.push(journal)?;
-    Ok(next)
+    whole.push(mem::replace(journal, next))?;
+    Ok(())
 }
 
-/// Reads the next line of a journal or the first of one behind it: gives the one that may go on.
+/// Reads the next line of a journal or the first of one behind it, which then takes its place.
 fn read_within<'a>(
     alloc: Global,
     whole: &mut Vec<Journal<'a>>,
-    journal: Journal<'a>,
+    journal: &mut Journal<'a>,
     number: u64,
     line: &'a str,
-) -> Result<Journal<'a>, JournalError>
-    ensures ok { IfOk result (λ j. step_within number (map journal_seen whole.old.items) (journal_seen journal.entry) line.now
-        ≡ Some (reading whole.new (Some j))) }
+) -> Result<(), JournalError>
+    ensures ok { OnOk result (step_within number (map journal_seen whole.old.items) (journal_seen journal.old) line.now
+        ≡ Some (reading whole.new (Some journal.new))) }
     ensures refused { IfErr result (λ e. IsFault number e
-        (step_within number (map journal_seen whole.old.items) (journal_seen journal.entry) line.now)) }
+        (step_within number (map journal_seen whole.old.items) (journal_seen journal.old) line.now)) }
 {
     if is_cut_short(line) {
-        return Ok(cut_short(journal));
+        pass_cut(journal);
+        Ok(())
+    } else if read_head(line).is_some() {
+        begin_next(alloc, whole, journal, number, line)
+    } else if is_count(journal.entries.len() as u64, line) {
+        pass_count(journal);
+        Ok(())
+    } else {
+        take_entry(alloc, journal, number, line)
     }
-    if read_head(line).is_some() {
-        return begin_next(alloc, whole, journal, number, line);
-    }
-    if is_count(journal.entries.len() as u64, line) {
-        return Ok(counted(journal));
-    }
-    with_entry(alloc, journal, number, line)
 }
 
-/// Reads the next line, where a journal may go on: gives the one that may do so behind it.
+/// Reads the next line, where a journal may go on.
 fn read_line<'a>(
     alloc: Global,
     whole: &mut Vec<Journal<'a>>,
-    unfinished: Option<Journal<'a>>,
+    unfinished: &mut Option<Journal<'a>>,
     number: u64,
     line: &'a str,
-) -> Result<Option<Journal<'a>>, JournalError>
-    ensures ok { IfOk result (λ later. step number (reading whole.old unfinished.entry) line.now ≡ Some (reading whole.new later)) }
-    ensures refused { IfErr result (λ e. IsFault number e (step number (reading whole.old unfinished.entry) line.now)) }
+) -> Result<(), JournalError>
+    ensures ok { OnOk result (step number (reading whole.old unfinished.old) line.now ≡ Some (reading whole.new unfinished.new)) }
+    ensures refused { IfErr result (λ e. IsFault number e (step number (reading whole.old unfinished.old) line.now)) }
 {
     match unfinished {
-        None => Ok(Some(begin(alloc, number, line)?)),
-        Some(journal) => Ok(Some(read_within(alloc, whole, journal, number, line)?)),
+        None => {
+            *unfinished = Some(begin(alloc, number, line)?);
+            Ok(())
+        }
+        Some(journal) => read_within(alloc, whole, journal, number, line),
     }
 }
 
-/// The journals, where nothing stands behind the last line feed.
+/// Takes in the last journal, where nothing stands behind the last line feed.
 fn finish<'a>(
-    mut whole: Vec<Journal<'a>>,
+    whole: &mut Vec<Journal<'a>>,
     unfinished: Option<Journal<'a>>,
     number: u64,
     line: &str,
-) -> Result<Vec<Journal<'a>>, JournalError>
-    ensures ok { IfOk result (λ v. ended number (reading whole.entry unfinished.entry) line.now ≡ Ok (map journal_seen v.items)) }
-    ensures refused { IfErr result (λ e. IsFaultOf e (ended number (reading whole.entry unfinished.entry) line.now)) }
+) -> Result<(), JournalError>
+    ensures ok { OnOk result (ended number (reading whole.old unfinished.entry) line.now ≡ Ok (map journal_seen whole.new.items)) }
+    ensures refused { IfErr result (λ e. IsFaultOf e (ended number (reading whole.old unfinished.entry) line.now)) }
 {
-    if !line.is_empty() {
-        return Err(JournalError::Line(number));
-    }
     match unfinished {
-        Some(journal) if journal.is_counted => {
-            whole.push(journal)?;
-            Ok(whole)
-        }
+        Some(journal) if line.is_empty() && journal.is_counted => Ok(whole.push(journal)?),
         _ => Err(JournalError::Line(number)),
     }
 }
@@ -255,9 +264,10 @@ pub fn read_journals<'a>(alloc: Global, text: &'a str) -> Result<Vec<Journal<'a>
     for (index, line) in lines.iter().enumerate() {
         let number = index as u64 + 1;
         if number == lines.len() as u64 {
-            return finish(whole, unfinished, number, line);
+            finish(&mut whole, unfinished, number, line)?;
+            return Ok(whole);
         }
-        unfinished = read_line(alloc, &mut whole, unfinished, number, line)?;
+        read_line(alloc, &mut whole, &mut unfinished, number, line)?;
     }
     Err(JournalError::Line(lines.len() as u64 + 1))
 }

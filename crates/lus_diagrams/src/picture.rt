@@ -117,7 +117,6 @@ fn push_mark<'d>(
         width: spot.width.saturating_sub(8),
         height: 22,
     };
-    add(shapes, panel)?;
     let line = Shape::Line {
         ink,
         x1: middle(spot),
@@ -125,14 +124,13 @@ fn push_mark<'d>(
         x2: middle(spot),
         y2: bottom,
     };
-    add(shapes, line)?;
     let word = Shape::Word {
         ink,
         x: middle(spot),
         y: spot.y.saturating_add(24),
         text: title,
     };
-    add(shapes, word)
+    shapes.extend_from_slice(&[panel, line, word])
 }
 
 fn push_column<'d, 'a>(
@@ -163,22 +161,17 @@ fn push_column<'d, 'a>(
     }
 }
 
-fn push_rule<'d>(
-    shapes: &mut Vec<Shape<'d>>,
-    ink: Ink,
-    y: usize,
-    right: usize,
-) -> Result<(), AllocError>
-    ensures { OnOk result (seen_words shapes.new.items ≡ seen_words shapes.old.items) }
+/// A line across a band.
+fn rule<'d>(ink: Ink, y: usize, right: usize) -> Shape<'d>
+    ensures { words_in result ≡ [] }
 {
-    let line = Shape::Line {
+    Shape::Line {
         ink,
         x1: MARGIN,
         y1: y,
         x2: right,
         y2: y,
-    };
-    add(shapes, line)
+    }
 }
 
 /// The labels of a band, and the lines between its rows.
@@ -191,18 +184,19 @@ fn push_frame<'d, 'a>(
     ensures { OnOk result (seen_words shapes.new.items ≡ seen_words shapes.old.items) }
 {
     for (row, label) in diagram.labels.iter().enumerate() {
-        push_rule(shapes, Ink::Grid, row_top(y, row), right)?;
         let word = Shape::Word {
             ink: Ink::Label,
             x: MARGIN,
             y: row_top(y, row).saturating_add(20),
             text: label.as_str(),
         };
-        add(shapes, word)?;
+        shapes.extend_from_slice(&[rule(Ink::Grid, row_top(y, row), right), word])?;
     }
-    push_rule(shapes, Ink::Frame, row_top(y, 0), right)?;
-    push_rule(shapes, Ink::Frame, row_top(y, diagram.inputs), right)?;
-    push_rule(shapes, Ink::Frame, row_top(y, diagram.labels.len()), right)
+    shapes.extend_from_slice(&[
+        rule(Ink::Frame, row_top(y, 0), right),
+        rule(Ink::Frame, row_top(y, diagram.inputs), right),
+        rule(Ink::Frame, row_top(y, diagram.labels.len()), right),
+    ])
 }
 
 /// Draws the columns in bands below each other.
@@ -257,14 +251,13 @@ fn push_heading<'d, 'a>(
         y,
         text: diagram.instance,
     };
-    add(shapes, instance)?;
     let node = Shape::Word {
         ink: Ink::Label,
         x: text_room(diagram.instance).saturating_add(MARGIN + 22),
         y,
         text: diagram.node,
     };
-    add(shapes, node)
+    shapes.extend_from_slice(&[instance, node])
 }
 
 /// The lines of the refused calls.

@@ -7,6 +7,6 @@ use Rattle.lus_diagrams.proofs.journal.read_journals.Goals as goal
 
 pub loop-index-preserved : goal.loop-index-preserved
 loop-index-preserved c =
-    run_step (journals_of c.args.text.now) c.loop-index.index (reading c.loop-index.whole c.loop-index.unfinished) (reading c.read_line.new.whole c.in_ok-unfinished.unfinished)
+    run_step (journals_of c.args.text.now) c.loop-index.index (reading c.loop-index.whole c.loop-index.unfinished) (reading c.read_line.new.whole c.read_line.new.unfinished)
     c.deref-line-items.result.now _ (search rules)
-    (first_left c.deref-line-items.result.now c.loop-index.index _ (search rules)) (λ e. omega (arith, e)) c.loop-index.invariant c.in_ok-unfinished.ensures.ok
+    (first_left c.deref-line-items.result.now c.loop-index.index _ (search rules)) (λ e. omega (arith, e)) c.loop-index.invariant c.in_ok-read_line.ensures.ok
