@@ -11,4 +11,4 @@ loop-cell-preserved g c =
     let pushed : is_ok c.push.result ≡ true = search rules in
     rw add-one
     (ap (map g.U.Held.entry) (c.push.ensures.items ∙ ap (λ b. if b then copies ++ copy ∷ [] else copies) pushed)
-    ∙ copied_more g.U.Held.entry g.T.Held.entry copies c.args.cells.now c.loop-cell.cell-index copy c.cell-item.result c.loop-cell-test.true c.cell-item.is (c.in_ok-cell_copy.ensures ∙ c.in_ok-entry.ensures) c.loop-cell.invariant)
+    ∙ copied_more g.U.Held.entry g.T.Held.entry copies c.args.cells.now c.loop-cell.cell-index copy c.cell-item.result c.loop-cell-test.true c.cell-item.is (c.in_ok-cell_copy.ensures ∙ c.see.ensures) c.loop-cell.invariant)
