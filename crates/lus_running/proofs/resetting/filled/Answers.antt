@@ -1,4 +1,4 @@
-use Rattle.std.proofs.Common.{◌≡◌, ◌∙◌, ◌++◌, [], ◌∷◌, map, ap, add-one}
+use Rattle.std.proofs.Common.{◌∙◌, map, ap, add-one}
 use Rattle.lus_words.specs.Words.{entry_in}
 use Rattle.lus_running.proofs.Cells.{filled_more}
 use Rattle.lus_running.proofs.resetting.filled.Goals as goal
