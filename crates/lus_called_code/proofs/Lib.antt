@@ -5,3 +5,4 @@ pub mod Nested
 pub mod Answering
 pub mod Composed
 pub mod Added
+pub mod Mapped

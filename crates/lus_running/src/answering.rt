@@ -9,7 +9,7 @@ ghost use Rattle.lus_running.specs.Settings.{CanRunOn, FitsClass, FitsWhole, IsW
 
 use crate::error::Failure;
 use crate::following::grow;
-use crate::running::{part_of, place, run};
+use crate::running::{part_of, place, run_parts};
 use crate::setting::Setting;
 use crate::wholes::run_in_row;
 use lus_flat_classes::Whole;
@@ -58,7 +58,7 @@ fn answer_by_parts<T: Held>(
         result (map (cell_of T.entry) next_cells.new) next_firsts.new }
 {
     place(on.alloc, inputs, variables)?;
-    run(on, next_cells, next_firsts, variables, temporaries)?;
+    run_parts(on, next_cells, next_firsts, variables, temporaries)?;
     Ok(part_of(on.alloc, variables, on.class.inputs as usize, outputs)?)
 }
 

@@ -17,9 +17,10 @@ use std::alloc::Global;
 pub fn held_at<T: Held>(alloc: Global, row: &[T], variable: usize) -> Result<T, Memory>
     ensures { IfOk result (λ h. T.entry h ≡ item None (map T.entry row.now) variable) }
 {
-    match row.get(variable) {
-        Some(held) => held.copied(alloc),
-        None => Ok(T::of_word(Word::Absent)),
+    if variable < row.len() {
+        row[variable].copied(alloc)
+    } else {
+        Ok(T::of_word(Word::Absent))
     }
 }
 

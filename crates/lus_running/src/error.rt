@@ -11,7 +11,7 @@ pub enum StepError {
 }
 
 /// Why rows come to no end of a step: the instant has no values, or they stopped before that was known.
-#[derive(Clone, Copy, PartialEq, Eq, Debug)]
+#[derive(Clone, Copy)]
 pub enum Failure {
     Fault,
     Stopped(Stop),

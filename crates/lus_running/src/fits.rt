@@ -13,10 +13,7 @@ use lus_values::Value;
 fn is_there(inputs: &[Option<Value>], variable: usize) -> bool
     ensures { result ≡ is_some (item None (map entry_of inputs.now) variable) }
 {
-    match inputs.get(variable) {
-        Some(entry) => entry.is_some(),
-        None => false,
-    }
+    variable < inputs.len() && inputs[variable].is_some()
 }
 
 /// Whether an input is present exactly where the newest test of its clock holds, if it has one.

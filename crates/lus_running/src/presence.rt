@@ -16,10 +16,8 @@ use lus_program::Test;
 pub fn holds<T: Held>(test: &Test, row: &[T]) -> bool
     ensures { result ≡ holds test.now (map T.entry row.now) }
 {
-    match row.get(test.variable as usize) {
-        Some(held) => held.is_constructor(test.constructor),
-        None => false,
-    }
+    let variable = test.variable as usize;
+    variable < row.len() && row[variable].is_constructor(test.constructor)
 }
 
 /// Whether the newest test of a clock holds, if it has one.

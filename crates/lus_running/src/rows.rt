@@ -6,11 +6,12 @@ ghost use Rattle.lus_running.specs.Instances.{MakesStep, rows_seen};
 
 use crate::answering::answer;
 use crate::error::Failure;
-use crate::resetting::{absent, copy_cells, copy_flags, empty_all, nils, set_all, set_flags};
+use crate::resetting::{copy_cells, copy_flags, empty_all, filled, set_all, set_flags};
 use crate::setting::Setting;
 use lus_flat_classes::{Class, Extent};
 use lus_following::{Held, Stop};
 use lus_values::{Memory, Row};
+use lus_words::Word;
 use std::alloc::Global;
 use std::mem::swap;
 
@@ -32,12 +33,12 @@ impl<T: Held> Rows<T> {
     pub fn fresh(alloc: Global, extent: Extent, count: usize) -> Result<Rows<T>, Memory>
         ensures { IfOk result (λ o. (g : ℕ) → IsNew extent (rows_seen T.entry g o)) }
     {
-        let cells = nils(alloc, extent.cells as usize)?;
+        let cells = filled(alloc, extent.cells as usize, Word::Nil)?;
         let firsts = set_flags(alloc, extent.firsts as usize)?;
-        let next_cells = nils(alloc, extent.cells as usize)?;
+        let next_cells = filled(alloc, extent.cells as usize, Word::Nil)?;
         let next_firsts = set_flags(alloc, extent.firsts as usize)?;
-        let variables = absent(alloc, extent.variables as usize)?;
-        let temporaries = absent(alloc, count)?;
+        let variables = filled(alloc, extent.variables as usize, Word::Absent)?;
+        let temporaries = filled(alloc, count, Word::Absent)?;
         Ok(Rows {
             cells,
             firsts,
@@ -62,10 +63,10 @@ impl<T: Held> Rows<T> {
     {
         let cells = copy_cells(alloc, &self.cells)?;
         let firsts = copy_flags(alloc, &self.firsts)?;
-        let next_cells = nils(alloc, self.next_cells.len())?;
+        let next_cells = filled(alloc, self.next_cells.len(), Word::Nil)?;
         let next_firsts = set_flags(alloc, self.next_firsts.len())?;
-        let variables = absent(alloc, self.variables.len())?;
-        let temporaries = absent(alloc, self.temporaries.len())?;
+        let variables = filled(alloc, self.variables.len(), Word::Absent)?;
+        let temporaries = filled(alloc, self.temporaries.len(), Word::Absent)?;
         Ok(Rows {
             cells,
             firsts,

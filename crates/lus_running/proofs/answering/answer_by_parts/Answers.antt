@@ -6,8 +6,8 @@ use Rattle.lus_running.specs.OnClocks.{PresentOnClock}
 use Rattle.lus_running.proofs.Telling.{inputs_placed, tells_err, tells_ok}
 use Rattle.lus_running.proofs.answering.answer_by_parts.Goals as goal
 
-pub run-requires-clause-present : goal.run-requires-clause-present
-run-requires-clause-present g c =
+pub run_parts-requires-clause-present : goal.run_parts-requires-clause-present
+run_parts-requires-clause-present g c =
     let own = c.requires.class.can.ready.room.variables in
     let entry = g.T.Held.entry in
     let s = c.args.on.now in
@@ -20,8 +20,8 @@ run-requires-clause-present g c =
     let room : k.inputs ≤ length before = rw (length-map c.args.variables.now entry) (omega (arith, own, c.requires.fits.variables, c.requires.outputs)) in
     subst (PresentOnClock k.tests.items) (sym (ap (take k.inputs) c.in_ok-place.ensures ∙ inputs_placed k.inputs i before (sym narrow) room)) c.requires.present
 
-pub returns-in_err-run : goal.returns-in_err-run
-returns-in_err-run g c =
+pub returns-in_err-run_parts : goal.returns-in_err-run_parts
+returns-in_err-run_parts g c =
     let own = c.requires.class.can.ready.room.variables in
     let entry = g.T.Held.entry in
     let s = c.args.on.now in
@@ -32,9 +32,9 @@ returns-in_err-run g c =
     let r = map entry c.place.new.variables in
     let narrow : length i ≡ k.inputs = length-map c.args.inputs.now entry_of ∙ c.requires.inputs in
     let room : k.inputs ≤ length before = rw (length-map c.args.variables.now entry) (omega (arith, own, c.requires.fits.variables, c.requires.outputs)) in
-    let e = c.in_err-run.field-0.0 in
-    let failed : c.from_residual-in_err-run.result ≡ Err e = search rules in
-    tells_err s.classes.now s.depth k c.args.outputs vs s.firsts.now i before r narrow room c.in_ok-place.ensures c.from_residual-in_err-run.result e _ _ _ _ failed c.in_err-run.ensures
+    let e = c.in_err-run_parts.field-0.0 in
+    let failed : c.from_residual-in_err-run_parts.result ≡ Err e = search rules in
+    tells_err s.classes.now s.depth k c.args.outputs vs s.firsts.now i before r narrow room c.in_ok-place.ensures c.from_residual-in_err-run_parts.result e _ _ _ _ failed c.in_err-run_parts.ensures
 
 pub returns : goal.returns
 returns g c =
@@ -48,5 +48,5 @@ returns g c =
     let r = map entry c.place.new.variables in
     let narrow : length i ≡ k.inputs = length-map c.args.inputs.now entry_of ∙ c.requires.inputs in
     let room : k.inputs ≤ length before = rw (length-map c.args.variables.now entry) (omega (arith, own, c.requires.fits.variables, c.requires.outputs)) in
-    tells_ok s.classes.now s.depth k c.args.outputs vs s.firsts.now i before r narrow room c.in_ok-place.ensures c.in_ok-part_of.field-0 (map entry c.run.new.variables) _ _ c.requires.outputs
-    c.in_ok-run.ensures c.in_ok-part_of.ensures
+    tells_ok s.classes.now s.depth k c.args.outputs vs s.firsts.now i before r narrow room c.in_ok-place.ensures c.in_ok-part_of.field-0 (map entry c.run_parts.new.variables) _ _ c.requires.outputs
+    c.in_ok-run_parts.ensures c.in_ok-part_of.ensures

@@ -1,5 +1,6 @@
 use Rattle.std.proofs.Common.{◌∙◌, ◌<◌, ap, map, length, slice_set, add-one, arith}
 use Rattle.std.proofs.lemmas.List.{map-set, length-map}
+use Rattle.std.specs.Option.{unwrap_or}
 use Rattle.lus_values.specs.Values.{nil}
 use Rattle.lus_following.specs.Followed.{cell_of}
 use Rattle.lus_running.proofs.SetBack.{next_back}
@@ -11,7 +12,7 @@ loop-place-preserved g c =
     let vs = map (cell_of g.T.Held.entry) c.args.cells.now in
     let lt : i < length vs = rw (length-map c.args.cells.now (cell_of g.T.Held.entry)) (omega arith) in
     rw add-one
-    (map-set (cell_of g.T.Held.entry) c.loop-place.cells i c.nil_cell.result
-    ∙ ap (slice_set (map (cell_of g.T.Held.entry) c.loop-place.cells) i) c.nil_cell.ensures
+    (map-set (cell_of g.T.Held.entry) c.loop-place.cells i c.of_word.result
+    ∙ ap (slice_set (map (cell_of g.T.Held.entry) c.loop-place.cells) i) (ap (λ o. unwrap_or o nil) c.of_word.ensures)
     ∙ ap (λ l. slice_set l i nil) c.loop-place.invariant
     ∙ next_back nil vs i lt)

@@ -1,8 +1,8 @@
-use Rattle.std.proofs.Common.{rules, ◌≡◌, ◌∙◌, sym, ap, length, map, true, refl}
+use Rattle.std.proofs.Common.{rules, ◌≡◌, ◌∙◌, sym, ap, length, map, true, refl, None, Some}
 use Rattle.std.proofs.lemmas.List.{length-map, length-replicate}
 use Rattle.lus_values.specs.Values.{nil}
 use Rattle.lus_following.specs.Followed.{cell_of}
-use Rattle.lus_running.proofs.Cells.{cells_same}
+use Rattle.lus_running.proofs.Cells.{cells_same, filled_long}
 use Rattle.lus_running.proofs.rows.Rows.over.Goals as goal
 
 pub returns : goal.returns
@@ -17,8 +17,8 @@ returns g c =
         node = refl;
         cells = cells_same g.U.Held.entry g.T.Held.entry c.in_ok-cells.cells.items o.cells.items same;
         firsts = c.in_ok-firsts.ensures ∙ c.deref-2.ensures.value;
-        variables = c.in_ok-variables.ensures ∙ variables_long;
+        variables = filled_long g.U.Held.entry c.in_ok-variables.variables.items c.len-3.result None c.in_ok-variables.ensures ∙ variables_long;
       };
-      next_cells = ap length c.in_ok-next_cells.ensures ∙ length-replicate c.len.result nil ∙ cells_long ∙ sym (length-map o.next_cells.items (cell_of g.T.Held.entry));
+      next_cells = length-map c.in_ok-next_cells.next_cells.items (cell_of g.U.Held.entry) ∙ filled_long g.U.Held.entry c.in_ok-next_cells.next_cells.items c.len.result (Some nil) c.in_ok-next_cells.ensures ∙ cells_long ∙ sym (length-map o.next_cells.items (cell_of g.T.Held.entry));
       next_firsts = ap length c.in_ok-next_firsts.ensures ∙ length-replicate c.len-2.result true ∙ firsts_long;
     }
