@@ -2,9 +2,9 @@
 
 ghost use Rattle.std.specs.Prelude.{◌≡◌, ◌++◌, [], map, not, is_none, IfOk, OnOk, IfErr, true, false};
 ghost use Rattle.std.specs.List.{list_all};
-ghost use Rattle.lus_syntax.specs.View.{constant_seen, definition_seen, names_seen, node_seen, tree_seen, type_seen};
+ghost use Rattle.lus_syntax.specs.View.{definition_seen, names_seen, tree_seen, type_seen};
 ghost use Rattle.lus_source.specs.Tables.{text_of};
-ghost use Rattle.lus_source.specs.Named.{Distinct, all_constructor_names, all_new, constructor_names, is_in, known};
+ghost use Rattle.lus_source.specs.Named.{all_constructor_names, all_new, constructor_names, is_in, known};
 ghost use Rattle.lus_source.specs.ScopeView.{Faulty};
 ghost use Rattle.lus_declarations.specs.NameView.{known_seen, texts};
 ghost use Rattle.lus_declarations.specs.Parts.{AreDistinct};

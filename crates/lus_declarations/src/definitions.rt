@@ -1,12 +1,11 @@
 //! The names in the declarations of types.
 
-ghost use Rattle.std.specs.Prelude.{◌≡◌, map, is_none, OnOk, IfErr, true, false};
-ghost use Rattle.std.specs.List.{list_all};
+ghost use Rattle.std.specs.Prelude.{map, OnOk, IfErr};
 ghost use Rattle.lus_values.specs.Lists.{Each};
-ghost use Rattle.lus_syntax.specs.View.{constant_seen, definition_seen, fields_seen, literal_seen, type_name_seen, type_seen};
-ghost use Rattle.lus_source.specs.Named.{DefinitionNamed, all_new, constant_known, field_names, literal_known, maybe_known, type_known};
+ghost use Rattle.lus_syntax.specs.View.{definition_seen, type_seen};
+ghost use Rattle.lus_source.specs.Named.{DefinitionNamed};
 ghost use Rattle.lus_source.specs.ScopeView.{Faulty};
-ghost use Rattle.lus_declarations.specs.NameView.{known_seen, texts};
+ghost use Rattle.lus_declarations.specs.NameView.{known_seen};
 
 use crate::names::Names;
 use crate::naming::declare_all;

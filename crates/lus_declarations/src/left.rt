@@ -1,13 +1,13 @@
 //! The left sides of equations: each output and each local of a node, once.
 
-ghost use Rattle.std.specs.Prelude.{◌≡◌, ◌++◌, map, is_none, OnOk, IfOk, IfErr, true, false};
+ghost use Rattle.std.specs.Prelude.{◌≡◌, ◌++◌, is_none, OnOk, IfErr, true};
 ghost use Rattle.std.specs.List.{list_all};
-ghost use Rattle.lus_syntax.specs.View.{equation_seen, group_seen, names_seen, node_seen};
-ghost use Rattle.lus_source.specs.Tables.{groups, text_of};
+ghost use Rattle.lus_syntax.specs.View.{node_seen};
+ghost use Rattle.lus_source.specs.Tables.{groups};
 ghost use Rattle.lus_source.specs.Named.{Distinct, all_new, defined_names, has_left, is_in, left_names, names_in};
 ghost use Rattle.lus_source.specs.ScopeView.{Faulty};
 ghost use Rattle.lus_declarations.specs.NameView.{texts};
-ghost use Rattle.lus_declarations.specs.Parts.{LeftsNamed, names_left};
+ghost use Rattle.lus_declarations.specs.Parts.{LeftsNamed};
 
 use crate::naming::{absent, declare_all};
 use crate::refusing::refuse;

@@ -1,14 +1,13 @@
 //! The names of a node.
 
 ghost use Rattle.std.specs.Prelude.{◌≡◌, ◌++◌, map, is_none, OnOk, IfErr, true, false};
-ghost use Rattle.std.specs.List.{list_all};
 ghost use Rattle.lus_values.specs.Lists.{Each};
-ghost use Rattle.lus_syntax.specs.View.{equation_seen, group_seen, node_seen};
+ghost use Rattle.lus_syntax.specs.View.{node_seen};
 ghost use Rattle.lus_source.specs.Tables.{groups};
-ghost use Rattle.lus_source.specs.Named.{NodeNamed, all_new, knows, names_in, test_known};
+ghost use Rattle.lus_source.specs.Named.{NodeNamed, all_new, names_in};
 ghost use Rattle.lus_source.specs.ScopeView.{Faulty};
 ghost use Rattle.lus_declarations.specs.NameView.{known_seen, texts};
-ghost use Rattle.lus_declarations.specs.Parts.{group_known, in_node, node_known, outside};
+ghost use Rattle.lus_declarations.specs.Parts.{in_node, node_known, outside};
 
 use crate::left::check_lefts;
 use crate::names::Names;
