@@ -1,5 +1,6 @@
 pub mod NameLists
 pub mod NewNames
+pub mod DeclaredNames
 pub mod GroupNames
 pub mod NodeParts
 pub mod NamePlaces

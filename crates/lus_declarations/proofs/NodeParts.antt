@@ -1,10 +1,14 @@
 -- The rules of a node's names, from what the parts are checked for.
-use Rattle.std.proofs.Common.{◌≡◌, ◌∙◌, refl, ap, sym, Bool, true, false, ◌&&◌, List, [], ◌∷◌, Option, IsTrue}
+use Rattle.std.proofs.Common.{◌≡◌, ◌∙◌, refl, ap, ap₂, sym, Bool, true, false, ◌&&◌, List, [], ◌∷◌, ◌++◌, Option, Some, None, IsTrue, map}
 use Rattle.std.specs.Prelude.{is_none}
 use Rattle.std.specs.List.{list_all}
+use Rattle.std.specs.Option.{option_or}
+use Rattle.std.proofs.lemmas.List.Folds.{list_all-append, list_all-map}
+use Rattle.lus_syntax.specs.declared.tree.Node.{Node as StoredNode}
 use Rattle.lus_syntax.specs.declared.token.Place.{Place}
 use Rattle.lus_syntax.specs.Lexemes.{Text}
-use Rattle.lus_syntax.specs.Trees.{Group, Node}
+use Rattle.lus_syntax.specs.Trees.{Equation, Group, Node}
+use Rattle.lus_syntax.specs.View.{equation_seen, expression_seen, group_seen, node_seen}
 use Rattle.lus_source.specs.Tables.{groups}
 use Rattle.lus_source.specs.Named.{Distinct, Known, NodeNamed, knows, names_in, test_known, type_known}
 use Rattle.lus_values.proofs.Equalities.{and_left, and_right}
@@ -19,6 +23,32 @@ and_across true true c d = refl
 groups_known : (k : Known) (gs : List Group) → list_all (group_known k) gs ≡ (list_all (λ g. type_known k.types g.type_name) gs && list_all (λ g. test_known k g.test) gs)
 groups_known k [] = refl
 groups_known k (g ∷ gs) = ap (λ b. group_known k g && b) (groups_known k gs) ∙ and_across (type_known k.types g.type_name) (test_known k g.test) _ _
+
+none_or : {X : Type 0} (a b : Option X) → is_none (option_or a b) ≡ (is_none a && is_none b)
+none_or None b = refl
+none_or (Some x) b = refl
+
+-- what is unknown in a node is found list by list
+pub found_unknown : (k : Known) (f : StoredNode) (i o l q : Option Place)
+    → is_none i ≡ list_all (λ g. group_known k (group_seen g)) f.inputs.items → is_none o ≡ list_all (λ g. group_known k (group_seen g)) f.outputs.items
+    → is_none l ≡ list_all (λ g. group_known k (group_seen g)) f.locals.items → is_none q ≡ list_all (λ e. knows k (expression_seen e.right)) f.equations.items
+    → is_none (option_or (option_or (option_or i o) l) q) ≡ node_known k (node_seen f)
+found_unknown k f i o l q inputs outputs locals rights =
+    let is = map group_seen f.inputs.items in
+    let os = map group_seen f.outputs.items in
+    let ls = map group_seen f.locals.items in
+    let all : list_all (group_known k) (groups (node_seen f)) ≡ (is_none i && (is_none o && is_none l)) =
+    list_all-append (group_known k) is (os ++ ls)
+    ∙ ap₂ (λ (x : Bool) y. x && y) (list_all-map (group_known k) group_seen f.inputs.items ∙ sym inputs)
+    (list_all-append (group_known k) os ls ∙ ap₂ (λ (x : Bool) y. x && y) (list_all-map (group_known k) group_seen f.outputs.items ∙ sym outputs) (list_all-map (group_known k) group_seen f.locals.items ∙ sym locals)) in
+    let lefts : is_none (option_or (option_or i o) l) ≡ (is_none i && (is_none o && is_none l)) =
+    none_or (option_or i o) l ∙ ap (λ b. b && is_none l) (none_or i o) ∙ and_joined (is_none i) (is_none o) (is_none l) in
+    none_or (option_or (option_or i o) l) q
+    ∙ ap₂ (λ (x : Bool) y. x && y) (lefts ∙ sym all) (rights ∙ sym (list_all-map (λ (e : Equation). knows k e.right) equation_seen f.equations.items))
+  where
+    and_joined : (a b c : Bool) → ((a && b) && c) ≡ (a && (b && c))
+    and_joined true b c = refl
+    and_joined false b c = refl
 
 pub node_named : (k : Known) (f : Node) → Distinct k.variables → node_known k f ≡ true → LeftsNamed f → NodeNamed k f
 node_named k f distinct known lefts =

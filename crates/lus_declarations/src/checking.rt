@@ -8,10 +8,11 @@ ghost use Rattle.lus_declarations.specs.NameView.{known_seen};
 ghost use Rattle.lus_declarations.specs.Parts.{UsesKnown, outside};
 
 use crate::declarations::declared;
-use crate::definitions::{check_definitions, unknown_in_constants};
+use crate::definitions::check_definitions;
 use crate::names::Names;
 use crate::nodes::check_nodes;
 use crate::refusing::refuse;
+use crate::using::first_unknown;
 use lus_source::Fault;
 use lus_syntax::Tree;
 use std::alloc::Global;
@@ -33,7 +34,7 @@ fn check_uses(alloc: Global, names: &mut Names, tree: &Tree) -> Result<(), Fault
     ensures kept { OnOk result (outside (known_seen names.new) ≡ outside (known_seen names.old)) }
     ensures refused { IfErr result (Faulty (UsesKnown (known_seen names.old) (tree_seen tree.now) → ⊥)) }
 {
-    check_definitions(alloc, &names.types, &tree.types)?;
-    refuse(unknown_in_constants(names, &tree.constants))?;
+    check_definitions(alloc, names, &tree.types)?;
+    refuse(first_unknown(names, &tree.constants))?;
     check_nodes(alloc, names, &tree.nodes)
 }

@@ -2,93 +2,35 @@
 
 ghost use Rattle.std.specs.Prelude.{◌≡◌, ◌++◌, [], map, not, is_none, IfOk, OnOk, IfErr, true, false};
 ghost use Rattle.std.specs.List.{list_all};
-ghost use Rattle.lus_syntax.specs.View.{constant_seen, definition_seen, names_seen, node_seen, tree_seen, type_seen};
+ghost use Rattle.lus_syntax.specs.View.{definition_seen, names_seen, tree_seen, type_seen};
 ghost use Rattle.lus_source.specs.Tables.{text_of};
-ghost use Rattle.lus_source.specs.Named.{Distinct, all_constructor_names, all_new, constructor_names, is_in, known};
+ghost use Rattle.lus_source.specs.Named.{all_constructor_names, all_new, constructor_names, is_in, known};
 ghost use Rattle.lus_source.specs.ScopeView.{Faulty};
 ghost use Rattle.lus_declarations.specs.NameView.{known_seen, texts};
 ghost use Rattle.lus_declarations.specs.Parts.{AreDistinct};
 
 use crate::names::{Names, declare, has};
+use crate::naming::declare_all;
 use crate::refusing::refuse;
 use indexmap::IndexSet;
 use lus_source::Fault;
-use lus_syntax::{Constant, Definition, Name, Node, Place, Tree, TypeDeclaration};
+use lus_syntax::{Constant, Definition, Name, Place, Tree, TypeDeclaration};
 use std::alloc::Global;
-use std::slice;
 
-/// The names of a source's types, values and nodes; a fault at a name that stands twice in its space.
+/// The names of a source's types, values and nodes; a fault at a name that stands twice in its space. Constants and constructors
+/// are one space.
 pub fn declared(alloc: Global, tree: &Tree) -> Result<Names, Fault>
     ensures tables { IfOk result (λ names. known_seen names ≡ known (tree_seen tree.now) []) }
     ensures distinct { OnOk result (AreDistinct (tree_seen tree.now)) }
     ensures doubled { IfErr result (Faulty (AreDistinct (tree_seen tree.now) → ⊥)) }
 {
-    let mut types = IndexSet::new(alloc);
-    declare_types(&mut types, &tree.types)?;
-    let (constants, constructors) = declared_values(alloc, tree)?;
-    let mut nodes = IndexSet::new(alloc);
-    declare_nodes(&mut nodes, &tree.nodes)?;
-    Ok(Names {
-        variables: IndexSet::new(alloc),
-        constants,
-        constructors,
-        types,
-        nodes,
-    })
-}
-
-/// Constants and constructors, which are one space.
-fn declared_values(
-    alloc: Global,
-    tree: &Tree,
-) -> Result<(IndexSet<String>, IndexSet<String>), Fault>
-    ensures constants { IfOk result (λ x. texts x.0.keys ≡ (known (tree_seen tree.now) []).constants) }
-    ensures constructors { IfOk result (λ x. texts x.1.keys ≡ (known (tree_seen tree.now) []).constructors) }
-    ensures distinct { let names = known (tree_seen tree.now) [] in
-        OnOk result (Distinct (names.constants ++ names.constructors)) }
-    ensures doubled { let names = known (tree_seen tree.now) [] in
-        IfErr result (Faulty (Distinct (names.constants ++ names.constructors) → ⊥)) }
-{
-    let mut constants = IndexSet::new(alloc);
-    declare_constants(&mut constants, &tree.constants)?;
-    let mut constructors = IndexSet::new(alloc);
-    declare_constructors(&mut constructors, &tree.types)?;
-    refuse(doubled_value(&constants, tree))?;
-    Ok((constants, constructors))
-}
-
-fn declare_types(table: &mut IndexSet<String>, types: &[TypeDeclaration]) -> Result<(), Fault>
-    ensures kept { OnOk result (texts table.new.keys ≡ texts table.old.keys ++ map (λ d. d.name.text) (map type_seen types.now)) }
-    ensures new { OnOk result (all_new (texts table.old.keys) (map (λ d. d.name.text) (map type_seen types.now)) ≡ true) }
-    ensures doubled { IfErr result (Faulty (all_new (texts table.old.keys) (map (λ d. d.name.text) (map type_seen types.now)) ≡ false)) }
-{
-    for declaration in types {
-        declare(table, slice::from_ref(&declaration.name))?;
-    }
-    Ok(())
-}
-
-fn declare_constants(table: &mut IndexSet<String>, constants: &[Constant]) -> Result<(), Fault>
-    ensures kept { OnOk result (texts table.new.keys ≡ texts table.old.keys ++ map (λ c. c.name.text) (map constant_seen constants.now)) }
-    ensures new { OnOk result (all_new (texts table.old.keys) (map (λ c. c.name.text) (map constant_seen constants.now)) ≡ true) }
-    ensures doubled { let names = map (λ c. c.name.text) (map constant_seen constants.now) in
-        IfErr result (Faulty (all_new (texts table.old.keys) names ≡ false)) }
-{
-    for constant in constants {
-        declare(table, slice::from_ref(&constant.name))?;
-    }
-    Ok(())
-}
-
-fn declare_nodes(table: &mut IndexSet<String>, nodes: &[Node]) -> Result<(), Fault>
-    ensures kept { OnOk result (texts table.new.keys ≡ texts table.old.keys ++ map (λ f. f.name.text) (map node_seen nodes.now)) }
-    ensures new { OnOk result (all_new (texts table.old.keys) (map (λ f. f.name.text) (map node_seen nodes.now)) ≡ true) }
-    ensures doubled { IfErr result (Faulty (all_new (texts table.old.keys) (map (λ f. f.name.text) (map node_seen nodes.now)) ≡ false)) }
-{
-    for node in nodes {
-        declare(table, slice::from_ref(&node.name))?;
-    }
-    Ok(())
+    let mut names = Names::new(alloc);
+    declare_all(&mut names.types, &tree.types)?;
+    declare_all(&mut names.constants, &tree.constants)?;
+    declare_constructors(&mut names.constructors, &tree.types)?;
+    refuse(doubled_value(&names.constants, tree))?;
+    declare_all(&mut names.nodes, &tree.nodes)?;
+    Ok(names)
 }
 
 fn declare_constructors(

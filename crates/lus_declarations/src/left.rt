@@ -1,19 +1,19 @@
 //! The left sides of equations: each output and each local of a node, once.
 
-ghost use Rattle.std.specs.Prelude.{◌≡◌, ◌++◌, map, is_none, OnOk, IfOk, IfErr, true, false};
+ghost use Rattle.std.specs.Prelude.{◌≡◌, ◌++◌, is_none, OnOk, IfErr, true};
 ghost use Rattle.std.specs.List.{list_all};
-ghost use Rattle.lus_syntax.specs.View.{equation_seen, group_seen, names_seen, node_seen};
-ghost use Rattle.lus_source.specs.Tables.{groups, text_of};
-ghost use Rattle.lus_source.specs.Named.{Distinct, all_new, defined_names, has_left, is_in, names_in};
+ghost use Rattle.lus_syntax.specs.View.{node_seen};
+ghost use Rattle.lus_source.specs.Tables.{groups};
+ghost use Rattle.lus_source.specs.Named.{Distinct, all_new, defined_names, has_left, is_in, left_names, names_in};
 ghost use Rattle.lus_source.specs.ScopeView.{Faulty};
 ghost use Rattle.lus_declarations.specs.NameView.{texts};
-ghost use Rattle.lus_declarations.specs.Parts.{LeftsNamed, names_left};
+ghost use Rattle.lus_declarations.specs.Parts.{LeftsNamed};
 
-use crate::names::{declare, has};
+use crate::naming::{absent, declare_all};
 use crate::refusing::refuse;
 use indexmap::IndexSet;
 use lus_source::Fault;
-use lus_syntax::{Equation, Group, Name, Node, Place};
+use lus_syntax::{Node, Place};
 use std::alloc::Global;
 
 /// Checks that equations define each output and each local of a node once, and nothing else, each at least one of them.
@@ -24,45 +24,35 @@ pub fn check_lefts(alloc: Global, node: &Node) -> Result<(), Fault>
         IfErr result (Faulty (Distinct (names_in (groups f)) → LeftsNamed f → ⊥)) }
 {
     refuse(without_left(node))?;
-    let defined = defined_table(alloc, node)?;
-    refuse(undefined(&defined, &node.equations))?;
-    let mut left = IndexSet::new(alloc);
-    declare_lefts(&mut left, &node.equations)?;
-    refuse(without_equation(&left, node))
+    check_defined(&mut IndexSet::new(alloc), node)?;
+    check_whole(&mut IndexSet::new(alloc), node)
 }
 
-/// The outputs and the locals of a node, where its variables are distinct.
-fn defined_table(alloc: Global, node: &Node) -> Result<IndexSet<String>, Fault>
-    ensures names { IfOk result (λ table. texts table.keys ≡ defined_names (node_seen node.now)) }
-    ensures doubled { IfErr result (Faulty (Distinct (names_in (groups (node_seen node.now))) → ⊥)) }
+/// Adds the outputs and the locals to a table, which then has each variable on a left side.
+fn check_defined(defined: &mut IndexSet<String>, node: &Node) -> Result<(), Fault>
+    ensures defined { let names = texts defined.old.keys ++ defined_names (node_seen node.now) in
+        OnOk result (list_all (is_in names) (left_names (node_seen node.now)) ≡ true) }
+    ensures refused { let f = node_seen node.now in
+        let before = texts defined.old.keys in
+        IfErr result (Faulty (all_new before (defined_names f) ≡ true → list_all (is_in (before ++ defined_names f)) (left_names f) ≡ true → ⊥)) }
 {
-    let mut table = IndexSet::new(alloc);
-    declare_groups(&mut table, &node.outputs)?;
-    declare_groups(&mut table, &node.locals)?;
-    Ok(table)
+    declare_all(defined, &node.outputs)?;
+    declare_all(defined, &node.locals)?;
+    refuse(absent(defined, &node.equations))
 }
 
-/// Declares the variables of groups.
-pub fn declare_groups(table: &mut IndexSet<String>, groups: &[Group]) -> Result<(), Fault>
-    ensures kept { OnOk result (texts table.new.keys ≡ texts table.old.keys ++ names_in (map group_seen groups.now)) }
-    ensures new { OnOk result (all_new (texts table.old.keys) (names_in (map group_seen groups.now)) ≡ true) }
-    ensures doubled { IfErr result (Faulty (all_new (texts table.old.keys) (names_in (map group_seen groups.now)) ≡ false)) }
+/// Adds the left sides to a table, which then has each output and each local.
+fn check_whole(left: &mut IndexSet<String>, node: &Node) -> Result<(), Fault>
+    ensures distinct { OnOk result (all_new (texts left.old.keys) (left_names (node_seen node.now)) ≡ true) }
+    ensures whole { let names = texts left.old.keys ++ left_names (node_seen node.now) in
+        OnOk result (list_all (is_in names) (defined_names (node_seen node.now)) ≡ true) }
+    ensures refused { let f = node_seen node.now in
+        let before = texts left.old.keys in
+        IfErr result (Faulty (all_new before (left_names f) ≡ true → list_all (is_in (before ++ left_names f)) (defined_names f) ≡ true → ⊥)) }
 {
-    for group in groups {
-        declare(table, &group.names)?;
-    }
-    Ok(())
-}
-
-fn declare_lefts(table: &mut IndexSet<String>, equations: &[Equation]) -> Result<(), Fault>
-    ensures kept { OnOk result (texts table.new.keys ≡ texts table.old.keys ++ names_left (map equation_seen equations.now)) }
-    ensures new { OnOk result (all_new (texts table.old.keys) (names_left (map equation_seen equations.now)) ≡ true) }
-    ensures doubled { IfErr result (Faulty (all_new (texts table.old.keys) (names_left (map equation_seen equations.now)) ≡ false)) }
-{
-    for equation in equations {
-        declare(table, &equation.left)?;
-    }
-    Ok(())
+    declare_all(left, &node.equations)?;
+    refuse(absent(left, &node.outputs))?;
+    refuse(absent(left, &node.locals))
 }
 
 /// The name of a node that has an equation with nothing on its left: such an equation comes from no text, and has no place of
@@ -73,51 +63,6 @@ fn without_left(node: &Node) -> Option<Place>
     for equation in &node.equations {
         if equation.left.is_empty() {
             return Some(node.name.span.start);
-        }
-    }
-    None
-}
-
-/// The first variable on a left side that is no output and no local.
-fn undefined(defined: &IndexSet<String>, equations: &[Equation]) -> Option<Place>
-    ensures { is_none result ≡ list_all (is_in (texts defined.now.keys)) (names_left (map equation_seen equations.now)) }
-{
-    for equation in equations {
-        if let Some(place) = absent(defined, &equation.left) {
-            return Some(place);
-        }
-    }
-    None
-}
-
-/// The first output or local that stands on no left side.
-fn without_equation(left: &IndexSet<String>, node: &Node) -> Option<Place>
-    ensures { is_none result ≡ list_all (is_in (texts left.now.keys)) (defined_names (node_seen node.now)) }
-{
-    match absent_in_groups(left, &node.outputs) {
-        Some(place) => Some(place),
-        None => absent_in_groups(left, &node.locals),
-    }
-}
-
-fn absent_in_groups(table: &IndexSet<String>, groups: &[Group]) -> Option<Place>
-    ensures { is_none result ≡ list_all (is_in (texts table.now.keys)) (names_in (map group_seen groups.now)) }
-{
-    for group in groups {
-        if let Some(place) = absent(table, &group.names) {
-            return Some(place);
-        }
-    }
-    None
-}
-
-/// The first of these names that a table doesn't have.
-fn absent(table: &IndexSet<String>, names: &[Name]) -> Option<Place>
-    ensures { is_none result ≡ list_all (is_in (texts table.now.keys)) (map text_of (names_seen names.now)) }
-{
-    for name in names {
-        if !has(table, &name.text) {
-            return Some(name.span.start);
         }
     }
     None

@@ -11,6 +11,7 @@ mod left;
 mod loopless;
 mod named;
 mod names;
+mod naming;
 mod nodes;
 mod recursion;
 mod refusing;
@@ -20,6 +21,7 @@ mod sizes;
 mod type_names;
 mod types;
 mod uses;
+mod using;
 mod values;
 mod variables;
 

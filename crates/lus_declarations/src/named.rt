@@ -17,7 +17,6 @@ use std::alloc::Global;
 use std::marker::Model;
 
 /// A counted source whose names are declared once, and used as what they are declared, with its names. Contracts see it as its tree.
-#[derive(Drop)]
 pub struct Named {
     counted: Counted,
     names: Spaces,
@@ -71,6 +70,16 @@ impl Named {
     }
 }
 
+// By hand, so that other functions call it: what a derive drops is proved again in each of them.
+impl Drop for Named {
+    fn drop(self) {
+        let Named {
+            counted: _,
+            names: _,
+        } = self;
+    }
+}
+
 /// Checks the names of a source. A fault stands at the name: a doubled one where it is declared again, an unknown one where it
 /// is used, an output or a local without an equation where it is declared, an equation with nothing on its left at its node's
 /// name.
@@ -84,11 +93,6 @@ pub fn check_names(alloc: Global, counted: Counted) -> Result<Named, Refusal>
         Ok(names) => names,
         Err(fault) => return Err(fault.refusal(RefusalNumber::Name)),
     };
-    let names = Spaces {
-        types: Places::new(names.types),
-        constants: Places::new(names.constants),
-        constructors: Places::new(names.constructors),
-        nodes: Places::new(names.nodes),
-    };
+    let names = names.into_spaces();
     Ok(Named { counted, names })
 }

@@ -9,17 +9,30 @@ ghost use Rattle.lus_declarations.specs.NameView.{texts, known_seen};
 ghost use Rattle.lus_source.specs.ScopeView.{Faulty};
 
 use indexmap::IndexSet;
-use lus_source::Fault;
+use lus_source::{Fault, Places, Spaces};
 use lus_syntax::{Expr, Label, Lead, Name, Part, Place, Test};
+use std::alloc::Global;
 
 /// The names of each space, in the order of their declarations.
-#[derive(Drop)]
 pub struct Names {
     pub variables: IndexSet<String>,
     pub constants: IndexSet<String>,
     pub constructors: IndexSet<String>,
     pub types: IndexSet<String>,
     pub nodes: IndexSet<String>,
+}
+
+// By hand, so that other functions call it: what a derive drops is proved again in each of them.
+impl Drop for Names {
+    fn drop(self) {
+        let Names {
+            variables: _,
+            constants: _,
+            constructors: _,
+            types: _,
+            nodes: _,
+        } = self;
+    }
 }
 
 /// Whether a name is among those of a table.
@@ -45,10 +58,47 @@ pub fn declare(table: &mut IndexSet<String>, names: &[Name]) -> Result<(), Fault
 }
 
 impl Names {
-    ghost use Rattle.std.specs.Prelude.{◌≡◌, is_none};
+    ghost use Rattle.std.specs.Prelude.{◌≡◌, ◌≤◌, [], is_none, length};
     ghost use Rattle.lus_syntax.specs.View.{name_seen, lead_seen, label_seen, test_seen};
     ghost use Rattle.lus_source.specs.Named.{is_in, knows_lead, knows_label, knows_test, knows_name as name_known};
-    ghost use Rattle.lus_declarations.specs.NameView.{known_seen};
+    ghost use Rattle.lus_declarations.specs.NameView.{known_seen, spaces_seen};
+    ghost use Rattle.lus_declarations.specs.Parts.{outside};
+
+    /// No names.
+    pub fn new(alloc: Global) -> Names
+        ensures { known_seen result ≡ record { variables = []; constants = []; constructors = []; types = []; nodes = [] } }
+    {
+        Names {
+            variables: IndexSet::new(alloc),
+            constants: IndexSet::new(alloc),
+            constructors: IndexSet::new(alloc),
+            types: IndexSet::new(alloc),
+            nodes: IndexSet::new(alloc),
+        }
+    }
+
+    /// The spaces of these names but the variables, where a place can count each.
+    pub fn into_spaces(self) -> Spaces
+        requires types { length self.types.keys ≤ 4294967295 }
+        requires constants { length self.constants.keys ≤ 4294967295 }
+        requires constructors { length self.constructors.keys ≤ 4294967295 }
+        requires nodes { length self.nodes.keys ≤ 4294967295 }
+        ensures { spaces_seen result ≡ outside (known_seen self) }
+    {
+        let Names {
+            variables: _,
+            constants,
+            constructors,
+            types,
+            nodes,
+        } = self;
+        Spaces {
+            types: Places::new(types),
+            constants: Places::new(constants),
+            constructors: Places::new(constructors),
+            nodes: Places::new(nodes),
+        }
+    }
 
     fn knows_name(&self, name: &str) -> bool
         ensures { result ≡ name_known (known_seen self.now) name.now }

@@ -1,22 +1,22 @@
 //! The names of a node.
 
 ghost use Rattle.std.specs.Prelude.{◌≡◌, ◌++◌, map, is_none, OnOk, IfErr, true, false};
-ghost use Rattle.std.specs.List.{list_all};
 ghost use Rattle.lus_values.specs.Lists.{Each};
-ghost use Rattle.lus_syntax.specs.View.{equation_seen, group_seen, node_seen};
+ghost use Rattle.lus_syntax.specs.View.{node_seen};
 ghost use Rattle.lus_source.specs.Tables.{groups};
-ghost use Rattle.lus_source.specs.Named.{NodeNamed, all_new, knows, names_in, test_known};
+ghost use Rattle.lus_source.specs.Named.{NodeNamed, all_new, names_in};
 ghost use Rattle.lus_source.specs.ScopeView.{Faulty};
 ghost use Rattle.lus_declarations.specs.NameView.{known_seen, texts};
-ghost use Rattle.lus_declarations.specs.Parts.{group_known, in_node, node_known, outside};
+ghost use Rattle.lus_declarations.specs.Parts.{in_node, node_known, outside};
 
-use crate::definitions::unknown_type;
-use crate::left::{check_lefts, declare_groups};
-use crate::names::{Names, unknown};
+use crate::left::check_lefts;
+use crate::names::Names;
+use crate::naming::declare_all;
 use crate::refusing::refuse;
+use crate::using::first_unknown;
 use indexmap::IndexSet;
 use lus_source::Fault;
-use lus_syntax::{Equation, Group, Node, Place};
+use lus_syntax::{Node, Place};
 use std::alloc::Global;
 
 /// Checks the names of nodes, one by one.
@@ -49,69 +49,17 @@ pub fn declare_variables(table: &mut IndexSet<String>, node: &Node) -> Result<()
     ensures new { OnOk result (all_new (texts table.old.keys) (names_in (groups (node_seen node.now))) ≡ true) }
     ensures doubled { IfErr result (Faulty (all_new (texts table.old.keys) (names_in (groups (node_seen node.now))) ≡ false)) }
 {
-    declare_groups(table, &node.inputs)?;
-    declare_groups(table, &node.outputs)?;
-    declare_groups(table, &node.locals)
+    declare_all(table, &node.inputs)?;
+    declare_all(table, &node.outputs)?;
+    declare_all(table, &node.locals)
 }
 
 /// The first unknown name in the declarations and on the right sides of a node.
 fn unknown_in_node(names: &Names, node: &Node) -> Option<Place>
     ensures { is_none result ≡ node_known (known_seen names.now) (node_seen node.now) }
 {
-    match unknown_in_declared(names, node) {
-        Some(place) => Some(place),
-        None => unknown_in_equations(names, &node.equations),
-    }
-}
-
-fn unknown_in_declared(names: &Names, node: &Node) -> Option<Place>
-    ensures { is_none result ≡ list_all (group_known (known_seen names.now)) (groups (node_seen node.now)) }
-{
-    match unknown_in_groups(names, &node.inputs) {
-        Some(place) => Some(place),
-        None => match unknown_in_groups(names, &node.outputs) {
-            Some(place) => Some(place),
-            None => unknown_in_groups(names, &node.locals),
-        },
-    }
-}
-
-fn unknown_in_groups(names: &Names, groups: &[Group]) -> Option<Place>
-    ensures { is_none result ≡ list_all (group_known (known_seen names.now)) (map group_seen groups.now) }
-{
-    for group in groups {
-        if let Some(place) = unknown_in_group(names, group) {
-            return Some(place);
-        }
-    }
-    None
-}
-
-fn unknown_in_group(names: &Names, group: &Group) -> Option<Place>
-    ensures { is_none result ≡ group_known (known_seen names.now) (group_seen group.now) }
-{
-    match unknown_type(&names.types, &group.type_name) {
-        Some(place) => Some(place),
-        None => unknown_in_test(names, group),
-    }
-}
-
-fn unknown_in_test(names: &Names, group: &Group) -> Option<Place>
-    ensures { is_none result ≡ test_known (known_seen names.now) (group_seen group.now).test }
-{
-    match &group.test {
-        Some(test) => names.unknown_test(test),
-        None => None,
-    }
-}
-
-fn unknown_in_equations(names: &Names, equations: &[Equation]) -> Option<Place>
-    ensures { is_none result ≡ list_all (λ q. knows (known_seen names.now) q.right) (map equation_seen equations.now) }
-{
-    for equation in equations {
-        if let Some(place) = unknown(names, &equation.right) {
-            return Some(place);
-        }
-    }
-    None
+    first_unknown(names, &node.inputs)
+        .or(first_unknown(names, &node.outputs))
+        .or(first_unknown(names, &node.locals))
+        .or(first_unknown(names, &node.equations))
 }

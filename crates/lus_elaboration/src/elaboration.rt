@@ -8,9 +8,10 @@ ghost use Rattle.lus_source.specs.Meaning.{meant, all_meant};
 ghost use Rattle.lus_source.specs.ScopeView.{scope_of, Faulty};
 ghost use Rattle.lus_elaboration.specs.Wholes.{meaning, parts_seen};
 
-use crate::forms::{Elaborated, binary, boxed, choice, field, named, place_of, sampled, unary};
+use crate::forms::{Elaborated, binary, choice, field, literal, named, place_of, sampled, unary};
+use crate::operands::Operands;
 use crate::parts::{call, merge, structure, variadic};
-use lus_program::{Expr, Form, Kind};
+use lus_program::Kind;
 use lus_source::{Fault, Scope};
 use lus_syntax::{Expr as Source, Part};
 use lus_values::Value;
@@ -25,30 +26,24 @@ pub fn elaborate(alloc: Global, scope: &Scope, source: &Source) -> Result<Elabor
 {
     let place = place_of(source);
     match source {
-        Source::Number(number, _) => Ok(Elaborated {
-            expr: boxed(alloc, place, Form::Literal(Value::Int(*number)))?,
-            kind: Kind::Int,
-        }),
-        Source::Truth(truth, _) => Ok(Elaborated {
-            expr: boxed(alloc, place, Form::Literal(Value::Bool(*truth)))?,
-            kind: Kind::Bool,
-        }),
+        Source::Number(number, _) => literal(alloc, place, Value::Int(*number), Kind::Int),
+        Source::Truth(truth, _) => literal(alloc, place, Value::Bool(*truth), Kind::Bool),
         Source::Name(name) => named(alloc, scope, name),
         Source::Call(name, arguments) => {
-            let (operands, kinds) = elaborate_all(alloc, scope, arguments)?;
-            call(alloc, scope, name, arguments, operands, &kinds)
+            let operands = elaborate_all(alloc, scope, arguments)?;
+            call(alloc, scope, name, arguments, operands)
         }
         Source::Structure(name, fields) => {
-            let (operands, kinds) = elaborate_all(alloc, scope, fields)?;
-            structure(alloc, scope, name, fields, operands, &kinds)
+            let operands = elaborate_all(alloc, scope, fields)?;
+            structure(alloc, scope, name, fields, operands)
         }
         Source::Merge(_, variable, branches) => {
-            let (operands, kinds) = elaborate_all(alloc, scope, branches)?;
-            merge(alloc, scope, place, variable, branches, operands, &kinds)
+            let operands = elaborate_all(alloc, scope, branches)?;
+            merge(alloc, scope, place, variable, branches, operands)
         }
         Source::Variadic(op, _, arguments) => {
-            let (operands, kinds) = elaborate_all(alloc, scope, arguments)?;
-            variadic(alloc, place, *op, arguments, operands, &kinds)
+            let operands = elaborate_all(alloc, scope, arguments)?;
+            variadic(alloc, place, *op, arguments, operands)
         }
         Source::Field(operand, name) => {
             let operand = elaborate(alloc, scope, operand)?;
@@ -83,22 +78,16 @@ pub fn elaborate(alloc: Global, scope: &Scope, source: &Source) -> Result<Elabor
 
 /// The values of parts one by one, and their types.
 #[cycle(elaborate)]
-pub fn elaborate_all(
-    alloc: Global,
-    scope: &Scope,
-    parts: &[Part],
-) -> Result<(Vec<Expr>, Vec<Kind>), Fault>
-    ensures typed { IfOk result (λ x. kinds_of (scope_of scope.now) (parts_seen parts.now) ≡ Some x.1.items) }
-    ensures meant { IfOk result (λ x. operands_of x.0.items ≡ all_meant (scope_of scope.now) (parts_seen parts.now)) }
-    ensures alike { IfOk result (λ x. length x.0.items ≡ length parts.now) }
+pub fn elaborate_all(alloc: Global, scope: &Scope, parts: &[Part]) -> Result<Operands, Fault>
+    ensures typed { IfOk result (λ x. kinds_of (scope_of scope.now) (parts_seen parts.now) ≡ Some x.kinds.items) }
+    ensures meant { IfOk result (λ x. operands_of x.exprs.items ≡ all_meant (scope_of scope.now) (parts_seen parts.now)) }
+    ensures alike { IfOk result (λ x. length x.exprs.items ≡ length parts.now) }
     ensures refused { IfErr result (Faulty (kinds_of (scope_of scope.now) (parts_seen parts.now) ≡ None)) }
 {
-    let mut operands = Vec::with_capacity(alloc, parts.len())?;
-    let mut kinds = Vec::with_capacity(alloc, parts.len())?;
+    let mut operands = Operands::with_capacity(alloc, parts.len())?;
     for part in parts {
-        let Elaborated { expr, kind } = elaborate(alloc, scope, &part.value)?;
-        operands.push(Box::into_inner(expr))?;
-        kinds.push(kind)?;
+        let operand = elaborate(alloc, scope, &part.value)?;
+        operands.push(operand)?;
     }
-    Ok((operands, kinds))
+    Ok(operands)
 }

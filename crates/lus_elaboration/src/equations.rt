@@ -2,20 +2,23 @@
 
 ghost use Rattle.std.specs.Prelude.{◌≡◌, IfOk, IfErr, Some, None, unwrap_or, true, false};
 ghost use Rattle.lus_syntax.specs.View.{expression_seen, equation_seen, name_seen, names_seen};
-ghost use Rattle.lus_program.specs.View.{expression_of};
+ghost use Rattle.lus_program.specs.Programs.{call as call_meant};
+ghost use Rattle.lus_program.specs.View.{expression_of, operands_of};
 ghost use Rattle.lus_program.specs.declared.types.Kind.TheVariants.{Bool as BoolKind};
-ghost use Rattle.lus_source.specs.Types.{variable_kind};
-ghost use Rattle.lus_source.specs.Meaning.{meant, targets_meant, variable_place};
+ghost use Rattle.lus_source.specs.Types.{outputs_of, variable_kind};
+ghost use Rattle.lus_source.specs.Meaning.{meant, node_place, targets_meant, variable_place};
 ghost use Rattle.lus_source.specs.WellTyped.{kinds_given, left_kinds as kinds_of_left, equation_typed};
 ghost use Rattle.lus_source.specs.ScopeView.{scope_of, Faulty};
+ghost use Rattle.lus_elaboration.specs.Wholes.{parts_seen};
 
 use crate::elaboration::{elaborate, elaborate_all};
 use crate::forms::{boxed, place_of};
 use crate::kinds::all_same;
+use crate::operands::Operands;
 use crate::parts::callee;
 use lus_program::{Equation, Expr, Form, Kind};
 use lus_source::{Fault, Scope};
-use lus_syntax::{Equation as SourceEquation, Expr as Source, Name, Place};
+use lus_syntax::{Equation as SourceEquation, Expr as Source, Name, Part, Place};
 use std::alloc::{AllocError, Global};
 
 /// A whole right side, with the types of what it gives.
@@ -38,12 +41,8 @@ pub fn right_side(alloc: Global, scope: &Scope, source: &Source) -> Result<Given
             Ok(inner)
         }
         Source::Call(name, arguments) => {
-            let (operands, kinds) = elaborate_all(alloc, scope, arguments)?;
-            let node = callee(scope, name, arguments, &kinds)?;
-            Ok(Given {
-                expr: boxed(alloc, name.span.start, Form::Call(node.place, operands))?,
-                kinds: copied(alloc, &node.outputs)?,
-            })
+            let operands = elaborate_all(alloc, scope, arguments)?;
+            whole_call(alloc, scope, name, arguments, operands)
         }
         Source::Number(_, _)
         | Source::Truth(_, _)
@@ -65,14 +64,26 @@ pub fn right_side(alloc: Global, scope: &Scope, source: &Source) -> Result<Given
     }
 }
 
-fn copied(alloc: Global, kinds: &[Kind]) -> Result<Vec<Kind>, AllocError>
-    ensures { IfOk result (λ ks. ks.items ≡ kinds.now) }
+/// A call with any number of outputs.
+fn whole_call(
+    alloc: Global,
+    scope: &Scope,
+    name: &Name,
+    arguments: &[Part],
+    operands: Operands,
+) -> Result<Given, Fault>
+    ensures typed { let given = outputs_of (scope_of scope.now) (name_seen name.now).text (parts_seen arguments.now) operands.kinds.items in
+        IfOk result (λ x. given ≡ Some x.kinds.items) }
+    ensures meant { let node = node_place (scope_of scope.now) (name_seen name.now).text in
+        IfOk result (λ x. expression_of x.expr.value ≡ call_meant node 0 (operands_of operands.exprs.items)) }
+    ensures refused { let given = outputs_of (scope_of scope.now) (name_seen name.now).text (parts_seen arguments.now) operands.kinds.items in
+        IfErr result (Faulty (given ≡ None)) }
 {
-    let mut copies = Vec::with_capacity(alloc, kinds.len())?;
-    for kind in kinds {
-        copies.push(*kind)?;
-    }
-    Ok(copies)
+    let node = callee(scope, name, arguments, &operands.kinds)?;
+    let kinds = node.outputs.clone()?;
+    let form = Form::Call(node.place, operands.into_exprs());
+    let expr = boxed(alloc, name.span.start, form)?;
+    Ok(Given { expr, kinds })
 }
 
 fn left_kinds(alloc: Global, scope: &Scope, names: &[Name]) -> Result<Vec<Kind>, AllocError>

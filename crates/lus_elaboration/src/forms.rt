@@ -2,9 +2,10 @@
 
 ghost use Rattle.std.specs.Prelude.{◌≡◌, Some, None, IfOk, IfErr};
 ghost use Rattle.lus_syntax.specs.View.{name_seen, test_seen, label_seen};
-ghost use Rattle.lus_program.specs.Programs.{operate};
+ghost use Rattle.lus_program.specs.Programs.{literal as literal_meant, operate};
 ghost use Rattle.lus_program.specs.View.{expression_in, expression_of, operands_of};
 ghost use Rattle.lus_typing.specs.Kinds.{choice_kind as kind_of_choice};
+ghost use Rattle.lus_values.specs.View.{value_of};
 ghost use Rattle.lus_source.specs.Types.{name_kind, prefix_kind as kind_of_prefix, infix_kind as kind_of_infix, field_kind, test_placed as placed_test, truth_place as place_of_truth, label_place as place_of_label, asked_place as place_asked, test_variable as variable_of_test};
 ghost use Rattle.lus_source.specs.Meaning.{name_meant, prefix_meant, infix_meant, one, field_meant};
 ghost use Rattle.lus_source.specs.ScopeView.{scope_of, Faulty};
@@ -14,7 +15,7 @@ use crate::kinds::{choice_kind, infix_kind, prefix_kind, same, value_kind};
 use lus_program::{Expr, Form, Kind, Test};
 use lus_source::{Fault, Scope, field as field_named};
 use lus_syntax::{Expr as Source, Infix, Label, Name, Place, Prefix, Test as SourceTest};
-use lus_values::{Op, Operator};
+use lus_values::{Op, Operator, Value};
 use std::alloc::{AllocError, Global};
 
 /// An expression of the program and its type. It is boxed at once, since expressions are large.
@@ -62,6 +63,16 @@ pub fn operated(
     boxed(alloc, place, Form::Operate(operator, operands))
 }
 
+/// A value, of this type.
+pub fn literal(alloc: Global, place: Place, value: Value, kind: Kind) -> Result<Elaborated, Fault>
+    ensures typed { IfOk result (λ x. x.kind ≡ kind) }
+    ensures meant { IfOk result (λ x. meaning x ≡ literal_meant (value_of value)) }
+    ensures refused { IfErr result (Faulty ⊥) }
+{
+    let expr = boxed(alloc, place, Form::Literal(value))?;
+    Ok(Elaborated { expr, kind })
+}
+
 /// A name: a variable hides a constant or a constructor.
 pub fn named(alloc: Global, scope: &Scope, name: &Name) -> Result<Elaborated, Fault>
     ensures typed { IfOk result (λ x. name_kind (scope_of scope.now) (name_seen name.now).text ≡ Some x.kind) }
@@ -81,10 +92,7 @@ pub fn named(alloc: Global, scope: &Scope, name: &Name) -> Result<Elaborated, Fa
     let Some(kind) = value_kind(&value) else {
         return Err(Fault::At(place));
     };
-    Ok(Elaborated {
-        expr: boxed(alloc, place, Form::Literal(value))?,
-        kind,
-    })
+    literal(alloc, place, value, kind)
 }
 
 /// An operator before its operand.

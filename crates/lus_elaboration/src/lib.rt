@@ -6,6 +6,7 @@ mod elaboration;
 mod equations;
 mod forms;
 mod kinds;
+mod operands;
 mod parts;
 mod purity;
 

@@ -13,7 +13,8 @@ ghost use Rattle.lus_elaboration.specs.Wholes.{call_kind, meaning, merge_over, m
 use crate::arrangement::arranged;
 use crate::forms::{Elaborated, boxed, label_place, operated, place_of};
 use crate::kinds::{all_same, common_kind, op_kind, same, the_one};
-use lus_program::{Expr, Form, Kind};
+use crate::operands::Operands;
+use lus_program::{Form, Kind};
 use lus_source::{Fault, Placed, Scope, Signature, field as field_named};
 use lus_syntax::{Label, Lead, ListOperator, Name, Part, Place};
 use lus_values::{Op, Operator};
@@ -60,25 +61,22 @@ pub fn call(
     scope: &Scope,
     name: &Name,
     arguments: &[Part],
-    operands: Vec<Expr>,
-    kinds: &[Kind],
+    operands: Operands,
 ) -> Result<Elaborated, Fault>
-    ensures typed { let given = call_kind (scope_of scope.now) (name_seen name.now).text (parts_seen arguments.now) kinds.now in
+    ensures typed { let given = call_kind (scope_of scope.now) (name_seen name.now).text (parts_seen arguments.now) operands.kinds.items in
         IfOk result (λ x. given ≡ Some x.kind) }
     ensures meant { let node = node_place (scope_of scope.now) (name_seen name.now).text in
-        IfOk result (λ x. meaning x ≡ call_meant node 0 (operands_of operands.items)) }
-    ensures refused { let given = call_kind (scope_of scope.now) (name_seen name.now).text (parts_seen arguments.now) kinds.now in
+        IfOk result (λ x. meaning x ≡ call_meant node 0 (operands_of operands.exprs.items)) }
+    ensures refused { let given = call_kind (scope_of scope.now) (name_seen name.now).text (parts_seen arguments.now) operands.kinds.items in
         IfErr result (Faulty (given ≡ None)) }
 {
     let place = name.span.start;
-    let node = callee(scope, name, arguments, kinds)?;
+    let node = callee(scope, name, arguments, &operands.kinds)?;
     let Some(kind) = the_one(&node.outputs) else {
         return Err(Fault::At(place));
     };
-    Ok(Elaborated {
-        expr: boxed(alloc, place, Form::Call(node.place, operands))?,
-        kind,
-    })
+    let expr = boxed(alloc, place, Form::Call(node.place, operands.into_exprs()))?;
+    Ok(Elaborated { expr, kind })
 }
 
 fn list_operation(op: ListOperator) -> Op
@@ -96,21 +94,21 @@ pub fn variadic(
     place: Place,
     op: ListOperator,
     arguments: &[Part],
-    operands: Vec<Expr>,
-    kinds: &[Kind],
+    operands: Operands,
 ) -> Result<Elaborated, Fault>
-    ensures typed { IfOk result (λ x. variadic_kind op (parts_seen arguments.now) kinds.now ≡ Some x.kind) }
-    ensures meant { IfOk result (λ x. meaning x ≡ variadic_meant op (operands_of operands.items)) }
-    ensures refused { IfErr result (Faulty (variadic_kind op (parts_seen arguments.now) kinds.now ≡ None)) }
+    ensures typed { IfOk result (λ x. variadic_kind op (parts_seen arguments.now) operands.kinds.items ≡ Some x.kind) }
+    ensures meant { IfOk result (λ x. meaning x ≡ variadic_meant op (operands_of operands.exprs.items)) }
+    ensures refused { IfErr result (Faulty (variadic_kind op (parts_seen arguments.now) operands.kinds.items ≡ None)) }
 {
     if !are_arguments(arguments) {
         return Err(Fault::At(place));
     }
     let operation = list_operation(op);
-    let Some(kind) = op_kind(operation, kinds) else {
+    let Some(kind) = op_kind(operation, &operands.kinds) else {
         return Err(Fault::At(place));
     };
-    let expr = operated(alloc, place, Operator::Compute(operation), operands)?;
+    let operator = Operator::Compute(operation);
+    let expr = operated(alloc, place, operator, operands.into_exprs())?;
     Ok(Elaborated { expr, kind })
 }
 
@@ -151,32 +149,30 @@ pub fn merge(
     place: Place,
     variable: &Name,
     branches: &[Part],
-    operands: Vec<Expr>,
-    kinds: &[Kind],
+    operands: Operands,
 ) -> Result<Elaborated, Fault>
-    requires { length operands.items ≡ length branches.now }
-    ensures typed { let given = merge_over_kind (scope_of scope.now) (name_seen variable.now).text (parts_seen branches.now) kinds.now in
+    requires { length operands.exprs.items ≡ length branches.now }
+    ensures typed { let given = merge_over_kind (scope_of scope.now) (name_seen variable.now).text (parts_seen branches.now) operands.kinds.items in
         IfOk result (λ x. given ≡ Some x.kind) }
     ensures meant { let merged = merge_over (scope_of scope.now) (name_seen variable.now).text (parts_seen branches.now) in
-        IfOk result (λ x. meaning x ≡ merged (operands_of operands.items)) }
-    ensures refused { let given = merge_over_kind (scope_of scope.now) (name_seen variable.now).text (parts_seen branches.now) kinds.now in
+        IfOk result (λ x. meaning x ≡ merged (operands_of operands.exprs.items)) }
+    ensures refused { let given = merge_over_kind (scope_of scope.now) (name_seen variable.now).text (parts_seen branches.now) operands.kinds.items in
         IfErr result (Faulty (given ≡ None)) }
 {
     let Some(clock) = scope.variable(&variable.text) else {
         return Err(Fault::At(variable.span.start));
     };
+    let common = common_kind(&operands.kinds);
     let places = branch_places(alloc, scope, clock.kind, branches)?;
     let size = scope.size_of(clock.kind);
-    let Some(operands) = arranged(alloc, size, places, operands)? else {
+    let Some(exprs) = arranged(alloc, size, places, operands.into_exprs())? else {
         return Err(Fault::At(place));
     };
-    let Some(kind) = common_kind(kinds) else {
+    let Some(kind) = common else {
         return Err(Fault::At(place));
     };
-    Ok(Elaborated {
-        expr: boxed(alloc, place, Form::Merge(clock.place, operands))?,
-        kind,
-    })
+    let expr = boxed(alloc, place, Form::Merge(clock.place, exprs))?;
+    Ok(Elaborated { expr, kind })
 }
 
 fn field_asked(scope: &Scope, kind: Kind, lead: &Lead) -> Option<Placed>
@@ -244,15 +240,14 @@ pub fn structure(
     scope: &Scope,
     name: &Name,
     fields: &[Part],
-    operands: Vec<Expr>,
-    kinds: &[Kind],
+    operands: Operands,
 ) -> Result<Elaborated, Fault>
-    requires { length operands.items ≡ length fields.now }
-    ensures typed { let given = structure_of_kind (scope_of scope.now) (name_seen name.now).text (parts_seen fields.now) kinds.now in
+    requires { length operands.exprs.items ≡ length fields.now }
+    ensures typed { let given = structure_of_kind (scope_of scope.now) (name_seen name.now).text (parts_seen fields.now) operands.kinds.items in
         IfOk result (λ x. given ≡ Some x.kind) }
     ensures meant { let structure = structure_of (scope_of scope.now) (name_seen name.now).text (parts_seen fields.now) in
-        IfOk result (λ x. meaning x ≡ structure (operands_of operands.items)) }
-    ensures refused { let given = structure_of_kind (scope_of scope.now) (name_seen name.now).text (parts_seen fields.now) kinds.now in
+        IfOk result (λ x. meaning x ≡ structure (operands_of operands.exprs.items)) }
+    ensures refused { let given = structure_of_kind (scope_of scope.now) (name_seen name.now).text (parts_seen fields.now) operands.kinds.items in
         IfErr result (Faulty (given ≡ None)) }
 {
     let place = name.span.start;
@@ -263,15 +258,15 @@ pub fn structure(
         return Err(Fault::At(place));
     };
     let asked = fields_asked(alloc, scope, kind, fields)?;
-    if !all_fit(&asked, kinds) {
+    if !all_fit(&asked, &operands.kinds) {
         return Err(Fault::At(place));
     }
     let places = places_of(alloc, &asked)?;
     let size = scope.fields_of(kind).len();
-    let Some(operands) = arranged(alloc, size, places, operands)? else {
+    let Some(exprs) = arranged(alloc, size, places, operands.into_exprs())? else {
         return Err(Fault::At(place));
     };
-    let expr = operated(alloc, place, Operator::Structure(declaration), operands)?;
+    let expr = operated(alloc, place, Operator::Structure(declaration), exprs)?;
     Ok(Elaborated { expr, kind })
 }
 

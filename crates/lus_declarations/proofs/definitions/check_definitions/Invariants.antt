@@ -7,4 +7,4 @@ use Rattle.lus_declarations.specs.NameView.{texts}
 use Rattle.lus_declarations.proofs.definitions.check_definitions.Given as goal
 
 abbrev pub invariant-loop-declaration : goal.invariant-loop-declaration
-invariant-loop-declaration l = Each (λ d. DefinitionNamed (texts l.types.keys) d.definition) (map type_seen (take l.declaration-index l.declarations))
+invariant-loop-declaration l = Each (λ d. DefinitionNamed (texts l.names.types.keys) d.definition) (map type_seen (take l.declaration-index l.declarations))

@@ -23,23 +23,11 @@ few_constructors : (ds : List TypeDeclaration) → Each (λ d. DefinitionCounted
 few_constructors [] h = omega arith
 few_constructors (d ∷ ds) h = omega (arith, few_own d.definition h.0, few_constructors ds h.1, length-append (constructor_names d.definition) (all_constructor_names ds))
 
-pub new-requires-2 : goal.new-requires-2
-new-requires-2 c =
-    let p = tree_seen c.tree.result.now in
-    let count = length-map p.constants (λ k. k.name.text) in
-    record { few = few c.in-Ok.names.constants.keys (map (λ k. k.name.text) p.constants) (ap (λ (k : Known). k.constants) c.in-Ok.ensures.tables) (omega (arith, c.tree.ensures.counted.constants, count)) }
-
-pub new-requires-3 : goal.new-requires-3
-new-requires-3 c =
+pub into_spaces-names-requires-clause-constructors : goal.into_spaces-names-requires-clause-constructors
+into_spaces-names-requires-clause-constructors c =
     let p = tree_seen c.tree.result.now in
     let count = few_constructors p.types c.tree.ensures.counted.definitions in
-    record { few = few c.in-Ok.names.constructors.keys (all_constructor_names p.types) (ap (λ (k : Known). k.constructors) c.in-Ok.ensures.tables) (omega (arith, c.tree.ensures.counted.types, count)) }
-
-pub new-requires-4 : goal.new-requires-4
-new-requires-4 c =
-    let p = tree_seen c.tree.result.now in
-    let count = length-map p.nodes (λ f. f.name.text) in
-    record { few = few c.in-Ok.names.nodes.keys (map (λ f. f.name.text) p.nodes) (ap (λ (k : Known). k.nodes) c.in-Ok.ensures.tables) (omega (arith, c.tree.ensures.counted.nodes, count)) }
+    few c.in-Ok.names.constructors.keys (all_constructor_names p.types) (ap (λ (k : Known). k.constructors) c.in-Ok.ensures.tables) (omega (arith, c.tree.ensures.counted.types, count))
 
 pub returns-in-Err-clause-shaped : goal.returns-in-Err-clause-shaped
 returns-in-Err-clause-shaped c = c.refusal.ensures.shaped (λ same. cc)

@@ -1,38 +1,40 @@
 -- Inputs, outputs and locals are distinct where each are new behind those before them.
-use Rattle.std.proofs.Common.{◌∙◌, map, sym}
+use Rattle.std.proofs.Common.{◌∙◌, sym}
 use Rattle.std.proofs.lemmas.Result.{on_ok_weaker}
-use Rattle.lus_syntax.specs.View.{group_seen}
 use Rattle.lus_declarations.specs.NameView.{texts}
 use Rattle.lus_source.proofs.Faults.{passed_on, refused_by}
-use Rattle.lus_declarations.proofs.GroupNames.{all_remaining}
+use Rattle.lus_declarations.proofs.GroupNames.{variables_remain}
 use Rattle.lus_declarations.proofs.NewNames.{remaining_doubled, remaining_step}
 use Rattle.lus_declarations.proofs.nodes.declare_variables.Goals as goal
 
-pub returns-in_err-declare_groups-clause-doubled : goal.returns-in_err-declare_groups-clause-doubled
-returns-in_err-declare_groups-clause-doubled c =
-    let f = c.args.node.now in
-    let start = all_remaining (texts c.args.table.now.keys) (map group_seen f.inputs.items) (map group_seen f.outputs.items) (map group_seen f.locals.items) in
-    passed_on (remaining_doubled _ _ _ _ _ start) c.from_residual.result c.in_err-declare_groups.field-0.0 c.from_residual.ensures.1 (rw c.deref.ensures.value at c.in_err-declare_groups.ensures.doubled)
+pub returns-in_err-declare_all-clause-doubled : goal.returns-in_err-declare_all-clause-doubled
+returns-in_err-declare_all-clause-doubled c =
+    let start = variables_remain c.args.node.now (texts c.args.table.now.keys) in
+    passed_on (remaining_doubled _ _ _ _ _ start) c.from_residual.result c.in_err-declare_all.field-0.0 c.from_residual.ensures.1 (rw c.deref.ensures.value at c.in_err-declare_all.ensures.doubled)
 
-pub returns-in_err-declare_groups-2-clause-doubled : goal.returns-in_err-declare_groups-2-clause-doubled
-returns-in_err-declare_groups-2-clause-doubled c =
-    let f = c.args.node.now in
-    let start = all_remaining (texts c.args.table.now.keys) (map group_seen f.inputs.items) (map group_seen f.outputs.items) (map group_seen f.locals.items) in
-    let behind = remaining_step _ _ _ _ _ _ start (rw c.deref.ensures.value at c.in_ok-declare_groups.ensures.kept) (rw c.deref.ensures.value at c.in_ok-declare_groups.ensures.new) in
-    passed_on (remaining_doubled _ _ _ _ _ behind) c.from_residual-in_err-declare_groups-2.result c.in_err-declare_groups-2.field-0.0 c.from_residual-in_err-declare_groups-2.ensures.1 (rw c.deref-2.ensures.value at c.in_err-declare_groups-2.ensures.doubled)
+pub returns-in_err-declare_all-2-clause-doubled : goal.returns-in_err-declare_all-2-clause-doubled
+returns-in_err-declare_all-2-clause-doubled c =
+    let start = variables_remain c.args.node.now (texts c.args.table.now.keys) in
+    let behind = remaining_step _ _ _ _ _ _ start (rw c.deref.ensures.value at c.in_ok-declare_all.ensures.kept) (rw c.deref.ensures.value at c.in_ok-declare_all.ensures.new) in
+    passed_on (remaining_doubled _ _ _ _ _ behind) c.from_residual-in_err-declare_all-2.result c.in_err-declare_all-2.field-0.0 c.from_residual-in_err-declare_all-2.ensures.1 (rw c.deref-2.ensures.value at c.in_err-declare_all-2.ensures.doubled)
+
+pub returns-clause-kept : goal.returns-clause-kept
+returns-clause-kept c =
+    let start = variables_remain c.args.node.now (texts c.args.table.now.keys) in
+    let behind = remaining_step _ _ _ _ _ _ start (rw c.deref.ensures.value at c.in_ok-declare_all.ensures.kept) (rw c.deref.ensures.value at c.in_ok-declare_all.ensures.new) in
+    let last = remaining_step _ _ _ _ _ _ behind (rw c.deref-2.ensures.value at c.in_ok-declare_all-2.ensures.kept) (rw c.deref-2.ensures.value at c.in_ok-declare_all-2.ensures.new) in
+    on_ok_weaker c.declare_all-3.result (λ grown. grown ∙ last.kept) (rw c.deref-3.ensures.value at c.declare_all-3.ensures.kept)
 
 pub returns-clause-new : goal.returns-clause-new
 returns-clause-new c =
-    let f = c.args.node.now in
-    let start = all_remaining (texts c.args.table.now.keys) (map group_seen f.inputs.items) (map group_seen f.outputs.items) (map group_seen f.locals.items) in
-    let behind = remaining_step _ _ _ _ _ _ start (rw c.deref.ensures.value at c.in_ok-declare_groups.ensures.kept) (rw c.deref.ensures.value at c.in_ok-declare_groups.ensures.new) in
-    let last = remaining_step _ _ _ _ _ _ behind (rw c.deref-2.ensures.value at c.in_ok-declare_groups-2.ensures.kept) (rw c.deref-2.ensures.value at c.in_ok-declare_groups-2.ensures.new) in
-    on_ok_weaker c.declare_groups-3.result (λ new. sym last.same ∙ new) (rw c.deref-3.ensures.value at c.declare_groups-3.ensures.new)
+    let start = variables_remain c.args.node.now (texts c.args.table.now.keys) in
+    let behind = remaining_step _ _ _ _ _ _ start (rw c.deref.ensures.value at c.in_ok-declare_all.ensures.kept) (rw c.deref.ensures.value at c.in_ok-declare_all.ensures.new) in
+    let last = remaining_step _ _ _ _ _ _ behind (rw c.deref-2.ensures.value at c.in_ok-declare_all-2.ensures.kept) (rw c.deref-2.ensures.value at c.in_ok-declare_all-2.ensures.new) in
+    on_ok_weaker c.declare_all-3.result (λ new. sym last.same ∙ new) (rw c.deref-3.ensures.value at c.declare_all-3.ensures.new)
 
 pub returns-clause-doubled : goal.returns-clause-doubled
 returns-clause-doubled c =
-    let f = c.args.node.now in
-    let start = all_remaining (texts c.args.table.now.keys) (map group_seen f.inputs.items) (map group_seen f.outputs.items) (map group_seen f.locals.items) in
-    let behind = remaining_step _ _ _ _ _ _ start (rw c.deref.ensures.value at c.in_ok-declare_groups.ensures.kept) (rw c.deref.ensures.value at c.in_ok-declare_groups.ensures.new) in
-    let last = remaining_step _ _ _ _ _ _ behind (rw c.deref-2.ensures.value at c.in_ok-declare_groups-2.ensures.kept) (rw c.deref-2.ensures.value at c.in_ok-declare_groups-2.ensures.new) in
-    refused_by (λ doubled. sym last.same ∙ doubled) c.declare_groups-3.result (rw c.deref-3.ensures.value at c.declare_groups-3.ensures.doubled)
+    let start = variables_remain c.args.node.now (texts c.args.table.now.keys) in
+    let behind = remaining_step _ _ _ _ _ _ start (rw c.deref.ensures.value at c.in_ok-declare_all.ensures.kept) (rw c.deref.ensures.value at c.in_ok-declare_all.ensures.new) in
+    let last = remaining_step _ _ _ _ _ _ behind (rw c.deref-2.ensures.value at c.in_ok-declare_all-2.ensures.kept) (rw c.deref-2.ensures.value at c.in_ok-declare_all-2.ensures.new) in
+    refused_by (λ doubled. sym last.same ∙ doubled) c.declare_all-3.result (rw c.deref-3.ensures.value at c.declare_all-3.ensures.doubled)

@@ -10,7 +10,7 @@ use Rattle.lus_elaboration.proofs.elaboration.+elaborate.Given as goal
 
 abbrev pub invariant-elaborate_all-loop-part : goal.invariant-elaborate_all-loop-part
 invariant-elaborate_all-loop-part l = record {
-  typed : kinds_of (scope_of l.scope) (parts_of (map part_seen l.parts)) ≡ option_map (λ ks. l.kinds.items ++ ks) (kinds_of (scope_of l.scope) (parts_of (map part_seen (drop l.part-index l.parts))));
-  meant : map expression_of l.operands.items ≡ map (λ p. meant (scope_of l.scope) (expression_seen p.value)) (take l.part-index l.parts);
-  alike : length l.operands.items ≡ l.part-index;
+  typed : kinds_of (scope_of l.scope) (parts_of (map part_seen l.parts)) ≡ option_map (λ ks. l.operands.kinds.items ++ ks) (kinds_of (scope_of l.scope) (parts_of (map part_seen (drop l.part-index l.parts))));
+  meant : map expression_of l.operands.exprs.items ≡ map (λ p. meant (scope_of l.scope) (expression_seen p.value)) (take l.part-index l.parts);
+  alike : length l.operands.exprs.items ≡ l.part-index;
 }

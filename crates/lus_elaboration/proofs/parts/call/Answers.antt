@@ -3,4 +3,4 @@ use Rattle.lus_program.proofs.OperandViews.{seen_call}
 use Rattle.lus_elaboration.proofs.parts.call.Goals as goal
 
 pub returns-clause-meant : goal.returns-clause-meant
-returns-clause-meant c = c.in_ok-boxed.ensures ∙ seen_call c.in_ok-node.node.now.place c.args.operands ∙ search rules
+returns-clause-meant c = c.in_ok-expr.ensures ∙ seen_call c.in_ok-node.node.now.place c.into_exprs.result ∙ search rules

@@ -1,0 +1,54 @@
+-- Each table was empty, and has the names of its space.
+use Rattle.std.proofs.Common.{ap}
+use Rattle.std.specs.Prelude.{is_none}
+use Rattle.lus_source.specs.Named.{Known}
+use Rattle.lus_declarations.specs.NameView.{texts}
+use Rattle.lus_source.proofs.Faults.{passed_on}
+use Rattle.lus_declarations.proofs.NewNames.{from_empty}
+use Rattle.lus_declarations.proofs.DeclaredNames.{constant_twice, constants_there, constructor_twice, constructors, node_twice, nodes_distinct, nodes_there, type_twice, types_distinct, types_there, value_twice, values_distinct}
+use Rattle.lus_declarations.proofs.declarations.declared.Goals as goal
+
+pub returns-in_err-declare_all-clause-doubled : goal.returns-in_err-declare_all-clause-doubled
+returns-in_err-declare_all-clause-doubled c =
+    passed_on (type_twice c.args.tree.now (texts c.new-names.result.types.keys) (ap (λ (k : Known). k.types) c.new-names.ensures)) c.from_residual.result c.in_err-declare_all.field-0.0 c.from_residual.ensures.1 (rw c.deref.ensures.value at c.in_err-declare_all.ensures.doubled)
+
+pub returns-in_err-declare_all-2-clause-doubled : goal.returns-in_err-declare_all-2-clause-doubled
+returns-in_err-declare_all-2-clause-doubled c =
+    passed_on (constant_twice c.args.tree.now (texts c.new-names.result.constants.keys) (ap (λ (k : Known). k.constants) c.new-names.ensures)) c.from_residual-in_err-declare_all-2.result c.in_err-declare_all-2.field-0.0 c.from_residual-in_err-declare_all-2.ensures.1 (rw c.deref-2.ensures.value at c.in_err-declare_all-2.ensures.doubled)
+
+pub returns-in_err-declare_constructors-clause-doubled : goal.returns-in_err-declare_constructors-clause-doubled
+returns-in_err-declare_constructors-clause-doubled c =
+    passed_on (constructor_twice c.args.tree.now (texts c.new-names.result.constructors.keys) (ap (λ (k : Known). k.constructors) c.new-names.ensures)) c.from_residual-in_err-declare_constructors.result c.in_err-declare_constructors.field-0.0 c.from_residual-in_err-declare_constructors.ensures.1 (rw c.deref-3.ensures.value at c.in_err-declare_constructors.ensures.doubled)
+
+pub returns-in_err-refuse-clause-doubled : goal.returns-in_err-refuse-clause-doubled
+returns-in_err-refuse-clause-doubled c =
+    passed_on (value_twice c.args.tree.now (texts c.new-names.result.constants.keys) (ap (λ (k : Known). k.constants) c.new-names.ensures) (texts c.declare_all-2.new.table.keys) (is_none c.doubled_value.result) (rw c.deref-2.ensures.value at c.in_ok-declare_all-2.ensures.kept) c.doubled_value.ensures)
+    c.from_residual-in_err-refuse.result c.in_err-refuse.field-0.0 c.from_residual-in_err-refuse.ensures.1 c.in_err-refuse.ensures.err
+
+pub returns-in_err-declare_all-3-clause-doubled : goal.returns-in_err-declare_all-3-clause-doubled
+returns-in_err-declare_all-3-clause-doubled c =
+    passed_on (node_twice c.args.tree.now (texts c.new-names.result.nodes.keys) (ap (λ (k : Known). k.nodes) c.new-names.ensures)) c.from_residual-in_err-declare_all-3.result c.in_err-declare_all-3.field-0.0 c.from_residual-in_err-declare_all-3.ensures.1 (rw c.deref-4.ensures.value at c.in_err-declare_all-3.ensures.doubled)
+
+pub returns-clause-tables : goal.returns-clause-tables
+returns-clause-tables c =
+    let t = c.args.tree.now in
+    let empty = c.new-names.ensures in
+    let variables = ap (λ (k : Known). k.variables) empty in
+    let constants = constants_there t (texts c.new-names.result.constants.keys) (ap (λ (k : Known). k.constants) empty) (texts c.declare_all-2.new.table.keys) (rw c.deref-2.ensures.value at c.in_ok-declare_all-2.ensures.kept) in
+    let constructors = from_empty (texts c.new-names.result.constructors.keys) (constructors t) (texts c.declare_constructors.new.table.keys) (ap (λ (k : Known). k.constructors) empty) (rw c.deref-3.ensures.value at c.in_ok-declare_constructors.ensures.kept) in
+    let types = types_there t (texts c.new-names.result.types.keys) (ap (λ (k : Known). k.types) empty) (texts c.declare_all.new.table.keys) (rw c.deref.ensures.value at c.in_ok-declare_all.ensures.kept) in
+    let nodes = nodes_there t (texts c.new-names.result.nodes.keys) (ap (λ (k : Known). k.nodes) empty) (texts c.declare_all-3.new.table.keys) (rw c.deref-4.ensures.value at c.in_ok-declare_all-3.ensures.kept) in
+    λ i. record { variables = variables i; constants = constants i; constructors = constructors i; types = types i; nodes = nodes i }
+
+pub returns-clause-distinct : goal.returns-clause-distinct
+returns-clause-distinct c =
+    let t = c.args.tree.now in
+    let empty = c.new-names.ensures in
+    record {
+      types = types_distinct t (texts c.new-names.result.types.keys) (ap (λ (k : Known). k.types) empty) (rw c.deref.ensures.value at c.in_ok-declare_all.ensures.new);
+      values =
+          values_distinct t (texts c.new-names.result.constants.keys) (ap (λ (k : Known). k.constants) empty) (texts c.declare_all-2.new.table.keys) (is_none c.doubled_value.result)
+          (rw c.deref-2.ensures.value at c.in_ok-declare_all-2.ensures.kept) c.doubled_value.ensures (texts c.new-names.result.constructors.keys) (ap (λ (k : Known). k.constructors) empty)
+          (rw c.deref-2.ensures.value at c.in_ok-declare_all-2.ensures.new) (rw c.deref-3.ensures.value at c.in_ok-declare_constructors.ensures.new) c.in_ok-refuse.ensures.ok;
+      nodes = nodes_distinct t (texts c.new-names.result.nodes.keys) (ap (λ (k : Known). k.nodes) empty) (rw c.deref-4.ensures.value at c.in_ok-declare_all-3.ensures.new);
+    }
