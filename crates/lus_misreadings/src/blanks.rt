@@ -1,24 +1,22 @@
 //! Blanks round what is put in or left out.
 
+use crate::comments::blanks_of;
 use crate::fault::{Fault, is_name};
 use crate::phrase::Phrase;
-use crate::remark::{Change, Text, Trust};
+use crate::remark::{Change, sure};
 use lus_faults::bytes_at;
 use lus_syntax::{Token, TokenKind};
 
 /// Whether blanks stand between two bytes of a source, and nothing else.
 fn is_blank(source: &str, from: u32, to: u32) -> bool {
     match bytes_at(source, from as usize, to as usize) {
-        Some(between) => from < to
-            && !between
-                .as_bytes()
-                .iter()
-                .any(|byte| *byte != b' ' && *byte != b'\t'),
+        Some(between) => from < to && blanks_of(between) == between.len(),
         None => false,
     }
 }
 
-fn is_punctuation(token: Option<&Token>) -> bool {
+/// Whether a token is a sign.
+pub fn is_punctuation(token: Option<&Token>) -> bool {
     match token {
         Some(token) => matches!(token.kind, TokenKind::Punctuation(_)),
         None => false,
@@ -39,7 +37,7 @@ fn sides(fault: &Fault<'_>, found: &Token) -> (u32, u32) {
 }
 
 /// The change that leaves out the fault's token, with the blanks on one of its sides where that joins no words.
-pub fn without<'t>(fault: &Fault<'t>, found: &Token) -> Change<'t> {
+pub fn without<'t>(fault: &Fault<'t>, found: &Token) -> Option<Change<'t>> {
     let start = found.span.start.byte;
     let end = found.span.end().byte;
     let (front, rear) = sides(fault, found);
@@ -55,12 +53,7 @@ pub fn without<'t>(fault: &Fault<'t>, found: &Token) -> Change<'t> {
     } else {
         (start, end)
     };
-    Change {
-        byte: from,
-        length: to.saturating_sub(from),
-        text: Text::Phrase(Phrase::plain("")),
-        trust: Trust::Sure,
-    }
+    sure(from, to, Phrase::plain(""))
 }
 
 /// The blank that a missing token has before it, behind the token there.
@@ -75,7 +68,11 @@ fn front_of(missing: &str, before: &Token) -> &'static str {
 
 /// The change that puts a missing token behind the one before the fault, with the blanks that people write. A parenthesis that opens
 /// takes the place of the blanks behind it.
-pub fn with_missing<'t>(fault: &Fault<'t>, missing: &'static str, before: &Token) -> Change<'t> {
+pub fn with_missing<'t>(
+    fault: &Fault<'t>,
+    missing: &'static str,
+    before: &Token,
+) -> Option<Change<'t>> {
     let front = front_of(missing, before);
     let end = before.span.end().byte;
     let next = match fault.token() {
@@ -83,18 +80,13 @@ pub fn with_missing<'t>(fault: &Fault<'t>, missing: &'static str, before: &Token
         None => end,
     };
     let is_open = matches!(missing, "(");
-    let length = if is_open && is_blank(fault.source, end, next) {
-        next.saturating_sub(end)
+    let to = if is_open && is_blank(fault.source, end, next) {
+        next
     } else {
-        0
+        end
     };
     let is_there = fault.token().is_some() && next == end;
     let is_tight = is_there && !is_open && !is_punctuation(fault.token());
     let rear = if is_tight { " " } else { "" };
-    Change {
-        byte: end,
-        length,
-        text: Text::Phrase(Phrase::new("{}{}{}", front, missing, rear)),
-        trust: Trust::Sure,
-    }
+    sure(end, to, Phrase::new("{}{}{}", front, missing, rear))
 }

@@ -1,10 +1,10 @@
 //! Calls as other languages write them: with types of the arguments, or without parentheses.
 
 use crate::fault::{Fault, is_name, is_number};
-use crate::lists::{List, Style, list_at};
+use crate::lists::{List, Style};
 use crate::operands::{open_before, operand_end};
 use crate::phrase::Phrase;
-use crate::remark::{Change, Remark, Text, Trust, replacing, told};
+use crate::remark::{Remark, Text, Trust, across, listing, told, worded};
 use crate::surroundings::is_equated;
 use crate::words::{is_any, is_variable};
 use lus_syntax::Token;
@@ -12,52 +12,39 @@ use lus_syntax::Token;
 /// How many arguments without parentheses are looked at.
 const MOST_ARGUMENTS: usize = 20;
 
-/// The change that writes the list of a parenthesis as arguments.
-fn as_arguments<'t>(fault: &Fault<'t>, open: usize, trust: Trust) -> Option<Change<'t>> {
-    let list = list_at(fault, open)?;
-    let text = Text::List(list, Style::Arguments);
-    replacing(fault, open, list.behind, text, trust)
+/// Whether a type stands at the fault before or behind an argument's name.
+fn is_typed(fault: &Fault<'_>) -> bool {
+    let is_before = is_any(fault.found(), &["int", "bool"]) && is_name(fault.token_behind(1));
+    is_before || fault.is_found(":") && is_name(fault.token_before(1))
 }
 
-/// The parenthesis of the call whose argument has a type at the fault: before it, or behind a colon.
-fn typed_call(fault: &Fault<'_>) -> Option<usize> {
-    let is_before = is_any(fault.found(), &["int", "bool"]) && is_name(fault.token_behind(1));
-    let is_behind = fault.is_found(":") && is_name(fault.token_before(1));
-    let open = open_before(fault)?;
-    let callee = open.checked_sub(1)?;
-    let is_branch = fault.is_at(callee.checked_sub(1)?, "merge");
-    if (is_before || is_behind) && is_name(fault.tokens.get(callee)) && !is_branch {
-        Some(open)
+/// What is said of a call whose arguments have types, or semicolons between them.
+pub fn listed<'t>(fault: &Fault<'t>) -> Option<Remark<'t>> {
+    let Some(open) = open_before(fault) else {
+        return None;
+    };
+    let is_branch = open < 2 || fault.is_at(open.saturating_sub(2), "merge");
+    let (sentence, note, trust) = if is_typed(fault) && !is_branch && fault.follows("let") {
+        (
+            "the arguments of a call have neither types nor names",
+            "They stand in the order of the inputs.",
+            Trust::Tried,
+        )
+    } else if fault.is_found(";") && is_equated(fault) {
+        (
+            "arguments are separated by `,`",
+            "A `;` ends an equation.",
+            Trust::Needed,
+        )
+    } else {
+        return None;
+    };
+    let written = listing(fault, open, Style::Arguments, trust);
+    if written.is_some() && is_name(fault.tokens.get(open.saturating_sub(1))) {
+        Some(told(fault, sentence, note).with(written))
     } else {
         None
     }
-}
-
-/// What is said of a call whose arguments have types.
-pub fn typed_arguments<'t>(fault: &Fault<'t>) -> Option<Remark<'t>> {
-    let open = typed_call(fault)?;
-    let written = as_arguments(fault, open, Trust::Tried);
-    if written.is_none() || !fault.follows("let") {
-        return None;
-    }
-    let sentence = "the arguments of a call have neither types nor names";
-    Some(told(fault, sentence, "They stand in the order of the inputs.").with(written))
-}
-
-/// What is said of a call whose arguments have semicolons between them.
-pub fn parted_arguments<'t>(fault: &Fault<'t>) -> Option<Remark<'t>> {
-    let open = open_before(fault)?;
-    let is_call = is_name(fault.tokens.get(open.saturating_sub(1)));
-    if !fault.is_found(";") || !is_call || !is_equated(fault) {
-        return None;
-    }
-    let written = as_arguments(fault, open, Trust::Needed)?;
-    let remark = told(
-        fault,
-        "arguments are separated by `,`",
-        "A `;` ends an equation.",
-    );
-    Some(remark.with(Some(written)))
 }
 
 /// Whether a name, a number or a truth value is at a place, on one line with another token.
@@ -73,23 +60,16 @@ fn is_argument(fault: &Fault<'_>, place: usize, callee: &Token) -> bool {
     }
 }
 
-/// The arguments from the fault on that stand behind a name without parentheses.
-fn loose(fault: &Fault<'_>, callee: &Token) -> Option<List> {
+/// The place behind the arguments from the fault on that stand behind a name without parentheses.
+fn loose_end(fault: &Fault<'_>, callee: &Token) -> usize {
     let mut behind = fault.place;
     for _turn in 0..MOST_ARGUMENTS {
         if !is_argument(fault, behind, callee) {
-            break;
+            return behind;
         }
         behind = operand_end(fault, behind);
     }
-    if behind == fault.place {
-        return None;
-    }
-    Some(List {
-        first: fault.place,
-        behind,
-        is_parted: false,
-    })
+    behind
 }
 
 /// Whether an equation begins at the fault, or stands before its equals sign.
@@ -99,31 +79,36 @@ fn begins_equation(fault: &Fault<'_>) -> bool {
 
 /// What is said of a call whose arguments stand without parentheses.
 pub fn applied<'t>(fault: &Fault<'t>) -> Option<Remark<'t>> {
-    let callee = fault.token_before(1)?;
+    let Some(callee) = fault.token_before(1) else {
+        return None;
+    };
     let name = fault.before(1);
     if begins_equation(fault) || !is_name(Some(callee)) || is_variable(fault, name) {
         return None;
     }
-    let list = loose(fault, callee)?;
-    let byte = callee.span.end().byte;
-    let last = fault.tokens.get(list.behind.checked_sub(1)?)?;
-    let written = Change {
-        byte,
-        length: last.span.end().byte.saturating_sub(byte),
-        text: Text::List(list, Style::Arguments),
-        trust: Trust::Tried,
-    };
-    let remark = told(fault, "a call's arguments stand in parentheses", "");
-    Some(Remark {
-        note: Phrase::new(
-            "`{}` is no variable of this node: it is read as a call.",
-            name,
-            "",
-            "",
-        ),
-        change: Some(written),
-        ..remark
-    })
+    let first = fault.place;
+    let behind = loose_end(fault, callee);
+    match fault.byte_behind(behind.saturating_sub(1)) {
+        Some(end) if behind > first => {
+            let is_parted = false;
+            let text = Text::List(
+                List {
+                    first,
+                    behind,
+                    is_parted,
+                },
+                Style::Arguments,
+            );
+            let note = "`{}` is no variable of this node: it is read as a call.";
+            let remark = told(fault, "a call's arguments stand in parentheses", note);
+            Some(
+                remark
+                    .about(name)
+                    .with(across(callee.span.end().byte, end, text, Trust::Tried)),
+            )
+        }
+        _ => None,
+    }
 }
 
 /// Whether the token before the fault ends an operand.
@@ -134,20 +119,15 @@ fn is_behind_operand(fault: &Fault<'_>) -> bool {
 
 /// What is said of two operands on one line with nothing between them.
 pub fn side_by_side<'t>(fault: &Fault<'t>) -> Option<Remark<'t>> {
-    let is_pair = is_behind_operand(fault)
-        && is_argument(fault, fault.place, fault.token_before(1)?);
+    let is_pair = match fault.token_before(1) {
+        Some(before) => is_behind_operand(fault) && is_argument(fault, fault.place, before),
+        None => false,
+    };
     if !is_pair || begins_equation(fault) {
         return None;
     }
     let note = "An operator is missing between them, or one of them is too much.";
-    let remark = told(fault, "", note);
-    Some(Remark {
-        sentence: Phrase::new(
-            "`{}` and `{}` stand side by side",
-            fault.before(1),
-            fault.found(),
-            "",
-        ),
-        ..remark
-    })
+    let sentence = "`{}` and `{}` stand side by side";
+    let words = Phrase::new(sentence, fault.before(1), fault.found(), "");
+    Some(worded(fault, words, note))
 }

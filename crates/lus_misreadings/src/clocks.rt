@@ -2,10 +2,10 @@
 
 use crate::fault::{Fault, is_name};
 use crate::phrase::Phrase;
-use crate::remark::{Change, Remark, Text, Trust};
+use crate::remark::{Remark, Text, Trust, remark_on, replacing};
 use crate::rows::{ANY, Piece, Row};
 use crate::surroundings::Place;
-use crate::words::is_variable;
+use crate::words::{is_any, is_variable};
 
 const CLOCK: &str = "a clock is a variable, `not` and one, or a constructor of one";
 
@@ -63,41 +63,28 @@ pub fn conditions() -> &'static [Row] {
 
 /// What is said of a variable behind `when` that is compared with a value: a truth value, or a constructor.
 pub fn compared<'t>(fault: &Fault<'t>) -> Option<Remark<'t>> {
-    let variable = fault.token_before(1)?;
-    let value = fault.token_behind(1)?;
-    let is_compared = fault.is_found("match") || fault.is_found("=");
-    if !is_compared || !is_name(Some(variable)) || !fault.is_before(2, "when") {
+    let is_compared = is_any(fault.found(), &["match", "="]);
+    if !is_compared || !is_name(fault.token_before(1)) || !fault.is_before(2, "when") {
         return None;
     }
     let label = fault.behind(1);
     let name = fault.before(1);
-    let (sentence, text) = match label {
-        "true" => ("this clock is written `when {}`", Phrase::of(name)),
-        "false" => (
-            "this clock is written `when not {}`",
-            Phrase::new("not {}", name, "", ""),
-        ),
-        _ if is_name(Some(value)) && !is_variable(fault, label) => (
-            "this clock is written `when {}({})`",
-            Phrase::new("{}({})", label, name, ""),
-        ),
+    let is_label = is_name(fault.token_behind(1)) && !is_variable(fault, label);
+    let (sentence, text, first, second) = match label {
+        "true" => ("this clock is written `when {}`", "{}", name, ""),
+        "false" => ("this clock is written `when not {}`", "not {}", name, ""),
+        _ if is_label => ("this clock is written `when {}({})`", "{}({})", label, name),
         _ => return None,
     };
-    let byte = variable.span.start.byte;
+    let text = Text::Phrase(Phrase::new(text, first, second, ""));
+    let start = fault.place.saturating_sub(1);
+    let written = replacing(
+        fault,
+        start,
+        fault.place.saturating_add(1),
+        text,
+        Trust::Sure,
+    );
     let note = "A clock is a variable, `not` and one, or a constructor of one.";
-    Some(Remark {
-        sentence: Phrase {
-            text: sentence,
-            ..text
-        },
-        note: Phrase::plain(note),
-        length: 1,
-        comment: None,
-        change: Some(Change {
-            byte,
-            length: value.span.end().byte.saturating_sub(byte),
-            text: Text::Phrase(text),
-            trust: Trust::Sure,
-        }),
-    })
+    Some(remark_on(1, Phrase::new(sentence, first, second, ""), note).with(written))
 }

@@ -2,9 +2,14 @@
 
 use crate::fault::Fault;
 use crate::phrase::Phrase;
-use crate::remark::{Change, Remark, Text, Trust, told};
+use crate::remark::{Remark, sure, told};
 use lus_faults::bytes_at;
 use lus_syntax::{Place, Span};
+
+const COUNTED_DOWN: &str =
+    "What is counted down is written with its first value, as in `y = 9 -> pre y - 1;`.";
+
+const NEGATED: &str = "A minus of a minus is written `3 - (-n)`.";
 
 /// A number of bytes, or the greatest that fits.
 pub fn within(bytes: usize) -> u32 {
@@ -16,8 +21,8 @@ pub fn is_of_word(byte: u8) -> bool {
     byte.is_ascii_alphanumeric() || byte == b'_'
 }
 
-/// How many bytes at the front of a line are blanks.
-fn blanks_of(line: &str) -> usize {
+/// How many bytes at the front of a text are blanks.
+pub fn blanks_of(line: &str) -> usize {
     let mut count = 0usize;
     for byte in line.as_bytes() {
         if *byte != b' ' && *byte != b'\t' {
@@ -46,20 +51,25 @@ fn is_of_code(inside: &str) -> bool {
         Some(front) => is_of_word(*front) || matches!(*front, b'(' | b';' | b'>'),
         None => false,
     };
-    is_begun
-        && inside
-            .as_bytes()
-            .iter()
-            .any(|byte| *byte == b';' || *byte == b')')
+    let bytes = inside.as_bytes();
+    is_begun && (bytes.contains(&b';') || bytes.contains(&b')'))
+}
+
+/// What stands on a byte's line from that byte on.
+fn line_from(source: &str, byte: u32) -> &str {
+    let rest = bytes_at(source, byte as usize, source.len()).unwrap_or("");
+    rest.lines().next().unwrap_or("")
 }
 
 /// The comment behind the token before the fault, on its line, and what stands behind its signs.
 fn comment_before<'t>(fault: &Fault<'t>) -> Option<(Span, &'t str)> {
-    let end = fault.token_before(1)?.span.end();
-    let rest = bytes_at(fault.source, end.byte as usize, fault.source.len())?;
-    let line = rest.lines().next()?;
+    let Some(before) = fault.token_before(1) else {
+        return None;
+    };
+    let end = before.span.end();
+    let line = line_from(fault.source, end.byte);
     let blanks = blanks_of(line);
-    let comment = bytes_at(line, blanks, line.len())?;
+    let comment = bytes_at(line, blanks, line.len()).unwrap_or("");
     let offset = within(blanks);
     let start = Place {
         byte: end.byte.saturating_add(offset),
@@ -67,55 +77,38 @@ fn comment_before<'t>(fault: &Fault<'t>) -> Option<(Span, &'t str)> {
         column: end.column.saturating_add(offset),
     };
     let length = within(comment.len());
-    Some((Span { start, length }, comment.strip_prefix("--")?))
-}
-
-/// The change of so many bytes where a comment begins.
-fn instead<'t>(comment: Span, length: u32, text: Phrase<'t>) -> Option<Change<'t>> {
-    Some(Change {
-        byte: comment.start.byte,
-        length,
-        text: Text::Phrase(text),
-        trust: Trust::Sure,
-    })
+    match comment.strip_prefix("--") {
+        Some(inside) => Some((Span { start, length }, inside)),
+        None => None,
+    }
 }
 
 /// What is said of a text that lacks what a comment holds: the negative of what follows is subtracted, or an arrow is shortened.
 pub fn commented<'t>(fault: &Fault<'t>) -> Option<Remark<'t>> {
-    let (comment, inside) = comment_before(fault)?;
+    let Some((comment, inside)) = comment_before(fault) else {
+        return None;
+    };
     if !is_of_code(inside) {
         return None;
     }
     let word = word_of(inside);
-    let byte = comment.start.byte as usize;
-    let before = bytes_at(fault.source, byte.saturating_sub(1), byte);
-    let (note, change) = if inside.starts_with(">") {
-        (
-            "The arrow is written `->`.",
-            instead(comment, 3, Phrase::plain("->")),
-        )
-    } else if word.is_empty() {
-        (
-            "What is counted down is written with its first value, as in `y = 9 -> pre y - 1;`.",
-            None,
-        )
-    } else {
-        let text = if before == Some(" ") {
-            "- (-{})"
-        } else {
-            " - (-{})"
-        };
-        let length = within(word.len().saturating_add(2));
-        let text = Phrase::new(text, word, "", "");
-        (
-            "A minus of a minus is written `3 - (-n)`.",
-            instead(comment, length, text),
-        )
+    let byte = comment.start.byte;
+    let before = bytes_at(
+        fault.source,
+        (byte as usize).saturating_sub(1),
+        byte as usize,
+    );
+    let (note, length, text) = match (inside.starts_with(">"), word, before) {
+        (true, _, _) => ("The arrow is written `->`.", 3, "->"),
+        (false, "", _) => (COUNTED_DOWN, 0, ""),
+        (false, _, Some(" ")) => (NEGATED, word.len().saturating_add(2), "- (-{})"),
+        _ => (NEGATED, word.len().saturating_add(2), " - (-{})"),
     };
     let sentence = "`--` before this begins a comment, which goes to the end of its line";
-    Some(Remark {
-        comment: Some(comment),
-        change,
-        ..told(fault, sentence, note)
-    })
+    let remark = told(fault, sentence, note).with_comment(comment);
+    if length == 0 {
+        return Some(remark);
+    }
+    let end = byte.saturating_add(within(length));
+    Some(remark.with(sure(byte, end, Phrase::new(text, word, "", ""))))
 }

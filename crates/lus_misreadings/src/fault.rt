@@ -83,11 +83,36 @@ impl<'t> Fault<'t> {
         self.tokens.get(self.place.saturating_add(count))
     }
 
+    /// The byte behind the token at a place.
+    pub fn byte_behind(&self, place: usize) -> Option<u32> {
+        match self.tokens.get(place) {
+            Some(token) => Some(token.span.end().byte),
+            None => None,
+        }
+    }
+
+    /// The bytes from the first token's first one up to the last token's last one.
+    pub fn bytes_of(&self, from: usize, last: usize) -> Option<(u32, u32)> {
+        match (self.tokens.get(from), self.byte_behind(last)) {
+            (Some(first), Some(end)) => Some((first.span.start.byte, end)),
+            _ => None,
+        }
+    }
+
     /// The text from a token up to the one before another.
     pub fn text_of(&self, from: usize, to: usize) -> Option<&'t str> {
-        let start = self.tokens.get(from)?.span.start.byte;
-        let end = self.tokens.get(to.checked_sub(1)?)?.span.end().byte;
+        let (start, end) = self.bytes_of(from, to.checked_sub(1)?)?;
         bytes_at(self.source, start as usize, end as usize)
+    }
+
+    /// The first place from one on at which one of some texts stands.
+    pub fn find(&self, from: usize, texts: &[&str]) -> Option<usize> {
+        for place in from..self.tokens.len() {
+            if is_any(self.text(place), texts) {
+                return Some(place);
+            }
+        }
+        None
     }
 
     /// How many bytes of the line are marked: those of the token that isn't read.
@@ -98,22 +123,22 @@ impl<'t> Fault<'t> {
         }
     }
 
+    /// Whether a text stands in the declaration between a place and the fault.
+    pub fn follows_from(&self, from: usize, text: &str) -> bool {
+        match self.find(from, &[text]) {
+            Some(place) => place < self.place,
+            None => false,
+        }
+    }
+
     /// Whether a text stands in the declaration before the fault.
     pub fn follows(&self, text: &str) -> bool {
-        let before = self.tokens.get(..self.place).unwrap_or(&[]);
-        before
-            .iter()
-            .any(|token| is(slice_of(self.source, token.span), text))
+        self.follows_from(0, text)
     }
 
     /// Whether the declaration is that of a node or of a function.
     pub fn is_of_node(&self) -> bool {
         is_any(self.text(0), &["node", "function"])
-    }
-
-    /// Whether the token so many before the fault ends an equation, or is the `let` before all of them.
-    pub fn starts_equation(&self, back: usize) -> bool {
-        is_any(self.before(back), &[";", "let"]) && self.follows("let")
     }
 }
 
@@ -149,29 +174,20 @@ fn opens(token: &Token) -> bool {
     )
 }
 
-/// The place of the first token that doesn't stand before a line and a column.
-fn place_at(tokens: &[Token], line: u32, column: u32) -> usize {
+/// The place of the first token that doesn't stand before a line and a column, and that of the last token before it that opens a
+/// declaration.
+fn place_at(tokens: &[Token], line: u32, column: u32) -> (usize, usize) {
+    let mut opening = 0;
     for (place, token) in tokens.iter().enumerate() {
         let start = token.span.start;
         if start.line > line || (start.line == line && start.column >= column) {
-            return place;
-        }
-    }
-    tokens.len()
-}
-
-/// The place of the last token before the fault that opens a declaration.
-fn start_before(tokens: &[Token], fault: usize) -> usize {
-    let mut start = 0;
-    for (place, token) in tokens.iter().enumerate() {
-        if place >= fault {
-            return start;
+            return (place, opening);
         }
         if opens(token) {
-            start = place;
+            opening = place;
         }
     }
-    start
+    (tokens.len(), opening)
 }
 
 /// The place of the first token behind the fault that opens a declaration, or that stands too far behind it.
@@ -192,19 +208,17 @@ pub fn fault_at<'t>(
     line: u32,
     column: u32,
 ) -> Option<Fault<'t>> {
-    let place = place_at(all, line, column);
-    let start = start_before(all, place);
-    let end = end_behind(all, place);
+    let (place, start) = place_at(all, line, column);
     let before = place.saturating_sub(start);
-    if before > MOST_BEFORE {
-        return None;
+    match all.get(start..end_behind(all, place)) {
+        Some(tokens) if before <= MOST_BEFORE => Some(Fault {
+            source,
+            all,
+            tokens,
+            place: before,
+            line,
+            column,
+        }),
+        _ => None,
     }
-    Some(Fault {
-        source,
-        all,
-        tokens: all.get(start..end)?,
-        place: before,
-        line,
-        column,
-    })
 }

@@ -2,10 +2,10 @@
 
 use crate::fault::Fault;
 use crate::phrase::Phrase;
-use crate::remark::{Change, Remark, Text, Trust, replacing, told};
-use crate::trial::{reach_of, token_of};
+use crate::remark::{Remark, Text, Trust, replacing, sure, told, worded};
+use crate::trial::token_of;
 use crate::words::{ORDERS, RECKONERS, compares, is_any, is_infix, leads};
-use lus_syntax::{Symbol, TokenKind};
+use lus_syntax::{Symbol, Token, TokenKind};
 use std::alloc::{AllocError, Global};
 
 /// How many tokens before a fault are looked at, and how many places for parentheses are tried.
@@ -16,73 +16,75 @@ const MOST_PLACES: usize = 12;
 /// Some tokens: the place of the first, and the one behind the last.
 type Range = (usize, usize);
 
-/// What a token is to the parentheses and braces round it.
+/// What a token is to the parentheses and braces round it, seen from the fault.
 #[derive(Clone, Copy)]
 enum Nesting {
-    Opens,
-    Closes,
+    Enters,
+    Leaves,
     Parts,
     None,
 }
 
-fn nesting_of(text: &str) -> Nesting {
+fn nesting_of(text: &str, is_before: bool) -> Nesting {
     match text {
-        "(" | "{" => Nesting::Opens,
-        ")" | "}" => Nesting::Closes,
+        "(" | "{" if is_before => Nesting::Leaves,
+        ")" | "}" if is_before => Nesting::Enters,
+        "(" | "{" => Nesting::Enters,
+        ")" | "}" => Nesting::Leaves,
         ";" | "," | "let" | "tel" | "var" => Nesting::Parts,
         _ => Nesting::None,
     }
 }
 
-/// The places before the fault behind which an operand begins, the nearest first, up to where its expression begins.
-fn openings(alloc: Global, fault: &Fault<'_>) -> Result<Vec<usize>, AllocError> {
+/// Whether an operand begins behind a text before the fault, or ends before one behind it.
+fn bounds(fault: &Fault<'_>, text: &str, is_before: bool) -> bool {
+    if is_before {
+        return leads(text);
+    }
+    is_infix(text) || !fault.is_found("if") && is_any(text, &["then", "else"])
+}
+
+/// The places before the fault behind which an operand begins, or those behind the fault before which one may end: the nearest
+/// first, up to where its expression begins or ends.
+fn bounds_of(alloc: Global, fault: &Fault<'_>, is_before: bool) -> Result<Vec<usize>, AllocError> {
     let mut found = Vec::new(alloc);
     let mut depth = 0usize;
-    for back in 1..MOST_BEFORE {
-        let Some(place) = fault.place.checked_sub(back) else {
-            return Ok(found);
+    let most = if is_before {
+        MOST_BEFORE
+    } else {
+        fault.tokens.len()
+    };
+    for count in 1..most {
+        let (text, bound) = if is_before {
+            let behind = fault.place.saturating_add(1);
+            (fault.before(count), behind.saturating_sub(count))
+        } else {
+            (fault.behind(count), fault.place.saturating_add(count))
         };
-        let behind = place.saturating_add(1);
-        match nesting_of(fault.text(place)) {
-            Nesting::Closes => depth = depth.saturating_add(1),
-            Nesting::Opens | Nesting::Parts if depth == 0 => {
-                found.push(behind)?;
-                return Ok(found);
-            }
-            Nesting::Opens => depth -= 1,
-            _ => {
-                if depth == 0 && leads(fault.text(place)) && found.len() < MOST_PLACES {
-                    found.push(behind)?;
-                }
-            }
+        let nesting = nesting_of(text, is_before);
+        let is_end = depth == 0 && matches!(nesting, Nesting::Leaves | Nesting::Parts);
+        let is_bound = depth == 0 && found.len() < MOST_PLACES && bounds(fault, text, is_before);
+        if is_end || is_bound {
+            found.push(bound)?;
+        }
+        if is_end {
+            return Ok(found);
+        }
+        match nesting {
+            Nesting::Enters => depth = depth.saturating_add(1),
+            Nesting::Leaves => depth = depth.saturating_sub(1),
+            _ => {}
         }
     }
     Ok(found)
 }
 
-/// The places behind the fault before which an operand may end, the nearest first, up to where its expression ends.
-fn closings(alloc: Global, fault: &Fault<'_>) -> Result<Vec<usize>, AllocError> {
-    let mut found = Vec::new(alloc);
-    let mut depth = 0usize;
-    let is_whole = fault.is_found("if");
-    for place in fault.place.saturating_add(1)..fault.tokens.len() {
-        let text = fault.text(place);
-        let ends = is_infix(text) || !is_whole && is_any(text, &["then", "else"]);
-        match nesting_of(text) {
-            Nesting::Opens => depth = depth.saturating_add(1),
-            Nesting::Closes | Nesting::Parts if depth == 0 => {
-                found.push(place)?;
-                return Ok(found);
-            }
-            Nesting::Closes => depth -= 1,
-            _ => {
-                if depth == 0 && ends && found.len() < MOST_PLACES {
-                    found.push(place)?;
-                }
-            }
-        }
-    }
-    Ok(found)
+/// Appends tokens in parentheses.
+fn push_enclosed<'t>(others: &mut Vec<Token<'t>>, tokens: &[Token<'t>]) -> Result<(), AllocError> {
+    others.push(token_of(TokenKind::Punctuation(Symbol::Open)))?;
+    others.extend_from_slice(tokens)?;
+    others.push(token_of(TokenKind::Punctuation(Symbol::Close)))?;
+    Ok(())
 }
 
 /// Whether the tokens are read further with parentheses round some of them.
@@ -91,55 +93,42 @@ fn helps(alloc: Global, fault: &Fault<'_>, range: Range) -> Result<bool, AllocEr
     if from >= to {
         return Ok(false);
     }
-    let mut tried = Vec::new(alloc);
-    tried.extend_from_slice(fault.tokens.get(..from).unwrap_or(&[]))?;
-    tried.push(token_of(TokenKind::Punctuation(Symbol::Open)))?;
-    tried.extend_from_slice(fault.tokens.get(from..to).unwrap_or(&[]))?;
-    tried.push(token_of(TokenKind::Punctuation(Symbol::Close)))?;
-    tried.extend_from_slice(fault.tokens.get(to..).unwrap_or(&[]))?;
-    Ok(reach_of(alloc, &tried).is_behind(fault.reached()))
+    let mut others = Vec::new(alloc);
+    push_enclosed(&mut others, fault.tokens.get(from..to).unwrap_or(&[]))?;
+    let reach = fault.reach_with(alloc, from, to, &others)?;
+    Ok(reach.is_behind(fault.reached()))
 }
 
-/// The parentheses from a place on with which more is read, of those that end at some places: the first, or the last.
-fn closing_from(
+/// The parentheses with which more is read, from one of some places up to one of others: the first, or the last.
+fn helping(
     alloc: Global,
     fault: &Fault<'_>,
-    from: usize,
+    openings: &[usize],
     closings: &[usize],
     is_last: bool,
 ) -> Result<Option<Range>, AllocError> {
     let mut best = None;
-    for to in closings {
-        if (is_last || best.is_none()) && helps(alloc, fault, (from, *to))? {
-            best = Some((from, *to));
+    for from in openings {
+        for to in closings {
+            if (is_last || best.is_none()) && helps(alloc, fault, (*from, *to))? {
+                best = Some((*from, *to));
+            }
         }
     }
     Ok(best)
 }
 
-/// The nearest of some beginnings of parentheses that end before the fault with which more is read.
-fn opening_before(
-    alloc: Global,
-    fault: &Fault<'_>,
-    openings: &[usize],
-) -> Result<Option<Range>, AllocError> {
-    for from in openings {
-        if helps(alloc, fault, (*from, fault.place))? {
-            return Ok(Some((*from, fault.place)));
-        }
-    }
-    Ok(None)
-}
-
 /// The text before an operand that begins at a place.
-fn lead_of<'t>(fault: &Fault<'t>, opening: Option<&usize>) -> &'t str {
-    match opening {
-        Some(place) => match place.checked_sub(1) {
-            Some(lead) => fault.text(lead),
-            None => "",
-        },
+fn lead_of<'t>(fault: &Fault<'t>, opening: usize) -> &'t str {
+    match opening.checked_sub(1) {
+        Some(lead) => fault.text(lead),
         None => "",
     }
+}
+
+/// Where the nearest operand before the fault begins.
+fn nearest(openings: &[usize]) -> usize {
+    openings.first().copied().unwrap_or(0)
 }
 
 /// Whether what stands behind a text is taken together with what follows the fault, before another operator.
@@ -158,36 +147,22 @@ fn closeness(text: &str) -> usize {
     }
 }
 
-/// Whether a `when` stands among the tokens from a place up to the fault.
-fn samples_before(fault: &Fault<'_>, from: Option<&usize>) -> bool {
-    for place in from.copied().unwrap_or(fault.place)..fault.place {
-        if fault.is_at(place, "when") {
-            return true;
-        }
-    }
-    false
-}
-
 /// Whether a `when` samples the nearest operand alone: another operand of its expression is sampled by itself, or the operator
 /// behind its clock is a closer one than that before the operand.
 fn samples_nearest(fault: &Fault<'_>, openings: &[usize], closings: &[usize]) -> bool {
-    let lead = lead_of(fault, openings.first());
-    if !is_infix(lead) {
-        return false;
-    }
-    if samples_before(fault, openings.last()) {
-        return true;
-    }
-    match closings.first() {
+    let lead = lead_of(fault, nearest(openings));
+    let start = openings.last().copied().unwrap_or(fault.place);
+    let is_closer = match closings.first() {
         Some(place) => closeness(fault.text(*place)) > closeness(lead),
         None => false,
-    }
+    };
+    is_infix(lead) && (is_closer || fault.follows_from(start, "when"))
 }
 
 /// The nearest place behind a token that takes all that follows.
 fn outer_of(fault: &Fault<'_>, openings: &[usize]) -> Option<usize> {
     for from in openings {
-        if takes_all(lead_of(fault, Some(from))) {
+        if takes_all(lead_of(fault, *from)) {
             return Some(*from);
         }
     }
@@ -207,8 +182,8 @@ fn reach_wanted(
         "not" => return Some((fault.place, false)),
         _ => {}
     }
-    let lead = lead_of(fault, openings.first());
-    let from = openings.first().copied().unwrap_or(0);
+    let from = nearest(openings);
+    let lead = lead_of(fault, from);
     let outer = outer_of(fault, openings);
     if takes_all(lead) || (takes_all(found) && outer.is_some()) {
         return Some((outer.unwrap_or(from), true));
@@ -232,20 +207,20 @@ fn grouping(
     if !is_prefix && !is_infix(fault.found()) {
         return Ok(None);
     }
-    let closings = closings(alloc, fault)?;
+    let closings = bounds_of(alloc, fault, false)?;
     if let Some((from, is_last)) = reach_wanted(fault, openings, &closings) {
-        let range = closing_from(alloc, fault, from, &closings, is_last)?;
+        let range = helping(alloc, fault, &[from], &closings, is_last)?;
         if is_prefix || range.is_some() {
             return Ok(range);
         }
     }
-    opening_before(alloc, fault, openings)
+    helping(alloc, fault, openings, &[fault.place], false)
 }
 
 /// The place behind a comparison of order, where nothing but sums and products stands from there up to the fault.
 fn compared_from(fault: &Fault<'_>, openings: &[usize]) -> Option<usize> {
     for from in openings {
-        let lead = lead_of(fault, Some(from));
+        let lead = lead_of(fault, *from);
         if is_any(lead, &ORDERS) {
             return Some(*from);
         }
@@ -258,28 +233,24 @@ fn compared_from(fault: &Fault<'_>, openings: &[usize]) -> Option<usize> {
 
 /// What is said of two comparisons of order in a row: what stands between them is compared twice.
 fn chained<'t>(fault: &Fault<'t>, openings: &[usize]) -> Option<Remark<'t>> {
-    let found = fault.token()?;
-    let from = compared_from(fault, openings)?;
-    if !is_any(fault.found(), &ORDERS) {
+    let (Some(found), Some(from)) = (fault.token(), compared_from(fault, openings)) else {
         return None;
-    }
-    let operand = fault.text_of(from, fault.place)?;
+    };
+    let byte = found.span.start.byte;
     let note = "Each compares two values: `and` joins them.";
-    let remark = told(fault, "comparisons aren't chained", note);
-    Some(remark.with(Some(Change {
-        byte: found.span.start.byte,
-        length: 0,
-        text: Text::Phrase(Phrase::new("and {} ", operand, "", "")),
-        trust: Trust::Sure,
-    })))
+    match fault.text_of(from, fault.place) {
+        Some(operand) if is_any(fault.found(), &ORDERS) => {
+            let written = sure(byte, byte, Phrase::new("and {} ", operand, "", ""));
+            Some(told(fault, "comparisons aren't chained", note).with(written))
+        }
+        _ => None,
+    }
 }
 
 /// What is said of operators that parentheses round some tokens part: of both, or of the one that needs them for itself.
 fn parted<'t>(fault: &Fault<'t>, openings: &[usize], range: Range) -> Option<Remark<'t>> {
     let (from, to) = range;
-    let inner = fault.text_of(from, to)?;
-    let text = Text::Phrase(Phrase::new("({})", inner, "", ""));
-    let other = lead_of(fault, openings.first());
+    let other = lead_of(fault, nearest(openings));
     let sentence = if leads(other) {
         Phrase::new(
             "`{}` and `{}` aren't mixed without parentheses",
@@ -291,16 +262,19 @@ fn parted<'t>(fault: &Fault<'t>, openings: &[usize], range: Range) -> Option<Rem
         Phrase::new("`{}` needs parentheses here", fault.found(), "", "")
     };
     let note = "Readers and tools guess differently how these group: parentheses say it.";
-    Some(Remark {
-        sentence,
-        change: replacing(fault, from, to.checked_sub(1)?, text, Trust::Sure),
-        ..told(fault, "", note)
-    })
+    match fault.text_of(from, to) {
+        Some(inner) => {
+            let text = Text::Phrase(Phrase::new("({})", inner, "", ""));
+            let written = replacing(fault, from, to.saturating_sub(1), text, Trust::Sure);
+            Some(worded(fault, sentence, note).with(written))
+        }
+        None => None,
+    }
 }
 
 /// What is said of the mix of operators at a fault, with the change that has more read.
 pub fn mix_at<'t>(alloc: Global, fault: &Fault<'t>) -> Result<Option<Remark<'t>>, AllocError> {
-    let openings = openings(alloc, fault)?;
+    let openings = bounds_of(alloc, fault, true)?;
     let chain = chained(fault, &openings);
     if chain.is_some() {
         return Ok(chain);

@@ -2,70 +2,56 @@
 
 use crate::fault::{Fault, is_name};
 use crate::items::turned;
-use crate::lists::{Style, list_at};
+use crate::lists::Style;
 use crate::operands::open_before;
 use crate::phrase::Phrase;
-use crate::remark::{Change, Remark, Text, Trust, replacing, told};
+use crate::remark::{Change, Remark, Text, Trust, across, listing, rephrasing, told};
 use crate::words::{is_any, is_declared_type};
 
 /// The place behind the outputs that begin at the fault: before the word of the body, and before the semicolon there.
 fn outputs_end(fault: &Fault<'_>) -> Option<usize> {
-    for place in fault.place.saturating_add(1)..fault.tokens.len() {
-        if is_any(fault.text(place), &["let", "var"]) {
-            let last = place.checked_sub(1)?;
-            return Some(if fault.is_at(last, ";") { last } else { place });
-        }
-    }
-    None
-}
-
-/// The place of `returns` behind the inputs that begin at the fault.
-fn inputs_end(fault: &Fault<'_>) -> Option<usize> {
-    for place in fault.place..fault.tokens.len() {
-        if fault.is_at(place, "returns") {
-            return Some(place);
-        }
-    }
-    None
+    let Some(place) = fault.find(fault.place.saturating_add(1), &["let", "var"]) else {
+        return None;
+    };
+    let last = place.saturating_sub(1);
+    Some(if fault.is_at(last, ";") { last } else { place })
 }
 
 /// The change that puts parentheses round variables, from the fault up to a place, behind the token before them.
 fn enclosing<'t>(fault: &Fault<'t>, end: Option<usize>, blank: &'static str) -> Option<Change<'t>> {
-    let byte = fault.token_before(1)?.span.end().byte;
-    let end = end?;
-    let (length, inner) = match fault.text_of(fault.place, end) {
-        Some(inner) => {
-            let last = fault.tokens.get(end.checked_sub(1)?)?;
-            (last.span.end().byte.saturating_sub(byte), inner)
-        }
-        None => (0, ""),
+    let (Some(before), Some(end)) = (fault.token_before(1), end) else {
+        return None;
     };
-    Some(Change {
-        byte,
-        length,
-        text: Text::Phrase(Phrase::new("{}({})", blank, inner, "")),
-        trust: Trust::Tried,
-    })
+    let byte = before.span.end().byte;
+    let inner = (
+        fault.byte_behind(end.saturating_sub(1)),
+        fault.text_of(fault.place, end),
+    );
+    let (to, inner) = match inner {
+        (Some(to), Some(inner)) => (to, inner),
+        _ => (byte, ""),
+    };
+    let text = Text::Phrase(Phrase::new("{}({})", blank, inner, ""));
+    across(byte, to, text, Trust::Tried)
 }
 
 /// What is said of inputs or outputs without parentheses.
 pub fn unclosed<'t>(fault: &Fault<'t>) -> Option<Remark<'t>> {
     let is_named = is_name(fault.token());
-    let is_output = fault.is_before(1, "returns")
-        && (is_named || is_any(fault.found(), &["int", "bool"]));
-    let is_input = fault.is_of_node()
-        && fault.place == 2
-        && (is_named || fault.is_found("returns"));
     let note = "Each has a name and a type, as in `(a, b: int; c: bool)`.";
-    if is_output {
-        let remark = told(fault, "the outputs stand in parentheses", note);
-        return Some(remark.with(enclosing(fault, outputs_end(fault), " ")));
-    }
-    if is_input {
+    let (sentence, written) = if fault.is_before(1, "returns")
+        && (is_named || is_any(fault.found(), &["int", "bool"]))
+    {
+        let written = enclosing(fault, outputs_end(fault), " ");
+        ("the outputs stand in parentheses", written)
+    } else if fault.is_of_node() && fault.place == 2 && (is_named || fault.is_found("returns")) {
+        let end = fault.find(fault.place, &["returns"]);
         let sentence = "the inputs stand in parentheses, also where there are none";
-        return Some(told(fault, sentence, note).with(enclosing(fault, inputs_end(fault), "")));
-    }
-    None
+        (sentence, enclosing(fault, end, ""))
+    } else {
+        return None;
+    };
+    Some(told(fault, sentence, note).with(written))
 }
 
 /// The place of a type that stands before a name at the fault, or with its name as the fault.
@@ -84,25 +70,16 @@ fn type_at(fault: &Fault<'_>) -> Option<usize> {
 /// What is said of a type before the name of a variable that is declared.
 pub fn typed_before<'t>(fault: &Fault<'t>) -> Option<Remark<'t>> {
     let is_head = !fault.follows("let") && (fault.is_of_node() || fault.is_at(0, "type"));
-    let place = type_at(fault)?;
-    if !is_head {
-        return None;
-    }
+    let place = match type_at(fault) {
+        Some(place) if is_head => place,
+        _ => return None,
+    };
     let written = match open_before(fault) {
-        Some(open) => match list_at(fault, open) {
-            Some(list) => replacing(
-                fault,
-                open,
-                list.behind,
-                Text::List(list, Style::Variables),
-                Trust::Tried,
-            ),
-            None => None,
-        },
+        Some(open) => listing(fault, open, Style::Variables, Trust::Tried),
         None => {
             let last = place.saturating_add(1);
-            let text = Text::Phrase(turned(fault, place, last.saturating_add(1)));
-            replacing(fault, place, last, text, Trust::Tried)
+            let phrase = turned(fault, place, last.saturating_add(1));
+            rephrasing(fault, place, last, phrase)
         }
     };
     let sentence = "a type stands behind the names that have it";

@@ -2,7 +2,7 @@
 
 use crate::fault::{Fault, is_name};
 use crate::lists::list_at;
-use crate::remark::{Change, Remark, Text, Trust, told};
+use crate::remark::{Remark, Text, Trust, across, told};
 use crate::words::is_any;
 use lus_faults::bytes_at;
 use std::alloc::AllocError;
@@ -22,7 +22,7 @@ fn is_branch(fault: &Fault<'_>, open: usize) -> bool {
 
 /// The parenthesis of the branch of a `merge` whose label has another sign behind it at the fault.
 fn branch_at(fault: &Fault<'_>) -> Option<usize> {
-    let open = fault.place.checked_sub(2)?;
+    let open = fault.place.saturating_sub(2);
     let is_of_merge = fault.is_before(4, "merge") || fault.is_before(3, ")");
     if is_of_merge && is_branch(fault, open) {
         Some(open)
@@ -33,11 +33,11 @@ fn branch_at(fault: &Fault<'_>) -> Option<usize> {
 
 /// The parenthesis of the next branch whose label has another sign behind it.
 fn next_branch(fault: &Fault<'_>, open: usize) -> Option<usize> {
-    let next = list_at(fault, open)?.behind.saturating_add(1);
-    if is_branch(fault, next) {
-        Some(next)
-    } else {
-        None
+    match list_at(fault, open) {
+        Some(list) if is_branch(fault, list.behind.saturating_add(1)) => {
+            Some(list.behind.saturating_add(1))
+        }
+        _ => None,
     }
 }
 
@@ -57,9 +57,14 @@ fn last_branch(fault: &Fault<'_>, open: usize) -> usize {
 fn arrow_in(fault: &Fault<'_>, open: usize) -> Option<(u32, u32, &'static str)> {
     let label = open.saturating_add(1);
     let sign = label.saturating_add(1);
-    let start = fault.tokens.get(label)?.span.end().byte;
-    let end = fault.tokens.get(sign)?.span.end().byte;
-    let next = fault.tokens.get(sign.saturating_add(1))?;
+    let found = (
+        fault.byte_behind(label),
+        fault.byte_behind(sign),
+        fault.tokens.get(sign.saturating_add(1)),
+    );
+    let (Some(start), Some(end), Some(next)) = found else {
+        return None;
+    };
     let arrow = if next.span.start.byte == end {
         " -> "
     } else {
@@ -90,20 +95,19 @@ pub fn push_arrows(text: &mut String, fault: &Fault<'_>, open: usize) -> Result<
 
 /// What is said of a label with another sign than `->` behind it.
 pub fn labelled<'t>(fault: &Fault<'t>) -> Option<Remark<'t>> {
-    let open = branch_at(fault)?;
+    let Some(open) = branch_at(fault) else {
+        return None;
+    };
     let note = "A branch is written `(label -> value)`.";
     let remark = told(fault, "the label of a branch is followed by `->`", note);
     let ends = (
         arrow_in(fault, open),
         arrow_in(fault, last_branch(fault, open)),
     );
-    let (Some((byte, _, _)), Some((_, end, _))) = ends else {
-        return Some(remark);
-    };
-    Some(remark.with(Some(Change {
-        byte,
-        length: end.saturating_sub(byte),
-        text: Text::Arrows(open),
-        trust: Trust::Tried,
-    })))
+    Some(match ends {
+        (Some((byte, _, _)), Some((_, end, _))) => {
+            remark.with(across(byte, end, Text::Arrows(open), Trust::Tried))
+        }
+        _ => remark,
+    })
 }

@@ -1,11 +1,11 @@
 //! Clocks behind `when`, and branches of a `merge`, as newcomers write them.
 
+use crate::blanks::is_punctuation;
 use crate::fault::{Fault, is_next};
 use crate::lists::{List, Style, list_at};
 use crate::operands::operand_end;
 use crate::phrase::Phrase;
-use crate::remark::{Remark, Text, Trust, replacing, told};
-use lus_syntax::TokenKind;
+use crate::remark::{Remark, Text, Trust, remark_on, rephrasing, replacing, sure, told};
 
 const LABELLED: &str = "each branch of a `merge` has a label";
 
@@ -21,24 +21,16 @@ pub fn bracketed<'t>(fault: &Fault<'t>) -> Option<Remark<'t>> {
     if !fault.is_before(1, "when") || !fault.is_found("(") || !fault.is_at(last, ")") {
         return None;
     }
-    let inner = fault.text_of(fault.place.saturating_add(1), last)?;
-    let written = replacing(
-        fault,
-        fault.place,
-        last,
-        Text::Phrase(Phrase::of(inner)),
-        Trust::Sure,
-    )?;
-    let remark = told(
-        fault,
-        "the clock behind `when` stands without parentheses",
-        "",
+    let parts = (
+        fault.text_of(fault.place.saturating_add(1), last),
+        fault.bytes_of(fault.place, last),
     );
-    Some(Remark {
-        length: written.length,
-        change: Some(written),
-        ..remark
-    })
+    let (Some(inner), Some((byte, end))) = parts else {
+        return None;
+    };
+    let sentence = Phrase::plain("the clock behind `when` stands without parentheses");
+    let remark = remark_on(end.saturating_sub(byte), sentence, "");
+    Some(remark.with(sure(byte, end, Phrase::of(inner))))
 }
 
 /// The place behind the operand that begins at one, with the `when` and the clock that sample it.
@@ -54,19 +46,35 @@ fn sampled_end(fault: &Fault<'_>, from: usize) -> usize {
     operand_end(fault, clock)
 }
 
+/// What is said of a `merge` whose branches, two texts, have no labels, with the change of its tokens from one up to another.
+fn lacking_labels<'t>(
+    fault: &Fault<'t>,
+    first: Option<&'t str>,
+    second: Option<&'t str>,
+    from: usize,
+    to: usize,
+) -> Option<Remark<'t>> {
+    let (Some(first), Some(second)) = (first, second) else {
+        return None;
+    };
+    let last = to.saturating_sub(1);
+    let written = rephrasing(fault, from, last, Phrase::new(BRANCHES, first, second, ""));
+    if written.is_some() && fault.token().is_some() {
+        Some(told(fault, LABELLED, LABELS).with(written))
+    } else {
+        None
+    }
+}
+
 /// What is said of a `merge` whose branches have no labels.
 pub fn unlabelled<'t>(fault: &Fault<'t>) -> Option<Remark<'t>> {
-    let found = fault.token()?;
-    if !fault.is_before(2, "merge") || matches!(found.kind, TokenKind::Punctuation(_)) {
+    if !fault.is_before(2, "merge") || is_punctuation(fault.token()) {
         return None;
     }
     let middle = sampled_end(fault, fault.place);
     let end = sampled_end(fault, middle);
-    let first = fault.text_of(fault.place, middle)?;
-    let second = fault.text_of(middle, end)?;
-    let text = Text::Phrase(Phrase::new(BRANCHES, first, second, ""));
-    let written = replacing(fault, fault.place, end.checked_sub(1)?, text, Trust::Tried)?;
-    Some(told(fault, LABELLED, LABELS).with(Some(written)))
+    let first = fault.text_of(fault.place, middle);
+    lacking_labels(fault, first, fault.text_of(middle, end), fault.place, end)
 }
 
 /// Whether each item of a list but the first begins with a label and a colon.
@@ -81,14 +89,24 @@ fn is_labelled(fault: &Fault<'_>, list: List) -> bool {
     true
 }
 
+/// The text of a list's item of a number.
+fn item_text<'t>(fault: &Fault<'t>, list: List, number: usize) -> Option<&'t str> {
+    match list.item(fault, number) {
+        Some((from, to)) => fault.text_of(from, to),
+        None => None,
+    }
+}
+
 /// The clock and the branches of a `merge` whose operands stand in a list.
 fn branches<'t>(fault: &Fault<'t>, list: List) -> Option<Text<'t>> {
-    let (from, to) = list.item(fault, 0)?;
-    let clock = fault.text_of(from, to)?;
-    let (from, to) = list.item(fault, 1)?;
-    let first = fault.text_of(from, to)?;
-    let (from, to) = list.item(fault, 2)?;
-    let second = fault.text_of(from, to)?;
+    let items = (
+        item_text(fault, list, 0),
+        item_text(fault, list, 1),
+        item_text(fault, list, 2),
+    );
+    let (Some(clock), Some(first), Some(second)) = items else {
+        return None;
+    };
     let is_next = is_next(fault.token_before(1), fault.token());
     if is_labelled(fault, list) {
         let blank = if is_next { " " } else { "" };
@@ -107,13 +125,17 @@ pub fn merged<'t>(fault: &Fault<'t>) -> Option<Remark<'t>> {
     if !fault.is_before(1, "merge") || !fault.is_found("(") {
         return None;
     }
-    let list = list_at(fault, fault.place)?;
+    let Some(list) = list_at(fault, fault.place) else {
+        return None;
+    };
     let sentence = "a `merge` has its branches in parentheses, each with a label";
     let remark = told(fault, sentence, LABELS);
-    let Some(text) = branches(fault, list) else {
-        return Some(remark);
-    };
-    Some(remark.with(replacing(fault, fault.place, list.behind, text, Trust::Tried)))
+    Some(match branches(fault, list) {
+        Some(text) => {
+            remark.with(replacing(fault, fault.place, list.behind, text, Trust::Tried))
+        }
+        None => remark,
+    })
 }
 
 /// The place of the parenthesis of a `merge`'s first branch, where the fault is its first token or the one behind it.
@@ -128,26 +150,24 @@ fn first_branch(fault: &Fault<'_>) -> Option<usize> {
 
 /// The list of one item that a parenthesis opens.
 fn only_item(fault: &Fault<'_>, open: usize) -> Option<List> {
-    if !fault.is_at(open, "(") {
-        return None;
-    }
-    let list = list_at(fault, open)?;
-    if list.count(fault) == 1 {
-        Some(list)
-    } else {
-        None
+    match list_at(fault, open) {
+        Some(list) if fault.is_at(open, "(") && list.count(fault) == 1 => Some(list),
+        _ => None,
     }
 }
 
 /// What is said of a `merge` whose two branches stand in parentheses without labels.
 pub fn branched<'t>(fault: &Fault<'t>) -> Option<Remark<'t>> {
-    let open = first_branch(fault)?;
-    let one = only_item(fault, open)?;
-    let two = only_item(fault, one.behind.saturating_add(1))?;
-    let first = fault.text_of(one.first, one.behind)?;
-    let second = fault.text_of(two.first, two.behind)?;
-    let text = Text::Phrase(Phrase::new(BRANCHES, first, second, ""));
-    let written = replacing(fault, open, two.behind, text, Trust::Tried)?;
-    fault.token()?;
-    Some(told(fault, LABELLED, LABELS).with(Some(written)))
+    let Some(open) = first_branch(fault) else {
+        return None;
+    };
+    let Some(one) = only_item(fault, open) else {
+        return None;
+    };
+    let Some(two) = only_item(fault, one.behind.saturating_add(1)) else {
+        return None;
+    };
+    let first = fault.text_of(one.first, one.behind);
+    let second = fault.text_of(two.first, two.behind);
+    lacking_labels(fault, first, second, open, two.behind.saturating_add(1))
 }

@@ -1,6 +1,6 @@
 //! Why a text isn't read as a program.
 
-use crate::calls::{applied, parted_arguments, typed_arguments};
+use crate::calls::{applied, listed};
 use crate::choices::chosen;
 use crate::clocks::{called_clocks, compared, conditions};
 use crate::comments::commented;
@@ -29,8 +29,7 @@ enum Trial {
     Comment,
     Heading,
     Variable,
-    TypedArguments,
-    PartedArguments,
+    Arguments,
     Delay,
     Past,
     CalledClock,
@@ -56,12 +55,11 @@ enum Trial {
 }
 
 /// What is tried, the first before the others.
-static TRIALS: [Trial; 27] = [
+static TRIALS: [Trial; 26] = [
     Trial::Comment,
     Trial::Heading,
     Trial::Variable,
-    Trial::TypedArguments,
-    Trial::PartedArguments,
+    Trial::Arguments,
     Trial::Delay,
     Trial::Past,
     Trial::CalledClock,
@@ -92,8 +90,7 @@ fn remark_of<'t>(fault: &Fault<'t>, trial: Trial) -> Option<Remark<'t>> {
         Trial::Comment => commented(fault),
         Trial::Heading => unclosed(fault),
         Trial::Variable => typed_before(fault),
-        Trial::TypedArguments => typed_arguments(fault),
-        Trial::PartedArguments => parted_arguments(fault),
+        Trial::Arguments => listed(fault),
         Trial::Delay => delayed(fault),
         Trial::Past => begun_before(fault),
         Trial::CalledClock => formed(fault, called_clocks()),

@@ -6,7 +6,7 @@ use crate::grouping::mix_at;
 use crate::remark::{edit_of, said};
 use lus_faults::{Edit, Finding, bytes_at, edited};
 use lus_grammar::parse;
-use lus_syntax::{RefusalNumber, lex};
+use lus_syntax::{RefusalNumber, Token, lex};
 use std::alloc::{AllocError, Global};
 
 /// The most further changes that are put together with a first one.
@@ -46,9 +46,20 @@ fn joined(
 fn is_of_same(changed: &str, edit: &Edit, place: u32) -> bool {
     let made = (edit.byte as usize).saturating_add(edit.text.len());
     match bytes_at(changed, made, place as usize) {
-        Some(between) => !between.as_bytes().iter().any(|byte| *byte == b';'),
+        Some(between) => !between.as_bytes().contains(&b';'),
         None => true,
     }
+}
+
+/// The fault of a source whose tokens spell no program.
+fn fault_of<'t>(alloc: Global, source: &'t str, tokens: &'t [Token<'t>]) -> Option<Fault<'t>> {
+    let Err(refusal) = parse(alloc, tokens) else {
+        return None;
+    };
+    if refusal.number != RefusalNumber::Syntax {
+        return None;
+    }
+    fault_at(source, tokens, refusal.line, refusal.column)
 }
 
 /// The change of a text together with the next one that its expression needs, where there is one.
@@ -59,13 +70,7 @@ fn with_next(alloc: Global, text: &str, edit: &Edit) -> Result<Option<Edit>, All
     let Ok(tokens) = lex(alloc, &changed) else {
         return Ok(None);
     };
-    let Err(refusal) = parse(alloc, &tokens) else {
-        return Ok(None);
-    };
-    if refusal.number != RefusalNumber::Syntax {
-        return Ok(None);
-    }
-    match fault_at(&changed, &tokens, refusal.line, refusal.column) {
+    match fault_of(alloc, &changed, &tokens) {
         Some(fault) => next_of(alloc, &fault, edit),
         None => Ok(None),
     }
@@ -118,7 +123,7 @@ pub fn mixed(alloc: Global, fault: &Fault<'_>) -> Result<Option<Finding>, AllocE
         byte: edit.byte.saturating_sub(start),
         ..edit
     };
-    let whole = whole(alloc, text, here)?;
-    let byte = whole.byte.saturating_add(start);
-    Ok(Some(said(alloc, &remark)?.with_edit(Some(Edit { byte, ..whole }))))
+    let mut whole = whole(alloc, text, here)?;
+    whole.byte = whole.byte.saturating_add(start);
+    Ok(Some(said(alloc, &remark)?.with_edit(Some(whole))))
 }

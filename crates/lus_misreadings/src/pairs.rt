@@ -6,19 +6,18 @@ use crate::operands::open_before;
 use crate::remark::{Remark, Text, Trust, replacing, told};
 use crate::words::is_any;
 
-/// The last token of the left side of an equation, if a list is the whole right side of it.
-fn left_end(fault: &Fault<'_>, open: usize, list: List) -> Option<usize> {
-    let equal = open.checked_sub(1)?;
-    let is_whole = fault.is_at(list.behind.saturating_add(1), ";") && fault.is_at(equal, "=");
-    if is_whole { equal.checked_sub(1) } else { None }
-}
-
-/// The first token of the left side that ends with a token: behind the equation or the `let` before it.
-fn left_start(fault: &Fault<'_>, end: usize) -> Option<usize> {
+/// Where the left side of an equation begins and its last token, if the list behind a parenthesis is the whole right side.
+fn left_side(fault: &Fault<'_>, open: usize, list: List) -> Option<(usize, usize)> {
+    let is_whole = fault.is_at(list.behind.saturating_add(1), ";")
+        && fault.is_at(open.saturating_sub(1), "=");
+    let end = open.saturating_sub(2);
     for back in 0..MOST_TOKENS {
-        let place = end.checked_sub(back)?;
-        if is_any(fault.text(place.checked_sub(1)?), &[";", "let"]) {
-            return Some(place);
+        let start = end.saturating_sub(back);
+        if start == 0 || !is_whole {
+            return None;
+        }
+        if is_any(fault.text(start.saturating_sub(1)), &[";", "let"]) {
+            return Some((start, end));
         }
     }
     None
@@ -26,26 +25,23 @@ fn left_start(fault: &Fault<'_>, end: usize) -> Option<usize> {
 
 /// What is said of an equation of several variables whose right side lists a value for each.
 pub fn paired<'t>(fault: &Fault<'t>) -> Option<Remark<'t>> {
-    if !fault.is_found(",") {
+    let open = match open_before(fault) {
+        Some(open) if fault.is_found(",") => open,
+        _ => return None,
+    };
+    let Some(list) = list_at(fault, open) else {
         return None;
-    }
-    let open = open_before(fault)?;
-    let list = list_at(fault, open)?;
-    let end = left_end(fault, open, list)?;
-    let start = left_start(fault, end)?;
+    };
+    let Some((start, end)) = left_side(fault, open, list) else {
+        return None;
+    };
     // (names alternate with commas, in parentheses or without)
-    let is_closed = fault.is_at(start, "(");
-    let first = if is_closed {
-        start.saturating_add(1)
+    let (first, last) = if fault.is_at(start, "(") {
+        (start.saturating_add(1), end.saturating_sub(1))
     } else {
-        start
+        (start, end)
     };
-    let behind = if is_closed {
-        end
-    } else {
-        end.saturating_add(1)
-    };
-    if behind.saturating_sub(first) / 2 + 1 != list.count(fault) {
+    if last.saturating_add(1).saturating_sub(first) / 2 + 1 != list.count(fault) {
         return None;
     }
     let text = Text::List(list, Style::Equations(first));

@@ -2,7 +2,7 @@
 
 use crate::fault::Fault;
 use crate::labels::push_arrows;
-use crate::lists::{List, Style, push_list};
+use crate::lists::{List, Style, list_at, push_list};
 use crate::phrase::{Phrase, push_phrase, text_of};
 use lus_faults::{Edit, Finding, edited, offset_of};
 use lus_grammar::parse;
@@ -46,22 +46,61 @@ pub struct Remark<'t> {
     pub change: Option<Change<'t>>,
 }
 
-/// A sentence and a note on the token of a fault.
-pub fn told<'t>(fault: &Fault<'t>, sentence: &'static str, note: &'static str) -> Remark<'t> {
+/// A sentence and a note on so many bytes from a fault on.
+pub fn remark_on<'t>(length: u32, sentence: Phrase<'t>, note: &'static str) -> Remark<'t> {
     Remark {
-        sentence: Phrase::plain(sentence),
+        sentence,
         note: Phrase::plain(note),
-        length: fault.length(),
+        length,
         comment: None,
         change: None,
     }
 }
 
+/// A sentence and a note on the token of a fault.
+pub fn told<'t>(fault: &Fault<'t>, sentence: &'static str, note: &'static str) -> Remark<'t> {
+    remark_on(fault.length(), Phrase::plain(sentence), note)
+}
+
+/// A sentence of words and a note on the token of a fault.
+pub fn worded<'t>(fault: &Fault<'t>, sentence: Phrase<'t>, note: &'static str) -> Remark<'t> {
+    remark_on(fault.length(), sentence, note)
+}
+
 impl<'t> Remark<'t> {
+    /// The remark with a word in its note.
+    pub fn about(self, word: &'t str) -> Remark<'t> {
+        let note = Phrase::new(self.note.text, word, "", "");
+        Remark { note, ..self }
+    }
+
+    /// The remark with a comment that it comes from.
+    pub fn with_comment(self, span: Span) -> Remark<'t> {
+        Remark {
+            comment: Some(span),
+            ..self
+        }
+    }
+
     /// The remark with a change of the text.
     pub fn with(self, change: Option<Change<'t>>) -> Remark<'t> {
         Remark { change, ..self }
     }
+}
+
+/// The change by which a text takes the place of the bytes from one up to another.
+pub fn across<'t>(byte: u32, end: u32, text: Text<'t>, trust: Trust) -> Option<Change<'t>> {
+    Some(Change {
+        byte,
+        length: end.saturating_sub(byte),
+        text,
+        trust,
+    })
+}
+
+/// The change by which a phrase surely takes the place of the bytes from one up to another.
+pub fn sure<'t>(byte: u32, end: u32, phrase: Phrase<'t>) -> Option<Change<'t>> {
+    across(byte, end, Text::Phrase(phrase), Trust::Sure)
 }
 
 /// The change by which a text takes the place of tokens, from one to the last.
@@ -72,37 +111,47 @@ pub fn replacing<'t>(
     text: Text<'t>,
     trust: Trust,
 ) -> Option<Change<'t>> {
-    let byte = fault.tokens.get(from)?.span.start.byte;
-    let end = fault.tokens.get(last)?.span.end().byte;
-    Some(Change {
-        byte,
-        length: end.saturating_sub(byte),
-        text,
-        trust,
-    })
-}
-
-/// The change, unless the text isn't read with it up to its end and further.
-fn tried(alloc: Global, source: &str, edit: Edit) -> Result<Option<Edit>, AllocError> {
-    let Some(changed) = edited(alloc, source, &edit)? else {
-        return Ok(None);
-    };
-    let end = (edit.byte as usize).saturating_add(edit.text.len());
-    if is_read(alloc, &changed, end) {
-        Ok(Some(edit))
-    } else {
-        Ok(None)
+    match fault.bytes_of(from, last) {
+        Some((byte, end)) => across(byte, end, text, trust),
+        None => None,
     }
 }
 
-/// Whether a text is read up to a byte and further.
-fn is_read(alloc: Global, text: &str, end: usize) -> bool {
-    let Ok(tokens) = lex(alloc, text) else {
-        return false;
+/// The change by which a phrase takes the place of tokens, from one to the last, if the text is read further with it.
+pub fn rephrasing<'t>(
+    fault: &Fault<'t>,
+    from: usize,
+    last: usize,
+    phrase: Phrase<'t>,
+) -> Option<Change<'t>> {
+    replacing(fault, from, last, Text::Phrase(phrase), Trust::Tried)
+}
+
+/// The change that writes the list of the parenthesis at a place in a style.
+pub fn listing<'t>(
+    fault: &Fault<'t>,
+    open: usize,
+    style: Style,
+    trust: Trust,
+) -> Option<Change<'t>> {
+    match list_at(fault, open) {
+        Some(list) => replacing(fault, open, list.behind, Text::List(list, style), trust),
+        None => None,
+    }
+}
+
+/// Whether a source is read with a change up to the change's end and further.
+fn helps(alloc: Global, source: &str, edit: &Edit) -> Result<bool, AllocError> {
+    let Some(changed) = edited(alloc, source, edit)? else {
+        return Ok(false);
     };
+    let Ok(tokens) = lex(alloc, &changed) else {
+        return Ok(false);
+    };
+    let end = (edit.byte as usize).saturating_add(edit.text.len());
     match parse(alloc, &tokens) {
-        Ok(_) => true,
-        Err(found) => offset_of(text, found.line, found.column) > end,
+        Ok(_) => Ok(true),
+        Err(found) => Ok(offset_of(&changed, found.line, found.column) > end),
     }
 }
 
@@ -131,10 +180,10 @@ pub fn edit_of(
         length: change.length,
         text,
     };
-    if change.trust == Trust::Sure {
+    if change.trust == Trust::Sure || helps(alloc, fault.source, &edit)? {
         Ok(Some(edit))
     } else {
-        tried(alloc, fault.source, edit)
+        Ok(None)
     }
 }
 

@@ -4,12 +4,12 @@ use crate::blanks::{with_missing, without};
 use crate::calls::side_by_side;
 use crate::fault::Fault;
 use crate::phrase::Phrase;
-use crate::remark::{Remark, told};
+use crate::remark::{Remark, worded};
 use crate::surroundings::is_equated;
 use crate::trial::{Reach, start_of, token_of, tokens_of};
-use crate::words::{is, is_any};
+use crate::words::is_any;
 use lus_faults::slice_of;
-use lus_syntax::TokenKind;
+use lus_syntax::{Token, TokenKind};
 use std::alloc::{AllocError, Global};
 
 /// What a missing token may be, that which is missing most first.
@@ -31,28 +31,35 @@ struct Best {
 }
 
 impl Best {
-    /// The better one of it and another repair: the first, where they are as good.
-    fn or(self, repair: Repair, reach: Reach) -> Best {
-        if reach.is_behind(self.reach) {
-            return Best {
-                repair: Some(repair),
-                reach,
-            };
+    /// The better one of it and another repair, with tokens in the place of those from the fault up to a place: the first, where
+    /// they are as good.
+    fn or(
+        self,
+        alloc: Global,
+        fault: &Fault<'_>,
+        to: usize,
+        others: &[Token<'static>],
+        repair: Repair,
+    ) -> Result<Best, AllocError> {
+        let reach = fault.reach_with(alloc, fault.place, to, others)?;
+        if !reach.is_behind(self.reach) {
+            return Ok(self);
         }
-        self
+        let repair = Some(repair);
+        Ok(Best { repair, reach })
     }
 }
 
 /// How far tokens are to be read with a repair: behind the first semicolon from the fault on, which ends what it is in.
 fn end_wanted(fault: &Fault<'_>) -> Reach {
     let most = fault.next();
-    for token in fault.tokens.get(fault.place..).unwrap_or(&[]) {
-        if is(slice_of(fault.source, token.span), ";") {
-            let end = start_of(token);
-            return if end.is_behind(most) { end } else { most };
-        }
+    let Some(place) = fault.find(fault.place, &[";"]) else {
+        return most;
+    };
+    match fault.tokens.get(place) {
+        Some(token) if start_of(token).is_behind(most) => start_of(token),
+        _ => most,
     }
-    most
 }
 
 /// Whether what isn't read any more is a parenthesis or a brace that closes, which tells of a repair that breaks something else.
@@ -92,8 +99,8 @@ fn best_missing(alloc: Global, fault: &Fault<'_>) -> Result<Best, AllocError> {
         let missing = slice_of(MISSING, token.span);
         if may_lack(fault, missing) {
             let others = [token_of(token.kind)];
-            let reach = fault.reach_with(alloc, fault.place, fault.place, &others)?;
-            best = best.or(Repair::Insert(missing), reach);
+            let repair = Repair::Insert(missing);
+            best = best.or(alloc, fault, fault.place, &others, repair)?;
         }
     }
     Ok(best)
@@ -106,11 +113,9 @@ fn repair_of(alloc: Global, fault: &Fault<'_>) -> Result<Option<Repair>, AllocEr
         let behind = fault.place.saturating_add(1);
         if matches!(found.kind, TokenKind::Keyword(_)) {
             let name = [token_of(TokenKind::Identifier("name"))];
-            let reach = fault.reach_with(alloc, fault.place, behind, &name)?;
-            best = best.or(Repair::Rename, reach);
+            best = best.or(alloc, fault, behind, &name, Repair::Rename)?;
         }
-        let reach = fault.reach_with(alloc, fault.place, behind, &[])?;
-        best = best.or(Repair::Remove, reach);
+        best = best.or(alloc, fault, behind, &[], Repair::Remove)?;
     }
     Ok(if is_broken(fault, best.reach) {
         None
@@ -119,39 +124,23 @@ fn repair_of(alloc: Global, fault: &Fault<'_>) -> Result<Option<Repair>, AllocEr
     })
 }
 
-/// A sentence with words on the token of a fault.
-fn worded<'t>(
-    fault: &Fault<'t>,
-    sentence: &'static str,
-    note: &'static str,
-    first: &'t str,
-    second: &'t str,
-) -> Remark<'t> {
-    Remark {
-        sentence: Phrase::new(sentence, first, second, ""),
-        ..told(fault, "", note)
-    }
-}
-
 /// What is said where a repair makes the difference.
 fn said_of<'t>(fault: &Fault<'t>, repair: Repair) -> Option<Remark<'t>> {
-    match repair {
-        Repair::Insert(missing) => {
-            let before = fault.token_before(1)?;
-            let sentence = "`{}` is missing behind `{}`";
-            let remark = worded(fault, sentence, "", missing, fault.before(1));
-            Some(remark.with(Some(with_missing(fault, missing, before))))
+    let found = fault.found();
+    match (repair, fault.token_before(1), fault.token()) {
+        (Repair::Insert(missing), Some(before), _) => {
+            let words = Phrase::new("`{}` is missing behind `{}`", missing, fault.before(1), "");
+            Some(worded(fault, words, "").with(with_missing(fault, missing, before)))
         }
-        Repair::Remove => {
-            let found = fault.token()?;
-            let remark = worded(fault, "`{}` is too much here", "", fault.found(), "");
-            Some(remark.with(Some(without(fault, found))))
+        (Repair::Remove, _, Some(token)) => {
+            let words = Phrase::new("`{}` is too much here", found, "", "");
+            Some(worded(fault, words, "").with(without(fault, token)))
         }
-        Repair::Rename => {
-            let sentence = "`{}` is a word of the language, and no name";
-            let note = "Choose another name, everywhere it stands.";
-            Some(worded(fault, sentence, note, fault.found(), ""))
+        (Repair::Rename, _, _) => {
+            let words = Phrase::new("`{}` is a word of the language, and no name", found, "", "");
+            Some(worded(fault, words, "Choose another name, everywhere it stands."))
         }
+        _ => None,
     }
 }
 

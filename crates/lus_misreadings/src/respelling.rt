@@ -2,7 +2,7 @@
 
 use crate::fault::{Fault, is_name};
 use crate::phrase::Phrase;
-use crate::remark::{Remark, Text, Trust, replacing, told};
+use crate::remark::{Remark, Text, Trust, replacing, worded};
 use crate::trial::token_of;
 use lus_faults::are_near;
 use lus_syntax::{TokenKind, WORDS};
@@ -42,39 +42,31 @@ fn word_for(
     Ok(best)
 }
 
-/// What is said of a name for which a word is meant, so many tokens before the fault.
-fn respelled_at<'t>(
-    alloc: Global,
-    fault: &Fault<'t>,
-    back: usize,
-) -> Result<Option<Remark<'t>>, AllocError> {
-    let Some(place) = fault.place.checked_sub(back) else {
-        return Ok(None);
-    };
-    if !is_name(fault.tokens.get(place)) || fault.token().is_none() {
-        return Ok(None);
-    }
-    let Some(word) = word_for(alloc, fault, place)? else {
-        return Ok(None);
-    };
-    let sentence = if back == 0 {
+/// What is said of a name at a place, before the fault or at it, for which a word is meant.
+fn said_of<'t>(fault: &Fault<'t>, place: usize, word: &'static str) -> Remark<'t> {
+    let sentence = if place == fault.place {
         "`{}` is no word of the language; `{}` is spelled nearly alike"
     } else {
         "`{}` before this is read as a name; `{}` is spelled nearly alike"
     };
     let text = Text::Phrase(Phrase::of(word));
-    Ok(Some(Remark {
-        sentence: Phrase::new(sentence, fault.text(place), word, ""),
-        change: replacing(fault, place, place, text, Trust::Sure),
-        ..told(fault, "", "")
-    }))
+    let written = replacing(fault, place, place, text, Trust::Sure);
+    worded(
+        fault,
+        Phrase::new(sentence, fault.text(place), word, ""),
+        "",
+    )
+    .with(written)
 }
 
 /// What is said where a name is read for which a word is meant: at the fault, or right before it.
 pub fn respelled<'t>(alloc: Global, fault: &Fault<'t>) -> Result<Option<Remark<'t>>, AllocError> {
-    let here = respelled_at(alloc, fault, 0)?;
-    if here.is_some() {
-        return Ok(here);
+    for place in [fault.place, fault.place.saturating_sub(1)] {
+        if is_name(fault.tokens.get(place)) && fault.token().is_some() {
+            if let Some(word) = word_for(alloc, fault, place)? {
+                return Ok(Some(said_of(fault, place, word)));
+            }
+        }
     }
-    respelled_at(alloc, fault, 1)
+    Ok(None)
 }

@@ -2,7 +2,7 @@
 
 use crate::fault::{Fault, is_name, is_next, is_number};
 use crate::phrase::Phrase;
-use crate::remark::{Change, Remark, Text, Trust, told};
+use crate::remark::{Remark, sure, told};
 use crate::surroundings::{Place, brace_before, stands};
 use crate::words::{RECKONERS, compares, is_any, is_variable, joins, leads};
 use lus_faults::slice_of;
@@ -172,30 +172,27 @@ fn has_form(fault: &Fault<'_>, row: &Row) -> bool {
         && stands(fault, row.place)
 }
 
-/// The bytes from one token's first up to another's last.
-fn across(first: Option<&Token>, last: Option<&Token>) -> Option<(u32, u32)> {
-    let byte = first?.span.start.byte;
-    Some((byte, last?.span.end().byte.saturating_sub(byte)))
-}
-
-/// The bytes that another text takes the place of.
+/// The bytes that another text takes the place of, from one up to another.
 fn bytes_of(fault: &Fault<'_>, taken: Taken) -> Option<(u32, u32)> {
-    let found = fault.token();
-    let before = fault.token_before(1);
+    let found = fault.place;
+    let before = found.saturating_sub(1);
     match taken {
-        Taken::Found => across(found, found),
-        Taken::Before => across(before, before),
-        Taken::WithBefore => across(before, found),
-        Taken::WithBehind => across(found, fault.token_behind(1)),
-        Taken::Nothing => Some((found?.span.start.byte, 0)),
-        Taken::WithBlanks => {
-            let byte = before?.span.end().byte;
-            Some((byte, found?.span.end().byte.saturating_sub(byte)))
-        }
-        Taken::Brace => {
-            let brace = fault.tokens.get(brace_before(fault)?);
-            across(brace, brace)
-        }
+        Taken::Found => fault.bytes_of(found, found),
+        Taken::Before => fault.bytes_of(before, before),
+        Taken::WithBefore => fault.bytes_of(before, found),
+        Taken::WithBehind => fault.bytes_of(found, found.saturating_add(1)),
+        Taken::Nothing => match fault.bytes_of(found, found) {
+            Some((byte, _)) => Some((byte, byte)),
+            None => None,
+        },
+        Taken::WithBlanks => match (fault.byte_behind(before), fault.byte_behind(found)) {
+            (Some(byte), Some(end)) => Some((byte, end)),
+            _ => None,
+        },
+        Taken::Brace => match brace_before(fault) {
+            Some(brace) => fault.bytes_of(brace, brace),
+            None => None,
+        },
     }
 }
 
@@ -205,15 +202,10 @@ fn remark_of<'t>(fault: &Fault<'t>, row: &Row) -> Remark<'t> {
     let Some((taken, text)) = row.instead else {
         return remark;
     };
-    let Some((byte, length)) = bytes_of(fault, taken) else {
-        return remark;
-    };
-    remark.with(Some(Change {
-        byte,
-        length,
-        text: Text::Phrase(Phrase::plain(text)),
-        trust: Trust::Sure,
-    }))
+    match bytes_of(fault, taken) {
+        Some((byte, end)) => remark.with(sure(byte, end, Phrase::plain(text))),
+        None => remark,
+    }
 }
 
 /// What the first row says whose form a fault has.

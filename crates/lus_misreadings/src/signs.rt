@@ -5,7 +5,7 @@ use crate::fault::Fault;
 use crate::foreign::{CHOICES, LAST};
 use crate::lexical::Case;
 use crate::phrase::Phrase;
-use crate::remark::{Change, Remark, Text, Trust, told};
+use crate::remark::{Remark, sure, told};
 use crate::words::{is, is_any};
 use lus_faults::bytes_at;
 
@@ -72,30 +72,23 @@ fn first_word(text: &str) -> &str {
 
 /// What is said of a `'` behind `last`, and of a bar between constructors or behind `of`.
 pub fn told_by_signs<'t>(fault: &Fault<'t>, start: usize) -> Option<Remark<'t>> {
-    let before = bytes_at(fault.source, 0, start)?;
-    let sign = fault.source.as_bytes().get(start).copied()?;
+    let before = bytes_at(fault.source, 0, start).unwrap_or("");
+    let sign = fault.source.as_bytes().get(start).copied();
     let (place, word) = last_word(before);
-    if sign == b'\'' && is(word, "last") {
-        let remark = told(fault, "`last` is no word of the language", LAST);
-        return Some(remark.with(Some(Change {
-            byte: within(place),
-            length: within(start.saturating_add(1).saturating_sub(place)),
-            text: Text::Phrase(Phrase::plain("pre ")),
-            trust: Trust::Sure,
-        })));
+    match (sign, word) {
+        (Some(b'\''), "last") => {
+            let end = within(start.saturating_add(1));
+            let written = sure(within(place), end, Phrase::plain("pre "));
+            Some(told(fault, "`last` is no word of the language", LAST).with(written))
+        }
+        (Some(b'|'), "of") => Some(told(fault, "`case` is no word of the language", CHOICES)),
+        (Some(b'|'), _) if is(first_word(behind_semicolon(before)), "type") => {
+            let sentence = "constructors stand in braces, with `,` between";
+            let note = "An enumeration is written `type mode = enum { Off, On };`.";
+            Some(told(fault, sentence, note))
+        }
+        _ => None,
     }
-    if sign == b'|' && is(word, "of") {
-        return Some(told(fault, "`case` is no word of the language", CHOICES));
-    }
-    if sign == b'|' && is(first_word(behind_semicolon(before)), "type") {
-        let note = "An enumeration is written `type mode = enum { Off, On };`.";
-        return Some(told(
-            fault,
-            "constructors stand in braces, with `,` between",
-            note,
-        ));
-    }
-    None
 }
 
 /// The blank between a byte of a source and one of a text, where both are of words.
@@ -109,7 +102,9 @@ fn blank_between(first: Option<&u8>, second: Option<&u8>) -> &'static str {
 /// The text that belongs in the place of a case's one at a byte: with blanks where it would make one word with what stands beside
 /// it, and none that joins two operands where no operand stands before it.
 pub fn instead_of<'t>(source: &'t str, start: usize, case: Case) -> Option<Phrase<'t>> {
-    let text = case.instead?;
+    let Some(text) = case.instead else {
+        return None;
+    };
     let before = bytes_at(source, 0, start).unwrap_or("");
     let is_behind_operand = match last_byte(before) {
         Some(last) => is_of_word(last) || last == b')',

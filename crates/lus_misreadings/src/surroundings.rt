@@ -171,12 +171,8 @@ fn is_clock_call(fault: &Fault<'_>) -> bool {
 
 /// Whether a variable in the head of the node has a clock.
 fn has_clocks(fault: &Fault<'_>) -> bool {
-    for place in 0..fault.tokens.len() {
-        match fault.text(place) {
-            "let" => return false,
-            "when" => return true,
-            _ => {}
-        }
+    match fault.find(0, &["let", "when"]) {
+        Some(place) => fault.is_at(place, "when"),
+        None => false,
     }
-    false
 }

@@ -20,7 +20,7 @@ impl Reach {
 }
 
 /// How far the tokens of a declaration are read.
-pub fn reach_of(alloc: Global, tokens: &[Token]) -> Reach {
+fn reach_of(alloc: Global, tokens: &[Token]) -> Reach {
     match parse(alloc, tokens) {
         Ok(_) => Reach {
             line: u32::MAX,

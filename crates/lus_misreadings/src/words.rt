@@ -25,7 +25,7 @@ pub fn is(text: &str, other: &str) -> bool {
 
 /// Whether a text is one of some.
 pub fn is_any(text: &str, texts: &[&str]) -> bool {
-    texts.iter().any(|other| *other == text)
+    texts.contains(&text)
 }
 
 /// Whether a text is a comparison.
