@@ -5,21 +5,9 @@ use crate::completing::completed;
 use crate::declared::wrong_clock;
 use crate::placing::{Looking, Misplaced, in_equation};
 use crate::sampling::add_sampled;
-use lus_faults::{Finding, extent_of, slice_of};
-use lus_syntax::{Equation, Node, Refusal, Tree};
+use lus_faults::{Finding, Sought, extent_of, slice_of};
+use lus_syntax::{Equation, Refusal, Tree};
 use std::alloc::{AllocError, Global};
-
-/// The last node whose name doesn't stand behind a place.
-fn node_at(tree: &Tree, line: u32, column: u32) -> Option<&Node> {
-    let mut found = None;
-    for node in &tree.nodes {
-        let start = node.name.span.start;
-        if start.line < line || (start.line == line && start.column <= column) {
-            found = Some(node);
-        }
-    }
-    found
-}
 
 /// The sentence on an expression that is on another clock than its place.
 fn sentence_on(alloc: Global, source: &str, found: Misplaced<'_>) -> Result<String, AllocError> {
@@ -74,12 +62,12 @@ fn told(
     clocks: Clocks<'_>,
     equation: &Equation,
     found: Misplaced<'_>,
-) -> Result<Finding, AllocError> {
+) -> Result<Option<Finding>, AllocError> {
     let span = extent_of(source, found.expr);
     let sentence = sentence_on(alloc, source, found)?;
     let mut finding = Finding::new(alloc, sentence, span.length);
     add_advice(alloc, source, clocks, equation, found, &mut finding)?;
-    Ok(finding)
+    Ok(Some(finding))
 }
 
 /// What is said of a fault of clocks, where it is found again at its place.
@@ -89,22 +77,17 @@ pub fn clock_cause(
     tree: &Tree,
     refusal: &Refusal,
 ) -> Result<Option<Finding>, AllocError> {
-    let Some(node) = node_at(tree, refusal.line, refusal.column) else {
+    let sought = Sought::of(refusal);
+    let Some(node) = sought.node(tree) else {
         return Ok(None);
     };
-    let clocks = Clocks { tree, node };
-    let found = wrong_clock(alloc, clocks, refusal.line, refusal.column)?;
-    if found.is_some() {
-        return Ok(found);
+    if let Some(found) = wrong_clock(alloc, sought, node)? {
+        return Ok(Some(found));
     }
-    let looking = Looking {
-        clocks,
-        line: refusal.line,
-        column: refusal.column,
-    };
+    let clocks = Clocks { tree, node };
     for equation in &node.equations {
-        if let Some(found) = in_equation(looking, equation) {
-            return Ok(Some(told(alloc, source, clocks, equation, found)?));
+        if let Some(found) = in_equation(Looking { clocks, sought }, equation) {
+            return told(alloc, source, clocks, equation, found);
         }
     }
     Ok(None)

@@ -1,6 +1,7 @@
 //! Clocks of a node's variables.
 
-use lus_syntax::{Group, Label, Name, Node, Test, Tree, TypeName};
+use lus_faults::variable_named;
+use lus_syntax::{Group, Label, Name, Node, Test, Tree};
 use std::alloc::{AllocError, Global};
 
 /// The newest test of a clock: a variable, and the constructor or the truth value that it has.
@@ -78,9 +79,7 @@ impl<'t> Tick<'t> {
 /// The variable of a test.
 pub fn variable_of(test: &Test) -> &Name {
     match test {
-        Test::Holds(variable) => variable,
-        Test::Fails(_, variable) => variable,
-        Test::Is(_, variable) => variable,
+        Test::Holds(variable) | Test::Fails(_, variable) | Test::Is(_, variable) => variable,
     }
 }
 
@@ -91,18 +90,6 @@ pub fn text_of_label(label: &Label) -> &str {
         Label::Truth(true, _) => "true",
         Label::Truth(false, _) => "false",
     }
-}
-
-/// The group among some that declares a variable.
-fn declaring<'t>(groups: &'t [Group], name: &str) -> Option<&'t Group> {
-    for group in groups {
-        for variable in &group.names {
-            if variable.text.as_str() == name {
-                return Some(group);
-            }
-        }
-    }
-    None
 }
 
 /// Whether all variables of groups are on the base clock.
@@ -116,36 +103,26 @@ fn are_plain(groups: &[Group]) -> bool {
 }
 
 impl<'t> Clocks<'t> {
-    /// The group that declares a variable.
-    fn group(self, name: &str) -> Option<&'t Group> {
-        declaring(&self.node.inputs, name)
-            .or(declaring(&self.node.outputs, name))
-            .or(declaring(&self.node.locals, name))
-    }
-
     /// The clock of a variable.
     pub fn clock(self, name: &str) -> Option<Clock<'t>> {
-        Some(match &self.group(name)?.test {
-            Some(test) => Clock::on(test),
-            None => Clock { newest: None },
-        })
-    }
-
-    /// The newest test of a variable's clock, if it has one.
-    pub fn newest(self, name: &str) -> Option<Tick<'t>> {
-        self.clock(name)?.newest
+        match variable_named(self.node, name) {
+            Some(variable) => Some(match &variable.group.test {
+                Some(test) => Clock::on(test),
+                None => Clock { newest: None },
+            }),
+            None => None,
+        }
     }
 
     /// The test that leads from one clock to another, where one does.
     pub fn leading(self, from: Clock<'_>, to: Clock<'t>) -> Option<Tick<'t>> {
-        let tick = to.newest?;
-        let tested = self.clock(tick.variable.text.as_str())?;
-        if tested.is(from) { Some(tick) } else { None }
-    }
-
-    /// The name of a variable's type.
-    pub fn type_name(self, name: &str) -> Option<&'t TypeName> {
-        Some(&self.group(name)?.type_name)
+        let Some(tick) = to.newest else {
+            return None;
+        };
+        match self.clock(tick.variable.text.as_str()) {
+            Some(tested) if tested.is(from) => Some(tick),
+            _ => None,
+        }
     }
 
     /// Whether a node has all its inputs and outputs on the base clock.

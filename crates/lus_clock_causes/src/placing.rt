@@ -1,7 +1,7 @@
 //! Where an expression isn't on the clock of its place.
 
 use crate::clock::{Clock, Clocks, Tick, text_of_label, variable_of};
-use lus_faults::start_of;
+use lus_faults::{Sought, start_of};
 use lus_syntax::{Equation, Expr, Infix, Lead, Name, Part, Prefix};
 
 /// An expression that is on another clock than its place: of a variable, or by `when`; and the innermost `pre` or `fby` that it is
@@ -14,32 +14,38 @@ pub struct Misplaced<'t> {
     pub wanted: Clock<'t>,
 }
 
-impl<'t> Misplaced<'t> {
-    /// The same, remembered by an expression on a clock, where none inside remembers it and no other clock stands between.
-    fn remembered(self, memory: &'t Expr, clock: Clock<'t>) -> Misplaced<'t> {
-        if self.memory.is_some() || !self.wanted.is(clock) {
-            return self;
-        }
-        Misplaced {
+/// What was found, remembered by an expression on a clock, where none inside remembers it and no other clock stands between.
+fn remembered<'t>(
+    found: Option<Misplaced<'t>>,
+    memory: &'t Expr,
+    clock: Clock<'t>,
+) -> Option<Misplaced<'t>> {
+    match found {
+        Some(inside) if inside.memory.is_none() && inside.wanted.is(clock) => Some(Misplaced {
             memory: Some(memory),
-            ..self
-        }
+            ..inside
+        }),
+        _ => found,
     }
+}
 
-    /// The same, where the `pre` that remembers it is the right side of a `->`.
-    fn begun(self, arrow: &'t Expr, right: &'t Expr) -> Misplaced<'t> {
-        let Some(memory) = self.memory else {
-            return self;
-        };
-        let is_right = matches!(right, Expr::Unary(_, _, _))
-            && start_of(memory).byte == start_of(right).byte;
-        if is_right {
-            return Misplaced {
+/// What was found, by the `->` where the `pre` that remembers it is its right side.
+fn begun<'t>(
+    found: Option<Misplaced<'t>>,
+    arrow: &'t Expr,
+    right: &'t Expr,
+) -> Option<Misplaced<'t>> {
+    let Some(inside) = found else {
+        return None;
+    };
+    match (inside.memory, right) {
+        (Some(memory), Expr::Unary(_, span, _)) if start_of(memory).byte == span.start.byte => {
+            Some(Misplaced {
                 memory: Some(arrow),
-                ..self
-            };
+                ..inside
+            })
         }
-        self
+        _ => found,
     }
 }
 
@@ -47,27 +53,24 @@ impl<'t> Misplaced<'t> {
 #[derive(Clone, Copy)]
 pub struct Looking<'t> {
     pub clocks: Clocks<'t>,
-    pub line: u32,
-    pub column: u32,
+    pub sought: Sought,
 }
 
 impl<'t> Looking<'t> {
     /// The expression, where it stands at the place and on another clock than it should.
     fn compared(self, expr: &'t Expr, wanted: Clock<'t>) -> Option<Misplaced<'t>> {
-        let start = start_of(expr);
-        if start.line != self.line || start.column != self.column {
+        if !self.sought.is_at(start_of(expr)) {
             return None;
         }
-        let has = own_clock(self.clocks, expr)?;
-        if has.is(wanted) {
-            return None;
+        match own_clock(self.clocks, expr) {
+            Some(has) if !has.is(wanted) => Some(Misplaced {
+                expr,
+                memory: None,
+                has,
+                wanted,
+            }),
+            _ => None,
         }
-        Some(Misplaced {
-            expr,
-            memory: None,
-            has,
-            wanted,
-        })
     }
 }
 
@@ -112,27 +115,28 @@ pub fn off_clock<'t>(
             off_clock(looking, operand, wanted)
         }
         Expr::When(operand, test) => {
-            let inside = looking.clocks.clock(variable_of(test).text.as_str())?;
-            off_clock(looking, operand, inside)
+            match looking.clocks.clock(variable_of(test).text.as_str()) {
+                Some(inside) => off_clock(looking, operand, inside),
+                None => None,
+            }
         }
         Expr::Unary(prefix, _, operand) => {
-            let found = off_clock(looking, operand, wanted)?;
-            Some(match prefix {
-                Prefix::Pre => found.remembered(expr, wanted),
-                _ => found,
+            let found = off_clock(looking, operand, wanted);
+            if *prefix == Prefix::Pre {
+                remembered(found, expr, wanted)
+            } else {
+                found
+            }
+        }
+        Expr::Binary(infix, left, right) => {
+            let first = off_clock(looking, left, wanted);
+            let second = off_clock(looking, right, wanted);
+            first.or(match infix {
+                Infix::Fby => remembered(second, expr, wanted),
+                Infix::Arrow => begun(second, expr, right),
+                Infix::Compute(_) => second,
             })
         }
-        Expr::Binary(infix, left, right) => match off_clock(looking, left, wanted) {
-            Some(found) => Some(found),
-            None => {
-                let found = off_clock(looking, right, wanted)?;
-                Some(match infix {
-                    Infix::Fby => found.remembered(expr, wanted),
-                    Infix::Arrow => found.begun(expr, right),
-                    _ => found,
-                })
-            }
-        },
         Expr::If(_, condition, left, right) => {
             off_clock(looking, condition, wanted)
                 .or(off_clock(looking, left, wanted))
@@ -182,7 +186,11 @@ fn in_branches<'t>(
 
 /// The first part of an equation at the place that isn't on its clock.
 pub fn in_equation<'t>(looking: Looking<'t>, equation: &'t Equation) -> Option<Misplaced<'t>> {
-    let first = equation.left.first()?;
-    let wanted = looking.clocks.clock(first.text.as_str())?;
-    off_clock(looking, &equation.right, wanted)
+    let Some(first) = equation.left.first() else {
+        return None;
+    };
+    match looking.clocks.clock(first.text.as_str()) {
+        Some(wanted) => off_clock(looking, &equation.right, wanted),
+        None => None,
+    }
 }

@@ -47,6 +47,19 @@ impl Expanded {
         Ok(clock)
     }
 
+    /// The clock of the branch of a constructor of a `merge` over a slot, or of an operand of no `merge`.
+    fn branch_clock(
+        &mut self,
+        clock: usize,
+        merged: Option<usize>,
+        constructor: u32,
+    ) -> Result<usize, Memory> {
+        match merged {
+            Some(slot) => self.add_clock(clock, slot, constructor),
+            None => Ok(clock),
+        }
+    }
+
     fn add_term(
         &mut self,
         shape: Shape,
@@ -144,15 +157,32 @@ impl Expanded {
     }
 }
 
-/// The base of a call of a node whose first output is on a clock.
-fn base_of(
+/// A call of a node whose first output is on a clock, with slots for its variables.
+fn add_called(
     alloc: Global,
-    expanded: &Expanded,
-    called: &Node,
+    program: &Program,
+    expanded: &mut Expanded,
+    node: usize,
     clock: usize,
+    caller: Caller,
 ) -> Result<usize, Memory> {
-    let tests = tests_of(alloc, called, called.inputs as usize)?;
-    Ok(expanded.without(clock, tests.len()))
+    let base = match program.nodes.get(node) {
+        Some(called) => {
+            let tests = tests_of(alloc, called, called.inputs as usize)?;
+            expanded.without(clock, tests.len())
+        }
+        None => clock,
+    };
+    expanded.add_call(alloc, program, node, base, Some(caller))
+}
+
+/// The slot of the first output of a call of a node.
+fn first_output(program: &Program, expanded: &Expanded, called: usize, node: usize) -> usize {
+    let inputs = match program.nodes.get(node) {
+        Some(found) => found.inputs as usize,
+        None => 0,
+    };
+    expanded.slot_of(called, inputs)
 }
 
 /// Writes an expression of a call out, on a clock. Says which term it is.
@@ -172,7 +202,7 @@ fn write_out(
         }
         Form::Variable(variable) => Shape::Variable(expanded.slot_of(call, *variable as usize)),
         Form::Operate(operator, operands) => {
-            let terms = write_all(alloc, program, expanded, call, clock, operands)?;
+            let terms = write_all(alloc, program, expanded, call, clock, None, operands)?;
             Shape::Operate(*operator, terms)
         }
         Form::Pre(operand) => {
@@ -189,25 +219,24 @@ fn write_out(
         }
         Form::Merge(variable, branches) => {
             let slot = expanded.slot_of(call, *variable as usize);
-            let terms = write_branches(alloc, program, expanded, call, clock, slot, branches)?;
+            let terms = write_all(alloc, program, expanded, call, clock, Some(slot), branches)?;
             Shape::Merge(slot, terms)
         }
         Form::Call(node, arguments) => {
-            let place = expr.place;
             let node = *node as usize;
-            let called = write_call(
-                alloc, program, expanded, call, clock, place, node, arguments,
-            )?;
-            let inputs = match program.nodes.get(node) {
-                Some(found) => found.inputs as usize,
-                None => 0,
+            let caller = Caller {
+                call,
+                place: expr.place,
             };
-            Shape::Variable(expanded.slot_of(called, inputs))
+            let called = add_called(alloc, program, expanded, node, clock, caller)?;
+            write_arguments(alloc, program, expanded, call, called, arguments)?;
+            Shape::Variable(first_output(program, expanded, called, node))
         }
     };
     expanded.add_term(shape, clock, expr.place, call)
 }
 
+/// Writes operands out, on a clock. Each branch of a `merge` over a slot is on the clock with the test of its constructor.
 #[cycle(write)]
 fn write_all(
     alloc: Global,
@@ -215,66 +244,37 @@ fn write_all(
     expanded: &mut Expanded,
     call: usize,
     clock: usize,
+    merged: Option<usize>,
     operands: &[Expr],
 ) -> Result<Vec<usize>, Memory> {
     let mut terms = Vec::new(alloc);
-    for operand in operands {
-        let term = write_out(alloc, program, expanded, call, clock, operand)?;
-        terms.push(term)?;
-    }
-    Ok(terms)
-}
-
-/// Each branch is on the clock with the test of its constructor.
-#[cycle(write)]
-fn write_branches(
-    alloc: Global,
-    program: &Program,
-    expanded: &mut Expanded,
-    call: usize,
-    clock: usize,
-    slot: usize,
-    branches: &[Expr],
-) -> Result<Vec<usize>, Memory> {
-    let mut terms = Vec::new(alloc);
     let mut constructor = 0u32;
-    for branch in branches {
-        let tested = expanded.add_clock(clock, slot, constructor)?;
-        let term = write_out(alloc, program, expanded, call, tested, branch)?;
+    for operand in operands {
+        let on = expanded.branch_clock(clock, merged, constructor)?;
+        let term = write_out(alloc, program, expanded, call, on, operand)?;
         terms.push(term)?;
         constructor = constructor.saturating_add(1);
     }
     Ok(terms)
 }
 
-/// Writes a call out whose first output is on a clock: its arguments, each on its formal's clock, are what its inputs hold. Says which
-/// call it is.
+/// Writes the arguments of a call out, each on its formal's clock: they are what its inputs hold.
 #[cycle(write)]
-fn write_call(
+fn write_arguments(
     alloc: Global,
     program: &Program,
     expanded: &mut Expanded,
     call: usize,
-    clock: usize,
-    place: Place,
-    node: usize,
+    called: usize,
     arguments: &[Expr],
-) -> Result<usize, Memory> {
-    let base = match program.nodes.get(node) {
-        Some(called) => base_of(alloc, expanded, called, clock)?,
-        None => clock,
-    };
-    let caller = Caller { call, place };
-    let called = expanded.add_call(alloc, program, node, base, Some(caller))?;
-    let mut formal = 0usize;
-    for argument in arguments {
+) -> Result<(), Memory> {
+    for (formal, argument) in arguments.iter().enumerate() {
         let slot = expanded.slot_of(called, formal);
         let on = expanded.clock_of(slot);
         let term = write_out(alloc, program, expanded, call, on, argument)?;
         expanded.define(slot, term);
-        formal = formal.saturating_add(1);
     }
-    Ok(called)
+    Ok(())
 }
 
 /// Writes an equation of a call out. Of a call with several outputs each target is one.

@@ -6,11 +6,17 @@ mod extent;
 mod finding;
 mod lines;
 mod report;
+mod sought;
 mod spelling;
+mod types;
+mod within;
 
 pub use edit::{Edit, edited, edited_lines};
 pub use extent::{extent_of, label_span, start_of};
 pub use finding::{Finding, Related};
 pub use lines::{Lines, bytes_at, line_at, lines_of, offset_of, slice_of};
 pub use report::{further_marks, push_finding, push_marked};
+pub use sought::{Role, Sought, Variable, variable_named};
 pub use spelling::{are_near, nearest};
+pub use types::{Plain, declared_type, resolved, value_of};
+pub use within::expressions_in;

@@ -1,17 +1,16 @@
 //! The left sides of equations.
 
-use crate::declared::candidates;
-use crate::expressions::Sought;
 use crate::said::{Said, told_of};
-use crate::unknown::{Role, Use, unknown};
-use lus_syntax::{Group, Name, Node, Tree};
+use crate::unknown::{Purpose, Use, unknown};
+use lus_faults::{Role, Sought, variable_named};
+use lus_syntax::{Name, Node, Tree};
 use std::alloc::{AllocError, Global};
 
 /// The name on the left of an equation that stands at a place.
-fn left_at(sought: Sought, node: &Node) -> Option<&Name> {
+pub fn left_at(sought: Sought, node: &Node) -> Option<&Name> {
     for equation in &node.equations {
         for name in &equation.left {
-            if sought.is_at(name) {
+            if sought.is_at(name.span.start) {
                 return Some(name);
             }
         }
@@ -19,23 +18,13 @@ fn left_at(sought: Sought, node: &Node) -> Option<&Name> {
     None
 }
 
-/// The first name of a text on the left of an equation, another one than that at a place.
-fn left_named<'t>(node: &'t Node, text: &str, other: Sought) -> Option<&'t Name> {
+/// The first name on the left of an equation that has the text of another.
+fn left_like<'t>(node: &'t Node, other: &Name) -> Option<&'t Name> {
     for equation in &node.equations {
         for name in &equation.left {
-            if name.text.as_str() == text && !other.is_at(name) {
-                return Some(name);
-            }
-        }
-    }
-    None
-}
-
-/// The name of a text among those of groups.
-fn in_groups<'t>(groups: &'t [Group], text: &str) -> Option<&'t Name> {
-    for group in groups {
-        for name in &group.names {
-            if name.text.as_str() == text {
+            if name.text.as_str() == other.text.as_str()
+                && name.span.start.byte != other.span.start.byte
+            {
                 return Some(name);
             }
         }
@@ -45,15 +34,10 @@ fn in_groups<'t>(groups: &'t [Group], text: &str) -> Option<&'t Name> {
 
 /// What is said of a variable that has an equation and no declaration, where a name is used as one.
 pub fn undeclared<'t>(node: &'t Node, found: Use<'t>) -> Option<Said<'t>> {
-    if found.role != Role::Value && found.role != Role::Variable {
+    if found.purpose != Purpose::Value && found.purpose != Purpose::Variable {
         return None;
     }
-    let start = found.name.span.start;
-    let place = Sought {
-        line: start.line,
-        column: start.column,
-    };
-    let left = left_named(node, found.name.text.as_str(), place)?;
+    let left = left_like(node, found.name)?;
     let sentence = "`{}` has an equation but isn't declared";
     let note = "Declare it before `let`: `var {}: ..;`.";
     Some(Said {
@@ -63,18 +47,17 @@ pub fn undeclared<'t>(node: &'t Node, found: Use<'t>) -> Option<Said<'t>> {
 }
 
 /// What is said of an equation for an input, or of a second one for a variable.
-fn needless<'t>(sought: Sought, node: &'t Node, left: &'t Name) -> Option<Said<'t>> {
-    let text = left.text.as_str();
-    if let Some(input) = in_groups(&node.inputs, text) {
+fn needless<'t>(node: &'t Node, left: &'t Name) -> Option<Said<'t>> {
+    let variable = variable_named(node, left.text.as_str())?;
+    if variable.role == Role::Input {
         let sentence = "`{}` is an input, and has no equation";
         let note = "Inputs come from outside: write an equation for an output or a local.";
         return Some(Said {
-            beside: Some((input.span, "`{}` is declared as an input")),
+            beside: Some((variable.name.span, "`{}` is declared as an input")),
             ..told_of(left, sentence, note)
         });
     }
-    let _declared = in_groups(&node.outputs, text).or(in_groups(&node.locals, text))?;
-    let first = left_named(node, text, sought)?;
+    let first = left_like(node, left)?;
     let note = "An equation holds at each instant, so a variable has one: join the two by `if`.";
     Some(Said {
         beside: Some((first.span, "`{}` has an equation here too")),
@@ -82,49 +65,32 @@ fn needless<'t>(sought: Sought, node: &'t Node, left: &'t Name) -> Option<Said<'
     })
 }
 
-/// What is said of the name on the left of an equation that stands at a place.
+/// What is said of a name on the left of an equation.
 pub fn wrong_left<'t>(
     alloc: Global,
-    sought: Sought,
     tree: &'t Tree,
     node: &'t Node,
+    left: &'t Name,
 ) -> Result<Option<Said<'t>>, AllocError> {
-    let Some(left) = left_at(sought, node) else {
-        return Ok(None);
-    };
-    let found = needless(sought, node, left);
-    if found.is_some() {
-        return Ok(found);
+    if let Some(found) = needless(node, left) {
+        return Ok(Some(found));
     }
     let used = Use {
         name: left,
-        role: Role::Left,
+        purpose: Purpose::Left,
     };
-    let names = candidates(alloc, tree, Some(node), used.role)?;
-    Ok(Some(unknown(alloc, used, &names)?))
-}
-
-/// The name of groups that stands at a place.
-fn name_at(sought: Sought, groups: &[Group]) -> Option<&Name> {
-    for group in groups {
-        for name in &group.names {
-            if sought.is_at(name) {
-                return Some(name);
-            }
-        }
-    }
-    None
+    unknown(alloc, tree, Some(node), used)
 }
 
 /// What is said of the variable at a place, an output or a local, which has no equation.
-pub fn undefined<'t>(sought: Sought, node: &'t Node) -> Option<Said<'t>> {
+pub fn undefined(sought: Sought, node: &Node) -> Option<Said<'_>> {
+    let variable = sought.variable(node)?;
     let note =
         "Each output and each local stands on the left of one equation: write `{} = ..;` before `tel`.";
-    match name_at(sought, &node.outputs) {
-        Some(name) => Some(told_of(name, "the output `{}` has no equation", note)),
-        None => {
-            let name = name_at(sought, &node.locals)?;
-            Some(told_of(name, "the local `{}` has no equation", note))
-        }
-    }
+    let sentence = match variable.role {
+        Role::Input => return None,
+        Role::Output => "the output `{}` has no equation",
+        Role::Local => "the local `{}` has no equation",
+    };
+    Some(told_of(variable.name, sentence, note))
 }

@@ -5,7 +5,7 @@ mod cause;
 mod declared;
 mod doubled;
 mod equations;
-mod expressions;
+mod looking;
 mod said;
 mod unknown;
 

@@ -38,15 +38,6 @@ fn worded(alloc: Global, text: &str, word: &str) -> Result<String, AllocError> {
     Ok(made)
 }
 
-/// The change that writes a name in the place of another.
-fn edit_of(alloc: Global, name: &Name, meant: &str) -> Result<Edit, AllocError> {
-    Ok(Edit {
-        byte: name.span.start.byte,
-        length: name.span.length,
-        text: String::from_str(alloc, meant)?,
-    })
-}
-
 /// Adds the texts behind a sentence.
 fn complete(
     alloc: Global,
@@ -59,7 +50,11 @@ fn complete(
     }
     finding.note = Some(worded(alloc, said.note, said.meant.unwrap_or(text))?);
     if let Some(meant) = said.meant {
-        finding.edit = Some(edit_of(alloc, said.name, meant)?);
+        finding.edit = Some(Edit {
+            byte: said.name.span.start.byte,
+            length: said.name.span.length,
+            text: String::from_str(alloc, meant)?,
+        });
     }
     Ok(())
 }

@@ -1,13 +1,14 @@
 //! A name that nothing declares.
 
+use crate::declared::candidates;
 use crate::said::{Said, told_of};
 use lus_faults::nearest;
-use lus_syntax::Name;
+use lus_syntax::{Name, Node, Tree};
 use std::alloc::{AllocError, Global};
 
 /// What a name is used as.
 #[derive(Clone, Copy, PartialEq, Eq)]
-pub enum Role {
+pub enum Purpose {
     Value,
     Variable,
     Constructor,
@@ -16,16 +17,16 @@ pub enum Role {
     Left,
 }
 
-impl Role {
+impl Purpose {
     /// The sentence on a name that there is none of.
     fn sentence(self) -> &'static str {
         match self {
-            Role::Value => "no variable, constant or constructor is named `{}`",
-            Role::Variable => "no variable of this node is named `{}`",
-            Role::Constructor => "no constructor is named `{}`",
-            Role::Type => "no type is named `{}`",
-            Role::Node => "no node is named `{}`",
-            Role::Left => "no output and no local is named `{}`",
+            Purpose::Value => "no variable, constant or constructor is named `{}`",
+            Purpose::Variable => "no variable of this node is named `{}`",
+            Purpose::Constructor => "no constructor is named `{}`",
+            Purpose::Type => "no type is named `{}`",
+            Purpose::Node => "no node is named `{}`",
+            Purpose::Left => "no output and no local is named `{}`",
         }
     }
 }
@@ -34,50 +35,39 @@ impl Role {
 #[derive(Clone, Copy)]
 pub struct Use<'t> {
     pub name: &'t Name,
-    pub role: Role,
-}
-
-/// What other languages call `bool`, `int`, numbers with a point, and texts.
-static TRUTHS: [&str; 2] = ["boolean", "_Bool"];
-
-static NUMBERS: [&str; 13] = [
-    "integer", "int8", "int16", "int32", "int64", "uint8", "uint16", "uint32", "uint64", "byte",
-    "short", "long", "nat",
-];
-
-static POINTED: [&str; 4] = ["float", "double", "float32", "float64"];
-
-static TEXTS: [&str; 2] = ["char", "string"];
-
-/// Whether a text is one of some.
-fn is_any(text: &str, texts: &[&str]) -> bool {
-    for other in texts {
-        if *other == text {
-            return true;
-        }
-    }
-    false
+    pub purpose: Purpose,
 }
 
 /// The type that is meant by what other languages call one, if there is one, and what is said of it.
 fn foreign_type(text: &str) -> Option<(Option<&'static str>, &'static str)> {
-    if is_any(text, &TRUTHS) {
-        return Some((Some("bool"), "It is called `bool`."));
+    match text {
+        "boolean" | "_Bool" => Some((Some("bool"), "It is called `bool`.")),
+        "integer"
+        | "int8"
+        | "int16"
+        | "int32"
+        | "int64"
+        | "uint8"
+        | "uint16"
+        | "uint32"
+        | "uint64"
+        | "byte"
+        | "short"
+        | "long"
+        | "nat" => Some((
+            Some("int"),
+            "All numbers have one type, `int`: whole numbers of 64 bits.",
+        )),
+        "float" | "double" | "float32" | "float64" => Some((
+            None,
+            "Numbers with a point are left out: write `int`, and count in hundredths.",
+        )),
+        "char" | "string" => Some((
+            None,
+            "There are no texts: write an enumeration, as in `type state = enum { Off, On };`.",
+        )),
+        _ => None,
     }
-    if is_any(text, &NUMBERS) {
-        let note = "All numbers have one type, `int`: whole numbers of 64 bits.";
-        return Some((Some("int"), note));
-    }
-    if is_any(text, &POINTED) {
-        let note = "Numbers with a point are left out: write `int`, and count in hundredths.";
-        return Some((None, note));
-    }
-    if is_any(text, &TEXTS) {
-        let note =
-            "There are no texts: write an enumeration, as in `type state = enum { Off, On };`.";
-        return Some((None, note));
-    }
-    None
 }
 
 /// What is said of a node's name that other languages have, or of any.
@@ -93,42 +83,45 @@ fn note_on_node(text: &str) -> &'static str {
 
 /// What is said of a name that is spelled nearly as no other.
 fn note_on(found: Use<'_>) -> &'static str {
-    match found.role {
-        Role::Value => "Declare it: as an input, as a local with an equation, or as a constant.",
-        Role::Variable =>
+    match found.purpose {
+        Purpose::Value => "Declare it: as an input, as a local with an equation, or as a constant.",
+        Purpose::Variable =>
             "A clock tests a variable: give a constant or an expression the name of one.",
-        Role::Constructor => "Name it in the enumeration, as in `type state = enum { Off, On };`.",
-        Role::Type =>
+        Purpose::Constructor =>
+            "Name it in the enumeration, as in `type state = enum { Off, On };`.",
+        Purpose::Type =>
             "Declare it, as in `type state = enum { Off, On };` or `type p = struct { x: int; y: bool };`.",
-        Role::Node => note_on_node(found.name.text.as_str()),
-        Role::Left => "Declare it before `let`, as in `var x: int;`, or as an output.",
+        Purpose::Node => note_on_node(found.name.text.as_str()),
+        Purpose::Left => "Declare it before `let`, as in `var x: int;`, or as an output.",
     }
 }
 
-/// What is said of a name that nothing declares, with the nearest of the names that could be meant.
+/// What is said of a name that nothing declares, in a node or outside, with the nearest of the names that could be meant.
 pub fn unknown<'t>(
     alloc: Global,
+    tree: &'t Tree,
+    node: Option<&'t Node>,
     found: Use<'t>,
-    names: &[&'t str],
-) -> Result<Said<'t>, AllocError> {
+) -> Result<Option<Said<'t>>, AllocError> {
     let text = found.name.text.as_str();
-    let said = told_of(found.name, found.role.sentence(), note_on(found));
-    if found.role == Role::Type
+    let said = told_of(found.name, found.purpose.sentence(), note_on(found));
+    if found.purpose == Purpose::Type
         && let Some((meant, note)) = foreign_type(text)
     {
-        return Ok(Said {
+        return Ok(Some(Said {
             note,
             meant,
             ..said
-        });
+        }));
     }
-    let meant = nearest(alloc, text, names)?;
+    let names = candidates(alloc, tree, node, found.purpose)?;
+    let meant = nearest(alloc, text, &names)?;
     if meant.is_none() {
-        return Ok(said);
+        return Ok(Some(said));
     }
-    Ok(Said {
+    Ok(Some(Said {
         note: "There is `{}`, which is spelled nearly alike.",
         meant,
         ..said
-    })
+    }))
 }

@@ -1,73 +1,95 @@
-//! Which variables and expressions of a node may be nil at the first instant of their clocks.
+//! Which variables and expressions of a node may be nil at the first instant of their clocks, and where that comes from.
 
-use indexmap::IndexMap;
-use lus_syntax::{Equation, Expr, Group, Infix, Name, Node, Part, Prefix};
+use lus_syntax::{Equation, Expr, Infix, Node, Part, Prefix};
 use std::alloc::{AllocError, Global};
 
-/// The variables of a node, by their names, and which of them may be nil.
+/// The variables of a node that may be nil, by their names.
 #[derive(Drop)]
 pub struct Flags<'t> {
     pub node: &'t Node,
-    pub raised: IndexMap<String, bool>,
+    raised: Vec<&'t str>,
 }
 
-fn add(raised: &mut IndexMap<String, bool>, groups: &[Group]) -> Result<(), AllocError> {
-    for group in groups {
-        for name in &group.names {
-            let _before = raised.insert(name.text.clone()?, false)?;
-        }
+/// Where a nil comes from: a variable, or a `pre`; and whether it comes through a branch.
+#[derive(Clone, Copy)]
+pub struct Origin<'t> {
+    pub expr: &'t Expr,
+    pub is_computed: bool,
+}
+
+/// An origin that comes through a branch.
+fn computed(origin: Option<Origin<'_>>) -> Option<Origin<'_>> {
+    match origin {
+        Some(found) => Some(Origin {
+            is_computed: true,
+            ..found
+        }),
+        None => None,
     }
-    Ok(())
 }
 
 /// Whether a variable may be nil.
-fn is_raised(raised: &IndexMap<String, bool>, name: &Name) -> bool {
-    raised.get(name.text.as_str()).copied().unwrap_or(false)
-}
-
-/// Whether an expression may be nil, where variables have these flags.
-#[cycle(flags)]
-pub fn flag_of(raised: &IndexMap<String, bool>, expr: &Expr) -> bool {
-    match expr {
-        Expr::Number(_, _) => false,
-        Expr::Truth(_, _) => false,
-        Expr::Name(name) => is_raised(raised, name),
-        Expr::Call(_, _) => false,
-        Expr::Structure(_, parts) => greatest(raised, parts),
-        Expr::Merge(_, _, _) => false,
-        Expr::Variadic(_, _, parts) => greatest(raised, parts),
-        Expr::Field(operand, _) => flag_of(raised, operand),
-        Expr::Parentheses(_, inner) => flag_of(raised, inner),
-        Expr::When(operand, _) => flag_of(raised, operand),
-        Expr::Unary(Prefix::Pre, _, _) => true,
-        Expr::Unary(_, _, operand) => flag_of(raised, operand),
-        Expr::Binary(Infix::Fby, left, _) => flag_of(raised, left),
-        Expr::Binary(Infix::Arrow, left, _) => flag_of(raised, left),
-        Expr::Binary(_, left, right) => flag_of(raised, left) || flag_of(raised, right),
-        Expr::If(_, condition, left, right) => {
-            flag_of(raised, condition) || flag_of(raised, left) || flag_of(raised, right)
-        }
-    }
-}
-
-#[cycle(flags)]
-fn greatest(raised: &IndexMap<String, bool>, parts: &[Part]) -> bool {
-    for part in parts {
-        if flag_of(raised, &part.value) {
+fn is_raised(raised: &[&str], text: &str) -> bool {
+    for name in raised {
+        if *name == text {
             return true;
         }
     }
     false
 }
 
+/// The first part of an expression from which a nil comes, where these variables may be nil.
+#[cycle(origins)]
+fn origin_in<'t>(raised: &[&str], expr: &'t Expr) -> Option<Origin<'t>> {
+    match expr {
+        Expr::Number(_, _) | Expr::Truth(_, _) | Expr::Call(_, _) | Expr::Merge(_, _, _) => None,
+        Expr::Name(name) => {
+            if is_raised(raised, name.text.as_str()) {
+                Some(Origin {
+                    expr,
+                    is_computed: false,
+                })
+            } else {
+                None
+            }
+        }
+        Expr::Structure(_, parts) | Expr::Variadic(_, _, parts) => origin_in_parts(raised, parts),
+        Expr::Unary(Prefix::Pre, _, _) => Some(Origin {
+            expr,
+            is_computed: false,
+        }),
+        Expr::Field(operand, _)
+        | Expr::Parentheses(_, operand)
+        | Expr::When(operand, _)
+        | Expr::Unary(_, _, operand)
+        | Expr::Binary(Infix::Fby | Infix::Arrow, operand, _) => origin_in(raised, operand),
+        Expr::Binary(_, left, right) => origin_in(raised, left).or(origin_in(raised, right)),
+        Expr::If(_, condition, left, right) => {
+            let branch = origin_in(raised, left).or(origin_in(raised, right));
+            origin_in(raised, condition).or(computed(branch))
+        }
+    }
+}
+
+#[cycle(origins)]
+fn origin_in_parts<'t>(raised: &[&str], parts: &'t [Part]) -> Option<Origin<'t>> {
+    for part in parts {
+        let found = origin_in(raised, &part.value);
+        if found.is_some() {
+            return found;
+        }
+    }
+    None
+}
+
 /// Raises the variables whose equations may give nil. Says whether any was raised that wasn't.
-fn raise(raised: &mut IndexMap<String, bool>, equations: &[Equation]) -> Result<bool, AllocError> {
+fn raise<'t>(raised: &mut Vec<&'t str>, equations: &'t [Equation]) -> Result<bool, AllocError> {
     let mut has_changed = false;
     for equation in equations {
-        if flag_of(raised, &equation.right) {
+        if origin_in(raised, &equation.right).is_some() {
             for name in &equation.left {
-                if !is_raised(raised, name) {
-                    let _before = raised.insert(name.text.clone()?, true)?;
+                if !is_raised(raised, name.text.as_str()) {
+                    raised.push(name.text.as_str())?;
                     has_changed = true;
                 }
             }
@@ -78,11 +100,8 @@ fn raise(raised: &mut IndexMap<String, bool>, equations: &[Equation]) -> Result<
 
 /// The least flags of a node.
 pub fn flags_of(alloc: Global, node: &Node) -> Result<Flags<'_>, AllocError> {
-    let mut raised = IndexMap::new(alloc);
-    add(&mut raised, &node.inputs)?;
-    add(&mut raised, &node.outputs)?;
-    add(&mut raised, &node.locals)?;
-    for _round in 0..=raised.len() {
+    let mut raised = Vec::new(alloc);
+    for _round in 0..=node.equations.len() {
         if !raise(&mut raised, &node.equations)? {
             break;
         }
@@ -91,6 +110,11 @@ pub fn flags_of(alloc: Global, node: &Node) -> Result<Flags<'_>, AllocError> {
 }
 
 impl<'t> Flags<'t> {
+    /// The first part of an expression from which a nil comes: there is one where the expression may be nil.
+    pub fn origin(&self, expr: &'t Expr) -> Option<Origin<'t>> {
+        origin_in(&self.raised, expr)
+    }
+
     /// The right side of a variable's equation.
     pub fn right_of(&self, text: &str) -> Option<&'t Expr> {
         for equation in &self.node.equations {

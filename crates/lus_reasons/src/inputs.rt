@@ -89,20 +89,19 @@ fn push_node_test(text: &mut String, names: &Names, node: &Node, test: Test) -> 
 
 /// Appends when an input is to be there.
 fn push_clock(text: &mut String, names: &Names, node: &Node, input: usize) -> Result<(), Memory> {
-    let Some(test) = test_of(node, input) else {
-        text.push_str("it is always there")?;
-        return Ok(());
-    };
-    text.push_str("it is there when ")?;
-    push_node_test(text, names, node, test)?;
-    let mut tested = test.variable;
-    for _test in 0..node.variables.len() {
-        let Some(test) = test_of(node, tested as usize) else {
+    let mut variable = input;
+    let mut before = "it is there when ";
+    for test_number in 0..=node.variables.len() {
+        let Some(test) = test_of(node, variable) else {
+            if test_number == 0 {
+                text.push_str("it is always there")?;
+            }
             return Ok(());
         };
-        text.push_str(" when ")?;
+        text.push_str(before)?;
         push_node_test(text, names, node, test)?;
-        tested = test.variable;
+        before = " when ";
+        variable = test.variable as usize;
     }
     Ok(())
 }

@@ -5,9 +5,10 @@ use crate::inputs::{push_presence, push_shape};
 use crate::lineage::Lineage;
 use crate::reached::Reached;
 use lus_program::Program;
-use lus_requests::{Reply, Request, Rows, Why};
+use lus_requests::{Reply, Request, Why};
 use lus_values::{Memory, Names, Row};
 use std::alloc::Global;
+use std::slice;
 
 /// The most rows of a burst.
 const MOST_ROWS: usize = 1000;
@@ -115,51 +116,30 @@ impl Reasons {
         push_fault(text, alloc, program, names, reached.instants(), &fault)
     }
 
-    fn push_step_reason(
+    /// Appends why rows were refused, and of a burst which: the first of which there is something to say.
+    fn push_rows_reason(
         &mut self,
         alloc: Global,
         program: &Program,
         names: &Names,
         node: usize,
         why: Why,
-        inputs: &Row,
+        rows: &[Row],
+        is_burst: bool,
     ) -> Result<(), Memory> {
         if let Why::Fault = why {
-            let mut rows = Vec::new(alloc);
-            rows.push(inputs.copy(alloc)?)?;
-            return self.push_fault_reason(alloc, program, names, node, &rows);
-        }
-        push_row_reason(&mut self.text, program, names, node, why, inputs)
-    }
-
-    /// Appends which row of a burst was refused, and why: the first of which there is something to say.
-    fn push_burst_reason(
-        &mut self,
-        alloc: Global,
-        program: &Program,
-        names: &Names,
-        node: usize,
-        why: Why,
-        rows: &Rows,
-    ) -> Result<(), Memory> {
-        let count = rows.items().len();
-        if count > MOST_ROWS {
-            write!(
-                self.text,
-                "the burst has {count} rows, and may have {MOST_ROWS}"
-            )?;
-            return Ok(());
-        }
-        if let Why::Fault = why {
-            return self.push_fault_reason(alloc, program, names, node, rows.items());
+            return self.push_fault_reason(alloc, program, names, node, rows);
         }
         let mut row = 0u64;
-        for inputs in rows.items() {
+        for inputs in rows {
             row = row.saturating_add(1);
             let mut reason = String::new(alloc);
             push_row_reason(&mut reason, program, names, node, why, inputs)?;
             if !reason.is_empty() {
-                write!(self.text, "row {row}, {reason}")?;
+                if is_burst {
+                    write!(self.text, "row {row}, ")?;
+                }
+                self.text.push_str(&reason)?;
                 return Ok(());
             }
         }
@@ -177,9 +157,20 @@ impl Reasons {
     ) -> Result<(), Memory> {
         match request {
             Request::Step(inputs) => {
-                self.push_step_reason(alloc, program, names, node, why, inputs)
+                let rows = slice::from_ref(inputs);
+                self.push_rows_reason(alloc, program, names, node, why, rows, false)
             }
-            Request::Burst(rows) => self.push_burst_reason(alloc, program, names, node, why, rows),
+            Request::Burst(rows) if rows.items().len() > MOST_ROWS => {
+                let count = rows.items().len();
+                write!(
+                    self.text,
+                    "the burst has {count} rows, and may have {MOST_ROWS}"
+                )?;
+                Ok(())
+            }
+            Request::Burst(rows) => {
+                self.push_rows_reason(alloc, program, names, node, why, rows.items(), true)
+            }
             Request::Save(slot) | Request::Restore(slot) => {
                 match why {
                     Why::NoSave => write!(self.text, "nothing is saved in slot {slot}")?,

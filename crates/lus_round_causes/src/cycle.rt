@@ -1,24 +1,12 @@
 //! What is said of a causal cycle.
 
 use crate::needs::need_of;
-use lus_faults::Finding;
-use lus_syntax::{Node, Refusal, Tree};
+use lus_faults::{Finding, Sought};
+use lus_syntax::{Refusal, Tree};
 use std::alloc::{AllocError, Global};
 
 /// How many variables of a cycle are told.
 const MOST_TOLD: usize = 20;
-
-/// The last node whose name doesn't stand behind a place.
-fn node_at(tree: &Tree, line: u32, column: u32) -> Option<&Node> {
-    let mut found = None;
-    for node in &tree.nodes {
-        let start = node.name.span.start;
-        if start.line < line || (start.line == line && start.column <= column) {
-            found = Some(node);
-        }
-    }
-    found
-}
 
 /// What is said of a cycle: each variable, with the place at which it needs the next.
 pub fn cycle_cause(
@@ -27,8 +15,7 @@ pub fn cycle_cause(
     refusal: &Refusal,
 ) -> Result<Option<Finding>, AllocError> {
     let names = refusal.cycle.names();
-    let (Some(node), Some(first)) = (node_at(tree, refusal.line, refusal.column), names.first())
-    else {
+    let (Some(node), Some(first)) = (Sought::of(refusal).node(tree), names.first()) else {
         return Ok(None);
     };
     let text = first.as_str();
@@ -48,14 +35,11 @@ pub fn cycle_cause(
             told.relate(need.span, format!(in alloc; "`{from}` needs `{to}` here")?)?;
         }
     }
-    if is_argument {
-        return Ok(Some(told.with_note(
-            alloc,
-            "The outputs of a call need all its arguments, whatever the node does with them: a `pre` or a `fby` that cuts the cycle stands outside the call.",
-        )?));
-    }
-    Ok(Some(told.with_note(
-        alloc,
-        "A `pre` or a `fby` before one of these uses cuts the cycle, as in `0 -> pre x`.",
-    )?))
+    let note = if is_argument {
+        "The outputs of a call need all its arguments, whatever the node does with them: a `pre` or a `fby` that cuts the cycle stands outside the call."
+    } else {
+        "A `pre` or a `fby` before one of these uses cuts the cycle, as in `0 -> pre x`."
+    };
+    told.note = Some(String::from_str(alloc, note)?);
+    Ok(Some(told))
 }

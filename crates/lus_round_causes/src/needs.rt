@@ -1,6 +1,7 @@
 //! Where a variable is needed at the same instant.
 
-use lus_syntax::{Expr, Group, Infix, Name, Node, Part, Prefix, Span, Test};
+use lus_faults::{Role, variable_named};
+use lus_syntax::{Expr, Infix, Name, Node, Part, Prefix, Span, Test};
 
 /// Where a variable is needed, and whether it is through the arguments of a call.
 #[derive(Clone, Copy)]
@@ -23,9 +24,18 @@ fn needed(name: &Name, text: &str) -> Option<Need> {
 /// The variable of a test.
 fn in_test(test: &Test, text: &str) -> Option<Need> {
     match test {
-        Test::Holds(name) => needed(name, text),
-        Test::Fails(_, name) => needed(name, text),
-        Test::Is(_, name) => needed(name, text),
+        Test::Holds(name) | Test::Fails(_, name) | Test::Is(_, name) => needed(name, text),
+    }
+}
+
+/// What is needed by an argument of a call.
+fn by_argument(need: Option<Need>) -> Option<Need> {
+    match need {
+        Some(found) => Some(Need {
+            is_argument: true,
+            ..found
+        }),
+        None => None,
     }
 }
 
@@ -33,42 +43,22 @@ fn in_test(test: &Test, text: &str) -> Option<Need> {
 #[cycle(needs)]
 fn in_expression(expr: &Expr, text: &str) -> Option<Need> {
     match expr {
-        Expr::Number(_, _) => None,
-        Expr::Truth(_, _) => None,
+        Expr::Number(_, _) | Expr::Truth(_, _) | Expr::Unary(Prefix::Pre, _, _) => None,
         Expr::Name(name) => needed(name, text),
-        Expr::Call(_, parts) => match in_parts(parts, text) {
-            Some(found) => Some(Need {
-                span: found.span,
-                is_argument: true,
-            }),
-            None => None,
-        },
-        Expr::Structure(_, parts) => in_parts(parts, text),
-        Expr::Variadic(_, _, parts) => in_parts(parts, text),
-        Expr::Merge(_, name, parts) => match needed(name, text) {
-            Some(found) => Some(found),
-            None => in_parts(parts, text),
-        },
-        Expr::Field(operand, _) => in_expression(operand, text),
-        Expr::Parentheses(_, inner) => in_expression(inner, text),
-        Expr::When(operand, test) => match in_expression(operand, text) {
-            Some(found) => Some(found),
-            None => in_test(test, text),
-        },
-        Expr::Unary(Prefix::Pre, _, _) => None,
-        Expr::Unary(_, _, operand) => in_expression(operand, text),
-        Expr::Binary(Infix::Fby, left, _) => in_expression(left, text),
-        Expr::Binary(_, left, right) => match in_expression(left, text) {
-            Some(found) => Some(found),
-            None => in_expression(right, text),
-        },
-        Expr::If(_, condition, left, right) => match in_expression(condition, text) {
-            Some(found) => Some(found),
-            None => match in_expression(left, text) {
-                Some(found) => Some(found),
-                None => in_expression(right, text),
-            },
-        },
+        Expr::Call(_, parts) => by_argument(in_parts(parts, text)),
+        Expr::Structure(_, parts) | Expr::Variadic(_, _, parts) => in_parts(parts, text),
+        Expr::Merge(_, name, parts) => needed(name, text).or(in_parts(parts, text)),
+        Expr::When(operand, test) => in_expression(operand, text).or(in_test(test, text)),
+        Expr::Field(operand, _)
+        | Expr::Parentheses(_, operand)
+        | Expr::Unary(_, _, operand)
+        | Expr::Binary(Infix::Fby, operand, _) => in_expression(operand, text),
+        Expr::Binary(_, left, right) => in_expression(left, text).or(in_expression(right, text)),
+        Expr::If(_, condition, left, right) => {
+            in_expression(condition, text)
+                .or(in_expression(left, text))
+                .or(in_expression(right, text))
+        }
     }
 }
 
@@ -83,18 +73,13 @@ fn in_parts(parts: &[Part], text: &str) -> Option<Need> {
     None
 }
 
-/// Where the declared clock of a variable tests another.
-fn in_groups(groups: &[Group], variable: &str, text: &str) -> Option<Need> {
-    for group in groups {
-        if let Some(test) = &group.test {
-            for name in &group.names {
-                if name.text.as_str() == variable {
-                    return in_test(test, text);
-                }
-            }
-        }
+/// Where the declared clock of an output or a local tests another variable.
+fn in_clock(node: &Node, variable: &str, text: &str) -> Option<Need> {
+    let declared = variable_named(node, variable)?;
+    match &declared.group.test {
+        Some(test) if declared.role != Role::Input => in_test(test, text),
+        _ => None,
     }
-    None
 }
 
 /// Where a variable of a node needs another at the same instant: in its equation, or in its clock.
@@ -109,5 +94,5 @@ pub fn need_of(node: &Node, variable: &str, text: &str) -> Option<Need> {
             }
         }
     }
-    in_groups(&node.outputs, variable, text).or(in_groups(&node.locals, variable, text))
+    in_clock(node, variable, text)
 }

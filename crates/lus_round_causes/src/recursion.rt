@@ -1,45 +1,12 @@
 //! What is said of a node or a type that leads back to itself.
 
-use crate::calls::{Link, Links, add_declaration, add_node};
-use indexmap::IndexMap;
-use lus_faults::Finding;
-use lus_syntax::{Refusal, Tree};
+use crate::calls::{Link, calls_of, uses_of};
+use lus_faults::{Finding, Sought};
+use lus_syntax::{Name, Refusal, Tree};
 use std::alloc::{AllocError, Global};
 
 /// How many nodes or types of a way are told.
 const MOST_TOLD: usize = 20;
-
-/// The calls of nodes that a source has.
-fn calls_of(alloc: Global, tree: &Tree) -> Result<Vec<Link<'_>>, AllocError> {
-    let mut places = IndexMap::new(alloc);
-    for (place, node) in tree.nodes.iter().enumerate() {
-        let _before = places.insert(node.name.text.clone()?, place)?;
-    }
-    let mut links = Links {
-        places,
-        found: Vec::new(alloc),
-    };
-    for (from, node) in tree.nodes.iter().enumerate() {
-        add_node(&mut links, from, node)?;
-    }
-    Ok(links.found)
-}
-
-/// The uses of types in types that a source has.
-fn uses_of(alloc: Global, tree: &Tree) -> Result<Vec<Link<'_>>, AllocError> {
-    let mut places = IndexMap::new(alloc);
-    for (place, declaration) in tree.types.iter().enumerate() {
-        let _before = places.insert(declaration.name.text.clone()?, place)?;
-    }
-    let mut links = Links {
-        places,
-        found: Vec::new(alloc),
-    };
-    for (from, declaration) in tree.types.iter().enumerate() {
-        add_declaration(&mut links, from, declaration)?;
-    }
-    Ok(links.found)
-}
 
 /// The links that lead to a declaration, each with the next one on the way: of each declaration one that leads there in the
 /// fewest steps.
@@ -70,17 +37,23 @@ fn ways_to<'t>(
     Ok(next)
 }
 
-/// What is said of a way from a declaration back to itself, along links.
-fn way_told<'t>(
-    alloc: Global,
-    next: &[Option<Link<'t>>],
+/// What goes round: a node or a type, what is used there, and what is said of it.
+#[derive(Clone, Copy)]
+struct Round<'t> {
     start: usize,
-    what: &str,
+    what: &'static str,
+    owner: &'t Name,
     length: u32,
-    owner: &str,
-) -> Result<Finding, AllocError> {
-    let sentence = format!(in alloc; "the {what} `{owner}` leads back to itself")?;
-    let mut told = Finding::new(alloc, sentence, length);
+    note: &'static str,
+}
+
+/// Adds the uses on the way from a declaration back to itself.
+fn add_way(
+    alloc: Global,
+    next: &[Option<Link<'_>>],
+    start: usize,
+    told: &mut Finding,
+) -> Result<(), AllocError> {
     let mut at = start;
     for _step in 0..MOST_TOLD {
         let Some(Some(link)) = next.get(at) else {
@@ -93,20 +66,56 @@ fn way_told<'t>(
             break;
         }
     }
-    let note = if what == "type" {
-        "A type has a size, so it isn't part of itself: there are no lists and no trees."
-    } else {
-        "Recursion is left out: write the nodes unrolled, each calling the next, or keep what is past by `pre`."
-    };
-    told.with_note(alloc, note)
+    Ok(())
 }
 
-/// The use at which a refusal stands.
-fn link_at<'t>(links: &[Link<'t>], refusal: &Refusal) -> Option<Link<'t>> {
+/// What is said of a way from a declaration back to itself, along links between so many.
+fn way_told(
+    alloc: Global,
+    links: &[Link<'_>],
+    count: usize,
+    round: Round<'_>,
+) -> Result<Option<Finding>, AllocError> {
+    let next = ways_to(alloc, links, count, round.start)?;
+    let what = round.what;
+    let owner = round.owner.text.as_str();
+    let sentence = format!(in alloc; "the {what} `{owner}` leads back to itself")?;
+    let mut told = Finding::new(alloc, sentence, round.length);
+    add_way(alloc, &next, round.start, &mut told)?;
+    told.note = Some(String::from_str(alloc, round.note)?);
+    Ok(Some(told))
+}
+
+/// The node that calls at a place.
+fn calling<'t>(sought: Sought, tree: &'t Tree, links: &[Link<'t>]) -> Option<Round<'t>> {
     for link in links {
-        let start = link.name.span.start;
-        if start.line == refusal.line && start.column == refusal.column {
-            return Some(*link);
+        if sought.is_at(link.name.span.start)
+            && let Some(node) = tree.nodes.get(link.from)
+        {
+            return Some(Round {
+                start: link.from,
+                what: "node",
+                owner: &node.name,
+                length: link.name.span.length,
+                note: "Recursion is left out: write the nodes unrolled, each calling the next, or keep what is past by `pre`.",
+            });
+        }
+    }
+    None
+}
+
+/// The type that is declared at a place.
+fn declared_at(sought: Sought, tree: &Tree) -> Option<Round<'_>> {
+    for (start, declaration) in tree.types.iter().enumerate() {
+        let owner = &declaration.name;
+        if sought.is_at(owner.span.start) {
+            return Some(Round {
+                start,
+                what: "type",
+                owner,
+                length: owner.span.length,
+                note: "A type has a size, so it isn't part of itself: there are no lists and no trees.",
+            });
         }
     }
     None
@@ -118,24 +127,14 @@ pub fn recursion_cause(
     tree: &Tree,
     refusal: &Refusal,
 ) -> Result<Option<Finding>, AllocError> {
+    let sought = Sought::of(refusal);
+    if let Some(round) = declared_at(sought, tree) {
+        let links = uses_of(alloc, tree)?;
+        return way_told(alloc, &links, tree.types.len(), round);
+    }
     let links = calls_of(alloc, tree)?;
-    if let Some(link) = link_at(&links, refusal) {
-        let next = ways_to(alloc, &links, tree.nodes.len(), link.from)?;
-        if let Some(node) = tree.nodes.get(link.from) {
-            let owner = node.name.text.as_str();
-            let length = link.name.span.length;
-            return Ok(Some(way_told(alloc, &next, link.from, "node", length, owner)?));
-        }
+    match calling(sought, tree, &links) {
+        Some(round) => way_told(alloc, &links, tree.nodes.len(), round),
+        None => Ok(None),
     }
-    for (start, declaration) in tree.types.iter().enumerate() {
-        let place = declaration.name.span.start;
-        if place.line == refusal.line && place.column == refusal.column {
-            let links = uses_of(alloc, tree)?;
-            let next = ways_to(alloc, &links, tree.types.len(), start)?;
-            let owner = declaration.name.text.as_str();
-            let length = declaration.name.span.length;
-            return Ok(Some(way_told(alloc, &next, start, "type", length, owner)?));
-        }
-    }
-    Ok(None)
 }

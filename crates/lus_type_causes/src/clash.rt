@@ -1,9 +1,8 @@
 //! What is said of a fault of types, before texts are made of it.
 
-use crate::inferring::Given;
-use crate::kinds::Kind;
+use crate::given::Given;
 use crate::phrase::{Phrase, push_phrase, text_of};
-use lus_faults::{Edit, Finding, extent_of, nearest};
+use lus_faults::{Edit, Finding, Sought, extent_of, nearest};
 use lus_syntax::{Expr, Fields, Name, Span};
 use std::alloc::{AllocError, Global};
 
@@ -35,10 +34,9 @@ pub fn told_at<'t>(span: Span, sentence: Phrase<'t>) -> Clash<'t> {
 }
 
 impl<'t> Clash<'t> {
-    /// Whether the fault is at a line and a column.
-    pub fn is_at(&self, line: u32, column: u32) -> bool {
-        let start = self.span.start;
-        start.line == line && start.column == column
+    /// Whether the fault is at a place.
+    pub fn is_at(&self, sought: Sought) -> bool {
+        sought.is_at(self.span.start)
     }
 
     /// The fault with a further place.
@@ -64,8 +62,8 @@ impl<'t> Clash<'t> {
     }
 
     /// The fault beside an expression that has a type.
-    pub fn typed(self, given: Given<'_, 't>, expr: &'t Expr, kind: Kind) -> Clash<'t> {
-        let label = Phrase::of("this has type `{}`", kind.name(given.tree));
+    pub fn typed(self, given: Given<'_, 't>, expr: &'t Expr) -> Clash<'t> {
+        let label = Phrase::of("this has type `{}`", given.name(given.kind(expr)));
         self.beside(extent_of(given.source, expr), label)
     }
 

@@ -1,18 +1,16 @@
 //! What is said of types, counts, labels or fields that disagree.
 #![tactic(auto)]
 
-mod calls;
 mod cause;
+mod checking;
 mod clash;
 mod equations;
-mod inferring;
+mod given;
 mod kinds;
 mod memory;
 mod merges;
 mod operators;
 mod phrase;
-mod scope;
 mod structures;
-mod tests;
 
 pub use cause::type_cause;

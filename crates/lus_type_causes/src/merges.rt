@@ -1,12 +1,11 @@
-//! Merges, and the labels of their branches.
+//! Labels: of the branches of merges, and of the tests of clocks.
 
 use crate::clash::{Clash, told_at};
-use crate::inferring::Given;
+use crate::given::{Given, kind_of_variable};
 use crate::kinds::Kind;
 use crate::phrase::{Phrase, Word};
-use crate::tests::constructors;
 use lus_faults::label_span;
-use lus_syntax::{Label, Lead, Name, Part, Span};
+use lus_syntax::{Label, Lead, Name, Part, Span, Test};
 
 /// The text of a label.
 fn label_text(label: &Label) -> &str {
@@ -17,73 +16,35 @@ fn label_text(label: &Label) -> &str {
     }
 }
 
-/// How many labels a merge over a variable of this type has.
-fn label_count(given: Given<'_, '_>, kind: Kind) -> usize {
-    if kind == Kind::Bool {
-        return 2;
-    }
-    constructors(given, kind).len()
-}
-
-/// The label of a number, from 0, that a merge over a variable of this type has.
-fn label_at<'t>(given: Given<'_, 't>, kind: Kind, number: usize) -> Option<&'t str> {
-    if kind == Kind::Bool {
-        return Some(if number == 0 { "true" } else { "false" });
-    }
-    Some(constructors(given, kind).get(number)?.text.as_str())
-}
-
-/// Whether a merge over a variable of this type has a label.
-fn has_label(given: Given<'_, '_>, kind: Kind, text: &str) -> bool {
-    for number in 0..label_count(given, kind) {
-        if label_at(given, kind, number) == Some(text) {
-            return true;
-        }
-    }
-    false
-}
-
-/// How many branches have a label.
-fn times(parts: &[Part], text: &str) -> usize {
+/// How many parts have the name of a field, or a label.
+pub fn times(parts: &[Part], text: &str) -> usize {
     let mut count = 0usize;
     for part in parts {
-        if let Lead::Branch(_, label) = &part.lead {
-            if label_text(label) == text {
-                count = count.saturating_add(1);
-            }
+        let lead = match &part.lead {
+            Lead::Plain => "",
+            Lead::Field(name) => name.text.as_str(),
+            Lead::Branch(_, label) => label_text(label),
+        };
+        if lead == text {
+            count = count.saturating_add(1);
         }
     }
     count
 }
 
-/// A variable over which nothing is merged.
-fn no_clock<'t>(given: Given<'_, 't>, variable: &'t Name, kind: Kind) -> Clash<'t> {
-    let text = variable.text.as_str();
-    let sentence = "`merge` wants a `bool` or an enumeration, and `{}` has type `{}`";
-    told_at(
-        variable.span,
-        Phrase::new(sentence, text, kind.name(given.tree), ""),
-    )
-}
-
-/// A label that isn't one of the variable's type.
-fn wrong_label<'t>(
-    given: Given<'_, 't>,
-    variable: &'t Name,
-    kind: Kind,
-    label: &'t Label,
-) -> Clash<'t> {
-    let owner = kind.name(given.tree);
-    let name = variable.text.as_str();
-    let sentence = "type `{}` has no constructor `{}`";
-    told_at(
-        label_span(label),
-        Phrase::new(sentence, owner, label_text(label), ""),
-    )
-    .beside(
-        variable.span,
-        Phrase::new("`{}` has type `{}`", name, owner, ""),
-    )
+/// Tells where a branch has a label that isn't one of its variable's type.
+fn check_labels<'t>(given: Given<'_, 't>, variable: &'t Name, kind: Kind, parts: &'t [Part]) {
+    let owner = given.name(kind);
+    for part in parts {
+        if let Lead::Branch(_, label) = &part.lead
+            && !kind.has_label(given.tree, label_text(label))
+        {
+            let sentence = "type `{}` has no constructor `{}`";
+            let beside = Phrase::new("`{}` has type `{}`", variable.text.as_str(), owner, "");
+            let told = Phrase::new(sentence, owner, label_text(label), "");
+            given.tell(told_at(label_span(label), told).beside(variable.span, beside));
+        }
+    }
 }
 
 /// A label that no branch has, or several have.
@@ -101,90 +62,87 @@ fn miscounted<'t>(span: Span, label: &'t str, count: usize) -> Clash<'t> {
     told_at(span, sentence).noted(Phrase::of(note, ""))
 }
 
-/// Branches of two types.
-fn unlike<'t>(
-    given: Given<'_, 't>,
-    span: Span,
-    first: (&'t Part, Kind),
-    second: (&'t Part, Kind),
-) -> Clash<'t> {
-    let one = first.1.name(given.tree);
-    let other = second.1.name(given.tree);
-    let sentence = "the branches are of two types, `{}` and `{}`";
-    told_at(span, Phrase::new(sentence, one, other, ""))
-        .typed(given, &first.0.value, first.1)
-        .typed(given, &second.0.value, second.1)
-}
-
-/// A variable over whose type nothing is merged: told at the label of the first branch, if there is one.
-fn no_labels<'t>(
-    given: Given<'_, 't>,
-    variable: &'t Name,
-    kind: Kind,
-    parts: &'t [Part],
-) -> Clash<'t> {
-    match parts.first() {
-        Some(part) => match &part.lead {
-            Lead::Branch(_, label) => wrong_label(given, variable, kind, label),
-            _ => no_clock(given, variable, kind),
-        },
-        None => no_clock(given, variable, kind),
-    }
-}
-
-/// Tells where a branch has a label that isn't one of its variable's type.
-fn check_labels<'t>(given: Given<'_, 't>, variable: &'t Name, kind: Kind, parts: &'t [Part]) {
-    for part in parts {
-        if let Lead::Branch(_, label) = &part.lead {
-            if !has_label(given, kind, label_text(label)) {
-                given.tell(wrong_label(given, variable, kind, label));
-            }
-        }
-    }
-}
-
-/// Tells where a label of a type has no branch, or several.
-fn check_counts<'t>(given: Given<'_, 't>, span: Span, kind: Kind, parts: &'t [Part]) {
-    for number in 0..label_count(given, kind) {
-        let label = label_at(given, kind, number).unwrap_or("");
-        let count = times(parts, label);
-        if count != 1 {
-            given.tell(miscounted(span, label, count));
-        }
+/// Tells where a label has no branch, or several.
+fn check_count<'t>(given: Given<'_, 't>, span: Span, parts: &'t [Part], label: &'t str) {
+    let count = times(parts, label);
+    if count != 1 {
+        given.tell(miscounted(span, label, count));
     }
 }
 
 /// Tells where branches have two types.
-fn check_types<'t>(given: Given<'_, 't>, span: Span, parts: &'t [Part], kinds: &[Kind]) {
-    let mut first: Option<(&Part, Kind)> = None;
-    for (place, part) in parts.iter().enumerate() {
-        let kind = kinds.get(place).copied().unwrap_or(Kind::Unknown);
-        let before = first.unwrap_or((part, kind));
-        if before.1.differs(kind) {
-            given.tell(unlike(given, span, before, (part, kind)));
+fn check_types<'t>(given: Given<'_, 't>, span: Span, parts: &'t [Part]) {
+    let Some(first) = parts.first() else {
+        return;
+    };
+    let kind = given.kind(&first.value);
+    for part in parts {
+        let other = given.kind(&part.value);
+        if kind.differs(other) {
+            let sentence = "the branches are of two types, `{}` and `{}`";
+            let told = Phrase::new(sentence, given.name(kind), given.name(other), "");
+            given.tell(
+                told_at(span, told)
+                    .typed(given, &first.value)
+                    .typed(given, &part.value),
+            );
         }
-        first = Some(before);
     }
 }
 
-/// A merge over a variable.
-pub fn merge<'t>(
-    given: Given<'_, 't>,
-    span: Span,
-    variable: &'t Name,
-    parts: &'t [Part],
-    kinds: &[Kind],
-) -> Kind {
-    let kind = given.scope.variable(variable);
+/// Tells where a merge over a variable doesn't have the branches of its type, or has them of two types.
+pub fn check_merge<'t>(given: Given<'_, 't>, span: Span, variable: &'t Name, parts: &'t [Part]) {
+    let kind = kind_of_variable(given.tree, given.node, variable);
     if kind == Kind::Unknown {
-        return kind;
-    }
-    if label_count(given, kind) == 0 {
-        given.tell(no_labels(given, variable, kind, parts));
-        return Kind::Unknown;
+        return;
     }
     check_labels(given, variable, kind, parts);
-    check_counts(given, span, kind, parts);
-    check_types(given, span, parts, kinds);
-    kinds.first().copied().unwrap_or(Kind::Unknown)
+    let constructors = kind.constructors(given.tree);
+    for constructor in constructors {
+        check_count(given, span, parts, constructor.text.as_str());
+    }
+    if kind == Kind::Bool {
+        check_count(given, span, parts, "true");
+        check_count(given, span, parts, "false");
+    } else if constructors.is_empty() {
+        let sentence = "`merge` wants a `bool` or an enumeration, and `{}` has type `{}`";
+        let text = variable.text.as_str();
+        given.tell(told_at(
+            variable.span,
+            Phrase::new(sentence, text, given.name(kind), ""),
+        ));
+    }
+    check_types(given, span, parts);
+}
+
+/// A test that doesn't fit its variable.
+fn wrong_test<'t>(given: Given<'_, 't>, name: &'t Name, kind: Kind) -> Clash<'t> {
+    let text = name.text.as_str();
+    let sentence = "this test doesn't fit `{}`, which has type `{}`";
+    let note = match kind.constructors(given.tree).first() {
+        Some(label) => Phrase::new(
+            "Write the constructor and the variable, as `when {}({})`.",
+            label.text.as_str(),
+            text,
+            "",
+        ),
+        None => Phrase::of(
+            "A `bool` is tested by `when c` or `when not c`, an enumeration by `when A(k)`; no other type is.",
+            "",
+        ),
+    };
+    told_at(name.span, Phrase::new(sentence, text, given.name(kind), "")).noted(note)
+}
+
+/// Tells where a test doesn't fit its variable.
+pub fn check_test<'t>(given: Given<'_, 't>, test: &'t Test) {
+    let (label, name) = match test {
+        Test::Holds(name) => ("true", name),
+        Test::Fails(_, name) => ("false", name),
+        Test::Is(label, name) => (label_text(label), name),
+    };
+    let kind = kind_of_variable(given.tree, given.node, name);
+    if kind != Kind::Unknown && !kind.has_label(given.tree, label) {
+        given.tell(wrong_test(given, name, kind));
+    }
 }

@@ -1,7 +1,7 @@
 //! Operators, and the types of their operands.
 
 use crate::clash::told_at;
-use crate::inferring::Given;
+use crate::given::Given;
 use crate::kinds::Kind;
 use crate::phrase::Phrase;
 use lus_faults::{extent_of, start_of};
@@ -21,7 +21,7 @@ fn kinds_of(shape: Shape) -> (Option<Kind>, Option<Kind>) {
 }
 
 /// An operator's text, and those types.
-fn infix_form(op: Infix) -> (&'static str, Option<Kind>, Option<Kind>) {
+pub fn infix_form(op: Infix) -> (&'static str, Option<Kind>, Option<Kind>) {
     match op {
         Infix::Fby => ("fby", None, None),
         Infix::Arrow => ("->", None, None),
@@ -42,114 +42,80 @@ fn advice(wanted: Kind, kind: Kind) -> &'static str {
 }
 
 /// Tells where an operand has another type than its operator wants.
-fn check_operand<'t>(
+pub fn check_operand<'t>(
     given: Given<'_, 't>,
     main: Span,
     operator: &'t str,
     wanted: Kind,
     operand: &'t Expr,
-    kind: Kind,
 ) {
-    if !wanted.differs(kind) {
-        return;
+    let kind = given.kind(operand);
+    if wanted.differs(kind) {
+        let sentence = "`{}` wants type `{}`, and is given `{}`";
+        let told = Phrase::new(sentence, operator, given.name(wanted), given.name(kind));
+        given.tell(
+            told_at(main, told)
+                .typed(given, operand)
+                .noted(Phrase::of(advice(wanted, kind), "")),
+        );
     }
-    let want = wanted.name(given.tree);
-    let has = kind.name(given.tree);
-    let sentence = "`{}` wants type `{}`, and is given `{}`";
-    let clash = told_at(main, Phrase::new(sentence, operator, want, has))
-        .typed(given, operand, kind)
-        .noted(Phrase::of(advice(wanted, kind), ""));
-    given.tell(clash);
 }
 
 /// Tells where two operands that have to have one type have two.
-fn check_alike<'t>(
+pub fn check_alike<'t>(
     given: Given<'_, 't>,
     main: Span,
     operator: &'t str,
-    left: (&'t Expr, Kind),
-    right: (&'t Expr, Kind),
+    left: &'t Expr,
+    right: &'t Expr,
 ) {
-    if !left.1.differs(right.1) {
-        return;
+    let (first, second) = (given.kind(left), given.kind(right));
+    if first.differs(second) {
+        let sentence = "`{}` wants two values of one type, and is given `{}` and `{}`";
+        let told = Phrase::new(sentence, operator, given.name(first), given.name(second));
+        given.tell(told_at(main, told).typed(given, left).typed(given, right));
     }
-    let first = left.1.name(given.tree);
-    let second = right.1.name(given.tree);
-    let sentence = "`{}` wants two values of one type, and is given `{}` and `{}`";
-    let clash = told_at(main, Phrase::new(sentence, operator, first, second))
-        .typed(given, left.0, left.1)
-        .typed(given, right.0, right.1);
-    given.tell(clash);
 }
 
-/// An operator before its operand.
-pub fn unary<'t>(
-    given: Given<'_, 't>,
-    op: Prefix,
-    span: Span,
-    operand: &'t Expr,
-    kind: Kind,
-) -> Kind {
-    let (wanted, operator) = match op {
-        Prefix::Pre => return kind,
-        Prefix::Not => (Kind::Bool, "not"),
-        Prefix::Negate => (Kind::Int, "-"),
-    };
-    check_operand(given, span, operator, wanted, operand, kind);
-    wanted
+/// Tells where the operand of an operator before it has another type.
+pub fn check_unary<'t>(given: Given<'_, 't>, op: Prefix, span: Span, operand: &'t Expr) {
+    match op {
+        Prefix::Pre => {}
+        Prefix::Not => check_operand(given, span, "not", Kind::Bool, operand),
+        Prefix::Negate => check_operand(given, span, "-", Kind::Int, operand),
+    }
 }
 
-/// An operator before a list of operands, with their types.
-pub fn variadic<'t>(
+/// Tells where an operand of a list is no `bool`.
+pub fn check_variadic<'t>(
     given: Given<'_, 't>,
     op: ListOperator,
     span: Span,
     operands: &'t [Part],
-    kinds: &[Kind],
-) -> Kind {
+) {
     let operator = match op {
         ListOperator::AtMostOne => "#",
         ListOperator::Nor => "nor",
     };
-    for (operand, kind) in operands.iter().zip(kinds) {
-        check_operand(given, span, operator, Kind::Bool, &operand.value, *kind);
+    for operand in operands {
+        check_operand(given, span, operator, Kind::Bool, &operand.value);
     }
-    Kind::Bool
 }
 
-/// An operator between its operands.
-pub fn binary<'t>(
-    given: Given<'_, 't>,
-    op: Infix,
-    left: (&'t Expr, Kind),
-    right: (&'t Expr, Kind),
-) -> Kind {
-    let from = start_of(left.0);
-    let to = extent_of(given.source, right.0);
+/// Tells where the operands on both sides of an operator have other types.
+pub fn check_binary<'t>(given: Given<'_, 't>, op: Infix, left: &'t Expr, right: &'t Expr) {
+    let start = start_of(left);
+    let end = extent_of(given.source, right).end().byte;
     let main = Span {
-        start: from,
-        length: to.end().byte.saturating_sub(from.byte),
+        start,
+        length: end.saturating_sub(start.byte),
     };
-    let (operator, operands, given_kind) = infix_form(op);
+    let (operator, operands, _) = infix_form(op);
     match operands {
         Some(wanted) => {
-            check_operand(given, main, operator, wanted, left.0, left.1);
-            check_operand(given, main, operator, wanted, right.0, right.1);
+            check_operand(given, main, operator, wanted, left);
+            check_operand(given, main, operator, wanted, right);
         }
         None => check_alike(given, main, operator, left, right),
     }
-    given_kind.unwrap_or(left.1)
-}
-
-/// A choice by a condition.
-pub fn choice<'t>(
-    given: Given<'_, 't>,
-    span: Span,
-    condition: (&'t Expr, Kind),
-    left: (&'t Expr, Kind),
-    right: (&'t Expr, Kind),
-) -> Kind {
-    check_operand(given, span, "if", Kind::Bool, condition.0, condition.1);
-    check_alike(given, span, "if", left, right);
-    left.1
 }
