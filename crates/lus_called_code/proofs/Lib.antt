@@ -5,4 +5,3 @@ pub mod Nested
 pub mod Answering
 pub mod Composed
 pub mod Added
-pub mod Mapped

@@ -1,3 +1,4 @@
 mod Alike
 mod Copying
 mod Places
+pub mod Mapped
