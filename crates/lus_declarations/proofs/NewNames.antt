@@ -41,13 +41,6 @@ last_doubled first last table empty doubled distinct =
     let last_ones : all_new [] last ≡ true = last_distinct first last distinct in
     cc
 
--- behind the first list the last is new
-pub next_doubled : (first last before table : List Text) → before ≡ [] → table ≡ before ++ first → all_new table last ≡ false → Distinct (first ++ last) → ⊥
-next_doubled first last before table empty grown doubled distinct =
-    let doubled : all_new first last ≡ false = sym (ap (λ t. all_new t last) (grown ∙ ap (λ b. b ++ first) empty)) ∙ doubled in
-    let next : all_new first last ≡ true = and_right (all_new [] first) _ (sym (appended_are_new [] first last) ∙ distinct) in
-    cc
-
 pub apart : (first last before table : List Text) (b : Bool) → before ≡ [] → table ≡ before ++ first → b ≡ list_all (λ n. not (is_in table n)) last → b ≡ list_all (λ n. not (is_in first n)) last
 apart first last before table b empty grown is = is ∙ ap (λ t. list_all (λ n. not (is_in t n)) last) (grown ∙ ap (λ k. k ++ first) empty)
 

@@ -24,10 +24,8 @@ pub fn enter(alloc: Global, scope: &mut Scope, node: &Node) -> Result<(), Fault>
     ensures entered { OnOk result (scope_of scope.new ≡ entered (scope_of scope.old) (node_seen node.now)) }
     ensures doubled { IfErr result (Faulty (Distinct (names_in (groups (node_seen node.now))) → ⊥)) }
 {
-    let names = variable_names(alloc, node)?;
-    let kinds = variable_kinds(alloc, &scope.names.types, &scope.types, node)?;
-    scope.variables = names;
-    scope.variable_kinds = kinds;
+    scope.variables = variable_names(alloc, node)?;
+    scope.variable_kinds = variable_kinds(alloc, &scope.names.types, &scope.types, node)?;
     Ok(())
 }
 

@@ -16,4 +16,4 @@ returns-clause-entered c =
     let gs = groups (node_seen c.args.node.now) in
     let kind = kind_in s.types in
     ap (λ (vs : List (Text × Kind)). let t : Scope = record s { variables = placed vs } in t)
-    (whole (kinds_by kind gs) c.in_ok-names.names c.in_ok-kinds.kinds.items (c.in_ok-names.ensures.names ∙ sym (names-kinds_by kind gs)) (rw c.deref.ensures.value at c.in_ok-kinds.ensures))
+    (whole (kinds_by kind gs) c.in_ok-scope.field-0 c.in_ok-scope-2.field-0.items (c.in_ok-scope.ensures.names ∙ sym (names-kinds_by kind gs)) (rw c.deref.ensures.value at c.in_ok-scope-2.ensures))
