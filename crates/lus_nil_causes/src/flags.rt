@@ -1,5 +1,6 @@
 //! Which variables and expressions of a node may be nil at the first instant of their clocks, and where that comes from.
 
+use indexmap::IndexSet;
 use lus_syntax::{Equation, Expr, Infix, Node, Part, Prefix};
 use std::alloc::{AllocError, Global};
 
@@ -7,7 +8,7 @@ use std::alloc::{AllocError, Global};
 #[derive(Drop)]
 pub struct Flags<'t> {
     pub node: &'t Node,
-    raised: Vec<&'t str>,
+    raised: IndexSet<&'t str>,
 }
 
 /// Where a nil comes from: a variable, or a `pre`; and whether it comes through a branch.
@@ -28,23 +29,13 @@ fn computed(origin: Option<Origin<'_>>) -> Option<Origin<'_>> {
     }
 }
 
-/// Whether a variable may be nil.
-fn is_raised(raised: &[&str], text: &str) -> bool {
-    for name in raised {
-        if *name == text {
-            return true;
-        }
-    }
-    false
-}
-
 /// The first part of an expression from which a nil comes, where these variables may be nil.
 #[cycle(origins)]
-fn origin_in<'t>(raised: &[&str], expr: &'t Expr) -> Option<Origin<'t>> {
+fn origin_in<'t>(raised: &IndexSet<&str>, expr: &'t Expr) -> Option<Origin<'t>> {
     match expr {
         Expr::Number(_, _) | Expr::Truth(_, _) | Expr::Call(_, _) | Expr::Merge(_, _, _) => None,
         Expr::Name(name) => {
-            if is_raised(raised, name.text.as_str()) {
+            if raised.contains(&name.text.as_str()) {
                 Some(Origin {
                     expr,
                     is_computed: false,
@@ -72,7 +63,7 @@ fn origin_in<'t>(raised: &[&str], expr: &'t Expr) -> Option<Origin<'t>> {
 }
 
 #[cycle(origins)]
-fn origin_in_parts<'t>(raised: &[&str], parts: &'t [Part]) -> Option<Origin<'t>> {
+fn origin_in_parts<'t>(raised: &IndexSet<&str>, parts: &'t [Part]) -> Option<Origin<'t>> {
     for part in parts {
         let found = origin_in(raised, &part.value);
         if found.is_some() {
@@ -83,15 +74,12 @@ fn origin_in_parts<'t>(raised: &[&str], parts: &'t [Part]) -> Option<Origin<'t>>
 }
 
 /// Raises the variables whose equations may give nil. Says whether any was raised that wasn't.
-fn raise<'t>(raised: &mut Vec<&'t str>, equations: &'t [Equation]) -> Result<bool, AllocError> {
+fn raise<'t>(raised: &mut IndexSet<&'t str>, equations: &'t [Equation]) -> Result<bool, AllocError> {
     let mut has_changed = false;
     for equation in equations {
         if origin_in(raised, &equation.right).is_some() {
             for name in &equation.left {
-                if !is_raised(raised, name.text.as_str()) {
-                    raised.push(name.text.as_str())?;
-                    has_changed = true;
-                }
+                has_changed |= raised.insert(name.text.as_str())?;
             }
         }
     }
@@ -100,7 +88,7 @@ fn raise<'t>(raised: &mut Vec<&'t str>, equations: &'t [Equation]) -> Result<boo
 
 /// The least flags of a node.
 pub fn flags_of(alloc: Global, node: &Node) -> Result<Flags<'_>, AllocError> {
-    let mut raised = Vec::new(alloc);
+    let mut raised = IndexSet::new(alloc);
     for _round in 0..=node.equations.len() {
         if !raise(&mut raised, &node.equations)? {
             break;

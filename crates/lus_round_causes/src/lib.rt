@@ -1,7 +1,6 @@
 //! What is said of variables that need each other at one instant, and of nodes and types that lead back to themselves.
 #![tactic(auto)]
 
-mod calls;
 mod cycle;
 mod needs;
 mod recursion;

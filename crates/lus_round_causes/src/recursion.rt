@@ -1,7 +1,6 @@
 //! What is said of a node or a type that leads back to itself.
 
-use crate::calls::{Link, calls_of, uses_of};
-use lus_faults::{Finding, Sought};
+use lus_faults::{Finding, Link, Sought, calls_of, uses_of};
 use lus_syntax::{Name, Refusal, Tree};
 use std::alloc::{AllocError, Global};
 

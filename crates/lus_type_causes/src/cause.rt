@@ -3,10 +3,10 @@
 use crate::clash::{Clash, finding_of, told_at};
 use crate::equations::check_equation;
 use crate::given::Given;
-use crate::kinds::{kind_of_literal, kind_of_type};
 use crate::memory::check_memory;
 use crate::merges::check_test;
 use crate::phrase::Phrase;
+use crate::scope::Scope;
 use lus_faults::{Finding, Sought};
 use lus_syntax::{Group, Literal, Node, Refusal, Span, Tree};
 use std::alloc::{AllocError, Global};
@@ -26,11 +26,12 @@ fn literal_span(value: &Literal) -> Span {
 }
 
 /// What is said of the first constant whose type isn't that of its value.
-fn wrong_constant(tree: &Tree) -> Option<Clash<'_>> {
+fn wrong_constant<'t>(scope: &Scope<'t>) -> Option<Clash<'t>> {
+    let tree = scope.tree;
     for constant in &tree.constants {
         if let Some(name) = &constant.type_name {
-            let wanted = kind_of_type(tree, name);
-            let kind = kind_of_literal(tree, &constant.value);
+            let wanted = scope.of_type(name);
+            let kind = scope.of_literal(&constant.value);
             if wanted.differs(kind) {
                 let sentence = Phrase::new(
                     "the constant `{}` has type `{}`, and its value `{}`",
@@ -58,13 +59,13 @@ fn check_groups<'t>(given: Given<'_, 't>, groups: &'t [Group]) {
 fn first_fault<'t>(
     alloc: Global,
     source: &'t str,
-    tree: &'t Tree,
+    scope: &Scope<'t>,
     node: &'t Node,
 ) -> Result<Option<Clash<'t>>, AllocError> {
     let told = Cell::new(None);
     let given = Given {
         source,
-        tree,
+        scope,
         node,
         told: &told,
     };
@@ -86,8 +87,9 @@ pub fn type_cause(
     refusal: &Refusal,
 ) -> Result<Option<Finding>, AllocError> {
     let sought = Sought::of(refusal);
-    let found = match (wrong_constant(tree), sought.node(tree)) {
-        (None, Some(node)) => first_fault(alloc, source, tree, node)?,
+    let scope = Scope::of(alloc, tree, sought.node(tree))?;
+    let found = match (wrong_constant(&scope), sought.node(tree)) {
+        (None, Some(node)) => first_fault(alloc, source, &scope, node)?,
         (found, _) => found,
     };
     match found {

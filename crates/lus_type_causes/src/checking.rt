@@ -2,7 +2,7 @@
 
 use crate::clash::told_at;
 use crate::given::Given;
-use crate::kinds::{Kind, called, count_of, variable_at};
+use crate::kinds::{Kind, count_of};
 use crate::merges::{check_merge, check_test};
 use crate::operators::{check_alike, check_binary, check_operand, check_unary, check_variadic};
 use crate::phrase::{Phrase, Word};
@@ -120,7 +120,7 @@ pub fn check_arguments<'t>(
         given.tell(told_at(name.span, sentence).declared(&node.name));
     }
     for (place, part) in parts.iter().enumerate() {
-        if let Some(input) = variable_at(given.tree, &node.inputs, place) {
+        if let Some(input) = given.scope.variable_at(&node.inputs, place) {
             check_argument(given, name, part, place.saturating_add(1), input);
         }
     }
@@ -128,7 +128,7 @@ pub fn check_arguments<'t>(
 
 /// Tells where a call that gives one value doesn't fit.
 fn check_call<'t>(given: Given<'_, 't>, name: &'t Name, parts: &'t [Part]) {
-    let Some(node) = called(given.tree, name) else {
+    let Some(node) = given.scope.called(name) else {
         return;
     };
     check_arguments(given, name, node, parts);

@@ -2,8 +2,8 @@
 
 use crate::checking::{check, check_arguments, check_parts};
 use crate::clash::told_at;
-use crate::given::{Given, kind_of_variable};
-use crate::kinds::{Kind, called, count_of, variable_at};
+use crate::given::Given;
+use crate::kinds::{Kind, count_of};
 use crate::phrase::{Phrase, Word};
 use lus_faults::{extent_of, variable_named};
 use lus_syntax::{Equation, Expr, Name, Node};
@@ -19,7 +19,7 @@ fn bare(expr: &Expr) -> &Expr {
 
 /// Tells where a right side has another type than its variable.
 fn check_value<'t>(given: Given<'_, 't>, left: &'t Name, right: &'t Expr, kind: Kind) {
-    let wanted = kind_of_variable(given.tree, given.node, left);
+    let wanted = given.scope.of_variable(left);
     if !wanted.differs(kind) {
         return;
     }
@@ -54,7 +54,7 @@ fn check_count<'t>(given: Given<'_, 't>, equation: &'t Equation, found: usize) {
 fn check_results<'t>(given: Given<'_, 't>, equation: &'t Equation, node: &'t Node) {
     check_count(given, equation, count_of(&node.outputs));
     for (place, left) in equation.left.iter().enumerate() {
-        if let Some((_, kind)) = variable_at(given.tree, &node.outputs, place) {
+        if let Some((_, kind)) = given.scope.variable_at(&node.outputs, place) {
             check_value(given, left, &equation.right, kind);
         }
     }
@@ -65,7 +65,7 @@ pub fn check_equation<'t>(given: Given<'_, 't>, equation: &'t Equation) {
     let right = &equation.right;
     if let Expr::Call(name, parts) = bare(right) {
         check_parts(given, parts);
-        if let Some(node) = called(given.tree, name) {
+        if let Some(node) = given.scope.called(name) {
             check_arguments(given, name, node, parts);
             check_results(given, equation, node);
         }

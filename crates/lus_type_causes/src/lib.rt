@@ -11,6 +11,7 @@ mod memory;
 mod merges;
 mod operators;
 mod phrase;
+mod scope;
 mod structures;
 
 pub use cause::type_cause;

@@ -2,7 +2,6 @@
 
 use crate::clash::{Clash, told_at};
 use crate::given::Given;
-use crate::kinds::called;
 use crate::phrase::Phrase;
 use lus_faults::{expressions_in, extent_of};
 use lus_syntax::{Expr, Infix, Name, NodeKind, Prefix};
@@ -16,7 +15,7 @@ fn called_memory<'t>(given: Given<'_, 't>, name: &'t Name) -> Option<Clash<'t>> 
         name.span,
         Phrase::new(sentence, owner, name.text.as_str(), ""),
     );
-    match called(given.tree, name) {
+    match given.scope.called(name) {
         Some(node) if node.kind == NodeKind::Function => None,
         Some(node) => Some(told.declared(&node.name)),
         None => Some(told),

@@ -1,7 +1,7 @@
 //! Labels: of the branches of merges, and of the tests of clocks.
 
 use crate::clash::{Clash, told_at};
-use crate::given::{Given, kind_of_variable};
+use crate::given::Given;
 use crate::kinds::Kind;
 use crate::phrase::{Phrase, Word};
 use lus_faults::label_span;
@@ -37,7 +37,7 @@ fn check_labels<'t>(given: Given<'_, 't>, variable: &'t Name, kind: Kind, parts:
     let owner = given.name(kind);
     for part in parts {
         if let Lead::Branch(_, label) = &part.lead
-            && !kind.has_label(given.tree, label_text(label))
+            && !kind.has_label(given.scope.tree, label_text(label))
         {
             let sentence = "type `{}` has no constructor `{}`";
             let beside = Phrase::new("`{}` has type `{}`", variable.text.as_str(), owner, "");
@@ -92,12 +92,12 @@ fn check_types<'t>(given: Given<'_, 't>, span: Span, parts: &'t [Part]) {
 
 /// Tells where a merge over a variable doesn't have the branches of its type, or has them of two types.
 pub fn check_merge<'t>(given: Given<'_, 't>, span: Span, variable: &'t Name, parts: &'t [Part]) {
-    let kind = kind_of_variable(given.tree, given.node, variable);
+    let kind = given.scope.of_variable(variable);
     if kind == Kind::Unknown {
         return;
     }
     check_labels(given, variable, kind, parts);
-    let constructors = kind.constructors(given.tree);
+    let constructors = kind.constructors(given.scope.tree);
     for constructor in constructors {
         check_count(given, span, parts, constructor.text.as_str());
     }
@@ -119,7 +119,7 @@ pub fn check_merge<'t>(given: Given<'_, 't>, span: Span, variable: &'t Name, par
 fn wrong_test<'t>(given: Given<'_, 't>, name: &'t Name, kind: Kind) -> Clash<'t> {
     let text = name.text.as_str();
     let sentence = "this test doesn't fit `{}`, which has type `{}`";
-    let note = match kind.constructors(given.tree).first() {
+    let note = match kind.constructors(given.scope.tree).first() {
         Some(label) => Phrase::new(
             "Write the constructor and the variable, as `when {}({})`.",
             label.text.as_str(),
@@ -141,8 +141,8 @@ pub fn check_test<'t>(given: Given<'_, 't>, test: &'t Test) {
         Test::Fails(_, name) => ("false", name),
         Test::Is(label, name) => (label_text(label), name),
     };
-    let kind = kind_of_variable(given.tree, given.node, name);
-    if kind != Kind::Unknown && !kind.has_label(given.tree, label) {
+    let kind = given.scope.of_variable(name);
+    if kind != Kind::Unknown && !kind.has_label(given.scope.tree, label) {
         given.tell(wrong_test(given, name, kind));
     }
 }

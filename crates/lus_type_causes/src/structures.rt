@@ -2,9 +2,10 @@
 
 use crate::clash::{Clash, told_at};
 use crate::given::Given;
-use crate::kinds::{Kind, kind_of_structure, kind_of_type};
+use crate::kinds::Kind;
 use crate::merges::times;
 use crate::phrase::{Phrase, Word};
+use crate::scope::Scope;
 use lus_syntax::{Definition, Expr, Fields, Lead, Name, Part, Span, Tree};
 
 /// The declaration of a structure's type: its name, and its fields.
@@ -22,14 +23,14 @@ fn structure_of(tree: &Tree, kind: Kind) -> Option<(&Name, &[Fields])> {
 }
 
 /// The field of this name that a type has, and the field's type.
-pub fn field_of<'t>(tree: &'t Tree, kind: Kind, text: &str) -> Option<(&'t Name, Kind)> {
-    let Some((_, groups)) = structure_of(tree, kind) else {
+pub fn field_of<'t>(scope: &Scope<'t>, kind: Kind, text: &str) -> Option<(&'t Name, Kind)> {
+    let Some((_, groups)) = structure_of(scope.tree, kind) else {
         return None;
     };
     for group in groups {
         for name in &group.names {
             if name.text.as_str() == text {
-                return Some((name, kind_of_type(tree, &group.type_name)));
+                return Some((name, scope.of_type(&group.type_name)));
             }
         }
     }
@@ -39,12 +40,12 @@ pub fn field_of<'t>(tree: &'t Tree, kind: Kind, text: &str) -> Option<(&'t Name,
 /// Tells where a structure has no field of a name, with the nearest that it has; and where there is no structure.
 fn check_name<'t>(given: Given<'_, 't>, main: Span, kind: Kind, name: &'t Name) {
     let text = name.text.as_str();
-    let Some((owner, groups)) = structure_of(given.tree, kind) else {
+    let Some((owner, groups)) = structure_of(given.scope.tree, kind) else {
         let sentence = "a value of type `{}` has no fields";
         given.tell(told_at(main, Phrase::of(sentence, given.name(kind))));
         return;
     };
-    if field_of(given.tree, kind, text).is_none() {
+    if field_of(given.scope, kind, text).is_none() {
         let sentence = Phrase::new("`{}` has no field `{}`", owner.text.as_str(), text, "");
         given.tell(
             told_at(name.span, sentence)
@@ -99,8 +100,8 @@ fn miscounted<'t>(owner: &'t Name, field: &'t Name, count: usize) -> Clash<'t> {
 
 /// Tells where a structure's value names fields that there aren't, gives them values of other types, or doesn't name each once.
 pub fn check_structure<'t>(given: Given<'_, 't>, owner: &'t Name, parts: &'t [Part]) {
-    let kind = kind_of_structure(given.tree, owner);
-    let Some((_, groups)) = structure_of(given.tree, kind) else {
+    let kind = given.scope.of_structure(owner);
+    let Some((_, groups)) = structure_of(given.scope.tree, kind) else {
         check_name(given, owner.span, kind, owner);
         return;
     };
@@ -111,7 +112,7 @@ pub fn check_structure<'t>(given: Given<'_, 't>, owner: &'t Name, parts: &'t [Pa
     }
     for part in parts {
         if let Lead::Field(name) = &part.lead
-            && let Some(field) = field_of(given.tree, kind, name.text.as_str())
+            && let Some(field) = field_of(given.scope, kind, name.text.as_str())
         {
             check_value(given, owner, part, field);
         }
