@@ -14,7 +14,7 @@ pub struct Link<'t> {
 }
 
 /// The place of each node, by its name.
-pub fn places_of_nodes(alloc: Global, tree: &Tree) -> Result<IndexMap<&str, usize>, AllocError> {
+fn places_of_nodes(alloc: Global, tree: &Tree) -> Result<IndexMap<&str, usize>, AllocError> {
     let mut places = IndexMap::new(alloc);
     for (place, node) in tree.nodes.iter().enumerate() {
         let _before = places.insert(node.name.text.as_str(), place)?;
@@ -23,7 +23,7 @@ pub fn places_of_nodes(alloc: Global, tree: &Tree) -> Result<IndexMap<&str, usiz
 }
 
 /// The place of each type, by its name.
-pub fn places_of_types(alloc: Global, tree: &Tree) -> Result<IndexMap<&str, usize>, AllocError> {
+fn places_of_types(alloc: Global, tree: &Tree) -> Result<IndexMap<&str, usize>, AllocError> {
     let mut places = IndexMap::new(alloc);
     for (place, declaration) in tree.types.iter().enumerate() {
         let _before = places.insert(declaration.name.text.as_str(), place)?;

@@ -31,7 +31,7 @@ fn computed(origin: Option<Origin<'_>>) -> Option<Origin<'_>> {
 
 /// The first part of an expression from which a nil comes, where these variables may be nil.
 #[cycle(origins)]
-fn origin_in<'t>(raised: &IndexSet<&str>, expr: &'t Expr) -> Option<Origin<'t>> {
+fn origin_in<'t>(raised: &IndexSet<&'t str>, expr: &'t Expr) -> Option<Origin<'t>> {
     match expr {
         Expr::Number(_, _) | Expr::Truth(_, _) | Expr::Call(_, _) | Expr::Merge(_, _, _) => None,
         Expr::Name(name) => {
@@ -63,7 +63,7 @@ fn origin_in<'t>(raised: &IndexSet<&str>, expr: &'t Expr) -> Option<Origin<'t>> 
 }
 
 #[cycle(origins)]
-fn origin_in_parts<'t>(raised: &IndexSet<&str>, parts: &'t [Part]) -> Option<Origin<'t>> {
+fn origin_in_parts<'t>(raised: &IndexSet<&'t str>, parts: &'t [Part]) -> Option<Origin<'t>> {
     for part in parts {
         let found = origin_in(raised, &part.value);
         if found.is_some() {
@@ -74,7 +74,10 @@ fn origin_in_parts<'t>(raised: &IndexSet<&str>, parts: &'t [Part]) -> Option<Ori
 }
 
 /// Raises the variables whose equations may give nil. Says whether any was raised that wasn't.
-fn raise<'t>(raised: &mut IndexSet<&'t str>, equations: &'t [Equation]) -> Result<bool, AllocError> {
+fn raise<'t>(
+    raised: &mut IndexSet<&'t str>,
+    equations: &'t [Equation],
+) -> Result<bool, AllocError> {
     let mut has_changed = false;
     for equation in equations {
         if origin_in(raised, &equation.right).is_some() {

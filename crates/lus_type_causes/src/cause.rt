@@ -79,6 +79,20 @@ fn first_fault<'t>(
     Ok(told.get())
 }
 
+/// What is said of the first fault of types in a source: of the constants, else of the node at a place.
+fn first_clash<'t>(
+    alloc: Global,
+    source: &'t str,
+    scope: &mut Scope<'t>,
+    node: Option<&'t Node>,
+) -> Result<Option<Clash<'t>>, AllocError> {
+    scope.fill(node)?;
+    match (wrong_constant(scope), node) {
+        (None, Some(node)) => first_fault(alloc, source, scope, node),
+        (found, _) => Ok(found),
+    }
+}
+
 /// What is said of a fault of types, where it is found again at its place: of the constants, then of the node there.
 pub fn type_cause(
     alloc: Global,
@@ -87,13 +101,10 @@ pub fn type_cause(
     refusal: &Refusal,
 ) -> Result<Option<Finding>, AllocError> {
     let sought = Sought::of(refusal);
-    let scope = Scope::of(alloc, tree, sought.node(tree))?;
-    let found = match (wrong_constant(&scope), sought.node(tree)) {
-        (None, Some(node)) => first_fault(alloc, source, &scope, node)?,
-        (found, _) => found,
-    };
-    match found {
-        Some(clash) if clash.is_at(sought) => Ok(Some(finding_of(alloc, &clash)?)),
-        _ => Ok(None),
+    let mut scope = Scope::new(alloc, tree);
+    match first_clash(alloc, source, &mut scope, sought.node(tree)) {
+        Ok(Some(clash)) if clash.is_at(sought) => Ok(Some(finding_of(alloc, &clash)?)),
+        Ok(_) => Ok(None),
+        Err(error) => Err(error),
     }
 }

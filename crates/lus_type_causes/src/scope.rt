@@ -2,18 +2,29 @@
 
 use crate::kinds::Kind;
 use indexmap::IndexMap;
-use lus_faults::{places_of_nodes, places_of_types};
 use lus_syntax::{Definition, Group, Literal, Name, Node, Tree, TypeName};
 use std::alloc::{AllocError, Global};
 
 /// The types, nodes, constants and constructors of a source by their names, and the variables of a node.
-#[derive(Drop)]
 pub struct Scope<'t> {
     pub tree: &'t Tree,
     types: IndexMap<&'t str, usize>,
     nodes: IndexMap<&'t str, usize>,
     values: IndexMap<&'t str, Kind>,
     variables: IndexMap<&'t str, Kind>,
+}
+
+// By hand, so that other functions call it: what a derive drops is proved again in each of them.
+impl Drop for Scope<'_> {
+    fn drop(self) {
+        let Scope {
+            tree: _,
+            types: _,
+            nodes: _,
+            values: _,
+            variables: _,
+        } = self;
+    }
 }
 
 /// Adds the constructors of a type, which stands at a place.
@@ -41,14 +52,28 @@ fn add_groups<'t>(scope: &mut Scope<'t>, groups: &'t [Group]) -> Result<(), Allo
     Ok(())
 }
 
-/// Adds the constructors and constants of a source.
-fn add_values<'t>(scope: &mut Scope<'t>, tree: &'t Tree) -> Result<(), AllocError> {
+/// Adds the types of a source, and their constructors.
+fn add_types<'t>(scope: &mut Scope<'t>, tree: &'t Tree) -> Result<(), AllocError> {
     for (place, declaration) in tree.types.iter().enumerate() {
+        let _before = scope.types.insert(declaration.name.text.as_str(), place)?;
         add_constructors(&mut scope.values, place, &declaration.definition)?;
     }
+    Ok(())
+}
+
+/// Adds the constants of a source, behind its types.
+fn add_constants<'t>(scope: &mut Scope<'t>, tree: &'t Tree) -> Result<(), AllocError> {
     for constant in &tree.constants {
         let kind = scope.of_literal(&constant.value);
         let _before = scope.values.insert(constant.name.text.as_str(), kind)?;
+    }
+    Ok(())
+}
+
+/// Adds the nodes of a source.
+fn add_nodes<'t>(scope: &mut Scope<'t>, tree: &'t Tree) -> Result<(), AllocError> {
+    for (place, node) in tree.nodes.iter().enumerate() {
+        let _before = scope.nodes.insert(node.name.text.as_str(), place)?;
     }
     Ok(())
 }
@@ -61,26 +86,26 @@ fn add_node<'t>(scope: &mut Scope<'t>, node: &'t Node) -> Result<(), AllocError>
 }
 
 impl<'t> Scope<'t> {
-    /// What names stand for in a source, and in a node, if one is given.
-    pub fn of(
-        alloc: Global,
-        tree: &'t Tree,
-        node: Option<&'t Node>,
-    ) -> Result<Scope<'t>, AllocError> {
-        let types = places_of_types(alloc, tree)?;
-        let nodes = places_of_nodes(alloc, tree)?;
-        let mut scope = Scope {
+    /// No names of a source yet.
+    pub fn new(alloc: Global, tree: &'t Tree) -> Scope<'t> {
+        Scope {
             tree,
-            types,
-            nodes,
+            types: IndexMap::new(alloc),
+            nodes: IndexMap::new(alloc),
             values: IndexMap::new(alloc),
             variables: IndexMap::new(alloc),
-        };
-        add_values(&mut scope, tree)?;
-        if let Some(node) = node {
-            add_node(&mut scope, node)?;
         }
-        Ok(scope)
+    }
+
+    /// Takes the names of the source, and the variables of a node, if one is given.
+    pub fn fill(&mut self, node: Option<&'t Node>) -> Result<(), AllocError> {
+        add_types(self, self.tree)?;
+        add_constants(self, self.tree)?;
+        add_nodes(self, self.tree)?;
+        match node {
+            Some(node) => add_node(self, node),
+            None => Ok(()),
+        }
     }
 
     /// The type that a type's name stands for, through aliases.
