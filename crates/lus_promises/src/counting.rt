@@ -1,12 +1,19 @@
-//! What a normal form tells of a node's state.
+//! What is counted of a node's state.
 
-ghost use Rattle.std.specs.Prelude.{◌≡◌, ◌<◌, length, min};
+ghost use Rattle.std.specs.Prelude.{◌≡◌, ◌<◌, length, min, IfOk, IfErr};
+ghost use Rattle.lus_syntax.specs.declared.refusal.RefusalNumber.TheVariants as numbers;
 ghost use Rattle.lus_program.specs.Programs.{node_at};
 ghost use Rattle.lus_program.specs.View.{program_seen};
+ghost use Rattle.lus_typing.specs.Refusals.{RefusesFor};
 ghost use Rattle.lus_normal_form.specs.NormalNodes.{node_firsts, node_memories};
+ghost use Rattle.lus_cells.specs.Cells.{AreStateCells, FitsCells};
 
+use lus_cells::cells_of_nodes;
 use lus_normal::Normal;
 use lus_program::NodeId;
+use lus_syntax::Refusal;
+use lus_typing::Typed;
+use std::alloc::Global;
 
 /// How many memories and how many marks of a first instant stand in a node.
 #[derive(Clone, Copy)]
@@ -25,4 +32,12 @@ pub fn counts_of(normal: &Normal, node: NodeId) -> Counts
         memories: normal.memories(node),
         firsts: normal.firsts(node),
     }
+}
+
+/// The state cells of each node, or a refusal of a node that has too many.
+pub fn count_cells(alloc: Global, typed: &Typed) -> Result<Vec<u32>, Refusal>
+    ensures ok { IfOk result (λ cells. AreStateCells (program_seen typed.now) cells.items) }
+    ensures refused { IfErr result (RefusesFor numbers.Limit (FitsCells (program_seen typed.now))) }
+{
+    cells_of_nodes(alloc, typed)
 }

@@ -1,0 +1,54 @@
+//! What runs of classes rely on.
+
+ghost use Rattle.std.specs.Prelude.{◌≡◌, IfOk, OnOk};
+ghost use Rattle.lus_program.specs.View.{node_of, program_seen};
+ghost use Rattle.lus_normal_form.specs.Ready.{IsDefined, IsReady};
+ghost use Rattle.lus_order.specs.Orders.{OrdersVariables};
+ghost use Rattle.lus_classes.specs.Steps.{chosen as chosen_entry};
+ghost use Rattle.lus_instructions.specs.Seeing.{entry_seen};
+ghost use Rattle.lus_flat_classes.specs.Turns.{AreReady};
+ghost use Rattle.lus_flat_classes.specs.View.{classes_of};
+ghost use Rattle.lus_places.specs.Few.{AreFew};
+ghost use Rattle.lus_places.specs.Shaped.{AreNested, CanAllBePlaced};
+ghost use Rattle.lus_turns.specs.Turned.{IsTurned};
+
+use lus_flat_classes::Class;
+use lus_instructions::{Seen, chosen};
+use lus_places::place_classes;
+use lus_program::{Node, Program};
+use lus_turns::class_of;
+use lus_values::Memory;
+use std::alloc::Global;
+
+/// The class of a node, its equations in the order of their turns.
+pub fn turn_equations(
+    alloc: Global,
+    program: &Program,
+    node: &Node,
+    order: &[u32],
+) -> Result<Class, Memory>
+    requires ready { IsReady (program_seen program.now) (node_of node.now) }
+    requires defined { IsDefined (program_seen program.now) (node_of node.now) }
+    requires order { OrdersVariables (node_of node.now) order.now }
+    ensures { IfOk result (λ c. IsTurned (program_seen program.now) (node_of node.now) c) }
+{
+    class_of(alloc, program, node, order)
+}
+
+/// Gives the parts of calls their places, after which classes can be run.
+pub fn place_parts(alloc: Global, classes: &mut [Class]) -> Result<(), Memory>
+    requires shaped { CanAllBePlaced classes.old }
+    requires nested { AreNested (classes_of classes.old) }
+    requires few { AreFew classes.old }
+    ensures same { OnOk result (classes_of classes.new ≡ classes_of classes.old) }
+    ensures ready { OnOk result (AreReady classes.new) }
+{
+    place_classes(alloc, classes)
+}
+
+/// What an arrow gives: its first side at the first instant and the later one after it, if both have a value.
+pub fn choose_side<'a>(first: Option<bool>, now: Seen<'a>, later: Seen<'a>) -> Seen<'a>
+    ensures { entry_seen result ≡ chosen_entry first (entry_seen now.entry) (entry_seen later.entry) }
+{
+    chosen(first, now, later)
+}
