@@ -1,5 +1,5 @@
 //! `lus --check PROGRAM` and `lus PROGRAM SCRIPTS`. By the name of another tool, through a link, the same program is that tool:
-//! `lus_explain`, `lus_draw`, `lus_audit`, `lus_live`.
+//! `lus_explain`, `lus_draw`, `lus_audit`, `lus_live`, and `lus_bench`, which `bench/run` measures.
 #![tactic(auto)]
 
 mod usage;
@@ -64,6 +64,7 @@ fn main(rt: HostRuntime) -> ExitCode {
                 &mut faults,
             )
         }
+        "lus_bench" => lus_bench::command(&rt, words),
         _ => command(&rt, &disk, words, &mut output, &mut faults),
     };
     ExitCode::from(status)

@@ -1,6 +1,6 @@
-//! How a host embeds the compiler, and what `bench/run` measures. `lus_bench PROGRAM STEPS` steps an instance of a program's last
-//! node, which takes no inputs, so many times, and prints its last outputs, one a line. `lus_bench PROGRAM STEPS CALLERS lock`, or
-//! `seats`, lets each of so many callers, on a thread of its own, step the one instance, and prints how many entries it has.
+//! What `bench/run` measures, by the name `lus_bench` of the program. `lus_bench PROGRAM STEPS` steps an instance of a program's last node,
+//! which takes no inputs, so many times, and prints its last outputs, one a line. `lus_bench PROGRAM STEPS CALLERS lock`, or `seats`,
+//! lets each of so many callers, on a thread of its own, step the one instance, and prints how many entries it has.
 #![tactic(auto)]
 
 mod callers;
@@ -12,11 +12,10 @@ ghost use Rattle.lus_host.specs.CodeSpecs.Codes.{program_of};
 use callers::{Sharing, entries};
 use lus_host::{CallError, Machine, NodeId, Program, Reply, Request, Row, compile, print};
 use std::alloc::{AllocError, Global};
-use std::process::ExitCode;
 use std::rt::Files;
 use std::sync::{Arc, Wait};
 use std::thread::Threads;
-use std::{env, fs};
+use std::fs;
 
 /// The reply to the last of so many steps of an instance, none where there is no step.
 fn stepped(
@@ -46,7 +45,7 @@ fn program_in<R: Files + AllocGlobal>(rt: &R, name: &str) -> Option<Arc<Program>
 }
 
 /// Prints the outputs of a reply, if it has any.
-fn tell(rt: &HostRuntime, program: &Program, reply: &Reply) -> Option<()> {
+fn tell<R: AllocGlobal + Print>(rt: &R, program: &Program, reply: &Reply) -> Option<()> {
     let Reply::Outputs(outputs) = reply else {
         return None;
     };
@@ -61,7 +60,7 @@ fn tell(rt: &HostRuntime, program: &Program, reply: &Reply) -> Option<()> {
 }
 
 /// Does what the words ask for, or nothing where that can't be done.
-fn run(rt: &HostRuntime, name: &str, steps: &str) -> Option<()> {
+fn run<R: Files + AllocGlobal + Print>(rt: &R, name: &str, steps: &str) -> Option<()> {
     let steps: u32 = steps.parse().ok()?;
     let program = program_in(rt, name)?;
     let node = NodeId(program.nodes().checked_sub(1)?);
@@ -92,26 +91,24 @@ fn share<R: Files + AllocGlobal + Print + Threads + Wait + Sync>(
     println!(rt; "{count}").ok()
 }
 
-fn main(rt: HostRuntime) -> ExitCode {
-    let Ok(arguments) = env::args(&rt) else {
-        return ExitCode::from(2);
-    };
-    let Ok(words): Result<Vec<String>, _> = arguments.skip(1).collect(rt.alloc()) else {
-        return ExitCode::from(2);
-    };
-    let done = match words.as_slice() {
-        [name, steps] => run(&rt, name.as_str(), steps.as_str()),
+/// Does what the words ask for, and gives the status of the process: 0 where it is done, 2 for words that ask for nothing, else 1.
+pub fn command<R: Files + AllocGlobal + Print + Threads + Wait + Sync>(
+    rt: &R,
+    words: &[String],
+) -> u8 {
+    let done = match words {
+        [name, steps] => run(rt, name.as_str(), steps.as_str()),
         [name, steps, callers, sharing] => share(
-            &rt,
+            rt,
             name.as_str(),
             steps.as_str(),
             callers.as_str(),
             sharing.as_str(),
         ),
-        _ => return ExitCode::from(2),
+        _ => return 2,
     };
     match done {
-        Some(()) => ExitCode::from(0),
-        None => ExitCode::from(1),
+        Some(()) => 0,
+        None => 1,
     }
 }
