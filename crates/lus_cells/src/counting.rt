@@ -4,7 +4,6 @@ ghost use Rattle.std.specs.Prelude.{◌≡◌, ◌≢◌, ◌<◌, ◌≤◌, If
 ghost use Rattle.lus_graph.specs.Ways.{IsOrder};
 ghost use Rattle.lus_syntax.specs.declared.refusal.RefusalNumber.TheVariants as numbers;
 ghost use Rattle.lus_syntax.specs.Limits.{most_cells};
-ghost use Rattle.lus_syntax.specs.Refusals.{HasShape};
 ghost use Rattle.lus_program.specs.View.{program_seen};
 ghost use Rattle.lus_typing.specs.Refusals.{RefusesFor};
 ghost use Rattle.lus_typing.specs.Resolved.{Resolved, program_uses};
@@ -24,7 +23,6 @@ pub fn cells_of_nodes(alloc: Global, typed: &Typed) -> Result<Vec<u32>, Refusal>
     ensures leaves { OnOk result (HaveLeaves (program_seen typed.now)) }
     ensures refused { IfErr result (RefusesFor numbers.Limit (FitsCells (program_seen typed.now))) }
     ensures placed { IfErr result (λ e. e.number ≢ numbers.Memory → NamesTooMany typed.now e.line e.column) }
-    ensures shaped { IfErr result HasShape }
 {
     cells_along(alloc, typed.program(), typed.leaves(), typed.nodes())
 }
@@ -42,7 +40,6 @@ fn cells_along(
     ensures ok { IfOk result (λ cells. AreStateCells (program_seen program.now) cells.items) }
     ensures refused { IfErr result (RefusesFor numbers.Limit (FitsCells (program_seen program.now))) }
     ensures placed { IfErr result (λ e. e.number ≢ numbers.Memory → NamesTooMany program.now e.line e.column) }
-    ensures shaped { IfErr result HasShape }
 {
     let mut cells = vec![in alloc; 0u32; program.nodes.len()]?;
     for place in order {
@@ -58,7 +55,6 @@ fn limited(node: &Node, count: u32) -> Result<u32, Refusal>
     ensures ok { IfOk result (λ n. (n ≡ count) × (n ≤ most_cells)) }
     ensures refused { IfErr result (λ e. (most_cells < count) × (e.number ≡ numbers.Limit)) }
     ensures placed { IfErr result (λ e. (e.line ≡ node.now.place.line) × (e.column ≡ node.now.place.column)) }
-    ensures shaped { IfErr result HasShape }
 {
     if count > MOST_CELLS {
         return Err(Refusal::new(RefusalNumber::Limit, node.place.line, node.place.column));

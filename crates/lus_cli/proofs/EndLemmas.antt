@@ -80,7 +80,7 @@ module _ (read_fails : Known → Type 0) (program scripts : Known) (text bytes :
       let same : output.new ≡ output.old = kept (λ same. cc) (λ same. cc) in
       let sound : IsSound output = sound (λ same. cc) in
       by_number (λ f. RunEnds read_fails program scripts (Err f) output) e e.number refl (inl same, sound)
-      (λ other. (cause.0, by_program (λ t. ProgramRefused t e) (cause.1 other), (same, sound)))
+      (λ other. (by_program (λ t. ProgramRefused t e) (cause other), (same, sound)))
   run_ended (Err (runs.Scripts e)) ok cause begins kept cut sound failed read =
       let same : output.new ≡ output.old = kept (λ same. cc) (λ same. cc) in
       let sound : IsSound output = sound (λ same. cc) in

@@ -1,6 +1,5 @@
 -- How a command ends: what became of what was asked for, what the output took of it, and what was told.
 use Rattle.std.specs.Prelude.{◌≡◌, ◌⊎◌, ℕ, true, false, Option, Some, None, Result, Ok, Err, ⊤}
-use Rattle.lus_syntax.specs.Refusals.{HasShape}
 use Rattle.lus_program.specs.Programs.{Program}
 use Rattle.lus_host.specs.MachineSpecs.Acceptance.{Accepted}
 use Rattle.lus_devices.specs.Devices.{Bytes, WritesBeginning, one_more, with_text}
@@ -24,11 +23,10 @@ ReadFails File left failures known =
 abbrev pub IsLost : (Known → Type 0) → Known → Type 0
 IsLost read_fails known = IsMissing known ⊎ read_fails known
 
--- how a check of a program ends, by what is known of its file; a refusal has the shape of one: variables in a cycle alone
+-- how a check of a program ends, by what is known of its file
 abbrev pub CheckEnds : (Known → Type 0) → Known → Outcome → Change → Type 0
 CheckEnds read_fails program (Ok done) output = WithFile program (λ text. WritesAccepted text output.old output.new) × IsSound output
-CheckEnds read_fails program (Err (faults.Program e)) output =
-    HasShape e × WithFile program (λ text. ProgramRefused text e) × IsUntouched output
+CheckEnds read_fails program (Err (faults.Program e)) output = WithFile program (λ text. ProgramRefused text e) × IsUntouched output
 CheckEnds read_fails program (Err faults.File) output = IsLost read_fails program × IsUntouched output
 CheckEnds read_fails program (Err faults.Output) output =
     WithFile program (λ text. BeginsAccepted text output.old output.new) × HasFailed output
@@ -52,7 +50,7 @@ abbrev pub RunEnds : (Known → Type 0) → Known → Known → Outcome → Chan
 RunEnds read_fails program scripts (Ok done) output =
     WithFiles program scripts (λ text bytes. WritesRun text bytes true output.old output.new) × IsSound output
 RunEnds read_fails program scripts (Err (faults.Program e)) output =
-    HasShape e × WithFiles program scripts (λ text bytes. ProgramRefused text e) × IsUntouched output
+    WithFiles program scripts (λ text bytes. ProgramRefused text e) × IsUntouched output
 RunEnds read_fails program scripts (Err (faults.Scripts e)) output = WithFiles program scripts (RefusesScripts e) × IsUntouched output
 RunEnds read_fails program scripts (Err faults.File) output = (IsLost read_fails program ⊎ IsLost read_fails scripts) × IsUntouched output
 RunEnds read_fails program scripts (Err faults.Output) output =

@@ -1,7 +1,6 @@
 //! Whether a program is on clocks.
 
 ghost use Rattle.std.specs.Prelude.{◌≡◌, ◌&&◌, OnOk, OnErr, IfErr, is_ok};
-ghost use Rattle.lus_syntax.specs.Refusals.{HasShape};
 ghost use Rattle.lus_program.specs.View.{program_seen};
 ghost use Rattle.lus_streams.specs.OnClock.{ProgramOnClocks};
 ghost use Rattle.lus_clocks.specs.Fitting.{all_declared, all_fit};
@@ -42,7 +41,6 @@ pub fn clocks_fit(program: &Program) -> Result<(), Refusal>
     ensures ok { OnOk result (ProgramOnClocks (program_seen program.now)) }
     ensures err { OnErr result (ProgramOnClocks (program_seen program.now) → ⊥) }
     ensures number { IfErr result (λ refusal. refusal.number ≡ RefusalNumber.Clock) }
-    ensures shaped { IfErr result HasShape }
 {
     match check_program(program) {
         Ok(()) => Ok(()),

@@ -1,7 +1,6 @@
 //! Whether nil stands in a program only where flags allow.
 
 ghost use Rattle.std.specs.Prelude.{◌≡◌, ◌≢◌, OnOk, IfErr};
-ghost use Rattle.lus_syntax.specs.Refusals.{HasShape};
 ghost use Rattle.lus_program.specs.Programs.{Program as PlainProgram};
 ghost use Rattle.lus_program.specs.View.{node_of, program_seen};
 ghost use Rattle.lus_streams.specs.Flags.{IsFlagged};
@@ -20,7 +19,6 @@ fn check_node(alloc: Global, node: &Node) -> Result<(), Refusal>
     ensures err { IfErr result (λ refusal. refusal.number ≢ RefusalNumber.Memory →
         (p : PlainProgram) → HasFlags p (node_of node.now) → ⊥) }
     ensures number { IfErr result (λ refusal. refusal.number ≢ RefusalNumber.Memory → refusal.number ≡ RefusalNumber.Nil) }
-    ensures shaped { IfErr result HasShape }
 {
     let flags = least_flags(alloc, node)?;
     let given = given_flags(alloc, &node.equations, &flags)?;
@@ -36,7 +34,6 @@ pub fn flags_fit(alloc: Global, program: &Program) -> Result<(), Refusal>
     ensures ok { OnOk result (IsFlagged (program_seen program.now)) }
     ensures err { IfErr result (λ refusal. refusal.number ≢ RefusalNumber.Memory → IsFlagged (program_seen program.now) → ⊥) }
     ensures number { IfErr result (λ refusal. refusal.number ≢ RefusalNumber.Memory → refusal.number ≡ RefusalNumber.Nil) }
-    ensures shaped { IfErr result HasShape }
 {
     for node in &program.nodes {
         check_node(alloc, node)?;

@@ -2,7 +2,6 @@
 
 ghost use Rattle.std.specs.Prelude.{◌≡◌, IfOk, IfErr, OnOk};
 ghost use Rattle.lus_syntax.specs.declared.refusal.RefusalNumber.TheVariants as numbers;
-ghost use Rattle.lus_syntax.specs.Refusals.{HasShape};
 ghost use Rattle.lus_program.specs.View.{program_seen};
 ghost use Rattle.lus_streams.specs.OnClock.{ProgramOnClocks};
 ghost use Rattle.lus_streams.specs.Flags.{IsFlagged};
@@ -66,7 +65,6 @@ pub fn check_clocks(typed: Typed) -> Result<Clocked, Refusal>
     ensures same { IfOk result (λ clocked. clocked ≡ typed) }
     ensures ok { OnOk result (ProgramOnClocks (program_seen typed)) }
     ensures refused { IfErr result (λ e. (ProgramOnClocks (program_seen typed) → ⊥) × (e.number ≡ numbers.Clock)) }
-    ensures shaped { IfErr result HasShape }
 {
     match clocks_fit(typed.program()) {
         Ok(()) => Ok(Clocked { typed }),
@@ -123,7 +121,6 @@ pub fn check_nil(alloc: Global, clocked: Clocked) -> Result<Initialised, Refusal
     ensures same { IfOk result (λ initialised. initialised ≡ clocked) }
     ensures ok { OnOk result (IsFlagged (program_seen clocked)) }
     ensures refused { IfErr result (RefusesFor numbers.Nil (IsFlagged (program_seen clocked))) }
-    ensures shaped { IfErr result HasShape }
 {
     match flags_fit(alloc, clocked.program()) {
         Ok(()) => Ok(Initialised { clocked }),

@@ -3,7 +3,6 @@
 ghost use Rattle.std.specs.Prelude.{◌≡◌, ◌≢◌, ◌<◌, length, IfOk, IfErr, OnOk};
 ghost use Rattle.lus_values.specs.Lists.{item};
 ghost use Rattle.lus_syntax.specs.declared.refusal.RefusalNumber.TheVariants as numbers;
-ghost use Rattle.lus_syntax.specs.Refusals.{HasShape};
 ghost use Rattle.lus_program.specs.View.{program_seen};
 ghost use Rattle.lus_typing.specs.Refusals.{RefusesFor};
 ghost use Rattle.lus_typing.specs.Sound.{IsLimited};
@@ -114,7 +113,6 @@ pub fn translate(alloc: Global, normal: Normal) -> Result<Code, Refusal>
     ensures ok { OnOk result (FitsCells (program_seen normal.source.program)) }
     ensures refused { IfErr result (RefusesFor numbers.Limit (FitsCells (program_seen normal.source.program))) }
     ensures placed { IfErr result (λ e. e.number ≢ numbers.Memory → NamesTooMany normal.source.program e.line e.column) }
-    ensures shaped { IfErr result HasShape }
 {
     let cells = cells_of_nodes(alloc, typed_of(&normal))?;
     let classes = classes_of_nodes(alloc, normal.program(), normal.orders())?;

@@ -4,7 +4,6 @@ ghost use Rattle.std.specs.Prelude.{◌≡◌, ◌≤◌, IfErr, IfOk, OnOk, OnE
 ghost use Rattle.std.specs.Bool.{Decides};
 ghost use Rattle.lus_syntax.specs.declared.refusal.RefusalNumber.TheVariants as numbers;
 ghost use Rattle.lus_syntax.specs.Limits.{most_variables};
-ghost use Rattle.lus_syntax.specs.Refusals.{HasShape};
 ghost use Rattle.lus_syntax.specs.View.{definition_seen, fields_seen, group_seen, node_seen, tree_seen};
 ghost use Rattle.lus_typing.specs.Refusals.{RefusesFor};
 ghost use Rattle.lus_source.specs.Sized.{Counted as IsCounted, DefinitionCounted, field_count, variable_count};
@@ -23,7 +22,6 @@ pub fn check_counts(tree: Tree) -> Result<Counted, Refusal>
     ensures same { IfOk result (λ counted. counted ≡ tree) }
     ensures ok { OnOk result (IsCounted (tree_seen tree)) }
     ensures refused { IfErr result (RefusesFor numbers.Limit (IsCounted (tree_seen tree))) }
-    ensures shaped { IfErr result HasShape }
 {
     match counts_fit(&tree) {
         Ok(()) => Ok(Counted::new(tree)),

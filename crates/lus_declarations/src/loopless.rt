@@ -3,7 +3,6 @@
 ghost use Rattle.std.specs.Prelude.{◌≡◌, IfErr, IfOk, OnOk};
 ghost use Rattle.lus_graph.specs.Ways.{IsOrder};
 ghost use Rattle.lus_syntax.specs.declared.refusal.RefusalNumber.TheVariants as numbers;
-ghost use Rattle.lus_syntax.specs.Refusals.{HasShape};
 ghost use Rattle.lus_syntax.specs.View.{tree_seen};
 ghost use Rattle.lus_typing.specs.Refusals.{RefusesFor};
 ghost use Rattle.lus_source.specs.Loopless.{Loopless as IsLoopless, node_uses as calls_of_nodes, type_names as names_of_types, type_uses as uses_of_types};
@@ -110,7 +109,6 @@ pub fn check_recursion(alloc: Global, named: Named) -> Result<Loopless, Refusal>
     ensures same { IfOk result (λ loopless. loopless ≡ named) }
     ensures ok { OnOk result (IsLoopless (tree_seen named)) }
     ensures refused { IfErr result (RefusesFor numbers.Recursion (IsLoopless (tree_seen named))) }
-    ensures shaped { IfErr result HasShape }
 {
     match ordered(alloc, named) {
         Ok(loopless) => Ok(loopless),

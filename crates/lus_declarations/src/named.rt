@@ -2,7 +2,6 @@
 
 ghost use Rattle.std.specs.Prelude.{◌≡◌, [], IfErr, IfOk, OnOk};
 ghost use Rattle.lus_syntax.specs.declared.refusal.RefusalNumber.TheVariants as numbers;
-ghost use Rattle.lus_syntax.specs.Refusals.{HasShape};
 ghost use Rattle.lus_syntax.specs.View.{tree_seen};
 ghost use Rattle.lus_typing.specs.Refusals.{RefusesFor};
 ghost use Rattle.lus_source.specs.Loopless.{node_names, type_names};
@@ -87,7 +86,6 @@ pub fn check_names(alloc: Global, counted: Counted) -> Result<Named, Refusal>
     ensures same { IfOk result (λ named. named ≡ counted) }
     ensures ok { OnOk result (IsNamed (tree_seen counted)) }
     ensures refused { IfErr result (RefusesFor numbers.Name (IsNamed (tree_seen counted))) }
-    ensures shaped { IfErr result HasShape }
 {
     let names = match names_of(alloc, counted.tree()) {
         Ok(names) => names,

@@ -4,7 +4,6 @@ ghost use Rattle.std.specs.Prelude.{◌≡◌, IfErr, IfOk, OnOk, length, map, s
 ghost use Rattle.lus_values.specs.Lists.{item};
 ghost use Rattle.lus_syntax.specs.declared.refusal.RefusalNumber.TheVariants as numbers;
 ghost use Rattle.lus_syntax.specs.Limits.{most_calls_deep, most_leaves, most_nesting};
-ghost use Rattle.lus_syntax.specs.Refusals.{HasShape};
 ghost use Rattle.lus_syntax.specs.View.{definition_seen, fields_seen, tree_seen, type_seen};
 ghost use Rattle.lus_typing.specs.Leaves.{AreTheLeaves};
 ghost use Rattle.lus_typing.specs.Refusals.{RefusesFor};
@@ -31,7 +30,6 @@ pub fn check_sizes(alloc: Global, loopless: &Loopless) -> Result<Vec<u32>, Refus
     ensures leaves { IfOk result (λ leaves. AreTheLeaves (program_of (tree_seen loopless.now)) leaves.items) }
     ensures ok { OnOk result (Bounded (tree_seen loopless.now)) }
     ensures refused { IfErr result (RefusesFor numbers.Limit (Bounded (tree_seen loopless.now))) }
-    ensures shaped { IfErr result HasShape }
 {
     match sizes(alloc, loopless) {
         Ok(leaves) => Ok(leaves),

@@ -1,8 +1,7 @@
 //! Whole sources.
 
-ghost use Rattle.std.specs.Prelude.{◌≡◌, ◌≤◌, [], IfOk, IfErr};
+ghost use Rattle.std.specs.Prelude.{◌≡◌, ◌≢◌, ◌≤◌, IfOk, IfErr};
 ghost use Rattle.lus_syntax.specs.Limits.{most_depth};
-ghost use Rattle.lus_syntax.specs.Refusals.{HasShape};
 ghost use Rattle.lus_syntax.specs.View.{tokens_seen, tree_seen};
 ghost use Rattle.lus_spelling.specs.Declarations.{SpellsProgram, tree_depth};
 ghost use Rattle.lus_grammar.specs.Answers.{Gives, read_as, Numbered, Answers, RefusedRightly, ReadsAll};
@@ -97,16 +96,15 @@ fn place(left: usize, tokens: &[Token]) -> Place {
 }
 
 fn refusal_at(number: RefusalNumber, left: usize, tokens: &[Token]) -> Refusal
-    ensures number { result.number ≡ number }
-    ensures cycle { result.cycle ≡ [] }
+    requires { number ≢ RefusalNumber.Memory }
+    ensures { result.number ≡ number }
 {
     let place = place(left, tokens);
     Refusal::new(number, place.line, place.column)
 }
 
 fn refusal(error: ParseError, tokens: &[Token]) -> Refusal
-    ensures numbered { Numbered error result.number }
-    ensures shaped { HasShape result }
+    ensures { Numbered error result.number }
 {
     match error {
         ParseError::Memory => Refusal::memory(),
@@ -125,7 +123,6 @@ pub fn parse(alloc: Global, tokens: &[Token]) -> Result<Tree, Refusal>
     ensures spelled { IfOk result (λ t. SpellsProgram (tree_seen t) (tokens_seen tokens.now)
         × (tree_depth (tree_seen t) ≤ most_depth)) }
     ensures refused { IfErr result (λ e. RefusedRightly most_depth (tokens_seen tokens.now) e.number) }
-    ensures shaped { IfErr result HasShape }
     ensures parsed { ReadsAll most_depth (tokens_seen tokens.now) result }
 {
     match program(alloc, tokens) {

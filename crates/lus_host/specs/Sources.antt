@@ -5,7 +5,6 @@ use Rattle.std.specs.Str.Lossy.{utf8_valid_len}
 use Rattle.lus_syntax.specs.declared.refusal.Refusal.{Refusal}
 use Rattle.lus_syntax.specs.declared.refusal.RefusalNumber.TheVariants as numbers
 use Rattle.lus_syntax.specs.Places.{start, place_behind}
-use Rattle.lus_syntax.specs.Refusals.{HasShape}
 use Rattle.lus_syntax.specs.Tokens.{IsAt}
 use Rattle.lus_syntax.specs.Limits.{most_bytes}
 use Rattle.lus_program.specs.Programs.{Program}
@@ -26,10 +25,9 @@ pub data ProgramRefused (bytes : Bytes) (e : Refusal) : Type 0 where
   is_no_text : IsNoText bytes e → ProgramRefused bytes e
   is_refused : length bytes ≤ most_bytes → RefusedWith bytes e → ProgramRefused bytes e
 
--- a program's refusal has the shape of one and, unless out of memory, is right for the bytes that a device had left, where they
--- are known
+-- a program's refusal is right for the bytes that a device had left, where they are known, unless out of memory
 abbrev pub IsRightRefusal : Option Bytes → Refusal → Type 0
-IsRightRefusal left e = HasShape e × (e.number ≢ numbers.Memory → IfSome left (λ bytes. ProgramRefused bytes e))
+IsRightRefusal left e = e.number ≢ numbers.Memory → IfSome left (λ bytes. ProgramRefused bytes e)
 
 -- what a check writes of a program with n nodes
 abbrev pub accepted_text : ℕ → Bytes

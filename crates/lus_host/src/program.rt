@@ -3,7 +3,6 @@
 ghost use Rattle.std.specs.Prelude.{◌≡◌, ◌≢◌, ◌+◌, ◌⊎◌, IfOk, IfErr, IfSome, Err, take};
 ghost use Rattle.lus_syntax.specs.declared.refusal.RefusalNumber.TheVariants as numbers;
 ghost use Rattle.lus_syntax.specs.Limits.{most_bytes};
-ghost use Rattle.lus_syntax.specs.Refusals.{HasShape};
 ghost use Rattle.lus_callers.specs.CodeSpecs.Codes.{program_of};
 ghost use Rattle.lus_devices.specs.Devices.{one_more};
 ghost use Rattle.lus_callers.specs.MachineSpecs.Acceptance.{Accepted, AcceptedWith, IsAccepted};
@@ -21,7 +20,6 @@ use std::alloc::Global;
 fn program_of(alloc: Global, bytes: &[u8]) -> Result<Program, Refusal>
     ensures ok { IfOk result (λ program. Accepted bytes.now (program_of program)) }
     ensures refused { IfErr result (λ e. e.number ≢ numbers.Memory → ProgramRefused bytes.now e) }
-    ensures shaped { IfErr result HasShape }
 {
     match text_of(bytes) {
         Ok(text) => compile(alloc, text),
@@ -33,7 +31,6 @@ fn program_of(alloc: Global, bytes: &[u8]) -> Result<Program, Refusal>
 fn count_of(alloc: Global, bytes: &[u8]) -> Result<usize, Refusal>
     ensures ok { IfOk result (AcceptedWith bytes.now) }
     ensures refused { IfErr result (λ e. e.number ≢ numbers.Memory → ProgramRefused bytes.now e) }
-    ensures shaped { IfErr result HasShape }
 {
     match text_of(bytes) {
         Ok(text) => check(alloc, text),

@@ -2,7 +2,6 @@
 
 ghost use Rattle.std.specs.Prelude.{◌≡◌, ◌≤◌, IfOk, IfErr, length};
 ghost use Rattle.lus_syntax.specs.Limits.{most_bytes};
-ghost use Rattle.lus_syntax.specs.Refusals.{HasShape};
 ghost use Rattle.lus_host.specs.Sources.{IsNoText};
 
 use lus_syntax::{MOST_BYTES, Refusal, RefusalNumber, place_behind};
@@ -14,7 +13,6 @@ pub fn text_of(bytes: &[u8]) -> Result<&str, Refusal>
     ensures same { IfOk result (λ text. text.now ≡ bytes.now) }
     ensures short { IfOk result (λ text. length bytes.now ≤ most_bytes) }
     ensures refused { IfErr result (λ e. IsNoText bytes.now e) }
-    ensures shaped { IfErr result HasShape }
 {
     if bytes.len() > MOST_BYTES {
         return Err(Refusal::new(RefusalNumber::Limit, 1, 1));

@@ -15,14 +15,12 @@ pub enum Fault {
 
 impl Fault {
     ghost use Rattle.std.specs.Prelude.{◌≡◌, ◌≢◌};
-    ghost use Rattle.lus_syntax.specs.declared.refusal.RefusalNumber.TheVariants as numbers;
-    ghost use Rattle.lus_syntax.specs.Refusals.{HasShape};
     ghost use Rattle.lus_source.specs.ScopeView.{number_of};
 
     /// The refusal of a pass that refuses by this number.
     pub fn refusal(self, number: RefusalNumber) -> Refusal
-        ensures number { result.number ≡ number_of number self }
-        ensures shaped { number ≢ numbers.Memory → HasShape result }
+        requires { number ≢ RefusalNumber.Memory }
+        ensures { result.number ≡ number_of number self }
     {
         match self {
             Fault::Memory => Refusal::memory(),

@@ -11,4 +11,3 @@ pub mod Spans
 pub mod Refused
 pub mod Characters
 mod Examples
-pub mod Shapes

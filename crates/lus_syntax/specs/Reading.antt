@@ -1,5 +1,5 @@
 -- What the lexer's own functions take and answer.
-use Rattle.std.specs.Prelude.{◌≡◌, ℕ, ◌+◌, ◌^◌, ◌<◌, ◌≤◌, Bool, ◌&&◌, ◌==◌, List, [], ◌∷◌, length}
+use Rattle.std.specs.Prelude.{◌≡◌, ◌≢◌, ℕ, ◌+◌, ◌^◌, ◌<◌, ◌≤◌, Bool, ◌&&◌, ◌==◌, List, [], ◌∷◌, length}
 use Rattle.std.specs.Prelude.{map, take, drop, Option, Some, None, option_map, Result, Ok, Err, if◌then◌else◌}
 use Rattle.std.specs.Borrow.{Bor}
 use Rattle.std.specs.Str.{bytes_eq}
@@ -16,7 +16,7 @@ use Rattle.lus_syntax.specs.declared.token.TokenKind.{TokenKind}
 use Rattle.lus_syntax.specs.Lexemes.{Kind}
 use Rattle.lus_syntax.specs.Texts.{symbols}
 use Rattle.lus_syntax.specs.Gaps.{Piece, Unclosed, IsPlain, IsGap}
-use Rattle.lus_syntax.specs.Tokens.{Reads, Ends, Breaks, Faulty}
+use Rattle.lus_syntax.specs.Tokens.{Reads, Ends, Breaks, Faulty, IsAt}
 use Rattle.lus_syntax.specs.View.{kind_seen, token_seen}
 
 -- ---- places
@@ -92,7 +92,12 @@ abbrev pub IsNext : Place → List ℕ → Option (Token × Bor (List ℕ)) → 
 IsNext at text None = Ends at text
 IsNext at text (Some x) = Reads at text (token_seen x.0) x.1.now
 
+-- out of memory is no fault of a text
+abbrev pub IsNumbered : LexError → Type 0
+IsNumbered errors.Memory = Unit {0}
+IsNumbered (errors.Fault number place) = number ≢ Memory
+
 -- the refusal that a caller gets
-abbrev pub refusal_of : LexError → Refusal
-refusal_of errors.Memory = record { number = Memory; line = 0; column = 0; cycle = [] }
-refusal_of (errors.Fault number place) = record { number = number; line = place.line; column = place.column; cycle = [] }
+abbrev pub RefusedAs : LexError → Refusal → Type 0
+RefusedAs errors.Memory r = r.number ≡ Memory
+RefusedAs (errors.Fault number place) r = IsAt r number place

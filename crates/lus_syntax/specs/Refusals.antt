@@ -1,19 +1,14 @@
--- The shape of a refusal, and its text.
-use Rattle.std.specs.Prelude.{◌≡◌, ◌≢◌, ℕ, List, [], ◌∷◌, ◌++◌, codes}
+-- Out of memory, and the text of a refusal.
+use Rattle.std.specs.Prelude.{ℕ, List, [], ◌∷◌, ◌++◌, codes, refl}
 use Rattle.std.specs.Fmt.{decimal}
 use Rattle.std.specs.List.{flat_map}
 use Rattle.lus_syntax.specs.declared.refusal.RefusalNumber.{RefusalNumber}
 use Rattle.lus_syntax.specs.declared.refusal.RefusalNumber.TheVariants as numbers
 use Rattle.lus_syntax.specs.declared.refusal.Refusal.{Refusal}
 
--- only a causal cycle names variables, and out of memory has no place
-pub record HasShape (r : Refusal) : Type 0 where
-  pub cycle : r.number ≢ numbers.Cycle → r.cycle ≡ []
-  pub memory : r.number ≡ numbers.Memory → (r.line ≡ 0) × (r.column ≡ 0)
-
 -- the refusal that says out of memory
 abbrev pub out_of_memory : Refusal
-out_of_memory = record { number = numbers.Memory; line = 0; column = 0; cycle = [] }
+out_of_memory = record { number = numbers.Memory; line = 0; column = 0; cycle = []; cycle_only = λ _. refl; memory_nowhere = λ _. (refl, refl) }
 
 abbrev pub number_text : RefusalNumber → List ℕ
 number_text numbers.Lexical = codes "E1"

@@ -1,8 +1,8 @@
 //! Why a text has no tokens.
 
-ghost use Rattle.std.specs.Prelude.{◌≡◌};
+ghost use Rattle.std.specs.Prelude.{◌≡◌, []};
 ghost use Rattle.lus_syntax.specs.declared.fault.LexError.TheVariants.{Memory as OutOfMemory};
-ghost use Rattle.lus_syntax.specs.Reading.{refusal_of};
+ghost use Rattle.lus_syntax.specs.Reading.{IsNumbered, RefusedAs};
 
 use crate::refusal::{Refusal, RefusalNumber};
 use crate::token::Place;
@@ -15,6 +15,20 @@ pub(crate) enum LexError {
     Memory,
     /// What is wrong, and where.
     Fault(RefusalNumber, Place),
+}
+
+impl LexError {
+    /// The refusal that a caller gets.
+    pub(crate) fn refusal(self) -> Refusal
+        requires { IsNumbered self }
+        ensures refused { RefusedAs self result }
+        ensures cycle { result.cycle ≡ [] }
+    {
+        match self {
+            LexError::Memory => Refusal::memory(),
+            LexError::Fault(number, place) => Refusal::new(number, place.line, place.column),
+        }
+    }
 }
 
 impl From<AllocError> for LexError {
@@ -30,16 +44,5 @@ impl<T: Drop> From<AllocFailed<T>> for LexError {
 
     fn from(_error: AllocFailed<T>) -> LexError {
         LexError::Memory
-    }
-}
-
-impl From<LexError> for Refusal {
-    ghost from_gives = { λ e r. r ≡ refusal_of e };
-
-    fn from(error: LexError) -> Refusal {
-        match error {
-            LexError::Memory => Refusal::memory(),
-            LexError::Fault(number, place) => Refusal::new(number, place.line, place.column),
-        }
     }
 }

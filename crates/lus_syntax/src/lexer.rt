@@ -7,7 +7,6 @@ ghost use Rattle.lus_syntax.specs.declared.token.Place.{Place};
 ghost use Rattle.lus_syntax.specs.Gaps.{IsPlain, IsGap};
 ghost use Rattle.lus_syntax.specs.Lexemes.{Lexeme};
 ghost use Rattle.lus_syntax.specs.Reading.{HasRoom, IsFault, IsBreak, IsOpen, IsNext};
-ghost use Rattle.lus_syntax.specs.Refusals.{HasShape};
 ghost use Rattle.lus_syntax.specs.Spans.{StandsIn, InOrder};
 ghost use Rattle.lus_syntax.specs.Tokens.{Tokens, Faulty, Here, Wrong, IsAt, TellsFault};
 ghost use Rattle.lus_syntax.specs.View.{token_seen, tokens_seen};
@@ -116,13 +115,14 @@ pub fn lex(alloc: Global, text: &str) -> Result<Vec<Token<'_>>, Refusal>
     // A text with a fault is refused with it, unless memory runs out.
     ensures refused { (number : RefusalNumber) (place : Place) → Faulty text.now number place
         → MatchResult result (λ _. ⊥) (λ e. e.number ≢ RefusalNumber.Memory → IsAt e number place) }
-    // Out of memory has no place, and no refusal has a cycle.
-    ensures shaped { IfErr result HasShape }
+    // No refusal has a cycle.
     ensures cycle { IfErr result (λ e. e.cycle ≡ []) }
 
     // Each token's text is the slice at its span, and spans are in order.
     ensures spans { IfOk result (λ v. AllByRecursion (StandsIn text.now) (tokens_seen v.items) × InOrder 0 (tokens_seen v.items)) }
 {
-    let tokens = tokens_of(alloc, text)?;
-    Ok(tokens)
+    match tokens_of(alloc, text) {
+        Ok(tokens) => Ok(tokens),
+        Err(error) => Err(error.refusal()),
+    }
 }

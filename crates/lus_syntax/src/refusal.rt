@@ -1,7 +1,7 @@
 //! Why a source is refused.
 
-ghost use Rattle.std.specs.Prelude.{◌≡◌, [], map, string_bytes, Some};
-ghost use Rattle.lus_syntax.specs.Refusals.{number_text, cycle_text, out_of_memory, refusal_text};
+ghost use Rattle.std.specs.Prelude.{◌≡◌, ◌≢◌, [], map, string_bytes, Some};
+ghost use Rattle.lus_syntax.specs.declared.refusal.RefusalNumber.TheVariants as numbers;
 
 use lus_values::Memory;
 use std::alloc::{AllocError, AllocFailed};
@@ -37,6 +37,8 @@ pub enum RefusalNumber {
 }
 
 impl RefusalNumber {
+    ghost use Rattle.lus_syntax.specs.Refusals.{number_text};
+
     /// The number as it is printed.
     pub fn as_str(self) -> &'static str
         ensures { result.now ≡ number_text self }
@@ -58,6 +60,8 @@ impl RefusalNumber {
 }
 
 impl fmt::Display for RefusalNumber {
+    ghost use Rattle.lus_syntax.specs.Refusals.{number_text};
+
     ghost output = { λ number. Some (number_text number) };
 
     fn fmt<W: fmt::Write>(&self, f: &mut fmt::Formatter<W>) -> fmt::Result {
@@ -109,6 +113,8 @@ impl Cycle {
 
 /// Writes `cycle a b`, and nothing where there is no cycle.
 impl fmt::Display for Cycle {
+    ghost use Rattle.lus_syntax.specs.Refusals.{cycle_text};
+
     ghost output = { λ cycle. Some (cycle_text cycle) };
 
     fn fmt<W: fmt::Write>(&self, f: &mut fmt::Formatter<W>) -> fmt::Result {
@@ -124,19 +130,22 @@ impl fmt::Display for Cycle {
     }
 }
 
-/// A refusal of a source. Lines and columns count from 1, columns in characters; out of memory has no position, and its
-/// line and column are 0.
+/// A refusal of a source. Lines and columns count from 1, columns in characters. Only a causal cycle names variables. Out
+/// of memory has no position: its line and column are 0.
 #[derive(Debug, Drop)]
 pub struct Refusal {
     pub number: RefusalNumber,
     pub line: u32,
     pub column: u32,
     pub cycle: Cycle,
+    pub ghost cycle_only: { number ≢ numbers.Cycle → cycle ≡ [] },
+    pub ghost memory_nowhere: { number ≡ numbers.Memory → (line ≡ 0) × (column ≡ 0) },
 }
 
 impl Refusal {
     /// A refusal at a place, with no cycle.
     pub fn new(number: RefusalNumber, line: u32, column: u32) -> Refusal
+        requires { number ≢ RefusalNumber.Memory }
         ensures number { result.number ≡ number }
         ensures line { result.line ≡ line }
         ensures column { result.column ≡ column }
@@ -172,12 +181,19 @@ impl Refusal {
         ensures column { result.column ≡ 0 }
         ensures cycle { result.cycle ≡ [] }
     {
-        Refusal::new(RefusalNumber::Memory, 0, 0)
+        Refusal {
+            number: RefusalNumber::Memory,
+            line: 0,
+            column: 0,
+            cycle: Cycle::none(),
+        }
     }
 }
 
 /// Writes `E2 line 2 column 12`, `E7 line 1 column 50 cycle a b`, and out of memory `E11` alone.
 impl fmt::Display for Refusal {
+    ghost use Rattle.lus_syntax.specs.Refusals.{refusal_text};
+
     ghost output = { λ refusal. Some (refusal_text refusal) };
 
     fn fmt<W: fmt::Write>(&self, f: &mut fmt::Formatter<W>) -> fmt::Result {
@@ -199,6 +215,8 @@ impl fmt::Display for Refusal {
 impl Error for Refusal {}
 
 impl From<Memory> for Refusal {
+    ghost use Rattle.lus_syntax.specs.Refusals.{out_of_memory};
+
     ghost from_gives = { λ _ r. r ≡ out_of_memory };
 
     fn from(_error: Memory) -> Refusal {
@@ -207,6 +225,8 @@ impl From<Memory> for Refusal {
 }
 
 impl From<AllocError> for Refusal {
+    ghost use Rattle.lus_syntax.specs.Refusals.{out_of_memory};
+
     ghost from_gives = { λ _ r. r ≡ out_of_memory };
 
     fn from(_error: AllocError) -> Refusal {
@@ -215,6 +235,8 @@ impl From<AllocError> for Refusal {
 }
 
 impl<T: Drop> From<AllocFailed<T>> for Refusal {
+    ghost use Rattle.lus_syntax.specs.Refusals.{out_of_memory};
+
     ghost from_gives = { λ _ r. r ≡ out_of_memory };
 
     fn from(_error: AllocFailed<T>) -> Refusal {

@@ -3,7 +3,6 @@
 ghost use Rattle.std.specs.Prelude.{◌≡◌, ◌≤◌, IfErr, IfOk, OnOk, map};
 ghost use Rattle.lus_syntax.specs.declared.refusal.RefusalNumber.TheVariants as numbers;
 ghost use Rattle.lus_syntax.specs.Limits.{most_parts};
-ghost use Rattle.lus_syntax.specs.Refusals.{HasShape};
 ghost use Rattle.lus_syntax.specs.View.{tree_seen};
 ghost use Rattle.lus_program.specs.Parts.{program_parts};
 ghost use Rattle.lus_program.specs.View.{node_of, program_seen};
@@ -28,7 +27,6 @@ pub fn types(alloc: Global, loopless: &Loopless) -> Result<Program, Refusal>
     ensures ok { OnOk result (IsTyped (tree_seen loopless.now)) }
     ensures means { IfOk result (λ q. program_seen q ≡ program_of (tree_seen loopless.now)) }
     ensures refused { IfErr result (RefusesFor numbers.Type (IsTyped (tree_seen loopless.now))) }
-    ensures shaped { IfErr result HasShape }
 {
     match program(alloc, loopless) {
         Ok(program) => Ok(program),
@@ -40,7 +38,6 @@ pub fn types(alloc: Global, loopless: &Loopless) -> Result<Program, Refusal>
 pub fn parts(program: &Program) -> Result<(), Refusal>
     ensures ok { OnOk result (program_parts (program_seen program.now) ≤ most_parts) }
     ensures refused { IfErr result (λ e. (program_parts (program_seen program.now) ≤ most_parts → ⊥) × (e.number ≡ numbers.Limit)) }
-    ensures shaped { IfErr result HasShape }
 {
     match check_parts(program) {
         Ok(_) => Ok(()),

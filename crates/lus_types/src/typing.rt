@@ -2,7 +2,6 @@
 
 ghost use Rattle.std.specs.Prelude.{◌≡◌, ◌≢◌, IfErr, IfOk, OnOk};
 ghost use Rattle.lus_syntax.specs.declared.refusal.RefusalNumber.TheVariants as numbers;
-ghost use Rattle.lus_syntax.specs.Refusals.{HasShape};
 ghost use Rattle.lus_syntax.specs.View.{tree_seen};
 ghost use Rattle.lus_program.specs.View.{program_seen};
 ghost use Rattle.lus_source.specs.Loopless.{Loopless as IsLoopless};
@@ -24,7 +23,6 @@ pub fn check_types(alloc: Global, tree: Tree) -> Result<Typed, Refusal>
     ensures ok { OnOk result (WellFormed (tree_seen tree)) }
     ensures means { IfOk result (λ typed. program_seen typed ≡ program_of (tree_seen tree)) }
     ensures refused { IfErr result (λ e. e.number ≢ numbers.Memory → FirstFails (tree_seen tree) e.number) }
-    ensures shaped { IfErr result HasShape }
 {
     let counted = check_counts(tree)?;
     let named = check_names(alloc, counted)?;
@@ -40,7 +38,6 @@ fn typed(alloc: Global, loopless: Loopless) -> Result<Typed, Refusal>
     ensures ok { OnOk result (WellFormed (tree_seen loopless)) }
     ensures means { IfOk result (λ typed. program_seen typed ≡ program_of (tree_seen loopless)) }
     ensures refused { IfErr result (λ e. e.number ≢ numbers.Memory → FirstFails (tree_seen loopless) e.number) }
-    ensures shaped { IfErr result HasShape }
 {
     let leaves = check_sizes(alloc, &loopless)?;
     let program = types(alloc, &loopless)?;

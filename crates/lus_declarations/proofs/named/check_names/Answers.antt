@@ -28,6 +28,3 @@ into_spaces-names-requires-clause-constructors c =
     let p = tree_seen c.tree.result.now in
     let count = few_constructors p.types c.tree.ensures.counted.definitions in
     few c.in-Ok.names.constructors.keys (all_constructor_names p.types) (ap (λ (k : Known). k.constructors) c.in-Ok.ensures.tables) (omega (arith, c.tree.ensures.counted.types, count))
-
-pub returns-in-Err-clause-shaped : goal.returns-in-Err-clause-shaped
-returns-in-Err-clause-shaped c = c.refusal.ensures.shaped (λ same. cc)

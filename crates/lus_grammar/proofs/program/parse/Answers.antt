@@ -12,10 +12,10 @@ pub returns-in-Ok-clause-parsed : goal.returns-in-Ok-clause-parsed
 returns-in-Ok-clause-parsed c = same_tree most_depth (tokens_seen c.args.tokens.now) _ c.in-Ok.ensures
 
 pub returns-in-Err-clause-exact : goal.returns-in-Err-clause-exact
-returns-in-Err-clause-exact c = refused_as _ _ _ c.refusal.ensures.numbered c.in-Err.ensures
+returns-in-Err-clause-exact c = refused_as _ _ _ c.refusal.ensures c.in-Err.ensures
 
 pub returns-in-Err-clause-refused : goal.returns-in-Err-clause-refused
-returns-in-Err-clause-refused c = refused_rightly most_depth (tokens_seen c.args.tokens.now) _ (refused_as _ _ _ c.refusal.ensures.numbered c.in-Err.ensures)
+returns-in-Err-clause-refused c = refused_rightly most_depth (tokens_seen c.args.tokens.now) _ (refused_as _ _ _ c.refusal.ensures c.in-Err.ensures)
 
 pub returns-in-Err-clause-parsed : goal.returns-in-Err-clause-parsed
-returns-in-Err-clause-parsed c = only_memory most_depth (tokens_seen c.args.tokens.now) _ (refused_as _ _ _ c.refusal.ensures.numbered c.in-Err.ensures)
+returns-in-Err-clause-parsed c = only_memory most_depth (tokens_seen c.args.tokens.now) _ (refused_as _ _ _ c.refusal.ensures c.in-Err.ensures)

@@ -1,8 +1,7 @@
 -- What holds of the bytes that were read holds of those that were left.
-use Rattle.std.proofs.Common.{◌≢◌, refl, subst, ◌+◌, IfSome}
+use Rattle.std.proofs.Common.{refl, subst, ◌+◌}
 use Rattle.std.proofs.lemmas.Option.{IfSome_then}
 use Rattle.lus_syntax.specs.Limits.{most_bytes}
-use Rattle.lus_syntax.specs.declared.refusal.RefusalNumber.TheVariants as numbers
 use Rattle.lus_host.specs.Sources.{ProgramRefused}
 use Rattle.lus_host.proofs.Sources.{refused_left, short_left}
 use Rattle.lus_callers.specs.MachineSpecs.Acceptance.{AcceptedWith}
@@ -16,10 +15,8 @@ returns-in-Ok-clause-ok g c =
     IfSome_then (g.P.Source.left c.args.source.now) c.in_ok-bytes.ensures.bytes (λ left e. short_left most_bytes (most_bytes + 1) refl bytes left e accepted.1.size (λ bs. AcceptedWith bs n) accepted)
 
 pub returns-clause-refused : goal.returns-clause-refused
-returns-clause-refused g c =
+returns-clause-refused g c = λ h.
     let e = c.in-Err.refusal in
     let bytes = c.in_ok-bytes.bytes.items in
-    let right : e.number ≢ numbers.Memory → IfSome (g.P.Source.left c.args.source.now) (λ left. ProgramRefused left e) = λ h.
     let refused : ProgramRefused bytes e = subst (λ bs. ProgramRefused bs e) c.deref.ensures.value (c.in-Err.ensures.refused h) in
-    IfSome_then (g.P.Source.left c.args.source.now) c.in_ok-bytes.ensures.bytes (λ left read. refused_left most_bytes (most_bytes + 1) refl refl bytes left e read refused) in
-    (c.in-Err.ensures.shaped, right)
+    IfSome_then (g.P.Source.left c.args.source.now) c.in_ok-bytes.ensures.bytes (λ left read. refused_left most_bytes (most_bytes + 1) refl refl bytes left e read refused)

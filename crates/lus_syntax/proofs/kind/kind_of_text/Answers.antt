@@ -1,4 +1,4 @@
-use Rattle.std.proofs.Common.{◌≡◌, Some, None, sym, ap, ◌∙◌, length, arith}
+use Rattle.std.proofs.Common.{◌≡◌, Some, sym, ap, ◌∙◌, length, arith}
 use Rattle.lus_syntax.specs.Texts.{symbols, look_up, of_symbol}
 use Rattle.lus_syntax.proofs.Meanings.{text_nonempty, number_first, symbol_meaning}
 use Rattle.lus_syntax.proofs.kind.kind_of_text.Goals as goal

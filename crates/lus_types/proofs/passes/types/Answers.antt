@@ -1,4 +1,0 @@
-use Rattle.lus_types.proofs.passes.types.Goals as goal
-
-pub returns-in-Err-clause-shaped : goal.returns-in-Err-clause-shaped
-returns-in-Err-clause-shaped c = c.refusal.ensures.shaped (λ same. cc)
