@@ -137,3 +137,8 @@ pub natural_none : (limit : ℕ) (text : Text) → begins_number text ≡ false 
 unfolding number_below
 natural_none limit [] begins = refl
 natural_none limit (b ∷ bs) begins = rw (or_parts (b == 45) (is_ascii_digit b) begins).1 refl
+
+pub integer_none : (text : Text) → begins_number text ≡ false → None ≡ integer text
+unfolding number_below
+integer_none [] begins = refl
+integer_none (b ∷ bs) begins = let no = or_parts (b == 45) (is_ascii_digit b) begins in rw (no.0, no.1) refl

@@ -2,9 +2,11 @@
 #![tactic(auto)]
 
 mod asked;
+mod number;
 mod piece;
 mod request;
 mod value;
 
 pub use asked::read_asked;
+pub use number::{integer, natural};
 pub use value::read_word;

@@ -1,10 +1,10 @@
-//! The pieces of a line: what stands behind a front, words, and numbers.
+//! The pieces of a line: what stands behind a front, and words.
 
-ghost use Rattle.std.specs.Prelude.{◌≡◌, ◌^◌, option_map, true};
+ghost use Rattle.std.specs.Prelude.{◌≡◌, option_map};
 ghost use Rattle.std.specs.List.{list_all, prefix_len};
 ghost use Rattle.std.specs.Char.{is_ascii};
 ghost use Rattle.lus_asked.specs.Separations.{IsSeparated};
-ghost use Rattle.lus_asked.specs.Reading.{after, ascii, begins_number, ends_word, integer, number_below, past_word, word_len, word_of};
+ghost use Rattle.lus_asked.specs.Reading.{after, ascii, ends_word, past_word, word_len, word_of};
 
 use std::str::from_utf8;
 
@@ -73,34 +73,6 @@ pub(crate) fn ascii(text: &[u8]) -> Option<&str>
 {
     if is_ascii(text) {
         from_utf8(text).ok()
-    } else {
-        None
-    }
-}
-
-/// Whether a number begins here: a digit, or a sign.
-pub(crate) fn begins_number(text: &[u8]) -> bool
-    ensures { result ≡ begins_number text.now }
-{
-    match text {
-        [first, ..] => *first == b'-' || first.is_ascii_digit(),
-        [] => false,
-    }
-}
-
-/// A number of 64 bits behind its sign.
-pub(crate) fn integer(text: &str) -> Option<i64>
-    ensures { begins_number text.now ≡ true → result ≡ integer text.now }
-{
-    text.parse::<i64>().ok()
-}
-
-/// A number of 64 bits without a sign.
-pub(crate) fn natural(text: &str) -> Option<u64>
-    ensures { result ≡ number_below (2 ^ 64) text.now }
-{
-    if begins_number(text.as_bytes()) {
-        text.parse::<u64>().ok()
     } else {
         None
     }

@@ -4,7 +4,8 @@ ghost use Rattle.std.specs.Prelude.{◌≡◌, IfOk, map, option_map};
 ghost use Rattle.lus_values.specs.View.{entry_of};
 ghost use Rattle.lus_asked.specs.Reading.{inner_row_at, item_at, other_at, request_at, row_at, rows_at, slot_at};
 
-use crate::piece::{Separation, after, ascii, natural, separate, split_word};
+use crate::number::natural;
+use crate::piece::{Separation, after, ascii, separate, split_word};
 use crate::value::take_value;
 use lus_requests::{Request, Rows};
 use lus_values::{Memory, Names, Row, Value};

@@ -5,7 +5,8 @@ ghost use Rattle.lus_values.specs.View.{value_of};
 ghost use Rattle.lus_asked.specs.Reading.{list_at, named, scalar, scalar_at, value_at, word_value};
 ghost use Rattle.lus_values.specs.Names.{numbers_of};
 
-use crate::piece::{Separation, after, ascii, begins_number, integer, separate, split_word};
+use crate::number::{begins_number, integer};
+use crate::piece::{Separation, after, ascii, separate, split_word};
 use lus_values::{Memory, Names, Value};
 use std::alloc::Global;
 

@@ -1,13 +1,12 @@
 //! The words of the command line.
 
 ghost use Rattle.std.specs.Prelude.{◌≡◌, IfOk, Some, None, Err, map, option_map, string_bytes};
-ghost use Rattle.clap.specs.Words.{app_of};
-ghost use Rattle.lus_cli.specs.CommandLine.{is_true};
+ghost use Rattle.clap.specs.Words.{app_of, found_of, rows_of};
 ghost use Rattle.lus_cli.specs.declared.words.WordsError.TheVariants.{Mistaken};
-ghost use Rattle.lus_audit.specs.CommandLine.{asked, bare, chosen, task_seen, the_command};
+ghost use Rattle.lus_audit.specs.CommandLine.{asked, said, task_seen, the_command};
 
-use clap::{Arg, ArgAction, Command};
-use lus_cli::{WordsError, matches};
+use clap::{ArgMatches, Command};
+use lus_cli::{WordsError, bare, is_set, matches, value_of, with_flag, with_required};
 use std::alloc::{AllocError, Global};
 
 /// What the words ask for: an audit of a file of journals, of nodes of a program, and perhaps why requests were refused.
@@ -18,35 +17,12 @@ pub struct Task<'a> {
     pub journal: &'a str,
 }
 
-/// The command before its arguments.
-fn bare<'a>(alloc: Global) -> Command<'a>
-    ensures { app_of result ≡ bare }
-{
-    Command::new(alloc, "lus_audit")
-        .no_binary_name(true)
-        .disable_help_flag(true)
-        .disable_version_flag(true)
-}
-
 fn command<'a>(alloc: Global) -> Result<Command<'a>, AllocError>
-    ensures shape { IfOk result (λ c. app_of c ≡ the_command) }
+    ensures { IfOk result (λ c. app_of c ≡ the_command) }
 {
-    let why = Arg::new(alloc, "why")
-        .long("why")
-        .action(ArgAction::SetTrue);
-    let program = Arg::new(alloc, "PROGRAM").required(true);
-    let journal = Arg::new(alloc, "JOURNAL").required(true);
-    bare(alloc).arg(why)?.arg(program)?.arg(journal)
-}
-
-/// A flag's value is the text `true` or `false`.
-fn is_set(flag: Option<&str>) -> bool
-    ensures { result ≡ is_true (option_map (λ t. t.now) flag.entry) }
-{
-    match flag {
-        Some(text) => text == "true",
-        None => false,
-    }
+    let why = with_flag(alloc, bare(alloc, "lus_audit"), "why")?;
+    let program = with_required(alloc, why, "PROGRAM")?;
+    with_required(alloc, program, "JOURNAL")
 }
 
 /// What the words after the program's own name ask for.
@@ -55,24 +31,17 @@ pub fn read_words<'a>(alloc: Global, words: &'a [String]) -> Result<Task<'a>, Wo
     ensures mistaken { result ≡ Err Mistaken → asked (map string_bytes words.now) ≡ None }
 {
     let matches = matches(command(alloc)?, words)?;
-    let is_why = is_set(matches.get_str("why"));
-    choose(
-        is_why,
-        matches.get_str("PROGRAM"),
-        matches.get_str("JOURNAL"),
-    )
-    .ok_or(WordsError::Mistaken)
+    choose(&matches).ok_or(WordsError::Mistaken)
 }
 
 /// Journals are audited with a program.
-fn choose<'a>(is_why: bool, program: Option<&'a str>, journal: Option<&'a str>) -> Option<Task<'a>>
-    ensures { option_map task_seen result
-        ≡ chosen is_why (option_map (λ t. t.now) program.entry) (option_map (λ t. t.now) journal.entry) }
+fn choose<'a>(matches: &ArgMatches<'a>) -> Option<Task<'a>>
+    ensures { option_map task_seen result ≡ said (rows_of (found_of matches.now)) }
 {
-    let program = program?;
-    let journal = journal?;
+    let program = value_of(matches, "PROGRAM")?;
+    let journal = value_of(matches, "JOURNAL")?;
     Some(Task {
-        is_why,
+        is_why: is_set(matches, "why"),
         program,
         journal,
     })

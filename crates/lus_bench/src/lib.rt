@@ -12,10 +12,10 @@ ghost use Rattle.lus_host.specs.CodeSpecs.Codes.{program_of};
 use callers::{Sharing, entries};
 use lus_host::{CallError, Machine, NodeId, Program, Reply, Request, Row, compile, print};
 use std::alloc::{AllocError, Global};
+use std::fs;
 use std::rt::Files;
 use std::sync::{Arc, Wait};
 use std::thread::Threads;
-use std::fs;
 
 /// The reply to the last of so many steps of an instance, none where there is no step.
 fn stepped(

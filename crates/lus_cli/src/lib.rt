@@ -6,6 +6,7 @@ mod files;
 mod line;
 mod program;
 mod shell;
+mod tool;
 mod words;
 
 pub use fault::{Fault, script_text};
@@ -13,4 +14,5 @@ pub use files::read_file;
 pub use lus_host;
 pub use program::read_program;
 pub use shell::{command, tell};
+pub use tool::{bare, is_set, value_of, with_flag, with_optional, with_required};
 pub use words::{Task, WordsError, matches, read_words};

@@ -2,11 +2,12 @@
 
 ghost use Rattle.std.specs.Prelude.{◌≡◌, ◌≢◌, IfOk, OnOk, Some, None, Err, [], map, option_map, string_bytes, true};
 ghost use Rattle.clap.specs.Words.{app_of, fault_of, found_of, is_simple, is_simple_and_free, matches_of, rows_of};
-ghost use Rattle.lus_cli.specs.CommandLine.{asked, chosen, is_true, lus, task_seen};
+ghost use Rattle.lus_cli.specs.CommandLine.{asked, lus, said, task_seen};
 ghost use Rattle.lus_cli.specs.declared.words.WordsError.TheVariants.{Memory};
 
+use crate::tool::{bare, is_set, value_of, with_flag, with_optional, with_required};
 use clap::error::ErrorKind;
-use clap::{Arg, ArgAction, ArgMatches, Command};
+use clap::{ArgMatches, Command};
 use std::alloc::{AllocError, Global};
 use thiserror::Error;
 
@@ -35,20 +36,11 @@ impl From<AllocError> for WordsError {
 }
 
 fn command<'a>(alloc: Global) -> Result<Command<'a>, AllocError>
-    ensures shape { IfOk result (λ c. app_of c ≡ lus) }
+    ensures { IfOk result (λ c. app_of c ≡ lus) }
 {
-    let check = Arg::new(alloc, "check")
-        .long("check")
-        .action(ArgAction::SetTrue);
-    let program = Arg::new(alloc, "PROGRAM").required(true);
-    let scripts = Arg::new(alloc, "SCRIPTS");
-    Command::new(alloc, "lus")
-        .no_binary_name(true)
-        .disable_help_flag(true)
-        .disable_version_flag(true)
-        .arg(check)?
-        .arg(program)?
-        .arg(scripts)
+    let check = with_flag(alloc, bare(alloc, "lus"), "check")?;
+    let program = with_required(alloc, check, "PROGRAM")?;
+    with_optional(alloc, program, "SCRIPTS")
 }
 
 /// What the words say to a command's arguments. Words that the command doesn't take are mistaken.
@@ -74,30 +66,17 @@ pub fn read_words<'a>(alloc: Global, words: &'a [String]) -> Result<Task<'a>, Wo
     ensures mistaken { result ≡ Err WordsError.Mistaken → asked (map string_bytes words.now) ≡ None }
 {
     let matches = matches(command(alloc)?, words)?;
-    choose(
-        matches.get_str("check"),
-        matches.get_str("PROGRAM"),
-        matches.get_str("SCRIPTS"),
-    )
-    .ok_or(WordsError::Mistaken)
+    choose(&matches).ok_or(WordsError::Mistaken)
 }
 
-/// SCRIPTS stands exactly where `--check` doesn't. A flag's value is the text `true` or `false`.
-fn choose<'a>(
-    check: Option<&'a str>,
-    program: Option<&'a str>,
-    scripts: Option<&'a str>,
-) -> Option<Task<'a>>
-    ensures { option_map task_seen result ≡ chosen (is_true (option_map (λ t. t.now) check.entry))
-        (option_map (λ t. t.now) program.entry) (option_map (λ t. t.now) scripts.entry) }
+/// SCRIPTS stands exactly where `--check` doesn't.
+fn choose<'a>(matches: &ArgMatches<'a>) -> Option<Task<'a>>
+    ensures { option_map task_seen result ≡ said (rows_of (found_of matches.now)) }
 {
-    let is_check = match check {
-        Some(text) => text == "true",
-        None => false,
-    };
-    match (is_check, program, scripts) {
-        (true, Some(program), None) => Some(Task::Check { program }),
-        (false, Some(program), Some(scripts)) => Some(Task::Run { program, scripts }),
+    let program = value_of(matches, "PROGRAM")?;
+    match (is_set(matches, "check"), value_of(matches, "SCRIPTS")) {
+        (true, None) => Some(Task::Check { program }),
+        (false, Some(scripts)) => Some(Task::Run { program, scripts }),
         _ => None,
     }
 }

@@ -1,37 +1,18 @@
 -- What the words of the command line ask for, by the meaning that clap's own specification gives to the command.
 use Rattle.std.specs.Prelude.{Bool, List, Option, Some, None, option_map, codes, true, false}
-use Rattle.clap.specs.Words.{App, Row, Rule, new_app, new_rule, with_rule, first_of}
-use Rattle.clap.specs.declared.builder.ArgAction.TheVariants.{SetTrue}
-use Rattle.lus_cli.specs.CommandLine.{Text, asked_of, is_true}
+use Rattle.clap.specs.Words.{App, Row, first_of}
+use Rattle.lus_cli.specs.CommandLine.{Text, asked_of, bare, is_set, with_flag, with_optional, with_required}
 use Rattle.lus_draw.specs.declared.words.Format.{Format}
 use Rattle.lus_draw.specs.declared.words.Format.TheVariants as formats
 use Rattle.lus_draw.specs.declared.words.Task.{Task}
 
--- the command before its arguments: no name of the program among the words, no help, no version
-abbrev pub bare : App
-bare = record (new_app (codes "lus_draw")) {
-  top = record ((new_app (codes "lus_draw")).top) {
-    no_binary_name = true;
-    disable_help_flag = true;
-    disable_version_flag = true;
-  };
-}
-
-abbrev pub flag_rule : Text → Rule
-flag_rule name = record (new_rule name) { long = Some name; action = Some SetTrue }
-
-abbrev pub journal_rule : Rule
-journal_rule = record (new_rule (codes "JOURNAL")) { required = true }
-
 -- the command with its flags, one for each format but text
 abbrev pub flagged : App
-flagged =
-    with_rule (with_rule (with_rule (with_rule bare (flag_rule (codes "svg"))) (flag_rule (codes "waves"))) (flag_rule (codes "csv")))
-    (flag_rule (codes "vcd"))
+flagged = with_flag (codes "vcd") (with_flag (codes "csv") (with_flag (codes "waves") (with_flag (codes "svg") (bare (codes "lus_draw")))))
 
 -- the flags, a required JOURNAL and an optional PROGRAM
 abbrev pub the_command : App
-the_command = with_rule (with_rule flagged journal_rule) (new_rule (codes "PROGRAM"))
+the_command = with_optional (codes "PROGRAM") (with_required (codes "JOURNAL") flagged)
 
 -- the format that the flags for a picture, waves, CSV and VCD ask for: of more than one there is none
 abbrev pub format_of : Bool → Bool → Bool → Bool → Option Format
@@ -53,14 +34,11 @@ chosen None journal program = None
 chosen (Some format) None program = None
 chosen (Some format) (Some journal) program = Some (record { format = format; journal = journal; program = program })
 
--- whether a flag is among the words
-abbrev pub is_set : Text → List Row → Bool
-is_set name m = is_true (first_of name m)
+abbrev pub format_in : List Row → Option Format
+format_in m = format_of (is_set (codes "svg") m) (is_set (codes "waves") m) (is_set (codes "csv") m) (is_set (codes "vcd") m)
 
 abbrev pub said : List Row → Option Asked
-said m =
-    chosen (format_of (is_set (codes "svg") m) (is_set (codes "waves") m) (is_set (codes "csv") m) (is_set (codes "vcd") m))
-    (first_of (codes "JOURNAL") m) (first_of (codes "PROGRAM") m)
+said m = chosen (format_in m) (first_of (codes "JOURNAL") m) (first_of (codes "PROGRAM") m)
 
 -- what the words after the program's own name ask for, where they are well formed
 unfoldable pub asked : List Text → Option Asked

@@ -1,31 +1,18 @@
 -- What the words of the command line ask for, by the meaning that clap's own specification gives to the command.
 use Rattle.std.specs.Prelude.{Bool, List, Option, Some, None, option_map, codes, true, false}
-use Rattle.clap.specs.Words.{App, Rule, new_app, new_rule, with_rule, first_of}
-use Rattle.clap.specs.declared.builder.ArgAction.TheVariants.{SetTrue}
+use Rattle.clap.specs.Words.{App, Row, new_rule, with_rule, first_of}
 use Rattle.lus_syntax.specs.Lexemes.{Text}
-use Rattle.lus_reports.specs.CliSpecs.CommandLine.{asked_of, is_true, program_rule}
+use Rattle.lus_reports.specs.CliSpecs.CommandLine.{asked_of, bare, is_set, with_flag, with_optional, with_required}
 use Rattle.lus_explain.specs.declared.words.Task.{Task}
 use Rattle.lus_explain.specs.declared.words.Task.TheVariants as tasks
 
--- the command before its arguments: no name of the program among the words, no help, no version
-abbrev pub bare : App
-bare = record (new_app (codes "lus_explain")) {
-  top = record ((new_app (codes "lus_explain")).top) {
-    no_binary_name = true;
-    disable_help_flag = true;
-    disable_version_flag = true;
-  };
-}
-
-abbrev pub json_rule : Rule
-json_rule = record (new_rule (codes "json")) { long = Some (codes "json"); action = Some SetTrue }
-
-abbrev pub script_rule : Rule
-script_rule = record (new_rule (codes "script")) { long = Some (codes "script") }
+-- a command with an option that has a value
+abbrev pub with_value : Text → App → App
+with_value name app = with_rule app (record (new_rule name) { long = Some name })
 
 -- a flag `--json`, an option `--script NODE`, a required PROGRAM and an optional SCRIPTS
 abbrev pub the_command : App
-the_command = with_rule (with_rule (with_rule (with_rule bare json_rule) script_rule) program_rule) (new_rule (codes "SCRIPTS"))
+the_command = with_optional (codes "SCRIPTS") (with_required (codes "PROGRAM") (with_value (codes "script") (with_flag (codes "json") (bare (codes "lus_explain")))))
 
 -- a well formed line asks what there is to say of a program, and perhaps of scripts for it, as JSON or not; or for scripts to begin
 -- from, for the node of this name of a program
@@ -42,10 +29,12 @@ chosen true (Some node) (Some program) scripts = None
 chosen is_json None None scripts = None
 chosen is_json (Some node) None scripts = None
 
+abbrev pub said : List Row → Option Asked
+said m = chosen (is_set (codes "json") m) (first_of (codes "script") m) (first_of (codes "PROGRAM") m) (first_of (codes "SCRIPTS") m)
+
 -- what the words after the program's own name ask for, where they are well formed
 unfoldable pub asked : List Text → Option Asked
-asked =
-    asked_of the_command (λ m. chosen (is_true (first_of (codes "json") m)) (first_of (codes "script") m) (first_of (codes "PROGRAM") m) (first_of (codes "SCRIPTS") m))
+asked = asked_of the_command said
 
 -- a task as plain data
 abbrev pub task_seen : Task → Asked

@@ -1,13 +1,14 @@
 //! The words of the command line.
 
 ghost use Rattle.std.specs.Prelude.{◌≡◌, IfOk, Some, None, Err, map, option_map, string_bytes};
-ghost use Rattle.clap.specs.Words.{app_of};
-ghost use Rattle.lus_reports.specs.CliSpecs.CommandLine.{is_true};
+ghost use Rattle.clap.specs.Words.{app_of, found_of, rows_of};
 ghost use Rattle.lus_reports.specs.CliSpecs.declared.words.WordsError.TheVariants.{Mistaken};
-ghost use Rattle.lus_explain.specs.CommandLine.{asked, chosen, task_seen, the_command};
+ghost use Rattle.lus_explain.specs.CommandLine.{asked, said, task_seen, the_command, with_value};
 
-use clap::{Arg, ArgAction, Command};
-use lus_reports::lus_cli::{WordsError, matches};
+use clap::{Arg, ArgMatches, Command};
+use lus_reports::lus_cli::{
+    WordsError, bare, is_set, matches, value_of, with_flag, with_optional, with_required,
+};
 use std::alloc::{AllocError, Global};
 
 /// What the words ask for, over files that are named.
@@ -26,23 +27,24 @@ pub enum Task<'a> {
     },
 }
 
-fn command<'a>(alloc: Global) -> Result<Command<'a>, AllocError>
-    ensures shape { IfOk result (λ c. app_of c ≡ the_command) }
+/// A command with one more option that has a value.
+fn with_value<'a>(
+    alloc: Global,
+    command: Command<'a>,
+    name: &'a str,
+) -> Result<Command<'a>, AllocError>
+    ensures { IfOk result (λ c. app_of c ≡ with_value name.entry.now (app_of command.entry)) }
 {
-    let json = Arg::new(alloc, "json")
-        .long("json")
-        .action(ArgAction::SetTrue);
-    let script = Arg::new(alloc, "script").long("script");
-    let program = Arg::new(alloc, "PROGRAM").required(true);
-    let scripts = Arg::new(alloc, "SCRIPTS");
-    Command::new(alloc, "lus_explain")
-        .no_binary_name(true)
-        .disable_help_flag(true)
-        .disable_version_flag(true)
-        .arg(json)?
-        .arg(script)?
-        .arg(program)?
-        .arg(scripts)
+    command.arg(Arg::new(alloc, name).long(name))
+}
+
+fn command<'a>(alloc: Global) -> Result<Command<'a>, AllocError>
+    ensures { IfOk result (λ c. app_of c ≡ the_command) }
+{
+    let json = with_flag(alloc, bare(alloc, "lus_explain"), "json")?;
+    let script = with_value(alloc, json, "script")?;
+    let program = with_required(alloc, script, "PROGRAM")?;
+    with_optional(alloc, program, "SCRIPTS")
 }
 
 /// What the words after the program's own name ask for.
@@ -51,31 +53,19 @@ pub fn read_words<'a>(alloc: Global, words: &'a [String]) -> Result<Task<'a>, Wo
     ensures mistaken { result ≡ Err Mistaken → asked (map string_bytes words.now) ≡ None }
 {
     let matches = matches(command(alloc)?, words)?;
-    choose(
-        matches.get_str("json"),
-        matches.get_str("script"),
-        matches.get_str("PROGRAM"),
-        matches.get_str("SCRIPTS"),
-    )
-    .ok_or(WordsError::Mistaken)
+    choose(&matches).ok_or(WordsError::Mistaken)
 }
 
-/// Where a script is asked for there are no scripts, and no JSON is asked for. A flag's value is the text `true` or `false`.
-fn choose<'a>(
-    json: Option<&'a str>,
-    node: Option<&'a str>,
-    program: Option<&'a str>,
-    scripts: Option<&'a str>,
-) -> Option<Task<'a>>
-    ensures { option_map task_seen result ≡ chosen (is_true (option_map (λ t. t.now) json.entry)) (option_map (λ t. t.now) node.entry)
-        (option_map (λ t. t.now) program.entry) (option_map (λ t. t.now) scripts.entry) }
+/// Where a script is asked for there are no scripts, and no JSON is asked for.
+fn choose<'a>(matches: &ArgMatches<'a>) -> Option<Task<'a>>
+    ensures { option_map task_seen result ≡ said (rows_of (found_of matches.now)) }
 {
-    let program = program?;
-    let is_json = match json {
-        Some(text) => text == "true",
-        None => false,
-    };
-    match (is_json, node, scripts) {
+    let program = value_of(matches, "PROGRAM")?;
+    match (
+        is_set(matches, "json"),
+        value_of(matches, "script"),
+        value_of(matches, "SCRIPTS"),
+    ) {
         (is_json, None, scripts) => Some(Task::Explain {
             is_json,
             program,

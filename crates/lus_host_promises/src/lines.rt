@@ -111,5 +111,7 @@ pub fn resume_journal<C: Calls, R: Reacts, S: Source, O: Sink, F: Sink>(
     ensures begun { OnErr result (HasResumedSome (C.reads calls.now) names.now name.now start (S.left input.old)
         (R.history reactor.old) (R.history reactor.new) (O.written output.old) (O.written output.new)) }
 {
-    resume(alloc, calls, names, name, start, reactor, input, output, faults)
+    resume(
+        alloc, calls, names, name, start, reactor, input, output, faults,
+    )
 }

@@ -1,35 +1,18 @@
 -- What the words of the command line ask for, by the meaning that clap's own specification gives to the command.
 use Rattle.std.specs.Prelude.{Bool, List, Option, Some, None, codes, true, false}
-use Rattle.clap.specs.Words.{App, Row, Rule, new_app, new_rule, with_rule, first_of}
-use Rattle.clap.specs.declared.builder.ArgAction.TheVariants.{SetTrue}
-use Rattle.lus_cli.specs.CommandLine.{Text, asked_of, is_true, program_rule}
+use Rattle.clap.specs.Words.{App, Row, first_of}
+use Rattle.lus_cli.specs.CommandLine.{Text, asked_of, bare, is_set, with_flag, with_optional, with_required}
 use Rattle.lus_live.specs.declared.words.Form.{Form as StoredForm}
 use Rattle.lus_live.specs.declared.words.Form.TheVariants as forms
 use Rattle.lus_live.specs.declared.words.Task.{Task}
 
--- the command before its arguments: no name of the program among the words, no help, no version
-abbrev pub bare : App
-bare = record (new_app (codes "lus_live")) {
-  top = record ((new_app (codes "lus_live")).top) {
-    no_binary_name = true;
-    disable_help_flag = true;
-    disable_version_flag = true;
-  };
-}
-
-abbrev pub flag_rule : Text → Rule
-flag_rule name = record (new_rule name) { long = Some name; action = Some SetTrue }
-
-abbrev pub node_rule : Rule
-node_rule = record (new_rule (codes "NODE")) { required = true }
-
 -- the flags `--json` and `--csv`
 abbrev pub flagged : App
-flagged = with_rule (with_rule bare (flag_rule (codes "json"))) (flag_rule (codes "csv"))
+flagged = with_flag (codes "csv") (with_flag (codes "json") (bare (codes "lus_live")))
 
 -- the flags, a required PROGRAM, a required NODE, and perhaps a JOURNAL
 abbrev pub the_command : App
-the_command = with_rule (with_rule (with_rule flagged program_rule) node_rule) (new_rule (codes "JOURNAL"))
+the_command = with_optional (codes "JOURNAL") (with_required (codes "NODE") (with_required (codes "PROGRAM") flagged))
 
 -- how it is written what becomes of calls: as a journal, as what comes behind a file's journal, as objects of JSON, or as records
 pub data Form : Type 0 where
@@ -58,14 +41,11 @@ chosen (Some form) None _ = None
 chosen (Some form) (Some program) None = None
 chosen (Some form) (Some program) (Some node) = Some (record { program = program; node = node; form = form })
 
--- whether a flag is among the words
-abbrev pub is_set : Text → List Row → Bool
-is_set name m = is_true (first_of name m)
+abbrev pub form_in : List Row → Option Form
+form_in m = form_of (is_set (codes "json") m) (is_set (codes "csv") m) (first_of (codes "JOURNAL") m)
 
 abbrev pub said : List Row → Option Asked
-said m =
-    chosen (form_of (is_set (codes "json") m) (is_set (codes "csv") m) (first_of (codes "JOURNAL") m)) (first_of (codes "PROGRAM") m)
-    (first_of (codes "NODE") m)
+said m = chosen (form_in m) (first_of (codes "PROGRAM") m) (first_of (codes "NODE") m)
 
 -- what the words after the program's own name ask for, where they are well formed
 unfoldable pub asked : List Text → Option Asked

@@ -7,7 +7,7 @@ use Rattle.lus_syntax.specs.declared.tree.NodeKind.TheVariants as node_kinds
 use Rattle.lus_program.specs.declared.types.Kind.TheVariants.{Int, Enum}
 use Rattle.lus_program.specs.Programs.{enumeration, Program}
 use Rattle.lus_requests.specs.declared.request.Request.TheVariants.{Step, Reset, Save, Restore}
-use Rattle.lus_scripts.specs.Documents.{number_below}
+use Rattle.lus_asked.specs.Reading.{number_below}
 use Rattle.lus_scripts.specs.Scripts.{scripts_of, instance_of, value_of_json}
 use Rattle.lus_scripts.specs.declared.refusal.ScriptRefusal.TheVariants.{Form, Unknown, Double}
 

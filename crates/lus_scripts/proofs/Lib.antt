@@ -1,5 +1,4 @@
 pub mod Lists
-pub mod Numbers
 pub mod ListItems
 pub mod Rows
 pub mod Spelled

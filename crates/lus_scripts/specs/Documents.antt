@@ -12,6 +12,7 @@ use Rattle.json.specs.Token.{Token}
 use Rattle.json.specs.Json.{Json, null, Items, no_items, item, Members, no_members, member, value, document}
 use Rattle.json.specs.Find.{as_array, as_number, as_object}
 use Rattle.lus_values.specs.Names.{Text}
+use Rattle.lus_asked.specs.Reading.{integer, number_below}
 
 abbrev pub value_or_null : Option (Json × List Token) → Json
 value_or_null None = null
@@ -61,22 +62,7 @@ has_only key others = has_keys (list_all (is_among key others))
 
 -- ---- numbers
 
--- the number that digits write, if it is below a limit
-unfoldable pub number_below : ℕ → Text → Option ℕ
-number_below limit ds =
-    if all_ascii_digits ds && (nat_lt 0 (length ds) && nat_lt (digits_value 10 ds) limit) then Some (digits_value 10 ds) else None
-
-abbrev pub begins_number : Text → Bool
-begins_number [] = false
-begins_number (b ∷ bs) = (b == 45) || is_ascii_digit b
-
--- a number of 64 bits behind its sign
-abbrev pub integer : Text → Option ℤ
-integer [] = None
-integer (b ∷ bs) =
-    if b == 45 then option_map (λ n. neg_ℤ (pos n)) (number_below (2 ^ 63 + 1) bs) else option_map pos (number_below (2 ^ 63) (b ∷ bs))
-
--- likewise, where `-0` is none
+-- a number of 64 bits behind its sign, where `-0` is none
 abbrev pub whole : Text → Option ℤ
 whole s = if bytes_eq s (codes "-0") then None else integer s
 

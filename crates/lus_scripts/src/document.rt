@@ -4,8 +4,9 @@ ghost use Rattle.std.specs.Prelude.{◌≡◌, ◌∷◌, ◌<◌, [], MatchOpti
 ghost use Rattle.json.specs.Find.{as_array, as_bool, as_object, as_str, get, is_null};
 ghost use Rattle.lus_scripts.specs.Documents.{int_of, json_at, keys_of, listed, slot_of};
 
-use crate::number::{natural, whole};
+use crate::number::whole;
 use json::{Element, Items as Places, Members, Tape};
+use lus_asked::natural;
 use std::marker::Model;
 
 /// A value of JSON, where it begins in a tape.

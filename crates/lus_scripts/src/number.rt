@@ -1,39 +1,9 @@
 //! Whole numbers of JSON, from their texts.
 
-ghost use Rattle.std.specs.Prelude.{◌≡◌, ◌^◌};
-ghost use Rattle.lus_scripts.specs.Documents.{begins_number, integer, is_finite, is_number, number_below, whole};
+ghost use Rattle.std.specs.Prelude.{◌≡◌};
+ghost use Rattle.lus_scripts.specs.Documents.{is_finite, is_number, whole};
 
-/// Whether a number begins here: a digit, or a sign.
-fn begins_number(text: &[u8]) -> bool
-    ensures { result ≡ begins_number text.now }
-{
-    match text {
-        [first, ..] => *first == b'-' || first.is_ascii_digit(),
-        [] => false,
-    }
-}
-
-/// A number of 64 bits without a sign.
-pub(crate) fn natural(text: &str) -> Option<u64>
-    ensures { result ≡ number_below (2 ^ 64) text.now }
-{
-    if begins_number(text.as_bytes()) {
-        text.parse::<u64>().ok()
-    } else {
-        None
-    }
-}
-
-/// A number of 64 bits behind its sign.
-fn integer(text: &str) -> Option<i64>
-    ensures { result ≡ integer text.now }
-{
-    if begins_number(text.as_bytes()) {
-        text.parse::<i64>().ok()
-    } else {
-        None
-    }
-}
+use lus_asked::integer;
 
 /// A number of 64 bits behind its sign, where `-0` is none.
 pub(crate) fn whole(text: &str) -> Option<i64>

@@ -1,38 +1,25 @@
-use Rattle.std.proofs.Common.{rules, ◌≡◌, ◌≢◌, ◌∙◌, ap, ap₂, sym, subst, Option, None, List, [], map, option_map, string_bytes, codes}
+-- By what clap says of the words.
+use Rattle.std.proofs.Common.{rules, ◌≡◌, ◌∙◌, sym, map, option_map, string_bytes}
 use Rattle.std.proofs.lemmas.Result.{err_from_is_err_and}
-use Rattle.clap.specs.Words.{App, Row, app_of, found_of, first_of, first_value, matches_of, fault_of, rows_of}
-use Rattle.clap.proofs.WalkLemmas.{first_value-rows}
-use Rattle.lus_cli.specs.CommandLine.{Asked, Text, asked, chosen, is_true, lus, task_seen}
+use Rattle.clap.specs.Words.{app_of, found_of, rows_of}
+use Rattle.lus_cli.specs.CommandLine.{asked, lus, said, task_seen}
 use Rattle.lus_cli.specs.declared.words.WordsError.TheVariants.{Mistaken}
 use Rattle.lus_cli.proofs.Lines.{err_part, faulty_asks, faultless_asks, ok_part}
 use Rattle.lus_cli.proofs.words.read_words.Goals as goal
 
-abbrev said : List Row → Option Asked
-said m = chosen (is_true (first_of (codes "check") m)) (first_of (codes "PROGRAM") m) (first_of (codes "SCRIPTS") m)
-
-faulty : (ws : List Text) (a : App) → a ≡ lus → fault_of a ws ≢ [] → asked ws ≡ None
-unfolding asked
-faulty ws a is some = faulty_asks lus said ws (subst (λ b. fault_of b ws ≢ []) is some)
-
-faultless : (ws : List Text) (a : App) (rows : List Row) → a ≡ lus → fault_of a ws ≡ [] → rows ≡ matches_of a ws → asked ws ≡ said rows
-unfolding asked
-faultless ws a rows is none same = faultless_asks lus said ws (subst (λ b. fault_of b ws ≡ []) is none) ∙ sym (ap said (same ∙ ap (λ b. matches_of b ws) is))
-
 pub returns-in_err-matches-clause-mistaken : goal.returns-in_err-matches-clause-mistaken
+unfolding asked
 returns-in_err-matches-clause-mistaken c same =
     let e = err_from_is_err_and c.from_residual-in_err-matches.result c.from_residual-in_err-matches.ensures.1 in
-    let command_is : app_of c.in_ok-command.field-0 ≡ lus = search rules in
-    faulty (map string_bytes c.args.words.now) (app_of c.in_ok-command.field-0) command_is (c.in_err-matches.ensures.mistaken (cc))
+    faulty_asks lus (app_of c.in_ok-command.field-0) said (map string_bytes c.args.words.now) (search rules) (c.in_err-matches.ensures.mistaken (cc))
 
--- what the three values that were read come to
+-- what the values that were read come to
 asked_is : (c : goal.Joined-matches) → asked (map string_bytes c.args.words.now) ≡ option_map task_seen c.choose.result
+unfolding asked
 asked_is c =
-    let found = found_of c.in_ok-matches.matches in
-    let command_is : app_of c.in_ok-command.field-0 ≡ lus = search rules in
-    let value : (id : Text) → first_value found id ≡ first_of id (rows_of found) = first_value-rows found in
-    faultless (map string_bytes c.args.words.now) (app_of c.in_ok-command.field-0) (rows_of found) command_is c.in_ok-matches.ensures.right c.in_ok-matches.ensures.rows
-    ∙ sym (c.choose.ensures
-    ∙ ap₂ (λ f p. f p) (ap₂ (λ k p. chosen (is_true k) p) (c.get_str.ensures ∙ value (codes "check")) (c.get_str-2.ensures ∙ value (codes "PROGRAM"))) (c.get_str-3.ensures ∙ value (codes "SCRIPTS")))
+    faultless_asks lus (app_of c.in_ok-command.field-0) said (map string_bytes c.args.words.now) (rows_of (found_of c.in_ok-matches.matches)) (search rules)
+    c.in_ok-matches.ensures.right c.in_ok-matches.ensures.rows
+    ∙ sym c.choose.ensures
 
 pub returns-clause-ok : goal.returns-clause-ok
 returns-clause-ok c = ok_part task_seen Mistaken c.choose.result c.ok_or.result (asked (map string_bytes c.args.words.now)) c.ok_or.ensures.value (asked_is c)

@@ -1,7 +1,7 @@
 -- By what the tape says of the value that begins here.
 use Rattle.std.proofs.Common.{◌∙◌, ◌^◌, ap}
 use Rattle.std.specs.Prelude.{option_and_then}
-use Rattle.lus_scripts.specs.Documents.{number_below}
+use Rattle.lus_asked.specs.Reading.{number_below}
 use Rattle.lus_scripts.proofs.Spelled.{begins}
 use Rattle.lus_scripts.proofs.document.Json.as_slot.Goals as goal
 

@@ -2,7 +2,7 @@
 use Rattle.std.proofs.Common.{◌∙◌, ◌^◌, ap, sym}
 use Rattle.lus_asked.specs.Reading.{begins_number}
 use Rattle.lus_asked.proofs.Numbers.{natural_none, natural_parsed}
-use Rattle.lus_asked.proofs.piece.natural.Goals as goal
+use Rattle.lus_asked.proofs.number.natural.Goals as goal
 
 pub returns-then-begins_number : goal.returns-then-begins_number
 returns-then-begins_number c =

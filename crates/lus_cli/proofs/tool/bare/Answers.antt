@@ -1,7 +1,8 @@
+-- By what clap says of the words.
 use Rattle.std.proofs.Common.{◌∙◌, ap, true}
 use Rattle.clap.specs.Words.{App}
 use Rattle.clap.specs.Simple.{app_of_fields, on_top}
-use Rattle.lus_audit.proofs.words.bare.Goals as goal
+use Rattle.lus_cli.proofs.tool.bare.Goals as goal
 
 abbrev unnamed : App → App
 unnamed = on_top (λ s. record s { no_binary_name = true })

@@ -1,8 +1,8 @@
 -- By what `parse` says.
 use Rattle.std.proofs.Common.{◌∙◌, ap, sym}
-use Rattle.lus_scripts.specs.Documents.{begins_number}
-use Rattle.lus_scripts.proofs.Numbers.{integer_parsed, integer_none}
-use Rattle.lus_scripts.proofs.number.integer.Goals as goal
+use Rattle.lus_asked.specs.Reading.{begins_number}
+use Rattle.lus_asked.proofs.Numbers.{integer_parsed, integer_none}
+use Rattle.lus_asked.proofs.number.integer.Goals as goal
 
 pub returns-then-begins_number : goal.returns-then-begins_number
 returns-then-begins_number c =
