@@ -3,7 +3,7 @@
 use lus_values::Memory;
 
 /// A growth was refused, or words met a structure.
-#[derive(Clone, Copy, PartialEq, Eq, Debug)]
+#[derive(Clone, Copy)]
 pub enum Stop {
     Memory,
     /// Only words stop so: entries can be structures.

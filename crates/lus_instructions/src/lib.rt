@@ -16,5 +16,5 @@ pub use layout::Layout;
 pub use located::Located;
 pub use locating::locate_all;
 pub use operation::{chosen, compute_two, decide, operate, project};
-pub use seen::{Seen, see, word_seen};
+pub use seen::{Seen, is_none, see, word_seen};
 pub use word::word_of;

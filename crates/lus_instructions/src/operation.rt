@@ -21,13 +21,8 @@ fn choose(alloc: Global, values: &[Value]) -> Result<Option<Value>, Memory>
     ensures { IfOk result (λ v. entry_of v ≡ choose (map value_of values.now)) }
 {
     match values {
-        [Value::Bool(condition), a, b] => {
-            if *condition {
-                copy_value(alloc, a)
-            } else {
-                copy_value(alloc, b)
-            }
-        }
+        [Value::Bool(true), a, _] => copy_value(alloc, a),
+        [Value::Bool(false), _, b] => copy_value(alloc, b),
         _ => Ok(None),
     }
 }
