@@ -8,8 +8,9 @@ ghost use Rattle.lus_running.specs.OnClocks.{PresentOnClock};
 ghost use Rattle.lus_running.specs.Rooms.{FitsRoom, IsAsLarge, IsNewRoom, IsRoomFor};
 ghost use Rattle.lus_running.specs.Settings.{CanRunOn};
 
-use crate::answering::answer;
+use crate::answering::{answer_by_parts, answer_in_row};
 use crate::error::Failure;
+use crate::following::grow;
 use crate::kept::Kept;
 use crate::resetting::filled;
 use crate::setting::Setting;
@@ -79,14 +80,28 @@ impl<T: Held> Room<T> {
         ensures answers { AnswersTo T.entry on.now (map entry_of inputs.now) outputs
             result (cells_of T.entry self.new.next) self.new.next.firsts.items }
     {
-        answer(
-            on,
-            inputs,
-            outputs,
-            &mut self.next.cells,
-            &mut self.next.firsts,
-            &mut self.variables,
-            &mut self.temporaries,
-        )
+        match &on.class.whole {
+            Some(whole) => {
+                grow(&mut self.temporaries, whole.top as usize)?;
+                answer_in_row(
+                    on,
+                    whole,
+                    inputs,
+                    outputs,
+                    &mut self.next.cells,
+                    &mut self.next.firsts,
+                    &mut self.temporaries,
+                )
+            }
+            None => answer_by_parts(
+                on,
+                inputs,
+                outputs,
+                &mut self.next.cells,
+                &mut self.next.firsts,
+                &mut self.variables,
+                &mut self.temporaries,
+            ),
+        }
     }
 }

@@ -1,11 +1,37 @@
-use Rattle.std.proofs.Common.{◌≡◌, ◌∙◌, sym, ap, length, map, take, drop, Some}
+use Rattle.std.proofs.Common.{◌≡◌, ◌∙◌, sym, ap, length, map, take, drop, refl, Some}
 use Rattle.lus_classes.specs.States.{state}
 use Rattle.lus_classes.specs.Steps.{cells_after, flags_after}
 use Rattle.lus_following.specs.Followed.{cell_of}
 use Rattle.lus_flat_classes.specs.Looks.{newest, short_memory}
 use Rattle.lus_running.specs.Instants.{calls_in}
 use Rattle.lus_running.proofs.Apart.{back_dropped, back_mapped, back_of, front_mapped, front_of, front_taken}
+use Rattle.lus_running.proofs.Within.{own_within}
 use Rattle.lus_running.proofs.own.keep_own.Goals as goal
+
+pub split_at-requires : goal.split_at-requires
+split_at-requires g c =
+    let k = c.args.on.now.class.now in
+    own_within _ _ _ _ (c.len.ensures ∙ k.cells.ok.0) c.requires.own.cells refl
+
+pub split_at-requires-2 : goal.split_at-requires-2
+split_at-requires-2 g c =
+    let k = c.args.on.now.class.now in
+    own_within _ _ _ _ (c.len-2.ensures ∙ k.firsts.ok.0) c.requires.own.firsts refl
+
+pub split_at-requires-3 : goal.split_at-requires-3
+split_at-requires-3 g c =
+    let k = c.args.on.now.class.now in
+    own_within _ _ _ _ (c.len-3.ensures ∙ k.tests.ok.0) c.requires.own.variables refl
+
+pub split_at_mut-own_cells-requires : goal.split_at_mut-own_cells-requires
+split_at_mut-own_cells-requires g c =
+    let k = c.args.on.now.class.now in
+    own_within _ _ _ _ (c.len-4.ensures ∙ k.cells.ok.0) c.requires.cells refl
+
+pub split_at_mut-own_firsts-requires : goal.split_at_mut-own_firsts-requires
+split_at_mut-own_firsts-requires g c =
+    let k = c.args.on.now.class.now in
+    own_within _ _ _ _ (c.len-5.ensures ∙ k.firsts.ok.0) c.requires.firsts refl
 
 pub returns : goal.returns
 returns g c =

@@ -1,44 +1,23 @@
-use Rattle.std.proofs.Common.{arith, ◌≡◌, ◌∙◌, Bool, List, sym, ap, subst, map, length}
+use Rattle.std.proofs.Common.{arith, ◌≡◌, Bool, ℕ, List, Option, Result, Vec, sym, subst, map, length}
 use Rattle.std.proofs.lemmas.List.{with_items_is}
+use Rattle.std.specs.Global.{Global}
 use Rattle.std.specs.Vec.{with_items}
 use Rattle.lus_following.specs.Followed.{cell_of}
-use Rattle.lus_values.specs.View.{entry_of}
+use Rattle.lus_values.specs.Values.{Value, Row}
+use Rattle.lus_values.specs.declared.value.Value.{Value as Held}
 use Rattle.lus_running.specs.Answering.{AnswersTo}
+use Rattle.lus_running.specs.declared.error.Failure.{Failure}
+use Rattle.lus_running.specs.declared.setting.Setting.{Setting}
 use Rattle.lus_running.proofs.room.Room.answer.Goals as goal
 
-pub answer-requires-clause-fits : goal.answer-requires-clause-fits
-answer-requires-clause-fits g c =
-    let fits = c.requires.fits in
-    record {
-      cells = fits.cells;
-      firsts = fits.firsts;
-      next_cells = ap length c.deref_mut.ensures.value ∙ fits.next_cells;
-      next_firsts = ap length c.deref_mut-2.ensures.value ∙ fits.next_firsts;
-      variables = ap length c.deref_mut-3.ensures.value ∙ fits.variables;
-    }
+-- the same where what is kept next is stored
+stored : {H : Type 0} (entry : H → Option Value) (s : Setting H) (i : Row) (count : ℕ) (u : Result (Vec (Option Held) Global) Failure) (v : Vec H Global) (w : Vec Bool Global) (us : List H) (cs : List Bool)
+    → length us ≡ v.len → length cs ≡ w.len → AnswersTo entry s i count u (map (cell_of entry) us) cs → AnswersTo entry s i count u (map (cell_of entry) (with_items v us).items) (with_items w cs).items
+stored {H} entry s i count u v w us cs cells firsts h =
+    subst (λ (l : List H). AnswersTo entry s i count u (map (cell_of entry) l) (with_items w cs).items) (sym (with_items_is v us cells))
+    (subst (λ (l : List Bool). AnswersTo entry s i count u (map (cell_of entry) us) l) (sym (with_items_is w cs firsts)) h)
 
-pub returns-clause-fits : goal.returns-clause-fits
-returns-clause-fits g c =
-    let r = c.args.self.now in
-    let fits = c.requires.fits in
-    let cells_long : length c.answer.new.next_cells ≡ r.next.cells.len = omega arith in
-    let firsts_long : length c.answer.new.next_firsts ≡ r.next.firsts.len = omega arith in
-    let variables_long : length c.answer.new.variables ≡ r.variables.len = omega arith in
-    record {
-      cells = fits.cells;
-      firsts = fits.firsts;
-      next_cells = ap length (with_items_is r.next.cells c.answer.new.next_cells cells_long) ∙ c.answer.auto.next_cells ∙ ap length c.deref_mut.ensures.value ∙ fits.next_cells;
-      next_firsts = ap length (with_items_is r.next.firsts c.answer.new.next_firsts firsts_long) ∙ c.answer.auto.next_firsts ∙ ap length c.deref_mut-2.ensures.value ∙ fits.next_firsts;
-      variables = ap length (with_items_is r.variables c.answer.new.variables variables_long) ∙ c.answer.auto.variables ∙ ap length c.deref_mut-3.ensures.value ∙ fits.variables;
-    }
-
-pub returns-clause-answers : goal.returns-clause-answers
-returns-clause-answers g c =
-    let entry = g.T.Held.entry in
-    let r = c.args.self.now in
-    let cells_long : length c.answer.new.next_cells ≡ r.next.cells.len = omega arith in
-    let firsts_long : length c.answer.new.next_firsts ≡ r.next.firsts.len = omega arith in
-    let cells = sym (with_items_is r.next.cells c.answer.new.next_cells cells_long) in
-    let firsts = sym (with_items_is r.next.firsts c.answer.new.next_firsts firsts_long) in
-    subst (λ (l : List g.row.T.Denot). AnswersTo entry c.args.on.now (map entry_of c.args.inputs.now) c.args.outputs c.answer.result (map (cell_of entry) l) (with_items r.next.firsts c.answer.new.next_firsts).items) cells
-    (subst (λ (l : List Bool). AnswersTo entry c.args.on.now (map entry_of c.args.inputs.now) c.args.outputs c.answer.result (map (cell_of entry) c.answer.new.next_cells) l) firsts c.answer.ensures)
+pub returns-in-None-clause-answers : goal.returns-in-None-clause-answers
+returns-in-None-clause-answers g c =
+    let next = c.args.self.now.next in
+    stored g.T.Held.entry c.args.on.now _ c.args.outputs c.answer_by_parts.result next.cells next.firsts c.answer_by_parts.new.next_cells c.answer_by_parts.new.next_firsts (omega arith) (omega arith) c.answer_by_parts.ensures

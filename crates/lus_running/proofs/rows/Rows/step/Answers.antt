@@ -1,16 +1,72 @@
-use Rattle.std.proofs.Common.{rules, ◌≡◌, suc, sym, ap, subst, map, length, Ok, Err}
+use Rattle.std.proofs.Common.{rules, ◌≡◌, ◌∙◌, suc, sym, ap, subst, map, length, Ok, Err}
+use Rattle.std.proofs.lemmas.List.{length-map}
 use Rattle.lus_classes.specs.Steps.{step}
 use Rattle.lus_flat_classes.specs.Places.{state_in}
 use Rattle.lus_flat_classes.specs.View.{classes_of}
 use Rattle.lus_following.specs.Followed.{cell_of}
 use Rattle.lus_values.specs.Values.{Row}
+use Rattle.lus_values.specs.View.{entry_of}
 use Rattle.lus_running.specs.Answering.{Tells}
 use Rattle.lus_running.specs.Instances.{Reaches}
 use Rattle.lus_running.specs.Instants.{Parts, instant_in}
 use Rattle.lus_running.specs.Keeping.{cells_of}
+use Rattle.lus_running.specs.OnClocks.{PresentOnClock}
 use Rattle.lus_running.proofs.InstanceSteps.{answers_ok, answers_err}
 use Rattle.lus_running.proofs.ShortSteps.{fits_on_clocks, step_same}
 use Rattle.lus_running.proofs.rows.Rows.step.Goals as goal
+
+pub answer-requires-clause-fits : goal.answer-requires-clause-fits
+answer-requires-clause-fits g c =
+    let o = c.args.self.now in
+    let held = cell_of g.T.Held.entry in
+    let long = c.requires.long in
+    record {
+      cells = ap length c.deref.ensures.value ∙ sym (length-map o.kept.cells.items held) ∙ long.cells;
+      firsts = ap length c.deref-2.ensures.value ∙ long.firsts;
+      next_cells = sym (length-map o.room.next.cells.items held) ∙ long.next_cells;
+      next_firsts = long.next_firsts;
+      variables = long.variables;
+    }
+
+pub answer-requires-clause-inputs : goal.answer-requires-clause-inputs
+answer-requires-clause-inputs g c =
+    sym (length-map c.items.result.now entry_of) ∙ ap length c.items.ensures ∙ c.requires.formals.0
+
+pub answer-requires-clause-present : goal.answer-requires-clause-present
+answer-requires-clause-present g c =
+    let k = c.args.class.now in
+    subst (PresentOnClock k.tests.items) (sym c.items.ensures) (fits_on_clocks k c.args.inputs.now c.requires.formals.0 c.requires.presence)
+
+pub returns-in_err-answer-clause-long : goal.returns-in_err-answer-clause-long
+returns-in_err-answer-clause-long g c =
+    let long = c.requires.long in
+    let fits = c.in_err-answer.ensures.fits in
+    record {
+      cells = long.cells;
+      firsts = long.firsts;
+      next_cells = length-map c.answer.new.self.next.cells.items (cell_of g.T.Held.entry) ∙ fits.next_cells;
+      next_firsts = fits.next_firsts;
+      variables = fits.variables;
+    }
+
+pub returns-clause-long : goal.returns-clause-long
+returns-clause-long g c =
+    let entry = g.T.Held.entry in
+    let long = c.requires.long in
+    let fits = c.in_ok-answer.ensures.fits in
+    record {
+      cells = ap (λ l. length (cells_of entry l)) c.swap.ensures.x_after ∙ length-map c.answer.new.self.next.cells.items (cell_of entry) ∙ fits.next_cells;
+      firsts = ap (λ l. length l.firsts.items) c.swap.ensures.x_after ∙ fits.next_firsts;
+      next_cells = ap (λ l. length (cells_of entry l)) c.swap.ensures.y_after ∙ long.cells;
+      next_firsts = ap (λ l. length l.firsts.items) c.swap.ensures.y_after ∙ long.firsts;
+      variables = fits.variables;
+    }
+
+pub returns-clause-behind : goal.returns-clause-behind
+returns-clause-behind g c = record {
+  cells = ap (cells_of g.T.Held.entry) c.swap.ensures.y_after;
+  firsts = ap (λ l. l.firsts.items) c.swap.ensures.y_after;
+}
 
 pub returns-in_err-answer-clause-step : goal.returns-in_err-answer-clause-step
 returns-in_err-answer-clause-step g c =
