@@ -1,4 +1,4 @@
-use Rattle.std.proofs.Common.{◌∙◌, [], List, sym, ap, length, map, take, Some, None}
+use Rattle.std.proofs.Common.{◌∙◌, [], sym, ap, length, map, take, Some, None}
 use Rattle.lus_values.specs.Lists.{item}
 use Rattle.lus_values.specs.Values.{Row}
 use Rattle.lus_flat_classes.specs.Places.{state_in}
