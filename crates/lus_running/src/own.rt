@@ -36,7 +36,8 @@ pub fn follow_own<T: Held>(
 ) -> Result<(), Failure>
     requires { HasOwn on.now variables.old }
     ensures { let c = on.now.class.now in
-        PlaysInto code.now top (take (length c.cells.items) (map (cell_of T.entry) on.now.cells.now)) (take (length c.firsts.items) on.now.firsts.now)
+        PlaysInto code.now top (take (length c.cells.items) (map (cell_of T.entry) on.now.cells.now))
+        (take (length c.firsts.items) on.now.firsts.now)
         (take (length c.tests.items) (map T.entry variables.old)) result (take (length c.tests.items) (map T.entry variables.new)) }
 {
     let (cells, _called_cells) = on.cells.split_at(on.class.cells.len());
@@ -56,7 +57,8 @@ pub fn keep_own<T: Held>(
     requires cells { length on.now.class.now.cells.items ≤ length next_cells.old }
     requires firsts { length on.now.class.now.firsts.items ≤ length next_firsts.old }
     ensures { KeepsOwn T.entry on.now (map T.entry variables.now) result
-        (behind_own on.now.class.now (map (cell_of T.entry) next_cells.old) next_firsts.old) (map (cell_of T.entry) next_cells.new) next_firsts.new }
+        (behind_own on.now.class.now (map (cell_of T.entry) next_cells.old) next_firsts.old)
+        (map (cell_of T.entry) next_cells.new) next_firsts.new }
 {
     let (cells, _called_cells) = on.cells.split_at(on.class.cells.len());
     let (firsts, _called_firsts) = on.firsts.split_at(on.class.firsts.len());
