@@ -8,7 +8,6 @@ ghost use Rattle.lus_running.specs.OnClocks.{PresentOnClock};
 ghost use Rattle.lus_running.specs.Settings.{CanRunOn, FitsClass, FitsWhole, IsWholeOn};
 
 use crate::error::Failure;
-use crate::following::grow;
 use crate::running::{part_of, place, run_parts};
 use crate::setting::Setting;
 use crate::wholes::run_in_row;
@@ -17,7 +16,7 @@ use lus_following::Held;
 use lus_values::Value;
 
 /// So many outputs, which stand behind the inputs, of one instant by the whole of a class, in a row that has room for all its places.
-fn answer_in_row<T: Held>(
+pub fn answer_in_row<T: Held>(
     on: &Setting<'_, T>,
     whole: &Whole,
     inputs: &[Option<Value>],
@@ -40,7 +39,7 @@ fn answer_in_row<T: Held>(
 }
 
 /// So many outputs, which stand behind the inputs, of one instant by the parts of a class.
-fn answer_by_parts<T: Held>(
+pub fn answer_by_parts<T: Held>(
     on: &Setting<'_, T>,
     inputs: &[Option<Value>],
     outputs: usize,
@@ -60,47 +59,4 @@ fn answer_by_parts<T: Held>(
     place(on.alloc, inputs, variables)?;
     run_parts(on, next_cells, next_firsts, variables, temporaries)?;
     Ok(part_of(on.alloc, variables, on.class.inputs as usize, outputs)?)
-}
-
-/// So many outputs, which stand behind the inputs, of one instant of a class.
-pub fn answer<T: Held>(
-    on: &Setting<'_, T>,
-    inputs: &[Option<Value>],
-    outputs: usize,
-    next_cells: &mut [T],
-    next_firsts: &mut [bool],
-    variables: &mut [T],
-    temporaries: &mut Vec<T>,
-) -> Result<Vec<Option<Value>>, Failure>
-    requires class { CanRunOn on.now }
-    requires fits { FitsClass on.now next_cells.old next_firsts.old variables.old }
-    requires inputs { length inputs.now ≡ on.now.class.now.inputs }
-    requires outputs { on.now.class.now.inputs + outputs ≤ length on.now.class.now.tests.items }
-    requires present { PresentOnClock on.now.class.now.tests.items (map entry_of inputs.now) }
-    ensures { AnswersTo T.entry on.now (map entry_of inputs.now) outputs
-        result (map (cell_of T.entry) next_cells.new) next_firsts.new }
-{
-    match &on.class.whole {
-        Some(whole) => {
-            grow(temporaries, whole.top as usize)?;
-            answer_in_row(
-                on,
-                whole,
-                inputs,
-                outputs,
-                next_cells,
-                next_firsts,
-                temporaries,
-            )
-        }
-        None => answer_by_parts(
-            on,
-            inputs,
-            outputs,
-            next_cells,
-            next_firsts,
-            variables,
-            temporaries,
-        ),
-    }
 }

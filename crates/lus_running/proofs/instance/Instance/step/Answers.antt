@@ -1,5 +1,5 @@
-use Rattle.std.proofs.Common.{rules, ◌≡◌, ◌∙◌, suc, sym, subst, refl, length, slice_get, Some, Ok, Err}
-use Rattle.std.proofs.lemmas.Option.{slice_get_read, slice_get_within, same_Some}
+use Rattle.std.proofs.Common.{rules, ◌≡◌, ◌∙◌, suc, sym, subst, Ok, Err}
+use Rattle.std.proofs.lemmas.Option.{same_Some}
 use Rattle.lus_classes.specs.Classes.{Class as PlainClass}
 use Rattle.lus_classes.specs.States.{WithinDepth}
 use Rattle.lus_classes.specs.Steps.{step}
@@ -9,17 +9,16 @@ use Rattle.lus_flat_classes.specs.View.{classes_of}
 use Rattle.lus_running.specs.Instances.{Answers, seen, seen_in, state_of}
 use Rattle.lus_running.proofs.Placed.{class_found}
 use Rattle.lus_running.specs.Stopped.{error_of}
-use Rattle.lus_running.proofs.Seeing.{long_of, told}
+use Rattle.lus_running.proofs.Seeing.{class_here, long_of, told}
 use Rattle.lus_running.proofs.instance.Instance.step.Goals as goal
 
 pub step-requires : goal.step-requires
 step-requires c =
-    let s = c.requires.shaped in
     let classes = c.args.classes.now in
     let o = c.args.self.now in
     let g = o.node in
     let k = c.index-classes-self.result in
-    let found : slice_get classes g ≡ Some k = slice_get_read classes (length classes) g k refl (slice_get_within classes g s.class s.found) c.index-classes-self.is in
+    let found = class_here classes (seen o) k c.requires.shaped c.index-classes-self.is in
     let within = subst (λ (j : PlainClass). Each (λ q. WithinDepth (classes_of classes) c.args.depth q.node) j.calls) (class_found classes g k found) c.requires.depth in
     record {
       class = record {
@@ -27,19 +26,18 @@ step-requires c =
         passes = record { all = c.requires.passing; own = c.requires.passing g k found };
       };
       found = found;
-      long = long_of classes (seen o) k found s;
+      long = long_of classes (seen o) k found c.requires.shaped;
       formals = c.requires.formals k found;
       presence = c.requires.presence k found;
     }
 
 pub returns-in_err-answer-clause-step : goal.returns-in_err-answer-clause-step
 returns-in_err-answer-clause-step c =
-    let s = c.requires.shaped in
     let classes = c.args.classes.now in
     let o = c.args.self.now in
     let g = o.node in
     let k = c.index-classes-self.result in
-    let found : slice_get classes g ≡ Some k = slice_get_read classes (length classes) g k refl (slice_get_within classes g s.class s.found) c.index-classes-self.is in
+    let found = class_here classes (seen o) k c.requires.shaped c.index-classes-self.is in
     let e = c.in_err-answer.field-0.0 in
     let same : c.from_residual.result ≡ Err (error_of e) = search rules in
     let before = state_of classes (suc c.args.depth) (seen o) in
@@ -49,32 +47,23 @@ returns-in_err-answer-clause-step c =
 
 pub returns-in_err-answer-clause-shaped : goal.returns-in_err-answer-clause-shaped
 returns-in_err-answer-clause-shaped c =
-    let s = c.requires.shaped in
-    let classes = c.args.classes.now in
-    let o = c.args.self.now in
-    let g = o.node in
     let k = c.index-classes-self.result in
-    let found : slice_get classes g ≡ Some k = slice_get_read classes (length classes) g k refl (slice_get_within classes g s.class s.found) c.index-classes-self.is in
+    let found = class_here c.args.classes.now (seen c.args.self.now) k c.requires.shaped c.index-classes-self.is in
     record { class = k; found = found; long = c.step.ensures.long }
 
 pub returns-clause-step : goal.returns-clause-step
 returns-clause-step c =
-    let s = c.requires.shaped in
     let classes = c.args.classes.now in
     let o = c.args.self.now in
     let g = o.node in
     let k = c.index-classes-self.result in
-    let found : slice_get classes g ≡ Some k = slice_get_read classes (length classes) g k refl (slice_get_within classes g s.class s.found) c.index-classes-self.is in
+    let found = class_here classes (seen o) k c.requires.shaped c.index-classes-self.is in
     let before = state_of classes (suc c.args.depth) (seen o) in
     let after = state_of classes (suc c.args.depth) (seen_in g c.step.new.self) in
     λ z fz. subst (λ (j : Class). Answers j c.args.outputs (Ok c.in_ok-answer.answer) (step (classes_of classes) before g c.args.inputs.now) after) (same_Some k z (sym found ∙ fz)) c.in_ok-answer.ensures.step
 
 pub returns-clause-shaped : goal.returns-clause-shaped
 returns-clause-shaped c =
-    let s = c.requires.shaped in
-    let classes = c.args.classes.now in
-    let o = c.args.self.now in
-    let g = o.node in
     let k = c.index-classes-self.result in
-    let found : slice_get classes g ≡ Some k = slice_get_read classes (length classes) g k refl (slice_get_within classes g s.class s.found) c.index-classes-self.is in
+    let found = class_here c.args.classes.now (seen c.args.self.now) k c.requires.shaped c.index-classes-self.is in
     record { class = k; found = found; long = c.step.ensures.long }

@@ -1,15 +1,16 @@
-use Rattle.std.proofs.Common.{None}
-use Rattle.lus_running.proofs.Cells.{filled_cells, filled_long}
+use Rattle.std.proofs.Common.{◌∙◌, ap}
+use Rattle.lus_running.specs.Keeping.{cells_of}
 use Rattle.lus_running.proofs.rows.Rows.fresh.Goals as goal
 
 pub returns : goal.returns
 returns g c =
-    let entry = g.T.Held.entry in
-    let e = c.args.extent in
+    let kept = c.in_ok-kept.ensures in
+    let next = c.in_ok-next.ensures in
+    let room = c.in_ok-room.ensures in
     λ n. record {
-      cells = filled_cells entry c.in_ok-cells.cells.items e.cells c.in_ok-cells.ensures;
-      firsts = c.in_ok-firsts.ensures;
-      next_cells = filled_cells entry c.in_ok-next_cells.next_cells.items e.cells c.in_ok-next_cells.ensures;
-      next_firsts = c.in_ok-next_firsts.ensures;
-      variables = filled_long entry c.in_ok-variables.variables.items e.variables None c.in_ok-variables.ensures;
+      cells = kept.cells;
+      firsts = kept.firsts;
+      next_cells = ap (cells_of g.T.Held.entry) room.next ∙ next.cells;
+      next_firsts = ap (λ k. k.firsts.items) room.next ∙ next.firsts;
+      variables = room.variables;
     }

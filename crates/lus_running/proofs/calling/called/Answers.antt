@@ -1,0 +1,25 @@
+use Rattle.std.proofs.Common.{◌≡◌, ◌∙◌, ◌+◌, Some, sym, ap, subst, slice_get, refl, length}
+use Rattle.std.proofs.lemmas.Option.{same_Some, slice_get_read, slice_get_within}
+use Rattle.lus_flat_classes.specs.Places.{part}
+use Rattle.lus_flat_classes.specs.declared.class.Class.{Class}
+use Rattle.lus_running.specs.Calls.{IsCalled}
+use Rattle.lus_running.proofs.calling.called.Goals as goal
+
+pub returns : goal.returns
+returns g c =
+    let s = c.args.on.now in
+    let k = s.class.now in
+    let q = c.args.call.now in
+    let p = c.requires.call.part in
+    let classes = s.classes.now in
+    let called = c.index-on-call.result in
+    let found : slice_get classes q.node ≡ Some called = slice_get_read classes (length classes) q.node called refl (slice_get_within classes q.node p.called p.found) c.index-on-call.is in
+    let same : p.called ≡ called = same_Some p.called called (sym p.found ∙ found) in
+    let n : c.len.result ≡ length k.cells.items = c.len.ensures ∙ k.cells.ok.0 in
+    let m : c.len-2.result ≡ length k.firsts.items = c.len-2.ensures ∙ k.firsts.ok.0 in
+    subst (λ (j : Class). IsCalled s q j c.part.result.now c.part-2.result.now) c.index-on-call.is (record {
+      found = found;
+      extent = p.extent ∙ ap (λ (j : Class). j.extent) same;
+      cells = c.part.ensures ∙ ap (λ j. part (j + q.offset.cells) q.extent.cells s.cells.now) n;
+      firsts = c.part-2.ensures ∙ ap (λ j. part (j + q.offset.firsts) q.extent.firsts s.firsts.now) m;
+    })
