@@ -1,4 +1,0 @@
-mod Alike
-mod Copying
-mod Places
-pub mod Mapped
