@@ -55,7 +55,7 @@ fn program(alloc: Global, loopless: &Loopless) -> Result<Program, Fault>
     check_constants(&scope, &loopless.tree().constants)?;
     let nodes = nodes(alloc, &mut scope, loopless)?;
     Ok(Program {
-        types: scope.declared,
+        types: scope.into_declared(),
         nodes,
     })
 }
