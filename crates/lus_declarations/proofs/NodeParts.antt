@@ -65,6 +65,9 @@ node_named k f distinct known lefts =
       rights = and_right (list_all (group_known k) (groups f)) _ known;
     }
 
+pub lefts_named : {k : Known} {f : Node} → NodeNamed k f → LeftsNamed f
+lefts_named named = record { distinct = named.left_distinct; defined = named.left_defined; whole = named.left_whole; some = named.left_some }
+
 pub unknown_part : (k : Known) (f : Node) → node_known k f ≡ false → NodeNamed k f → ⊥
 unknown_part k f unknown named =
     let types : list_all (λ g. type_known k.types g.type_name) (groups f) ≡ true = named.types in

@@ -1,9 +1,9 @@
 //! The names of a source.
 
-ghost use Rattle.std.specs.Prelude.{◌≡◌, [], OnOk, IfOk, IfErr};
+ghost use Rattle.std.specs.Prelude.{◌≡◌, [], OnOk, IfOk};
 ghost use Rattle.lus_syntax.specs.View.{tree_seen};
 ghost use Rattle.lus_source.specs.Named.{Named as IsNamed, known};
-ghost use Rattle.lus_source.specs.ScopeView.{Faulty};
+ghost use Rattle.lus_source.specs.ScopeView.{Judged};
 ghost use Rattle.lus_declarations.specs.NameView.{known_seen};
 ghost use Rattle.lus_declarations.specs.Parts.{UsesKnown, outside};
 
@@ -19,9 +19,8 @@ use std::alloc::Global;
 
 /// The names of a source's declarations, where its names are right.
 pub fn names_of(alloc: Global, tree: &Tree) -> Result<Names, Fault>
-    ensures named { OnOk result (IsNamed (tree_seen tree.now)) }
+    ensures named { Judged result (IsNamed (tree_seen tree.now)) }
     ensures tables { IfOk result (λ names. outside (known_seen names) ≡ known (tree_seen tree.now) []) }
-    ensures refused { IfErr result (Faulty (IsNamed (tree_seen tree.now) → ⊥)) }
 {
     let mut names = declared(alloc, tree)?;
     check_uses(alloc, &mut names, tree)?;
@@ -30,9 +29,8 @@ pub fn names_of(alloc: Global, tree: &Tree) -> Result<Names, Fault>
 
 /// Checks that what the declarations of a source use is among these names.
 fn check_uses(alloc: Global, names: &mut Names, tree: &Tree) -> Result<(), Fault>
-    ensures known { OnOk result (UsesKnown (known_seen names.old) (tree_seen tree.now)) }
+    ensures known { Judged result (UsesKnown (known_seen names.old) (tree_seen tree.now)) }
     ensures kept { OnOk result (outside (known_seen names.new) ≡ outside (known_seen names.old)) }
-    ensures refused { IfErr result (Faulty (UsesKnown (known_seen names.old) (tree_seen tree.now) → ⊥)) }
 {
     check_definitions(alloc, names, &tree.types)?;
     refuse(first_unknown(names, &tree.constants))?;

@@ -1,11 +1,11 @@
 //! What a source declares: the tables of its types, values and nodes.
 
-ghost use Rattle.std.specs.Prelude.{◌≡◌, ◌++◌, [], map, not, is_none, IfOk, OnOk, IfErr, true, false};
+ghost use Rattle.std.specs.Prelude.{◌≡◌, ◌++◌, [], map, not, is_none, IfOk, OnOk};
 ghost use Rattle.std.specs.List.{list_all};
 ghost use Rattle.lus_syntax.specs.View.{definition_seen, names_seen, tree_seen, type_seen};
 ghost use Rattle.lus_source.specs.Tables.{text_of};
 ghost use Rattle.lus_source.specs.Named.{all_constructor_names, all_new, constructor_names, is_in, known};
-ghost use Rattle.lus_source.specs.ScopeView.{Faulty};
+ghost use Rattle.lus_source.specs.ScopeView.{Judged, Tested};
 ghost use Rattle.lus_declarations.specs.NameView.{known_seen, texts};
 ghost use Rattle.lus_declarations.specs.Parts.{AreDistinct};
 
@@ -21,8 +21,7 @@ use std::alloc::Global;
 /// are one space.
 pub fn declared(alloc: Global, tree: &Tree) -> Result<Names, Fault>
     ensures tables { IfOk result (λ names. known_seen names ≡ known (tree_seen tree.now) []) }
-    ensures distinct { OnOk result (AreDistinct (tree_seen tree.now)) }
-    ensures doubled { IfErr result (Faulty (AreDistinct (tree_seen tree.now) → ⊥)) }
+    ensures distinct { Judged result (AreDistinct (tree_seen tree.now)) }
 {
     let mut names = Names::new(alloc);
     declare_all(&mut names.types, &tree.types)?;
@@ -38,8 +37,7 @@ fn declare_constructors(
     types: &[TypeDeclaration],
 ) -> Result<(), Fault>
     ensures kept { OnOk result (texts table.new.keys ≡ texts table.old.keys ++ all_constructor_names (map type_seen types.now)) }
-    ensures new { OnOk result (all_new (texts table.old.keys) (all_constructor_names (map type_seen types.now)) ≡ true) }
-    ensures doubled { IfErr result (Faulty (all_new (texts table.old.keys) (all_constructor_names (map type_seen types.now)) ≡ false)) }
+    ensures new { Tested result (all_new (texts table.old.keys) (all_constructor_names (map type_seen types.now))) }
 {
     for declaration in types {
         declare(table, constructors_of(&declaration.definition))?;

@@ -1,10 +1,10 @@
 //! The names in the declarations of types.
 
-ghost use Rattle.std.specs.Prelude.{map, OnOk, IfErr};
+ghost use Rattle.std.specs.Prelude.{map};
 ghost use Rattle.lus_values.specs.Lists.{Each};
 ghost use Rattle.lus_syntax.specs.View.{definition_seen, type_seen};
 ghost use Rattle.lus_source.specs.Named.{DefinitionNamed};
-ghost use Rattle.lus_source.specs.ScopeView.{Faulty};
+ghost use Rattle.lus_source.specs.ScopeView.{Judged};
 ghost use Rattle.lus_declarations.specs.NameView.{known_seen};
 
 use crate::names::Names;
@@ -22,9 +22,7 @@ pub fn check_definitions(
     names: &Names,
     declarations: &[TypeDeclaration],
 ) -> Result<(), Fault>
-    ensures named { OnOk result (Each (λ d. DefinitionNamed (known_seen names.now).types d.definition) (map type_seen declarations.now)) }
-    ensures refused { let all = Each (λ d. DefinitionNamed (known_seen names.now).types d.definition) (map type_seen declarations.now) in
-        IfErr result (Faulty (all → ⊥)) }
+    ensures { Judged result (Each (λ d. DefinitionNamed (known_seen names.now).types d.definition) (map type_seen declarations.now)) }
 {
     for declaration in declarations {
         check_definition(alloc, names, &declaration.definition)?;
@@ -33,8 +31,7 @@ pub fn check_definitions(
 }
 
 fn check_definition(alloc: Global, names: &Names, definition: &Definition) -> Result<(), Fault>
-    ensures named { OnOk result (DefinitionNamed (known_seen names.now).types (definition_seen definition.now)) }
-    ensures refused { IfErr result (Faulty (DefinitionNamed (known_seen names.now).types (definition_seen definition.now) → ⊥)) }
+    ensures { Judged result (DefinitionNamed (known_seen names.now).types (definition_seen definition.now)) }
 {
     match definition {
         Definition::Alias(name) => refuse(unknown_type(&names.types, name)),

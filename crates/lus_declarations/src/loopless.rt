@@ -7,7 +7,7 @@ ghost use Rattle.lus_syntax.specs.View.{tree_seen};
 ghost use Rattle.lus_typing.specs.Refusals.{RefusesFor};
 ghost use Rattle.lus_source.specs.Loopless.{Loopless as IsLoopless, node_uses as calls_of_nodes, type_names as names_of_types, type_uses as uses_of_types};
 ghost use Rattle.lus_source.specs.Named.{Named as IsNamed};
-ghost use Rattle.lus_source.specs.ScopeView.{Faulty};
+ghost use Rattle.lus_source.specs.ScopeView.{Judged};
 ghost use Rattle.lus_source.specs.Sized.{Counted as IsCounted};
 
 use crate::named::Named;
@@ -119,8 +119,7 @@ pub fn check_recursion(alloc: Global, named: Named) -> Result<Loopless, Refusal>
 /// The source with its orders.
 fn ordered(alloc: Global, named: Named) -> Result<Loopless, Fault>
     ensures same { IfOk result (λ loopless. loopless ≡ named) }
-    ensures ok { OnOk result (IsLoopless (tree_seen named)) }
-    ensures refused { IfErr result (Faulty (IsLoopless (tree_seen named) → ⊥)) }
+    ensures loopless { Judged result (IsLoopless (tree_seen named)) }
 {
     let types = order_of_types(alloc, &named)?;
     let nodes = order_of_nodes(alloc, &named)?;

@@ -1,12 +1,12 @@
 //! The names that stand for something, and what uses them.
 
-ghost use Rattle.std.specs.Prelude.{◌≡◌, ◌++◌, map, is_none, OnOk, IfErr, true, false};
+ghost use Rattle.std.specs.Prelude.{◌≡◌, ◌++◌, map, is_none, OnOk};
 ghost use Rattle.lus_syntax.specs.View.{expression_seen, part_seen, names_seen};
 ghost use Rattle.lus_syntax.specs.Trees.{parts_of};
 ghost use Rattle.lus_source.specs.Tables.{text_of};
 ghost use Rattle.lus_source.specs.Named.{is_in, all_new, knows, knows_parts};
 ghost use Rattle.lus_declarations.specs.NameView.{texts, known_seen};
-ghost use Rattle.lus_source.specs.ScopeView.{Faulty};
+ghost use Rattle.lus_source.specs.ScopeView.{Tested};
 
 use indexmap::IndexSet;
 use lus_source::{Fault, Places, Spaces};
@@ -45,8 +45,7 @@ pub fn has(table: &IndexSet<String>, name: &str) -> bool
 /// Adds names to a table; a fault at one that stands there already.
 pub fn declare(table: &mut IndexSet<String>, names: &[Name]) -> Result<(), Fault>
     ensures kept { OnOk result (texts table.new.keys ≡ texts table.old.keys ++ map text_of (names_seen names.now)) }
-    ensures new { OnOk result (all_new (texts table.old.keys) (map text_of (names_seen names.now)) ≡ true) }
-    ensures doubled { IfErr result (Faulty (all_new (texts table.old.keys) (map text_of (names_seen names.now)) ≡ false)) }
+    ensures new { Tested result (all_new (texts table.old.keys) (map text_of (names_seen names.now))) }
 {
     for name in names {
         let (_, is_new) = table.insert_full(name.text.clone()?)?;

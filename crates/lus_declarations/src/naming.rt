@@ -1,11 +1,11 @@
 //! What has names of its own, and these names in tables.
 
-ghost use Rattle.std.specs.Prelude.{◌≡◌, ◌++◌, [], ◌∷◌, List, flat_map, map, is_none, string_bytes, OnOk, IfErr, true, false};
+ghost use Rattle.std.specs.Prelude.{◌≡◌, ◌++◌, [], ◌∷◌, List, flat_map, map, is_none, string_bytes, OnOk};
 ghost use Rattle.std.specs.List.{list_all};
 ghost use Rattle.lus_syntax.specs.Lexemes.{Text};
 ghost use Rattle.lus_syntax.specs.View.{names_seen};
 ghost use Rattle.lus_source.specs.Named.{all_new, is_in};
-ghost use Rattle.lus_source.specs.ScopeView.{Faulty};
+ghost use Rattle.lus_source.specs.ScopeView.{Tested};
 ghost use Rattle.lus_source.specs.Tables.{text_of};
 ghost use Rattle.lus_declarations.specs.NameView.{texts};
 
@@ -74,8 +74,7 @@ impl Naming for Equation {
 /// Adds the names of these to a table; a fault at one that stands there already.
 pub fn declare_all<T: Naming>(table: &mut IndexSet<String>, things: &[T]) -> Result<(), Fault>
     ensures kept { OnOk result (texts table.new.keys ≡ texts table.old.keys ++ flat_map T.named things.now) }
-    ensures new { OnOk result (all_new (texts table.old.keys) (flat_map T.named things.now) ≡ true) }
-    ensures doubled { IfErr result (Faulty (all_new (texts table.old.keys) (flat_map T.named things.now) ≡ false)) }
+    ensures new { Tested result (all_new (texts table.old.keys) (flat_map T.named things.now)) }
 {
     for thing in things {
         declare(table, thing.names())?;

@@ -1,11 +1,11 @@
 //! The names of a node.
 
-ghost use Rattle.std.specs.Prelude.{◌≡◌, ◌++◌, map, is_none, OnOk, IfErr, true, false};
+ghost use Rattle.std.specs.Prelude.{◌≡◌, ◌++◌, map, is_none, OnOk};
 ghost use Rattle.lus_values.specs.Lists.{Each};
 ghost use Rattle.lus_syntax.specs.View.{node_seen};
 ghost use Rattle.lus_source.specs.Tables.{groups};
 ghost use Rattle.lus_source.specs.Named.{NodeNamed, all_new, names_in};
-ghost use Rattle.lus_source.specs.ScopeView.{Faulty};
+ghost use Rattle.lus_source.specs.ScopeView.{Judged, Tested};
 ghost use Rattle.lus_declarations.specs.NameView.{known_seen, texts};
 ghost use Rattle.lus_declarations.specs.Parts.{in_node, node_known, outside};
 
@@ -22,8 +22,7 @@ use std::alloc::Global;
 /// Checks the names of nodes, one by one.
 pub fn check_nodes(alloc: Global, names: &mut Names, nodes: &[Node]) -> Result<(), Fault>
     ensures kept { OnOk result (outside (known_seen names.new) ≡ outside (known_seen names.old)) }
-    ensures named { OnOk result (Each (λ f. NodeNamed (in_node (known_seen names.old) f) f) (map node_seen nodes.now)) }
-    ensures refused { IfErr result (Faulty (Each (λ f. NodeNamed (in_node (known_seen names.old) f) f) (map node_seen nodes.now) → ⊥)) }
+    ensures named { Judged result (Each (λ f. NodeNamed (in_node (known_seen names.old) f) f) (map node_seen nodes.now)) }
 {
     for node in nodes {
         check_node(alloc, names, node)?;
@@ -34,8 +33,7 @@ pub fn check_nodes(alloc: Global, names: &mut Names, nodes: &[Node]) -> Result<(
 /// Checks the names of a node. Its variables stand in the table from then on, and no others.
 fn check_node(alloc: Global, names: &mut Names, node: &Node) -> Result<(), Fault>
     ensures kept { OnOk result (known_seen names.new ≡ in_node (known_seen names.old) (node_seen node.now)) }
-    ensures named { OnOk result (NodeNamed (in_node (known_seen names.old) (node_seen node.now)) (node_seen node.now)) }
-    ensures refused { IfErr result (Faulty (NodeNamed (in_node (known_seen names.old) (node_seen node.now)) (node_seen node.now) → ⊥)) }
+    ensures named { Judged result (NodeNamed (in_node (known_seen names.old) (node_seen node.now)) (node_seen node.now)) }
 {
     names.variables.clear();
     declare_variables(&mut names.variables, node)?;
@@ -46,8 +44,7 @@ fn check_node(alloc: Global, names: &mut Names, node: &Node) -> Result<(), Fault
 /// Declares the variables of a node.
 pub fn declare_variables(table: &mut IndexSet<String>, node: &Node) -> Result<(), Fault>
     ensures kept { OnOk result (texts table.new.keys ≡ texts table.old.keys ++ names_in (groups (node_seen node.now))) }
-    ensures new { OnOk result (all_new (texts table.old.keys) (names_in (groups (node_seen node.now))) ≡ true) }
-    ensures doubled { IfErr result (Faulty (all_new (texts table.old.keys) (names_in (groups (node_seen node.now))) ≡ false)) }
+    ensures new { Tested result (all_new (texts table.old.keys) (names_in (groups (node_seen node.now)))) }
 {
     declare_all(table, &node.inputs)?;
     declare_all(table, &node.outputs)?;

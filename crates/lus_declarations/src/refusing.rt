@@ -1,15 +1,14 @@
 //! A fault where a test found one.
 
-ghost use Rattle.std.specs.Prelude.{◌≡◌, is_none, OnOk, IfErr, true, false};
-ghost use Rattle.lus_source.specs.ScopeView.{Faulty};
+ghost use Rattle.std.specs.Prelude.{is_none};
+ghost use Rattle.lus_source.specs.ScopeView.{Tested};
 
 use lus_source::Fault;
 use lus_syntax::Place;
 
 /// A fault at a place, if there is one.
 pub fn refuse(found: Option<Place>) -> Result<(), Fault>
-    ensures ok { OnOk result (is_none found ≡ true) }
-    ensures err { IfErr result (Faulty (is_none found ≡ false)) }
+    ensures { Tested result (is_none found) }
 {
     match found {
         None => Ok(()),

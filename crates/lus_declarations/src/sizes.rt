@@ -8,7 +8,7 @@ ghost use Rattle.lus_syntax.specs.View.{definition_seen, fields_seen, tree_seen,
 ghost use Rattle.lus_typing.specs.Leaves.{AreTheLeaves};
 ghost use Rattle.lus_typing.specs.Refusals.{RefusesFor};
 ghost use Rattle.lus_source.specs.Meaning.{program_of};
-ghost use Rattle.lus_source.specs.ScopeView.{Faulty};
+ghost use Rattle.lus_source.specs.ScopeView.{Judged};
 ghost use Rattle.lus_source.specs.Sized.{AreWithin, Bounded, call_depth_at, definition_leaves, group_leaves, leaves_at, nesting_at, own_level};
 ghost use Rattle.lus_declarations.specs.Limits.{IsLimited};
 
@@ -39,8 +39,7 @@ pub fn check_sizes(alloc: Global, loopless: &Loopless) -> Result<Vec<u32>, Refus
 
 fn sizes(alloc: Global, loopless: &Loopless) -> Result<Vec<u32>, Fault>
     ensures leaves { IfOk result (λ leaves. AreTheLeaves (program_of (tree_seen loopless.now)) leaves.items) }
-    ensures ok { OnOk result (Bounded (tree_seen loopless.now)) }
-    ensures err { IfErr result (Faulty (Bounded (tree_seen loopless.now) → ⊥)) }
+    ensures bounded { Judged result (Bounded (tree_seen loopless.now)) }
 {
     let leaves = check_leaves(alloc, loopless)?;
     check_nesting(alloc, loopless)?;
@@ -51,8 +50,7 @@ fn sizes(alloc: Global, loopless: &Loopless) -> Result<Vec<u32>, Fault>
 /// Checks the leaves of types, each behind the types that it names, and gives them.
 fn check_leaves(alloc: Global, loopless: &Loopless) -> Result<Vec<u32>, Fault>
     ensures leaves { IfOk result (λ leaves. AreTheLeaves (program_of (tree_seen loopless.now)) leaves.items) }
-    ensures ok { let p = tree_seen loopless.now in OnOk result (AreWithin (length p.types) (leaves_at p) most_leaves) }
-    ensures err { let p = tree_seen loopless.now in IfErr result (Faulty (AreWithin (length p.types) (leaves_at p) most_leaves → ⊥)) }
+    ensures within { let p = tree_seen loopless.now in Judged result (AreWithin (length p.types) (leaves_at p) most_leaves) }
 {
     let tree = loopless.tree();
     let types = loopless.type_names();
@@ -105,8 +103,7 @@ fn at_most(n: usize, most: usize) -> Option<usize>
 
 /// Checks how deep structures stand in types.
 fn check_nesting(alloc: Global, loopless: &Loopless) -> Result<(), Fault>
-    ensures ok { let p = tree_seen loopless.now in OnOk result (AreWithin (length p.types) (nesting_at p) most_nesting) }
-    ensures err { let p = tree_seen loopless.now in IfErr result (Faulty (AreWithin (length p.types) (nesting_at p) most_nesting → ⊥)) }
+    ensures { let p = tree_seen loopless.now in Judged result (AreWithin (length p.types) (nesting_at p) most_nesting) }
 {
     let types = loopless.tree().types.as_slice();
     let uses = type_uses(alloc, loopless.named())?;
@@ -140,9 +137,7 @@ fn levels_of(definition: &Definition) -> usize
 
 /// Checks how deep calls go.
 fn check_calls(alloc: Global, loopless: &Loopless) -> Result<(), Fault>
-    ensures ok { let p = tree_seen loopless.now in OnOk result (AreWithin (length p.nodes) (call_depth_at p) most_calls_deep) }
-    ensures err { let p = tree_seen loopless.now in
-        IfErr result (Faulty (AreWithin (length p.nodes) (call_depth_at p) most_calls_deep → ⊥)) }
+    ensures { let p = tree_seen loopless.now in Judged result (AreWithin (length p.nodes) (call_depth_at p) most_calls_deep) }
 {
     let nodes = loopless.tree().nodes.as_slice();
     let uses = node_uses(alloc, loopless.named())?;

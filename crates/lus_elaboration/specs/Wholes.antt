@@ -1,5 +1,5 @@
 -- What a form of expression means, and its type, where its parts are elaborated. Lustre V6 reference manual, "Expressions".
-use Rattle.std.specs.Prelude.{List, Option, map, option_map, unwrap_or}
+use Rattle.std.specs.Prelude.{◌≡◌, List, Option, Some, None, Result, MatchResult, map, option_map, unwrap_or}
 use Rattle.std.specs.Option.{option_and_then}
 use Rattle.lus_syntax.specs.declared.tree.Part.{Part}
 use Rattle.lus_syntax.specs.Lexemes.{Text}
@@ -9,12 +9,16 @@ use Rattle.lus_values.specs.declared.operator.Operator.TheVariants as operators
 use Rattle.lus_program.specs.declared.types.Kind.{Kind}
 use Rattle.lus_program.specs.declared.types.Kind.TheVariants as kinds
 use Rattle.lus_program.specs.Programs.{Expression, Operands, merge, more, operate, when}
-use Rattle.lus_program.specs.View.{expression_of}
+use Rattle.lus_program.specs.View.{expression_of, operands_of}
 use Rattle.lus_source.specs.Scopes.{Scope, entry}
 use Rattle.lus_typing.specs.Kinds.{the_one}
 use Rattle.lus_source.specs.Types.{merge_kind, outputs_of, structure_kind, test_placed, variable_kind}
 use Rattle.lus_source.specs.Meaning.{branches_meant, structure_meant, test_meant, two, variable_place}
+use Rattle.lus_source.specs.declared.fault.Fault.{Fault}
+use Rattle.lus_source.specs.ScopeView.{Faulty}
+use Rattle.lus_elaboration.specs.declared.equations.Given.{Given}
 use Rattle.lus_elaboration.specs.declared.forms.Elaborated.{Elaborated}
+use Rattle.lus_elaboration.specs.declared.operands.Operands.{Operands as StoredOperands}
 
 -- the parts of a form, in the order of the text
 abbrev pub parts_seen : List Part → Parts
@@ -23,6 +27,24 @@ parts_seen ps = parts_of (map part_seen ps)
 -- what an elaborated expression means
 abbrev pub meaning : Elaborated → Expression
 meaning x = expression_of x.expr.value
+
+-- what is sought is given, seen by `look`, and a fault at a place where there is nothing
+abbrev pub Finds : {X A : Type 0} → Result X Fault → (X → A) → Option A → Type 0
+Finds result look sought = MatchResult result (λ x. sought ≡ Some (look x)) (Faulty (sought ≡ None))
+
+-- an expression of this type and meaning, or a fault at a place where there is no type
+abbrev pub Elaborates : Result Elaborated Fault → Option Kind → Expression → Type 0
+Elaborates result kind means = MatchResult result (λ x. (kind ≡ Some x.kind) × (meaning x ≡ means)) (Faulty (kind ≡ None))
+
+-- expressions of these types and meanings, or a fault at a place where there are no types
+abbrev pub ElaboratesAll : Result StoredOperands Fault → Option (List Kind) → Operands → Type 0
+ElaboratesAll result kinds means =
+    MatchResult result (λ x. (kinds ≡ Some x.kinds.items) × (operands_of x.exprs.items ≡ means)) (Faulty (kinds ≡ None))
+
+-- a right side that gives these types and has this meaning, or a fault at a place where it gives none
+abbrev pub Gives : Result Given Fault → Option (List Kind) → Expression → Type 0
+Gives result kinds means =
+    MatchResult result (λ x. (kinds ≡ Some x.kinds.items) × (expression_of x.expr.value ≡ means)) (Faulty (kinds ≡ None))
 
 -- `if`
 abbrev pub choice_meant : Expression → Expression → Expression → Expression

@@ -1,12 +1,11 @@
 //! The program's expression for an expression of the source, and its type.
 
-ghost use Rattle.std.specs.Prelude.{◌≡◌, Some, None, IfOk, IfErr, length};
+ghost use Rattle.std.specs.Prelude.{◌≡◌, IfOk, length};
 ghost use Rattle.lus_syntax.specs.View.{expression_seen};
-ghost use Rattle.lus_program.specs.View.{operands_of};
 ghost use Rattle.lus_source.specs.Types.{kind_of, kinds_of};
 ghost use Rattle.lus_source.specs.Meaning.{meant, all_meant};
-ghost use Rattle.lus_source.specs.ScopeView.{scope_of, Faulty};
-ghost use Rattle.lus_elaboration.specs.Wholes.{meaning, parts_seen};
+ghost use Rattle.lus_source.specs.ScopeView.{scope_of};
+ghost use Rattle.lus_elaboration.specs.Wholes.{Elaborates, ElaboratesAll, parts_seen};
 
 use crate::forms::{Elaborated, binary, choice, field, literal, named, place_of, sampled, unary};
 use crate::operands::Operands;
@@ -20,9 +19,8 @@ use std::alloc::Global;
 /// The program's expression for an expression, and its type; a fault at its first token where it has none.
 #[cycle(elaborate)]
 pub fn elaborate(alloc: Global, scope: &Scope, source: &Source) -> Result<Elaborated, Fault>
-    ensures typed { IfOk result (λ x. kind_of (scope_of scope.now) (expression_seen source.now) ≡ Some x.kind) }
-    ensures meant { IfOk result (λ x. meaning x ≡ meant (scope_of scope.now) (expression_seen source.now)) }
-    ensures refused { IfErr result (Faulty (kind_of (scope_of scope.now) (expression_seen source.now) ≡ None)) }
+    ensures { let s = scope_of scope.now in
+        Elaborates result (kind_of s (expression_seen source.now)) (meant s (expression_seen source.now)) }
 {
     let place = place_of(source);
     match source {
@@ -79,10 +77,9 @@ pub fn elaborate(alloc: Global, scope: &Scope, source: &Source) -> Result<Elabor
 /// The values of parts one by one, and their types.
 #[cycle(elaborate)]
 pub fn elaborate_all(alloc: Global, scope: &Scope, parts: &[Part]) -> Result<Operands, Fault>
-    ensures typed { IfOk result (λ x. kinds_of (scope_of scope.now) (parts_seen parts.now) ≡ Some x.kinds.items) }
-    ensures meant { IfOk result (λ x. operands_of x.exprs.items ≡ all_meant (scope_of scope.now) (parts_seen parts.now)) }
+    ensures elaborated { let s = scope_of scope.now in
+        ElaboratesAll result (kinds_of s (parts_seen parts.now)) (all_meant s (parts_seen parts.now)) }
     ensures alike { IfOk result (λ x. length x.exprs.items ≡ length parts.now) }
-    ensures refused { IfErr result (Faulty (kinds_of (scope_of scope.now) (parts_seen parts.now) ≡ None)) }
 {
     let mut operands = Operands::with_capacity(alloc, parts.len())?;
     for part in parts {

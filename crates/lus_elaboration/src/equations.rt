@@ -1,6 +1,6 @@
 //! Equations: what a whole right side gives, and what the left side takes.
 
-ghost use Rattle.std.specs.Prelude.{◌≡◌, IfOk, IfErr, Some, None, unwrap_or, true, false};
+ghost use Rattle.std.specs.Prelude.{◌≡◌, IfOk, unwrap_or};
 ghost use Rattle.lus_syntax.specs.View.{expression_seen, equation_seen, name_seen, names_seen};
 ghost use Rattle.lus_program.specs.Programs.{call as call_meant};
 ghost use Rattle.lus_program.specs.View.{expression_of, operands_of};
@@ -8,8 +8,8 @@ ghost use Rattle.lus_program.specs.declared.types.Kind.TheVariants.{Bool as Bool
 ghost use Rattle.lus_source.specs.Types.{outputs_of, variable_kind};
 ghost use Rattle.lus_source.specs.Meaning.{meant, node_place, targets_meant, variable_place};
 ghost use Rattle.lus_source.specs.WellTyped.{kinds_given, left_kinds as kinds_of_left, equation_typed};
-ghost use Rattle.lus_source.specs.ScopeView.{scope_of, Faulty};
-ghost use Rattle.lus_elaboration.specs.Wholes.{parts_seen};
+ghost use Rattle.lus_source.specs.ScopeView.{Tested, scope_of};
+ghost use Rattle.lus_elaboration.specs.Wholes.{Finds, Gives, parts_seen};
 
 use crate::elaboration::{elaborate, elaborate_all};
 use crate::forms::{boxed, place_of};
@@ -30,9 +30,8 @@ pub struct Given {
 
 /// A whole right side; a call there may have several outputs.
 pub fn right_side(alloc: Global, scope: &Scope, source: &Source) -> Result<Given, Fault>
-    ensures typed { IfOk result (λ x. kinds_given (scope_of scope.now) (expression_seen source.now) ≡ Some x.kinds.items) }
-    ensures meant { IfOk result (λ x. expression_of x.expr.value ≡ meant (scope_of scope.now) (expression_seen source.now)) }
-    ensures refused { IfErr result (Faulty (kinds_given (scope_of scope.now) (expression_seen source.now) ≡ None)) }
+    ensures { let s = scope_of scope.now in
+        Gives result (kinds_given s (expression_seen source.now)) (meant s (expression_seen source.now)) }
 {
     match source {
         Source::Parentheses(span, inner) => {
@@ -73,11 +72,9 @@ fn whole_call(
     operands: Operands,
 ) -> Result<Given, Fault>
     ensures typed { let given = outputs_of (scope_of scope.now) (name_seen name.now).text (parts_seen arguments.now) operands.kinds.items in
-        IfOk result (λ x. given ≡ Some x.kinds.items) }
+        Finds result (λ x. x.kinds.items) given }
     ensures meant { let node = node_place (scope_of scope.now) (name_seen name.now).text in
         IfOk result (λ x. expression_of x.expr.value ≡ call_meant node 0 (operands_of operands.exprs.items)) }
-    ensures refused { let given = outputs_of (scope_of scope.now) (name_seen name.now).text (parts_seen arguments.now) operands.kinds.items in
-        IfErr result (Faulty (given ≡ None)) }
 {
     let node = callee(scope, name, arguments, &operands.kinds)?;
     let kinds = node.outputs.clone()?;
@@ -134,10 +131,9 @@ fn places(alloc: Global, names: &[Name]) -> Result<Vec<Place>, AllocError> {
 
 /// An equation of the program: the right side gives what the left side has.
 pub fn equation(alloc: Global, scope: &Scope, source: &SourceEquation) -> Result<Equation, Fault>
-    ensures typed { IfOk result (λ q. equation_typed (scope_of scope.now) (equation_seen source.now) ≡ true) }
+    ensures typed { Tested result (equation_typed (scope_of scope.now) (equation_seen source.now)) }
     ensures targets { IfOk result (λ q. q.targets.items ≡ targets_meant (scope_of scope.now) (names_seen source.now.left.items)) }
     ensures meant { IfOk result (λ q. expression_of q.right ≡ meant (scope_of scope.now) (expression_seen source.now.right)) }
-    ensures refused { IfErr result (Faulty (equation_typed (scope_of scope.now) (equation_seen source.now) ≡ false)) }
 {
     let given = right_side(alloc, scope, &source.right)?;
     let kinds = left_kinds(alloc, scope, &source.left)?;

@@ -1,6 +1,6 @@
 //! What each form of expression means, its parts being elaborated already, and its type.
 
-ghost use Rattle.std.specs.Prelude.{◌≡◌, Some, None, IfOk, IfErr};
+ghost use Rattle.std.specs.Prelude.{◌≡◌, Some, IfOk};
 ghost use Rattle.lus_syntax.specs.View.{name_seen, test_seen, label_seen};
 ghost use Rattle.lus_program.specs.Programs.{literal as literal_meant, operate};
 ghost use Rattle.lus_program.specs.View.{expression_in, expression_of, operands_of};
@@ -8,8 +8,8 @@ ghost use Rattle.lus_typing.specs.Kinds.{choice_kind as kind_of_choice};
 ghost use Rattle.lus_values.specs.View.{value_of};
 ghost use Rattle.lus_source.specs.Types.{name_kind, prefix_kind as kind_of_prefix, infix_kind as kind_of_infix, field_kind, test_placed as placed_test, truth_place as place_of_truth, label_place as place_of_label, asked_place as place_asked, test_variable as variable_of_test};
 ghost use Rattle.lus_source.specs.Meaning.{name_meant, prefix_meant, infix_meant, one, field_meant};
-ghost use Rattle.lus_source.specs.ScopeView.{scope_of, Faulty};
-ghost use Rattle.lus_elaboration.specs.Wholes.{choice_meant, meaning, sampled_kind, sampled_meant};
+ghost use Rattle.lus_source.specs.ScopeView.{scope_of};
+ghost use Rattle.lus_elaboration.specs.Wholes.{Elaborates, choice_meant, meaning, sampled_kind, sampled_meant};
 
 use crate::kinds::{choice_kind, infix_kind, prefix_kind, same, value_kind};
 use lus_program::{Expr, Form, Kind, Test};
@@ -65,9 +65,7 @@ pub fn operated(
 
 /// A value, of this type.
 pub fn literal(alloc: Global, place: Place, value: Value, kind: Kind) -> Result<Elaborated, Fault>
-    ensures typed { IfOk result (λ x. x.kind ≡ kind) }
-    ensures meant { IfOk result (λ x. meaning x ≡ literal_meant (value_of value)) }
-    ensures refused { IfErr result (Faulty ⊥) }
+    ensures { Elaborates result (Some kind) (literal_meant (value_of value)) }
 {
     let expr = boxed(alloc, place, Form::Literal(value))?;
     Ok(Elaborated { expr, kind })
@@ -75,9 +73,8 @@ pub fn literal(alloc: Global, place: Place, value: Value, kind: Kind) -> Result<
 
 /// A name: a variable hides a constant or a constructor.
 pub fn named(alloc: Global, scope: &Scope, name: &Name) -> Result<Elaborated, Fault>
-    ensures typed { IfOk result (λ x. name_kind (scope_of scope.now) (name_seen name.now).text ≡ Some x.kind) }
-    ensures meant { IfOk result (λ x. meaning x ≡ name_meant (scope_of scope.now) (name_seen name.now).text) }
-    ensures refused { IfErr result (Faulty (name_kind (scope_of scope.now) (name_seen name.now).text ≡ None)) }
+    ensures { let s = scope_of scope.now in
+        Elaborates result (name_kind s (name_seen name.now).text) (name_meant s (name_seen name.now).text) }
 {
     let place = name.span.start;
     if let Some(variable) = scope.variable(&name.text) {
@@ -102,9 +99,7 @@ pub fn unary(
     op: Prefix,
     operand: Elaborated,
 ) -> Result<Elaborated, Fault>
-    ensures typed { IfOk result (λ x. kind_of_prefix op operand.kind ≡ Some x.kind) }
-    ensures meant { IfOk result (λ x. meaning x ≡ prefix_meant op (meaning operand)) }
-    ensures refused { IfErr result (Faulty (kind_of_prefix op operand.kind ≡ None)) }
+    ensures { Elaborates result (kind_of_prefix op operand.kind) (prefix_meant op (meaning operand)) }
 {
     let Some(kind) = prefix_kind(op, operand.kind) else {
         return Err(Fault::At(place));
@@ -136,9 +131,7 @@ pub fn binary(
     left: Elaborated,
     right: Elaborated,
 ) -> Result<Elaborated, Fault>
-    ensures typed { IfOk result (λ x. kind_of_infix op left.kind right.kind ≡ Some x.kind) }
-    ensures meant { IfOk result (λ x. meaning x ≡ infix_meant op (meaning left) (meaning right)) }
-    ensures refused { IfErr result (Faulty (kind_of_infix op left.kind right.kind ≡ None)) }
+    ensures { Elaborates result (kind_of_infix op left.kind right.kind) (infix_meant op (meaning left) (meaning right)) }
 {
     let Some(kind) = infix_kind(op, left.kind, right.kind) else {
         return Err(Fault::At(place));
@@ -189,9 +182,8 @@ pub fn choice(
     left: Elaborated,
     right: Elaborated,
 ) -> Result<Elaborated, Fault>
-    ensures typed { IfOk result (λ x. kind_of_choice condition.kind left.kind right.kind ≡ Some x.kind) }
-    ensures meant { IfOk result (λ x. meaning x ≡ choice_meant (meaning condition) (meaning left) (meaning right)) }
-    ensures refused { IfErr result (Faulty (kind_of_choice condition.kind left.kind right.kind ≡ None)) }
+    ensures { let kind = kind_of_choice condition.kind left.kind right.kind in
+        Elaborates result kind (choice_meant (meaning condition) (meaning left) (meaning right)) }
 {
     let Some(kind) = choice_kind(condition.kind, left.kind, right.kind) else {
         return Err(Fault::At(place));
@@ -213,10 +205,9 @@ pub fn field(
     operand: Elaborated,
     name: &Name,
 ) -> Result<Elaborated, Fault>
-    ensures typed { IfOk result (λ x. field_kind (scope_of scope.now) operand.kind (name_seen name.now).text ≡ Some x.kind) }
-    ensures meant { let field = field_meant (scope_of scope.now) (Some operand.kind) (name_seen name.now).text in
-        IfOk result (λ x. meaning x ≡ field (meaning operand)) }
-    ensures refused { IfErr result (Faulty (field_kind (scope_of scope.now) operand.kind (name_seen name.now).text ≡ None)) }
+    ensures { let s = scope_of scope.now in
+        let text = (name_seen name.now).text in
+        Elaborates result (field_kind s operand.kind text) (field_meant s (Some operand.kind) text (meaning operand)) }
 {
     let fields = scope.fields_of(operand.kind);
     let Some(found) = field_named(fields, &name.text) else {
@@ -302,9 +293,8 @@ pub fn sampled(
     operand: Elaborated,
     test: &SourceTest,
 ) -> Result<Elaborated, Fault>
-    ensures typed { IfOk result (λ x. sampled_kind (scope_of scope.now) (test_seen test.now) operand.kind ≡ Some x.kind) }
-    ensures meant { IfOk result (λ x. meaning x ≡ sampled_meant (scope_of scope.now) (test_seen test.now) (meaning operand)) }
-    ensures refused { IfErr result (Faulty (sampled_kind (scope_of scope.now) (test_seen test.now) operand.kind ≡ None)) }
+    ensures { let s = scope_of scope.now in
+        Elaborates result (sampled_kind s (test_seen test.now) operand.kind) (sampled_meant s (test_seen test.now) (meaning operand)) }
 {
     let Some(found) = test_placed(scope, test) else {
         return Err(Fault::At(clock_variable(test).span.start));

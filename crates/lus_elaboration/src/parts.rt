@@ -1,14 +1,14 @@
 //! Forms with parts: calls, structures and merges, their parts being elaborated already.
 
-ghost use Rattle.std.specs.Prelude.{◌≡◌, Some, None, IfOk, IfErr, length, map};
+ghost use Rattle.std.specs.Prelude.{◌≡◌, IfOk, length, map};
 ghost use Rattle.lus_syntax.specs.View.{name_seen, lead_seen};
 ghost use Rattle.lus_program.specs.Programs.{call as call_meant};
 ghost use Rattle.lus_program.specs.View.{operands_of};
 ghost use Rattle.lus_typing.specs.Kinds.{all_same as all_same_kinds};
 ghost use Rattle.lus_source.specs.Types.{are_arguments as arguments_alone, branch_place as place_of_branch, branch_places as places_of_branches, field_asked as asked_field, fields_asked as asked_fields, list_operation as operation_of_list, outputs_of, variadic_kind};
 ghost use Rattle.lus_source.specs.Meaning.{node_place, variadic_meant};
-ghost use Rattle.lus_source.specs.ScopeView.{scope_of, Faulty};
-ghost use Rattle.lus_elaboration.specs.Wholes.{call_kind, meaning, merge_over, merge_over_kind, parts_seen, structure_of, structure_of_kind};
+ghost use Rattle.lus_source.specs.ScopeView.{scope_of};
+ghost use Rattle.lus_elaboration.specs.Wholes.{Elaborates, Finds, call_kind, merge_over, merge_over_kind, parts_seen, structure_of, structure_of_kind};
 
 use crate::arrangement::arranged;
 use crate::forms::{Elaborated, boxed, label_place, operated, place_of};
@@ -40,10 +40,8 @@ pub fn callee<'a>(
     kinds: &[Kind],
 ) -> Result<&'a Signature, Fault>
     ensures typed { let given = outputs_of (scope_of scope.now) (name_seen name.now).text (parts_seen arguments.now) kinds.now in
-        IfOk result (λ g. given ≡ Some g.now.outputs.items) }
+        Finds result (λ g. g.now.outputs.items) given }
     ensures placed { IfOk result (λ g. g.now.place ≡ node_place (scope_of scope.now) (name_seen name.now).text) }
-    ensures refused { let given = outputs_of (scope_of scope.now) (name_seen name.now).text (parts_seen arguments.now) kinds.now in
-        IfErr result (Faulty (given ≡ None)) }
 {
     let Some(node) = scope.node(&name.text) else {
         return Err(Fault::At(name.span.start));
@@ -63,12 +61,10 @@ pub fn call(
     arguments: &[Part],
     operands: Operands,
 ) -> Result<Elaborated, Fault>
-    ensures typed { let given = call_kind (scope_of scope.now) (name_seen name.now).text (parts_seen arguments.now) operands.kinds.items in
-        IfOk result (λ x. given ≡ Some x.kind) }
-    ensures meant { let node = node_place (scope_of scope.now) (name_seen name.now).text in
-        IfOk result (λ x. meaning x ≡ call_meant node 0 (operands_of operands.exprs.items)) }
-    ensures refused { let given = call_kind (scope_of scope.now) (name_seen name.now).text (parts_seen arguments.now) operands.kinds.items in
-        IfErr result (Faulty (given ≡ None)) }
+    ensures { let s = scope_of scope.now in
+        let text = (name_seen name.now).text in
+        let kind = call_kind s text (parts_seen arguments.now) operands.kinds.items in
+        Elaborates result kind (call_meant (node_place s text) 0 (operands_of operands.exprs.items)) }
 {
     let place = name.span.start;
     let node = callee(scope, name, arguments, &operands.kinds)?;
@@ -96,9 +92,8 @@ pub fn variadic(
     arguments: &[Part],
     operands: Operands,
 ) -> Result<Elaborated, Fault>
-    ensures typed { IfOk result (λ x. variadic_kind op (parts_seen arguments.now) operands.kinds.items ≡ Some x.kind) }
-    ensures meant { IfOk result (λ x. meaning x ≡ variadic_meant op (operands_of operands.exprs.items)) }
-    ensures refused { IfErr result (Faulty (variadic_kind op (parts_seen arguments.now) operands.kinds.items ≡ None)) }
+    ensures { let kind = variadic_kind op (parts_seen arguments.now) operands.kinds.items in
+        Elaborates result kind (variadic_meant op (operands_of operands.exprs.items)) }
 {
     if !are_arguments(arguments) {
         return Err(Fault::At(place));
@@ -128,9 +123,8 @@ fn branch_places(
     kind: Kind,
     branches: &[Part],
 ) -> Result<Vec<u32>, Fault>
-    ensures places { IfOk result (λ cs. places_of_branches (scope_of scope.now) kind (parts_seen branches.now) ≡ Some cs.items) }
+    ensures places { Finds result (λ cs. cs.items) (places_of_branches (scope_of scope.now) kind (parts_seen branches.now)) }
     ensures alike { IfOk result (λ cs. length cs.items ≡ length branches.now) }
-    ensures refused { IfErr result (Faulty (places_of_branches (scope_of scope.now) kind (parts_seen branches.now) ≡ None)) }
 {
     let mut places = Vec::new(alloc);
     for branch in branches {
@@ -152,12 +146,10 @@ pub fn merge(
     operands: Operands,
 ) -> Result<Elaborated, Fault>
     requires { length operands.exprs.items ≡ length branches.now }
-    ensures typed { let given = merge_over_kind (scope_of scope.now) (name_seen variable.now).text (parts_seen branches.now) operands.kinds.items in
-        IfOk result (λ x. given ≡ Some x.kind) }
-    ensures meant { let merged = merge_over (scope_of scope.now) (name_seen variable.now).text (parts_seen branches.now) in
-        IfOk result (λ x. meaning x ≡ merged (operands_of operands.exprs.items)) }
-    ensures refused { let given = merge_over_kind (scope_of scope.now) (name_seen variable.now).text (parts_seen branches.now) operands.kinds.items in
-        IfErr result (Faulty (given ≡ None)) }
+    ensures { let s = scope_of scope.now in
+        let text = (name_seen variable.now).text in
+        let kind = merge_over_kind s text (parts_seen branches.now) operands.kinds.items in
+        Elaborates result kind (merge_over s text (parts_seen branches.now) (operands_of operands.exprs.items)) }
 {
     let Some(clock) = scope.variable(&variable.text) else {
         return Err(Fault::At(variable.span.start));
@@ -191,9 +183,8 @@ fn fields_asked(
     kind: Kind,
     fields: &[Part],
 ) -> Result<Vec<Placed>, Fault>
-    ensures fields { IfOk result (λ xs. asked_fields (scope_of scope.now) kind (parts_seen fields.now) ≡ Some xs.items) }
+    ensures fields { Finds result (λ xs. xs.items) (asked_fields (scope_of scope.now) kind (parts_seen fields.now)) }
     ensures alike { IfOk result (λ xs. length xs.items ≡ length fields.now) }
-    ensures refused { IfErr result (Faulty (asked_fields (scope_of scope.now) kind (parts_seen fields.now) ≡ None)) }
 {
     let mut asked = Vec::new(alloc);
     for part in fields {
@@ -243,12 +234,10 @@ pub fn structure(
     operands: Operands,
 ) -> Result<Elaborated, Fault>
     requires { length operands.exprs.items ≡ length fields.now }
-    ensures typed { let given = structure_of_kind (scope_of scope.now) (name_seen name.now).text (parts_seen fields.now) operands.kinds.items in
-        IfOk result (λ x. given ≡ Some x.kind) }
-    ensures meant { let structure = structure_of (scope_of scope.now) (name_seen name.now).text (parts_seen fields.now) in
-        IfOk result (λ x. meaning x ≡ structure (operands_of operands.exprs.items)) }
-    ensures refused { let given = structure_of_kind (scope_of scope.now) (name_seen name.now).text (parts_seen fields.now) operands.kinds.items in
-        IfErr result (Faulty (given ≡ None)) }
+    ensures { let s = scope_of scope.now in
+        let text = (name_seen name.now).text in
+        let kind = structure_of_kind s text (parts_seen fields.now) operands.kinds.items in
+        Elaborates result kind (structure_of s text (parts_seen fields.now) (operands_of operands.exprs.items)) }
 {
     let place = name.span.start;
     let Some(kind) = scope.kind(&name.text) else {

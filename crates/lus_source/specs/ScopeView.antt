@@ -1,5 +1,5 @@
 -- What the code holds of a scope, as tables, and what a fault tells.
-use Rattle.std.specs.Prelude.{map}
+use Rattle.std.specs.Prelude.{◌≡◌, Bool, true, false, Result, MatchResult, map}
 use Rattle.std.specs.List.{zip}
 use Rattle.lus_syntax.specs.declared.refusal.RefusalNumber.{RefusalNumber}
 use Rattle.lus_syntax.specs.declared.refusal.RefusalNumber.TheVariants as numbers
@@ -16,6 +16,14 @@ use Rattle.lus_source.specs.Tables.{placed}
 abbrev pub Faulty : Type 0 → Fault → Type 0
 Faulty fact faults.Memory = Unit {0}
 Faulty fact (faults.At place) = fact
+
+-- what is given shows that the fact holds, and a fault at a place that it doesn't
+abbrev pub Judged : {T : Type 0} → Result T Fault → Type 0 → Type 0
+Judged result fact = MatchResult result (λ _. fact) (Faulty (fact → ⊥))
+
+-- what is given shows that the test comes out true, and a fault at a place that it comes out false
+abbrev pub Tested : {T : Type 0} → Result T Fault → Bool → Type 0
+Tested result test = MatchResult result (λ _. test ≡ true) (Faulty (test ≡ false))
 
 -- the number of a fault in a pass that refuses by this one
 abbrev pub number_of : RefusalNumber → Fault → RefusalNumber

@@ -9,7 +9,6 @@ use indexmap::IndexSet;
 use std::marker::Model;
 
 /// Names by their places. Contracts see them as the names in their order.
-#[derive(Drop)]
 pub struct Places {
     names: IndexSet<String>,
 }
@@ -48,6 +47,13 @@ impl Places {
     }
 }
 
+// By hand, so that crates above call it: what a derive drops is proved again in each of them.
+impl Drop for Places {
+    fn drop(self) {
+        let Places { names: _ } = self;
+    }
+}
+
 /// What is at a place, if there is so much.
 pub fn at<X>(values: &[X], place: usize) -> Option<&X>
     ensures { option_copied result ≡ slice_get values.now place }
@@ -70,10 +76,21 @@ pub fn find<'a, X>(names: &Places, values: &'a [X], name: &str) -> Option<&'a X>
 }
 
 /// The names of a source's types, values and nodes, each in the order of the declarations.
-#[derive(Drop)]
 pub struct Spaces {
     pub types: Places,
     pub constants: Places,
     pub constructors: Places,
     pub nodes: Places,
+}
+
+// By hand, as that of `Places`.
+impl Drop for Spaces {
+    fn drop(self) {
+        let Spaces {
+            types: _,
+            constants: _,
+            constructors: _,
+            nodes: _,
+        } = self;
+    }
 }

@@ -14,7 +14,6 @@ use std::alloc::Global;
 
 /// The variables of a node with their types, and what the names of its source stand for, each at its name's place:
 /// the values of constants, constructors, types, and the heads of nodes. `declared` says what each type's declaration declares.
-#[derive(Drop)]
 pub struct Scope<'a> {
     pub variables: Places,
     pub variable_kinds: Vec<Kind>,
@@ -117,6 +116,39 @@ impl<'a> Scope<'a> {
                 None => &[],
             },
         }
+    }
+
+    /// What the declarations of its types declare; the rest of the scope is given up.
+    pub fn into_declared(self) -> Vec<Declared>
+        ensures { map declared_of result.items ≡ (scope_of self.entry).declared }
+    {
+        let Scope {
+            variables: _,
+            variable_kinds: _,
+            names: _,
+            constants: _,
+            constructors: _,
+            types: _,
+            declared,
+            nodes: _,
+        } = self;
+        declared
+    }
+}
+
+// By hand, so that crates above call it: what a derive drops is proved again in each of them.
+impl<'a> Drop for Scope<'a> {
+    fn drop(self) {
+        let Scope {
+            variables: _,
+            variable_kinds: _,
+            names: _,
+            constants: _,
+            constructors: _,
+            types: _,
+            declared: _,
+            nodes: _,
+        } = self;
     }
 }
 

@@ -1,9 +1,9 @@
 //! Constants: one with a declared type has that type.
 
-ghost use Rattle.std.specs.Prelude.{◌≡◌, IfErr, OnOk, false, map, true};
+ghost use Rattle.std.specs.Prelude.{◌≡◌, map};
 ghost use Rattle.std.specs.List.{list_all};
 ghost use Rattle.lus_syntax.specs.View.{constant_seen};
-ghost use Rattle.lus_source.specs.ScopeView.{Faulty, scope_of};
+ghost use Rattle.lus_source.specs.ScopeView.{Tested, scope_of};
 ghost use Rattle.lus_types.specs.ByScope.{constant_fits};
 
 use lus_declarations::{kind_of_name, literal};
@@ -40,8 +40,7 @@ fn is_typed(scope: &Scope, constant: &Constant) -> bool
 
 /// Each constant has the type that it declares.
 pub fn check_constants(scope: &Scope, constants: &[Constant]) -> Result<(), Fault>
-    ensures typed { OnOk result (list_all (constant_fits (scope_of scope.now)) (map constant_seen constants.now) ≡ true) }
-    ensures refused { IfErr result (Faulty (list_all (constant_fits (scope_of scope.now)) (map constant_seen constants.now) ≡ false)) }
+    ensures { Tested result (list_all (constant_fits (scope_of scope.now)) (map constant_seen constants.now)) }
 {
     for constant in constants {
         if !is_typed(scope, constant) {

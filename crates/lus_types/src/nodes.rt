@@ -1,6 +1,6 @@
 //! Nodes: the tests of their variables and their equations are well typed, and a function keeps no memory.
 
-ghost use Rattle.std.specs.Prelude.{◌≡◌, ◌≤◌, ◌+◌, ◌++◌, IfOk, IfErr, OnOk, flat_map, is_none, length, map, option_map, true, false};
+ghost use Rattle.std.specs.Prelude.{◌≡◌, ◌≤◌, ◌+◌, ◌++◌, IfOk, OnOk, flat_map, is_none, length, map, option_map};
 ghost use Rattle.std.specs.List.{list_all};
 ghost use Rattle.lus_syntax.specs.Limits.{most_variables};
 ghost use Rattle.lus_syntax.specs.View.{equation_seen, group_seen, node_seen, test_seen};
@@ -9,7 +9,7 @@ ghost use Rattle.lus_source.specs.Tables.{groups};
 ghost use Rattle.lus_source.specs.Sized.{variable_count};
 ghost use Rattle.lus_source.specs.Meaning.{equations_meant, test_meant};
 ghost use Rattle.lus_source.specs.WellTyped.{IsTypedIn, equation_typed, is_pure, memory_fits, test_typed};
-ghost use Rattle.lus_source.specs.ScopeView.{scope_of, Faulty};
+ghost use Rattle.lus_source.specs.ScopeView.{Judged, Tested, scope_of};
 ghost use Rattle.lus_types.specs.ByScope.{node_in, tests_typed, variables_in};
 
 use lus_declarations::kind_of_name;
@@ -24,8 +24,7 @@ use std::alloc::Global;
 /// The test of a group of variables, where it has one.
 fn group_test(scope: &Scope, test: &Option<SourceTest>) -> Result<Option<Test>, Fault>
     ensures meant { IfOk result (λ t. t ≡ option_map (test_meant (scope_of scope.now)) (option_map test_seen test.now)) }
-    ensures typed { OnOk result (test_typed (scope_of scope.now) (option_map test_seen test.now) ≡ true) }
-    ensures refused { IfErr result (Faulty (test_typed (scope_of scope.now) (option_map test_seen test.now) ≡ false)) }
+    ensures typed { Tested result (test_typed (scope_of scope.now) (option_map test_seen test.now)) }
 {
     match test {
         None => Ok(None),
@@ -40,8 +39,7 @@ fn group_test(scope: &Scope, test: &Option<SourceTest>) -> Result<Option<Test>, 
 fn push_group(scope: &Scope, group: &Group, variables: &mut Vec<Variable>) -> Result<(), Fault>
     ensures meant { let more = variables_in (scope_of scope.now) (group_seen group.now) in
         OnOk result (map variable_of variables.new.items ≡ map variable_of variables.old.items ++ more) }
-    ensures typed { OnOk result (test_typed (scope_of scope.now) (group_seen group.now).test ≡ true) }
-    ensures refused { IfErr result (Faulty (test_typed (scope_of scope.now) (group_seen group.now).test ≡ false)) }
+    ensures typed { Tested result (test_typed (scope_of scope.now) (group_seen group.now).test) }
 {
     let test = group_test(scope, &group.test)?;
     let kind = kind_of_name(&scope.names.types, &scope.types, &group.type_name);
@@ -61,8 +59,7 @@ fn push_groups(scope: &Scope, groups: &[Group], variables: &mut Vec<Variable>) -
     ensures meant { let more = flat_map (variables_in (scope_of scope.now)) (map group_seen groups.now) in
         OnOk result (map variable_of variables.new.items ≡ map variable_of variables.old.items ++ more) }
     ensures counted { OnOk result (length variables.new.items ≡ length variables.old.items + variable_count (map group_seen groups.now)) }
-    ensures typed { OnOk result (tests_typed (scope_of scope.now) (map group_seen groups.now) ≡ true) }
-    ensures refused { IfErr result (Faulty (tests_typed (scope_of scope.now) (map group_seen groups.now) ≡ false)) }
+    ensures typed { Tested result (tests_typed (scope_of scope.now) (map group_seen groups.now)) }
 {
     for group in groups {
         push_group(scope, group, variables)?;
@@ -85,8 +82,7 @@ fn node_variables(alloc: Global, scope: &Scope, source: &SourceNode) -> Result<V
         IfOk result (λ v. map variable_of v.all.items ≡ meant) }
     ensures inputs { IfOk result (λ v. v.inputs ≡ variable_count (node_seen source.now).inputs) }
     ensures outputs { IfOk result (λ v. v.outputs ≡ variable_count (node_seen source.now).outputs) }
-    ensures typed { OnOk result (tests_typed (scope_of scope.now) (groups (node_seen source.now)) ≡ true) }
-    ensures refused { IfErr result (Faulty (tests_typed (scope_of scope.now) (groups (node_seen source.now)) ≡ false)) }
+    ensures typed { Tested result (tests_typed (scope_of scope.now) (groups (node_seen source.now))) }
 {
     let mut all = Vec::new(alloc);
     push_groups(scope, &source.inputs, &mut all)?;
@@ -108,8 +104,7 @@ fn equations(
     sources: &[SourceEquation],
 ) -> Result<Vec<Equation>, Fault>
     ensures meant { IfOk result (λ qs. equations_from 0 qs.items ≡ equations_meant (scope_of scope.now) 0 (map equation_seen sources.now)) }
-    ensures typed { OnOk result (list_all (equation_typed (scope_of scope.now)) (map equation_seen sources.now) ≡ true) }
-    ensures refused { IfErr result (Faulty (list_all (equation_typed (scope_of scope.now)) (map equation_seen sources.now) ≡ false)) }
+    ensures typed { Tested result (list_all (equation_typed (scope_of scope.now)) (map equation_seen sources.now)) }
 {
     let mut equations = Vec::with_capacity(alloc, sources.len())?;
     for source in sources {
@@ -132,8 +127,7 @@ fn memory_in(scope: &Scope, sources: &[SourceEquation]) -> Option<Place>
 
 /// A function keeps no memory.
 fn check_memory(scope: &Scope, kind: NodeKind, sources: &[SourceEquation]) -> Result<(), Fault>
-    ensures typed { OnOk result (memory_fits kind (scope_of scope.now) (map equation_seen sources.now) ≡ true) }
-    ensures refused { IfErr result (Faulty (memory_fits kind (scope_of scope.now) (map equation_seen sources.now) ≡ false)) }
+    ensures { Tested result (memory_fits kind (scope_of scope.now) (map equation_seen sources.now)) }
 {
     match kind {
         NodeKind::Node => Ok(()),
@@ -148,8 +142,7 @@ fn check_memory(scope: &Scope, kind: NodeKind, sources: &[SourceEquation]) -> Re
 pub fn node(alloc: Global, scope: &Scope, source: &SourceNode) -> Result<Node, Fault>
     requires few { variable_count (groups (node_seen source.now)) ≤ most_variables }
     ensures meant { IfOk result (λ n. node_of n ≡ node_in (scope_of scope.now) (node_seen source.now)) }
-    ensures typed { OnOk result (IsTypedIn (scope_of scope.now) (node_seen source.now)) }
-    ensures refused { IfErr result (Faulty (IsTypedIn (scope_of scope.now) (node_seen source.now) → ⊥)) }
+    ensures typed { Judged result (IsTypedIn (scope_of scope.now) (node_seen source.now)) }
 {
     let variables = node_variables(alloc, scope, source)?;
     let equations = equations(alloc, scope, &source.equations)?;

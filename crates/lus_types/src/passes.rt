@@ -11,7 +11,7 @@ ghost use Rattle.lus_source.specs.Meaning.{node_meant, program_of};
 ghost use Rattle.lus_source.specs.Tables.{tables as tables_of};
 ghost use Rattle.lus_typing.specs.Refusals.{RefusesFor};
 ghost use Rattle.lus_source.specs.WellTyped.{IsTyped, NodeTyped};
-ghost use Rattle.lus_source.specs.ScopeView.{Faulty, scope_of};
+ghost use Rattle.lus_source.specs.ScopeView.{Judged, scope_of};
 
 use crate::constants::check_constants;
 use crate::nodes::node;
@@ -47,15 +47,14 @@ pub fn parts(program: &Program) -> Result<(), Refusal>
 
 /// The program that a source means, where it is well typed.
 fn program(alloc: Global, loopless: &Loopless) -> Result<Program, Fault>
-    ensures ok { OnOk result (IsTyped (tree_seen loopless.now)) }
+    ensures typed { Judged result (IsTyped (tree_seen loopless.now)) }
     ensures means { IfOk result (λ q. program_seen q ≡ program_of (tree_seen loopless.now)) }
-    ensures refused { IfErr result (Faulty (IsTyped (tree_seen loopless.now) → ⊥)) }
 {
     let mut scope = tables(alloc, loopless)?;
     check_constants(&scope, &loopless.tree().constants)?;
     let nodes = nodes(alloc, &mut scope, loopless)?;
     Ok(Program {
-        types: scope.declared,
+        types: scope.into_declared(),
         nodes,
     })
 }
@@ -63,10 +62,9 @@ fn program(alloc: Global, loopless: &Loopless) -> Result<Program, Fault>
 /// Nodes, each by its own variables.
 fn nodes(alloc: Global, scope: &mut Scope, loopless: &Loopless) -> Result<Vec<Node>, Fault>
     requires scoped { scope_of scope.old ≡ tables_of (tree_seen loopless.now) }
-    ensures typed { let p = tree_seen loopless.now in OnOk result (Each (NodeTyped p) p.nodes) }
+    ensures typed { let p = tree_seen loopless.now in Judged result (Each (NodeTyped p) p.nodes) }
     ensures meant { let p = tree_seen loopless.now in IfOk result (λ ns. map node_of ns.items ≡ map (node_meant p) p.nodes) }
     ensures declared { OnOk result ((scope_of scope.new).declared ≡ (tables_of (tree_seen loopless.now)).declared) }
-    ensures refused { let p = tree_seen loopless.now in IfErr result (Faulty (Each (NodeTyped p) p.nodes → ⊥)) }
 {
     let sources = loopless.tree().nodes.as_slice();
     let mut nodes = Vec::with_capacity(alloc, sources.len())?;

@@ -6,13 +6,13 @@ use Rattle.lus_source.proofs.Faults.{passed_on}
 use Rattle.lus_declarations.specs.Parts.{UsesKnown}
 use Rattle.lus_declarations.proofs.checking.names_of.Goals as goal
 
-pub returns-in_err-check_uses-clause-refused : goal.returns-in_err-check_uses-clause-refused
-returns-in_err-check_uses-clause-refused c =
+pub returns-in_err-check_uses-clause-named : goal.returns-in_err-check_uses-clause-named
+returns-in_err-check_uses-clause-named c =
     let p = tree_seen c.args.tree.now in
     let r = c.from_residual-in_err-check_uses in
-    passed_on (λ wrong named.
+    passed_on _ (λ wrong named.
     let uses : UsesKnown (known p []) p = record { definitions = named.definitions; constants = named.constants; nodes = named.each } in
-    wrong (subst (λ (k : Known). UsesKnown k p) (sym c.in_ok-names.ensures.tables) uses)) r.result c.in_err-check_uses.field-0.0 r.ensures.1 c.in_err-check_uses.ensures.refused
+    wrong (subst (λ (k : Known). UsesKnown k p) (sym c.in_ok-names.ensures.tables) uses)) r.result c.in_err-check_uses.field-0.0 r.ensures.1 c.in_err-check_uses.ensures.known
 
 pub returns-clause-named : goal.returns-clause-named
 returns-clause-named c =

@@ -8,10 +8,10 @@ use Rattle.lus_declarations.proofs.NewNames.{remaining_doubled, remaining_step}
 use Rattle.lus_source.proofs.Faults.{passed_on}
 use Rattle.lus_declarations.proofs.declarations.declare_constructors.Goals as goal
 
-pub returns-in_err-declare-clause-doubled : goal.returns-in_err-declare-clause-doubled
-returns-in_err-declare-clause-doubled c =
+pub returns-in_err-declare-clause-new : goal.returns-in_err-declare-clause-new
+returns-in_err-declare-clause-new c =
     let split = ap (λ (l : List TypeDeclaration). all_constructor_names (map type_seen l)) (drop_step c.args.types.now c.loop-declaration.declaration-index c.declaration-item.result c.loop-declaration-test.true c.declaration-item.is) in
-    passed_on (remaining_doubled _ _ _ _ _ (rw split at c.loop-declaration.invariant)) c.from_residual.result c.in_err-declare.field-0.0 c.from_residual.ensures.1 (rw c.constructors_of.ensures at c.in_err-declare.ensures.doubled)
+    passed_on _ (remaining_doubled _ _ _ _ _ (rw split at c.loop-declaration.invariant)) c.from_residual.result c.in_err-declare.field-0.0 c.from_residual.ensures.1 (rw c.constructors_of.ensures at c.in_err-declare.ensures.new)
 
 pub loop-declaration-preserved : goal.loop-declaration-preserved
 loop-declaration-preserved c =

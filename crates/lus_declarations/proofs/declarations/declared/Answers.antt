@@ -8,26 +8,26 @@ use Rattle.lus_declarations.proofs.NewNames.{from_empty}
 use Rattle.lus_declarations.proofs.DeclaredNames.{constant_twice, constants_there, constructor_twice, constructors, node_twice, nodes_distinct, nodes_there, type_twice, types_distinct, types_there, value_twice, values_distinct}
 use Rattle.lus_declarations.proofs.declarations.declared.Goals as goal
 
-pub returns-in_err-declare_all-clause-doubled : goal.returns-in_err-declare_all-clause-doubled
-returns-in_err-declare_all-clause-doubled c =
-    passed_on (type_twice c.args.tree.now (texts c.new-names.result.types.keys) (ap (λ (k : Known). k.types) c.new-names.ensures)) c.from_residual.result c.in_err-declare_all.field-0.0 c.from_residual.ensures.1 (rw c.deref.ensures.value at c.in_err-declare_all.ensures.doubled)
+pub returns-in_err-declare_all-clause-distinct : goal.returns-in_err-declare_all-clause-distinct
+returns-in_err-declare_all-clause-distinct c =
+    passed_on _ (type_twice c.args.tree.now (texts c.new-names.result.types.keys) (ap (λ (k : Known). k.types) c.new-names.ensures)) c.from_residual.result c.in_err-declare_all.field-0.0 c.from_residual.ensures.1 (rw c.deref.ensures.value at c.in_err-declare_all.ensures.new)
 
-pub returns-in_err-declare_all-2-clause-doubled : goal.returns-in_err-declare_all-2-clause-doubled
-returns-in_err-declare_all-2-clause-doubled c =
-    passed_on (constant_twice c.args.tree.now (texts c.new-names.result.constants.keys) (ap (λ (k : Known). k.constants) c.new-names.ensures)) c.from_residual-in_err-declare_all-2.result c.in_err-declare_all-2.field-0.0 c.from_residual-in_err-declare_all-2.ensures.1 (rw c.deref-2.ensures.value at c.in_err-declare_all-2.ensures.doubled)
+pub returns-in_err-declare_all-2-clause-distinct : goal.returns-in_err-declare_all-2-clause-distinct
+returns-in_err-declare_all-2-clause-distinct c =
+    passed_on _ (constant_twice c.args.tree.now (texts c.new-names.result.constants.keys) (ap (λ (k : Known). k.constants) c.new-names.ensures)) c.from_residual-in_err-declare_all-2.result c.in_err-declare_all-2.field-0.0 c.from_residual-in_err-declare_all-2.ensures.1 (rw c.deref-2.ensures.value at c.in_err-declare_all-2.ensures.new)
 
-pub returns-in_err-declare_constructors-clause-doubled : goal.returns-in_err-declare_constructors-clause-doubled
-returns-in_err-declare_constructors-clause-doubled c =
-    passed_on (constructor_twice c.args.tree.now (texts c.new-names.result.constructors.keys) (ap (λ (k : Known). k.constructors) c.new-names.ensures)) c.from_residual-in_err-declare_constructors.result c.in_err-declare_constructors.field-0.0 c.from_residual-in_err-declare_constructors.ensures.1 (rw c.deref-3.ensures.value at c.in_err-declare_constructors.ensures.doubled)
+pub returns-in_err-declare_constructors-clause-distinct : goal.returns-in_err-declare_constructors-clause-distinct
+returns-in_err-declare_constructors-clause-distinct c =
+    passed_on _ (constructor_twice c.args.tree.now (texts c.new-names.result.constructors.keys) (ap (λ (k : Known). k.constructors) c.new-names.ensures)) c.from_residual-in_err-declare_constructors.result c.in_err-declare_constructors.field-0.0 c.from_residual-in_err-declare_constructors.ensures.1 (rw c.deref-3.ensures.value at c.in_err-declare_constructors.ensures.new)
 
-pub returns-in_err-refuse-clause-doubled : goal.returns-in_err-refuse-clause-doubled
-returns-in_err-refuse-clause-doubled c =
-    passed_on (value_twice c.args.tree.now (texts c.new-names.result.constants.keys) (ap (λ (k : Known). k.constants) c.new-names.ensures) (texts c.declare_all-2.new.table.keys) (is_none c.doubled_value.result) (rw c.deref-2.ensures.value at c.in_ok-declare_all-2.ensures.kept) c.doubled_value.ensures)
-    c.from_residual-in_err-refuse.result c.in_err-refuse.field-0.0 c.from_residual-in_err-refuse.ensures.1 c.in_err-refuse.ensures.err
+pub returns-in_err-refuse-clause-distinct : goal.returns-in_err-refuse-clause-distinct
+returns-in_err-refuse-clause-distinct c =
+    passed_on _ (value_twice c.args.tree.now (texts c.new-names.result.constants.keys) (ap (λ (k : Known). k.constants) c.new-names.ensures) (texts c.declare_all-2.new.table.keys) (is_none c.doubled_value.result) (rw c.deref-2.ensures.value at c.in_ok-declare_all-2.ensures.kept) c.doubled_value.ensures)
+    c.from_residual-in_err-refuse.result c.in_err-refuse.field-0.0 c.from_residual-in_err-refuse.ensures.1 c.in_err-refuse.ensures
 
-pub returns-in_err-declare_all-3-clause-doubled : goal.returns-in_err-declare_all-3-clause-doubled
-returns-in_err-declare_all-3-clause-doubled c =
-    passed_on (node_twice c.args.tree.now (texts c.new-names.result.nodes.keys) (ap (λ (k : Known). k.nodes) c.new-names.ensures)) c.from_residual-in_err-declare_all-3.result c.in_err-declare_all-3.field-0.0 c.from_residual-in_err-declare_all-3.ensures.1 (rw c.deref-4.ensures.value at c.in_err-declare_all-3.ensures.doubled)
+pub returns-in_err-declare_all-3-clause-distinct : goal.returns-in_err-declare_all-3-clause-distinct
+returns-in_err-declare_all-3-clause-distinct c =
+    passed_on _ (node_twice c.args.tree.now (texts c.new-names.result.nodes.keys) (ap (λ (k : Known). k.nodes) c.new-names.ensures)) c.from_residual-in_err-declare_all-3.result c.in_err-declare_all-3.field-0.0 c.from_residual-in_err-declare_all-3.ensures.1 (rw c.deref-4.ensures.value at c.in_err-declare_all-3.ensures.new)
 
 pub returns-clause-tables : goal.returns-clause-tables
 returns-clause-tables c =
@@ -49,6 +49,6 @@ returns-clause-distinct c =
       values =
           values_distinct t (texts c.new-names.result.constants.keys) (ap (λ (k : Known). k.constants) empty) (texts c.declare_all-2.new.table.keys) (is_none c.doubled_value.result)
           (rw c.deref-2.ensures.value at c.in_ok-declare_all-2.ensures.kept) c.doubled_value.ensures (texts c.new-names.result.constructors.keys) (ap (λ (k : Known). k.constructors) empty)
-          (rw c.deref-2.ensures.value at c.in_ok-declare_all-2.ensures.new) (rw c.deref-3.ensures.value at c.in_ok-declare_constructors.ensures.new) c.in_ok-refuse.ensures.ok;
+          (rw c.deref-2.ensures.value at c.in_ok-declare_all-2.ensures.new) (rw c.deref-3.ensures.value at c.in_ok-declare_constructors.ensures.new) c.in_ok-refuse.ensures;
       nodes = nodes_distinct t (texts c.new-names.result.nodes.keys) (ap (λ (k : Known). k.nodes) empty) (rw c.deref-4.ensures.value at c.in_ok-declare_all-3.ensures.new);
     }

@@ -14,7 +14,7 @@ returns-in_err-check_defined-clause-refused c =
     let f = node_seen c.args.node.now in
     let table = texts c.new.result.keys in
     let empty : table ≡ [] = search rules in
-    passed_on (λ wrong distinct named.
+    passed_on _ (λ wrong distinct named.
     let new : all_new table (defined_names f) ≡ true = ap (λ (t : List Text). all_new t (defined_names f)) empty ∙ defined_distinct c.args.node.now distinct in
     let within : list_all (is_in (table ++ defined_names f)) (left_names f) ≡ true = ap (λ (t : List Text). list_all (is_in (t ++ defined_names f)) (left_names f)) empty ∙ named.defined in
     wrong new within) c.from_residual-in_err-check_defined.result c.in_err-check_defined.field-0.0 c.from_residual-in_err-check_defined.ensures.1 c.in_err-check_defined.ensures.refused

@@ -15,8 +15,8 @@ invariant_of-result c =
       nodes = c.in_ok-nodes.ensures.order;
     }
 
-pub returns-clause-ok : goal.returns-clause-ok
-returns-clause-ok c =
+pub returns-clause-loopless : goal.returns-clause-loopless
+returns-clause-loopless c =
     let p = tree_seen c.args.named in
     record {
       types = order_has_none (type_uses p) c.in_ok-types.types.items c.in_ok-types.ensures.order;

@@ -10,8 +10,8 @@ use Rattle.lus_declarations.specs.NameView.{texts}
 use Rattle.lus_declarations.proofs.NameLists.{is_in_keys, not_new, is_new_too, grown_keys}
 use Rattle.lus_declarations.proofs.names.declare.Goals as goal
 
-pub returns-then-not-is_new-clause-doubled : goal.returns-then-not-is_new-clause-doubled
-returns-then-not-is_new-clause-doubled c =
+pub returns-then-not-is_new-clause-new : goal.returns-then-not-is_new-clause-new
+returns-then-not-is_new-clause-new c =
     let n = string_bytes c.name-item.result.text in
     let keys = c.loop-name.table.keys in
     let split : drop c.loop-name.name-index c.args.names.now ≡ c.name-item.result ∷ drop (c.loop-name.name-index + 1) c.args.names.now = grind (arith, common_steps) in

@@ -5,10 +5,10 @@ use Rattle.lus_source.proofs.Steps.{drop_step}
 use Rattle.lus_declarations.proofs.NewNames.{remaining_doubled, remaining_step}
 use Rattle.lus_declarations.proofs.naming.declare_all.Goals as goal
 
-pub returns-in_err-declare-clause-doubled : goal.returns-in_err-declare-clause-doubled
-returns-in_err-declare-clause-doubled g c =
+pub returns-in_err-declare-clause-new : goal.returns-in_err-declare-clause-new
+returns-in_err-declare-clause-new g c =
     let split = ap (flat_map g.T.Naming.named) (drop_step c.args.things.now c.loop-thing.thing-index c.thing-item.result c.loop-thing-test.true c.thing-item.is) in
-    passed_on (remaining_doubled _ _ _ _ _ (rw split at c.loop-thing.invariant)) c.from_residual.result c.in_err-declare.field-0.0 c.from_residual.ensures.1 (rw c.names.ensures at c.in_err-declare.ensures.doubled)
+    passed_on _ (remaining_doubled _ _ _ _ _ (rw split at c.loop-thing.invariant)) c.from_residual.result c.in_err-declare.field-0.0 c.from_residual.ensures.1 (rw c.names.ensures at c.in_err-declare.ensures.new)
 
 pub loop-thing-preserved : goal.loop-thing-preserved
 loop-thing-preserved g c =

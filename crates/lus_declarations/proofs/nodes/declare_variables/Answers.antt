@@ -2,21 +2,21 @@
 use Rattle.std.proofs.Common.{◌∙◌, sym}
 use Rattle.std.proofs.lemmas.Result.{on_ok_weaker}
 use Rattle.lus_declarations.specs.NameView.{texts}
-use Rattle.lus_source.proofs.Faults.{passed_on, refused_by}
+use Rattle.lus_source.proofs.Faults.{judged_by, passed_on}
 use Rattle.lus_declarations.proofs.GroupNames.{variables_remain}
 use Rattle.lus_declarations.proofs.NewNames.{remaining_doubled, remaining_step}
 use Rattle.lus_declarations.proofs.nodes.declare_variables.Goals as goal
 
-pub returns-in_err-declare_all-clause-doubled : goal.returns-in_err-declare_all-clause-doubled
-returns-in_err-declare_all-clause-doubled c =
+pub returns-in_err-declare_all-clause-new : goal.returns-in_err-declare_all-clause-new
+returns-in_err-declare_all-clause-new c =
     let start = variables_remain c.args.node.now (texts c.args.table.now.keys) in
-    passed_on (remaining_doubled _ _ _ _ _ start) c.from_residual.result c.in_err-declare_all.field-0.0 c.from_residual.ensures.1 (rw c.deref.ensures.value at c.in_err-declare_all.ensures.doubled)
+    passed_on _ (remaining_doubled _ _ _ _ _ start) c.from_residual.result c.in_err-declare_all.field-0.0 c.from_residual.ensures.1 (rw c.deref.ensures.value at c.in_err-declare_all.ensures.new)
 
-pub returns-in_err-declare_all-2-clause-doubled : goal.returns-in_err-declare_all-2-clause-doubled
-returns-in_err-declare_all-2-clause-doubled c =
+pub returns-in_err-declare_all-2-clause-new : goal.returns-in_err-declare_all-2-clause-new
+returns-in_err-declare_all-2-clause-new c =
     let start = variables_remain c.args.node.now (texts c.args.table.now.keys) in
     let behind = remaining_step _ _ _ _ _ _ start (rw c.deref.ensures.value at c.in_ok-declare_all.ensures.kept) (rw c.deref.ensures.value at c.in_ok-declare_all.ensures.new) in
-    passed_on (remaining_doubled _ _ _ _ _ behind) c.from_residual-in_err-declare_all-2.result c.in_err-declare_all-2.field-0.0 c.from_residual-in_err-declare_all-2.ensures.1 (rw c.deref-2.ensures.value at c.in_err-declare_all-2.ensures.doubled)
+    passed_on _ (remaining_doubled _ _ _ _ _ behind) c.from_residual-in_err-declare_all-2.result c.in_err-declare_all-2.field-0.0 c.from_residual-in_err-declare_all-2.ensures.1 (rw c.deref-2.ensures.value at c.in_err-declare_all-2.ensures.new)
 
 pub returns-clause-kept : goal.returns-clause-kept
 returns-clause-kept c =
@@ -30,11 +30,4 @@ returns-clause-new c =
     let start = variables_remain c.args.node.now (texts c.args.table.now.keys) in
     let behind = remaining_step _ _ _ _ _ _ start (rw c.deref.ensures.value at c.in_ok-declare_all.ensures.kept) (rw c.deref.ensures.value at c.in_ok-declare_all.ensures.new) in
     let last = remaining_step _ _ _ _ _ _ behind (rw c.deref-2.ensures.value at c.in_ok-declare_all-2.ensures.kept) (rw c.deref-2.ensures.value at c.in_ok-declare_all-2.ensures.new) in
-    on_ok_weaker c.declare_all-3.result (λ new. sym last.same ∙ new) (rw c.deref-3.ensures.value at c.declare_all-3.ensures.new)
-
-pub returns-clause-doubled : goal.returns-clause-doubled
-returns-clause-doubled c =
-    let start = variables_remain c.args.node.now (texts c.args.table.now.keys) in
-    let behind = remaining_step _ _ _ _ _ _ start (rw c.deref.ensures.value at c.in_ok-declare_all.ensures.kept) (rw c.deref.ensures.value at c.in_ok-declare_all.ensures.new) in
-    let last = remaining_step _ _ _ _ _ _ behind (rw c.deref-2.ensures.value at c.in_ok-declare_all-2.ensures.kept) (rw c.deref-2.ensures.value at c.in_ok-declare_all-2.ensures.new) in
-    refused_by (λ doubled. sym last.same ∙ doubled) c.declare_all-3.result (rw c.deref-3.ensures.value at c.declare_all-3.ensures.doubled)
+    judged_by (λ new. sym last.same ∙ new) (λ doubled. sym last.same ∙ doubled) c.declare_all-3.result (rw c.deref-3.ensures.value at c.declare_all-3.ensures.new)

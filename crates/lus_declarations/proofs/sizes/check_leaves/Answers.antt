@@ -41,8 +41,8 @@ loop-place-preserved c =
       filled = table_more t c.types-order.result.now o 0 1 (λ names at k. definition_leaves names at) (leaves_step_local (tree_seen t)) i names leaves count d lt c.type_names-types.ensures here is.filled counted.0 is.size;
     }
 
-pub returns-in_default-clause-err : goal.returns-in_default-clause-err
-returns-in_default-clause-err c bounded =
+pub returns-in_default-clause-within : goal.returns-in_default-clause-within
+returns-in_default-clause-within c bounded =
     let t = c.args.loopless.now in
     let i = c.loop-place.place-index in
     let x = get_or c.types-order.result.now i 0 in
@@ -56,8 +56,8 @@ returns-in_default-clause-err c bounded =
     let le = below_at (λ k. leaves_at (tree_seen t) k ≤ 1024) (length (tree_seen t).types) bounded x (omega (arith, fits, types_length t)) in
     omega (arith, right, past, le)
 
-pub returns-clause-ok : goal.returns-clause-ok
-returns-clause-ok c =
+pub returns-clause-within : goal.returns-clause-within
+returns-clause-within c =
     let t = c.args.loopless.now in
     let leaves = c.loop-place.leaves.items in
     let is = c.loop-place.invariant in

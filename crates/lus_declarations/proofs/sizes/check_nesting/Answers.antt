@@ -8,15 +8,15 @@ use Rattle.lus_source.specs.Sized.{own_level}
 use Rattle.lus_declarations.proofs.DeepThings.{one_too_deep, same_within}
 use Rattle.lus_declarations.proofs.sizes.check_nesting.Goals as goal
 
-pub returns-in-Some-clause-err : goal.returns-in-Some-clause-err
-returns-in-Some-clause-err c =
+pub returns-in-Some : goal.returns-in-Some
+returns-in-Some c =
     let p = tree_seen c.args.loopless.now in
     let uses_are : uses_of c.deref.result.now ≡ type_uses p = rw (← c.deref.ensures.value, c.named.ensures.same) at c.in_ok-uses.ensures in
     let own_is : c.deref-2.result.now ≡ map (λ d. own_level d.definition) p.types = c.deref-2.ensures.value ∙ rw (c.as_slice-types.ensures.value, c.tree.ensures.same) at c.in_ok-own.ensures in
     one_too_deep c.deref.result.now c.deref-2.result.now (type_uses p) (map (λ d. own_level d.definition) p.types) uses_are own_is (length p.types) 64 (length-map p.types (λ d. definition_uses (type_names p) d.definition)) c.in-Some.place (rw c.in-Some.is at c.in_ok-place.ensures)
 
-pub returns-clause-ok : goal.returns-clause-ok
-returns-clause-ok c =
+pub returns : goal.returns
+returns c =
     let p = tree_seen c.args.loopless.now in
     let uses_are : uses_of c.deref.result.now ≡ type_uses p = rw (← c.deref.ensures.value, c.named.ensures.same) at c.in_ok-uses.ensures in
     let own_is : c.deref-2.result.now ≡ map (λ d. own_level d.definition) p.types = c.deref-2.ensures.value ∙ rw (c.as_slice-types.ensures.value, c.tree.ensures.same) at c.in_ok-own.ensures in

@@ -5,12 +5,12 @@ use Rattle.lus_source.specs.ScopeView.{scope_of}
 use Rattle.lus_types.proofs.Groups.{all_hold-last}
 use Rattle.lus_types.proofs.nodes.node_variables.Goals as goal
 
-pub returns-in_err-push_groups-3-clause-refused : goal.returns-in_err-push_groups-3-clause-refused
-returns-in_err-push_groups-3-clause-refused c =
+pub returns-in_err-push_groups-3-clause-typed : goal.returns-in_err-push_groups-3-clause-typed
+returns-in_err-push_groups-3-clause-typed c =
     let s = scope_of c.args.scope.now in
     let f = c.args.source.now in
     let first = rw c.deref.ensures.value at c.in_ok-push_groups.ensures.typed in
     let second = rw c.deref-2.ensures.value at c.in_ok-push_groups-2.ensures.typed in
     let last = all_hold-last (λ g. test_typed s g.test) (map group_seen f.inputs.items) (map group_seen f.outputs.items) (map group_seen f.locals.items) first second in
-    let refused = rw c.deref-3.ensures.value at c.in_err-push_groups-3.ensures.refused in
+    let refused = rw c.deref-3.ensures.value at c.in_err-push_groups-3.ensures.typed in
     rw last (search (rules, refused))

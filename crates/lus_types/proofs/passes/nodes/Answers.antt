@@ -35,21 +35,21 @@ pub node-requires : goal.node-requires
 node-requires c =
     record { few = here (λ f. variable_count (groups f) ≤ most_variables) c.tree.result.now c.as_slice-sources.result.now c.loop-source.source-index c.source-item.result c.as_slice-sources.ensures.value c.loop-source-test.true c.source-item.is c.tree.ensures.counted.variables }
 
-pub returns-in_err-enter-clause-refused : goal.returns-in_err-enter-clause-refused
-returns-in_err-enter-clause-refused c =
+pub returns-in_err-enter-clause-typed : goal.returns-in_err-enter-clause-typed
+returns-in_err-enter-clause-typed c =
     let t = c.tree.result.now in
     let named = here (λ f. NodeNamed (known (tree_seen t) (groups f)) f) t c.as_slice-sources.result.now c.loop-source.source-index c.source-item.result c.as_slice-sources.ensures.value c.loop-source-test.true c.source-item.is c.tree.ensures.named.each in
-    passed_on (λ wrong typed. wrong named.distinct) c.from_residual-in_err-enter.result c.in_err-enter.field-0.0 c.from_residual-in_err-enter.ensures.1 c.in_err-enter.ensures.doubled
+    passed_on _ (λ wrong typed. wrong named.distinct) c.from_residual-in_err-enter.result c.in_err-enter.field-0.0 c.from_residual-in_err-enter.ensures.1 c.in_err-enter.ensures.doubled
 
-pub returns-in_err-node-clause-refused : goal.returns-in_err-node-clause-refused
-returns-in_err-node-clause-refused c =
+pub returns-in_err-node-clause-typed : goal.returns-in_err-node-clause-typed
+returns-in_err-node-clause-typed c =
     let t = c.args.loopless.now in
     let p = tree_seen t in
     let f = node_seen c.source-item.result in
     let scoped : scope_of c.enter.new.scope ≡ scope p f = c.in_ok-enter.ensures.entered ∙ ap (λ s. entered s f) c.loop-source.invariant.scoped ∙ entered_of_source p f in
     let sources = c.as_slice-sources.ensures.value ∙ ap (λ (u : StoredTree). u.nodes.items) c.tree.ensures.same in
-    passed_on (λ wrong all. wrong (subst (λ s. IsTypedIn s f) (sym scoped) (here (NodeTyped p) t c.as_slice-sources.result.now c.loop-source.source-index c.source-item.result sources c.loop-source-test.true c.source-item.is all)))
-    c.from_residual-in_err-node.result c.in_err-node.field-0.0 c.from_residual-in_err-node.ensures.1 c.in_err-node.ensures.refused
+    passed_on _ (λ wrong all. wrong (subst (λ s. IsTypedIn s f) (sym scoped) (here (NodeTyped p) t c.as_slice-sources.result.now c.loop-source.source-index c.source-item.result sources c.loop-source-test.true c.source-item.is all)))
+    c.from_residual-in_err-node.result c.in_err-node.field-0.0 c.from_residual-in_err-node.ensures.1 c.in_err-node.ensures.typed
 
 pub loop-source-preserved : goal.loop-source-preserved
 loop-source-preserved c =
