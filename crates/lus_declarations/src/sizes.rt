@@ -116,13 +116,13 @@ fn check_nesting(alloc: Global, loopless: &Loopless) -> Result<(), Fault>
 
 /// How many levels each type adds to those of the types that it names.
 fn own_levels(alloc: Global, types: &[TypeDeclaration]) -> Result<Vec<usize>, Memory>
-    ensures { IfOk result (λ own. own.items ≡ map (λ d. own_level d.definition) (map type_seen types.now)) }
+    ensures { IfOk result (λ levels. levels.items ≡ map (λ d. own_level d.definition) (map type_seen types.now)) }
 {
-    let mut own = Vec::new(alloc);
+    let mut levels = Vec::new(alloc);
     for declaration in types {
-        own.push(levels_of(&declaration.definition))?;
+        levels.push(levels_of(&declaration.definition))?;
     }
-    Ok(own)
+    Ok(levels)
 }
 
 fn levels_of(definition: &Definition) -> usize
