@@ -7,7 +7,7 @@ use Rattle.lus_program.specs.declared.types.Declared.{Declared as StoredDeclared
 use Rattle.lus_program.specs.declared.types.Field.{Field as StoredField}
 use Rattle.lus_program.specs.View.{declared_of, field_of}
 use Rattle.lus_typing.specs.Kinds.{fields_in}
-use Rattle.lus_source.specs.Types.{field_from, has_few_fields}
+use Rattle.lus_source.specs.Labels.{field_from, has_few_fields}
 use Rattle.std.proofs.lemmas.Bool.{leb-true}
 use Rattle.lus_values.proofs.Equalities.{and_left, and_right}
 use Rattle.lus_source.proofs.Steps.{drop_step}

@@ -1,5 +1,5 @@
 -- Small sources: what they mean, and which rules they keep and break.
-use Rattle.std.proofs.Common.{rules, ◌≡◌, ℕ, refl, List, [], ◌∷◌, Some, None, true, false, pos, negsuc}
+use Rattle.std.proofs.Common.{rules, ◌≡◌, ℕ, refl, List, [], ◌∷◌, Option, Some, None, true, false, pos, negsuc}
 use Rattle.lus_syntax.specs.declared.token.Place.{Place}
 use Rattle.lus_syntax.specs.declared.token.Span.{Span}
 use Rattle.lus_syntax.specs.declared.tree.NodeKind.TheVariants as node_kinds
@@ -17,11 +17,17 @@ use Rattle.lus_source.specs.Named.{Named, all_new}
 use Rattle.lus_graph.specs.Ways.{Leads, step}
 use Rattle.lus_source.specs.Loopless.{node_uses}
 use Rattle.lus_source.specs.Sized.{Counted, Bounded, leaves_at, nesting_at, call_depth_at}
-use Rattle.lus_source.specs.Types.{kind_of}
-use Rattle.lus_source.specs.Meaning.{meant, program_of}
-use Rattle.lus_source.specs.WellTyped.{equation_typed, memory_fits, IsTyped}
+use Rattle.lus_source.specs.Scopes.{Scope}
+use Rattle.lus_source.specs.Heads.{heads, head, kind_by}
+use Rattle.lus_source.specs.Meaning.{meant, equation_meant, program_of}
+use Rattle.lus_source.specs.WellTyped.{memory_fits, IsTyped}
 use Rattle.lus_values.specs.Lists.{Each}
-use Rattle.lus_typing.specs.Resolved.{NodeResolved}
+use Rattle.lus_program.specs.declared.types.Kind.{Kind}
+use Rattle.lus_typing.specs.Resolved.{EquationFits, NodeResolved}
+
+-- the type of an expression of a text
+abbrev kind_of : Scope → tree.Expression → Option Kind
+kind_of s e = kind_by s (meant s e)
 
 abbrev start : Place
 start = record { byte = 0; line = 1; column = 1 }
@@ -221,7 +227,7 @@ unknown_field_has_none : kind_of (scope fields s) (tree.Field (var 121) (n 120))
 unknown_field_has_none = refl
 
 -- a call with several outputs is a whole right side, and no expression
-two_outputs_are_given : equation_typed (scope fields t) (equation (n 121 ∷ n 122 ∷ []) (tree.Call (n 115) (argument (var 120) tree.End))) ≡ true
+two_outputs_are_given : EquationFits (heads (scope fields t)) (head (scope fields t)) (equation_meant (scope fields t) 0 (equation (n 121 ∷ n 122 ∷ []) (tree.Call (n 115) (argument (var 120) tree.End))))
 two_outputs_are_given = refl
 
 two_outputs_have_no_type : kind_of (scope fields t) (tree.Call (n 115) (argument (var 120) tree.End)) ≡ None

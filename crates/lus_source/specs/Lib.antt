@@ -3,7 +3,8 @@ pub mod Loopless
 pub mod Tables
 pub mod Named
 pub mod Sized
-pub mod Types
+pub mod Labels
+pub mod Heads
 pub mod Meaning
 pub mod WellTyped
 pub mod Refusals

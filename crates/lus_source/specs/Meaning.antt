@@ -1,13 +1,17 @@
--- The program that a tree means: names become places. Where names are unknown or types are wrong it is of no use.
-use Rattle.std.specs.Prelude.{◌+◌, ℕ, zero, suc, List, [], ◌∷◌, Option, Some, None, cond, map, flat_map, length, nat_eq, option_map, unwrap_or}
+-- The program that a tree means: names become places. What has no meaning, as a field that its structure hasn't, means nil, which has no
+-- type.
+use Rattle.std.specs.Prelude.{◌&&◌, ◌+◌, ℕ, zero, suc, Bool, true, false, List, [], ◌∷◌, Option, Some, None, cond, map, flat_map, length, nat_eq, option_map, unwrap_or}
+use Rattle.std.specs.Option.{option_and_then}
 use Rattle.lus_syntax.specs.Lexemes.{Text}
 use Rattle.lus_syntax.specs.declared.tree.Prefix.{Prefix}
 use Rattle.lus_syntax.specs.declared.tree.Prefix.TheVariants as prefixes
 use Rattle.lus_syntax.specs.declared.tree.Infix.{Infix}
 use Rattle.lus_syntax.specs.declared.tree.Infix.TheVariants as infixes
 use Rattle.lus_syntax.specs.declared.tree.ListOperator.{ListOperator}
+use Rattle.lus_syntax.specs.declared.tree.ListOperator.TheVariants as list_operators
 use Rattle.lus_syntax.specs.Trees as tree
-use Rattle.lus_syntax.specs.Trees.{Named, Numeral, Truth, Name, Call, Structure, Merge, Variadic, Field, Parentheses, When, Unary, Binary, If, Parts, End, More, Group, Tree}
+use Rattle.lus_syntax.specs.Trees.{Named, Numeral, Truth, Name, Call, Structure, Merge, Variadic, Field, Parentheses, When, Unary, Binary, If, Lead, Plain, Parts, End, More, Group, Tree}
+use Rattle.lus_values.specs.declared.operator.Op.{Op}
 use Rattle.lus_values.specs.declared.operator.Op.TheVariants as ops
 use Rattle.lus_values.specs.declared.operator.Operator.TheVariants as operators
 use Rattle.lus_values.specs.Values.{bool, int, nil}
@@ -15,9 +19,15 @@ use Rattle.lus_program.specs.declared.expr.Test.{Test}
 use Rattle.lus_program.specs.declared.types.Kind.{Kind}
 use Rattle.lus_program.specs.declared.types.Kind.TheVariants as kinds
 use Rattle.lus_program.specs.Programs.{Expression, literal, variable, operate, pre, arrow, fby, when, merge, call, Operands, none, more, calls, numbered, Variable, Equation, Node, Program}
+use Rattle.lus_typing.specs.Kinds.{where_true}
 use Rattle.lus_source.specs.Scopes.{Scope, entry}
+use Rattle.lus_source.specs.Heads.{kind_by}
 use Rattle.lus_source.specs.Tables.{scope, groups, group_kinds, kind_named, declared_as}
-use Rattle.lus_source.specs.Types.{list_operation, name_value, kind_of, variable_kind, size_of, fields_of, field_named, branch_places, fields_asked, test_placed}
+use Rattle.lus_source.specs.Labels.{each_once, name_value, size_of, fields_of, field_named, branch_places, fields_asked, test_placed}
+
+-- what a found thing means
+abbrev pub where_found : {X : Type 0} → Option X → (X → Expression) → Expression
+where_found found means = elim found [ Some x ↦ means x | None ↦ literal nil ]
 
 abbrev pub one : Expression → Operands
 one e = more e none
@@ -35,8 +45,21 @@ infix_meant infixes.Fby a b = fby a b
 infix_meant infixes.Arrow a b = arrow a b
 infix_meant (infixes.Compute op) a b = operate (operators.Compute op) (two a b)
 
-abbrev pub variadic_meant : ListOperator → Operands → Expression
-variadic_meant op es = operate (operators.Compute (list_operation op)) es
+abbrev pub is_argument : Lead → Bool
+is_argument Plain = true
+is_argument l = false
+
+-- operands and arguments have nothing before them
+abbrev pub are_arguments : Parts → Bool
+are_arguments End = true
+are_arguments (More l e ps) = is_argument l && are_arguments ps
+
+abbrev pub list_operation : ListOperator → Op
+list_operation list_operators.AtMostOne = ops.AtMostOne
+list_operation list_operators.Nor = ops.Nor
+
+abbrev pub variadic_meant : ListOperator → Parts → Operands → Expression
+variadic_meant op ps es = cond (are_arguments ps) (operate (operators.Compute (list_operation op)) es) (literal nil)
 
 -- the operand beside the number c
 abbrev pub beside : ℕ → List ℕ → Operands → Expression
@@ -51,59 +74,56 @@ in_order_from c (suc n) ns es = more (beside c ns es) (in_order_from (suc c) n n
 abbrev pub in_order : ℕ → List ℕ → Operands → Operands
 in_order n ns es = in_order_from 0 n ns es
 
--- the place of a type's declaration
-abbrev pub type_number : Kind → ℕ
-type_number (kinds.Enum t) = t
-type_number (kinds.Struct t) = t
-type_number k = 0
+-- operands in the order of the numbers beside them, where each below n stands exactly once and no other does
+abbrev pub arranged : ℕ → Operands → List ℕ → Option Operands
+arranged n es ns = where_true (each_once n ns) (Some (in_order n ns es))
 
 module _ (s : Scope) where
   abbrev pub variable_place : Text → ℕ
   variable_place n = elim (entry s.variables n) [ Some x ↦ x.place | None ↦ 0 ]
 
-  abbrev pub no_test : Test
-  no_test = record { variable = 0; constructor = 0 }
-
-  abbrev pub test_meant : tree.Test → Test
-  test_meant t = unwrap_or (test_placed s t) no_test
-
-  abbrev pub node_place : Text → ℕ
-  node_place f = elim (entry s.nodes f) [ Some g ↦ g.place | None ↦ 0 ]
-
   -- a variable hides a value of its name
   abbrev pub name_meant : Text → Expression
   name_meant n = elim (entry s.variables n) [ Some x ↦ variable x.place | None ↦ literal (unwrap_or (name_value s n) nil) ]
 
-  -- a field by its place
+  abbrev pub call_meant : Text → Parts → Operands → Expression
+  call_meant f ps es = where_found (entry s.nodes f) (λ g. cond (are_arguments ps) (call g.place 0 es) (literal nil))
+
+  -- a field by its place among those of its structure's type
   abbrev pub field_meant : Option Kind → Text → Expression → Expression
-  field_meant k x a = elim (field_named (fields_of s (unwrap_or k kinds.Bool)) x) [
-    | Some f ↦ operate (operators.Field f.place) (one a)
-    | None ↦ operate (operators.Field 0) (one a)
-  ]
+  field_meant k x a = where_found (option_and_then (λ l. field_named (fields_of s l) x) k) (λ f. operate (operators.Field f.place) (one a))
 
-  -- branches in the order of the constructors
-  abbrev pub branches_meant : Kind → Parts → Operands → Operands
-  branches_meant k bs es = in_order (size_of s k) (unwrap_or (branch_places s k bs) []) es
+  -- each constructor of the type stands before exactly one branch: branches in the order of the constructors
+  abbrev pub branches_meant : Kind → Parts → Operands → Option Operands
+  branches_meant k bs es = option_and_then (arranged (size_of s k) es) (branch_places s k bs)
 
-  -- fields in the order of their declaration
-  abbrev pub fields_meant : Kind → Parts → Operands → Operands
-  fields_meant k fs es = in_order (length (fields_of s k)) (map (λ x. x.place) (unwrap_or (fields_asked s k fs) [])) es
+  abbrev pub merge_meant : Text → Parts → Operands → Expression
+  merge_meant c bs es = where_found (entry s.variables c) (λ x. where_found (branches_meant x.kind bs es) (merge x.place))
 
-  abbrev pub structure_meant : Kind → Parts → Operands → Expression
-  structure_meant k fs es = operate (operators.Structure (type_number k)) (fields_meant k fs es)
+  -- each field of the type stands exactly once: fields in the order of their declaration
+  abbrev pub fields_meant : Kind → Parts → Operands → Option Operands
+  fields_meant k fs es = option_and_then (λ xs. arranged (length (fields_of s k)) es (map (λ x. x.place) xs)) (fields_asked s k fs)
+
+  -- only a structure's type has values written as structures
+  abbrev pub structure_of : Kind → Parts → Operands → Expression
+  structure_of (kinds.Struct t) fs es = where_found (fields_meant (kinds.Struct t) fs es) (operate (operators.Structure t))
+  structure_of k fs es = literal nil
+
+  abbrev pub structure_meant : Text → Parts → Operands → Expression
+  structure_meant t fs es = where_found (entry s.types t) (λ k. structure_of k fs es)
 
   abbrev mutual
     pub meant : tree.Expression → Expression
     meant (Numeral z p) = literal (int z)
     meant (Truth b p) = literal (bool b)
     meant (Name n) = name_meant n.text
-    meant (Call f es) = call (node_place f.text) 0 (all_meant es)
-    meant (Structure t fs) = structure_meant (unwrap_or (entry s.types t.text) kinds.Bool) fs (all_meant fs)
-    meant (Merge p c bs) = merge (variable_place c.text) (branches_meant (unwrap_or (variable_kind s c.text) kinds.Bool) bs (all_meant bs))
-    meant (Variadic op p es) = variadic_meant op (all_meant es)
-    meant (Field a x) = field_meant (kind_of s a) x.text (meant a)
+    meant (Call f es) = call_meant f.text es (all_meant es)
+    meant (Structure t fs) = structure_meant t.text fs (all_meant fs)
+    meant (Merge p c bs) = merge_meant c.text bs (all_meant bs)
+    meant (Variadic op p es) = variadic_meant op es (all_meant es)
+    meant (Field a x) = field_meant (kind_by s (meant a)) x.text (meant a)
     meant (Parentheses p a) = meant a
-    meant (When a t) = when (test_meant t) (meant a)
+    meant (When a t) = where_found (test_placed s t) (λ u. when u (meant a))
     meant (Unary op p a) = prefix_meant op (meant a)
     meant (Binary op a b) = infix_meant op (meant a) (meant b)
     meant (If p c a b) = operate operators.If (more (meant c) (two (meant a) (meant b)))
@@ -112,6 +132,10 @@ module _ (s : Scope) where
     pub all_meant : Parts → Operands
     all_meant End = none
     all_meant (More l e ps) = more (meant e) (all_meant ps)
+
+  -- a test that has no place asks of no variable of the node
+  abbrev pub test_meant : tree.Test → Test
+  test_meant t = unwrap_or (test_placed s t) (record { variable = length s.variables; constructor = 0 })
 
 -- the variables that a group declares
 abbrev pub variables_of : Tree → Scope → Group → List Variable

@@ -1,7 +1,7 @@
--- What is well typed: constants, the tests and equations of nodes, and functions, which have no memory.
-use Rattle.std.specs.Prelude.{◌&&◌, Bool, true, false, not, List, [], ◌∷◌, Option, Some, None, map, is_some, unwrap_or, IsTrue, option_map}
+-- What is well typed: constants, the tests and equations of the nodes that are meant, and functions, which have no memory. The types of
+-- expressions are those of the program (lus_typing, Resolved).
+use Rattle.std.specs.Prelude.{◌&&◌, Bool, true, false, not, Some, None, List, IsTrue}
 use Rattle.std.specs.List.{list_all}
-use Rattle.std.specs.Option.{option_and_then}
 use Rattle.lus_syntax.specs.declared.tree.NodeKind.{NodeKind}
 use Rattle.lus_syntax.specs.declared.tree.NodeKind.TheVariants as node_kinds
 use Rattle.lus_syntax.specs.declared.tree.Prefix.{Prefix}
@@ -9,38 +9,18 @@ use Rattle.lus_syntax.specs.declared.tree.Prefix.TheVariants as prefixes
 use Rattle.lus_syntax.specs.declared.tree.Infix.{Infix}
 use Rattle.lus_syntax.specs.declared.tree.Infix.TheVariants as infixes
 use Rattle.lus_syntax.specs.Lexemes.{Text}
-use Rattle.lus_syntax.specs.Trees.{Named, Test, Expression, Numeral, Truth, Name, Call, Structure, Merge, Variadic, Field, Parentheses, When, Unary, Binary, If, Parts, End, More, Constant, Equation, Node, Tree}
+use Rattle.lus_syntax.specs.Trees.{Expression, Numeral, Truth, Name, Call, Structure, Merge, Variadic, Field, Parentheses, When, Unary, Binary, If, Parts, End, More, Constant, Equation, Node, Tree}
 use Rattle.lus_values.specs.Lists.{Each}
 use Rattle.lus_values.specs.Values.{Value}
 use Rattle.lus_program.specs.declared.types.Kind.{Kind}
-use Rattle.lus_program.specs.declared.types.Kind.TheVariants as kinds
+use Rattle.lus_typing.specs.Kinds.{same, value_kind}
+use Rattle.lus_typing.specs.Resolved.{VariableFits, EquationFits}
 use Rattle.lus_source.specs.Scopes.{Scope, entry}
-use Rattle.lus_source.specs.Tables.{groups, scope, literal_value, kind_named}
-use Rattle.lus_typing.specs.Kinds.{all_same, value_kind}
-use Rattle.lus_source.specs.Types.{kind_of, kinds_of, variable_kind, test_placed, outputs_of}
-
--- the types of what a whole right side gives; a call there may have several outputs
-abbrev pub kinds_given : Scope → Expression → Option (List Kind)
-kinds_given s (Parentheses p a) = kinds_given s a
-kinds_given s (Call f es) = option_and_then (λ ks. outputs_of s f.text es ks) (kinds_of s es)
-kinds_given s e = option_map (λ k. k ∷ []) (kind_of s e)
-
-abbrev pub left_kinds : Scope → List Named → List Kind
-left_kinds s ns = map (λ n. unwrap_or (variable_kind s n.text) kinds.Bool) ns
-
-abbrev pub are_given : Option (List Kind) → List Kind → Bool
-are_given None ls = false
-are_given (Some ks) ls = all_same ks ls
-
-abbrev pub equation_typed : Scope → Equation → Bool
-equation_typed s q = are_given (kinds_given s q.right) (left_kinds s q.left)
-
-abbrev pub test_typed : Scope → Option Test → Bool
-test_typed s None = true
-test_typed s (Some t) = is_some (test_placed s t)
+use Rattle.lus_source.specs.Tables.{scope, literal_value, kind_named}
+use Rattle.lus_source.specs.Meaning.{node_meant, program_of}
 
 abbrev pub value_is : Value → Kind → Bool
-value_is v k = are_given (option_map (λ l. l ∷ []) (value_kind v)) (k ∷ [])
+value_is v k = elim (value_kind v) [ Some l ↦ same l k | None ↦ false ]
 
 -- a constant with a declared type has that type
 abbrev pub constant_typed : Tree → Constant → Bool
@@ -87,14 +67,12 @@ abbrev pub memory_fits : NodeKind → Scope → List Equation → Bool
 memory_fits node_kinds.Node s qs = true
 memory_fits node_kinds.Function s qs = list_all (λ q. is_pure s q.right) qs
 
--- by what the names in a node's text stand for, it is well typed
-pub record IsTypedIn (s : Scope) (f : Node) : Type 0 where
-  pub tests : IsTrue (list_all (λ g. test_typed s g.test) (groups f))
-  pub equations : IsTrue (list_all (equation_typed s) f.equations)
-  pub memory : IsTrue (memory_fits f.kind s f.equations)
-
-abbrev pub NodeTyped : Tree → Node → Type 0
-NodeTyped p f = IsTypedIn (scope p f) f
+-- the node that it means, in the program that its source means, has tests that fit and equations that do, and it keeps no memory that
+-- it may not
+pub record NodeTyped (p : Tree) (f : Node) : Type 0 where
+  pub variables : Each (VariableFits (program_of p) (node_meant p f)) (node_meant p f).variables
+  pub equations : Each (EquationFits (program_of p) (node_meant p f)) (node_meant p f).equations
+  pub memory : IsTrue (memory_fits f.kind (scope p f) f.equations)
 
 pub record IsTyped (p : Tree) : Type 0 where
   pub constants : IsTrue (list_all (constant_typed p) p.constants)

@@ -4,7 +4,7 @@ ghost use Rattle.std.specs.Prelude.{◌≡◌, ◌≤◌, IsTrue, length, map};
 ghost use Rattle.std.specs.List.{list_all};
 ghost use Rattle.lus_syntax.specs.Limits.{most_fields};
 ghost use Rattle.lus_program.specs.View.{declared_of, field_of};
-ghost use Rattle.lus_source.specs.Types.{field_named, has_few_fields};
+ghost use Rattle.lus_source.specs.Labels.{field_named, has_few_fields};
 
 use crate::entries::{Constructor, Placed, Signature};
 use crate::places::{Places, Spaces, at, find};
@@ -32,7 +32,7 @@ impl<'a> Scope<'a> {
     ghost use Rattle.lus_program.specs.View.{field_of};
     ghost use Rattle.lus_source.specs.Scopes.{entry};
     ghost use Rattle.lus_source.specs.ScopeView.{scope_of, signature_of};
-    ghost use Rattle.lus_source.specs.Types.{name_value, size_of as size, fields_of as fields};
+    ghost use Rattle.lus_source.specs.Labels.{name_value, size_of as size, fields_of as fields};
 
     pub fn variable(&self, name: &str) -> Option<Placed>
         ensures { result ≡ entry (scope_of self.now).variables name.now }
