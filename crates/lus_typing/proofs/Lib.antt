@@ -1,4 +1,5 @@
 pub mod Options
+pub mod Alike
 pub mod TypedParts
 pub mod Calls
 pub mod KindsGiven
