@@ -1,13 +1,13 @@
 -- Trees that no tokens spell: their programs lack what is promised, so they are not well formed.
-use Rattle.std.proofs.Common.{◌≡◌, ℕ, refl, List, [], ◌∷◌, None, Some, false}
+use Rattle.std.proofs.Common.{◌≡◌, ℕ, refl, List, [], ◌∷◌, None, false}
 use Rattle.lus_syntax.specs.declared.token.Place.{Place}
 use Rattle.lus_syntax.specs.declared.token.Span.{Span}
 use Rattle.lus_syntax.specs.declared.tree.NodeKind.TheVariants as node_kinds
 use Rattle.lus_syntax.specs.Trees as tree
-use Rattle.lus_program.specs.declared.types.Kind.TheVariants as kinds
+use Rattle.lus_values.specs.Values.{nil}
+use Rattle.lus_program.specs.Programs.{literal}
 use Rattle.lus_source.specs.Named.{has_left}
 use Rattle.lus_source.specs.Tables.{scope}
-use Rattle.lus_source.specs.WellTyped.{equation_typed}
 use Rattle.lus_source.specs.Meaning.{meant, node_meant, program_of}
 use Rattle.lus_typing.specs.Resolved.{kinds_given_in}
 
@@ -24,7 +24,7 @@ n c = tree.named (c ∷ []) here
 abbrev node : ℕ → List tree.Group → List tree.Equation → tree.Node
 node c outputs qs = record { kind = node_kinds.Node; name = n c; inputs = []; outputs = outputs; locals = []; equations = qs }
 
--- type a = int; node f() returns (y: int); let y = a {}; tel: a structure without fields, which means no integer
+-- type a = int; node f() returns (y: int); let y = a {}; tel: a structure of a type that is none, which means nil
 
 abbrev hollow : tree.Equation
 hollow = record { left = n 121 ∷ []; right = tree.Structure (n 97) tree.End }
@@ -35,11 +35,11 @@ f = node 102 (record { names = n 121 ∷ []; type_name = tree.IntName here; test
 abbrev aliased : tree.Tree
 aliased = record { types = record { name = n 97; definition = tree.Alias (tree.IntName here) } ∷ []; constants = []; nodes = f ∷ [] }
 
-hollow_is_untyped : equation_typed (scope aliased f) hollow ≡ false
-hollow_is_untyped = refl
+hollow_means_nil : meant (scope aliased f) hollow.right ≡ literal nil
+hollow_means_nil = refl
 
-hollow_is_no_integer : kinds_given_in (program_of aliased) (node_meant aliased f) (meant (scope aliased f) hollow.right) ≡ Some (kinds.Struct 0 ∷ [])
-hollow_is_no_integer = refl
+hollow_is_untyped : kinds_given_in (program_of aliased) (node_meant aliased f) (meant (scope aliased f) hollow.right) ≡ None
+hollow_is_untyped = refl
 
 -- node g() returns (); let tel; node h() returns (); let = g(); tel: a call without outputs, and nothing on its left
 

@@ -43,4 +43,4 @@ module _ (p : Tree) (counted : Counted p) (named : Named p) (loopless : Loopless
       pub found : program_parts q ≤ most_parts → (nodes leaves : List ℕ) → IsOrder (node_uses p) nodes → AreTheLeaves (program_of p) leaves → AreFound q nodes leaves
       found few nodes leaves order are_leaves =
           subst (λ r. AreFound r nodes leaves) (sym means)
-          (record { sound = meant_programs_are_sound p (well_formed few); order = meant_order p named.each nodes order; leaves_are = are_leaves })
+          (record { sound = meant_programs_are_sound p (well_formed few); order = meant_order p nodes order; leaves_are = are_leaves })

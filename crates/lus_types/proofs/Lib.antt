@@ -1,12 +1,5 @@
-pub mod Entries
-pub mod CallsMeant
-pub mod Signatures
-pub mod Arranging
-pub mod Agreeing
 pub mod Forms
-pub mod KindsMeant
 pub mod Scoped
-pub mod Texts
 pub mod Places
 pub mod Lefts
 pub mod NodesMeant
@@ -22,5 +15,6 @@ pub mod ValueTypes
 pub mod Numbering
 pub mod Groups
 pub mod TablesMeant
+pub mod TypedMeant
 pub mod FirstFaults
 pub mod PartSums

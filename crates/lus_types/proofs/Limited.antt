@@ -1,19 +1,17 @@
 -- A program that a well-formed source means is within the limits of its declarations.
 use Rattle.std.proofs.Common.{arith, ◌≡◌, ℕ, ◌≤◌, List, [], ◌∷◌, length, map}
 use Rattle.std.proofs.Math.ListN.{length-map}
-use Rattle.std.specs.Prelude.{option_map}
 use Rattle.lus_values.specs.Lists.{Each}
 use Rattle.lus_syntax.specs.Limits.{most_constructors, most_variables}
-use Rattle.lus_syntax.specs.Trees.{Definition, Enumeration, Group, Named, Node as SourceNode, Tree, TypeDeclaration}
-use Rattle.lus_program.specs.Programs.{Variable}
-use Rattle.lus_source.specs.Meaning.{node_meant, program_of, test_meant}
+use Rattle.lus_syntax.specs.Trees.{Definition, Enumeration, Node as SourceNode, Tree, TypeDeclaration}
+use Rattle.lus_source.specs.Meaning.{node_meant, program_of}
 use Rattle.lus_source.specs.Refusals.{WellFormed}
-use Rattle.lus_source.specs.Scopes.{Scope}
 use Rattle.lus_source.specs.Sized.{DefinitionCounted, variable_count}
 use Rattle.lus_typing.specs.Sound.{IsLimited}
-use Rattle.lus_source.specs.Tables.{declared_as, groups, kind_named, scope, text_of}
+use Rattle.lus_source.specs.Tables.{declared_as, groups, scope, text_of}
 use Rattle.lus_typing.specs.Kinds.{constructors_in}
 use Rattle.lus_declarations.proofs.Placing.{length-for_each}
+use Rattle.lus_types.proofs.Scoped.{variable_meant}
 
 constructors_few : (p : Tree) (d : Definition) → DefinitionCounted d → constructors_in (declared_as p d) ≤ most_constructors
 constructors_few p (Enumeration cs) h = let size = length-map cs text_of in omega (arith, h, size)
@@ -23,9 +21,6 @@ types_few : (p : Tree) (ds : List TypeDeclaration) → Each (λ d. DefinitionCou
     → Each (λ d. constructors_in d ≤ most_constructors) (map (λ d. declared_as p d.definition) ds)
 types_few p [] h = tt
 types_few p (d ∷ ds) h = (constructors_few p d.definition h.0, types_few p ds h.1)
-
-abbrev variable_meant : Tree → Scope → Group → Named → Variable
-variable_meant p s g n = record { name = n.text; kind = kind_named p g.type_name; test = option_map (test_meant s) g.test }
 
 few_here : {m n : ℕ} → n ≤ most_variables → m ≡ n → m ≤ most_variables
 few_here h e = omega (arith, h, e)

@@ -5,13 +5,13 @@ use Rattle.lus_program.specs.declared.node.Equation.{Equation as StoredEquation}
 use Rattle.lus_program.specs.Programs.{calls, numbered, Equation}
 use Rattle.lus_program.specs.View.{expression_of, equations_from}
 use Rattle.lus_source.specs.Scopes.{Scope}
-use Rattle.lus_source.specs.Meaning.{equations_meant, meant, variable_place}
+use Rattle.lus_source.specs.Meaning.{equations_meant, meant, targets_meant}
 
 abbrev pub unnumbered : StoredEquation → Equation
 unnumbered q = record { targets = q.targets.items; right = expression_of q.right }
 
 abbrev pub unnumbered_meant : Scope → tree.Equation → Equation
-unnumbered_meant s q = record { targets = map (λ x. variable_place s x.text) q.left; right = meant s q.right }
+unnumbered_meant s q = record { targets = targets_meant s q.left; right = meant s q.right }
 
 -- their calls numbered from n on
 abbrev pub all_numbered : ℕ → List Equation → List Equation
@@ -24,10 +24,10 @@ equations_from-numbered n (q ∷ qs) = ap (λ rest. record { targets = q.targets
 
 pub equations_meant-numbered : (s : Scope) (n : ℕ) (qs : List tree.Equation) → equations_meant s n qs ≡ all_numbered n (map (unnumbered_meant s) qs)
 equations_meant-numbered s n [] = refl
-equations_meant-numbered s n (q ∷ qs) = ap (λ rest. record { targets = map (λ x. variable_place s x.text) q.left; right = numbered n (meant s q.right) } ∷ rest) (equations_meant-numbered s (n + calls (meant s q.right)) qs)
+equations_meant-numbered s n (q ∷ qs) = ap (λ rest. record { targets = targets_meant s q.left; right = numbered n (meant s q.right) } ∷ rest) (equations_meant-numbered s (n + calls (meant s q.right)) qs)
 
 pub equations_are_meant : (s : Scope) (stored : List StoredEquation) (qs : List tree.Equation) → map unnumbered stored ≡ map (unnumbered_meant s) qs → equations_from 0 stored ≡ equations_meant s 0 qs
 equations_are_meant s stored qs e = equations_from-numbered 0 stored ∙ ap (all_numbered 0) e ∙ sym (equations_meant-numbered s 0 qs)
 
-pub unnumbered_is : (s : Scope) (q : StoredEquation) (e : tree.Equation) → q.targets.items ≡ map (λ x. variable_place s x.text) e.left → expression_of q.right ≡ meant s e.right → unnumbered q ≡ unnumbered_meant s e
-unnumbered_is s q e targets right = ap (λ ts. record { targets = ts; right = expression_of q.right }) targets ∙ ap (λ x. record { targets = map (λ x. variable_place s x.text) e.left; right = x }) right
+pub unnumbered_is : (s : Scope) (q : StoredEquation) (e : tree.Equation) → q.targets.items ≡ targets_meant s e.left → expression_of q.right ≡ meant s e.right → unnumbered q ≡ unnumbered_meant s e
+unnumbered_is s q e targets right = ap (λ ts. record { targets = ts; right = expression_of q.right }) targets ∙ ap (λ x. record { targets = targets_meant s e.left; right = x }) right

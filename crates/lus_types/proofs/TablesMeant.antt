@@ -22,7 +22,7 @@ module _ (p : tree.Tree) where
   pub constants_are : (cs : List tree.Constant) → list_all (constant_fits (tables p)) cs ≡ list_all (constant_typed p) cs
   constants_are cs = ap (λ (kind : tree.TypeName → Kind). list_all (λ (c : tree.Constant). elim c.type_name [ None ↦ true | Some y ↦ value_is (literal_value p c.value) (kind y) ]) cs) (kind_in-tables p)
 
-  variables_are : (f : tree.Node) (gs : List tree.Group) → flat_map (variables_in (scope p f)) gs ≡ flat_map (variables_of p (scope p f)) gs
+  pub variables_are : (f : tree.Node) (gs : List tree.Group) → flat_map (variables_in (scope p f)) gs ≡ flat_map (variables_of p (scope p f)) gs
   variables_are f gs = ap (λ (kind : tree.TypeName → Kind). flat_map (λ g. map (λ n. record { name = n.text; kind = kind g.type_name; test = option_map (test_meant (scope p f)) g.test }) g.names) gs) (kind_in-tables p)
 
   pub node_is : (f : tree.Node) → node_in (scope p f) f ≡ node_meant p f

@@ -4,16 +4,18 @@ ghost use Rattle.std.specs.Prelude.{◌≡◌, ◌≤◌, ◌+◌, ◌++◌, IfO
 ghost use Rattle.std.specs.List.{list_all};
 ghost use Rattle.lus_syntax.specs.Limits.{most_variables};
 ghost use Rattle.lus_syntax.specs.View.{equation_seen, group_seen, node_seen, test_seen};
+ghost use Rattle.lus_values.specs.Lists.{Each};
 ghost use Rattle.lus_program.specs.View.{equations_from, node_of, variable_of};
 ghost use Rattle.lus_source.specs.Tables.{groups};
 ghost use Rattle.lus_source.specs.Sized.{variable_count};
 ghost use Rattle.lus_source.specs.Meaning.{equations_meant, test_meant};
-ghost use Rattle.lus_source.specs.WellTyped.{IsTypedIn, equation_typed, is_pure, memory_fits, test_typed};
+ghost use Rattle.lus_source.specs.WellTyped.{is_pure, memory_fits};
 ghost use Rattle.lus_source.specs.ScopeView.{Judged, Tested, scope_of};
-ghost use Rattle.lus_types.specs.ByScope.{node_in, tests_typed, variables_in};
+ghost use Rattle.lus_elaboration.specs.Wholes.{EquationTyped};
+ghost use Rattle.lus_types.specs.ByScope.{IsTypedIn, group_fits, maybe_fits, node_in, variables_in};
 
 use lus_declarations::kind_of_name;
-use lus_elaboration::{clock_variable, equation, memory, test_placed};
+use lus_elaboration::{clock_variable, equation, memory, test};
 use lus_program::{Equation, Node, Test, Variable};
 use lus_source::{Fault, Scope};
 use lus_syntax::{
@@ -22,15 +24,15 @@ use lus_syntax::{
 use std::alloc::Global;
 
 /// The test of a group of variables, where it has one.
-fn group_test(scope: &Scope, test: &Option<SourceTest>) -> Result<Option<Test>, Fault>
-    ensures meant { IfOk result (λ t. t ≡ option_map (test_meant (scope_of scope.now)) (option_map test_seen test.now)) }
-    ensures typed { Tested result (test_typed (scope_of scope.now) (option_map test_seen test.now)) }
+fn group_test(scope: &Scope, source: &Option<SourceTest>) -> Result<Option<Test>, Fault>
+    ensures meant { IfOk result (λ t. t ≡ option_map (test_meant (scope_of scope.now)) (option_map test_seen source.now)) }
+    ensures fits { Tested result (maybe_fits (scope_of scope.now) (option_map (test_meant (scope_of scope.now)) (option_map test_seen source.now))) }
 {
-    match test {
+    match source {
         None => Ok(None),
-        Some(test) => match test_placed(scope, test) {
+        Some(source) => match test(scope, source) {
             Some(found) => Ok(Some(found)),
-            None => Err(Fault::At(clock_variable(test).span.start)),
+            None => Err(Fault::At(clock_variable(source).span.start)),
         },
     }
 }
@@ -39,11 +41,11 @@ fn group_test(scope: &Scope, test: &Option<SourceTest>) -> Result<Option<Test>, 
 fn push_group(scope: &Scope, group: &Group, variables: &mut Vec<Variable>) -> Result<(), Fault>
     ensures meant { let more = variables_in (scope_of scope.now) (group_seen group.now) in
         OnOk result (map variable_of variables.new.items ≡ map variable_of variables.old.items ++ more) }
-    ensures typed { Tested result (test_typed (scope_of scope.now) (group_seen group.now).test) }
+    ensures fits { Tested result (group_fits (scope_of scope.now) (group_seen group.now)) }
 {
-    let test = group_test(scope, &group.test)?;
     let kind = kind_of_name(&scope.names.types, &scope.types, &group.type_name);
     for name in &group.names {
+        let test = group_test(scope, &group.test)?;
         variables.push(Variable {
             name: name.text.clone()?,
             place: name.span.start,
@@ -59,7 +61,7 @@ fn push_groups(scope: &Scope, groups: &[Group], variables: &mut Vec<Variable>) -
     ensures meant { let more = flat_map (variables_in (scope_of scope.now)) (map group_seen groups.now) in
         OnOk result (map variable_of variables.new.items ≡ map variable_of variables.old.items ++ more) }
     ensures counted { OnOk result (length variables.new.items ≡ length variables.old.items + variable_count (map group_seen groups.now)) }
-    ensures typed { Tested result (tests_typed (scope_of scope.now) (map group_seen groups.now)) }
+    ensures fit { Tested result (list_all (group_fits (scope_of scope.now)) (map group_seen groups.now)) }
 {
     for group in groups {
         push_group(scope, group, variables)?;
@@ -82,7 +84,7 @@ fn node_variables(alloc: Global, scope: &Scope, source: &SourceNode) -> Result<V
         IfOk result (λ v. map variable_of v.all.items ≡ meant) }
     ensures inputs { IfOk result (λ v. v.inputs ≡ variable_count (node_seen source.now).inputs) }
     ensures outputs { IfOk result (λ v. v.outputs ≡ variable_count (node_seen source.now).outputs) }
-    ensures typed { Tested result (tests_typed (scope_of scope.now) (groups (node_seen source.now))) }
+    ensures fit { Tested result (list_all (group_fits (scope_of scope.now)) (groups (node_seen source.now))) }
 {
     let mut all = Vec::new(alloc);
     push_groups(scope, &source.inputs, &mut all)?;
@@ -104,7 +106,7 @@ fn equations(
     sources: &[SourceEquation],
 ) -> Result<Vec<Equation>, Fault>
     ensures meant { IfOk result (λ qs. equations_from 0 qs.items ≡ equations_meant (scope_of scope.now) 0 (map equation_seen sources.now)) }
-    ensures typed { Tested result (list_all (equation_typed (scope_of scope.now)) (map equation_seen sources.now)) }
+    ensures typed { Judged result (Each (EquationTyped (scope_of scope.now)) (map equation_seen sources.now)) }
 {
     let mut equations = Vec::with_capacity(alloc, sources.len())?;
     for source in sources {

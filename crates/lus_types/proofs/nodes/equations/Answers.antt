@@ -2,9 +2,17 @@ use Rattle.std.proofs.Common.{arith, ◌∙◌, ap, map}
 use Rattle.std.proofs.lemmas.List.{take_all}
 use Rattle.std.proofs.lemmas.Grind.{common_steps}
 use Rattle.lus_syntax.specs.View.{equation_seen}
+use Rattle.lus_values.proofs.Lists.{each_seen}
 use Rattle.lus_source.specs.ScopeView.{scope_of}
+use Rattle.lus_source.proofs.Faults.{passed_on}
+use Rattle.lus_elaboration.specs.Wholes.{EquationTyped}
 use Rattle.lus_types.proofs.Numbering.{unnumbered_meant, unnumbered_is, equations_are_meant}
 use Rattle.lus_types.proofs.nodes.equations.Goals as goal
+
+pub returns-in_err-equation-clause-typed : goal.returns-in_err-equation-clause-typed
+returns-in_err-equation-clause-typed c =
+    let each = each_seen equation_seen (EquationTyped (scope_of c.args.scope.now)) c.args.sources.now c.loop-source.source-index c.source-item.result c.loop-source-test.true c.source-item.is in
+    passed_on _ (λ wrong all. wrong (each all)) c.from_residual-in_err-equation.result c.in_err-equation.field-0.0 c.from_residual-in_err-equation.ensures.1 c.in_err-equation.ensures.typed
 
 pub loop-source-preserved : goal.loop-source-preserved
 loop-source-preserved c =

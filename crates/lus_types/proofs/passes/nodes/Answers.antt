@@ -15,12 +15,13 @@ use Rattle.lus_source.specs.Scopes.{Scope}
 use Rattle.lus_source.specs.ScopeView.{scope_of}
 use Rattle.lus_source.specs.Sized.{variable_count}
 use Rattle.lus_source.specs.Tables.{groups, scope}
-use Rattle.lus_source.specs.WellTyped.{IsTypedIn, NodeTyped}
+use Rattle.lus_source.specs.WellTyped.{NodeTyped}
 use Rattle.lus_source.proofs.Faults.{passed_on}
 use Rattle.lus_declarations.specs.ByTable.{entered}
 use Rattle.lus_declarations.proofs.OfSource.{entered_of_source}
-use Rattle.lus_types.specs.ByScope.{node_in}
+use Rattle.lus_types.specs.ByScope.{IsTypedIn, node_in}
 use Rattle.lus_types.proofs.TablesMeant.{node_is}
+use Rattle.lus_types.proofs.TypedMeant.{node_typed, typed_node}
 use Rattle.lus_types.proofs.passes.nodes.Goals as goal
 
 -- what holds of each node of a tree holds of one of them
@@ -48,7 +49,7 @@ returns-in_err-node-clause-typed c =
     let f = node_seen c.source-item.result in
     let scoped : scope_of c.enter.new.scope ≡ scope p f = c.in_ok-enter.ensures.entered ∙ ap (λ s. entered s f) c.loop-source.invariant.scoped ∙ entered_of_source p f in
     let sources = c.as_slice-sources.ensures.value ∙ ap (λ (u : StoredTree). u.nodes.items) c.tree.ensures.same in
-    passed_on _ (λ wrong all. wrong (subst (λ s. IsTypedIn s f) (sym scoped) (here (NodeTyped p) t c.as_slice-sources.result.now c.loop-source.source-index c.source-item.result sources c.loop-source-test.true c.source-item.is all)))
+    passed_on _ (λ wrong all. wrong (subst (λ s. IsTypedIn s f) (sym scoped) (typed_node p f (here (NodeTyped p) t c.as_slice-sources.result.now c.loop-source.source-index c.source-item.result sources c.loop-source-test.true c.source-item.is all))))
     c.from_residual-in_err-node.result c.in_err-node.field-0.0 c.from_residual-in_err-node.ensures.1 c.in_err-node.ensures.typed
 
 pub loop-source-preserved : goal.loop-source-preserved
@@ -57,7 +58,7 @@ loop-source-preserved c =
     let f = node_seen c.source-item.result in
     let scoped : scope_of c.enter.new.scope ≡ scope p f = c.in_ok-enter.ensures.entered ∙ ap (λ s. entered s f) c.loop-source.invariant.scoped ∙ entered_of_source p f in
     let meant : node_of c.in_ok-node.field-0 ≡ node_meant p f = c.in_ok-node.ensures.meant ∙ ap (λ s. node_in s f) scoped ∙ node_is p f in
-    let typed : NodeTyped p f = subst (λ s. IsTypedIn s f) scoped c.in_ok-node.ensures.typed in
+    let typed : NodeTyped p f = node_typed p f (subst (λ s. IsTypedIn s f) scoped c.in_ok-node.ensures.typed) in
     record {
       scoped = ap (λ (s : Scope). let u : Scope = record s { variables = [] } in u) scoped;
       meant = grind (arith, common_steps);
