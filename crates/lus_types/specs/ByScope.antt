@@ -1,5 +1,5 @@
 -- What a source means and whether it is well typed, by what the names in its text stand for.
-use Rattle.std.specs.Prelude.{Bool, true, false, IsTrue, List, Option, Some, None, flat_map, map, option_map}
+use Rattle.std.specs.Prelude.{Bool, true, IsTrue, List, Option, Some, None, flat_map, map, option_map}
 use Rattle.std.specs.List.{list_all}
 use Rattle.lus_syntax.specs.Trees.{Named, Constant, Group, Node as SourceNode}
 use Rattle.lus_values.specs.Lists.{Each}
