@@ -8,8 +8,7 @@ pub mod Limited
 pub mod ProgramsMeant
 mod Examples
 pub mod Weights
-pub mod TreeSizes
-pub mod MeantSizes
+pub mod OrderedParts
 pub mod SourceParts
 pub mod ValueTypes
 pub mod Numbering
