@@ -10,10 +10,8 @@ mod Examples
 pub mod Weights
 pub mod OrderedParts
 pub mod SourceParts
-pub mod ValueTypes
 pub mod Numbering
 pub mod Groups
 pub mod TablesMeant
 pub mod TypedMeant
-pub mod FirstFaults
 pub mod PartSums

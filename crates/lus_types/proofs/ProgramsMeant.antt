@@ -1,8 +1,17 @@
--- What a well-formed tree means is sound.
-use Rattle.lus_types.specs.Laws.{MeantProgramsAreSound}
+-- What a well-formed tree means is sound, and what is found of its nodes and types holds of the program.
+use Rattle.std.proofs.Common.{◌≡◌, sym, subst, ℕ, List}
+use Rattle.lus_graph.specs.Ways.{IsOrder}
+use Rattle.lus_syntax.specs.Trees.{Tree}
+use Rattle.lus_program.specs.Programs.{Program}
+use Rattle.lus_typing.specs.Leaves.{AreTheLeaves}
+use Rattle.lus_typing.specs.Sound.{AreFound}
+use Rattle.lus_source.specs.Loopless.{node_uses}
+use Rattle.lus_source.specs.Meaning.{program_of}
+use Rattle.lus_source.specs.Refusals.{WellFormed}
 use Rattle.lus_source.proofs.FieldsMeant.{meant_fields}
 use Rattle.lus_source.proofs.TypesMeant.{types_loopless}
-use Rattle.lus_types.proofs.CallsNamed.{meant_loopless}
+use Rattle.lus_types.specs.Laws.{MeantProgramsAreSound}
+use Rattle.lus_types.proofs.CallsNamed.{meant_loopless, meant_order}
 use Rattle.lus_types.proofs.Limited.{meant_limited}
 use Rattle.lus_types.proofs.NodesMeant.{meant_nodes_resolved}
 
@@ -13,3 +22,7 @@ meant_programs_are_sound t formed = record {
   fields = meant_fields t formed.counted;
   limited = meant_limited t formed;
 }
+
+pub found : (t : Tree) (p : Program) (nodes leaves : List ℕ) → WellFormed t → p ≡ program_of t → IsOrder (node_uses t) nodes → AreTheLeaves (program_of t) leaves → AreFound p nodes leaves
+found t p nodes leaves formed means order are_leaves =
+    subst (λ q. AreFound q nodes leaves) (sym means) (record { sound = meant_programs_are_sound t formed; order = meant_order t nodes order; leaves_are = are_leaves })

@@ -1,12 +1,11 @@
-use Rattle.std.proofs.Common.{arith, ◌∙◌, ap, map}
+use Rattle.std.proofs.Common.{◌∙◌, ap, map}
 use Rattle.std.proofs.lemmas.List.{take_all}
-use Rattle.std.proofs.lemmas.Grind.{common_steps}
 use Rattle.lus_syntax.specs.View.{equation_seen}
 use Rattle.lus_values.proofs.Lists.{each_seen}
 use Rattle.lus_source.specs.ScopeView.{scope_of}
 use Rattle.lus_source.proofs.Faults.{passed_on}
 use Rattle.lus_elaboration.specs.Wholes.{EquationTyped}
-use Rattle.lus_types.proofs.Numbering.{unnumbered_meant, unnumbered_is, equations_are_meant}
+use Rattle.lus_types.proofs.Numbering.{unnumbered_meant, equations_are_meant}
 use Rattle.lus_types.proofs.nodes.equations.Goals as goal
 
 pub returns-in_err-equation-clause-typed : goal.returns-in_err-equation-clause-typed
@@ -14,14 +13,8 @@ returns-in_err-equation-clause-typed c =
     let each = each_seen equation_seen (EquationTyped (scope_of c.args.scope.now)) c.args.sources.now c.loop-source.source-index c.source-item.result c.loop-source-test.true c.source-item.is in
     passed_on _ (λ wrong all. wrong (each all)) c.from_residual-in_err-equation.result c.in_err-equation.field-0.0 c.from_residual-in_err-equation.ensures.1 c.in_err-equation.ensures.typed
 
-pub loop-source-preserved : goal.loop-source-preserved
-loop-source-preserved c =
-    let s = scope_of c.args.scope.now in
-    let last = unnumbered_is s c.in_ok-equation.field-0 (equation_seen c.source-item.result) c.in_ok-equation.ensures.targets c.in_ok-equation.ensures.meant in
-    record { meant = grind (arith, common_steps, last); typed = grind (arith, common_steps) }
-
 pub returns-clause-meant : goal.returns-clause-meant
 returns-clause-meant c =
     let s = scope_of c.args.scope.now in
-    equations_are_meant s c.loop-source.equations.items (map equation_seen c.args.sources.now)
+    equations_are_meant s 0 c.loop-source.equations.items (map equation_seen c.args.sources.now)
     (c.loop-source.invariant.meant ∙ ap (λ qs. map (unnumbered_meant s) (map equation_seen qs)) (take_all c.loop-source.source-index c.args.sources.now c.loop-source-test.false))
