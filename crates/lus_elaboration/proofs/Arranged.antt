@@ -6,7 +6,7 @@ use Rattle.lus_program.specs.declared.expr.Expr.{Expr}
 use Rattle.lus_program.specs.Programs.{Operands, none, more}
 use Rattle.lus_program.specs.View.{expression_of, operands_of}
 use Rattle.lus_typing.specs.Kinds.{count}
-use Rattle.lus_source.specs.Types.{each_counted, index_of}
+use Rattle.lus_source.specs.Labels.{each_counted, index_of}
 use Rattle.lus_source.specs.Meaning.{beside, in_order_from}
 
 -- c stands first at j
@@ -45,6 +45,10 @@ found_within (later e f) = let h = found_within f in omega arith
 pub count-taken : {c j : ℕ} {ms : List ℕ} → FoundAt c ms j → count c (remove ms j) + 1 ≡ count c ms
 count-taken (here e) = rw e (omega arith)
 count-taken (later e f) = rw e (count-taken f)
+
+pub length-taken : {c j : ℕ} {ms : List ℕ} → FoundAt c ms j → length (remove ms j) + 1 ≡ length ms
+length-taken (here e) = omega arith
+length-taken (later e f) = let h = length-taken f in omega arith
 
 other_number : (c d m : ℕ) → nat_eq c m ≡ true → d < c ⊎ c < d → nat_eq d m ≡ false
 other_number c d m e o = grind (arith, nat_tests)

@@ -1,3 +1,3 @@
 pub mod Arranged
+pub mod Typed
 pub mod Meant
-pub mod Fitting

@@ -1,38 +1,35 @@
--- What merges and structures mean, where their parts fit.
-use Rattle.std.proofs.Common.{◌≡◌, ◌∙◌, ap, refl, ℕ, List, [], ◌∷◌, length, map, Some, None, Option}
-use Rattle.std.specs.Prelude.{unwrap_or}
+-- What forms mean, and which types they have.
+use Rattle.std.proofs.Common.{◌≡◌, ◌∙◌, ap, sym, refl, ℕ, List, [], ◌∷◌, ◌++◌, length, map, take, drop, Some, None, Option, Bool, true, false, cond, arith}
+use Rattle.std.specs.Prelude.{option_map, slice_get}
 use Rattle.std.specs.Option.{option_and_then}
-use Rattle.lus_syntax.specs.Lexemes.{Text}
+use Rattle.std.proofs.lemmas.Option.{slice_get_past, slice_get-map}
+use Rattle.std.proofs.lemmas.List.{length-map}
 use Rattle.lus_syntax.specs.declared.tree.Part.{Part}
+use Rattle.lus_syntax.specs.Lexemes.{Text}
 use Rattle.lus_syntax.specs.View.{expression_seen, part_seen}
-use Rattle.lus_syntax.specs.declared.token.Span.{Span}
-use Rattle.lus_syntax.specs.declared.tree.ListOperator.{ListOperator}
-use Rattle.lus_syntax.specs.Trees.{Named, Call, Structure, Merge, Variadic, Parts, parts_of}
-use Rattle.lus_values.specs.declared.operator.Operator.TheVariants as operators
+use Rattle.lus_syntax.specs.Trees as tree
+use Rattle.lus_syntax.specs.Trees.{Parts, parts_of}
+use Rattle.lus_program.specs.declared.expr.Expr.{Expr}
+use Rattle.lus_program.specs.declared.expr.Test.{Test}
+use Rattle.lus_program.specs.declared.types.Field.{Field as StoredField}
 use Rattle.lus_program.specs.declared.types.Kind.{Kind}
 use Rattle.lus_program.specs.declared.types.Kind.TheVariants as kinds
-use Rattle.lus_program.specs.Programs.{Operands, more, merge, operate}
-use Rattle.lus_program.specs.declared.expr.Expr.{Expr}
-use Rattle.lus_program.specs.View.{expression_of, operands_of}
+use Rattle.lus_syntax.specs.declared.tree.ListOperator.{ListOperator}
+use Rattle.lus_values.specs.declared.operator.Operator.TheVariants as operators
+use Rattle.lus_values.specs.Values.{nil}
+use Rattle.lus_program.specs.Programs.{Expression, Operands, more, literal, operate, call, merge, when}
+use Rattle.lus_program.specs.View.{expression_of, field_of, operands_of}
+use Rattle.lus_typing.specs.Kinds.{all_same, where_true}
+use Rattle.lus_typing.specs.Resolved.{kinds_given_in, results, field_kinds, values_of, kind_of_variable, test_fits, call_results, input_kinds, output_kinds}
 use Rattle.lus_source.specs.declared.entries.Placed.{Placed}
-use Rattle.lus_source.specs.Scopes.{Scope, entry}
-use Rattle.lus_typing.specs.Kinds.{the_one}
-use Rattle.lus_source.specs.Types.{branch_places, fields_asked, fields_of, size_of, variable_kind, kind_of, kinds_of, outputs_of, structure_kind, merge_kind, variadic_kind}
-use Rattle.lus_source.specs.Meaning.{branches_meant, structure_meant, variable_place, in_order, meant, all_meant}
+use Rattle.lus_source.specs.Scopes.{Scope, Signature, entry}
+use Rattle.lus_source.specs.Heads.{heads, head, head_of, of_kind, kind_by, kinds_by}
+use Rattle.lus_source.specs.Labels.{branch_places, each_once, fields_asked, fields_of, size_of, test_placed}
+use Rattle.lus_source.specs.Meaning.{arranged, in_order, are_arguments, branches_meant, list_operation, structure_of, call_meant, merge_meant, structure_meant, variadic_meant, where_found, test_meant, meant, all_meant}
+use Rattle.lus_elaboration.specs.Wholes.{callee, Fits}
+use Rattle.lus_elaboration.proofs.Typed.{arranged_untyped, sized_branches, sized_fields}
 
-pub merge_is : (s : Scope) (n : Text) (clock : Placed) (bs : Parts) (ps : List ℕ) (size : ℕ) (out es : Operands)
-    → entry s.variables n ≡ Some clock → branch_places s clock.kind bs ≡ Some ps → size ≡ size_of s clock.kind → out ≡ in_order size ps es
-    → merge clock.place out ≡ merge (variable_place s n) (branches_meant s (unwrap_or (variable_kind s n) kinds.Bool) bs es)
-merge_is s n clock bs ps size out es var places sized ordered =
-    let at : variable_place s n ≡ clock.place = ap (λ (e : Option Placed). elim e [ Some x ↦ x.place | None ↦ 0 ]) var in
-    rw at (rw var (rw places (ap (merge clock.place) (ordered ∙ ap (λ m. in_order m ps es) sized))))
-
-pub structure_is : (s : Scope) (n : Text) (t : ℕ) (fs : Parts) (xs : List Placed) (ps : List ℕ) (size : ℕ) (out es : Operands)
-    → entry s.types n ≡ Some (kinds.Struct t) → fields_asked s (kinds.Struct t) fs ≡ Some xs → ps ≡ map (λ x. x.place) xs → size ≡ length (fields_of s (kinds.Struct t)) → out ≡ in_order size ps es
-    → operate (operators.Structure t) out ≡ structure_meant s (unwrap_or (entry s.types n) kinds.Bool) fs es
-structure_is s n t fs xs ps size out es named asked placed sized ordered = rw named (rw asked (ap (operate (operators.Structure t)) (ordered ∙ ap (λ m. in_order m ps es) sized ∙ ap (λ l. in_order (length (fields_of s (kinds.Struct t))) l es) placed)))
-
-pub all_meant_is : (s : Scope) (ps : List Part) → (es : List Expr) → map expression_of es ≡ map (λ p. meant s (expression_seen p.value)) ps → operands_of es ≡ all_meant s (parts_of (map part_seen ps))
+pub all_meant_is : (s : Scope) (ps : List Part) (es : List Expr) → map expression_of es ≡ map (λ p. meant s (expression_seen p.value)) ps → operands_of es ≡ all_meant s (parts_of (map part_seen ps))
 all_meant_is s [] [] e = refl
 all_meant_is s [] (x ∷ es) e = cc
 all_meant_is s (p ∷ ps) [] e = cc
@@ -41,14 +38,153 @@ all_meant_is s (p ∷ ps) (x ∷ es) e =
     let rest : map expression_of es ≡ map (λ q. meant s (expression_seen q.value)) ps = cc in
     ap (λ y. more y (operands_of es)) first ∙ ap (more (meant s (expression_seen p.value))) (all_meant_is s ps es rest)
 
-pub kind_of-call : (s : Scope) (n : Named) (es : Parts) (ks : List Kind) → kinds_of s es ≡ Some ks → kind_of s (Call n es) ≡ option_and_then the_one (outputs_of s n.text es ks)
-kind_of-call s n es ks k = ap (option_and_then (λ ks. option_and_then the_one (outputs_of s n.text es ks))) k
+-- the rules of types, by the scope
 
-pub kind_of-structure : (s : Scope) (n : Named) (fs : Parts) (ks : List Kind) → kinds_of s fs ≡ Some ks → kind_of s (Structure n fs) ≡ option_and_then (λ k. structure_kind s k fs ks) (entry s.types n.text)
-kind_of-structure s n fs ks k = ap (option_and_then (λ ks. option_and_then (λ k. structure_kind s k fs ks) (entry s.types n.text))) k
+field_kinds_are : (s : Scope) (k : Kind) → field_kinds (heads s) k ≡ map (λ f. f.kind) (fields_of s k)
+field_kinds_are s kinds.Bool = refl
+field_kinds_are s kinds.Int = refl
+field_kinds_are s (kinds.Enum t) = refl
+field_kinds_are s (kinds.Struct t) = refl
 
-pub kind_of-merge : (s : Scope) (p : Span) (n : Named) (bs : Parts) (ks : List Kind) → kinds_of s bs ≡ Some ks → kind_of s (Merge p n bs) ≡ option_and_then (λ k. merge_kind s k bs ks) (variable_kind s n.text)
-kind_of-merge s p n bs ks k = ap (option_and_then (λ ks. option_and_then (λ k. merge_kind s k bs ks) (variable_kind s n.text))) k
+values_are : (s : Scope) (k : Kind) → values_of (heads s) k ≡ size_of s k
+values_are s kinds.Bool = refl
+values_are s kinds.Int = refl
+values_are s (kinds.Enum t) = refl
+values_are s (kinds.Struct t) = refl
 
-pub kind_of-variadic : (s : Scope) (op : ListOperator) (p : Span) (es : Parts) (ks : List Kind) → kinds_of s es ≡ Some ks → kind_of s (Variadic op p es) ≡ variadic_kind op es ks
-kind_of-variadic s op p es ks k = ap (option_and_then (variadic_kind op es)) k
+kind_kept : (r : Option StoredField) → option_map (λ f. f.kind) (option_map field_of r) ≡ option_map (λ f. f.kind) r
+kind_kept None = refl
+kind_kept (Some f) = refl
+
+pub field_read : (s : Scope) (k : Kind) (fs : List StoredField) (n : ℕ) → map field_of fs ≡ fields_of s k → option_map (λ f. f.kind) (slice_get fs n) ≡ slice_get (field_kinds (heads s) k) n
+field_read s k fs n seen =
+    sym (ap (λ ks. slice_get ks n) (field_kinds_are s k ∙ ap (map (λ f. f.kind)) (sym seen)) ∙ slice_get-map (λ f. f.kind) (map field_of fs) n ∙ ap (option_map (λ f. f.kind)) (slice_get-map field_of fs n) ∙ kind_kept (slice_get fs n))
+
+kinds_are : (ks : List Kind) → map (λ v. v.kind) (map of_kind ks) ≡ ks
+kinds_are [] = refl
+kinds_are (k ∷ ks) = ap (λ ls. k ∷ ls) (kinds_are ks)
+
+first_kinds : (ks ls : List Kind) → map (λ v. v.kind) (take (length ks) (map of_kind (ks ++ ls))) ≡ ks
+first_kinds [] ls = refl
+first_kinds (k ∷ ks) ls = ap (λ ms. k ∷ ms) (first_kinds ks ls)
+
+all_kinds : (ks : List Kind) → map (λ v. v.kind) (take (length ks) (map of_kind ks)) ≡ ks
+all_kinds [] = refl
+all_kinds (k ∷ ks) = ap (λ ms. k ∷ ms) (all_kinds ks)
+
+later_kinds : (ks ls : List Kind) → map (λ v. v.kind) (take (length ls) (drop (length ks) (map of_kind (ks ++ ls)))) ≡ ls
+later_kinds [] ls = all_kinds ls
+later_kinds (k ∷ ks) ls = later_kinds ks ls
+
+inputs_are : (g : Signature) → input_kinds (head_of g) ≡ g.inputs
+inputs_are g = first_kinds g.inputs g.outputs
+
+outputs_are : (g : Signature) → output_kinds (head_of g) ≡ g.outputs
+outputs_are g = later_kinds g.inputs g.outputs
+
+pub call_gives : (s : Scope) (ks : List Kind) (g : Signature) → call_results (heads s) ks (head_of g) ≡ where_true (all_same g.inputs ks) (Some g.outputs)
+call_gives s ks g = rw (inputs_are g, outputs_are g) refl
+
+-- tests
+
+nowhere : (s : Scope) → kind_of_variable (heads s) (head s) (length s.variables) ≡ None
+nowhere s = ap (option_map (λ v. v.kind)) (slice_get_past (map (λ e. of_kind e.1.kind) s.variables) (length s.variables) (omega (arith, length-map s.variables (λ e. of_kind e.1.kind))))
+
+pub unplaced_fails : (s : Scope) (t : tree.Test) → test_placed s t ≡ None → test_fits (heads s) (head s) (test_meant s t) ≡ false
+unplaced_fails s t e = rw e (rw (nowhere s, test_fits) refl)
+
+pub sampled_kind : (s : Scope) (t : tree.Test) (a : Expression) (k : Kind) → kind_by s a ≡ Some k
+    → kind_by s (where_found (test_placed s t) (λ u. when u a)) ≡ where_true (test_fits (heads s) (head s) (test_meant s t)) (Some k)
+sampled_kind s t a k typed = placed (test_placed s t) refl
+  where
+    placed : (r : Option Test) → test_placed s t ≡ r → kind_by s (where_found r (λ u. when u a)) ≡ where_true (test_fits (heads s) (head s) (test_meant s t)) (Some k)
+    placed None e = rw (unplaced_fails s t e) refl
+    placed (Some u) e = rw (e, typed) refl
+
+-- forms with parts that have no type
+
+pub call_untyped : (s : Scope) (f : Text) (ps : Parts) (es : Operands) → kinds_by s es ≡ None → kind_by s (call_meant s f ps es) ≡ None
+call_untyped s f ps es e = called (entry s.nodes f)
+  where
+    called : (r : Option Signature) → kind_by s (where_found r (λ g. cond (are_arguments ps) (call g.place 0 es) (literal nil))) ≡ None
+    called None = refl
+    called (Some g) = chosen (are_arguments ps)
+      where
+        chosen : (b : Bool) → kind_by s (cond b (call g.place 0 es) (literal nil)) ≡ None
+        chosen true = rw e refl
+        chosen false = refl
+
+pub variadic_untyped : (s : Scope) (op : ListOperator) (ps : Parts) (es : Operands) → kinds_by s es ≡ None → kind_by s (variadic_meant op ps es) ≡ None
+variadic_untyped s op ps es e = chosen (are_arguments ps)
+  where
+    chosen : (b : Bool) → kind_by s (cond b (operate (operators.Compute (list_operation op)) es) (literal nil)) ≡ None
+    chosen true = rw e refl
+    chosen false = refl
+
+pub merge_untyped : (s : Scope) (c : Text) (bs : Parts) → kinds_by s (all_meant s bs) ≡ None → kind_by s (merge_meant s c bs (all_meant s bs)) ≡ None
+merge_untyped s c bs e = over (entry s.variables c)
+  where
+    over : (r : Option Placed) → kind_by s (where_found r (λ x. where_found (branches_meant s x.kind bs (all_meant s bs)) (merge x.place))) ≡ None
+    over None = refl
+    over (Some x) = arranged_untyped s (merge x.place) (λ es f. rw f refl) (size_of s x.kind) (all_meant s bs) (branch_places s x.kind bs) (sized_branches s x.kind bs) e
+
+fields_arranged : (n : ℕ) (es : Operands) (r : Option (List Placed)) → option_and_then (λ xs. arranged n es (map (λ x. x.place) xs)) r ≡ option_and_then (arranged n es) (option_map (map (λ x. x.place)) r)
+fields_arranged n es None = refl
+fields_arranged n es (Some xs) = refl
+
+pub structure_untyped : (s : Scope) (t : Text) (fs : Parts) → kinds_by s (all_meant s fs) ≡ None → kind_by s (structure_meant s t fs (all_meant s fs)) ≡ None
+structure_untyped s t fs e = of_kind_found (entry s.types t)
+  where
+    of_one : (k : Kind) → kind_by s (structure_of s k fs (all_meant s fs)) ≡ None
+    of_one kinds.Bool = refl
+    of_one kinds.Int = refl
+    of_one (kinds.Enum u) = refl
+    of_one (kinds.Struct u) =
+        let fields = fields_of s (kinds.Struct u) in
+        rw (fields_arranged (length fields) (all_meant s fs) (fields_asked s (kinds.Struct u) fs))
+        (arranged_untyped s (operate (operators.Structure u)) (λ es f. rw f refl) (length fields) (all_meant s fs) (option_map (map (λ x. x.place)) (fields_asked s (kinds.Struct u) fs)) (sized_fields s (kinds.Struct u) fs) e)
+
+    of_kind_found : (r : Option Kind) → kind_by s (where_found r (λ k. structure_of s k fs (all_meant s fs))) ≡ None
+    of_kind_found None = refl
+    of_kind_found (Some k) = of_one k
+
+pub call_given : (s : Scope) (f : Text) (ps : Parts) (es : Operands)
+    → kinds_given_in (heads s) (head s) (call_meant s f ps es) ≡ option_and_then (λ n. option_and_then (results (heads s) n) (kinds_by s es)) (callee s f ps)
+call_given s f ps es = called (entry s.nodes f)
+  where
+    called : (r : Option Signature) → kinds_given_in (heads s) (head s) (where_found r (λ g. cond (are_arguments ps) (call g.place 0 es) (literal nil))) ≡ option_and_then (λ n. option_and_then (results (heads s) n) (kinds_by s es)) (option_and_then (λ g. where_true (are_arguments ps) (Some g.place)) r)
+    called None = refl
+    called (Some g) = chosen (are_arguments ps)
+      where
+        chosen : (b : Bool) → kinds_given_in (heads s) (head s) (cond b (call g.place 0 es) (literal nil)) ≡ option_and_then (λ n. option_and_then (results (heads s) n) (kinds_by s es)) (where_true b (Some g.place))
+        chosen true = refl
+        chosen false = refl
+
+none_given : (s : Scope) (es : Operands) (n : Option ℕ) → kinds_by s es ≡ None → option_and_then (λ n. option_and_then (results (heads s) n) (kinds_by s es)) n ≡ None
+none_given s es None e = refl
+none_given s es (Some n) e = rw e refl
+
+pub call_misfits : (s : Scope) (xs : List ℕ) (f : Text) (ps : Parts) (es : Operands) → kinds_by s es ≡ None → Fits s xs (call_meant s f ps es) → ⊥
+call_misfits s xs f ps es e fits = let none = call_given s f ps es ∙ none_given s es (callee s f ps) e in let lost = rw none at fits in cc
+
+-- forms with parts that have types
+
+pub call_is : (s : Scope) (f : Text) (ps : Parts) (es : Operands) (n : ℕ) → Some n ≡ callee s f ps → call_meant s f ps es ≡ call n 0 es
+call_is s f ps es n e = called (entry s.nodes f) (sym e)
+  where
+    called : (r : Option Signature) → option_and_then (λ g. where_true (are_arguments ps) (Some g.place)) r ≡ Some n → where_found r (λ g. cond (are_arguments ps) (call g.place 0 es) (literal nil)) ≡ call n 0 es
+    called None e = cc
+    called (Some g) e = chosen (are_arguments ps) e
+      where
+        chosen : (b : Bool) → where_true b (Some g.place) ≡ Some n → cond b (call g.place 0 es) (literal nil) ≡ call n 0 es
+        chosen true e = let same : g.place ≡ n = cc in rw same refl
+        chosen false e = cc
+
+pub merge_is : (s : Scope) (c : Text) (bs : Parts) (es : Operands) (x : Placed) (ns : List ℕ) → entry s.variables c ≡ Some x → branch_places s x.kind bs ≡ Some ns → true ≡ each_once (size_of s x.kind) ns
+    → merge_meant s c bs es ≡ merge x.place (in_order (size_of s x.kind) ns es)
+merge_is s c bs es x ns variable places each = rw variable (rw places (rw (← each) refl))
+
+pub structure_is : (s : Scope) (t : Text) (fs : Parts) (es : Operands) (u : ℕ) (ns : List ℕ) → entry s.types t ≡ Some (kinds.Struct u) → option_map (map (λ x. x.place)) (fields_asked s (kinds.Struct u) fs) ≡ Some ns → true ≡ each_once (length (fields_of s (kinds.Struct u))) ns
+    → structure_meant s t fs es ≡ operate (operators.Structure u) (in_order (length (fields_of s (kinds.Struct u))) ns es)
+structure_is s t fs es u ns type_is places each =
+    rw type_is (rw (fields_arranged (length (fields_of s (kinds.Struct u))) es (fields_asked s (kinds.Struct u) fs)) (rw places (rw (← each) refl)))

@@ -1,22 +1,23 @@
--- What a form of expression means, and its type, where its parts are elaborated. Lustre V6 reference manual, "Expressions".
-use Rattle.std.specs.Prelude.{◌≡◌, List, Option, Some, None, Result, MatchResult, map, option_map, unwrap_or}
+-- What is elaborated: expressions of the program, with the types that they have by what the names in their text stand for.
+use Rattle.std.specs.Prelude.{◌≡◌, ℕ, Box, List, Option, Some, None, Result, MatchResult, map}
+use Rattle.std.specs.Global.{Global}
 use Rattle.std.specs.Option.{option_and_then}
 use Rattle.lus_syntax.specs.declared.tree.Part.{Part}
 use Rattle.lus_syntax.specs.Lexemes.{Text}
-use Rattle.lus_syntax.specs.Trees.{Parts, Test, parts_of}
+use Rattle.lus_syntax.specs.Trees as tree
+use Rattle.lus_syntax.specs.Trees.{Parts, parts_of}
 use Rattle.lus_syntax.specs.View.{part_seen}
-use Rattle.lus_values.specs.declared.operator.Operator.TheVariants as operators
+use Rattle.lus_program.specs.declared.expr.Expr.{Expr}
 use Rattle.lus_program.specs.declared.types.Kind.{Kind}
-use Rattle.lus_program.specs.declared.types.Kind.TheVariants as kinds
-use Rattle.lus_program.specs.Programs.{Expression, Operands, merge, more, operate, when}
+use Rattle.lus_program.specs.Programs.{Expression, Operands}
 use Rattle.lus_program.specs.View.{expression_of, operands_of}
+use Rattle.lus_typing.specs.Kinds.{where_true}
+use Rattle.lus_typing.specs.Resolved.{kind_of_variable, EquationFits}
 use Rattle.lus_source.specs.Scopes.{Scope, entry}
-use Rattle.lus_typing.specs.Kinds.{the_one}
-use Rattle.lus_source.specs.Types.{merge_kind, outputs_of, structure_kind, test_placed, variable_kind}
-use Rattle.lus_source.specs.Meaning.{branches_meant, structure_meant, test_meant, two, variable_place}
+use Rattle.lus_source.specs.Heads.{heads, head, kind_by, kinds_by}
+use Rattle.lus_source.specs.Meaning.{are_arguments, meant, targets_meant}
 use Rattle.lus_source.specs.declared.fault.Fault.{Fault}
 use Rattle.lus_source.specs.ScopeView.{Faulty}
-use Rattle.lus_elaboration.specs.declared.equations.Given.{Given}
 use Rattle.lus_elaboration.specs.declared.forms.Elaborated.{Elaborated}
 use Rattle.lus_elaboration.specs.declared.operands.Operands.{Operands as StoredOperands}
 
@@ -41,37 +42,31 @@ abbrev pub ElaboratesAll : Result StoredOperands Fault → Option (List Kind) �
 ElaboratesAll result kinds means =
     MatchResult result (λ x. (kinds ≡ Some x.kinds.items) × (operands_of x.exprs.items ≡ means)) (Faulty (kinds ≡ None))
 
--- a right side that gives these types and has this meaning, or a fault at a place where it gives none
-abbrev pub Gives : Result Given Fault → Option (List Kind) → Expression → Type 0
-Gives result kinds means =
-    MatchResult result (λ x. (kinds ≡ Some x.kinds.items) × (expression_of x.expr.value ≡ means)) (Faulty (kinds ≡ None))
-
--- `if`
-abbrev pub choice_meant : Expression → Expression → Expression → Expression
-choice_meant c a b = operate operators.If (more c (two a b))
-
 module _ (s : Scope) where
-  -- a call among other expressions has the type of its one output (Lustre V6 reference manual, "Nodes")
-  abbrev pub call_kind : Text → Parts → List Kind → Option Kind
-  call_kind f es ks = option_and_then the_one (outputs_of s f es ks)
+  -- the operands have the types beside them
+  abbrev pub AreTyped : StoredOperands → Type 0
+  AreTyped x = kinds_by s (operands_of x.exprs.items) ≡ Some x.kinds.items
 
-  -- a merge over the variable of this name (Lustre V6 reference manual, "Clocks")
-  abbrev pub merge_over_kind : Text → Parts → List Kind → Option Kind
-  merge_over_kind c bs ks = option_and_then (λ k. merge_kind s k bs ks) (variable_kind s c)
+  -- an expression with the type that it has, if its operands have theirs, or a fault at a place where it has none
+  abbrev pub ElaboratesOver : StoredOperands → Result Elaborated Fault → Expression → Type 0
+  ElaboratesOver operands result means = AreTyped operands → Elaborates result (kind_by s means) means
 
-  abbrev pub merge_over : Text → Parts → Operands → Expression
-  merge_over c bs es = merge (variable_place s c) (branches_meant s (unwrap_or (variable_kind s c) kinds.Bool) bs es)
+  -- the node that is called, with arguments alone
+  abbrev pub callee : Text → Parts → Option ℕ
+  callee f ps = option_and_then (λ g. where_true (are_arguments ps) (Some g.place)) (entry s.nodes f)
 
-  -- a structure of the type of this name
-  abbrev pub structure_of_kind : Text → Parts → List Kind → Option Kind
-  structure_of_kind t fs ks = option_and_then (λ k. structure_kind s k fs ks) (entry s.types t)
+  -- the variables have these types
+  abbrev pub Take : List ℕ → List Kind → Type 0
+  Take xs ks = map Some ks ≡ map (kind_of_variable (heads s) (head s)) xs
 
-  abbrev pub structure_of : Text → Parts → Operands → Expression
-  structure_of t fs es = structure_meant s (unwrap_or (entry s.types t) kinds.Bool) fs es
+  -- the right side gives what the variables have
+  abbrev pub Fits : List ℕ → Expression → Type 0
+  Fits xs means = EquationFits (heads s) (head s) (record { targets = xs; right = means })
 
-  -- `when`, which keeps its operand's type (Lustre V6 reference manual, "Clocks")
-  abbrev pub sampled_kind : Test → Kind → Option Kind
-  sampled_kind t k = option_map (λ placed. k) (test_placed s t)
+  -- a right side that gives what the variables have, or a fault at a place where it doesn't
+  abbrev pub GivesTo : Result (Box Expr Global) Fault → List ℕ → Expression → Type 0
+  GivesTo result xs means = MatchResult result (λ x. Fits xs means × (expression_of x.value ≡ means)) (Faulty (Fits xs means → ⊥))
 
-  abbrev pub sampled_meant : Test → Expression → Expression
-  sampled_meant t e = when (test_meant s t) e
+  -- by what the names in its text stand for, its right side gives what the left has
+  abbrev pub EquationTyped : tree.Equation → Type 0
+  EquationTyped q = Fits (targets_meant s q.left) (meant s q.right)

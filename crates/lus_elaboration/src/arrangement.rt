@@ -2,10 +2,12 @@
 
 ghost use Rattle.std.specs.Prelude.{◌≡◌, IfOk, IfSome, length, is_some};
 ghost use Rattle.lus_program.specs.View.{operands_of};
-ghost use Rattle.lus_source.specs.Types.{each_once, index_of as index};
+ghost use Rattle.lus_source.specs.Scopes.{Scope};
+ghost use Rattle.lus_source.specs.Labels.{each_once, index_of as index};
 ghost use Rattle.lus_source.specs.Meaning.{in_order};
+ghost use Rattle.lus_elaboration.specs.Wholes.{AreTyped};
 
-use lus_program::Expr;
+use crate::operands::Operands;
 use std::alloc::{AllocError, Global};
 
 fn index_of(places: &[u32], place: usize) -> Option<usize>
@@ -25,19 +27,22 @@ pub fn arranged(
     alloc: Global,
     count: usize,
     mut places: Vec<u32>,
-    mut operands: Vec<Expr>,
-) -> Result<Option<Vec<Expr>>, AllocError>
-    requires { length operands.items ≡ length places.items }
+    mut operands: Operands,
+) -> Result<Option<Operands>, AllocError>
+    requires exprs { length operands.exprs.items ≡ length places.items }
+    requires kinds { length operands.kinds.items ≡ length places.items }
     ensures once { IfOk result (λ r. is_some r ≡ each_once count places.items) }
-    ensures order { IfOk result (λ r. IfSome r (λ es. operands_of es.items ≡ in_order count places.items (operands_of operands.items))) }
+    ensures order { IfOk result (λ r. IfSome r (λ x. operands_of x.exprs.items ≡ in_order count places.items (operands_of operands.exprs.items))) }
+    ensures typed { IfOk result (λ r. IfSome r (λ x. (s : Scope) → AreTyped s operands → AreTyped s x)) }
 {
-    let mut arranged = Vec::with_capacity(alloc, operands.len())?;
+    let mut arranged = Operands::with_capacity(alloc, places.len())?;
     for place in 0..count {
         let Some(index) = index_of(&places, place) else {
             return Ok(None);
         };
         places.remove(index);
-        arranged.push(operands.remove(index))?;
+        arranged.exprs.push(operands.exprs.remove(index))?;
+        arranged.kinds.push(operands.kinds.remove(index))?;
     }
     if places.is_empty() {
         Ok(Some(arranged))

@@ -2,30 +2,30 @@
 
 ghost use Rattle.std.specs.Prelude.{◌≡◌, IfOk, length};
 ghost use Rattle.lus_syntax.specs.View.{expression_seen};
-ghost use Rattle.lus_source.specs.Types.{kind_of, kinds_of};
+ghost use Rattle.lus_source.specs.Heads.{kind_by, kinds_by};
 ghost use Rattle.lus_source.specs.Meaning.{meant, all_meant};
 ghost use Rattle.lus_source.specs.ScopeView.{scope_of};
 ghost use Rattle.lus_elaboration.specs.Wholes.{Elaborates, ElaboratesAll, parts_seen};
 
-use crate::forms::{Elaborated, binary, choice, field, literal, named, place_of, sampled, unary};
+use crate::forms::{Elaborated, arrow, literal, named, operated, place_of, pre, sampled};
 use crate::operands::Operands;
 use crate::parts::{call, merge, structure, variadic};
-use lus_program::Kind;
-use lus_source::{Fault, Scope};
-use lus_syntax::{Expr as Source, Part};
-use lus_values::Value;
+use lus_source::{Fault, Scope, field};
+use lus_syntax::{Expr as Source, Infix, Part, Prefix};
+use lus_values::{Op, Operator, Value};
 use std::alloc::Global;
 
 /// The program's expression for an expression, and its type; a fault at its first token where it has none.
 #[cycle(elaborate)]
 pub fn elaborate(alloc: Global, scope: &Scope, source: &Source) -> Result<Elaborated, Fault>
     ensures { let s = scope_of scope.now in
-        Elaborates result (kind_of s (expression_seen source.now)) (meant s (expression_seen source.now)) }
+        let means = meant s (expression_seen source.now) in
+        Elaborates result (kind_by s means) means }
 {
     let place = place_of(source);
     match source {
-        Source::Number(number, _) => literal(alloc, place, Value::Int(*number), Kind::Int),
-        Source::Truth(truth, _) => literal(alloc, place, Value::Bool(*truth), Kind::Bool),
+        Source::Number(number, _) => literal(alloc, place, Value::Int(*number)),
+        Source::Truth(truth, _) => literal(alloc, place, Value::Bool(*truth)),
         Source::Name(name) => named(alloc, scope, name),
         Source::Call(name, arguments) => {
             let operands = elaborate_all(alloc, scope, arguments)?;
@@ -41,11 +41,17 @@ pub fn elaborate(alloc: Global, scope: &Scope, source: &Source) -> Result<Elabor
         }
         Source::Variadic(op, _, arguments) => {
             let operands = elaborate_all(alloc, scope, arguments)?;
-            variadic(alloc, place, *op, arguments, operands)
+            variadic(alloc, scope, place, *op, arguments, operands)
         }
         Source::Field(operand, name) => {
             let operand = elaborate(alloc, scope, operand)?;
-            field(alloc, scope, place, operand, name)
+            let Some(found) = field(scope.fields_of(operand.kind), &name.text) else {
+                return Err(Fault::At(name.span.start));
+            };
+            let operator = Operator::Field(found.place);
+            let kinds = [operand.kind];
+            let operands = vec![in alloc; Box::into_inner(operand.expr)]?;
+            operated(alloc, scope, place, operator, &kinds, operands)
         }
         Source::Parentheses(span, inner) => {
             let mut inner = elaborate(alloc, scope, inner)?;
@@ -58,18 +64,47 @@ pub fn elaborate(alloc: Global, scope: &Scope, source: &Source) -> Result<Elabor
         }
         Source::Unary(op, _, operand) => {
             let operand = elaborate(alloc, scope, operand)?;
-            unary(alloc, place, *op, operand)
+            let operation = match op {
+                Prefix::Pre => return pre(alloc, place, operand),
+                Prefix::Not => Op::Not,
+                Prefix::Negate => Op::Negate,
+            };
+            let operator = Operator::Compute(operation);
+            let kinds = [operand.kind];
+            let operands = vec![in alloc; Box::into_inner(operand.expr)]?;
+            operated(alloc, scope, place, operator, &kinds, operands)
         }
         Source::Binary(op, left, right) => {
             let left = elaborate(alloc, scope, left)?;
             let right = elaborate(alloc, scope, right)?;
-            binary(alloc, place, *op, left, right)
+            match op {
+                Infix::Compute(operation) => {
+                    let operator = Operator::Compute(*operation);
+                    let kinds = [left.kind, right.kind];
+                    let operands = vec![in alloc;
+                        Box::into_inner(left.expr),
+                        Box::into_inner(right.expr),
+                    ]?;
+                    operated(alloc, scope, place, operator, &kinds, operands)
+                }
+                Infix::Arrow => arrow(alloc, place, left, right),
+                Infix::Fby => {
+                    let kept = pre(alloc, right.expr.place, right)?;
+                    arrow(alloc, place, left, kept)
+                }
+            }
         }
         Source::If(_, condition, left, right) => {
             let condition = elaborate(alloc, scope, condition)?;
             let left = elaborate(alloc, scope, left)?;
             let right = elaborate(alloc, scope, right)?;
-            choice(alloc, place, condition, left, right)
+            let kinds = [condition.kind, left.kind, right.kind];
+            let operands = vec![in alloc;
+                Box::into_inner(condition.expr),
+                Box::into_inner(left.expr),
+                Box::into_inner(right.expr),
+            ]?;
+            operated(alloc, scope, place, Operator::If, &kinds, operands)
         }
     }
 }
@@ -78,8 +113,9 @@ pub fn elaborate(alloc: Global, scope: &Scope, source: &Source) -> Result<Elabor
 #[cycle(elaborate)]
 pub fn elaborate_all(alloc: Global, scope: &Scope, parts: &[Part]) -> Result<Operands, Fault>
     ensures elaborated { let s = scope_of scope.now in
-        ElaboratesAll result (kinds_of s (parts_seen parts.now)) (all_meant s (parts_seen parts.now)) }
-    ensures alike { IfOk result (λ x. length x.exprs.items ≡ length parts.now) }
+        ElaboratesAll result (kinds_by s (all_meant s (parts_seen parts.now))) (all_meant s (parts_seen parts.now)) }
+    ensures exprs { IfOk result (λ x. length x.exprs.items ≡ length parts.now) }
+    ensures kinds { IfOk result (λ x. length x.kinds.items ≡ length parts.now) }
 {
     let mut operands = Operands::with_capacity(alloc, parts.len())?;
     for part in parts {

@@ -1,19 +1,18 @@
 //! Equations: what a whole right side gives, and what the left side takes.
 
-ghost use Rattle.std.specs.Prelude.{◌≡◌, IfOk, unwrap_or};
+ghost use Rattle.std.specs.Prelude.{◌≡◌, IfOk, Some, MatchResult, map};
+ghost use Rattle.std.specs.Bool.{Decides};
 ghost use Rattle.lus_syntax.specs.View.{expression_seen, equation_seen, name_seen, names_seen};
-ghost use Rattle.lus_program.specs.Programs.{call as call_meant};
 ghost use Rattle.lus_program.specs.View.{expression_of, operands_of};
-ghost use Rattle.lus_program.specs.declared.types.Kind.TheVariants.{Bool as BoolKind};
-ghost use Rattle.lus_source.specs.Types.{outputs_of, variable_kind};
-ghost use Rattle.lus_source.specs.Meaning.{meant, node_place, targets_meant, variable_place};
-ghost use Rattle.lus_source.specs.WellTyped.{kinds_given, left_kinds as kinds_of_left, equation_typed};
-ghost use Rattle.lus_source.specs.ScopeView.{Tested, scope_of};
-ghost use Rattle.lus_elaboration.specs.Wholes.{Finds, Gives, parts_seen};
+ghost use Rattle.lus_typing.specs.Resolved.{kind_of_variable};
+ghost use Rattle.lus_source.specs.Heads.{head, heads};
+ghost use Rattle.lus_source.specs.Meaning.{call_meant, meant, targets_meant, variable_place};
+ghost use Rattle.lus_source.specs.ScopeView.{Judged, scope_of};
+ghost use Rattle.lus_elaboration.specs.Wholes.{AreTyped, EquationTyped, GivesTo, Take, parts_seen};
 
 use crate::elaboration::{elaborate, elaborate_all};
 use crate::forms::{boxed, place_of};
-use crate::kinds::all_same;
+use crate::kinds::{results, same};
 use crate::operands::Operands;
 use crate::parts::callee;
 use lus_program::{Equation, Expr, Form, Kind};
@@ -21,27 +20,46 @@ use lus_source::{Fault, Scope};
 use lus_syntax::{Equation as SourceEquation, Expr as Source, Name, Part, Place};
 use std::alloc::{AllocError, Global};
 
-/// A whole right side, with the types of what it gives.
-#[derive(Drop)]
-pub struct Given {
-    pub expr: Box<Expr>,
-    pub kinds: Vec<Kind>,
+/// Whether variables take values of these types.
+fn take(scope: &Scope, targets: &[u32], kinds: &[Kind]) -> bool
+    ensures { Decides result (Take (scope_of scope.now) targets.now kinds.now) }
+{
+    match targets {
+        [] => match kinds {
+            [] => true,
+            [_, _rest @ ..] => false,
+        },
+        [target, targets @ ..] => match kinds {
+            [] => false,
+            [kind, kinds @ ..] => match scope.variable_kind(*target) {
+                Some(found) => same(found, *kind) && take(scope, targets, kinds),
+                None => false,
+            },
+        },
+    }
 }
 
-/// A whole right side; a call there may have several outputs.
-pub fn right_side(alloc: Global, scope: &Scope, source: &Source) -> Result<Given, Fault>
+/// A right side that gives what these variables have; a call there may have several outputs. The fault is at `place`
+/// where it gives something else.
+pub fn right_side(
+    alloc: Global,
+    scope: &Scope,
+    place: Place,
+    targets: &[u32],
+    source: &Source,
+) -> Result<Box<Expr>, Fault>
     ensures { let s = scope_of scope.now in
-        Gives result (kinds_given s (expression_seen source.now)) (meant s (expression_seen source.now)) }
+        GivesTo s result targets.now (meant s (expression_seen source.now)) }
 {
     match source {
         Source::Parentheses(span, inner) => {
-            let mut inner = right_side(alloc, scope, inner)?;
-            inner.expr.place = span.start;
+            let mut inner = right_side(alloc, scope, place, targets, inner)?;
+            inner.place = span.start;
             Ok(inner)
         }
         Source::Call(name, arguments) => {
             let operands = elaborate_all(alloc, scope, arguments)?;
-            whole_call(alloc, scope, name, arguments, operands)
+            whole_call(alloc, scope, place, targets, name, arguments, operands)
         }
         Source::Number(_, _)
         | Source::Truth(_, _)
@@ -55,10 +73,11 @@ pub fn right_side(alloc: Global, scope: &Scope, source: &Source) -> Result<Given
         | Source::Binary(_, _, _)
         | Source::If(_, _, _, _) => {
             let whole = elaborate(alloc, scope, source)?;
-            Ok(Given {
-                expr: whole.expr,
-                kinds: vec![in alloc; whole.kind]?,
-            })
+            if take(scope, targets, &[whole.kind]) {
+                Ok(whole.expr)
+            } else {
+                Err(Fault::At(place))
+            }
         }
     }
 }
@@ -67,38 +86,27 @@ pub fn right_side(alloc: Global, scope: &Scope, source: &Source) -> Result<Given
 fn whole_call(
     alloc: Global,
     scope: &Scope,
+    place: Place,
+    targets: &[u32],
     name: &Name,
     arguments: &[Part],
     operands: Operands,
-) -> Result<Given, Fault>
-    ensures typed { let given = outputs_of (scope_of scope.now) (name_seen name.now).text (parts_seen arguments.now) operands.kinds.items in
-        Finds result (λ x. x.kinds.items) given }
-    ensures meant { let node = node_place (scope_of scope.now) (name_seen name.now).text in
-        IfOk result (λ x. expression_of x.expr.value ≡ call_meant node 0 (operands_of operands.exprs.items)) }
+) -> Result<Box<Expr>, Fault>
+    ensures { let s = scope_of scope.now in
+        let means = call_meant s (name_seen name.now).text (parts_seen arguments.now) (operands_of operands.exprs.items) in
+        AreTyped s operands → GivesTo s result targets.now means }
 {
-    let node = callee(scope, name, arguments, &operands.kinds)?;
-    let kinds = node.outputs.clone()?;
-    let form = Form::Call(node.place, operands.into_exprs());
-    let expr = boxed(alloc, name.span.start, form)?;
-    Ok(Given { expr, kinds })
-}
-
-fn left_kinds(alloc: Global, scope: &Scope, names: &[Name]) -> Result<Vec<Kind>, AllocError>
-    ensures { IfOk result (λ ks. ks.items ≡ kinds_of_left (scope_of scope.now) (names_seen names.now)) }
-{
-    let mut kinds = Vec::with_capacity(alloc, names.len())?;
-    for name in names {
-        kinds.push(left_kind(scope, name))?;
-    }
-    Ok(kinds)
-}
-
-fn left_kind(scope: &Scope, name: &Name) -> Kind
-    ensures { result ≡ unwrap_or (variable_kind (scope_of scope.now) (name_seen name.now).text) BoolKind }
-{
-    match scope.variable(&name.text) {
-        Some(variable) => variable.kind,
-        None => Kind::Bool,
+    let (exprs, kinds) = operands.into_parts();
+    let Some(node) = callee(scope, name, arguments) else {
+        return Err(Fault::At(name.span.start));
+    };
+    let Some(outputs) = results(scope, node, &kinds) else {
+        return Err(Fault::At(name.span.start));
+    };
+    if take(scope, targets, outputs) {
+        Ok(boxed(alloc, name.span.start, Form::Call(node, exprs))?)
+    } else {
+        Err(Fault::At(place))
     }
 }
 
@@ -131,18 +139,16 @@ fn places(alloc: Global, names: &[Name]) -> Result<Vec<Place>, AllocError> {
 
 /// An equation of the program: the right side gives what the left side has.
 pub fn equation(alloc: Global, scope: &Scope, source: &SourceEquation) -> Result<Equation, Fault>
-    ensures typed { Tested result (equation_typed (scope_of scope.now) (equation_seen source.now)) }
+    ensures typed { Judged result (EquationTyped (scope_of scope.now) (equation_seen source.now)) }
     ensures targets { IfOk result (λ q. q.targets.items ≡ targets_meant (scope_of scope.now) (names_seen source.now.left.items)) }
     ensures meant { IfOk result (λ q. expression_of q.right ≡ meant (scope_of scope.now) (expression_seen source.now.right)) }
 {
-    let given = right_side(alloc, scope, &source.right)?;
-    let kinds = left_kinds(alloc, scope, &source.left)?;
-    if !all_same(&given.kinds, &kinds) {
-        return Err(Fault::At(place_of(&source.right)));
-    }
+    let targets = targets(alloc, scope, &source.left)?;
+    let place = place_of(&source.right);
+    let right = right_side(alloc, scope, place, &targets, &source.right)?;
     Ok(Equation {
-        targets: targets(alloc, scope, &source.left)?,
+        targets,
         places: places(alloc, &source.left)?,
-        right: Box::into_inner(given.expr),
+        right: Box::into_inner(right),
     })
 }

@@ -1,21 +1,23 @@
-//! What each form of expression means, its parts being elaborated already, and its type.
+//! What each form of expression means, its operands being elaborated already, and its type.
 
-ghost use Rattle.std.specs.Prelude.{◌≡◌, Some, IfOk};
+ghost use Rattle.std.specs.Prelude.{◌≡◌, Some, IfOk, IfSome, is_some};
 ghost use Rattle.lus_syntax.specs.View.{name_seen, test_seen, label_seen};
-ghost use Rattle.lus_program.specs.Programs.{literal as literal_meant, operate};
+ghost use Rattle.lus_program.specs.Programs.{literal as literal_meant, operate, pre as pre_meant, arrow as arrow_meant, when as when_meant};
 ghost use Rattle.lus_program.specs.View.{expression_in, expression_of, operands_of};
-ghost use Rattle.lus_typing.specs.Kinds.{choice_kind as kind_of_choice};
+ghost use Rattle.lus_typing.specs.Kinds.{alike as kind_of_alike, value_kind as kind_of_value};
+ghost use Rattle.lus_typing.specs.Resolved.{operator_kind as kind_of_operator, test_fits as fits};
 ghost use Rattle.lus_values.specs.View.{value_of};
-ghost use Rattle.lus_source.specs.Types.{name_kind, prefix_kind as kind_of_prefix, infix_kind as kind_of_infix, field_kind, test_placed as placed_test, truth_place as place_of_truth, label_place as place_of_label, asked_place as place_asked, test_variable as variable_of_test};
-ghost use Rattle.lus_source.specs.Meaning.{name_meant, prefix_meant, infix_meant, one, field_meant};
+ghost use Rattle.lus_source.specs.Heads.{head, heads, kind_by};
+ghost use Rattle.lus_source.specs.Labels.{test_placed as placed_test, truth_place as place_of_truth, label_place as place_of_label, asked_place as place_asked, test_variable as variable_of_test};
+ghost use Rattle.lus_source.specs.Meaning.{name_meant, test_meant, where_found};
 ghost use Rattle.lus_source.specs.ScopeView.{scope_of};
-ghost use Rattle.lus_elaboration.specs.Wholes.{Elaborates, choice_meant, meaning, sampled_kind, sampled_meant};
+ghost use Rattle.lus_elaboration.specs.Wholes.{Elaborates, meaning};
 
-use crate::kinds::{choice_kind, infix_kind, prefix_kind, same, value_kind};
+use crate::kinds::{alike, operator_kind, same, test_fits, value_kind};
 use lus_program::{Expr, Form, Kind, Test};
-use lus_source::{Fault, Scope, field as field_named};
-use lus_syntax::{Expr as Source, Infix, Label, Name, Place, Prefix, Test as SourceTest};
-use lus_values::{Op, Operator, Value};
+use lus_source::{Fault, Scope};
+use lus_syntax::{Expr as Source, Label, Name, Place, Test as SourceTest};
+use lus_values::{Operator, Value};
 use std::alloc::{AllocError, Global};
 
 /// An expression of the program and its type. It is boxed at once, since expressions are large.
@@ -51,22 +53,13 @@ pub fn boxed(alloc: Global, place: Place, form: Form) -> Result<Box<Expr>, Alloc
     Ok(Box::new(alloc, Expr { place, form })?)
 }
 
-/// An operator on these operands, with its first token at this place.
-pub fn operated(
-    alloc: Global,
-    place: Place,
-    operator: Operator,
-    operands: Vec<Expr>,
-) -> Result<Box<Expr>, AllocError>
-    ensures { IfOk result (λ x. expression_of x.value ≡ operate operator (operands_of operands.items)) }
+/// A value.
+pub fn literal(alloc: Global, place: Place, value: Value) -> Result<Elaborated, Fault>
+    ensures { Elaborates result (kind_of_value (value_of value)) (literal_meant (value_of value)) }
 {
-    boxed(alloc, place, Form::Operate(operator, operands))
-}
-
-/// A value, of this type.
-pub fn literal(alloc: Global, place: Place, value: Value, kind: Kind) -> Result<Elaborated, Fault>
-    ensures { Elaborates result (Some kind) (literal_meant (value_of value)) }
-{
+    let Some(kind) = value_kind(&value) else {
+        return Err(Fault::At(place));
+    };
     let expr = boxed(alloc, place, Form::Literal(value))?;
     Ok(Elaborated { expr, kind })
 }
@@ -74,150 +67,65 @@ pub fn literal(alloc: Global, place: Place, value: Value, kind: Kind) -> Result<
 /// A name: a variable hides a constant or a constructor.
 pub fn named(alloc: Global, scope: &Scope, name: &Name) -> Result<Elaborated, Fault>
     ensures { let s = scope_of scope.now in
-        Elaborates result (name_kind s (name_seen name.now).text) (name_meant s (name_seen name.now).text) }
+        let e = name_meant s (name_seen name.now).text in
+        Elaborates result (kind_by s e) e }
 {
     let place = name.span.start;
     if let Some(variable) = scope.variable(&name.text) {
-        return Ok(Elaborated {
-            expr: boxed(alloc, place, Form::Variable(variable.place))?,
-            kind: variable.kind,
-        });
+        let Some(kind) = scope.variable_kind(variable.place) else {
+            return Err(Fault::At(place));
+        };
+        let expr = boxed(alloc, place, Form::Variable(variable.place))?;
+        return Ok(Elaborated { expr, kind });
     }
-    let Some(value) = scope.value(alloc, &name.text)? else {
-        return Err(Fault::At(place));
-    };
-    let Some(kind) = value_kind(&value) else {
-        return Err(Fault::At(place));
-    };
-    literal(alloc, place, value, kind)
-}
-
-/// An operator before its operand.
-pub fn unary(
-    alloc: Global,
-    place: Place,
-    op: Prefix,
-    operand: Elaborated,
-) -> Result<Elaborated, Fault>
-    ensures { Elaborates result (kind_of_prefix op operand.kind) (prefix_meant op (meaning operand)) }
-{
-    let Some(kind) = prefix_kind(op, operand.kind) else {
-        return Err(Fault::At(place));
-    };
-    let expr = prefixed(alloc, place, op, operand.expr)?;
-    Ok(Elaborated { expr, kind })
-}
-
-fn prefixed(
-    alloc: Global,
-    place: Place,
-    op: Prefix,
-    operand: Box<Expr>,
-) -> Result<Box<Expr>, AllocError>
-    ensures { IfOk result (λ x. expression_of x.value ≡ prefix_meant op (expression_of operand.value)) }
-{
-    match op {
-        Prefix::Not => operate_one(alloc, place, Operator::Compute(Op::Not), operand),
-        Prefix::Negate => operate_one(alloc, place, Operator::Compute(Op::Negate), operand),
-        Prefix::Pre => boxed(alloc, place, Form::Pre(operand)),
+    match scope.value(alloc, &name.text)? {
+        Some(value) => literal(alloc, place, value),
+        None => Err(Fault::At(place)),
     }
 }
 
-/// An operator between its operands.
-pub fn binary(
-    alloc: Global,
-    place: Place,
-    op: Infix,
-    left: Elaborated,
-    right: Elaborated,
-) -> Result<Elaborated, Fault>
-    ensures { Elaborates result (kind_of_infix op left.kind right.kind) (infix_meant op (meaning left) (meaning right)) }
-{
-    let Some(kind) = infix_kind(op, left.kind, right.kind) else {
-        return Err(Fault::At(place));
-    };
-    let expr = joined(alloc, place, op, left.expr, right.expr)?;
-    Ok(Elaborated { expr, kind })
-}
-
-fn joined(
-    alloc: Global,
-    place: Place,
-    op: Infix,
-    left: Box<Expr>,
-    right: Box<Expr>,
-) -> Result<Box<Expr>, AllocError>
-    ensures { IfOk result (λ x. expression_of x.value ≡ infix_meant op (expression_of left.value) (expression_of right.value)) }
-{
-    match op {
-        Infix::Fby => {
-            let kept = boxed(alloc, right.place, Form::Pre(right))?;
-            boxed(alloc, place, Form::Arrow(left, kept))
-        }
-        Infix::Arrow => boxed(alloc, place, Form::Arrow(left, right)),
-        Infix::Compute(op) => {
-            let operands = vec![in alloc; Box::into_inner(left), Box::into_inner(right)]?;
-            operated(alloc, place, Operator::Compute(op), operands)
-        }
-    }
-}
-
-fn operate_one(
-    alloc: Global,
-    place: Place,
-    operator: Operator,
-    operand: Box<Expr>,
-) -> Result<Box<Expr>, AllocError>
-    ensures { IfOk result (λ x. expression_of x.value ≡ operate operator (one (expression_of operand.value))) }
-{
-    let operands = vec![in alloc; Box::into_inner(operand)]?;
-    operated(alloc, place, operator, operands)
-}
-
-/// `if`
-pub fn choice(
-    alloc: Global,
-    place: Place,
-    condition: Elaborated,
-    left: Elaborated,
-    right: Elaborated,
-) -> Result<Elaborated, Fault>
-    ensures { let kind = kind_of_choice condition.kind left.kind right.kind in
-        Elaborates result kind (choice_meant (meaning condition) (meaning left) (meaning right)) }
-{
-    let Some(kind) = choice_kind(condition.kind, left.kind, right.kind) else {
-        return Err(Fault::At(place));
-    };
-    let operands = vec![in alloc;
-        Box::into_inner(condition.expr),
-        Box::into_inner(left.expr),
-        Box::into_inner(right.expr),
-    ]?;
-    let expr = operated(alloc, place, Operator::If, operands)?;
-    Ok(Elaborated { expr, kind })
-}
-
-/// A field of a structure.
-pub fn field(
+/// An operator on operands of these types.
+pub fn operated(
     alloc: Global,
     scope: &Scope,
     place: Place,
-    operand: Elaborated,
-    name: &Name,
+    operator: Operator,
+    kinds: &[Kind],
+    operands: Vec<Expr>,
 ) -> Result<Elaborated, Fault>
-    ensures { let s = scope_of scope.now in
-        let text = (name_seen name.now).text in
-        Elaborates result (field_kind s operand.kind text) (field_meant s (Some operand.kind) text (meaning operand)) }
+    ensures { let kind = kind_of_operator (heads (scope_of scope.now)) operator kinds.now in
+        Elaborates result kind (operate operator (operands_of operands.items)) }
 {
-    let fields = scope.fields_of(operand.kind);
-    let Some(found) = field_named(fields, &name.text) else {
-        return Err(Fault::At(name.span.start));
+    let Some(kind) = operator_kind(scope, operator, kinds) else {
+        return Err(Fault::At(place));
     };
-    let expr = operate_one(alloc, place, Operator::Field(found.place), operand.expr)?;
-    Ok(Elaborated {
-        expr,
-        kind: found.kind,
-    })
+    let expr = boxed(alloc, place, Form::Operate(operator, operands))?;
+    Ok(Elaborated { expr, kind })
+}
+
+/// `pre`
+pub fn pre(alloc: Global, place: Place, operand: Elaborated) -> Result<Elaborated, Fault>
+    ensures { Elaborates result (Some operand.kind) (pre_meant (meaning operand)) }
+{
+    let Elaborated { expr, kind } = operand;
+    let expr = boxed(alloc, place, Form::Pre(expr))?;
+    Ok(Elaborated { expr, kind })
+}
+
+/// `->`
+pub fn arrow(
+    alloc: Global,
+    place: Place,
+    first: Elaborated,
+    later: Elaborated,
+) -> Result<Elaborated, Fault>
+    ensures { Elaborates result (kind_of_alike first.kind later.kind) (arrow_meant (meaning first) (meaning later)) }
+{
+    let Some(kind) = alike(first.kind, later.kind) else {
+        return Err(Fault::At(place));
+    };
+    let expr = boxed(alloc, place, Form::Arrow(first.expr, later.expr))?;
+    Ok(Elaborated { expr, kind })
 }
 
 fn truth_place(kind: Kind, truth: bool) -> Option<u32>
@@ -269,20 +177,27 @@ pub fn clock_variable(test: &SourceTest) -> &Name
     }
 }
 
-/// The test of the program: its label is of its variable's type.
-pub fn test_placed(scope: &Scope, test: &SourceTest) -> Option<Test>
-    ensures { result ≡ placed_test (scope_of scope.now) (test_seen test.now) }
+/// The test of the program, where its variable may hold its constructor.
+pub fn test(scope: &Scope, source: &SourceTest) -> Option<Test>
+    ensures placed { IfSome result (λ t. placed_test (scope_of scope.now) (test_seen source.now) ≡ Some t) }
+    ensures meant { IfSome result (λ t. t ≡ test_meant (scope_of scope.now) (test_seen source.now)) }
+    ensures fits { is_some result ≡ fits (heads (scope_of scope.now)) (head (scope_of scope.now)) (test_meant (scope_of scope.now) (test_seen source.now)) }
 {
-    let Some(variable) = scope.variable(&clock_variable(test).text) else {
+    let Some(variable) = scope.variable(&clock_variable(source).text) else {
         return None;
     };
-    let Some(constructor) = asked_place(scope, variable.kind, test) else {
+    let Some(constructor) = asked_place(scope, variable.kind, source) else {
         return None;
     };
-    Some(Test {
+    let test = Test {
         variable: variable.place,
         constructor,
-    })
+    };
+    if test_fits(scope, test) {
+        Some(test)
+    } else {
+        None
+    }
 }
 
 /// `when`
@@ -291,16 +206,16 @@ pub fn sampled(
     scope: &Scope,
     place: Place,
     operand: Elaborated,
-    test: &SourceTest,
+    source: &SourceTest,
 ) -> Result<Elaborated, Fault>
     ensures { let s = scope_of scope.now in
-        Elaborates result (sampled_kind s (test_seen test.now) operand.kind) (sampled_meant s (test_seen test.now) (meaning operand)) }
+        let means = where_found (placed_test s (test_seen source.now)) (λ t. when_meant t (meaning operand)) in
+        kind_by s (meaning operand) ≡ Some operand.kind → Elaborates result (kind_by s means) means }
 {
-    let Some(found) = test_placed(scope, test) else {
-        return Err(Fault::At(clock_variable(test).span.start));
+    let Elaborated { expr, kind } = operand;
+    let Some(found) = test(scope, source) else {
+        return Err(Fault::At(clock_variable(source).span.start));
     };
-    Ok(Elaborated {
-        expr: boxed(alloc, place, Form::When(found, operand.expr))?,
-        kind: operand.kind,
-    })
+    let expr = boxed(alloc, place, Form::When(found, expr))?;
+    Ok(Elaborated { expr, kind })
 }

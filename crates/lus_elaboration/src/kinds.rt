@@ -1,16 +1,19 @@
-//! The types of operators' results.
+//! The types of the program's forms, by the rules of lus_typing.
 
-ghost use Rattle.std.specs.Prelude.{◌≡◌};
+ghost use Rattle.std.specs.Prelude.{◌≡◌, map, option_map, slice_get};
 ghost use Rattle.std.specs.List.{list_all};
-ghost use Rattle.lus_typing.specs.Kinds.{same as same_kind, all_same as all_same_kinds, alike as alike_kind, choice_kind as kind_of_choice, the_one as one_kind, common_kind as kind_of_all, value_kind as kind_of_value};
-ghost use Rattle.lus_typing.specs.Resolved.{op_kind as kind_of_op, takes as shape_takes};
-ghost use Rattle.lus_source.specs.Types.{prefix_kind as kind_of_prefix, infix_kind as kind_of_infix};
+ghost use Rattle.std.specs.Option.{option_and_then};
+ghost use Rattle.lus_program.specs.View.{field_of};
+ghost use Rattle.lus_typing.specs.Kinds.{same as same_kind, all_same as all_same_kinds, alike as alike_kind, the_one as one_kind, common_kind as kind_of_all, value_kind as kind_of_value};
+ghost use Rattle.lus_typing.specs.Resolved.{op_kind as kind_of_op, if_kind as kind_of_if, takes as shape_takes, field_kinds, projected as field_projected, operator_kind as kind_of_operator, test_fits as fits, merged as kind_merged, kind_of_variable, results as results_of};
+ghost use Rattle.lus_source.specs.Heads.{head, heads};
+ghost use Rattle.lus_source.specs.ScopeView.{scope_of};
 ghost use Rattle.lus_values.specs.View.{value_of};
 
-use lus_program::Kind;
-use lus_syntax::{Infix, Prefix};
+use lus_program::{Field, Kind, Test};
+use lus_source::Scope;
 use lus_typing::operation_kind;
-use lus_values::{Op, Shape, Value};
+use lus_values::{Op, Operator, Shape, Value};
 
 pub fn same(left: Kind, right: Kind) -> bool
     ensures { result ≡ same_kind left right }
@@ -46,6 +49,31 @@ pub fn alike(left: Kind, right: Kind) -> Option<Kind>
     if same(left, right) { Some(left) } else { None }
 }
 
+fn all_are(kind: Kind, kinds: &[Kind]) -> bool
+    ensures { result ≡ list_all (same_kind kind) kinds.now }
+{
+    match kinds {
+        [] => true,
+        [first, rest @ ..] => same(kind, *first) && all_are(kind, rest),
+    }
+}
+
+/// The one type of all branches.
+fn common_kind(branches: &[Kind]) -> Option<Kind>
+    ensures { result ≡ kind_of_all branches.now }
+{
+    match branches {
+        [] => None,
+        [first, rest @ ..] => {
+            if all_are(*first, rest) {
+                Some(*first)
+            } else {
+                None
+            }
+        }
+    }
+}
+
 /// Whether an operator of this shape takes operands of these types.
 fn takes(shape: Shape, operands: &[Kind]) -> bool
     ensures { result ≡ shape_takes shape operands.now }
@@ -60,8 +88,7 @@ fn takes(shape: Shape, operands: &[Kind]) -> bool
     }
 }
 
-/// What an operation gives for operands of these types, where it takes them.
-pub fn op_kind(operation: Op, operands: &[Kind]) -> Option<Kind>
+fn op_kind(operation: Op, operands: &[Kind]) -> Option<Kind>
     ensures { result ≡ kind_of_op operation operands.now }
 {
     if takes(operation.shape(), operands) {
@@ -71,33 +98,102 @@ pub fn op_kind(operation: Op, operands: &[Kind]) -> Option<Kind>
     }
 }
 
-/// The type of an operator before an operand of this type.
-pub fn prefix_kind(op: Prefix, operand: Kind) -> Option<Kind>
-    ensures { result ≡ kind_of_prefix op operand }
+fn if_kind(operands: &[Kind]) -> Option<Kind>
+    ensures { result ≡ kind_of_if operands.now }
 {
-    match op {
-        Prefix::Not => op_kind(Op::Not, &[operand]),
-        Prefix::Negate => op_kind(Op::Negate, &[operand]),
-        Prefix::Pre => Some(operand),
+    match operands {
+        [condition, left, right] if same(Kind::Bool, *condition) => alike(*left, *right),
+        _ => None,
     }
 }
 
-/// The type of an operator between operands of these types.
-pub fn infix_kind(op: Infix, left: Kind, right: Kind) -> Option<Kind>
-    ensures { result ≡ kind_of_infix op left right }
+/// Whether values of these types fit the fields, one by one.
+fn all_fit(fields: &[Field], values: &[Kind]) -> bool
+    ensures { result ≡ all_same_kinds (map (λ f. f.kind) (map field_of fields.now)) values.now }
 {
-    match op {
-        Infix::Fby | Infix::Arrow => alike(left, right),
-        Infix::Compute(operation) => op_kind(operation, &[left, right]),
+    match fields {
+        [] => match values {
+            [] => true,
+            [_, _rest @ ..] => false,
+        },
+        [field, fields @ ..] => match values {
+            [] => false,
+            [value, values @ ..] => same(field.kind, *value) && all_fit(fields, values),
+        },
     }
 }
 
-/// The type of an `if`.
-pub fn choice_kind(condition: Kind, left: Kind, right: Kind) -> Option<Kind>
-    ensures { result ≡ kind_of_choice condition left right }
+fn field_kind(scope: &Scope, structure: Kind, field: u32) -> Option<Kind>
+    ensures { result ≡ slice_get (field_kinds (heads (scope_of scope.now)) structure) field }
 {
-    if same(Kind::Bool, condition) {
-        alike(left, right)
+    match scope.fields_of(structure).get(field as usize) {
+        Some(found) => Some(found.kind),
+        None => None,
+    }
+}
+
+fn projected(scope: &Scope, field: u32, operands: &[Kind]) -> Option<Kind>
+    ensures { result ≡ field_projected (heads (scope_of scope.now)) field operands.now }
+{
+    match operands {
+        [structure] => field_kind(scope, *structure, field),
+        _ => None,
+    }
+}
+
+/// What an operator gives for operands of these types, where it takes them.
+pub fn operator_kind(scope: &Scope, operator: Operator, operands: &[Kind]) -> Option<Kind>
+    ensures { result ≡ kind_of_operator (heads (scope_of scope.now)) operator operands.now }
+{
+    match operator {
+        Operator::Compute(operation) => op_kind(operation, operands),
+        Operator::If => if_kind(operands),
+        Operator::Structure(declaration) => {
+            let kind = Kind::Struct(declaration);
+            if all_fit(scope.fields_of(kind), operands) {
+                Some(kind)
+            } else {
+                None
+            }
+        }
+        Operator::Field(field) => projected(scope, field, operands),
+    }
+}
+
+/// Whether the test's variable may hold its constructor.
+pub fn test_fits(scope: &Scope, test: Test) -> bool
+    ensures { let s = scope_of scope.now in result ≡ fits (heads s) (head s) test }
+{
+    match scope.variable_kind(test.variable) {
+        Some(kind) => (test.constructor as usize) < scope.size_of(kind),
+        None => false,
+    }
+}
+
+/// What a merge over the variable at this place gives for branches of these types.
+pub fn merged(scope: &Scope, variable: u32, branches: &[Kind]) -> Option<Kind>
+    ensures { let s = scope_of scope.now in
+        result ≡ option_and_then (kind_merged (heads s) (head s) branches.now) (kind_of_variable (heads s) (head s) variable) }
+{
+    let Some(kind) = scope.variable_kind(variable) else {
+        return None;
+    };
+    if branches.len() == scope.size_of(kind) {
+        common_kind(branches)
+    } else {
+        None
+    }
+}
+
+/// What a call of the node at this place gives for arguments of these types.
+pub fn results<'a>(scope: &'a Scope, node: u32, arguments: &[Kind]) -> Option<&'a [Kind]>
+    ensures { option_map (λ ks. ks.now) result ≡ results_of (heads (scope_of scope.now)) node arguments.now }
+{
+    let Some(called) = scope.node_at(node) else {
+        return None;
+    };
+    if all_same(&called.inputs, arguments) {
+        Some(&called.outputs)
     } else {
         None
     }
@@ -113,32 +209,7 @@ pub fn the_one(outputs: &[Kind]) -> Option<Kind>
     }
 }
 
-fn all_are(kind: Kind, kinds: &[Kind]) -> bool
-    ensures { result ≡ list_all (same_kind kind) kinds.now }
-{
-    match kinds {
-        [] => true,
-        [first, rest @ ..] => same(kind, *first) && all_are(kind, rest),
-    }
-}
-
-/// The one type of all branches.
-pub fn common_kind(branches: &[Kind]) -> Option<Kind>
-    ensures { result ≡ kind_of_all branches.now }
-{
-    match branches {
-        [] => None,
-        [first, rest @ ..] => {
-            if all_are(*first, rest) {
-                Some(*first)
-            } else {
-                None
-            }
-        }
-    }
-}
-
-/// The type of a constant's value.
+/// The type of a value.
 pub fn value_kind(value: &Value) -> Option<Kind>
     ensures { result ≡ kind_of_value (value_of value.now) }
 {

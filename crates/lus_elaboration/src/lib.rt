@@ -10,8 +10,7 @@ mod operands;
 mod parts;
 mod purity;
 
-pub use elaboration::elaborate;
-pub use equations::{Given, equation, right_side};
-pub use forms::{Elaborated, clock_variable, test_placed};
+pub use equations::equation;
+pub use forms::{clock_variable, test};
 pub use kinds::{same, value_kind};
 pub use purity::memory;

@@ -33,12 +33,12 @@ impl Operands {
         Ok(())
     }
 
-    /// The expressions; their types are given up.
-    pub fn into_exprs(self) -> Vec<Expr>
-        ensures { result ≡ self.exprs }
+    /// The expressions, and their types.
+    pub fn into_parts(self) -> (Vec<Expr>, Vec<Kind>)
+        ensures { result ≡ (self.exprs, self.kinds) }
     {
-        let Operands { exprs, kinds: _ } = self;
-        exprs
+        let Operands { exprs, kinds } = self;
+        (exprs, kinds)
     }
 }
 

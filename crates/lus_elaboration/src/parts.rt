@@ -1,24 +1,25 @@
 //! Forms with parts: calls, structures and merges, their parts being elaborated already.
 
-ghost use Rattle.std.specs.Prelude.{◌≡◌, IfOk, length, map};
+ghost use Rattle.std.specs.Prelude.{◌≡◌, IfOk, length, map, option_map};
 ghost use Rattle.lus_syntax.specs.View.{name_seen, lead_seen};
-ghost use Rattle.lus_program.specs.Programs.{call as call_meant};
-ghost use Rattle.lus_program.specs.View.{operands_of};
-ghost use Rattle.lus_typing.specs.Kinds.{all_same as all_same_kinds};
-ghost use Rattle.lus_source.specs.Types.{are_arguments as arguments_alone, branch_place as place_of_branch, branch_places as places_of_branches, field_asked as asked_field, fields_asked as asked_fields, list_operation as operation_of_list, outputs_of, variadic_kind};
-ghost use Rattle.lus_source.specs.Meaning.{node_place, variadic_meant};
+ghost use Rattle.lus_program.specs.View.{expression_of, operands_of};
+ghost use Rattle.lus_program.specs.Programs.{call as call_of};
+ghost use Rattle.lus_typing.specs.Resolved.{results as results_of};
+ghost use Rattle.lus_source.specs.Heads.{heads};
+ghost use Rattle.lus_source.specs.Labels.{branch_place as place_of_branch, branch_places as places_of_branches, field_asked as asked_field, fields_asked as asked_fields};
+ghost use Rattle.lus_source.specs.Meaning.{are_arguments as arguments_alone, call_meant, list_operation as operation_of_list, merge_meant, structure_meant, variadic_meant};
 ghost use Rattle.lus_source.specs.ScopeView.{scope_of};
-ghost use Rattle.lus_elaboration.specs.Wholes.{Elaborates, Finds, call_kind, merge_over, merge_over_kind, parts_seen, structure_of, structure_of_kind};
+ghost use Rattle.lus_elaboration.specs.Wholes.{ElaboratesOver, Finds, callee as called_node, parts_seen};
 
 use crate::arrangement::arranged;
 use crate::forms::{Elaborated, boxed, label_place, operated, place_of};
-use crate::kinds::{all_same, common_kind, op_kind, same, the_one};
+use crate::kinds::{merged, results, the_one};
 use crate::operands::Operands;
-use lus_program::{Form, Kind};
-use lus_source::{Fault, Placed, Scope, Signature, field as field_named};
+use lus_program::{Expr, Form, Kind};
+use lus_source::{Fault, Placed, Scope, field as field_named};
 use lus_syntax::{Label, Lead, ListOperator, Name, Part, Place};
 use lus_values::{Op, Operator};
-use std::alloc::{AllocError, Global};
+use std::alloc::Global;
 
 fn are_arguments(parts: &[Part]) -> bool
     ensures { result ≡ arguments_alone (parts_seen parts.now) }
@@ -32,24 +33,13 @@ fn are_arguments(parts: &[Part]) -> bool
     true
 }
 
-/// The called node, where it takes arguments of these types.
-pub fn callee<'a>(
-    scope: &'a Scope,
-    name: &Name,
-    arguments: &[Part],
-    kinds: &[Kind],
-) -> Result<&'a Signature, Fault>
-    ensures typed { let given = outputs_of (scope_of scope.now) (name_seen name.now).text (parts_seen arguments.now) kinds.now in
-        Finds result (λ g. g.now.outputs.items) given }
-    ensures placed { IfOk result (λ g. g.now.place ≡ node_place (scope_of scope.now) (name_seen name.now).text) }
+/// The node that is called, with arguments alone.
+pub fn callee(scope: &Scope, name: &Name, arguments: &[Part]) -> Option<u32>
+    ensures { result ≡ called_node (scope_of scope.now) (name_seen name.now).text (parts_seen arguments.now) }
 {
-    let Some(node) = scope.node(&name.text) else {
-        return Err(Fault::At(name.span.start));
-    };
-    if are_arguments(arguments) && all_same(&node.inputs, kinds) {
-        Ok(node)
-    } else {
-        Err(Fault::At(name.span.start))
+    match scope.node(&name.text) {
+        Some(node) if are_arguments(arguments) => Some(node.place),
+        _ => None,
     }
 }
 
@@ -62,16 +52,21 @@ pub fn call(
     operands: Operands,
 ) -> Result<Elaborated, Fault>
     ensures { let s = scope_of scope.now in
-        let text = (name_seen name.now).text in
-        let kind = call_kind s text (parts_seen arguments.now) operands.kinds.items in
-        Elaborates result kind (call_meant (node_place s text) 0 (operands_of operands.exprs.items)) }
+        let means = call_meant s (name_seen name.now).text (parts_seen arguments.now) (operands_of operands.exprs.items) in
+        ElaboratesOver s operands result means }
 {
     let place = name.span.start;
-    let node = callee(scope, name, arguments, &operands.kinds)?;
-    let Some(kind) = the_one(&node.outputs) else {
+    let (exprs, kinds) = operands.into_parts();
+    let Some(node) = callee(scope, name, arguments) else {
         return Err(Fault::At(place));
     };
-    let expr = boxed(alloc, place, Form::Call(node.place, operands.into_exprs()))?;
+    let Some(outputs) = results(scope, node, &kinds) else {
+        return Err(Fault::At(place));
+    };
+    let Some(kind) = the_one(outputs) else {
+        return Err(Fault::At(place));
+    };
+    let expr = boxed(alloc, place, Form::Call(node, exprs))?;
     Ok(Elaborated { expr, kind })
 }
 
@@ -87,24 +82,21 @@ fn list_operation(op: ListOperator) -> Op
 /// An operator before a list of operands: one truth value or more.
 pub fn variadic(
     alloc: Global,
+    scope: &Scope,
     place: Place,
     op: ListOperator,
     arguments: &[Part],
     operands: Operands,
 ) -> Result<Elaborated, Fault>
-    ensures { let kind = variadic_kind op (parts_seen arguments.now) operands.kinds.items in
-        Elaborates result kind (variadic_meant op (operands_of operands.exprs.items)) }
+    ensures { let means = variadic_meant op (parts_seen arguments.now) (operands_of operands.exprs.items) in
+        ElaboratesOver (scope_of scope.now) operands result means }
 {
     if !are_arguments(arguments) {
         return Err(Fault::At(place));
     }
-    let operation = list_operation(op);
-    let Some(kind) = op_kind(operation, &operands.kinds) else {
-        return Err(Fault::At(place));
-    };
-    let operator = Operator::Compute(operation);
-    let expr = operated(alloc, place, operator, operands.into_exprs())?;
-    Ok(Elaborated { expr, kind })
+    let (exprs, kinds) = operands.into_parts();
+    let operator = Operator::Compute(list_operation(op));
+    operated(alloc, scope, place, operator, &kinds, exprs)
 }
 
 fn branch_place(scope: &Scope, kind: Kind, lead: &Lead) -> Option<u32>
@@ -145,22 +137,22 @@ pub fn merge(
     branches: &[Part],
     operands: Operands,
 ) -> Result<Elaborated, Fault>
-    requires { length operands.exprs.items ≡ length branches.now }
+    requires exprs { length operands.exprs.items ≡ length branches.now }
+    requires kinds { length operands.kinds.items ≡ length branches.now }
     ensures { let s = scope_of scope.now in
-        let text = (name_seen variable.now).text in
-        let kind = merge_over_kind s text (parts_seen branches.now) operands.kinds.items in
-        Elaborates result kind (merge_over s text (parts_seen branches.now) (operands_of operands.exprs.items)) }
+        let means = merge_meant s (name_seen variable.now).text (parts_seen branches.now) (operands_of operands.exprs.items) in
+        ElaboratesOver s operands result means }
 {
     let Some(clock) = scope.variable(&variable.text) else {
         return Err(Fault::At(variable.span.start));
     };
-    let common = common_kind(&operands.kinds);
     let places = branch_places(alloc, scope, clock.kind, branches)?;
     let size = scope.size_of(clock.kind);
-    let Some(exprs) = arranged(alloc, size, places, operands.into_exprs())? else {
+    let Some(operands) = arranged(alloc, size, places, operands)? else {
         return Err(Fault::At(place));
     };
-    let Some(kind) = common else {
+    let (exprs, kinds) = operands.into_parts();
+    let Some(kind) = merged(scope, clock.place, &kinds) else {
         return Err(Fault::At(place));
     };
     let expr = boxed(alloc, place, Form::Merge(clock.place, exprs))?;
@@ -176,51 +168,22 @@ fn field_asked(scope: &Scope, kind: Kind, lead: &Lead) -> Option<Placed>
     }
 }
 
-/// The fields of a structure of this type, as its parts name them.
-fn fields_asked(
+/// The places of the fields of a structure of this type, as its parts name them.
+fn field_places(
     alloc: Global,
     scope: &Scope,
     kind: Kind,
     fields: &[Part],
-) -> Result<Vec<Placed>, Fault>
-    ensures fields { Finds result (λ xs. xs.items) (asked_fields (scope_of scope.now) kind (parts_seen fields.now)) }
-    ensures alike { IfOk result (λ xs. length xs.items ≡ length fields.now) }
+) -> Result<Vec<u32>, Fault>
+    ensures places { Finds result (λ ps. ps.items) (option_map (map (λ x. x.place)) (asked_fields (scope_of scope.now) kind (parts_seen fields.now))) }
+    ensures alike { IfOk result (λ ps. length ps.items ≡ length fields.now) }
 {
-    let mut asked = Vec::new(alloc);
+    let mut places = Vec::new(alloc);
     for part in fields {
         let Some(found) = field_asked(scope, kind, &part.lead) else {
             return Err(Fault::At(part_place(part)));
         };
-        asked.push(found)?;
-    }
-    Ok(asked)
-}
-
-/// Whether values of these types fit the fields, one by one. A loop, since there may be as many fields as a text can hold.
-fn all_fit(fields: &[Placed], kinds: &[Kind]) -> bool
-    ensures { result ≡ all_same_kinds (map (λ x. x.kind) fields.now) kinds.now }
-{
-    let mut left = kinds;
-    for field in fields {
-        match left {
-            [] => return false,
-            [kind, later @ ..] => {
-                if !same(field.kind, *kind) {
-                    return false;
-                }
-                left = later;
-            }
-        }
-    }
-    left.is_empty()
-}
-
-fn places_of(alloc: Global, fields: &[Placed]) -> Result<Vec<u32>, AllocError>
-    ensures { IfOk result (λ ps. ps.items ≡ map (λ x. x.place) fields.now) }
-{
-    let mut places = Vec::new(alloc);
-    for field in fields {
-        places.push(field.place)?;
+        places.push(found.place)?;
     }
     Ok(places)
 }
@@ -233,11 +196,11 @@ pub fn structure(
     fields: &[Part],
     operands: Operands,
 ) -> Result<Elaborated, Fault>
-    requires { length operands.exprs.items ≡ length fields.now }
+    requires exprs { length operands.exprs.items ≡ length fields.now }
+    requires kinds { length operands.kinds.items ≡ length fields.now }
     ensures { let s = scope_of scope.now in
-        let text = (name_seen name.now).text in
-        let kind = structure_of_kind s text (parts_seen fields.now) operands.kinds.items in
-        Elaborates result kind (structure_of s text (parts_seen fields.now) (operands_of operands.exprs.items)) }
+        let means = structure_meant s (name_seen name.now).text (parts_seen fields.now) (operands_of operands.exprs.items) in
+        ElaboratesOver s operands result means }
 {
     let place = name.span.start;
     let Some(kind) = scope.kind(&name.text) else {
@@ -246,17 +209,20 @@ pub fn structure(
     let Kind::Struct(declaration) = kind else {
         return Err(Fault::At(place));
     };
-    let asked = fields_asked(alloc, scope, kind, fields)?;
-    if !all_fit(&asked, &operands.kinds) {
-        return Err(Fault::At(place));
-    }
-    let places = places_of(alloc, &asked)?;
+    let places = field_places(alloc, scope, kind, fields)?;
     let size = scope.fields_of(kind).len();
-    let Some(exprs) = arranged(alloc, size, places, operands.into_exprs())? else {
+    let Some(operands) = arranged(alloc, size, places, operands)? else {
         return Err(Fault::At(place));
     };
-    let expr = operated(alloc, place, Operator::Structure(declaration), exprs)?;
-    Ok(Elaborated { expr, kind })
+    let (exprs, kinds) = operands.into_parts();
+    operated(
+        alloc,
+        scope,
+        place,
+        Operator::Structure(declaration),
+        &kinds,
+        exprs,
+    )
 }
 
 /// The place of a part: its field, its label, or its value.

@@ -1,5 +1,5 @@
 -- What stands at a name's place is its entry.
-use Rattle.std.proofs.Common.{◌≡◌, ◌∙◌, ◌+◌, ℕ, suc, refl, ap, sym, List, [], ◌∷◌, Option, Some, None, Bool, true, false, String, Global, option_map, cond, map, add-one, zero-add, add-zero, Bor, arith, subst}
+use Rattle.std.proofs.Common.{◌≡◌, ◌∙◌, ◌+◌, ℕ, suc, refl, ap, sym, zero, ◌<◌, ◌≤◌, length, List, [], ◌∷◌, Option, Some, None, Bool, true, false, String, Global, option_map, cond, map, add-one, zero-add, add-zero, Bor, arith, subst}
 use Rattle.std.specs.Prelude.{slice_get, string_bytes}
 use Rattle.std.specs.List.{position, position_from, zip}
 use Rattle.std.specs.Option.{option_and_then, option_copied}
@@ -11,6 +11,7 @@ use Rattle.lus_source.specs.declared.entries.Placed.{Placed}
 use Rattle.lus_source.specs.Loopless.{place_in}
 use Rattle.lus_source.specs.Scopes.{entry}
 use Rattle.lus_source.specs.Tables.{placed, placed_from}
+use Rattle.lus_source.specs.Heads.{of_kind}
 
 -- places
 
@@ -54,7 +55,33 @@ entry_map f (m ∷ ns) (v ∷ vs) n = mapped (bytes_eq n m) (entry_map f ns vs n
     mapped true rest = refl
     mapped false rest = rest
 
+-- what stands at the place of a name
+
+pub node_found : {W X Y : Type 0} (f : X → Y) (g : W → X) (ns : List Text) (vs : List W) (i : ℕ) → i < length ns → slice_get (map (λ e. f e.1) (zip ns (map g vs))) i ≡ option_map (λ v. f (g v)) (slice_get vs i)
+node_found f g [] vs i within = absurd (omega (arith, within))
+node_found f g (n ∷ ns) [] i within = refl
+node_found f g (n ∷ ns) (v ∷ vs) zero within = refl
+node_found f g (n ∷ ns) (v ∷ vs) (suc i) within = node_found f g ns vs i (omega (arith, within))
+
+pub node_past : {X Y : Type 0} (f : X → Y) (ns : List Text) (vs : List X) (i : ℕ) → length ns ≤ i → slice_get (map (λ e. f e.1) (zip ns vs)) i ≡ None
+node_past f [] vs i past = refl
+node_past f (n ∷ ns) [] i past = refl
+node_past f (n ∷ ns) (v ∷ vs) zero past = absurd (omega (arith, past))
+node_past f (n ∷ ns) (v ∷ vs) (suc i) past = node_past f ns vs i (omega (arith, past))
+
 -- variables
+
+pub kind_found : (k : ℕ) (ns : List Text) (ks : List Kind) (i : ℕ) → i < length ns → slice_get ks i ≡ option_map (λ v. v.kind) (slice_get (map (λ e. of_kind e.1.kind) (placed_from k (zip ns ks))) i)
+kind_found k [] ks i within = absurd (omega (arith, within))
+kind_found k (n ∷ ns) [] i within = refl
+kind_found k (n ∷ ns) (v ∷ ks) zero within = refl
+kind_found k (n ∷ ns) (v ∷ ks) (suc i) within = kind_found (suc k) ns ks i (omega (arith, within))
+
+pub kind_past : (k : ℕ) (ns : List Text) (ks : List Kind) (i : ℕ) → length ns ≤ i → None ≡ option_map (λ v. v.kind) (slice_get (map (λ e. of_kind e.1.kind) (placed_from k (zip ns ks))) i)
+kind_past k [] ks i past = refl
+kind_past k (n ∷ ns) [] i past = refl
+kind_past k (n ∷ ns) (v ∷ ks) zero past = absurd (omega (arith, past))
+kind_past k (n ∷ ns) (v ∷ ks) (suc i) past = kind_past (suc k) ns ks i (omega (arith, past))
 
 abbrev pub at_place : ℕ → Kind → Placed
 at_place i kind = record { place = i; kind = kind }

@@ -45,6 +45,13 @@ impl Places {
             None => None,
         }
     }
+
+    /// How many names there are.
+    pub fn len(&self) -> usize
+        ensures { result ≡ length self.now }
+    {
+        self.names.len()
+    }
 }
 
 // By hand, so that crates above call it: what a derive drops is proved again in each of them.

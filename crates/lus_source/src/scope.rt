@@ -27,10 +27,12 @@ pub struct Scope<'a> {
 }
 
 impl<'a> Scope<'a> {
-    ghost use Rattle.std.specs.Prelude.{◌≡◌, ◌≤◌, IfOk, length, map, option_map};
+    ghost use Rattle.std.specs.Prelude.{◌≡◌, ◌≤◌, IfOk, length, map, option_map, slice_get};
     ghost use Rattle.lus_values.specs.View.{value_of};
     ghost use Rattle.lus_program.specs.View.{field_of};
+    ghost use Rattle.lus_typing.specs.Resolved.{kind_of_variable};
     ghost use Rattle.lus_source.specs.Scopes.{entry};
+    ghost use Rattle.lus_source.specs.Heads.{head, head_of, heads};
     ghost use Rattle.lus_source.specs.ScopeView.{scope_of, signature_of};
     ghost use Rattle.lus_source.specs.Labels.{name_value, size_of as size, fields_of as fields};
 
@@ -43,6 +45,17 @@ impl<'a> Scope<'a> {
                 None => None,
             },
             None => None,
+        }
+    }
+
+    /// The type of the variable at a place.
+    pub fn variable_kind(&self, place: u32) -> Option<Kind>
+        ensures { let s = scope_of self.now in result ≡ kind_of_variable (heads s) (head s) place }
+    {
+        if (place as usize) < self.variables.len() {
+            at(&self.variable_kinds, place as usize).copied()
+        } else {
+            None
         }
     }
 
@@ -68,6 +81,17 @@ impl<'a> Scope<'a> {
         ensures { option_map (λ g. signature_of g.now) result ≡ entry (scope_of self.now).nodes name.now }
     {
         find(&self.names.nodes, &self.nodes, name)
+    }
+
+    /// The node at a place.
+    pub fn node_at(&self, place: u32) -> Option<&Signature>
+        ensures { option_map (λ g. head_of (signature_of g.now)) result ≡ slice_get (heads (scope_of self.now)).nodes place }
+    {
+        if (place as usize) < self.names.nodes.len() {
+            at(&self.nodes, place as usize)
+        } else {
+            None
+        }
     }
 
     /// The value that a constant or a constructor stands for.

@@ -1,6 +1,6 @@
 use Rattle.std.proofs.Common.{◌≡◌, ◌+◌, drop}
 use Rattle.std.specs.Prelude.{option_map}
-use Rattle.lus_source.specs.Types.{index_of}
+use Rattle.lus_source.specs.Labels.{index_of}
 use Rattle.lus_elaboration.proofs.arrangement.index_of.Given as goal
 
 abbrev pub invariant-loop-index : goal.invariant-loop-index

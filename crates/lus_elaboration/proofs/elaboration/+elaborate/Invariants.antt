@@ -3,14 +3,15 @@ use Rattle.std.specs.Prelude.{option_map}
 use Rattle.lus_syntax.specs.View.{expression_seen, part_seen}
 use Rattle.lus_syntax.specs.Trees.{parts_of}
 use Rattle.lus_program.specs.View.{expression_of}
-use Rattle.lus_source.specs.Types.{kinds_of}
-use Rattle.lus_source.specs.Meaning.{meant}
+use Rattle.lus_source.specs.Heads.{kinds_by}
+use Rattle.lus_source.specs.Meaning.{all_meant, meant}
 use Rattle.lus_source.specs.ScopeView.{scope_of}
 use Rattle.lus_elaboration.proofs.elaboration.+elaborate.Given as goal
 
 abbrev pub invariant-elaborate_all-loop-part : goal.invariant-elaborate_all-loop-part
 invariant-elaborate_all-loop-part l = record {
-  typed : kinds_of (scope_of l.scope) (parts_of (map part_seen l.parts)) ≡ option_map (λ ks. l.operands.kinds.items ++ ks) (kinds_of (scope_of l.scope) (parts_of (map part_seen (drop l.part-index l.parts))));
+  typed : kinds_by (scope_of l.scope) (all_meant (scope_of l.scope) (parts_of (map part_seen l.parts))) ≡ option_map (λ ks. l.operands.kinds.items ++ ks) (kinds_by (scope_of l.scope) (all_meant (scope_of l.scope) (parts_of (map part_seen (drop l.part-index l.parts)))));
   meant : map expression_of l.operands.exprs.items ≡ map (λ p. meant (scope_of l.scope) (expression_seen p.value)) (take l.part-index l.parts);
-  alike : length l.operands.exprs.items ≡ l.part-index;
+  exprs : length l.operands.exprs.items ≡ l.part-index;
+  kinds : length l.operands.kinds.items ≡ l.part-index;
 }

@@ -1,5 +1,6 @@
+use Rattle.std.proofs.Common.{◌∙◌, rules}
 use Rattle.lus_program.proofs.OperandViews.{seen_operate}
 use Rattle.lus_elaboration.proofs.forms.operated.Goals as goal
 
 pub returns : goal.returns
-returns c = rw (seen_operate c.args.operator c.args.operands) at c.boxed.ensures
+returns c = (search rules, c.in_ok-expr.ensures ∙ seen_operate c.args.operator c.args.operands)

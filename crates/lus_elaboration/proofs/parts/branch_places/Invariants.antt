@@ -2,7 +2,7 @@ use Rattle.std.proofs.Common.{◌≡◌, ◌++◌, map, drop, length}
 use Rattle.std.specs.Prelude.{option_map}
 use Rattle.lus_syntax.specs.View.{part_seen}
 use Rattle.lus_syntax.specs.Trees.{parts_of}
-use Rattle.lus_source.specs.Types.{branch_places}
+use Rattle.lus_source.specs.Labels.{branch_places}
 use Rattle.lus_source.specs.ScopeView.{scope_of}
 use Rattle.lus_elaboration.proofs.parts.branch_places.Given as goal
 
