@@ -1,14 +1,42 @@
 //! How deep things go that use each other.
 
-ghost use Rattle.std.specs.Prelude.{◌≡◌, ◌+◌, ◌<◌, IfOk, MatchOption, length};
+ghost use Rattle.std.specs.Prelude.{◌≡◌, ◌+◌, ◌<◌, ◌≤◌, IfOk, length};
 ghost use Rattle.lus_values.specs.Lists.{item};
 ghost use Rattle.lus_graph.specs.Walks.{uses_of};
-ghost use Rattle.lus_graph.specs.Ways.{IsOrder};
-ghost use Rattle.lus_source.specs.Sized.{AreWithin, depth_in, greatest};
-ghost use Rattle.lus_declarations.specs.Limits.{IsLimited};
+ghost use Rattle.lus_graph.specs.Ways.{IsOrder, used};
+ghost use Rattle.lus_source.specs.Sized.{greatest};
+ghost use Rattle.lus_declarations.specs.Limits.{IsLimited, IsTooDeep};
 
+use lus_graph::{Rule, along};
 use lus_values::Memory;
 use std::alloc::Global;
+
+/// Each thing goes its own levels deeper than the deepest of those that it uses.
+#[derive(Drop)]
+struct Depths<'a> {
+    uses: &'a [Vec<u32>],
+    own: &'a [usize],
+    most: usize,
+    ghost whole: { length own.now ≡ length uses.now },
+}
+
+impl<'a> Rule<usize> for Depths<'a> {
+    ghost uses = { λ r. uses_of r.uses.now };
+
+    ghost nothing = { λ r. 0 };
+
+    ghost step = { λ r at x. item 0 r.own.now x + greatest at (used (uses_of r.uses.now) x) };
+
+    ghost fits = { λ r n. n ≤ r.most };
+
+    fn find(&self, thing: usize, table: &[usize]) -> Option<usize> {
+        deeper(
+            self.own[thing],
+            deepest_of(&self.uses[thing], table),
+            self.most,
+        )
+    }
+}
 
 /// The first thing of an order that goes deeper than a limit, if there is one. Each goes its own levels deeper than the deepest
 /// of those that it uses.
@@ -21,19 +49,13 @@ pub fn too_deep(
 ) -> Result<Option<usize>, Memory>
     requires order { IsOrder (uses_of uses.now) order.now }
     requires own { length own.now ≡ length uses.now }
-    ensures { let depth = depth_in (uses_of uses.now) own.now in
-        let things = length uses.now in
-        IfOk result (λ found. MatchOption found (AreWithin things depth most) (λ place. (place < things) × (most < depth place))) }
+    ensures { IfOk result (IsTooDeep (uses_of uses.now) own.now most) }
 {
-    let mut depths = vec![in alloc; 0usize; uses.len()]?;
-    for place in order {
-        let deepest = deepest_of(&uses[*place], &depths);
-        let Some(depth) = deeper(own[*place], deepest, most) else {
-            return Ok(Some(*place));
-        };
-        depths[*place] = depth;
+    let unknown = vec![in alloc; 0usize; uses.len()]?;
+    match along(&Depths { uses, own, most }, order, unknown) {
+        Ok(_) => Ok(None),
+        Err(place) => Ok(Some(place)),
     }
-    Ok(None)
 }
 
 fn deepest_of(used: &[u32], depths: &[usize]) -> usize

@@ -6,7 +6,6 @@ use Rattle.std.proofs.lemmas.List.Elements.{Contains-append_cases}
 use Rattle.lus_values.specs.Lists.{item}
 use Rattle.lus_graph.specs.Along.{IsFilled, IsLocal, Solves, within}
 use Rattle.lus_graph.specs.Ways.{Uses, used, IsOrdered, empty, next, IsOrder}
-use Rattle.lus_graph.proofs.NoWayBack.{each_holds}
 use Rattle.lus_graph.proofs.Steps.{last_item, more_length, no_item, one_item, one_more}
 
 -- each use is of a thing
@@ -87,12 +86,16 @@ module _ {X : Type 0} (uses : Uses) (d : X) (step : (ℕ → X) → ℕ → X) w
     pub nothing_solved : GivesNothing uses d step → Solves uses d step (within n d step)
     nothing_solved nothing = record { each = solved (nothing_steady nothing); past = λ x y among le. past nothing n y le }
 
--- solutions are alike
-pub one_solution : {X : Type 0} (uses : Uses) (e : X) (step : (ℕ → X) → ℕ → X) → IsLocal uses step → (order : List ℕ) → IsOrder uses order → (at at' : ℕ → X) → Solves uses e step at → Solves uses e step at' → (x : ℕ) → x < length uses → at x ≡ at' x
-one_solution uses e step local order o at at' s s' = each_holds uses (λ x. x < length uses → at x ≡ at' x) (λ x before lt.
-    s.each x lt
-    ∙ local at at' x (λ y among. ⊎_elim (before y among) (λ le. s.past x y among le ∙ sym (s'.past x y among le)) (cases_lt y (length uses)))
-    ∙ sym (s'.each x lt)) order o
+-- what has the same solves it too
+pub alike_solves : {X : Type 0} (uses : Uses) (e : X) (step : (ℕ → X) → ℕ → X) → IsLocal uses step → (at at' : ℕ → X) → Solves uses e step at → ((x : ℕ) → x < length uses → at' x ≡ at x) → ((y : ℕ) → length uses ≤ y → at' y ≡ e) → Solves uses e step at'
+alike_solves uses e step local at at' s same past = record {
+  each = λ x lt. same x lt ∙ s.each x lt ∙ local at at' x (λ y among. ⊎_elim (λ thing. sym (same y thing)) (λ le. s.past x y among le ∙ sym (past y le)) (cases_lt y (length uses)));
+  past = λ x y among le. past y le;
+}
+
+-- where what is found fits, what solves the step fits at each thing
+pub all_fit : {X : Type 0} (uses : Uses) (e : X) (step : (ℕ → X) → ℕ → X) (Fits : X → Type 0) (order : List ℕ) → IsOrder uses order → (table : List X) → IsFilled uses e step Fits order table → (at : ℕ → X) → Solves uses e step at → (x : ℕ) → x < length uses → Fits (at x)
+all_fit uses e step Fits order o table found at s x lt = subst Fits (found.right at s x (o.whole x lt)) (found.fit x (o.whole x lt))
 
 -- in an order stand things
 pub is_thing : (uses : Uses) (order : List ℕ) → IsOrder uses order → (i : ℕ) → i < length order → get_or order i 0 < length uses
