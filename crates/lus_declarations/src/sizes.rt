@@ -121,11 +121,12 @@ fn check_nesting(alloc: Global, loopless: &Loopless) -> Result<(), Fault>
     ensures { let p = tree_seen loopless.now in Judged result (AreWithin (length p.types) (nesting_at p) most_nesting) }
 {
     let types = loopless.tree().types.as_slice();
-    let uses = type_uses(alloc, loopless.named())?;
     let own = own_levels(alloc, types)?;
-    match too_deep(alloc, &uses, &own, loopless.types(), MOST_NESTING)? {
-        Some(place) => Err(Fault::At(types[place].name.span.start)),
-        None => Ok(()),
+    let uses = type_uses(alloc, loopless.named())?;
+    match too_deep(alloc, &uses, &own, loopless.types(), MOST_NESTING) {
+        Ok(Some(place)) => Err(Fault::At(types[place].name.span.start)),
+        Ok(None) => Ok(()),
+        Err(error) => Err(Fault::from(error)),
     }
 }
 
