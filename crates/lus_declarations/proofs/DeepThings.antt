@@ -1,12 +1,15 @@
 -- How deep things go, and what is found against a limit.
-use Rattle.std.proofs.Common.{arith, ◌≡◌, ap, ap₂, subst, ℕ, ◌+◌, ◌<◌, ◌≤◌, List, [], length}
-use Rattle.std.proofs.lemmas.List.{get_or_past}
+use Rattle.std.proofs.Common.{arith, ◌≡◌, ◌∙◌, sym, ap, ap₂, ℕ, ◌+◌, ◌<◌, ◌≤◌, List, [], Vec, Global, length, get_or}
+use Rattle.std.proofs.lemmas.List.{get_or_past, get_or-map}
 use Rattle.lus_values.specs.Lists.{item}
 use Rattle.lus_values.proofs.Lists.{below_all, below_at}
 use Rattle.lus_graph.specs.Along.{IsFilled, IsLocal, Solves}
+use Rattle.lus_graph.specs.Walks.{uses_of}
 use Rattle.lus_graph.specs.Ways.{Uses, used, IsOrder}
-use Rattle.lus_graph.proofs.AlongOrders.{GivesNothing, all_fit, nothing_solved}
+use Rattle.lus_graph.proofs.AlongOrders.{all_fit, nothing_solved}
+use Rattle.lus_graph.proofs.Steps.{uses_length}
 use Rattle.lus_source.specs.Sized.{AreWithin, depth_in, greatest}
+use Rattle.lus_declarations.specs.Limits.{deeper}
 use Rattle.lus_declarations.proofs.Greatest.{greatest-same}
 
 -- what is found within a limit, and what is refused
@@ -17,26 +20,16 @@ module _ (uses : Uses) (e : ℕ) (step : (ℕ → ℕ) → ℕ → ℕ) (most : 
   pub past_refused : (x : ℕ) → x < length uses → ((at : ℕ → ℕ) → Solves uses e step at → at x ≤ most → ⊥) → AreWithin n at most → ⊥
   past_refused x lt past all = past at s (below_at (λ k. at k ≤ most) n all x (omega (arith, lt, count)))
 
-module _ (uses : Uses) (own : List ℕ) (size : length own ≡ length uses) where
-  abbrev pub deeper : (ℕ → ℕ) → ℕ → ℕ
-  deeper at x = item 0 own x + greatest at (used uses x)
-
-  pub deeper_local : IsLocal uses deeper
+module _ (uses : Uses) (own : List ℕ) where
+  pub deeper_local : IsLocal uses (deeper uses own)
   deeper_local at at' x agree = ap (λ n. item 0 own x + n) (greatest-same at at' (used uses x) agree)
 
-  deeper_nothing : GivesNothing uses 0 deeper
-  deeper_nothing at x le =
+  pub depth_solved : length own ≡ length uses → (order : List ℕ) → IsOrder uses order → Solves uses 0 (deeper uses own) (depth_in uses own)
+  depth_solved size order o = nothing_solved uses 0 (deeper uses own) deeper_local order o (length uses) (omega arith) (λ at x le.
       let none : used uses x ≡ [] = get_or_past uses x [] le in
       let no_levels : item 0 own x ≡ 0 = get_or_past own x 0 (omega (arith, le, size)) in
-      ap₂ (λ n (ys : List ℕ). n + greatest at ys) no_levels none
+      ap₂ (λ n (ys : List ℕ). n + greatest at ys) no_levels none)
 
-  pub depth_solved : (order : List ℕ) → IsOrder uses order → Solves uses 0 deeper (depth_in uses own)
-  depth_solved order o = nothing_solved uses 0 deeper deeper_local order o (length uses) (omega arith) deeper_nothing
-
-module _ (uses : Uses) (own : List ℕ) where
-  -- what goes too deep, where there are so many things
-  pub none_too_deep : (most n : ℕ) → length uses ≡ n → AreWithin (length uses) (depth_in uses own) most → AreWithin n (depth_in uses own) most
-  none_too_deep most n count all = subst (λ k. AreWithin k (depth_in uses own) most) count all
-
-  pub one_too_deep : (most n x : ℕ) → length uses ≡ n → (x < length uses) × (depth_in uses own x ≤ most → ⊥) → AreWithin n (depth_in uses own) most → ⊥
-  one_too_deep most n x count past all = past.1 (below_at (λ k. depth_in uses own k ≤ most) n all x (omega (arith, past.0, count)))
+-- the uses of a thing, as they are stored
+pub stored_uses : (us : List (Vec ℕ Global)) (uses : Uses) (x : ℕ) (v : Vec ℕ Global) → uses_of us ≡ uses → x < length uses → (get_or us x v).items ≡ used uses x
+stored_uses us uses x v are lt = sym (get_or-map (λ w. w.items) us x v [] (omega (arith, lt, ap length are, uses_length us))) ∙ ap (λ u. used u x) are

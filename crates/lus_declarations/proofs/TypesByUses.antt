@@ -9,11 +9,12 @@ use Rattle.lus_syntax.specs.declared.tree.TypeDeclaration.{TypeDeclaration as St
 use Rattle.lus_syntax.specs.Lexemes.{Text}
 use Rattle.lus_syntax.specs.Trees.{TypeName, BoolName, IntName, DeclaredName, Fields, Definition, Alias, Enumeration, StructureOf, TypeDeclaration, Tree}
 use Rattle.lus_syntax.specs.View.{definition_seen, tree_seen, type_seen}
+use Rattle.lus_values.specs.Lists.{item}
 use Rattle.lus_program.specs.declared.types.Kind.{Kind}
 use Rattle.lus_program.specs.declared.types.Kind.TheVariants as kinds
 use Rattle.lus_source.specs.Loopless.{place_in, type_names, named_type, definition_uses, type_uses}
 use Rattle.lus_source.specs.Tables.{of_type, definition_at, no_definition, definition_kind, kind_at}
-use Rattle.lus_source.specs.Sized.{definition_leaves, leaves_at}
+use Rattle.lus_source.specs.Sized.{definition_leaves, leaves_at, own_level}
 use Rattle.lus_source.proofs.TypesMeant.{used_is}
 use Rattle.lus_declarations.proofs.NamePlaces.{places_inside}
 use Rattle.lus_graph.specs.Along.{IsLocal, Solves}
@@ -109,3 +110,9 @@ definition_here t x d lt here =
     get_or-map (λ e. e.definition) (map type_seen t.types.items) x (type_seen d) no_definition (omega (arith, length-map t.types.items type_seen))
     ∙ ap (λ (e : TypeDeclaration). e.definition) (get_or-map type_seen t.types.items x d (type_seen d) lt)
     ∙ ap (λ (e : StoredType). definition_seen e.definition) (sym here)
+
+pub level_here : (t : StoredTree) (x : ℕ) (d : StoredType) → x < length (type_uses (tree_seen t)) → d ≡ get_or t.types.items x d → item 0 (map (λ e. own_level e.definition) (tree_seen t).types) x ≡ own_level (definition_seen d.definition)
+level_here t x d lt here =
+    get_or-map (λ e. own_level e.definition) (tree_seen t).types x (type_seen d) 0 (omega (arith, lt, uses_count (tree_seen t)))
+    ∙ ap (λ (e : TypeDeclaration). own_level e.definition) (get_or-map type_seen t.types.items x d (type_seen d) (omega (arith, lt, stored_count t)))
+    ∙ ap (λ (e : StoredType). own_level (definition_seen e.definition)) (sym here)

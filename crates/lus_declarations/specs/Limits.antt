@@ -1,7 +1,8 @@
 -- Numbers against a limit.
-use Rattle.std.specs.Prelude.{◌≡◌, ◌+◌, ◌<◌, ◌≤◌, ℕ, List, Option, MatchOption, length}
-use Rattle.lus_graph.specs.Ways.{Uses}
-use Rattle.lus_source.specs.Sized.{AreWithin, depth_in}
+use Rattle.std.specs.Prelude.{◌≡◌, ◌+◌, ◌<◌, ◌≤◌, ℕ, List, Option, MatchOption}
+use Rattle.lus_values.specs.Lists.{item}
+use Rattle.lus_graph.specs.Ways.{Uses, used}
+use Rattle.lus_source.specs.Sized.{greatest}
 
 -- n where it is within the limit, else nothing
 abbrev pub IsLimited : ℕ → ℕ → Option ℕ → Type 0
@@ -11,6 +12,6 @@ IsLimited most n r = MatchOption r (most < n) (λ m. (m ≡ n) × (m ≤ most))
 abbrev pub AreLeft : ℕ → ℕ → Option ℕ → Type 0
 AreLeft most n r = MatchOption r (most < n) (λ left. left + n ≡ most)
 
--- a thing that goes deeper than the limit, or nothing where none does
-abbrev pub IsTooDeep : Uses → List ℕ → ℕ → Option ℕ → Type 0
-IsTooDeep uses own most r = MatchOption r (AreWithin (length uses) (depth_in uses own) most) (λ x. (x < length uses) × (depth_in uses own x ≤ most → ⊥))
+-- a thing goes its own levels deeper than the deepest of those that it uses
+abbrev pub deeper : Uses → List ℕ → (ℕ → ℕ) → ℕ → ℕ
+deeper uses own at x = item 0 own x + greatest at (used uses x)

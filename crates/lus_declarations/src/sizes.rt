@@ -3,28 +3,23 @@
 ghost use Rattle.std.specs.Prelude.{◌≡◌, ◌≤◌, IfErr, IfOk, OnOk, length, map, sum_by};
 ghost use Rattle.lus_values.specs.Lists.{item};
 ghost use Rattle.lus_syntax.specs.declared.refusal.RefusalNumber.TheVariants as numbers;
-ghost use Rattle.lus_syntax.specs.Limits.{most_calls_deep, most_leaves, most_nesting};
-ghost use Rattle.lus_syntax.specs.View.{definition_seen, fields_seen, tree_seen, type_seen};
+ghost use Rattle.lus_syntax.specs.Limits.{most_leaves};
+ghost use Rattle.lus_syntax.specs.View.{definition_seen, fields_seen, tree_seen};
 ghost use Rattle.lus_typing.specs.Leaves.{AreTheLeaves};
 ghost use Rattle.lus_typing.specs.Refusals.{RefusesFor};
 ghost use Rattle.lus_source.specs.Loopless.{type_names as names_of_types, type_uses as uses_of_types};
 ghost use Rattle.lus_source.specs.Meaning.{program_of};
 ghost use Rattle.lus_source.specs.ScopeView.{Judged};
-ghost use Rattle.lus_source.specs.Sized.{AreWithin, Bounded, call_depth_at, definition_leaves, group_leaves, leaves_at, nesting_at, own_level};
+ghost use Rattle.lus_source.specs.Sized.{AreWithin, Bounded, definition_leaves, group_leaves, leaves_at};
 ghost use Rattle.lus_source.specs.Tables.{definition_at};
 ghost use Rattle.lus_declarations.specs.Limits.{IsLimited};
 
-use crate::depths::too_deep;
+use crate::depths::{check_calls, check_nesting};
 use crate::loopless::Loopless;
 use crate::type_names::of_name;
-use crate::uses::{node_uses, type_uses};
 use lus_graph::{Rule, along};
 use lus_source::{Fault, Places};
-use lus_syntax::{
-    Definition, Fields, MOST_CALLS_DEEP, MOST_LEAVES, MOST_NESTING, Refusal, RefusalNumber,
-    TypeDeclaration,
-};
-use lus_values::Memory;
+use lus_syntax::{Definition, Fields, MOST_LEAVES, Refusal, RefusalNumber};
 use std::alloc::Global;
 
 /// Checks leaves and nesting of types and call depth of nodes against the limits, and gives the leaves. A refusal stands at the
@@ -114,52 +109,4 @@ fn at_most(n: u32, most: usize) -> Option<u32>
     ensures { IsLimited most n result }
 {
     if n as usize <= most { Some(n) } else { None }
-}
-
-/// Checks how deep structures stand in types.
-fn check_nesting(alloc: Global, loopless: &Loopless) -> Result<(), Fault>
-    ensures { let p = tree_seen loopless.now in Judged result (AreWithin (length p.types) (nesting_at p) most_nesting) }
-{
-    let types = loopless.tree().types.as_slice();
-    let own = own_levels(alloc, types)?;
-    let uses = type_uses(alloc, loopless.named())?;
-    match too_deep(alloc, &uses, &own, loopless.types(), MOST_NESTING) {
-        Ok(Some(place)) => Err(Fault::At(types[place].name.span.start)),
-        Ok(None) => Ok(()),
-        Err(error) => Err(Fault::from(error)),
-    }
-}
-
-/// How many levels each type adds to those of the types that it names.
-fn own_levels(alloc: Global, types: &[TypeDeclaration]) -> Result<Vec<usize>, Memory>
-    ensures { IfOk result (λ levels. levels.items ≡ map (λ d. own_level d.definition) (map type_seen types.now)) }
-{
-    let mut levels = Vec::new(alloc);
-    for declaration in types {
-        levels.push(levels_of(&declaration.definition))?;
-    }
-    Ok(levels)
-}
-
-fn levels_of(definition: &Definition) -> usize
-    ensures { result ≡ own_level (definition_seen definition.now) }
-{
-    match definition {
-        Definition::Alias(_) => 0,
-        Definition::Enumeration(_) => 0,
-        Definition::Structure(_) => 1,
-    }
-}
-
-/// Checks how deep calls go.
-fn check_calls(alloc: Global, loopless: &Loopless) -> Result<(), Fault>
-    ensures { let p = tree_seen loopless.now in Judged result (AreWithin (length p.nodes) (call_depth_at p) most_calls_deep) }
-{
-    let nodes = loopless.tree().nodes.as_slice();
-    let uses = node_uses(alloc, loopless.named())?;
-    let own = vec![in alloc; 1usize; nodes.len()]?;
-    match too_deep(alloc, &uses, &own, loopless.nodes(), MOST_CALLS_DEEP)? {
-        Some(place) => Err(Fault::At(nodes[place].name.span.start)),
-        None => Ok(()),
-    }
 }
