@@ -1,6 +1,6 @@
 -- How deep things go, and what is found against a limit.
-use Rattle.std.proofs.Common.{arith, ◌≡◌, ◌∙◌, sym, ap, ap₂, ℕ, ◌+◌, ◌<◌, ◌≤◌, List, [], Vec, Global, length, get_or}
-use Rattle.std.proofs.lemmas.List.{get_or_past, get_or-map}
+use Rattle.std.proofs.Common.{arith, ◌≡◌, ◌∙◌, sym, ap, ap₂, map, replicate, ℕ, ◌+◌, ◌<◌, ◌≤◌, List, [], Vec, Global, length, get_or}
+use Rattle.std.proofs.lemmas.List.{get_or_past, get_or-map, length-map, length-replicate}
 use Rattle.lus_values.specs.Lists.{item}
 use Rattle.lus_values.proofs.Lists.{below_all, below_at}
 use Rattle.lus_graph.specs.Along.{IsFilled, IsLocal, Solves}
@@ -8,9 +8,12 @@ use Rattle.lus_graph.specs.Walks.{uses_of}
 use Rattle.lus_graph.specs.Ways.{Uses, used, IsOrder}
 use Rattle.lus_graph.proofs.AlongOrders.{all_fit, nothing_solved}
 use Rattle.lus_graph.proofs.Steps.{uses_length}
-use Rattle.lus_source.specs.Sized.{AreWithin, depth_in, greatest}
+use Rattle.lus_syntax.specs.Trees.{Tree}
+use Rattle.lus_source.specs.Loopless.{calls_of, node_names, node_uses, type_uses}
+use Rattle.lus_source.specs.Sized.{AreWithin, call_depth_at, depth_in, greatest, nesting_at, own_level}
 use Rattle.lus_declarations.specs.Limits.{deeper}
 use Rattle.lus_declarations.proofs.Greatest.{greatest-same}
+use Rattle.lus_declarations.proofs.TypesByUses.{uses_count}
 
 -- what is found within a limit, and what is refused
 module _ (uses : Uses) (e : ℕ) (step : (ℕ → ℕ) → ℕ → ℕ) (most : ℕ) (order : List ℕ) (o : IsOrder uses order) (at : ℕ → ℕ) (s : Solves uses e step at) (n : ℕ) (count : length uses ≡ n) where
@@ -33,3 +36,19 @@ module _ (uses : Uses) (own : List ℕ) where
 -- the uses of a thing, as they are stored
 pub stored_uses : (us : List (Vec ℕ Global)) (uses : Uses) (x : ℕ) (v : Vec ℕ Global) → uses_of us ≡ uses → x < length uses → (get_or us x v).items ≡ used uses x
 stored_uses us uses x v are lt = sym (get_or-map (λ w. w.items) us x v [] (omega (arith, lt, ap length are, uses_length us))) ∙ ap (λ u. used u x) are
+
+module _ (p : Tree) where
+  abbrev pub type_levels : List ℕ
+  type_levels = map (λ d. own_level d.definition) p.types
+
+  pub nesting_solved : (order : List ℕ) → IsOrder (type_uses p) order → Solves (type_uses p) 0 (deeper (type_uses p) type_levels) (nesting_at p)
+  nesting_solved = depth_solved (type_uses p) type_levels (length-map p.types (λ d. own_level d.definition) ∙ sym (uses_count p))
+
+  abbrev pub node_levels : List ℕ
+  node_levels = replicate (length p.nodes) 1
+
+  pub calls_count : length (node_uses p) ≡ length p.nodes
+  calls_count = length-map p.nodes (calls_of (node_names p))
+
+  pub calls_solved : (order : List ℕ) → IsOrder (node_uses p) order → Solves (node_uses p) 0 (deeper (node_uses p) node_levels) (call_depth_at p)
+  calls_solved = depth_solved (node_uses p) node_levels (length-replicate (length p.nodes) 1 ∙ sym calls_count)

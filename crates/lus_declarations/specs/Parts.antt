@@ -1,5 +1,5 @@
 -- The rules of names, part by part.
-use Rattle.std.specs.Prelude.{List, [], ◌++◌, ◌&&◌, Bool, IsTrue}
+use Rattle.std.specs.Prelude.{[], ◌++◌, ◌&&◌, Bool, IsTrue}
 use Rattle.std.specs.List.{list_all}
 use Rattle.lus_values.specs.Lists.{Each}
 use Rattle.lus_syntax.specs.Trees.{Group, Node, Tree}

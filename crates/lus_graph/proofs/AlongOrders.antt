@@ -71,10 +71,6 @@ module _ {X : Type 0} (uses : Uses) (d : X) (step : (ℕ → X) → ℕ → X) w
         rw (← same) here)
         (Contains-append_cases before (z ∷ []) x among)
 
-    -- so it has what the step gives it
-    pub fixed : (order : List ℕ) → IsOrdered uses order → (n x : ℕ) → length order ≤ n → Contains order x → within n d step x ≡ step (within n d step) x
-    fixed order ordered n x le among = settled order ordered n (suc n) x le (omega arith) among
-
   module _ (local : IsLocal uses step) (order : List ℕ) (o : IsOrder uses order) (n : ℕ) (enough : length uses ≤ n) where
     solved : IsSteady uses d step → (x : ℕ) → x < length uses → within n d step x ≡ step (within n d step) x
     solved steady x lt = settled local steady order o.ordered n (suc n) x (omega (arith, o.size)) (omega (arith, o.size)) (o.whole x lt)

@@ -1,5 +1,4 @@
-use Rattle.std.proofs.Common.{◌≡◌, ◌∙◌, sym, ap, map}
-use Rattle.std.proofs.lemmas.List.{get_or-map}
+use Rattle.std.proofs.Common.{◌≡◌, ◌∙◌, sym, map}
 use Rattle.lus_values.specs.Lists.{item}
 use Rattle.lus_graph.specs.Ways.{used}
 use Rattle.lus_syntax.specs.Limits.{most_nesting}
