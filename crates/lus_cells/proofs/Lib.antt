@@ -1,5 +1,4 @@
 pub mod Numbering
-pub mod Related
+pub mod SameCells
 pub mod CellsAlong
-pub mod CountsAlong
 mod Examples

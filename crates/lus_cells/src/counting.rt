@@ -1,20 +1,49 @@
 //! The count of every node's cells.
 
-ghost use Rattle.std.specs.Prelude.{◌≡◌, ◌≢◌, ◌<◌, ◌≤◌, IfOk, IfErr, OnOk};
-ghost use Rattle.lus_graph.specs.Ways.{IsOrder};
+ghost use Rattle.std.specs.Prelude.{◌≡◌, ◌≢◌, ◌≤◌, IfOk, IfErr, OnOk};
+ghost use Rattle.lus_values.specs.Lists.{item};
 ghost use Rattle.lus_syntax.specs.declared.refusal.RefusalNumber.TheVariants as numbers;
 ghost use Rattle.lus_syntax.specs.Limits.{most_cells};
+ghost use Rattle.lus_program.specs.Programs.{node_at};
 ghost use Rattle.lus_program.specs.View.{program_seen};
 ghost use Rattle.lus_typing.specs.Refusals.{RefusesFor};
-ghost use Rattle.lus_typing.specs.Resolved.{Resolved, program_uses};
+ghost use Rattle.lus_typing.specs.Resolved.{program_uses};
 ghost use Rattle.lus_typing.specs.Leaves.{AreTheLeaves};
-ghost use Rattle.lus_cells.specs.Cells.{AreStateCells, FitsCells, HaveLeaves, NamesTooMany};
+ghost use Rattle.lus_cells.specs.Cells.{AreStateCells, FitsCells, HaveLeaves, NamesTooMany, node_cells as cells_of_node};
 
 use crate::weights::node_cells;
-use lus_program::{Node, Program};
+use lus_graph::{Rule, along};
 use lus_syntax::{MOST_CELLS, Refusal, RefusalNumber};
 use lus_typing::Typed;
 use std::alloc::Global;
+
+/// Each node has its cells, by those of the nodes that it calls.
+#[derive(Drop)]
+struct Cells<'a> {
+    typed: &'a Typed,
+    leaves: &'a [u32],
+    ghost are: { AreTheLeaves (program_seen typed.now) leaves.now },
+}
+
+impl<'a> Rule<u32> for Cells<'a> {
+    ghost uses = { λ c. program_uses (program_seen c.typed.now) };
+
+    ghost nothing = { λ c. 0 };
+
+    ghost step = { λ c at f. cells_of_node (program_seen c.typed.now) (item 1 c.leaves.now) at (node_at (program_seen c.typed.now) f) };
+
+    ghost fits = { λ c n. n ≤ most_cells };
+
+    fn find(&self, thing: usize, table: &[u32]) -> Option<u32> {
+        let program = self.typed.program();
+        let count = node_cells(program, &program.nodes[thing], self.leaves, table);
+        if count <= MOST_CELLS {
+            Some(count)
+        } else {
+            None
+        }
+    }
+}
 
 /// The state cells of each node, in the program's order. A program with a node that has more than 100,000 is refused at that
 /// node's name. Linear in the source.
@@ -24,40 +53,14 @@ pub fn cells_of_nodes(alloc: Global, typed: &Typed) -> Result<Vec<u32>, Refusal>
     ensures refused { IfErr result (RefusesFor numbers.Limit (FitsCells (program_seen typed.now))) }
     ensures placed { IfErr result (λ e. e.number ≢ numbers.Memory → NamesTooMany typed.now e.line e.column) }
 {
-    cells_along(alloc, typed.program(), typed.leaves(), typed.nodes())
-}
-
-/// The state cells of each node, by an order in which the nodes that one calls stand before it.
-fn cells_along(
-    alloc: Global,
-    program: &Program,
-    leaves: &[u32],
-    order: &[usize],
-) -> Result<Vec<u32>, Refusal>
-    requires resolved { Resolved (program_seen program.now) }
-    requires leaves { AreTheLeaves (program_seen program.now) leaves.now }
-    requires order { IsOrder (program_uses (program_seen program.now)) order.now }
-    ensures ok { IfOk result (λ cells. AreStateCells (program_seen program.now) cells.items) }
-    ensures refused { IfErr result (RefusesFor numbers.Limit (FitsCells (program_seen program.now))) }
-    ensures placed { IfErr result (λ e. e.number ≢ numbers.Memory → NamesTooMany program.now e.line e.column) }
-{
-    let mut cells = vec![in alloc; 0u32; program.nodes.len()]?;
-    for place in order {
-        let node = &program.nodes[*place];
-        let count = limited(node, node_cells(program, node, leaves, &cells))?;
-        cells[*place] = count;
+    let program = typed.program();
+    let leaves = typed.leaves();
+    let none = vec![in alloc; 0u32; program.nodes.len()]?;
+    match along(&Cells { typed, leaves }, typed.nodes(), none) {
+        Ok(cells) => Ok(cells),
+        Err(place) => {
+            let name = program.nodes[place].place;
+            Err(Refusal::new(RefusalNumber::Limit, name.line, name.column))
+        }
     }
-    Ok(cells)
-}
-
-/// A node's count of cells, if it is within the limit; else a refusal at the node's name.
-fn limited(node: &Node, count: u32) -> Result<u32, Refusal>
-    ensures ok { IfOk result (λ n. (n ≡ count) × (n ≤ most_cells)) }
-    ensures refused { IfErr result (λ e. (most_cells < count) × (e.number ≡ numbers.Limit)) }
-    ensures placed { IfErr result (λ e. (e.line ≡ node.now.place.line) × (e.column ≡ node.now.place.column)) }
-{
-    if count > MOST_CELLS {
-        return Err(Refusal::new(RefusalNumber::Limit, node.place.line, node.place.column));
-    }
-    Ok(count)
 }

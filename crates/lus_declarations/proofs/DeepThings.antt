@@ -1,79 +1,54 @@
--- How deep things go, found along an order, each thing once.
-use Rattle.std.proofs.Common.{arith, ◌≡◌, ◌∙◌, refl, sym, ap, ap₂, ℕ, ◌+◌, ◌<◌, ◌≤◌, List, [], Vec, Global, length, get_or, set, take, All, ⊎_elim}
-use Rattle.std.proofs.lemmas.Bool.{cases_lt}
-use Rattle.std.proofs.lemmas.List.{get_or_default, get_or_past}
-use Rattle.std.proofs.lemmas.List.Elements.{All-get_or}
+-- How deep things go, and what is found against a limit.
+use Rattle.std.proofs.Common.{arith, ◌≡◌, ◌∙◌, sym, ap, ap₂, map, replicate, ℕ, ◌+◌, ◌<◌, ◌≤◌, List, [], Vec, Global, length, get_or}
+use Rattle.std.proofs.lemmas.List.{get_or_past, get_or-map, length-map, length-replicate}
 use Rattle.lus_values.specs.Lists.{item}
 use Rattle.lus_values.proofs.Lists.{below_all, below_at}
+use Rattle.lus_graph.specs.Along.{IsFilled, IsLocal, Solves}
 use Rattle.lus_graph.specs.Walks.{uses_of}
 use Rattle.lus_graph.specs.Ways.{Uses, used, IsOrder}
-use Rattle.lus_graph.proofs.AlongOrders.{IsLocal, GivesNothing, IsFilled, uses_before, solves, filled_more, filled_all}
+use Rattle.lus_graph.proofs.AlongOrders.{all_fit, nothing_solved}
 use Rattle.lus_graph.proofs.Steps.{uses_length}
-use Rattle.lus_source.specs.Sized.{AreWithin, depth_in, greatest}
+use Rattle.lus_syntax.specs.Trees.{Tree}
+use Rattle.lus_source.specs.Loopless.{calls_of, node_names, node_uses, type_uses}
+use Rattle.lus_source.specs.Sized.{AreWithin, call_depth_at, depth_in, greatest, nesting_at, own_level}
+use Rattle.lus_declarations.specs.Limits.{deeper}
 use Rattle.lus_declarations.proofs.Greatest.{greatest-same}
+use Rattle.lus_declarations.proofs.TypesByUses.{uses_count}
 
-module _ (us : List (Vec ℕ Global)) (own : List ℕ) (size : length own ≡ length us) where
-  abbrev depth : ℕ → ℕ
-  depth = depth_in (uses_of us) own
+-- what is found within a limit, and what is refused
+module _ (uses : Uses) (e : ℕ) (step : (ℕ → ℕ) → ℕ → ℕ) (most : ℕ) (order : List ℕ) (o : IsOrder uses order) (at : ℕ → ℕ) (s : Solves uses e step at) (n : ℕ) (count : length uses ≡ n) where
+  pub found_within : (table : List ℕ) → IsFilled uses e step (λ k. k ≤ most) order table → AreWithin n at most
+  found_within table found = below_all (λ k. at k ≤ most) n (λ k lt. all_fit uses e step (λ k. k ≤ most) order o table found at s k (omega (arith, lt, count)))
 
-  abbrev deeper : (ℕ → ℕ) → ℕ → ℕ
-  deeper at x = item 0 own x + greatest at (used (uses_of us) x)
+  pub past_refused : (x : ℕ) → x < length uses → ((at : ℕ → ℕ) → Solves uses e step at → at x ≤ most → ⊥) → AreWithin n at most → ⊥
+  past_refused x lt past all = past at s (below_at (λ k. at k ≤ most) n all x (omega (arith, lt, count)))
 
-  deeper_local : IsLocal (uses_of us) deeper
-  deeper_local at at' x agree = ap (λ n. item 0 own x + n) (greatest-same at at' (used (uses_of us) x) agree)
+module _ (uses : Uses) (own : List ℕ) where
+  pub deeper_local : IsLocal uses (deeper uses own)
+  deeper_local at at' x agree = ap (λ n. item 0 own x + n) (greatest-same at at' (used uses x) agree)
 
-  deeper_nothing : GivesNothing (uses_of us) 0 deeper
-  deeper_nothing at x le =
-      let none : used (uses_of us) x ≡ [] = get_or_past (uses_of us) x [] le in
-      let no_levels : item 0 own x ≡ 0 = get_or_past own x 0 (omega (arith, le, size, uses_length us)) in
-      ap₂ (λ n (ys : List ℕ). n + greatest at ys) no_levels none
+  pub depth_solved : length own ≡ length uses → (order : List ℕ) → IsOrder uses order → Solves uses 0 (deeper uses own) (depth_in uses own)
+  depth_solved size order o = nothing_solved uses 0 (deeper uses own) deeper_local order o (length uses) (omega arith) (λ at x le.
+      let none : used uses x ≡ [] = get_or_past uses x [] le in
+      let no_levels : item 0 own x ≡ 0 = get_or_past own x 0 (omega (arith, le, size)) in
+      ap₂ (λ n (ys : List ℕ). n + greatest at ys) no_levels none)
 
-  module _ (order : List ℕ) (o : IsOrder (uses_of us) order) where
-    pub thing_at : (i : ℕ) → i < length order → get_or order i 0 < length us
-    thing_at i lt =
-        let lt : get_or order i 0 < length (uses_of us) = o.within (get_or order i 0) (i, lt, get_or_default order i (get_or order i 0) 0 lt) in
-        omega (arith, lt, uses_length us)
+-- the uses of a thing, as they are stored
+pub stored_uses : (us : List (Vec ℕ Global)) (uses : Uses) (x : ℕ) (v : Vec ℕ Global) → uses_of us ≡ uses → x < length uses → (get_or us x v).items ≡ used uses x
+stored_uses us uses x v are lt = sym (get_or-map (λ w. w.items) us x v [] (omega (arith, lt, ap length are, uses_length us))) ∙ ap (λ u. used u x) are
 
-    has_depth : (x : ℕ) → depth x ≡ deeper depth x
-    has_depth = solves (uses_of us) 0 deeper deeper_local deeper_nothing order o
+module _ (p : Tree) where
+  abbrev pub type_levels : List ℕ
+  type_levels = map (λ d. own_level d.definition) p.types
 
-    module _ (i : ℕ) (table : List ℕ) (lt : i < length order) (long : length table ≡ length us) (filled : IsFilled 0 depth (take i order) table) (levels deepest : ℕ) (own_is : levels ≡ item 0 own (get_or order i 0)) (deepest_is : deepest ≡ greatest (item 0 table) (used (uses_of us) (get_or order i 0))) where
-      -- the next thing's depth, from a table right at all before it
-      pub depth_is : levels + deepest ≡ depth (get_or order i 0)
-      depth_is =
-          ap₂ ◌+◌ own_is deepest_is
-          ∙ deeper_local (item 0 table) depth (get_or order i 0) (λ y among. ⊎_elim
-          (λ thing. filled y (uses_before (uses_of us) order o.ordered i y lt thing among))
-          (λ past. get_or_past table y 0 (omega (arith, past, long, uses_length us)) ∙ sym (has_depth y ∙ deeper_nothing depth y past))
-          (cases_lt y (length (uses_of us))))
-          ∙ sym (has_depth (get_or order i 0))
+  pub nesting_solved : (order : List ℕ) → IsOrder (type_uses p) order → Solves (type_uses p) 0 (deeper (type_uses p) type_levels) (nesting_at p)
+  nesting_solved = depth_solved (type_uses p) type_levels (length-map p.types (λ d. own_level d.definition) ∙ sym (uses_count p))
 
-      pub depth_more : (v : ℕ) → v ≡ levels + deepest → IsFilled 0 depth (take (i + 1) order) (set table (get_or order i 0) v)
-      depth_more v is =
-          let room : get_or order i 0 < length table = omega (arith, long, thing_at i lt) in
-          filled_more 0 depth order i (get_or order i 0) table v lt refl room filled (is ∙ depth_is)
+  abbrev pub node_levels : List ℕ
+  node_levels = replicate (length p.nodes) 1
 
-    -- a full table within a limit
-    pub depths_within : (i most : ℕ) (table : List ℕ) → length order ≤ i → length table ≡ length us → IsFilled 0 depth (take i order) table → All (λ k. k ≤ most) table → AreWithin (length us) depth most
-    depths_within i most table le long filled small = below_all (λ k. depth k ≤ most) (length us) (λ k lt.
-        let right : item 0 table k ≡ depth k = filled_all (uses_of us) order o 0 depth table i k le filled (omega (arith, lt, uses_length us)) in
-        let low : item 0 table k ≤ most = All-get_or (λ m. m ≤ most) table k 0 (omega (arith, lt, long)) small in
-        omega (arith, right, low))
+  pub calls_count : length (node_uses p) ≡ length p.nodes
+  calls_count = length-map p.nodes (calls_of (node_names p))
 
--- the same of things and levels that the code's are
-module _ (us : List (Vec ℕ Global)) (own : List ℕ) (uses : Uses) (levels : List ℕ) (uses_are : uses_of us ≡ uses) (levels_are : own ≡ levels) (n most : ℕ) (count : length uses ≡ n) where
-  same_depth : (k : ℕ) → depth_in (uses_of us) own k ≡ depth_in uses levels k
-  same_depth k = ap₂ (λ u l. depth_in u l k) uses_are levels_are
-
-  same_count : length us ≡ n
-  same_count = sym (uses_length us) ∙ ap length uses_are ∙ count
-
-  pub same_within : AreWithin (length us) (depth_in (uses_of us) own) most → AreWithin n (depth_in uses levels) most
-  same_within all = below_all (λ k. depth_in uses levels k ≤ most) n (λ k lt.
-      let le = below_at (λ k. depth_in (uses_of us) own k ≤ most) (length us) all k (omega (arith, lt, same_count)) in
-      omega (arith, le, same_depth k))
-
-  pub one_too_deep : (k : ℕ) → (k < length us) × (most < depth_in (uses_of us) own k) → AreWithin n (depth_in uses levels) most → ⊥
-  one_too_deep k past all =
-      let le = below_at (λ k. depth_in uses levels k ≤ most) n all k (omega (arith, past.0, same_count)) in
-      omega (arith, past.1, le, same_depth k)
+  pub calls_solved : (order : List ℕ) → IsOrder (node_uses p) order → Solves (node_uses p) 0 (deeper (node_uses p) node_levels) (call_depth_at p)
+  calls_solved = depth_solved (node_uses p) node_levels (length-replicate (length p.nodes) 1 ∙ sym calls_count)

@@ -5,10 +5,11 @@ use Rattle.std.proofs.lemmas.Bool.{cases_lt}
 use Rattle.std.proofs.lemmas.List.{get_or_past, length-map}
 use Rattle.std.proofs.lemmas.List.Sums.{sum_by-append, sum_by-cons}
 use Rattle.lus_values.specs.Lists.{item}
-use Rattle.lus_graph.specs.Along.{within}
+use Rattle.lus_graph.specs.Along.{IsFilled, within}
 use Rattle.lus_graph.specs.Ways.{IsOrder}
-use Rattle.lus_graph.proofs.AlongOrders.{IsLocal, fixed, inside_steady}
+use Rattle.lus_graph.proofs.AlongOrders.{alike_solves}
 use Rattle.lus_graph.proofs.NoWayBack.{each_holds}
+use Rattle.lus_syntax.specs.Limits.{most_leaves}
 use Rattle.lus_syntax.specs.Trees.{Named, TypeName, BoolName, IntName, DeclaredName, Fields, Definition, Alias, Enumeration, StructureOf, TypeDeclaration, Tree}
 use Rattle.lus_program.specs.declared.types.Kind.{Kind}
 use Rattle.lus_program.specs.declared.types.Kind.TheVariants as kinds
@@ -22,24 +23,21 @@ use Rattle.lus_source.specs.Sized.{Counted, definition_leaves, group_leaves, lea
 use Rattle.lus_source.specs.Tables.{of_type, definition_at, no_definition, definition_kind, kind_at, kind_named, fields_of_kind, fields_declared, declared_as}
 use Rattle.lus_source.proofs.FieldsMeant.{meant_fields}
 use Rattle.lus_source.proofs.TypesMeant.{types_order, used_is}
-use Rattle.lus_declarations.proofs.TypesByUses.{kind_step_local, leaves_step_local, types_inside}
+use Rattle.lus_declarations.proofs.TypesByUses.{kind_solved, leaves_solved, leaves_step, leaves_step_local, uses_count}
 
-module _ (p : Tree) (order : List ℕ) (o : IsOrder (type_uses p) order) (table : List ℕ) (size : length table ≡ length p.types) (right : (t : ℕ) → t < length p.types → item 1 table t ≡ leaves_at p t) where
+module _ (p : Tree) (order : List ℕ) (o : IsOrder (type_uses p) order) (table : List ℕ) (found : IsFilled (type_uses p) 1 (leaves_step p) (λ n. n ≤ most_leaves) order table) where
   abbrev here : ℕ → ℕ
   here = item 1 table
 
-  uses_count : length (type_uses p) ≡ length p.types
-  uses_count = length-map p.types (λ d. definition_uses (type_names p) d.definition)
+  size : length table ≡ length p.types
+  size = found.size ∙ uses_count p
 
   -- a declared type has what its definition gives it
-  settled : {X : Type 0} (d : X) (step : (ℕ → X) → ℕ → X) → IsLocal (type_uses p) step → (t : ℕ) → t < length p.types → within (length p.types) d step t ≡ step (within (length p.types) d step) t
-  settled d step local t lt = fixed (type_uses p) d step local (inside_steady (type_uses p) d step (types_inside p)) order o.ordered (length p.types) t (omega (arith, o.size, uses_count)) (o.whole t (omega (arith, lt, uses_count)))
-
-  by_definition : (t : ℕ) → t < length p.types → here t ≡ definition_leaves (type_names p) here (definition_at p t)
+  by_definition : (t : ℕ) → t < length p.types → here t ≡ leaves_step p here t
   by_definition t lt =
-      right t lt
-      ∙ settled 0 (λ at u. definition_leaves (type_names p) at (definition_at p u)) (leaves_step_local p) t lt
-      ∙ leaves_step_local p (leaves_at p) here t (λ s among. sym (right s (omega (arith, types_inside p t s among, uses_count))))
+      let right : (x : ℕ) → x < length (type_uses p) → here x ≡ leaves_at p x = λ x lt. found.right (leaves_at p) (leaves_solved p order o) x (o.whole x lt) in
+      let same = alike_solves (type_uses p) 1 (leaves_step p) (leaves_step_local p) (leaves_at p) here (leaves_solved p order o) right (λ y le. get_or_past table y 1 (omega (arith, le, found.size))) in
+      same.each t (omega (arith, lt, uses_count p))
 
   -- the leaves of a declared type are those of the type that it is
   place_same : (o : Option ℕ) → ((t : ℕ) → Contains (option_to_list o) t → kind_leaves here (kind_at p t) ≡ here t) → kind_leaves here (elim o [ Some t ↦ kind_at p t | None ↦ kinds.Bool ]) ≡ elim o [ Some t ↦ here t | None ↦ 1 ]
@@ -66,7 +64,7 @@ module _ (p : Tree) (order : List ℕ) (o : IsOrder (type_uses p) order) (table 
   kind_same : (t : ℕ) → kind_leaves here (kind_at p t) ≡ here t
   kind_same = each_holds (type_uses p) (λ t. kind_leaves here (kind_at p t) ≡ here t) (λ t h. ⊎_elim
       (λ lt.
-      ap (kind_leaves here) (settled kinds.Bool (λ at u. definition_kind (type_names p) at u (definition_at p u)) (kind_step_local p) t lt)
+      ap (kind_leaves here) ((kind_solved p order o).each t (omega (arith, lt, uses_count p)))
       ∙ definition_same t (definition_at p t) (λ s among. h s (rw (used_is p t) among)) (by_definition t lt))
       (λ le. one_past (length p.types) t (no_definition_past t le) ∙ sym (get_or_past table t 1 (omega (arith, le, size))))
       (cases_lt t (length p.types))) order o

@@ -7,7 +7,6 @@ pub mod NamePlaces
 pub mod Counting
 pub mod TypesByUses
 pub mod LeavesMeant
-pub mod TypeTables
 pub mod Greatest
 pub mod DeepThings
 pub mod Placing

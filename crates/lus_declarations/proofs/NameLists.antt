@@ -1,12 +1,18 @@
 -- A table of names, name by name.
-use Rattle.std.proofs.Common.{◌≡◌, ◌∙◌, refl, ap, List, [], ◌∷◌, ◌++◌, true, false, not, ◌&&◌, ◌||◌, String, Global, map}
-use Rattle.std.specs.Prelude.{string_bytes, if◌then◌else◌}
+use Rattle.std.proofs.Common.{◌≡◌, ◌∙◌, refl, ap, List, [], ◌∷◌, ◌++◌, Option, Some, None, true, false, not, ◌&&◌, ◌||◌, String, Global, map}
+use Rattle.std.specs.Prelude.{is_none, string_bytes, if◌then◌else◌}
+use Rattle.std.specs.Option.{option_or}
 use Rattle.std.specs.Str.{bytes_eq}
 use Rattle.std.specs.List.{list_any}
 use Rattle.std.specs.String.{string_eq}
 use Rattle.indexmap.specs.IndexSet.{insert_key}
 use Rattle.lus_syntax.specs.Lexemes.{Text}
 use Rattle.lus_source.specs.Named.{is_in, all_new}
+
+-- neither of two is there
+pub none_or : {X : Type 0} (a b : Option X) → is_none (option_or a b) ≡ (is_none a && is_none b)
+none_or None b = refl
+none_or (Some x) b = refl
 
 pub is_in_keys : (n : Text) (keys : List (String Global)) → list_any (λ k. bytes_eq n (string_bytes k)) keys ≡ is_in (map string_bytes keys) n
 is_in_keys n [] = refl

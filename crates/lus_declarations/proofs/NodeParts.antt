@@ -1,5 +1,5 @@
 -- The rules of a node's names, from what the parts are checked for.
-use Rattle.std.proofs.Common.{◌≡◌, ◌∙◌, refl, ap, ap₂, sym, Bool, true, false, ◌&&◌, List, [], ◌∷◌, ◌++◌, Option, Some, None, IsTrue, map}
+use Rattle.std.proofs.Common.{◌≡◌, ◌∙◌, refl, ap, ap₂, sym, Bool, true, false, ◌&&◌, List, [], ◌∷◌, ◌++◌, Option, IsTrue, map}
 use Rattle.std.specs.Prelude.{is_none}
 use Rattle.std.specs.List.{list_all}
 use Rattle.std.specs.Option.{option_or}
@@ -13,6 +13,7 @@ use Rattle.lus_source.specs.Tables.{groups}
 use Rattle.lus_source.specs.Named.{Distinct, Known, NodeNamed, knows, names_in, test_known, type_known}
 use Rattle.lus_values.proofs.Equalities.{and_left, and_right}
 use Rattle.lus_declarations.specs.Parts.{LeftsNamed, group_known, in_node, node_known}
+use Rattle.lus_declarations.proofs.NameLists.{none_or}
 
 and_across : (a b c d : Bool) → (a && b) && (c && d) ≡ (a && c) && (b && d)
 and_across false b c d = refl
@@ -23,10 +24,6 @@ and_across true true c d = refl
 groups_known : (k : Known) (gs : List Group) → list_all (group_known k) gs ≡ (list_all (λ g. type_known k.types g.type_name) gs && list_all (λ g. test_known k g.test) gs)
 groups_known k [] = refl
 groups_known k (g ∷ gs) = ap (λ b. group_known k g && b) (groups_known k gs) ∙ and_across (type_known k.types g.type_name) (test_known k g.test) _ _
-
-none_or : {X : Type 0} (a b : Option X) → is_none (option_or a b) ≡ (is_none a && is_none b)
-none_or None b = refl
-none_or (Some x) b = refl
 
 -- what is unknown in a node is found list by list
 pub found_unknown : (k : Known) (f : StoredNode) (i o l q : Option Place)

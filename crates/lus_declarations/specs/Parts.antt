@@ -1,10 +1,9 @@
 -- The rules of names, part by part.
-use Rattle.std.specs.Prelude.{List, [], ◌++◌, ◌&&◌, Bool, map, flat_map, IsTrue}
+use Rattle.std.specs.Prelude.{[], ◌++◌, ◌&&◌, Bool, IsTrue}
 use Rattle.std.specs.List.{list_all}
 use Rattle.lus_values.specs.Lists.{Each}
-use Rattle.lus_syntax.specs.Lexemes.{Text}
-use Rattle.lus_syntax.specs.Trees.{Equation, Group, Node, Tree}
-use Rattle.lus_source.specs.Tables.{text_of, groups}
+use Rattle.lus_syntax.specs.Trees.{Group, Node, Tree}
+use Rattle.lus_source.specs.Tables.{groups}
 use Rattle.lus_source.specs.Named.{DefinitionNamed, Distinct, Known, NodeNamed, constant_known, defined_names, has_left, is_in, known, knows, left_names, names_in, test_known, type_known}
 
 -- what stands for something in a node's text
@@ -22,9 +21,6 @@ group_known k g = type_known k.types g.type_name && test_known k g.test
 -- the declarations and the right sides of a node
 abbrev pub node_known : Known → Node → Bool
 node_known k f = list_all (group_known k) (groups f) && list_all (λ q. knows k q.right) f.equations
-
-abbrev pub names_left : List Equation → List Text
-names_left qs = flat_map (λ q. map text_of q.left) qs
 
 -- each output and each local stands on exactly one left side, once, and no left side is empty
 pub record LeftsNamed (f : Node) : Type 0 where

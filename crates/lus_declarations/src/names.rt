@@ -1,7 +1,7 @@
 //! The names that stand for something, and what uses them.
 
 ghost use Rattle.std.specs.Prelude.{◌≡◌, ◌++◌, map, is_none, OnOk};
-ghost use Rattle.lus_syntax.specs.View.{expression_seen, part_seen, names_seen};
+ghost use Rattle.lus_syntax.specs.View.{expression_seen, name_seen, names_seen, part_seen};
 ghost use Rattle.lus_syntax.specs.Trees.{parts_of};
 ghost use Rattle.lus_source.specs.Tables.{text_of};
 ghost use Rattle.lus_source.specs.Named.{is_in, all_new, knows, knows_parts};
@@ -42,6 +42,17 @@ pub fn has(table: &IndexSet<String>, name: &str) -> bool
     table.contains(name)
 }
 
+/// Where a name stands that isn't among those of a table.
+pub fn missing(table: &IndexSet<String>, name: &Name) -> Option<Place>
+    ensures { is_none result ≡ is_in (texts table.now.keys) (name_seen name.now).text }
+{
+    if has(table, &name.text) {
+        None
+    } else {
+        Some(name.span.start)
+    }
+}
+
 /// Adds names to a table; a fault at one that stands there already.
 pub fn declare(table: &mut IndexSet<String>, names: &[Name]) -> Result<(), Fault>
     ensures kept { OnOk result (texts table.new.keys ≡ texts table.old.keys ++ map text_of (names_seen names.now)) }
@@ -58,8 +69,8 @@ pub fn declare(table: &mut IndexSet<String>, names: &[Name]) -> Result<(), Fault
 
 impl Names {
     ghost use Rattle.std.specs.Prelude.{◌≡◌, ◌≤◌, [], is_none, length};
-    ghost use Rattle.lus_syntax.specs.View.{name_seen, lead_seen, label_seen, test_seen};
-    ghost use Rattle.lus_source.specs.Named.{is_in, knows_lead, knows_label, knows_test, knows_name as name_known};
+    ghost use Rattle.lus_syntax.specs.View.{lead_seen, label_seen, test_seen};
+    ghost use Rattle.lus_source.specs.Named.{knows_lead, knows_label, knows_test, knows_name as name_known};
     ghost use Rattle.lus_declarations.specs.NameView.{known_seen, spaces_seen};
     ghost use Rattle.lus_declarations.specs.Parts.{outside};
 
@@ -110,36 +121,20 @@ impl Names {
     {
         match label {
             Label::Truth(_, _) => None,
-            Label::Constructor(name) => {
-                if has(&self.constructors, &name.text) {
-                    None
-                } else {
-                    Some(name.span.start)
-                }
-            }
+            Label::Constructor(name) => missing(&self.constructors, name),
         }
     }
 
+    #[tactic(auto, using(crate::proofs::NameLists::none_or))]
     pub fn unknown_test(&self, test: &Test) -> Option<Place>
         ensures { is_none result ≡ knows_test (known_seen self.now) (test_seen test.now) }
     {
         match test {
-            Test::Holds(variable) => self.unknown_variable(variable),
-            Test::Fails(_, variable) => self.unknown_variable(variable),
-            Test::Is(label, variable) => match self.unknown_variable(variable) {
-                Some(place) => Some(place),
-                None => self.unknown_label(label),
-            },
-        }
-    }
-
-    fn unknown_variable(&self, variable: &Name) -> Option<Place>
-        ensures { is_none result ≡ is_in (known_seen self.now).variables (name_seen variable.now).text }
-    {
-        if has(&self.variables, &variable.text) {
-            None
-        } else {
-            Some(variable.span.start)
+            Test::Holds(variable) => missing(&self.variables, variable),
+            Test::Fails(_, variable) => missing(&self.variables, variable),
+            Test::Is(label, variable) => {
+                missing(&self.variables, variable).or(self.unknown_label(label))
+            }
         }
     }
 
@@ -156,6 +151,7 @@ impl Names {
 
 /// The first unknown name of an expression.
 #[cycle(unknown)]
+#[tactic(auto, using(crate::proofs::NameLists::none_or))]
 pub fn unknown(names: &Names, source: &Expr) -> Option<Place>
     ensures { is_none result ≡ knows (known_seen names.now) (expression_seen source.now) }
 {
@@ -170,45 +166,21 @@ pub fn unknown(names: &Names, source: &Expr) -> Option<Place>
             }
         }
         Expr::Call(name, arguments) => {
-            if has(&names.nodes, &name.text) {
-                unknown_in(names, arguments)
-            } else {
-                Some(name.span.start)
-            }
+            missing(&names.nodes, name).or(unknown_in(names, arguments))
         }
-        Expr::Structure(name, fields) => {
-            if has(&names.types, &name.text) {
-                unknown_in(names, fields)
-            } else {
-                Some(name.span.start)
-            }
-        }
+        Expr::Structure(name, fields) => missing(&names.types, name).or(unknown_in(names, fields)),
         Expr::Merge(_, variable, branches) => {
-            if has(&names.variables, &variable.text) {
-                unknown_in(names, branches)
-            } else {
-                Some(variable.span.start)
-            }
+            missing(&names.variables, variable).or(unknown_in(names, branches))
         }
         Expr::Variadic(_, _, operands) => unknown_in(names, operands),
         Expr::Field(operand, _) => unknown(names, operand),
         Expr::Parentheses(_, inner) => unknown(names, inner),
-        Expr::When(operand, test) => match unknown(names, operand) {
-            Some(place) => Some(place),
-            None => names.unknown_test(test),
-        },
+        Expr::When(operand, test) => unknown(names, operand).or(names.unknown_test(test)),
         Expr::Unary(_, _, operand) => unknown(names, operand),
-        Expr::Binary(_, left, right) => match unknown(names, left) {
-            Some(place) => Some(place),
-            None => unknown(names, right),
-        },
-        Expr::If(_, condition, left, right) => match unknown(names, condition) {
-            Some(place) => Some(place),
-            None => match unknown(names, left) {
-                Some(place) => Some(place),
-                None => unknown(names, right),
-            },
-        },
+        Expr::Binary(_, left, right) => unknown(names, left).or(unknown(names, right)),
+        Expr::If(_, condition, left, right) => unknown(names, condition)
+            .or(unknown(names, left))
+            .or(unknown(names, right)),
     }
 }
 

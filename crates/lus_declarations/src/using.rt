@@ -7,7 +7,7 @@ ghost use Rattle.lus_source.specs.Named.{Known, constant_known, knows, literal_k
 ghost use Rattle.lus_declarations.specs.NameView.{known_seen, texts};
 ghost use Rattle.lus_declarations.specs.Parts.{group_known};
 
-use crate::names::{Names, has, unknown};
+use crate::names::{Names, missing, unknown};
 use indexmap::IndexSet;
 use lus_syntax::{Constant, Equation, Fields, Group, Literal, Place, TypeName};
 
@@ -31,27 +31,26 @@ impl Using for Fields {
 impl Using for Constant {
     ghost known = { λ k c. constant_known k (constant_seen c) };
 
+    #[tactic(auto, using(crate::proofs::NameLists::none_or))]
     fn unknown(&self, names: &Names) -> Option<Place> {
-        if let Some(name) = &self.type_name {
-            if let Some(place) = unknown_type(&names.types, name) {
-                return Some(place);
-            }
-        }
-        unknown_in_literal(&names.constructors, &self.value)
+        let unknown = match &self.type_name {
+            Some(name) => unknown_type(&names.types, name),
+            None => None,
+        };
+        unknown.or(unknown_in_literal(&names.constructors, &self.value))
     }
 }
 
 impl Using for Group {
     ghost known = { λ k g. group_known k (group_seen g) };
 
+    #[tactic(auto, using(crate::proofs::NameLists::none_or))]
     fn unknown(&self, names: &Names) -> Option<Place> {
-        if let Some(place) = unknown_type(&names.types, &self.type_name) {
-            return Some(place);
-        }
-        match &self.test {
+        let unknown = match &self.test {
             Some(test) => names.unknown_test(test),
             None => None,
-        }
+        };
+        unknown_type(&names.types, &self.type_name).or(unknown)
     }
 }
 
@@ -82,13 +81,7 @@ pub fn unknown_type(types: &IndexSet<String>, name: &TypeName) -> Option<Place>
     match name {
         TypeName::Bool(_) => None,
         TypeName::Int(_) => None,
-        TypeName::Declared(declared) => {
-            if has(types, &declared.text) {
-                None
-            } else {
-                Some(declared.span.start)
-            }
-        }
+        TypeName::Declared(declared) => missing(types, declared),
     }
 }
 
@@ -99,12 +92,6 @@ fn unknown_in_literal(constructors: &IndexSet<String>, literal: &Literal) -> Opt
         Literal::Number(_, _) => None,
         Literal::Negative(_, _, _) => None,
         Literal::Truth(_, _) => None,
-        Literal::Constructor(name) => {
-            if has(constructors, &name.text) {
-                None
-            } else {
-                Some(name.span.start)
-            }
-        }
+        Literal::Constructor(name) => missing(constructors, name),
     }
 }

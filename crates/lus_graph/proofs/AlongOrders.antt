@@ -1,17 +1,12 @@
 -- What things have by what they use, found along an order in which the uses of a thing stand before it, each thing once.
-use Rattle.std.proofs.Common.{refl, arith, ◌≡◌, ◌∙◌, sym, ℕ, zero, suc, ◌+◌, ◌<◌, ◌≤◌, List, [], ◌∷◌, ◌++◌, length, get_or, set, take, Contains, ⊎_elim, add-one}
+use Rattle.std.proofs.Common.{refl, arith, ◌≡◌, ◌≢◌, ◌∙◌, sym, subst, ℕ, zero, suc, ◌+◌, ◌<◌, ◌≤◌, List, [], ◌∷◌, ◌++◌, length, length-set, get_or, set, take, Contains, ⊎_elim}
 use Rattle.std.proofs.lemmas.Bool.{cases_eq, cases_lt}
-use Rattle.std.proofs.lemmas.List.{get_or-set_same, get_or-set_other, get_or_append_left, take_all, take-append-le}
+use Rattle.std.proofs.lemmas.List.{get_or-set_same, get_or-set_other, get_or_append_left, get_or_default, get_or_past, take_all, take-append-le}
 use Rattle.std.proofs.lemmas.List.Elements.{Contains-append_cases}
-use Rattle.std.proofs.Math.Seq.{take-suc}
 use Rattle.lus_values.specs.Lists.{item}
+use Rattle.lus_graph.specs.Along.{IsFilled, IsLocal, Solves, within}
 use Rattle.lus_graph.specs.Ways.{Uses, used, IsOrdered, empty, next, IsOrder}
-use Rattle.lus_graph.proofs.Steps.{last_item, more_length, no_item, one_item}
-use Rattle.lus_graph.specs.Along.{within}
-
--- what a thing has comes from what the things have that it uses
-abbrev pub IsLocal : {X : Type 0} → Uses → ((ℕ → X) → ℕ → X) → Type 0
-IsLocal {X} uses step = (at at' : ℕ → X) (x : ℕ) → ((y : ℕ) → Contains (used uses x) y → at y ≡ at' y) → step at x ≡ step at' x
+use Rattle.lus_graph.proofs.Steps.{last_item, more_length, no_item, one_item, one_more}
 
 -- each use is of a thing
 abbrev pub IsInside : Uses → Type 0
@@ -25,18 +20,11 @@ GivesNothing {X} uses d step = (at : ℕ → X) (x : ℕ) → length uses ≤ x 
 abbrev pub IsSteady : {X : Type 0} → Uses → X → ((ℕ → X) → ℕ → X) → Type 0
 IsSteady uses d step = (x y : ℕ) → Contains (used uses x) y → length uses ≤ y → (m n : ℕ) → within m d step y ≡ within n d step y
 
--- the table is right at each of these things
-abbrev pub IsFilled : {X : Type 0} → X → (ℕ → X) → List ℕ → List X → Type 0
-IsFilled e value front table = (y : ℕ) → Contains front y → item e table y ≡ value y
-
 too_short : (xs : List ℕ) (x : ℕ) → length (xs ++ x ∷ []) ≤ 0 → ⊥
 too_short xs x le = omega (arith, more_length xs x)
 
 front_before : (before : List ℕ) (z i : ℕ) → i ≤ length before → take i (before ++ z ∷ []) ≡ take i before
 front_before before z i le = take-append-le i before (z ∷ []) le
-
-more_front : (order : List ℕ) (i x : ℕ) → i < length order → x ≡ get_or order i 0 → take (i + 1) order ≡ take i order ++ x ∷ []
-more_front order i x lt here = rw (add-one i, here) (take-suc order i 0 lt)
 
 -- the uses of a thing in an order stand before it
 pub uses_before : (uses : Uses) (order : List ℕ) → IsOrdered uses order → (i y : ℕ) → i < length order → y < length uses → Contains (used uses (get_or order i 0)) y → Contains (take i order) y
@@ -83,35 +71,59 @@ module _ {X : Type 0} (uses : Uses) (d : X) (step : (ℕ → X) → ℕ → X) w
         rw (← same) here)
         (Contains-append_cases before (z ∷ []) x among)
 
-    -- so it has what the step gives it
-    pub fixed : (order : List ℕ) → IsOrdered uses order → (n x : ℕ) → length order ≤ n → Contains order x → within n d step x ≡ step (within n d step) x
-    fixed order ordered n x le among = settled order ordered n (suc n) x le (omega arith) among
+  module _ (local : IsLocal uses step) (order : List ℕ) (o : IsOrder uses order) (n : ℕ) (enough : length uses ≤ n) where
+    solved : IsSteady uses d step → (x : ℕ) → x < length uses → within n d step x ≡ step (within n d step) x
+    solved steady x lt = settled local steady order o.ordered n (suc n) x (omega (arith, o.size)) (omega (arith, o.size)) (o.whole x lt)
 
-  -- where nothing has d, this has at each place what the step gives it
-  abbrev pub solution : ℕ → X
-  solution = within (length uses) d step
+    -- followed often enough, the step is solved
+    pub inside_solved : (e : X) → IsInside uses → Solves uses e step (within n d step)
+    inside_solved e inside = record { each = solved (inside_steady inside); past = λ x y among le. absurd (omega (arith, inside x y among)) }
 
-  pub solves : IsLocal uses step → GivesNothing uses d step → (order : List ℕ) → IsOrder uses order → (x : ℕ) → solution x ≡ step solution x
-  solves local nothing order o x = ⊎_elim
-      (λ lt. fixed local (nothing_steady nothing) order o.ordered (length uses) x o.size (o.whole x lt))
-      (λ le. past nothing (length uses) x le ∙ sym (nothing solution x le))
-      (cases_lt x (length uses))
+    pub nothing_solved : GivesNothing uses d step → Solves uses d step (within n d step)
+    nothing_solved nothing = record { each = solved (nothing_steady nothing); past = λ x y among le. past nothing n y le }
 
--- the table is right at one thing more
-pub filled_more : {X : Type 0} (e : X) (value : ℕ → X) (order : List ℕ) (i x : ℕ) (table : List X) (v : X) → i < length order → x ≡ get_or order i 0 → x < length table → IsFilled e value (take i order) table → v ≡ value x
-    → IsFilled e value (take (i + 1) order) (set table x v)
-filled_more e value order i x table v lt here room filled right y among = ⊎_elim
-    (λ same. rw same (get_or-set_same table x v e room ∙ right))
-    (λ other.
-    let earlier : Contains (take i order) y = ⊎_elim
-    (λ old. old)
-    (λ last. absurd (other (sym (one_item x y last))))
-    (Contains-append_cases (take i order) (x ∷ []) y (rw (more_front order i x lt here) at among)) in
-    get_or-set_other table x y v e other ∙ filled y earlier)
-    (cases_eq y x)
+-- what has the same solves it too
+pub alike_solves : {X : Type 0} (uses : Uses) (e : X) (step : (ℕ → X) → ℕ → X) → IsLocal uses step → (at at' : ℕ → X) → Solves uses e step at → ((x : ℕ) → x < length uses → at' x ≡ at x) → ((y : ℕ) → length uses ≤ y → at' y ≡ e) → Solves uses e step at'
+alike_solves uses e step local at at' s same past = record {
+  each = λ x lt. same x lt ∙ s.each x lt ∙ local at at' x (λ y among. ⊎_elim (λ thing. sym (same y thing)) (λ le. s.past x y among le ∙ sym (past y le)) (cases_lt y (length uses)));
+  past = λ x y among le. past y le;
+}
 
--- in the end at each
-pub filled_all : {X : Type 0} (uses : Uses) (order : List ℕ) → IsOrder uses order → (e : X) (value : ℕ → X) (table : List X) (i x : ℕ) → length order ≤ i → IsFilled e value (take i order) table → x < length uses → item e table x ≡ value x
-filled_all uses order o e value table i x le filled lt =
-    let all : take i order ≡ order = take_all i order le in
-    filled x (rw all (o.whole x lt))
+-- where what is found fits, what solves the step fits at each thing
+pub all_fit : {X : Type 0} (uses : Uses) (e : X) (step : (ℕ → X) → ℕ → X) (Fits : X → Type 0) (order : List ℕ) → IsOrder uses order → (table : List X) → IsFilled uses e step Fits order table → (at : ℕ → X) → Solves uses e step at → (x : ℕ) → x < length uses → Fits (at x)
+all_fit uses e step Fits order o table found at s x lt = subst Fits (found.right at s x (o.whole x lt)) (found.fit x (o.whole x lt))
+
+-- in an order stand things
+pub is_thing : (uses : Uses) (order : List ℕ) → IsOrder uses order → (i : ℕ) → i < length order → get_or order i 0 < length uses
+is_thing uses order o i lt = o.within (get_or order i 0) (i, lt, get_or_default order i (get_or order i 0) 0 lt)
+
+-- one thing more, from a table right at all before it
+module _ {X : Type 0} (uses : Uses) (e : X) (step : (ℕ → X) → ℕ → X) (Fits : X → Type 0) (local : IsLocal uses step) (order : List ℕ) (o : IsOrder uses order) (i : ℕ) (lt : i < length order) (table : List X) (found : IsFilled uses e step Fits (take i order) table) where
+  abbrev here : ℕ
+  here = get_or order i 0
+
+  pub next_right : (at : ℕ → X) → Solves uses e step at → step (item e table) here ≡ at here
+  next_right at s =
+      local (item e table) at here (λ y among. ⊎_elim
+      (λ thing. found.right at s y (uses_before uses order o.ordered i y lt thing among))
+      (λ past. get_or_past table y e (omega (arith, past, found.size)) ∙ sym (s.past here y among past))
+      (cases_lt y (length uses)))
+      ∙ sym (s.each here (is_thing uses order o i lt))
+
+  module _ (v : X) (is : v ≡ step (item e table) here) (fits : Fits v) where
+    there : item e (set table here v) here ≡ v
+    there = get_or-set_same table here v e (omega (arith, is_thing uses order o i lt, found.size))
+
+    -- what holds where it held before, and of the value
+    more : (P : ℕ → X → Type 0) → ((y : ℕ) → Contains (take i order) y → P y (item e table y)) → P here v → (y : ℕ) → Contains (take (i + 1) order) y → P y (item e (set table here v) y)
+    more P old new y among = ⊎_elim
+        (λ same. subst (λ k. P k (item e (set table here v) k)) (sym same) (subst (P here) (sym there) new))
+        (λ other. subst (P y) (sym (get_or-set_other table here y v e other)) (one_more order (λ k. k ≢ here → P k (item e table k)) i y lt (λ k among no. old k among) (λ no. absurd (no refl)) among other))
+        (cases_eq y here)
+
+    pub filled_more : IsFilled uses e step Fits (take (i + 1) order) (set table here v)
+    filled_more = record {
+      size = length-set table here v ∙ found.size;
+      right = λ at s. more (λ y w. w ≡ at y) (found.right at s) (is ∙ next_right at s);
+      fit = more (λ y w. Fits w) found.fit fits;
+    }
