@@ -8,7 +8,7 @@ ghost use Rattle.lus_running.specs.Constructors.{holds};
 ghost use Rattle.lus_flat_classes.specs.Looks.{newest, short_of};
 
 use lus_flat_classes::Class;
-use lus_following::Held;
+use lus_following::{Held, found_at};
 use lus_program::Test;
 
 /// Whether a test holds.
@@ -16,8 +16,10 @@ use lus_program::Test;
 pub fn holds<T: Held>(test: &Test, row: &[T]) -> bool
     ensures { result ≡ holds test.now (map T.entry row.now) }
 {
-    let variable = test.variable as usize;
-    variable < row.len() && row[variable].is_constructor(test.constructor)
+    match found_at(row, test.variable as usize) {
+        Some(held) => held.is_constructor(test.constructor),
+        None => false,
+    }
 }
 
 /// Whether the newest test of a clock holds, if it has one.

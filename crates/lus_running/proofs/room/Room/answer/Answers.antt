@@ -4,14 +4,13 @@ use Rattle.std.specs.Global.{Global}
 use Rattle.std.specs.Vec.{with_items}
 use Rattle.lus_following.specs.Followed.{cell_of}
 use Rattle.lus_values.specs.Values.{Value, Row}
-use Rattle.lus_values.specs.declared.value.Value.{Value as Held}
 use Rattle.lus_running.specs.Answering.{AnswersTo}
 use Rattle.lus_running.specs.declared.error.Failure.{Failure}
 use Rattle.lus_running.specs.declared.setting.Setting.{Setting}
 use Rattle.lus_running.proofs.room.Room.answer.Goals as goal
 
 -- the same where what is kept next is stored
-stored : {H : Type 0} (entry : H → Option Value) (s : Setting H) (i : Row) (count : ℕ) (u : Result (Vec (Option Held) Global) Failure) (v : Vec H Global) (w : Vec Bool Global) (us : List H) (cs : List Bool)
+stored : {H : Type 0} (entry : H → Option Value) (s : Setting H) (i : Row) (count : ℕ) (u : Result Row Failure) (v : Vec H Global) (w : Vec Bool Global) (us : List H) (cs : List Bool)
     → length us ≡ v.len → length cs ≡ w.len → AnswersTo entry s i count u (map (cell_of entry) us) cs → AnswersTo entry s i count u (map (cell_of entry) (with_items v us).items) (with_items w cs).items
 stored {H} entry s i count u v w us cs cells firsts h =
     subst (λ (l : List H). AnswersTo entry s i count u (map (cell_of entry) l) (with_items w cs).items) (sym (with_items_is v us cells))
