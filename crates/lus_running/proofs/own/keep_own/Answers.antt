@@ -1,4 +1,4 @@
-use Rattle.std.proofs.Common.{◌≡◌, ◌≤◌, ◌∙◌, ◌++◌, arith, sym, ap, length, map, take, drop, refl, Some}
+use Rattle.std.proofs.Common.{◌≡◌, ◌∙◌, ◌++◌, arith, sym, ap, length, map, take, drop, refl, Some}
 use Rattle.std.proofs.lemmas.List.{length-map}
 use Rattle.lus_classes.specs.States.{state}
 use Rattle.lus_classes.specs.Steps.{cells_after, flags_after}

@@ -1,4 +1,4 @@
-use Rattle.std.proofs.Common.{rules, arith, ◌≡◌, ◌∙◌, ◌≤◌, Bool, ℕ, List, Option, Result, Vec, sym, ap, subst, map, length}
+use Rattle.std.proofs.Common.{arith, ◌≡◌, ◌∙◌, ◌≤◌, Bool, ℕ, List, Option, Result, Vec, sym, ap, subst, map, length}
 use Rattle.std.proofs.lemmas.List.{with_items_is}
 use Rattle.std.specs.Global.{Global}
 use Rattle.std.specs.Vec.{with_items}
