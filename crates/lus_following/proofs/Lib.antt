@@ -1,5 +1,5 @@
 pub mod Putting
-pub mod TakenOver
 pub mod Operands
 pub mod Tallying
 pub mod LocatedSteps
+pub mod Going

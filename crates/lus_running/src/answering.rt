@@ -13,7 +13,7 @@ use crate::setting::Setting;
 use crate::wholes::run_in_row;
 use lus_flat_classes::Whole;
 use lus_following::Held;
-use lus_values::Value;
+use lus_values::{Row, Value};
 
 /// So many outputs, which stand behind the inputs, of one instant by the whole of a class, in a row that has room for all its places.
 pub fn answer_in_row<T: Held>(
@@ -24,7 +24,7 @@ pub fn answer_in_row<T: Held>(
     next_cells: &mut [T],
     next_firsts: &mut [bool],
     row: &mut [T],
-) -> Result<Vec<Option<Value>>, Failure>
+) -> Result<Row, Failure>
     requires fits { FitsWhole on.now next_cells.old next_firsts.old row.old whole.now }
     requires room { whole.now.top ≤ length row.old }
     requires whole { IsWholeOn on.now whole.now }
@@ -47,7 +47,7 @@ pub fn answer_by_parts<T: Held>(
     next_firsts: &mut [bool],
     variables: &mut [T],
     temporaries: &mut Vec<T>,
-) -> Result<Vec<Option<Value>>, Failure>
+) -> Result<Row, Failure>
     requires class { CanRunOn on.now }
     requires fits { FitsClass on.now next_cells.old next_firsts.old variables.old }
     requires inputs { length inputs.now ≡ on.now.class.now.inputs }

@@ -9,7 +9,7 @@ ghost use Rattle.lus_running.specs.Settings.{FitsClass, HasCells};
 
 use crate::error::Failure;
 use crate::instant::receive_all;
-use crate::keeping::{rest_cells, rest_firsts};
+use crate::keeping::{copy_cells, copy_flags};
 use crate::parts::part;
 use crate::resetting::forget;
 use crate::setting::Setting;
@@ -69,7 +69,7 @@ pub fn rest<T: Held>(
     ensures { RestsTo T.entry on.now result (map T.entry variables.new) (map (cell_of T.entry) next_cells.new) next_firsts.new }
 {
     forget(variables, 0);
-    rest_cells(on.alloc, on.cells, next_cells)?;
-    rest_firsts(on.firsts, next_firsts);
+    copy_cells(on.alloc, on.cells, next_cells)?;
+    copy_flags(on.firsts, next_firsts);
     Ok(())
 }

@@ -6,21 +6,19 @@ ghost use Rattle.lus_classes.specs.Steps.{atom_in};
 ghost use Rattle.lus_flat_classes.specs.View.{atom_of};
 
 use lus_flat_classes::Atom;
-use lus_following::{Held, Stop};
+use lus_following::{Held, Stop, found_at};
 use lus_instructions::copy_value;
-use lus_values::Memory;
 use lus_words::Word;
 use std::alloc::Global;
 
 /// What a variable holds; past the row it is absent.
 #[inline(always)]
-pub fn held_at<T: Held>(alloc: Global, row: &[T], variable: usize) -> Result<T, Memory>
+pub fn held_at<T: Held>(alloc: Global, row: &[T], variable: usize) -> Result<T, Stop>
     ensures { IfOk result (λ h. T.entry h ≡ item None (map T.entry row.now) variable) }
 {
-    if variable < row.len() {
-        row[variable].copied(alloc)
-    } else {
-        Ok(T::of_word(Word::Absent))
+    match found_at(row, variable) {
+        Some(held) => held.copied(alloc),
+        None => Ok(T::of_word(Word::Absent)),
     }
 }
 
@@ -34,6 +32,6 @@ pub fn atom_in<T: Held>(alloc: Global, atom: &Atom, row: &[T]) -> Result<T, Stop
             let constant = copy_value(alloc, value)?;
             T::of_entry(constant)
         }
-        Atom::Variable(variable) => Ok(held_at(alloc, row, *variable as usize)?),
+        Atom::Variable(variable) => held_at(alloc, row, *variable as usize),
     }
 }

@@ -3,7 +3,8 @@
 ghost use Rattle.std.specs.Prelude.{◌↔◌, IsTrue, IfOk};
 ghost use Rattle.lus_running.specs.Keeping.{AreAlike, AreMany, AreSetBack, AtStart};
 
-use crate::resetting::{copy_cells, copy_flags, empty_all, filled, set_all, set_flags};
+use crate::keeping::{copy_cells, copy_flags};
+use crate::resetting::{empty_all, filled, set_all, set_flags};
 use lus_flat_classes::Extent;
 use lus_following::{Held, Stop};
 use lus_values::Memory;
@@ -39,9 +40,10 @@ impl<T: Held> Kept<T> {
     pub fn over<U: Held>(&self, alloc: Global) -> Result<Kept<U>, Stop>
         ensures { IfOk result (λ k. AreAlike T.entry U.entry self.now k) }
     {
-        let firsts = copy_flags(alloc, &self.firsts)?;
-        let cells = copy_cells(alloc, &self.cells)?;
-        Ok(Kept { cells, firsts })
+        let mut kept = Kept::fresh(alloc, self.cells.len(), self.firsts.len())?;
+        copy_cells(alloc, &self.cells, &mut kept.cells)?;
+        copy_flags(&self.firsts, &mut kept.firsts);
+        Ok(kept)
     }
 
     /// Whether there are so many of each.

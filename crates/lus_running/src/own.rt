@@ -60,12 +60,8 @@ pub fn keep_own<T: Held>(
         (behind_own on.now.class.now (map (cell_of T.entry) next_cells.old) next_firsts.old)
         (map (cell_of T.entry) next_cells.new) next_firsts.new }
 {
-    let (cells, _called_cells) = on.cells.split_at(on.class.cells.len());
-    let (firsts, _called_firsts) = on.firsts.split_at(on.class.firsts.len());
     let (row, _called) = variables.split_at(on.class.tests.len());
-    let (own_cells, _behind_cells) = next_cells.split_at_mut(on.class.cells.len());
-    let (own_firsts, _behind_firsts) = next_firsts.split_at_mut(on.class.firsts.len());
-    keep(on.alloc, &on.class.cells, cells, row, own_cells)?;
-    clear(&on.class.firsts, firsts, row, own_firsts);
+    keep(on.alloc, &on.class.cells, on.cells, row, next_cells)?;
+    clear(&on.class.firsts, on.firsts, row, next_firsts);
     Ok(())
 }

@@ -4,20 +4,22 @@
 ghost use Rattle.std.specs.Prelude.{◌≡◌, map};
 ghost use Rattle.lus_classes.specs.Classes.{clock_in};
 ghost use Rattle.lus_classes.specs.Steps.{is_on_row};
-ghost use Rattle.lus_running.specs.Constructors.{holds};
 ghost use Rattle.lus_flat_classes.specs.Looks.{newest, short_of};
+ghost use Rattle.lus_instructions.specs.Executed.{holds_in};
 
 use lus_flat_classes::Class;
-use lus_following::Held;
+use lus_following::{Held, found_at};
 use lus_program::Test;
 
 /// Whether a test holds.
 #[inline(always)]
 pub fn holds<T: Held>(test: &Test, row: &[T]) -> bool
-    ensures { result ≡ holds test.now (map T.entry row.now) }
+    ensures { result ≡ holds_in test.now (map T.entry row.now) }
 {
-    let variable = test.variable as usize;
-    variable < row.len() && row[variable].is_constructor(test.constructor)
+    match found_at(row, test.variable as usize) {
+        Some(held) => held.is_constructor(test.constructor),
+        None => false,
+    }
 }
 
 /// Whether the newest test of a clock holds, if it has one.

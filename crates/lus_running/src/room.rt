@@ -16,7 +16,7 @@ use crate::resetting::filled;
 use crate::setting::Setting;
 use lus_flat_classes::Extent;
 use lus_following::Held;
-use lus_values::{Memory, Value};
+use lus_values::{Memory, Row, Value};
 use lus_words::Word;
 use std::alloc::Global;
 
@@ -70,7 +70,7 @@ impl<T: Held> Room<T> {
         on: &Setting<'_, T>,
         inputs: &[Option<Value>],
         outputs: usize,
-    ) -> Result<Vec<Option<Value>>, Failure>
+    ) -> Result<Row, Failure>
         requires class { CanRunOn on.now }
         requires fits { FitsRoom on.now self.old }
         requires inputs { length inputs.now ≡ on.now.class.now.inputs }

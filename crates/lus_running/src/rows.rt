@@ -84,7 +84,7 @@ impl<T: Held> Rows<T> {
         };
         let answer = self.room.answer(&on, inputs.items(), outputs)?;
         swap(&mut self.kept, &mut self.room.next);
-        Ok(Row::new(answer))
+        Ok(answer)
     }
 
     /// As they were before the step that was their last call; takes no memory.

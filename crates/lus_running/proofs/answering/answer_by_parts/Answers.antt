@@ -3,7 +3,7 @@ use Rattle.std.proofs.lemmas.List.{length-map}
 use Rattle.lus_values.specs.View.{entry_of}
 use Rattle.lus_following.specs.Followed.{cell_of}
 use Rattle.lus_running.specs.OnClocks.{PresentOnClock}
-use Rattle.lus_running.proofs.Telling.{inputs_placed, tells_err, tells_ok}
+use Rattle.lus_running.proofs.Telling.{inputs_placed, reaches_err, reaches_ok}
 use Rattle.lus_running.proofs.answering.answer_by_parts.Goals as goal
 
 pub run_parts-requires-clause-present : goal.run_parts-requires-clause-present
@@ -34,7 +34,7 @@ returns-in_err-run_parts g c =
     let room : k.inputs ≤ length before = rw (length-map c.args.variables.now entry) (omega (arith, own, c.requires.fits.variables, c.requires.outputs)) in
     let e = c.in_err-run_parts.field-0.0 in
     let failed : c.from_residual-in_err-run_parts.result ≡ Err e = search rules in
-    tells_err s.classes.now s.depth k c.args.outputs vs s.firsts.now i before r narrow room c.in_ok-place.ensures c.from_residual-in_err-run_parts.result e _ _ _ _ failed c.in_err-run_parts.ensures
+    reaches_err s.classes.now s.depth k c.args.outputs vs s.firsts.now i before r narrow room c.in_ok-place.ensures c.from_residual-in_err-run_parts.result e _ _ _ failed c.in_err-run_parts.ensures
 
 pub returns : goal.returns
 returns g c =
@@ -48,5 +48,5 @@ returns g c =
     let r = map entry c.place.new.variables in
     let narrow : length i ≡ k.inputs = length-map c.args.inputs.now entry_of ∙ c.requires.inputs in
     let room : k.inputs ≤ length before = rw (length-map c.args.variables.now entry) (omega (arith, own, c.requires.fits.variables, c.requires.outputs)) in
-    tells_ok s.classes.now s.depth k c.args.outputs vs s.firsts.now i before r narrow room c.in_ok-place.ensures c.in_ok-part_of.field-0 (map entry c.run_parts.new.variables) _ _ c.requires.outputs
+    reaches_ok s.classes.now s.depth k c.args.outputs vs s.firsts.now i before r narrow room c.in_ok-place.ensures c.in_ok-part_of.field-0 (map entry c.run_parts.new.variables) _ _ c.requires.outputs
     c.in_ok-run_parts.ensures c.in_ok-part_of.ensures

@@ -2,7 +2,7 @@ use Rattle.std.proofs.Common.{rules, arith, ◌≡◌, ◌∙◌, ◌≤◌, len
 use Rattle.std.proofs.lemmas.List.{length-map}
 use Rattle.lus_values.specs.View.{entry_of}
 use Rattle.lus_following.specs.Followed.{cell_of}
-use Rattle.lus_running.proofs.Telling.{tells_err, tells_ok}
+use Rattle.lus_running.proofs.Telling.{reaches_err, reaches_ok}
 use Rattle.lus_running.proofs.answering.answer_in_row.Goals as goal
 
 pub returns-in_err-run_in_row : goal.returns-in_err-run_in_row
@@ -18,7 +18,7 @@ returns-in_err-run_in_row g c =
     let room : k.inputs ≤ length before = rw (length-map c.args.row.now entry) (omega (arith, c.requires.fits.inputs, c.requires.fits.variables)) in
     let e = c.in_err-run_in_row.field-0.0 in
     let failed : c.from_residual-in_err-run_in_row.result ≡ Err e = search rules in
-    tells_err s.classes.now s.depth k c.args.outputs vs s.firsts.now i before r narrow room c.in_ok-place.ensures c.from_residual-in_err-run_in_row.result e _ _ _ _ failed
+    reaches_err s.classes.now s.depth k c.args.outputs vs s.firsts.now i before r narrow room c.in_ok-place.ensures c.from_residual-in_err-run_in_row.result e _ _ _ failed
     (c.in_err-run_in_row.ensures s.classes.now s.depth c.requires.whole.is c.requires.whole.within)
 
 pub returns : goal.returns
@@ -32,5 +32,5 @@ returns g c =
     let r = map entry c.place.new.variables in
     let narrow : length i ≡ k.inputs = length-map c.args.inputs.now entry_of ∙ c.requires.inputs in
     let room : k.inputs ≤ length before = rw (length-map c.args.row.now entry) (omega (arith, c.requires.fits.inputs, c.requires.fits.variables)) in
-    tells_ok s.classes.now s.depth k c.args.outputs vs s.firsts.now i before r narrow room c.in_ok-place.ensures c.in_ok-part_of.field-0 (map entry c.run_in_row.new.row) _ _ c.requires.outputs
+    reaches_ok s.classes.now s.depth k c.args.outputs vs s.firsts.now i before r narrow room c.in_ok-place.ensures c.in_ok-part_of.field-0 (map entry c.run_in_row.new.row) _ _ c.requires.outputs
     (c.in_ok-run_in_row.ensures s.classes.now s.depth c.requires.whole.is c.requires.whole.within) c.in_ok-part_of.ensures

@@ -9,8 +9,8 @@ pub returns : goal.returns
 returns g c =
     let s = c.args.on.now in
     let w = length s.class.now.tests.items in
-    let cells = sym c.in_ok-rest_cells.ensures in
-    let firsts = sym c.rest_firsts.ensures in
+    let cells = sym c.in_ok-copy_cells.ensures in
+    let firsts = sym c.copy_flags.ensures in
     λ d h. (
       [],
       λ i. Some ([], state_in s.classes.now d h (cells i) (firsts i)),

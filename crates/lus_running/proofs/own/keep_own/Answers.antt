@@ -1,37 +1,27 @@
-use Rattle.std.proofs.Common.{◌≡◌, ◌∙◌, sym, ap, length, map, take, drop, refl, Some}
+use Rattle.std.proofs.Common.{◌≡◌, ◌∙◌, ◌++◌, arith, sym, ap, length, map, take, drop, refl, Some}
+use Rattle.std.proofs.lemmas.List.{length-map}
 use Rattle.lus_classes.specs.States.{state}
 use Rattle.lus_classes.specs.Steps.{cells_after, flags_after}
 use Rattle.lus_following.specs.Followed.{cell_of}
 use Rattle.lus_flat_classes.specs.Looks.{newest, short_memory}
 use Rattle.lus_running.specs.Instants.{calls_in}
-use Rattle.lus_running.proofs.Apart.{back_dropped, back_mapped, back_of, front_mapped, front_of, front_taken}
+use Rattle.lus_running.proofs.Apart.{back_of, front_of, front_taken}
+use Rattle.lus_running.proofs.OwnKept.{cells_front, cells_long, flags_front, flags_long}
 use Rattle.lus_running.proofs.Within.{own_within}
 use Rattle.lus_running.proofs.own.keep_own.Goals as goal
 
 pub split_at-requires : goal.split_at-requires
-split_at-requires g c =
-    let k = c.args.on.now.class.now in
-    own_within _ _ _ _ (c.len.ensures ∙ k.cells.ok.0) c.requires.own.cells refl
+split_at-requires g c = own_within _ _ _ _ (c.len.ensures ∙ c.args.on.now.class.now.tests.ok.0) c.requires.own.variables refl
 
-pub split_at-requires-2 : goal.split_at-requires-2
-split_at-requires-2 g c =
-    let k = c.args.on.now.class.now in
-    own_within _ _ _ _ (c.len-2.ensures ∙ k.firsts.ok.0) c.requires.own.firsts refl
+pub keep-requires : goal.keep-requires
+keep-requires g c =
+    let same = ap length c.deref.ensures.value in
+    record { before = omega (arith, same, c.requires.own.cells); after = omega (arith, same, c.requires.cells) }
 
-pub split_at-requires-3 : goal.split_at-requires-3
-split_at-requires-3 g c =
-    let k = c.args.on.now.class.now in
-    own_within _ _ _ _ (c.len-3.ensures ∙ k.tests.ok.0) c.requires.own.variables refl
-
-pub split_at_mut-own_cells-requires : goal.split_at_mut-own_cells-requires
-split_at_mut-own_cells-requires g c =
-    let k = c.args.on.now.class.now in
-    own_within _ _ _ _ (c.len-4.ensures ∙ k.cells.ok.0) c.requires.cells refl
-
-pub split_at_mut-own_firsts-requires : goal.split_at_mut-own_firsts-requires
-split_at_mut-own_firsts-requires g c =
-    let k = c.args.on.now.class.now in
-    own_within _ _ _ _ (c.len-5.ensures ∙ k.firsts.ok.0) c.requires.firsts refl
+pub clear-requires : goal.clear-requires
+clear-requires g c =
+    let same = ap length c.deref-2.ensures.value in
+    record { before = omega (arith, same, c.requires.own.firsts); after = omega (arith, same, c.requires.firsts) }
 
 pub returns : goal.returns
 returns g c =
@@ -39,24 +29,24 @@ returns g c =
     let held = cell_of entry in
     let s = c.args.on.now in
     let k = s.class.now in
-    let n = length k.cells.items in
-    let m = length k.firsts.items in
-    let hn : c.len.result ≡ n = c.len.ensures ∙ k.cells.ok.0 in
-    let hm : c.len-2.result ≡ m = c.len-2.ensures ∙ k.firsts.ok.0 in
-    let hw : c.len-3.result ≡ length k.tests.items = c.len-3.ensures ∙ k.tests.ok.0 in
-    let hn' : c.len-4.result ≡ n = c.len-4.ensures ∙ k.cells.ok.0 in
-    let hm' : c.len-5.result ≡ m = c.len-5.ensures ∙ k.firsts.ok.0 in
-    let cells = front_taken held n c.len.result s.cells.now c.split_at.result.0.now c.split_at.ensures.front hn in
-    let firsts = c.split_at-2.ensures.front ∙ ap (λ j. take j s.firsts.now) hm in
-    let row = front_taken entry (length k.tests.items) c.len-3.result c.args.variables.now c.split_at-3.result.0.now c.split_at-3.ensures.front hw in
-    let after = c.keep.new.after in
-    let set = c.clear.new.after in
-    let us = c.split_at_mut-own_cells.result.1.now in
-    let cs = c.split_at_mut-own_firsts.result.1.now in
-    let lc : n ≡ length after = sym (c.keep.auto.after ∙ c.split_at_mut-own_cells.ensures.front_len ∙ hn') in
-    let lf : m ≡ length set = sym (c.clear.auto.after ∙ c.split_at_mut-own_firsts.ensures.front_len ∙ hm') in
-    let C = front_mapped held n after us lc ∙ c.in_ok-keep.ensures ∙ (λ i. cells_after (map short_memory (c.deref.ensures.value i)) (cells i) (row i)) in
-    let F = front_of m set cs lf ∙ c.clear.ensures ∙ (λ i. flags_after (map newest (c.deref-2.ensures.value i)) (firsts i) (row i)) in
-    let P = back_mapped held n after us lc ∙ back_dropped held n c.len-4.result c.args.next_cells.now us c.split_at_mut-own_cells.ensures.back hn' in
-    let Q = back_of m set cs lf ∙ c.split_at_mut-own_firsts.ensures.back ∙ ap (λ j. drop j c.args.next_firsts.now) hm' in
+    let ms = k.cells.items in
+    let fs = k.firsts.items in
+    let n = length ms in
+    let m = length fs in
+    let vs = map held s.cells.now in
+    let bs = s.firsts.now in
+    let t = take (length k.tests.items) (map entry c.args.variables.now) in
+    let ws = map held c.args.next_cells.now in
+    let cs = c.args.next_firsts.now in
+    let row = front_taken entry (length k.tests.items) c.len.result c.args.variables.now c.split_at.result.0.now c.split_at.ensures.front (c.len.ensures ∙ k.tests.ok.0) in
+    let kept : map held c.keep.new.after ≡ cells_after (map short_memory ms) vs t ++ drop n ws =
+    c.in_ok-keep.ensures ∙ (λ i. cells_after (map short_memory (c.deref.ensures.value i)) vs (row i) ++ drop (length (c.deref.ensures.value i)) ws) in
+    let set : c.clear.new.after ≡ flags_after (map newest fs) bs t ++ drop m cs =
+    c.clear.ensures ∙ (λ i. flags_after (map newest (c.deref-2.ensures.value i)) bs (row i) ++ drop (length (c.deref-2.ensures.value i)) cs) in
+    let long = cells_long ms vs t (omega (arith, length-map s.cells.now held, c.requires.own.cells)) in
+    let many = flags_long fs bs t c.requires.own.firsts in
+    let C = ap (take n) kept ∙ front_of n (cells_after (map short_memory ms) vs t) (drop n ws) long ∙ cells_front ms vs t in
+    let F = ap (take m) set ∙ front_of m (flags_after (map newest fs) bs t) (drop m cs) many ∙ flags_front fs bs t in
+    let P = ap (drop n) kept ∙ back_of n (cells_after (map short_memory ms) vs t) (drop n ws) long in
+    let Q = ap (drop m) set ∙ back_of m (flags_after (map newest fs) bs t) (drop m cs) many in
     λ i. Some (state (sym C i) (sym F i) (calls_in s.classes.now s.depth k (sym P i, sym Q i)))

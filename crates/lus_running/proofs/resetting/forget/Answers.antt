@@ -2,7 +2,7 @@ use Rattle.std.proofs.Common.{◌∙◌, ◌<◌, ◌≤◌, sym, ap, map, lengt
 use Rattle.std.proofs.lemmas.List.{map-set, length-map}
 use Rattle.lus_running.specs.Instants.{forgotten}
 use Rattle.lus_running.proofs.Placing.{forgotten_length, forgotten_item, none_forgotten, all_taken}
-use Rattle.lus_following.proofs.TakenOver.{next_same}
+use Rattle.lus_running.proofs.TakenOver.{next_same}
 use Rattle.lus_running.proofs.resetting.forget.Goals as goal
 
 pub loop-variable-init : goal.loop-variable-init

@@ -24,4 +24,4 @@ loop-variable-preserved g c =
 pub returns : goal.returns
 returns g c =
     let r = map g.T.Held.entry c.args.variables.now in
-    c.loop-variable.invariant ∙ taken_between c.args.from c.args.count c.loop-variable.variable r (omega arith)
+    c.new.ensures ∙ c.loop-variable.invariant ∙ taken_between c.args.from c.args.count c.loop-variable.variable r (omega arith)

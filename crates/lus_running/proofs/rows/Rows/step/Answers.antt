@@ -6,12 +6,11 @@ use Rattle.lus_flat_classes.specs.View.{classes_of}
 use Rattle.lus_following.specs.Followed.{cell_of}
 use Rattle.lus_values.specs.Values.{Row}
 use Rattle.lus_values.specs.View.{entry_of}
-use Rattle.lus_running.specs.Answering.{Tells}
-use Rattle.lus_running.specs.Instances.{Reaches}
-use Rattle.lus_running.specs.Instants.{Parts, instant_in}
+use Rattle.lus_running.specs.Answering.{Reaches}
+use Rattle.lus_running.specs.Instants.{Parts, class_state, instant_in}
 use Rattle.lus_running.specs.Keeping.{cells_of}
 use Rattle.lus_running.specs.OnClocks.{PresentOnClock}
-use Rattle.lus_running.proofs.InstanceSteps.{answers_ok, answers_err}
+use Rattle.lus_running.proofs.InstanceSteps.{fails_step, reaches_step}
 use Rattle.lus_running.proofs.ShortSteps.{fits_on_clocks, step_same}
 use Rattle.lus_running.proofs.rows.Rows.step.Goals as goal
 
@@ -85,8 +84,8 @@ returns-in_err-answer-clause-step g c =
     let e = c.in_err-answer.field-0.0 in
     let failed : c.from_residual.result ≡ Err e = search rules in
     let state = state_in classes (suc d) node (cells_of entry o.kept) o.kept.firsts.items in
-    let told = subst (λ (r : Row). Tells classes d k c.args.outputs (Err e) (instant_in classes d k vs bs r) (cells_of entry next) next.firsts.items) c.items.ensures c.in_err-answer.ensures.answers in
-    let answers = answers_err classes d node k c.args.outputs vs bs i c.requires.found looks c.from_residual.result e _ _ state failed told in
+    let told = subst (λ (r : Row). Reaches k c.args.outputs (Err e) (instant_in classes d k vs bs r) (class_state classes d k (cells_of entry next) next.firsts.items)) c.items.ensures c.in_err-answer.ensures.answers in
+    let answers = fails_step classes d node k c.args.outputs vs bs i c.requires.found looks c.from_residual.result e _ state failed told in
     subst (λ (p : Parts). Reaches k c.args.outputs c.from_residual.result (step (classes_of classes) (state_in classes (suc d) node p.0 p.1) node i) state) (λ j. (map (cell_of entry) (c.deref.ensures.value j), c.deref-2.ensures.value j)) answers
 
 pub returns-clause-step : goal.returns-clause-step
@@ -103,7 +102,8 @@ returns-clause-step g c =
     let kept = c.swap.new.x in
     let narrow : length i ≡ k.inputs = c.requires.formals.0 in
     let looks = step_same classes c.requires.class.can.all c.requires.class.passes.all (state_in classes (suc d) node vs bs) node k i c.requires.found narrow (fits_on_clocks k i narrow c.requires.presence) in
-    let told = subst (λ (r : Row). Tells classes d k c.args.outputs (Ok c.in_ok-answer.answer) (instant_in classes d k vs bs r) (cells_of entry next) next.firsts.items) c.items.ensures c.in_ok-answer.ensures.answers in
-    let answers = answers_ok classes d node k c.args.outputs vs bs i c.requires.found looks
-    (cells_of entry next) (cells_of entry kept) next.firsts.items kept.firsts.items c.in_ok-answer.answer c.new.result told (ap (cells_of entry) c.swap.ensures.x_after) (ap (λ l. l.firsts.items) c.swap.ensures.x_after) c.new.ensures in
-    subst (λ (p : Parts). Reaches k c.args.outputs (Ok c.new.result) (step (classes_of classes) (state_in classes (suc d) node p.0 p.1) node i) (state_in classes (suc d) node (cells_of entry kept) kept.firsts.items)) (λ j. (map (cell_of entry) (c.deref.ensures.value j), c.deref-2.ensures.value j)) answers
+    let answer = c.in_ok-answer.answer in
+    let told = subst (λ (r : Row). Reaches k c.args.outputs (Ok answer) (instant_in classes d k vs bs r) (class_state classes d k (cells_of entry next) next.firsts.items)) c.items.ensures c.in_ok-answer.ensures.answers in
+    let answers = reaches_step classes d node k c.args.outputs vs bs i c.requires.found looks (Ok answer)
+    (cells_of entry next) (cells_of entry kept) next.firsts.items kept.firsts.items (ap (cells_of entry) c.swap.ensures.x_after) (ap (λ l. l.firsts.items) c.swap.ensures.x_after) told in
+    subst (λ (p : Parts). Reaches k c.args.outputs (Ok answer) (step (classes_of classes) (state_in classes (suc d) node p.0 p.1) node i) (state_in classes (suc d) node (cells_of entry kept) kept.firsts.items)) (λ j. (map (cell_of entry) (c.deref.ensures.value j), c.deref-2.ensures.value j)) answers
