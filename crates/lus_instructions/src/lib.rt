@@ -1,4 +1,4 @@
-//! Instructions: what the steps of a class compute, one value after another, and what operators give.
+//! Instructions: what the steps of a class compute, one value after another, and what operators give, for words and for values.
 #![tactic(auto)]
 
 mod entries;
@@ -9,6 +9,7 @@ mod locating;
 mod operation;
 mod seen;
 mod word;
+pub mod words;
 
 pub use entries::copy_value;
 pub use instruction::{Instruction, Operand};

@@ -6,14 +6,14 @@ ghost use Rattle.lus_values.specs.Values.{bool};
 ghost use Rattle.lus_values.specs.declared.operator.Operator.TheVariants.{Compute, Field, If};
 ghost use Rattle.lus_values.specs.View.{entry_of, value_of};
 ghost use Rattle.lus_classes.specs.Steps.{chosen};
-ghost use Rattle.lus_words.specs.Applied.{applied};
-ghost use Rattle.lus_words.specs.Words.{entry_in};
+ghost use Rattle.lus_instructions.specs.Applied.{applied};
+ghost use Rattle.lus_instructions.specs.Words.{entry_in};
 ghost use Rattle.lus_instructions.specs.Seeing.{entry_seen};
 
 use crate::entries::copy_value;
 use crate::seen::{Seen, is_nil_seen, is_none, see};
+use crate::words::{Word, apply_two, is_absent, is_nil};
 use lus_values::{Memory, Op, Operator, Value, any_nil, same, try_apply};
-use lus_words::{Word, apply_two, is_absent, is_nil};
 use std::alloc::Global;
 
 /// The branch that a condition chooses.

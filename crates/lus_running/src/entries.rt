@@ -8,7 +8,7 @@ ghost use Rattle.lus_flat_classes.specs.View.{atom_of};
 use lus_flat_classes::Atom;
 use lus_following::{Held, Stop, found_at};
 use lus_instructions::copy_value;
-use lus_words::Word;
+use lus_instructions::words::Word;
 use std::alloc::Global;
 
 /// What a variable holds; past the row it is absent.

@@ -8,7 +8,7 @@ use crate::error::Failure;
 use crate::presence::is_present;
 use lus_flat_classes::{Class, Target};
 use lus_following::Held;
-use lus_words::Word;
+use lus_instructions::words::Word;
 use std::alloc::Global;
 
 /// A row with one place given what is held; past the row nothing is.

@@ -7,8 +7,8 @@ use crate::keeping::{copy_cells, copy_flags};
 use crate::resetting::{empty_all, filled, set_all, set_flags};
 use lus_flat_classes::Extent;
 use lus_following::{Held, Stop};
+use lus_instructions::words::Word;
 use lus_values::Memory;
-use lus_words::Word;
 use std::alloc::Global;
 
 /// Cells with their first-flags.

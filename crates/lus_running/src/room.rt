@@ -16,8 +16,8 @@ use crate::resetting::filled;
 use crate::setting::Setting;
 use lus_flat_classes::Extent;
 use lus_following::Held;
+use lus_instructions::words::Word;
 use lus_values::{Memory, Row, Value};
-use lus_words::Word;
 use std::alloc::Global;
 
 /// Room for what an instant keeps, and for what it computes.

@@ -1,5 +1,5 @@
 use Rattle.std.proofs.Common.{◌∙◌, map, ap, add-one}
-use Rattle.lus_words.specs.Words.{entry_in}
+use Rattle.lus_instructions.specs.Words.{entry_in}
 use Rattle.lus_running.proofs.Cells.{filled_more}
 use Rattle.lus_running.proofs.resetting.filled.Goals as goal
 

@@ -1,6 +1,6 @@
 use Rattle.std.proofs.Common.{◌≡◌, map}
 use Rattle.std.specs.Prelude.{replicate}
-use Rattle.lus_words.specs.Words.{entry_in}
+use Rattle.lus_instructions.specs.Words.{entry_in}
 use Rattle.lus_running.proofs.resetting.filled.Given as goal
 
 abbrev pub invariant-loop-place : goal.invariant-loop-place
