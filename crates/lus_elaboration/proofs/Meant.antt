@@ -20,7 +20,7 @@ use Rattle.lus_values.specs.Values.{nil}
 use Rattle.lus_program.specs.Programs.{Expression, Operands, more, literal, operate, call, merge, when}
 use Rattle.lus_program.specs.View.{expression_of, field_of, operands_of}
 use Rattle.lus_typing.specs.Kinds.{all_same, where_true}
-use Rattle.lus_typing.specs.Resolved.{kinds_given_in, results, field_kinds, values_of, kind_of_variable, test_fits, call_results, input_kinds, output_kinds}
+use Rattle.lus_typing.specs.Resolved.{kinds_given_in, results, field_kinds, kind_of_variable, test_fits, call_results, input_kinds, output_kinds}
 use Rattle.lus_source.specs.declared.entries.Placed.{Placed}
 use Rattle.lus_source.specs.Scopes.{Scope, Signature, entry}
 use Rattle.lus_source.specs.Heads.{heads, head, head_of, of_kind, kind_by, kinds_by}
@@ -45,12 +45,6 @@ field_kinds_are s kinds.Bool = refl
 field_kinds_are s kinds.Int = refl
 field_kinds_are s (kinds.Enum t) = refl
 field_kinds_are s (kinds.Struct t) = refl
-
-values_are : (s : Scope) (k : Kind) → values_of (heads s) k ≡ size_of s k
-values_are s kinds.Bool = refl
-values_are s kinds.Int = refl
-values_are s (kinds.Enum t) = refl
-values_are s (kinds.Struct t) = refl
 
 kind_kept : (r : Option StoredField) → option_map (λ f. f.kind) (option_map field_of r) ≡ option_map (λ f. f.kind) r
 kind_kept None = refl
