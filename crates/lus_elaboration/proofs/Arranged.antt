@@ -82,7 +82,7 @@ pub each_counted-all : (c n : ℕ) (ms : List ℕ) → ((d : ℕ) → c ≤ d �
 each_counted-all c zero ms f = refl
 each_counted-all c (suc n) ms f = rw (f c (omega arith) (omega arith)) (each_counted-all (suc c) n ms (λ d low high. f d (omega arith) (omega arith)))
 
-same_or_above : (c d : ℕ) → c ≤ d → (c ≡ d) ⊎ (suc c ≤ d)
+pub same_or_above : (c d : ℕ) → c ≤ d → (c ≡ d) ⊎ (suc c ≤ d)
 same_or_above c d h = grind arith
 
 counted_later : (a b : Bool) → b ≡ false → a && b ≡ false

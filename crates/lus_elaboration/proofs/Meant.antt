@@ -20,7 +20,7 @@ use Rattle.lus_values.specs.Values.{nil}
 use Rattle.lus_program.specs.Programs.{Expression, Operands, more, literal, operate, call, merge, when}
 use Rattle.lus_program.specs.View.{expression_of, field_of, operands_of}
 use Rattle.lus_typing.specs.Kinds.{all_same, where_true}
-use Rattle.lus_typing.specs.Resolved.{kinds_given_in, results, field_kinds, values_of, kind_of_variable, test_fits, call_results, input_kinds, output_kinds}
+use Rattle.lus_typing.specs.Resolved.{kinds_given_in, results, field_kinds, kind_of_variable, test_fits, call_results, input_kinds, output_kinds}
 use Rattle.lus_source.specs.declared.entries.Placed.{Placed}
 use Rattle.lus_source.specs.Scopes.{Scope, Signature, entry}
 use Rattle.lus_source.specs.Heads.{heads, head, head_of, of_kind, kind_by, kinds_by}
@@ -45,12 +45,6 @@ field_kinds_are s kinds.Bool = refl
 field_kinds_are s kinds.Int = refl
 field_kinds_are s (kinds.Enum t) = refl
 field_kinds_are s (kinds.Struct t) = refl
-
-values_are : (s : Scope) (k : Kind) → values_of (heads s) k ≡ size_of s k
-values_are s kinds.Bool = refl
-values_are s kinds.Int = refl
-values_are s (kinds.Enum t) = refl
-values_are s (kinds.Struct t) = refl
 
 kind_kept : (r : Option StoredField) → option_map (λ f. f.kind) (option_map field_of r) ≡ option_map (λ f. f.kind) r
 kind_kept None = refl
@@ -103,37 +97,32 @@ sampled_kind s t a k typed = placed (test_placed s t) refl
 
 -- forms with parts that have no type
 
+found_untyped : {X : Type 0} (s : Scope) (r : Option X) (means : X → Expression) → ((x : X) → kind_by s (means x) ≡ None) → kind_by s (where_found r means) ≡ None
+found_untyped s None means over = refl
+found_untyped s (Some x) means over = over x
+
+chosen_untyped : (s : Scope) (b : Bool) (e : Expression) → kind_by s e ≡ None → kind_by s (cond b e (literal nil)) ≡ None
+chosen_untyped s true e over = over
+chosen_untyped s false e over = refl
+
 pub call_untyped : (s : Scope) (f : Text) (ps : Parts) (es : Operands) → kinds_by s es ≡ None → kind_by s (call_meant s f ps es) ≡ None
-call_untyped s f ps es e = called (entry s.nodes f)
-  where
-    called : (r : Option Signature) → kind_by s (where_found r (λ g. cond (are_arguments ps) (call g.place 0 es) (literal nil))) ≡ None
-    called None = refl
-    called (Some g) = chosen (are_arguments ps)
-      where
-        chosen : (b : Bool) → kind_by s (cond b (call g.place 0 es) (literal nil)) ≡ None
-        chosen true = rw e refl
-        chosen false = refl
+call_untyped s f ps es e =
+    found_untyped s (entry s.nodes f) (λ g. cond (are_arguments ps) (call g.place 0 es) (literal nil)) (λ g. chosen_untyped s (are_arguments ps) (call g.place 0 es) (rw e refl))
 
 pub variadic_untyped : (s : Scope) (op : ListOperator) (ps : Parts) (es : Operands) → kinds_by s es ≡ None → kind_by s (variadic_meant op ps es) ≡ None
-variadic_untyped s op ps es e = chosen (are_arguments ps)
-  where
-    chosen : (b : Bool) → kind_by s (cond b (operate (operators.Compute (list_operation op)) es) (literal nil)) ≡ None
-    chosen true = rw e refl
-    chosen false = refl
+variadic_untyped s op ps es e = chosen_untyped s (are_arguments ps) (operate (operators.Compute (list_operation op)) es) (rw e refl)
 
 pub merge_untyped : (s : Scope) (c : Text) (bs : Parts) → kinds_by s (all_meant s bs) ≡ None → kind_by s (merge_meant s c bs (all_meant s bs)) ≡ None
-merge_untyped s c bs e = over (entry s.variables c)
-  where
-    over : (r : Option Placed) → kind_by s (where_found r (λ x. where_found (branches_meant s x.kind bs (all_meant s bs)) (merge x.place))) ≡ None
-    over None = refl
-    over (Some x) = arranged_untyped s (merge x.place) (λ es f. rw f refl) (size_of s x.kind) (all_meant s bs) (branch_places s x.kind bs) (sized_branches s x.kind bs) e
+merge_untyped s c bs e =
+    found_untyped s (entry s.variables c) (λ x. where_found (branches_meant s x.kind bs (all_meant s bs)) (merge x.place)) (λ x.
+    arranged_untyped s (merge x.place) (λ es f. rw f refl) (size_of s x.kind) (all_meant s bs) (branch_places s x.kind bs) (sized_branches s x.kind bs) e)
 
 fields_arranged : (n : ℕ) (es : Operands) (r : Option (List Placed)) → option_and_then (λ xs. arranged n es (map (λ x. x.place) xs)) r ≡ option_and_then (arranged n es) (option_map (map (λ x. x.place)) r)
 fields_arranged n es None = refl
 fields_arranged n es (Some xs) = refl
 
 pub structure_untyped : (s : Scope) (t : Text) (fs : Parts) → kinds_by s (all_meant s fs) ≡ None → kind_by s (structure_meant s t fs (all_meant s fs)) ≡ None
-structure_untyped s t fs e = of_kind_found (entry s.types t)
+structure_untyped s t fs e = found_untyped s (entry s.types t) (λ k. structure_of s k fs (all_meant s fs)) of_one
   where
     of_one : (k : Kind) → kind_by s (structure_of s k fs (all_meant s fs)) ≡ None
     of_one kinds.Bool = refl
@@ -143,10 +132,6 @@ structure_untyped s t fs e = of_kind_found (entry s.types t)
         let fields = fields_of s (kinds.Struct u) in
         rw (fields_arranged (length fields) (all_meant s fs) (fields_asked s (kinds.Struct u) fs))
         (arranged_untyped s (operate (operators.Structure u)) (λ es f. rw f refl) (length fields) (all_meant s fs) (option_map (map (λ x. x.place)) (fields_asked s (kinds.Struct u) fs)) (sized_fields s (kinds.Struct u) fs) e)
-
-    of_kind_found : (r : Option Kind) → kind_by s (where_found r (λ k. structure_of s k fs (all_meant s fs))) ≡ None
-    of_kind_found None = refl
-    of_kind_found (Some k) = of_one k
 
 pub call_given : (s : Scope) (f : Text) (ps : Parts) (es : Operands)
     → kinds_given_in (heads s) (head s) (call_meant s f ps es) ≡ option_and_then (λ n. option_and_then (results (heads s) n) (kinds_by s es)) (callee s f ps)

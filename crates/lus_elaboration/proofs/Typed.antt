@@ -17,7 +17,7 @@ use Rattle.lus_source.specs.Scopes.{Scope}
 use Rattle.lus_source.specs.Heads.{kind_by, kinds_by}
 use Rattle.lus_source.specs.Labels.{each_counted, each_once, index_of, branch_place, branch_places, field_asked, fields_asked}
 use Rattle.lus_source.specs.Meaning.{beside, in_order, in_order_from, arranged, where_found, all_meant}
-use Rattle.lus_elaboration.proofs.Arranged.{FoundAt, found, missing, count-others, count-empty, length-taken}
+use Rattle.lus_elaboration.proofs.Arranged.{FoundAt, found, missing, count-others, count-empty, length-taken, same_or_above}
 
 -- taken one by one
 
@@ -64,9 +64,6 @@ untyped_rest : (o : Option Kind) (r : Option (List Kind)) → r ≡ None → opt
 untyped_rest None r e = refl
 untyped_rest (Some k) None e = refl
 untyped_rest (Some k) (Some ks) e = cc
-
-same_or_above : (c d : ℕ) → c ≤ d → (c ≡ d) ⊎ (suc c ≤ d)
-same_or_above c d h = grind arith
 
 apart : (c d : ℕ) → (d ≡ c) ⊎ ((d < c) ⊎ (c < d))
 apart c d = grind arith

@@ -24,18 +24,13 @@ use std::alloc::{AllocError, Global};
 fn take(scope: &Scope, targets: &[u32], kinds: &[Kind]) -> bool
     ensures { Decides result (Take (scope_of scope.now) targets.now kinds.now) }
 {
-    match targets {
-        [] => match kinds {
-            [] => true,
-            [_, _rest @ ..] => false,
+    match (targets, kinds) {
+        ([], []) => true,
+        ([target, targets @ ..], [kind, kinds @ ..]) => match scope.variable_kind(*target) {
+            Some(found) => same(found, *kind) && take(scope, targets, kinds),
+            None => false,
         },
-        [target, targets @ ..] => match kinds {
-            [] => false,
-            [kind, kinds @ ..] => match scope.variable_kind(*target) {
-                Some(found) => same(found, *kind) && take(scope, targets, kinds),
-                None => false,
-            },
-        },
+        _ => false,
     }
 }
 

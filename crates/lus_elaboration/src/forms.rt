@@ -143,16 +143,10 @@ pub fn label_place(scope: &Scope, kind: Kind, label: &Label) -> Option<u32>
 {
     match label {
         Label::Truth(truth, _) => truth_place(kind, *truth),
-        Label::Constructor(name) => {
-            let Some(found) = scope.constructor(&name.text) else {
-                return None;
-            };
-            if same(kind, Kind::Enum(found.enumeration)) {
-                Some(found.place)
-            } else {
-                None
-            }
-        }
+        Label::Constructor(name) => match scope.constructor(&name.text) {
+            Some(found) if same(kind, Kind::Enum(found.enumeration)) => Some(found.place),
+            _ => None,
+        },
     }
 }
 

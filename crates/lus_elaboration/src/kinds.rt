@@ -4,7 +4,7 @@ ghost use Rattle.std.specs.Prelude.{◌≡◌, map, option_map, slice_get};
 ghost use Rattle.std.specs.List.{list_all};
 ghost use Rattle.std.specs.Option.{option_and_then};
 ghost use Rattle.lus_program.specs.View.{field_of};
-ghost use Rattle.lus_typing.specs.Kinds.{same as same_kind, all_same as all_same_kinds, alike as alike_kind, the_one as one_kind, common_kind as kind_of_all, value_kind as kind_of_value};
+ghost use Rattle.lus_typing.specs.Kinds.{same as same_kind, all_same as all_same_kinds, alike as alike_kind, common_kind as kind_of_all, value_kind as kind_of_value};
 ghost use Rattle.lus_typing.specs.Resolved.{op_kind as kind_of_op, if_kind as kind_of_if, takes as shape_takes, field_kinds, projected as field_projected, operator_kind as kind_of_operator, test_fits as fits, merged as kind_merged, kind_of_variable, results as results_of};
 ghost use Rattle.lus_source.specs.Heads.{head, heads};
 ghost use Rattle.lus_source.specs.ScopeView.{scope_of};
@@ -31,10 +31,7 @@ pub fn all_same(left: &[Kind], right: &[Kind]) -> bool
     ensures { result ≡ all_same_kinds left.now right.now }
 {
     match left {
-        [] => match right {
-            [] => true,
-            [_, _rest @ ..] => false,
-        },
+        [] => right.is_empty(),
         [one, left @ ..] => match right {
             [] => false,
             [other, right @ ..] => same(*one, *other) && all_same(left, right),
@@ -63,14 +60,8 @@ fn common_kind(branches: &[Kind]) -> Option<Kind>
     ensures { result ≡ kind_of_all branches.now }
 {
     match branches {
-        [] => None,
-        [first, rest @ ..] => {
-            if all_are(*first, rest) {
-                Some(*first)
-            } else {
-                None
-            }
-        }
+        [first, rest @ ..] if all_are(*first, rest) => Some(*first),
+        _ => None,
     }
 }
 
@@ -112,10 +103,7 @@ fn all_fit(fields: &[Field], values: &[Kind]) -> bool
     ensures { result ≡ all_same_kinds (map (λ f. f.kind) (map field_of fields.now)) values.now }
 {
     match fields {
-        [] => match values {
-            [] => true,
-            [_, _rest @ ..] => false,
-        },
+        [] => values.is_empty(),
         [field, fields @ ..] => match values {
             [] => false,
             [value, values @ ..] => same(field.kind, *value) && all_fit(fields, values),
@@ -196,16 +184,6 @@ pub fn results<'a>(scope: &'a Scope, node: u32, arguments: &[Kind]) -> Option<&'
         Some(&called.outputs)
     } else {
         None
-    }
-}
-
-/// The type of a call with one output.
-pub fn the_one(outputs: &[Kind]) -> Option<Kind>
-    ensures { result ≡ one_kind outputs.now }
-{
-    match outputs {
-        [kind] => Some(*kind),
-        _ => None,
     }
 }
 

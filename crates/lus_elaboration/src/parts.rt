@@ -2,10 +2,7 @@
 
 ghost use Rattle.std.specs.Prelude.{◌≡◌, IfOk, length, map, option_map};
 ghost use Rattle.lus_syntax.specs.View.{name_seen, lead_seen};
-ghost use Rattle.lus_program.specs.View.{expression_of, operands_of};
-ghost use Rattle.lus_program.specs.Programs.{call as call_of};
-ghost use Rattle.lus_typing.specs.Resolved.{results as results_of};
-ghost use Rattle.lus_source.specs.Heads.{heads};
+ghost use Rattle.lus_program.specs.View.{operands_of};
 ghost use Rattle.lus_source.specs.Labels.{branch_place as place_of_branch, branch_places as places_of_branches, field_asked as asked_field, fields_asked as asked_fields};
 ghost use Rattle.lus_source.specs.Meaning.{are_arguments as arguments_alone, call_meant, list_operation as operation_of_list, merge_meant, structure_meant, variadic_meant};
 ghost use Rattle.lus_source.specs.ScopeView.{scope_of};
@@ -13,9 +10,9 @@ ghost use Rattle.lus_elaboration.specs.Wholes.{ElaboratesOver, Finds, callee as 
 
 use crate::arrangement::arranged;
 use crate::forms::{Elaborated, boxed, label_place, operated, place_of};
-use crate::kinds::{merged, results, the_one};
+use crate::kinds::{merged, results};
 use crate::operands::Operands;
-use lus_program::{Expr, Form, Kind};
+use lus_program::{Form, Kind};
 use lus_source::{Fault, Placed, Scope, field as field_named};
 use lus_syntax::{Label, Lead, ListOperator, Name, Part, Place};
 use lus_values::{Op, Operator};
@@ -63,9 +60,10 @@ pub fn call(
     let Some(outputs) = results(scope, node, &kinds) else {
         return Err(Fault::At(place));
     };
-    let Some(kind) = the_one(outputs) else {
+    let [kind] = outputs else {
         return Err(Fault::At(place));
     };
+    let kind = *kind;
     let expr = boxed(alloc, place, Form::Call(node, exprs))?;
     Ok(Elaborated { expr, kind })
 }

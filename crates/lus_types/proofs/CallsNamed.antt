@@ -1,9 +1,9 @@
 -- The nodes that a program calls are those that the text calls, so none leads back to itself, and an order of the text's nodes
 -- is one of the program's.
-use Rattle.std.proofs.Common.{add-one, arith, ◌≡◌, ◌∙◌, refl, sym, ap, subst, ℕ, zero, suc, ◌+◌, ◌<◌, nat_eq, Bool, true, false, cond, List, [], ◌∷◌, ◌++◌, length, map, Option, Some}
+use Rattle.std.proofs.Common.{add-one, arith, ◌≡◌, ◌∙◌, refl, sym, ap, subst, ℕ, zero, suc, ◌+◌, nat_eq, Bool, true, false, cond, List, [], ◌∷◌, ◌++◌, map, Option, Some}
 use Rattle.std.proofs.lemmas.List.{length-map}
 use Rattle.std.proofs.lemmas.List.Elements.{Contains-append_right}
-use Rattle.std.specs.Prelude.{flat_map, option_map, Contains, slice_index_or}
+use Rattle.std.specs.Prelude.{flat_map, option_map, Contains}
 use Rattle.std.specs.List.{position_from}
 use Rattle.std.specs.Option.{option_to_list}
 use Rattle.std.specs.Str.{bytes_eq}
@@ -19,7 +19,7 @@ use Rattle.lus_syntax.specs.Trees as tree
 use Rattle.lus_syntax.specs.Trees.{Name, Call, Structure, Merge, Variadic, Field, Parentheses, When, Unary, Binary, If, Parts, End, More, Tree}
 use Rattle.lus_values.specs.declared.operator.Operator.TheVariants as operators
 use Rattle.lus_program.specs.Programs.{Expression, operate, Operands, none, more, calls, numbered, Equation, Node}
-use Rattle.lus_values.proofs.Lists.{each_left, each_right, each_append}
+use Rattle.lus_values.proofs.Lists.{each_at, each_left, each_right, each_append}
 use Rattle.lus_source.specs.Scopes.{Scope, Signature, entry}
 use Rattle.lus_source.specs.Tables.{numbered_from, signature, scope}
 use Rattle.lus_source.specs.Loopless.{place_in, node_names, called, called_in, calls_of, node_uses}
@@ -101,11 +101,6 @@ module _ (Q : ℕ → Type 0) where
         (subst (Each Q) (sym (nodes_called-numbered e n)) (meant_called q.right (each_left Q (called nodes q.right) rest each)))
         (equations_called (n + calls e) qs (each_right Q (called nodes q.right) rest each))
 
-each_contains : (Q : ℕ → Type 0) (xs : List ℕ) → Each Q xs → (y k : ℕ) → k < length xs → slice_index_or xs k y ≡ y → Q y
-each_contains Q [] each y k lt is = absurd (omega (arith, lt))
-each_contains Q (x ∷ xs) each y zero lt is = subst Q is each.0
-each_contains Q (x ∷ xs) each y (suc k) lt is = each_contains Q xs each.1 y k (omega (arith, lt)) is
-
 each_contained : (all xs : List ℕ) → ((y : ℕ) → Contains xs y → Contains all y) → Each (Contains all) xs
 each_contained all [] h = tt
 each_contained all (x ∷ xs) h = (h x (0, omega arith, refl), each_contained all xs (λ y c. h y (Contains-append_right (x ∷ []) xs y c)))
@@ -137,7 +132,9 @@ module _ (p : Tree) where
   uses_included : (fs : List tree.Node) (x y : ℕ)
       → Contains (item [] (map (λ (f : Node). flat_map (λ (q : Equation). nodes_called q.right) f.equations) (map (node_meant p) fs)) x) y → Contains (item [] (map (calls_of (node_names p)) fs) x) y
   uses_included [] x y c = c
-  uses_included (f ∷ fs) zero y c = each_contains (Contains (calls_of (node_names p) f)) (flat_map (λ (q : Equation). nodes_called q.right) (node_meant p f).equations) (node_calls f) y c.0 c.1 c.2
+  uses_included (f ∷ fs) zero y c =
+      let Q = Contains (calls_of (node_names p) f) in
+      subst Q c.2 (each_at Q (flat_map (λ (q : Equation). nodes_called q.right) (node_meant p f).equations) c.0 y c.1 (node_calls f))
   uses_included (f ∷ fs) (suc x) y c = uses_included fs x y c
 
   pub meant_loopless : HasNoWayBack (node_uses p) → HasNoWayBack (program_uses (program_of p))

@@ -24,7 +24,7 @@ n c = tree.named (c ∷ []) here
 abbrev node : ℕ → List tree.Group → List tree.Equation → tree.Node
 node c outputs qs = record { kind = node_kinds.Node; name = n c; inputs = []; outputs = outputs; locals = []; equations = qs }
 
--- type a = int; node f() returns (y: int); let y = a {}; tel: a structure of a type that is none, which means nil
+-- type a = int; node f() returns (y: int); let y = a {}; tel: a structure of no type of structures, so it means nil
 
 abbrev hollow : tree.Equation
 hollow = record { left = n 121 ∷ []; right = tree.Structure (n 97) tree.End }
@@ -41,16 +41,10 @@ hollow_means_nil = refl
 hollow_is_untyped : kinds_given_in (program_of aliased) (node_meant aliased f) (meant (scope aliased f) hollow.right) ≡ None
 hollow_is_untyped = refl
 
--- node g() returns (); let tel; node h() returns (); let = g(); tel: a call without outputs, and nothing on its left
+-- = g();: a call of a node without outputs, and nothing on its left
 
 abbrev bare : tree.Equation
 bare = record { left = []; right = tree.Call (n 103) tree.End }
-
-abbrev h : tree.Node
-h = node 104 [] (bare ∷ [])
-
-abbrev silent : tree.Tree
-silent = record { types = []; constants = []; nodes = node 103 [] [] ∷ h ∷ [] }
 
 bare_has_no_left : has_left bare ≡ false
 bare_has_no_left = refl

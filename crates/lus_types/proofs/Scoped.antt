@@ -27,7 +27,7 @@ record HasKinds (f : Node) (is os ls : List Kind) : Type 0 where
   pub outputs : f.outputs ≡ length os
   pub variables : kinds_of f.variables ≡ is ++ (os ++ ls)
 
-module _ (f : Node) (is os ls : List Kind) (has : HasKinds f is os ls) where
+module _ {f : Node} {is os ls : List Kind} (has : HasKinds f is os ls) where
   inputs_are : input_kinds f ≡ is
   inputs_are = sym (take-map (λ v. v.kind) f.inputs f.variables) ∙ ap₂ take has.inputs has.variables ∙ take-append_seam is (os ++ ls)
 
@@ -87,14 +87,12 @@ module _ (p : Tree) where
     }
 
     pub formals_are : (node_meant p f).inputs + (node_meant p f).outputs ≤ length (node_meant p f).variables
-    formals_are = formals_fit (node_meant p f) (kinds_declared f.inputs) (kinds_declared f.outputs) (kinds_declared f.locals) node_has
+    formals_are = formals_fit node_has
 
   nodes_alike : (n : ℕ) (fs : List tree.Node)
       → map taken_and_given (map (λ (e : Text × Signature). head_of e.1) (map (λ (e : tree.Node × ℕ). (e.0.name.text, signature p e.0 e.1)) (numbered_from n fs))) ≡ map taken_and_given (map (node_meant p) fs)
   nodes_alike n [] = refl
-  nodes_alike n (f ∷ fs) =
-      let g = signature p f n in
-      ap₂ ◌∷◌ (both_are (head_of g) g.inputs g.outputs [] (head_has g) ∙ sym (both_are (node_meant p f) (kinds_declared f.inputs) (kinds_declared f.outputs) (kinds_declared f.locals) (node_has f))) (nodes_alike (suc n) fs)
+  nodes_alike n (f ∷ fs) = ap₂ ◌∷◌ (both_are (head_has (signature p f n)) ∙ sym (both_are (node_has f))) (nodes_alike (suc n) fs)
 
   pub scope_alike : (f : tree.Node) → AreAlike (heads (scope p f)) (program_of p) (head (scope p f)) (node_meant p f)
   scope_alike f = record {
