@@ -12,7 +12,7 @@ use Rattle.lus_source.specs.Scopes.{Scope, entry}
 use Rattle.lus_source.specs.Loopless.{place_in, type_names}
 use Rattle.lus_source.specs.Sized.{DefinitionCounted}
 use Rattle.lus_source.specs.Tables.{all_constructors, all_declared_by, constants_by, declared_by, fields_by, groups, kind_at, kind_named, kinds_by, numbered_from, placed, scope, signatures_by, tables, types_by}
-use Rattle.lus_source.specs.Types.{has_few_fields}
+use Rattle.lus_source.specs.Labels.{has_few_fields}
 use Rattle.lus_source.proofs.FieldsMeant.{length-fields_by}
 use Rattle.lus_declarations.specs.ByTable.{entered, kind_in}
 

@@ -24,7 +24,6 @@ use Rattle.lus_program.proofs.Parts.{parts-numbered}
 use Rattle.lus_source.specs.Heads.{kind_by}
 use Rattle.lus_source.specs.Scopes.{Scope}
 use Rattle.lus_source.specs.Tables.{scope}
-use Rattle.lus_source.specs.WellTyped.{IsTyped}
 use Rattle.lus_source.specs.Meaning.{are_arguments, list_operation, prefix_meant, infix_meant, meant, all_meant, equation_meant, equations_meant, node_meant, program_of}
 use Rattle.lus_types.proofs.Forms.{where_holds, name_holds, call_holds, field_holds, when_holds, merge_holds, structure_holds}
 use Rattle.lus_types.proofs.OrderedParts.{ordered_few}
@@ -116,5 +115,5 @@ module _ (p : Tree) where
   nodes_fit (with_constants {more} {cs} {ds} {ns} {xs} {ys} h k) = omega (arith, weights_append xs ys, nodes_fit k)
   nodes_fit (with_node {n} {ns} {ds} {cs} {xs} {ys} h k) = omega (arith, sum_by-cons node_parts (node_meant p n) (map (node_meant p) ns), weights_append xs ys, node_fits h, nodes_fit k)
 
-pub few_parts : (text : Text) (tokens : List Lexeme) (t : Tree) → Tokens text tokens → SpellsProgram t tokens → IsTyped t → program_parts (program_of t) ≤ length text
-few_parts text tokens t lexed spelled typed = omega (arith, tokens_fit text tokens lexed, nodes_fit t spelled)
+pub few_parts : (text : Text) (tokens : List Lexeme) (t : Tree) → Tokens text tokens → SpellsProgram t tokens → program_parts (program_of t) ≤ length text
+few_parts text tokens t lexed spelled = omega (arith, tokens_fit text tokens lexed, nodes_fit t spelled)

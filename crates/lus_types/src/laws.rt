@@ -6,7 +6,6 @@ ghost use Rattle.lus_syntax.specs.Tokens.{Tokens};
 ghost use Rattle.lus_syntax.specs.Trees.{Tree as PlainTree};
 ghost use Rattle.lus_spelling.specs.Declarations.{SpellsProgram};
 ghost use Rattle.lus_program.specs.Parts.{program_parts};
-ghost use Rattle.lus_source.specs.WellTyped.{IsTyped};
 ghost use Rattle.lus_source.specs.Meaning.{program_of};
 ghost use Rattle.lus_types.specs.Laws.{MeantProgramsAreSound};
 
@@ -17,8 +16,8 @@ pub fn sound()
     ensures { MeantProgramsAreSound }
 {}
 
-/// A well-typed tree that the tokens of a text spell means a program of no more parts than the text has bytes.
+/// A tree that the tokens of a text spell means a program of no more parts than the text has bytes, whether it is well typed or not.
 pub fn few_parts()
     ensures { (text : Text) (tokens : List Lexeme) (tree : PlainTree) → Tokens text tokens → SpellsProgram tree tokens
-        → IsTyped tree → program_parts (program_of tree) ≤ length text }
+        → program_parts (program_of tree) ≤ length text }
 {}

@@ -14,7 +14,7 @@ use Rattle.lus_source.specs.Named.{Known, known}
 use Rattle.lus_source.specs.ScopeView.{signature_of}
 use Rattle.lus_source.specs.Sized.{Counted}
 use Rattle.lus_source.specs.Tables.{all_constructors, all_declared_by, constants_by, kind_at, placed, signature_by, signatures_by, types_by, value_in}
-use Rattle.lus_source.specs.Types.{has_few_fields}
+use Rattle.lus_source.specs.Labels.{has_few_fields}
 use Rattle.lus_declarations.specs.ByTable.{kind_told}
 use Rattle.lus_declarations.specs.NameView.{spaces_seen}
 use Rattle.lus_declarations.proofs.OfSource.{all_have_few, made_of_source}
