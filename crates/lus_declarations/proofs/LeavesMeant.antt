@@ -3,10 +3,11 @@ use Rattle.std.proofs.Common.{◌≡◌, ◌∙◌, refl, sym, ap, ap₂, arith,
 use Rattle.std.specs.Option.{option_to_list}
 use Rattle.std.proofs.lemmas.Bool.{cases_lt}
 use Rattle.std.proofs.lemmas.List.{get_or_past, length-map}
+use Rattle.std.proofs.lemmas.List.Elements.{All-contains}
 use Rattle.std.proofs.lemmas.List.Sums.{sum_by-append, sum_by-cons}
 use Rattle.lus_values.specs.Lists.{item}
-use Rattle.lus_graph.specs.Along.{IsFilled, within}
-use Rattle.lus_graph.specs.Ways.{IsOrder}
+use Rattle.lus_graph.specs.Along.{IsFilled}
+use Rattle.lus_graph.specs.Ways.{IsOrder, used}
 use Rattle.lus_graph.proofs.AlongOrders.{alike_solves}
 use Rattle.lus_graph.proofs.NoWayBack.{each_holds}
 use Rattle.lus_syntax.specs.Limits.{most_leaves}
@@ -23,7 +24,7 @@ use Rattle.lus_source.specs.Sized.{Counted, definition_leaves, group_leaves, lea
 use Rattle.lus_source.specs.Tables.{of_type, definition_at, no_definition, definition_kind, kind_at, kind_named, fields_of_kind, fields_declared, declared_as}
 use Rattle.lus_source.proofs.FieldsMeant.{meant_fields}
 use Rattle.lus_source.proofs.TypesMeant.{types_order, used_is}
-use Rattle.lus_declarations.proofs.TypesByUses.{kind_solved, leaves_solved, leaves_step, leaves_step_local, uses_count}
+use Rattle.lus_declarations.proofs.TypesByUses.{kind_solved, leaves_solved, leaves_step, leaves_step_local, named_inside, types_inside, uses_count}
 
 module _ (p : Tree) (order : List ℕ) (o : IsOrder (type_uses p) order) (table : List ℕ) (found : IsFilled (type_uses p) 1 (leaves_step p) (λ n. n ≤ most_leaves) order table) where
   abbrev here : ℕ → ℕ
@@ -54,20 +55,13 @@ module _ (p : Tree) (order : List ℕ) (o : IsOrder (type_uses p) order) (table 
   definition_same t (Enumeration cs) h is = sym is
   definition_same t (StructureOf fs) h is = refl
 
-  no_definition_past : (t : ℕ) → length p.types ≤ t → definition_at p t ≡ no_definition
-  no_definition_past t le = get_or_past (map (λ (d : TypeDeclaration). d.definition) p.types) t no_definition (omega (arith, le, length-map p.types (λ (d : TypeDeclaration). d.definition)))
-
-  one_past : (n t : ℕ) → definition_at p t ≡ no_definition → kind_leaves here (within n kinds.Bool (λ at u. definition_kind (type_names p) at u (definition_at p u)) t) ≡ 1
-  one_past zero t e = refl
-  one_past (suc n) t e = ap (λ d. kind_leaves here (definition_kind (type_names p) (within n kinds.Bool (λ at u. definition_kind (type_names p) at u (definition_at p u))) t d)) e
-
-  kind_same : (t : ℕ) → kind_leaves here (kind_at p t) ≡ here t
-  kind_same = each_holds (type_uses p) (λ t. kind_leaves here (kind_at p t) ≡ here t) (λ t h. ⊎_elim
-      (λ lt.
+  kind_same : (t : ℕ) → t < length p.types → kind_leaves here (kind_at p t) ≡ here t
+  kind_same = each_holds (type_uses p) (λ t. t < length p.types → kind_leaves here (kind_at p t) ≡ here t) (λ t h lt.
       ap (kind_leaves here) ((kind_solved p order o).each t (omega (arith, lt, uses_count p)))
-      ∙ definition_same t (definition_at p t) (λ s among. h s (rw (used_is p t) among)) (by_definition t lt))
-      (λ le. one_past (length p.types) t (no_definition_past t le) ∙ sym (get_or_past table t 1 (omega (arith, le, size))))
-      (cases_lt t (length p.types))) order o
+      ∙ definition_same t (definition_at p t) (λ s among. let below : Contains (used (type_uses p) t) s = rw (used_is p t) among in h s below (omega (arith, types_inside p t s below, uses_count p))) (by_definition t lt)) order o
+
+  name_meant : (y : TypeName) → kind_leaves here (kind_named p y) ≡ of_type (type_names p) 1 1 here y
+  name_meant y = name_same y (λ t among. kind_same t (omega (arith, All-contains (λ k. k < length (type_names p)) (named_type (type_names p) y) t (named_inside (type_names p) y) among, length-map p.types (λ (d : TypeDeclaration). d.name.text))))
 
   own_same : (k : Kind) (ns : List Named) → sum_by (λ g. kind_leaves here g.kind) (fields_of_kind ns k) ≡ length ns * kind_leaves here k
   own_same k [] = omega arith
@@ -78,11 +72,11 @@ module _ (p : Tree) (order : List ℕ) (o : IsOrder (type_uses p) order) (table 
   fields_same (g ∷ fs) =
       let k = kind_named p g.type_name in
       sum_by-append (λ (f : Field). kind_leaves here f.kind) (fields_of_kind g.names k) (fields_declared p fs)
-      ∙ ap₂ ◌+◌ (own_same k g.names ∙ ap (λ n. length g.names * n) (name_same g.type_name (λ t among. kind_same t))) (fields_same fs)
+      ∙ ap₂ ◌+◌ (own_same k g.names ∙ ap (λ n. length g.names * n) (name_meant g.type_name)) (fields_same fs)
       ∙ sym (sum_by-cons (group_leaves (type_names p) here) g fs)
 
   declared_same : (d : Definition) → declared_leaves here (declared_as p d) ≡ definition_leaves (type_names p) here d
-  declared_same (Alias y) = name_same y (λ t among. kind_same t)
+  declared_same (Alias y) = name_meant y
   declared_same (Enumeration cs) = refl
   declared_same (StructureOf fs) = fields_same fs
 

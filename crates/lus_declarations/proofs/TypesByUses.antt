@@ -57,7 +57,7 @@ module _ (types : List Text) where
 
   -- uses are of things
 
-  named_inside : (n : TypeName) → All (λ t. t < length types) (named_type types n)
+  pub named_inside : (n : TypeName) → All (λ t. t < length types) (named_type types n)
   named_inside (BoolName s) = All-nil (λ t. t < length types)
   named_inside (IntName s) = All-nil (λ t. t < length types)
   named_inside (DeclaredName n) = places_inside types n.text

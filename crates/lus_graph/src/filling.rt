@@ -6,6 +6,9 @@ ghost use Rattle.lus_graph.specs.Along.{IsFilled, IsLocal, Solves};
 ghost use Rattle.lus_graph.specs.Ways.{IsOrder, Uses};
 
 /// A rule by which each of some things has something, by what the things have that it uses.
+///
+/// `uses` says what each thing uses, `step` what a thing has by what the others have, `nothing` what the use of a place past the
+/// things has, and `fits` what is let through.
 pub trait Rule<T> {
     ghost uses: { Self → Uses };
 
@@ -22,8 +25,8 @@ pub trait Rule<T> {
             MatchOption result (fits self.now value → ⊥) (λ found. (found ≡ value) × fits self.now found) };
 }
 
-/// The table filled with what each thing has, or the first thing of the order whose doesn't fit. The order has before each thing
-/// those that it uses.
+/// The table filled with what each thing has, along an order that has before each thing those that it uses; or the first thing
+/// for which that doesn't fit. Asks the rule once for each thing.
 pub fn along<T: Copy, R: Rule<T>>(
     rule: &R,
     order: &[usize],
