@@ -30,7 +30,8 @@ impl<'a> Rule<usize> for Nesting<'a> {
 
     ghost nothing = { λ r. 0 };
 
-    ghost step = { λ r. levels_deeper (uses_of_types (tree_seen r.source.now)) (map (λ d. own_level d.definition) (tree_seen r.source.now).types) };
+    ghost step = { λ r. levels_deeper (uses_of_types (tree_seen r.source.now))
+        (map (λ d. own_level d.definition) (tree_seen r.source.now).types) };
 
     ghost fits = { λ r n. n ≤ most_nesting };
 

@@ -32,7 +32,8 @@ pub fn arranged(
     requires exprs { length operands.exprs.items ≡ length places.items }
     requires kinds { length operands.kinds.items ≡ length places.items }
     ensures once { IfOk result (λ r. is_some r ≡ each_once count places.items) }
-    ensures order { IfOk result (λ r. IfSome r (λ x. operands_of x.exprs.items ≡ in_order count places.items (operands_of operands.exprs.items))) }
+    ensures order { IfOk result (λ r. IfSome r (λ x. operands_of x.exprs.items
+        ≡ in_order count places.items (operands_of operands.exprs.items))) }
     ensures typed { IfOk result (λ r. IfSome r (λ x. (s : Scope) → AreTyped s operands → AreTyped s x)) }
 {
     let mut arranged = Operands::with_capacity(alloc, places.len())?;

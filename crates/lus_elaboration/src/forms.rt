@@ -175,7 +175,8 @@ pub fn clock_variable(test: &SourceTest) -> &Name
 pub fn test(scope: &Scope, source: &SourceTest) -> Option<Test>
     ensures placed { IfSome result (λ t. placed_test (scope_of scope.now) (test_seen source.now) ≡ Some t) }
     ensures meant { IfSome result (λ t. t ≡ test_meant (scope_of scope.now) (test_seen source.now)) }
-    ensures fits { is_some result ≡ fits (heads (scope_of scope.now)) (head (scope_of scope.now)) (test_meant (scope_of scope.now) (test_seen source.now)) }
+    ensures fits { is_some result
+        ≡ fits (heads (scope_of scope.now)) (head (scope_of scope.now)) (test_meant (scope_of scope.now) (test_seen source.now)) }
 {
     let Some(variable) = scope.variable(&clock_variable(source).text) else {
         return None;

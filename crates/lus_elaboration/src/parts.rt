@@ -173,7 +173,8 @@ fn field_places(
     kind: Kind,
     fields: &[Part],
 ) -> Result<Vec<u32>, Fault>
-    ensures places { Finds result (λ ps. ps.items) (option_map (map (λ x. x.place)) (asked_fields (scope_of scope.now) kind (parts_seen fields.now))) }
+    ensures places { Finds result (λ ps. ps.items)
+        (option_map (map (λ x. x.place)) (asked_fields (scope_of scope.now) kind (parts_seen fields.now))) }
     ensures alike { IfOk result (λ ps. length ps.items ≡ length fields.now) }
 {
     let mut places = Vec::new(alloc);

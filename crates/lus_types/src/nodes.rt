@@ -26,7 +26,8 @@ use std::alloc::Global;
 /// The test of a group of variables, where it has one.
 fn group_test(scope: &Scope, source: &Option<SourceTest>) -> Result<Option<Test>, Fault>
     ensures meant { IfOk result (λ t. t ≡ option_map (test_meant (scope_of scope.now)) (option_map test_seen source.now)) }
-    ensures fits { Tested result (maybe_fits (scope_of scope.now) (option_map (test_meant (scope_of scope.now)) (option_map test_seen source.now))) }
+    ensures fits { Tested result
+        (maybe_fits (scope_of scope.now) (option_map (test_meant (scope_of scope.now)) (option_map test_seen source.now))) }
 {
     match source {
         None => Ok(None),
