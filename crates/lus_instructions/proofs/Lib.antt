@@ -3,3 +3,8 @@ pub mod Following
 pub mod Growing
 pub mod Longer
 pub mod Given
+pub mod Putting
+pub mod Operands
+pub mod Tallying
+pub mod LocatedSteps
+pub mod Going

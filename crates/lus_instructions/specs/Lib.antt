@@ -4,3 +4,6 @@ pub mod Seeing
 pub mod Locations
 pub mod Words
 pub mod Applied
+pub mod Followed
+pub mod Placed
+pub mod Tallied

@@ -1,21 +1,37 @@
-//! Instructions: what the steps of a class compute, one value after another, and what operators give, for words and for values.
+//! Instructions: what the steps of a class compute, one value after another; what operators give, for words and for values; and
+//! following instructions over rows of either.
 #![tactic(auto)]
 
+mod choosing;
+mod counting;
 mod entries;
+mod held;
 mod instruction;
 mod layout;
 mod located;
+mod located_machine;
 mod locating;
+mod machine;
+mod on_located;
+mod on_values;
+mod one_row;
 mod operation;
+mod place;
 mod seen;
+mod stop;
 mod word;
 pub mod words;
 
 pub use entries::copy_value;
+pub use held::Held;
 pub use instruction::{Instruction, Operand};
 pub use layout::Layout;
 pub use located::Located;
+pub use located_machine::run_located;
 pub use locating::locate_all;
+pub use machine::run;
 pub use operation::{chosen, compute_two, decide, operate, project};
+pub use place::{entry_at, fetch, found_at, read};
 pub use seen::{Seen, is_none, see, word_seen};
+pub use stop::Stop;
 pub use word::word_of;

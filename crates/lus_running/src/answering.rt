@@ -2,7 +2,7 @@
 
 ghost use Rattle.std.specs.Prelude.{◌≡◌, ◌+◌, ◌≤◌, length, map};
 ghost use Rattle.lus_values.specs.View.{entry_of};
-ghost use Rattle.lus_following.specs.Followed.{cell_of};
+ghost use Rattle.lus_instructions.specs.Followed.{cell_of};
 ghost use Rattle.lus_running.specs.Answering.{AnswersTo};
 ghost use Rattle.lus_running.specs.OnClocks.{PresentOnClock};
 ghost use Rattle.lus_running.specs.Settings.{CanRunOn, FitsClass, FitsWhole, IsWholeOn};
@@ -12,7 +12,7 @@ use crate::running::{part_of, place, run_parts};
 use crate::setting::Setting;
 use crate::wholes::run_in_row;
 use lus_flat_classes::Whole;
-use lus_following::Held;
+use lus_instructions::Held;
 use lus_values::{Row, Value};
 
 /// So many outputs, which stand behind the inputs, of one instant by the whole of a class, in a row that has room for all its places.

@@ -1,7 +1,7 @@
 //! The calls of nodes, and what they need and give.
 
 ghost use Rattle.std.specs.Prelude.{◌≤◌, length, map, take};
-ghost use Rattle.lus_following.specs.Followed.{cell_of};
+ghost use Rattle.lus_instructions.specs.Followed.{cell_of};
 ghost use Rattle.lus_running.specs.Calls.{CanMeet, IsCallAt, IsCalled, MakesCallAt};
 ghost use Rattle.lus_running.specs.Gifts.{ReceivesAll};
 ghost use Rattle.lus_running.specs.Runs.{RestsTo};
@@ -14,7 +14,7 @@ use crate::parts::part;
 use crate::resetting::forget;
 use crate::setting::Setting;
 use lus_flat_classes::{Call, Class, Step, Target};
-use lus_following::Held;
+use lus_instructions::Held;
 
 /// The call that a step of a class makes, and the variables that it gives.
 pub fn call_at<'a>(class: &'a Class, place: usize) -> (&'a Call, &'a [Target])

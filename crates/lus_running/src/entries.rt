@@ -6,9 +6,8 @@ ghost use Rattle.lus_classes.specs.Steps.{atom_in};
 ghost use Rattle.lus_flat_classes.specs.View.{atom_of};
 
 use lus_flat_classes::Atom;
-use lus_following::{Held, Stop, found_at};
-use lus_instructions::copy_value;
 use lus_instructions::words::Word;
+use lus_instructions::{Held, Stop, copy_value, found_at};
 use std::alloc::Global;
 
 /// What a variable holds; past the row it is absent.

@@ -1,6 +1,6 @@
 //! Why a step gives no outputs.
 
-use lus_following::Stop;
+use lus_instructions::Stop;
 use lus_values::Memory;
 
 /// The instant has no values, or a growth was refused.
@@ -30,7 +30,7 @@ impl From<Stop> for Failure {
 
 impl From<Memory> for Failure {
     ghost use Rattle.std.specs.Prelude.{◌≡◌};
-    ghost use Rattle.lus_following.specs.declared.stop.Stop.TheVariants as stops;
+    ghost use Rattle.lus_instructions.specs.declared.stop.Stop.TheVariants as stops;
     ghost use Rattle.lus_running.specs.declared.error.Failure.TheVariants as failures;
 
     ghost from_gives = { λ _ e. e ≡ failures.Stopped stops.Memory };

@@ -7,7 +7,7 @@ use crate::entries::held_at;
 use crate::error::Failure;
 use crate::presence::is_present;
 use lus_flat_classes::{Class, Target};
-use lus_following::Held;
+use lus_instructions::Held;
 use lus_instructions::words::Word;
 use std::alloc::Global;
 

@@ -1,7 +1,7 @@
 //! What is a node's own, in front of the parts of its calls.
 
 ghost use Rattle.std.specs.Prelude.{◌≡◌, ◌≤◌, length, map, take};
-ghost use Rattle.lus_following.specs.Followed.{cell_of};
+ghost use Rattle.lus_instructions.specs.Followed.{cell_of};
 ghost use Rattle.lus_running.specs.Gifts.{PlaysInto};
 ghost use Rattle.lus_running.specs.Instants.{behind_own, forgotten};
 ghost use Rattle.lus_running.specs.Runs.{KeepsOwn};
@@ -13,8 +13,7 @@ use crate::keeping::{clear, keep};
 use crate::resetting::forget;
 use crate::setting::Setting;
 use lus_flat_classes::Class;
-use lus_following::Held;
-use lus_instructions::Instruction;
+use lus_instructions::{Held, Instruction};
 
 /// Empties a node's own variables but the inputs, which stand first.
 pub fn begin_own<T: Held>(class: &Class, variables: &mut [T])

@@ -8,7 +8,7 @@ ghost use Rattle.lus_flat_classes.specs.Looks.{newest, short_of};
 ghost use Rattle.lus_instructions.specs.Executed.{holds_in};
 
 use lus_flat_classes::Class;
-use lus_following::{Held, found_at};
+use lus_instructions::{Held, found_at};
 use lus_program::Test;
 
 /// Whether a test holds.

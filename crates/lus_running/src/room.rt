@@ -15,7 +15,7 @@ use crate::kept::Kept;
 use crate::resetting::filled;
 use crate::setting::Setting;
 use lus_flat_classes::Extent;
-use lus_following::Held;
+use lus_instructions::Held;
 use lus_instructions::words::Word;
 use lus_values::{Memory, Row, Value};
 use std::alloc::Global;

@@ -9,7 +9,7 @@ use crate::kept::Kept;
 use crate::room::Room;
 use crate::setting::Setting;
 use lus_flat_classes::{Class, Extent};
-use lus_following::{Held, Stop};
+use lus_instructions::{Held, Stop};
 use lus_values::{Memory, Row};
 use std::alloc::Global;
 use std::mem::swap;

@@ -1,7 +1,7 @@
 use Rattle.std.proofs.Common.{rules, arith, ◌≡◌, ◌∙◌, ◌≤◌, length, map, take, sym, ap, subst, Err}
 use Rattle.std.proofs.lemmas.List.{length-map}
 use Rattle.lus_values.specs.View.{entry_of}
-use Rattle.lus_following.specs.Followed.{cell_of}
+use Rattle.lus_instructions.specs.Followed.{cell_of}
 use Rattle.lus_running.specs.OnClocks.{PresentOnClock}
 use Rattle.lus_running.proofs.Telling.{inputs_placed, reaches_err, reaches_ok}
 use Rattle.lus_running.proofs.answering.answer_by_parts.Goals as goal

@@ -1,6 +1,6 @@
 use Rattle.std.proofs.Common.{◌≡◌, ◌∙◌, sym, ap, map, ◌<◌, ◌++◌, take, drop, length, slice_set, slice_index_or, add-one, arith}
 use Rattle.std.proofs.lemmas.List.{map-set, length-map, get_or-map}
-use Rattle.lus_following.specs.Followed.{cell_of}
+use Rattle.lus_instructions.specs.Followed.{cell_of}
 use Rattle.lus_running.proofs.TakenOver.{next_same}
 use Rattle.lus_running.proofs.Cells.{cell_same}
 use Rattle.lus_running.proofs.keeping.copy_cells.Goals as goal

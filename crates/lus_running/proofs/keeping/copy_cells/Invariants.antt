@@ -1,5 +1,5 @@
 use Rattle.std.proofs.Common.{◌≡◌, ◌++◌, map, take, drop}
-use Rattle.lus_following.specs.Followed.{cell_of}
+use Rattle.lus_instructions.specs.Followed.{cell_of}
 use Rattle.lus_running.proofs.keeping.copy_cells.Given as goal
 
 abbrev pub invariant-loop-place : goal.invariant-loop-place

@@ -1,5 +1,5 @@
 use Rattle.std.proofs.Common.{◌≡◌, ◌∙◌, Bool, List, sym, ap, subst, length, take}
-use Rattle.lus_following.specs.Followed.{cell_of}
+use Rattle.lus_instructions.specs.Followed.{cell_of}
 use Rattle.lus_values.specs.Values.{Value, Row}
 use Rattle.lus_running.specs.Gifts.{PlaysInto}
 use Rattle.lus_running.proofs.Apart.{front_mapped, front_taken}

@@ -2,7 +2,7 @@ use Rattle.std.proofs.Common.{◌≡◌, ◌∙◌, ◌++◌, arith, sym, ap, le
 use Rattle.std.proofs.lemmas.List.{length-map}
 use Rattle.lus_classes.specs.States.{state}
 use Rattle.lus_classes.specs.Steps.{cells_after, flags_after}
-use Rattle.lus_following.specs.Followed.{cell_of}
+use Rattle.lus_instructions.specs.Followed.{cell_of}
 use Rattle.lus_flat_classes.specs.Looks.{newest, short_memory}
 use Rattle.lus_running.specs.Instants.{calls_in}
 use Rattle.lus_running.proofs.Apart.{back_of, front_of, front_taken}

@@ -1,6 +1,6 @@
 use Rattle.std.proofs.Common.{◌≡◌, ◌++◌, map, take, drop}
 use Rattle.lus_values.specs.Values.{nil}
-use Rattle.lus_following.specs.Followed.{cell_of}
+use Rattle.lus_instructions.specs.Followed.{cell_of}
 use Rattle.lus_running.proofs.resetting.empty_all.Given as goal
 
 abbrev pub invariant-loop-place : goal.invariant-loop-place

@@ -1,7 +1,7 @@
 use Rattle.std.proofs.Common.{◌≡◌, ◌∙◌, sym, ap, map, length, true, arith}
 use Rattle.std.proofs.lemmas.List.{length-map, length-replicate, with_items_is}
 use Rattle.lus_values.specs.Values.{nil}
-use Rattle.lus_following.specs.Followed.{cell_of}
+use Rattle.lus_instructions.specs.Followed.{cell_of}
 use Rattle.lus_running.proofs.kept.Kept.over.Goals as goal
 
 pub copy_cells-requires : goal.copy_cells-requires

@@ -1,7 +1,7 @@
 use Rattle.std.proofs.Common.{◌≡◌, ◌∙◌, ap, map, length, true, arith}
 use Rattle.std.proofs.lemmas.List.{with_items_is}
 use Rattle.lus_values.specs.Values.{nil}
-use Rattle.lus_following.specs.Followed.{cell_of}
+use Rattle.lus_instructions.specs.Followed.{cell_of}
 use Rattle.lus_running.proofs.kept.Kept.reset.Goals as goal
 
 pub returns : goal.returns

@@ -2,7 +2,7 @@ use Rattle.std.proofs.Common.{arith, ◌≡◌, ◌∙◌, ◌≤◌, Bool, ℕ,
 use Rattle.std.proofs.lemmas.List.{with_items_is}
 use Rattle.std.specs.Global.{Global}
 use Rattle.std.specs.Vec.{with_items}
-use Rattle.lus_following.specs.Followed.{cell_of}
+use Rattle.lus_instructions.specs.Followed.{cell_of}
 use Rattle.lus_values.specs.Values.{Value, Row}
 use Rattle.lus_running.specs.Answering.{AnswersTo}
 use Rattle.lus_running.specs.declared.error.Failure.{Failure}

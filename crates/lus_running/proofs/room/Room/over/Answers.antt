@@ -2,7 +2,7 @@ use Rattle.std.proofs.Common.{◌≡◌, ◌∙◌, sym, ap, length, true, Resul
 use Rattle.std.proofs.lemmas.List.{length-map, length-replicate}
 use Rattle.std.specs.Prelude.{IfOk}
 use Rattle.lus_values.specs.Values.{nil}
-use Rattle.lus_following.specs.Followed.{cell_of}
+use Rattle.lus_instructions.specs.Followed.{cell_of}
 use Rattle.lus_running.proofs.room.Room.over.Goals as goal
 
 if_ok : {X E : Type 0} {P Q : X → Type 0} (u : Result X E) → ((x : X) → P x → Q x) → IfOk u P → IfOk u Q

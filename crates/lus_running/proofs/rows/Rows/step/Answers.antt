@@ -3,7 +3,7 @@ use Rattle.std.proofs.lemmas.List.{length-map}
 use Rattle.lus_classes.specs.Steps.{step}
 use Rattle.lus_flat_classes.specs.Places.{state_in}
 use Rattle.lus_flat_classes.specs.View.{classes_of}
-use Rattle.lus_following.specs.Followed.{cell_of}
+use Rattle.lus_instructions.specs.Followed.{cell_of}
 use Rattle.lus_values.specs.Values.{Row}
 use Rattle.lus_values.specs.View.{entry_of}
 use Rattle.lus_running.specs.Answering.{Reaches}
