@@ -1,10 +1,10 @@
 pub mod Fields
-pub mod Following
-pub mod Growing
-pub mod Longer
 pub mod Given
-pub mod Putting
 pub mod Operands
 pub mod Tallying
-pub mod LocatedSteps
+pub mod Putting
+pub mod Following
 pub mod Going
+pub mod Growing
+pub mod Longer
+pub mod LocatedSteps

@@ -1,9 +1,9 @@
-pub mod Executed
-pub mod Played
-pub mod Seeing
-pub mod Locations
 pub mod Words
 pub mod Applied
-pub mod Followed
+pub mod Seeing
+pub mod Executed
+pub mod Played
+pub mod Locations
 pub mod Placed
+pub mod Followed
 pub mod Tallied
