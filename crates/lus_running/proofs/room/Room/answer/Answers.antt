@@ -25,9 +25,8 @@ pub answer_in_row-requires-clause-fits : goal.answer_in_row-requires-clause-fits
 answer_in_row-requires-clause-fits g c =
     let s = c.args.on.now in
     let fits = c.requires.fits in
-    let row = ap length c.deref_mut-in-Some-2.ensures.value in
     let whole = is_whole s c.in-Some.whole c.in-Some.is c.requires.class in
-    let room : length s.class.now.tests.items ≤ length c.deref_mut-in-Some-2.result.now = omega (arith, row, c.in_ok-grow-in-Some.ensures, whole.own, whole.within) in
+    let room : length s.class.now.tests.items ≤ length c.in_ok-row-in-Some.row.now = omega (arith, c.in_ok-row-in-Some.ensures, whole.own, whole.within) in
     fits_whole s c.in-Some.whole c.in-Some.is c.requires.class _ _ c.args.self.now.variables.items _
     (record {
       cells = fits.cells;
@@ -40,8 +39,7 @@ answer_in_row-requires-clause-fits g c =
 
 pub answer_in_row-requires-clause-room : goal.answer_in_row-requires-clause-room
 answer_in_row-requires-clause-room g c =
-    let row = ap length c.deref_mut-in-Some-2.ensures.value in
-    omega (arith, row, c.in_ok-grow-in-Some.ensures)
+    c.in_ok-row-in-Some.ensures
 
 pub answer_in_row-requires-clause-whole : goal.answer_in_row-requires-clause-whole
 answer_in_row-requires-clause-whole g c = whole_on c.args.on.now c.in-Some.whole c.in-Some.is c.requires.class
@@ -69,11 +67,11 @@ answer_by_parts-requires g c =
       present = c.requires.present;
     }
 
-pub returns-in_err-grow-in-Some-clause-fits : goal.returns-in_err-grow-in-Some-clause-fits
-returns-in_err-grow-in-Some-clause-fits g c = c.requires.fits
+pub returns-in_err-row-in-Some-clause-fits : goal.returns-in_err-row-in-Some-clause-fits
+returns-in_err-row-in-Some-clause-fits g c = c.requires.fits
 
-pub returns-in_ok-grow-in-Some : goal.returns-in_ok-grow-in-Some
-returns-in_ok-grow-in-Some g c =
+pub returns-in_ok-row-in-Some : goal.returns-in_ok-row-in-Some
+returns-in_ok-row-in-Some g c =
     let next = c.args.self.now.next in
     let fits = c.requires.fits in
     let us = c.answer_in_row.new.next_cells in
