@@ -48,5 +48,6 @@ returns g c =
     let r = map entry c.place.new.variables in
     let narrow : length i ≡ k.inputs = length-map c.args.inputs.now entry_of ∙ c.requires.inputs in
     let room : k.inputs ≤ length before = rw (length-map c.args.variables.now entry) (omega (arith, own, c.requires.fits.variables, c.requires.outputs)) in
-    reaches_part s.classes.now s.depth k c.args.outputs vs s.firsts.now i before r narrow room c.in_ok-place.ensures c.outputs_in.result (map entry c.run_parts.new.variables) _ _ c.requires.outputs
+    reaches_part s.classes.now s.depth k c.args.outputs vs s.firsts.now i before r narrow room c.in_ok-place.ensures c.outputs_in.result
+    (map entry c.run_parts.new.variables) _ _ c.requires.outputs
     c.in_ok-run_parts.ensures c.outputs_in.ensures

@@ -32,5 +32,6 @@ returns g c =
     let r = map entry c.place.new.variables in
     let narrow : length i ≡ k.inputs = length-map c.args.inputs.now entry_of ∙ c.requires.inputs in
     let room : k.inputs ≤ length before = rw (length-map c.args.row.now entry) (omega (arith, c.requires.fits.inputs, c.requires.fits.variables)) in
-    reaches_part s.classes.now s.depth k c.args.outputs vs s.firsts.now i before r narrow room c.in_ok-place.ensures c.outputs_in.result (map entry c.run_in_row.new.row) _ _ c.requires.outputs
+    reaches_part s.classes.now s.depth k c.args.outputs vs s.firsts.now i before r narrow room c.in_ok-place.ensures c.outputs_in.result
+    (map entry c.run_in_row.new.row) _ _ c.requires.outputs
     (c.in_ok-run_in_row.ensures s.classes.now s.depth c.requires.whole.is c.requires.whole.within) c.outputs_in.ensures

@@ -18,7 +18,8 @@ pub part-requires : goal.part-requires
 part-requires g c = within _ _ _ _ _ _ (c.len.ensures ∙ c.args.on.now.class.now.cells.ok.0) c.requires.call.part.cells c.requires.fits.cells
 
 pub part-requires-2 : goal.part-requires-2
-part-requires-2 g c = within _ _ _ _ _ _ (c.len-2.ensures ∙ c.args.on.now.class.now.firsts.ok.0) c.requires.call.part.firsts c.requires.fits.firsts
+part-requires-2 g c = within _ _ _ _ _ _ (c.len-2.ensures ∙ c.args.on.now.class.now.firsts.ok.0) c.requires.call.part.firsts
+    c.requires.fits.firsts
 
 pub returns : goal.returns
 returns g c =

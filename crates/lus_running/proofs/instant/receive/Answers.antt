@@ -31,7 +31,8 @@ returns-then-is_absent g c =
     let r = map g.T.Held.entry c.args.row.now in
     let found = item None (map g.T.Held.entry c.args.answer.now) c.args.target.place in
     let on : is_on_row (clock_in (short_of c.args.class.now) x) r ≡ true = sym c.is_present.ensures ∙ c.if-not-is_present.false in
-    let missing : found ≡ None = sym c.in_ok-held.ensures ∙ none (g.T.Held.entry c.in_ok-held.held) (sym c.is_absent.ensures ∙ c.if-is_absent.true) in
+    let missing : found ≡ None = sym c.in_ok-held.ensures
+    ∙ none (g.T.Held.entry c.in_ok-held.held) (sym c.is_absent.ensures ∙ c.if-is_absent.true) in
     (λ i. option_map (slice_set r x) (guarded (on i) (missing i)))
 
 pub returns : goal.returns

@@ -12,7 +12,8 @@ loop-target-preserved g c =
     let entry = g.T.Held.entry in
     let own = map entry (take c.len.result c.args.answer.now) in
     rw add-one
-    (received_next (short_of c.args.on.now.class.now) own c.args.targets.now c.loop-target.target-index _ (map entry c.loop-target.row) (map entry c.receive.new.row) _ c.loop-target-test.true
+    (received_next (short_of c.args.on.now.class.now) own c.args.targets.now c.loop-target.target-index _ (map entry c.loop-target.row)
+    (map entry c.receive.new.row) _ c.loop-target-test.true
     c.in_ok-receive.ensures c.loop-target.invariant)
 
 pub returns-in_err-receive : goal.returns-in_err-receive
@@ -22,16 +23,20 @@ returns-in_err-receive g c =
     let own = take c.len.result c.args.answer.now in
     let e = c.in_err-receive.field-0.0 in
     let same : c.from_residual.result ≡ Err e = search rules in
-    subst (λ (a : Row). ReceivesAll c.args.on.now.class.now a c.args.targets.now (map entry c.args.row.now) c.from_residual.result (map entry c.receive.new.row))
+    subst (λ (a : Row). ReceivesAll c.args.on.now.class.now a c.args.targets.now (map entry c.args.row.now) c.from_residual.result
+    (map entry c.receive.new.row))
     (front_taken entry (length k.tests.items) c.len.result c.args.answer.now own refl (c.len.ensures ∙ k.tests.ok.0))
     (comes_of c.from_residual.result e _ _ _ _ same c.in_err-receive.ensures
-    (received_fails (short_of c.args.on.now.class.now) (map entry own) c.args.targets.now c.loop-target.target-index _ (map entry c.loop-target.row) _ c.loop-target-test.true c.loop-target.invariant))
+    (received_fails (short_of c.args.on.now.class.now) (map entry own) c.args.targets.now c.loop-target.target-index _
+    (map entry c.loop-target.row) _ c.loop-target-test.true c.loop-target.invariant))
 
 pub returns : goal.returns
 returns g c =
     let entry = g.T.Held.entry in
     let k = c.args.called.now in
     let own = take c.len.result c.args.answer.now in
-    let given = received_whole (short_of c.args.on.now.class.now) (map entry own) c.args.targets.now c.loop-target.target-index (map entry c.loop-target.row) _ c.loop-target-test.false c.loop-target.invariant in
-    subst (λ (a : Row). ReceivesAll c.args.on.now.class.now a c.args.targets.now (map entry c.args.row.now) (Ok tt) (map entry c.loop-target.row))
+    let given = received_whole (short_of c.args.on.now.class.now) (map entry own) c.args.targets.now c.loop-target.target-index
+    (map entry c.loop-target.row) _ c.loop-target-test.false c.loop-target.invariant in
+    subst (λ (a : Row). ReceivesAll c.args.on.now.class.now a c.args.targets.now (map entry c.args.row.now) (Ok tt)
+    (map entry c.loop-target.row))
     (front_taken entry (length k.tests.items) c.len.result c.args.answer.now own refl (c.len.ensures ∙ k.tests.ok.0)) given

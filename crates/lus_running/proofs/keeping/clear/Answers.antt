@@ -31,4 +31,5 @@ returns g c =
     let r = map g.T.Held.entry c.args.row.now in
     let ts = c.args.firsts.now in
     c.loop-place.invariant
-    ∙ all_over (λ l. flags_after l bs r) (map newest ts) c.args.after.now c.loop-place.place (length ts) c.loop-place.auto.place-end c.loop-place-test.false (length-map ts newest)
+    ∙ all_over (λ l. flags_after l bs r) (map newest ts) c.args.after.now c.loop-place.place (length ts) c.loop-place.auto.place-end
+    c.loop-place-test.false (length-map ts newest)

@@ -31,4 +31,5 @@ returns g c =
     let r = map g.T.Held.entry c.args.row.now in
     let qs = c.args.arguments.now in
     c.loop-place.invariant
-    ∙ all_over (λ l. passed l r) (map short_argument qs) (map g.T.Held.entry c.args.called.now) c.loop-place.place (length qs) c.loop-place.auto.place-end c.loop-place-test.false (length-map qs short_argument)
+    ∙ all_over (λ l. passed l r) (map short_argument qs) (map g.T.Held.entry c.args.called.now) c.loop-place.place (length qs)
+    c.loop-place.auto.place-end c.loop-place-test.false (length-map qs short_argument)

@@ -47,7 +47,8 @@ returns g c =
     let many = flags_long fs bs t c.requires.own.firsts in
     let F = ap (take m) set ∙ front_of m (flags_after (map newest fs) bs t) (drop m cs) many ∙ flags_front fs bs t in
     let Q = ap (drop m) set ∙ back_of m (flags_after (map newest fs) bs t) (drop m cs) many in
-    comes_to c.keep.result _ _ _ c.keep.ensures (λ (keeps : KeepsCells c.deref-2.result.now vs (map entry c.split_at.result.0.now) ws (map held c.keep.new.after)).
+    comes_to c.keep.result _ _ _ c.keep.ensures
+    (λ (keeps : KeepsCells c.deref-2.result.now vs (map entry c.split_at.result.0.now) ws (map held c.keep.new.after)).
     let kept : map held c.keep.new.after ≡ cells_after (map short_memory ms) vs t ++ drop n ws =
     keeps ∙ (λ i. cells_after (map short_memory (c.deref-2.ensures.value i)) vs (row i) ++ drop (length (c.deref-2.ensures.value i)) ws) in
     let C = ap (take n) kept ∙ front_of n (cells_after (map short_memory ms) vs t) (drop n ws) long ∙ cells_front ms vs t in

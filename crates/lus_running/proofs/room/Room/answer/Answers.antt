@@ -26,7 +26,8 @@ answer_in_row-requires-clause-fits g c =
     let s = c.args.on.now in
     let next = c.args.self.now.next in
     let whole = is_whole s c.in-Some.whole c.in-Some.is c.requires.class in
-    let room : length s.class.now.tests.items ≤ length c.in_ok-row-in-Some.row.now = omega (arith, c.in_ok-row-in-Some.ensures, whole.own, whole.within) in
+    let room : length s.class.now.tests.items ≤ length c.in_ok-row-in-Some.row.now =
+    omega (arith, c.in_ok-row-in-Some.ensures, whole.own, whole.within) in
     fits_whole s c.in-Some.whole c.in-Some.is c.requires.class _ _ c.args.self.now.variables.items _
     (fits_again s next.cells.items _ next.firsts.items _ c.args.self.now.variables.items c.args.self.now.variables.items c.requires.fits
     (ap length c.deref_mut.ensures.value) (ap length c.deref_mut-in-Some.ensures.value) refl)
@@ -50,7 +51,8 @@ answer_by_parts-requires g c =
     record {
       class = c.requires.class;
       fits = fits_again c.args.on.now room.next.cells.items _ room.next.firsts.items _ room.variables.items _ c.requires.fits
-          (ap length c.deref_mut-in-None.ensures.value) (ap length c.deref_mut-in-None-2.ensures.value) (ap length c.deref_mut-in-None-3.ensures.value);
+          (ap length c.deref_mut-in-None.ensures.value) (ap length c.deref_mut-in-None-2.ensures.value)
+          (ap length c.deref_mut-in-None-3.ensures.value);
       inputs = c.requires.inputs;
       outputs = c.requires.outputs;
       present = c.requires.present;

@@ -29,5 +29,9 @@ returns-else-is_long g c =
     let o = c.args.self.now in
     λ n. (
       λ yes. absurd (true≢false (sym yes ∙ c.if-is_long.false)),
-      λ long. c.is_long.ensures.1 (record { cells = sym (length-map o.kept.cells.items (cell_of g.T.Held.entry)) ∙ long.cells; firsts = long.firsts }),
+      λ long. c.is_long.ensures.1 (record {
+        cells = sym (length-map o.kept.cells.items (cell_of g.T.Held.entry))
+            ∙ long.cells;
+        firsts = long.firsts;
+      }),
     )
