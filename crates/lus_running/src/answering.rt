@@ -1,9 +1,10 @@
 //! What an instant of a class answers.
 
-ghost use Rattle.std.specs.Prelude.{◌≡◌, ◌+◌, ◌≤◌, length, map};
+ghost use Rattle.std.specs.Prelude.{◌≡◌, ◌+◌, ◌≤◌, drop, length, map, take};
 ghost use Rattle.lus_values.specs.View.{entry_of};
 ghost use Rattle.lus_instructions.specs.Followed.{cell_of};
 ghost use Rattle.lus_running.specs.Answering.{AnswersTo};
+ghost use Rattle.lus_running.specs.Comes.{Faultless};
 ghost use Rattle.lus_running.specs.OnClocks.{PresentOnClock};
 ghost use Rattle.lus_running.specs.Settings.{CanRunOn, FitsClass, FitsWhole, IsWholeOn};
 
@@ -14,6 +15,14 @@ use crate::wholes::run_in_row;
 use lus_flat_classes::Whole;
 use lus_instructions::Held;
 use lus_values::{Row, Value};
+
+/// So many outputs, which stand behind the inputs of a class.
+fn outputs_in<T: Held>(on: &Setting<'_, T>, row: &[T], outputs: usize) -> Result<Row, Failure>
+    requires { on.now.class.now.inputs + outputs ≤ length row.now }
+    ensures { Faultless result (λ found. found ≡ take outputs (drop on.now.class.now.inputs (map T.entry row.now))) }
+{
+    Ok(part_of(on.alloc, row, on.class.inputs as usize, outputs)?)
+}
 
 /// So many outputs, which stand behind the inputs, of one instant by the whole of a class, in a row that has room for all its places.
 pub fn answer_in_row<T: Held>(
@@ -35,7 +44,7 @@ pub fn answer_in_row<T: Held>(
 {
     place(on.alloc, inputs, row)?;
     run_in_row(on, whole, next_cells, next_firsts, row)?;
-    Ok(part_of(on.alloc, row, on.class.inputs as usize, outputs)?)
+    outputs_in(on, row, outputs)
 }
 
 /// So many outputs, which stand behind the inputs, of one instant by the parts of a class.
@@ -58,5 +67,5 @@ pub fn answer_by_parts<T: Held>(
 {
     place(on.alloc, inputs, variables)?;
     run_parts(on, next_cells, next_firsts, variables, temporaries)?;
-    Ok(part_of(on.alloc, variables, on.class.inputs as usize, outputs)?)
+    outputs_in(on, variables, outputs)
 }

@@ -1,14 +1,12 @@
 //! The calls of nodes, and what they need and give.
 
-ghost use Rattle.std.specs.Prelude.{◌≤◌, length, map, take};
+ghost use Rattle.std.specs.Prelude.{map};
 ghost use Rattle.lus_instructions.specs.Followed.{cell_of};
 ghost use Rattle.lus_running.specs.Calls.{CanMeet, IsCallAt, IsCalled, MakesCallAt};
-ghost use Rattle.lus_running.specs.Gifts.{ReceivesAll};
 ghost use Rattle.lus_running.specs.Runs.{RestsTo};
 ghost use Rattle.lus_running.specs.Settings.{FitsClass, HasCells};
 
 use crate::error::Failure;
-use crate::instant::receive_all;
 use crate::keeping::{copy_cells, copy_flags};
 use crate::parts::part;
 use crate::resetting::forget;
@@ -42,22 +40,6 @@ pub fn called<'a, T: Held>(on: &Setting<'a, T>, call: &Call) -> (&'a Class, &'a 
     )
 }
 
-/// Gives variables what those of a called node hold, which stand first in its part.
-pub fn receive_from<T: Held>(
-    on: &Setting<'_, T>,
-    called: &Class,
-    answer: &[T],
-    row: &mut [T],
-    targets: &[Target],
-) -> Result<(), Failure>
-    requires { length called.now.tests.items ≤ length answer.now }
-    ensures { ReceivesAll on.now.class.now (take (length called.now.tests.items) (map T.entry answer.now)) targets.now
-        (map T.entry row.old) result (map T.entry row.new) }
-{
-    let (own, _nested) = answer.split_at(called.tests.len());
-    receive_all(on.alloc, on.class, own, row, targets)
-}
-
 /// A called node that does not run: its variables have no entries, and it keeps what it kept.
 pub fn rest<T: Held>(
     on: &Setting<'_, T>,
@@ -68,7 +50,8 @@ pub fn rest<T: Held>(
     requires { FitsClass on.now next_cells.old next_firsts.old variables.old }
     ensures { RestsTo T.entry on.now result (map T.entry variables.new) (map (cell_of T.entry) next_cells.new) next_firsts.new }
 {
-    forget(variables, 0);
+    let count = variables.len();
+    forget(variables, 0, count);
     copy_cells(on.alloc, on.cells, next_cells)?;
     copy_flags(on.firsts, next_firsts);
     Ok(())

@@ -1,11 +1,12 @@
 //! How variables are given what called nodes answer.
 
-ghost use Rattle.std.specs.Prelude.{◌≡◌, map, slice_set};
+ghost use Rattle.std.specs.Prelude.{◌≡◌, ◌≤◌, length, map, slice_set, take};
 ghost use Rattle.lus_running.specs.Gifts.{ReceivesAll, ReceivesOne};
 
 use crate::entries::held_at;
 use crate::error::Failure;
 use crate::presence::is_present;
+use crate::setting::Setting;
 use lus_flat_classes::{Class, Target};
 use lus_instructions::Held;
 use lus_instructions::words::Word;
@@ -44,18 +45,21 @@ pub fn receive<T: Held>(
     Ok(())
 }
 
-/// Gives variables what those of a called node hold, one after another.
+/// Gives variables what those of a called node hold, which stand first in its part, one after another.
 pub fn receive_all<T: Held>(
-    alloc: Global,
-    class: &Class,
+    on: &Setting<'_, T>,
+    called: &Class,
     answer: &[T],
     row: &mut [T],
     targets: &[Target],
 ) -> Result<(), Failure>
-    ensures { ReceivesAll class.now (map T.entry answer.now) targets.now (map T.entry row.old) result (map T.entry row.new) }
+    requires { length called.now.tests.items ≤ length answer.now }
+    ensures { ReceivesAll on.now.class.now (take (length called.now.tests.items) (map T.entry answer.now)) targets.now
+        (map T.entry row.old) result (map T.entry row.new) }
 {
+    let own = &answer[..called.tests.len()];
     for target in targets {
-        receive(alloc, class, answer, row, *target)?;
+        receive(on.alloc, on.class, own, row, *target)?;
     }
     Ok(())
 }

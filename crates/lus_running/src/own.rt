@@ -1,29 +1,17 @@
 //! What is a node's own, in front of the parts of its calls.
 
-ghost use Rattle.std.specs.Prelude.{◌≡◌, ◌≤◌, length, map, take};
+ghost use Rattle.std.specs.Prelude.{◌≤◌, length, map, take};
 ghost use Rattle.lus_instructions.specs.Followed.{cell_of};
 ghost use Rattle.lus_running.specs.Gifts.{PlaysInto};
-ghost use Rattle.lus_running.specs.Instants.{behind_own, forgotten};
+ghost use Rattle.lus_running.specs.Instants.{behind_own};
 ghost use Rattle.lus_running.specs.Runs.{KeepsOwn};
 ghost use Rattle.lus_running.specs.Settings.{HasOwn};
 
 use crate::error::Failure;
 use crate::following::follow;
 use crate::keeping::{clear, keep};
-use crate::resetting::forget;
 use crate::setting::Setting;
-use lus_flat_classes::Class;
 use lus_instructions::{Held, Instruction};
-
-/// Empties a node's own variables but the inputs, which stand first.
-pub fn begin_own<T: Held>(class: &Class, variables: &mut [T])
-    requires { length class.now.tests.items ≤ length variables.old }
-    ensures { let w = length class.now.tests.items in
-        take w (map T.entry variables.new) ≡ forgotten class.now.inputs (take w (map T.entry variables.old)) }
-{
-    let (row, _called) = variables.split_at_mut(class.tests.len());
-    forget(row, class.inputs as usize);
-}
 
 /// Makes the steps that instructions make, whose temporaries end at a place. Behind an error the row has no meaning.
 pub fn follow_own<T: Held>(
@@ -60,7 +48,6 @@ pub fn keep_own<T: Held>(
         (map (cell_of T.entry) next_cells.new) next_firsts.new }
 {
     let (row, _called) = variables.split_at(on.class.tests.len());
-    keep(on.alloc, &on.class.cells, on.cells, row, next_cells)?;
     clear(&on.class.firsts, on.firsts, row, next_firsts);
-    Ok(())
+    keep(on.alloc, &on.class.cells, on.cells, row, next_cells)
 }

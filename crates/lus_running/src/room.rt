@@ -10,7 +10,7 @@ ghost use Rattle.lus_running.specs.Settings.{CanRunOn};
 
 use crate::answering::{answer_by_parts, answer_in_row};
 use crate::error::Failure;
-use crate::following::grow;
+use crate::following::room_for;
 use crate::kept::Kept;
 use crate::resetting::filled;
 use crate::setting::Setting;
@@ -82,7 +82,7 @@ impl<T: Held> Room<T> {
     {
         match &on.class.whole {
             Some(whole) => {
-                grow(&mut self.temporaries, whole.top as usize)?;
+                let row = room_for(&mut self.temporaries, whole.top as usize)?;
                 answer_in_row(
                     on,
                     whole,
@@ -90,7 +90,7 @@ impl<T: Held> Room<T> {
                     outputs,
                     &mut self.next.cells,
                     &mut self.next.firsts,
-                    &mut self.temporaries,
+                    row,
                 )
             }
             None => answer_by_parts(

@@ -3,7 +3,7 @@ use Rattle.std.proofs.lemmas.List.{length-map}
 use Rattle.lus_values.specs.View.{entry_of}
 use Rattle.lus_instructions.specs.Followed.{cell_of}
 use Rattle.lus_running.specs.OnClocks.{PresentOnClock}
-use Rattle.lus_running.proofs.Telling.{inputs_placed, reaches_err, reaches_ok}
+use Rattle.lus_running.proofs.Telling.{inputs_placed, reaches_err, reaches_part}
 use Rattle.lus_running.proofs.answering.answer_by_parts.Goals as goal
 
 pub run_parts-requires-clause-present : goal.run_parts-requires-clause-present
@@ -48,5 +48,6 @@ returns g c =
     let r = map entry c.place.new.variables in
     let narrow : length i ≡ k.inputs = length-map c.args.inputs.now entry_of ∙ c.requires.inputs in
     let room : k.inputs ≤ length before = rw (length-map c.args.variables.now entry) (omega (arith, own, c.requires.fits.variables, c.requires.outputs)) in
-    reaches_ok s.classes.now s.depth k c.args.outputs vs s.firsts.now i before r narrow room c.in_ok-place.ensures c.in_ok-part_of.field-0 (map entry c.run_parts.new.variables) _ _ c.requires.outputs
-    c.in_ok-run_parts.ensures c.in_ok-part_of.ensures
+    reaches_part s.classes.now s.depth k c.args.outputs vs s.firsts.now i before r narrow room c.in_ok-place.ensures c.outputs_in.result
+    (map entry c.run_parts.new.variables) _ _ c.requires.outputs
+    c.in_ok-run_parts.ensures c.outputs_in.ensures

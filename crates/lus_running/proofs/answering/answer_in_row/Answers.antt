@@ -2,7 +2,7 @@ use Rattle.std.proofs.Common.{rules, arith, ◌≡◌, ◌∙◌, ◌≤◌, len
 use Rattle.std.proofs.lemmas.List.{length-map}
 use Rattle.lus_values.specs.View.{entry_of}
 use Rattle.lus_instructions.specs.Followed.{cell_of}
-use Rattle.lus_running.proofs.Telling.{reaches_err, reaches_ok}
+use Rattle.lus_running.proofs.Telling.{reaches_err, reaches_part}
 use Rattle.lus_running.proofs.answering.answer_in_row.Goals as goal
 
 pub returns-in_err-run_in_row : goal.returns-in_err-run_in_row
@@ -32,5 +32,6 @@ returns g c =
     let r = map entry c.place.new.variables in
     let narrow : length i ≡ k.inputs = length-map c.args.inputs.now entry_of ∙ c.requires.inputs in
     let room : k.inputs ≤ length before = rw (length-map c.args.row.now entry) (omega (arith, c.requires.fits.inputs, c.requires.fits.variables)) in
-    reaches_ok s.classes.now s.depth k c.args.outputs vs s.firsts.now i before r narrow room c.in_ok-place.ensures c.in_ok-part_of.field-0 (map entry c.run_in_row.new.row) _ _ c.requires.outputs
-    (c.in_ok-run_in_row.ensures s.classes.now s.depth c.requires.whole.is c.requires.whole.within) c.in_ok-part_of.ensures
+    reaches_part s.classes.now s.depth k c.args.outputs vs s.firsts.now i before r narrow room c.in_ok-place.ensures c.outputs_in.result
+    (map entry c.run_in_row.new.row) _ _ c.requires.outputs
+    (c.in_ok-run_in_row.ensures s.classes.now s.depth c.requires.whole.is c.requires.whole.within) c.outputs_in.ensures

@@ -1,9 +1,25 @@
-use Rattle.std.proofs.Common.{◌≡◌, ◌∙◌, ◌+◌, Some, sym, ap, subst, slice_get, refl, length}
+use Rattle.std.proofs.Common.{arith, ℕ, ◌≤◌, ◌≡◌, ◌∙◌, ◌+◌, Some, sym, ap, subst, slice_get, refl, length}
 use Rattle.std.proofs.lemmas.Option.{same_Some, slice_get_read, slice_get_within}
 use Rattle.lus_flat_classes.specs.Places.{part}
 use Rattle.lus_flat_classes.specs.declared.class.Class.{Class}
 use Rattle.lus_running.specs.Calls.{IsCalled}
 use Rattle.lus_running.proofs.calling.called.Goals as goal
+
+-- a part within the parts of a class
+within : (a b o l e m : ℕ) → a ≡ b → b + (o + l) ≤ e → m ≡ e → a + o + l ≤ m
+within a b o l e m same le long = omega arith
+
+pub bounds-on-call : goal.bounds-on-call
+bounds-on-call g c =
+    let p = c.requires.call.part in
+    slice_get_within c.args.on.now.classes.now c.args.call.now.node p.called p.found
+
+pub part-requires : goal.part-requires
+part-requires g c = within _ _ _ _ _ _ (c.len.ensures ∙ c.args.on.now.class.now.cells.ok.0) c.requires.call.part.cells c.requires.fits.cells
+
+pub part-requires-2 : goal.part-requires-2
+part-requires-2 g c = within _ _ _ _ _ _ (c.len-2.ensures ∙ c.args.on.now.class.now.firsts.ok.0) c.requires.call.part.firsts
+    c.requires.fits.firsts
 
 pub returns : goal.returns
 returns g c =

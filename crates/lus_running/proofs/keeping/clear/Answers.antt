@@ -4,6 +4,7 @@ use Rattle.lus_classes.specs.Steps.{flags_after}
 use Rattle.lus_flat_classes.specs.Looks.{newest}
 use Rattle.lus_running.specs.Kept.{flag_after}
 use Rattle.lus_running.proofs.KeptPlaces.{next_flag}
+use Rattle.lus_running.proofs.TakenOver.{all_over}
 use Rattle.lus_running.proofs.keeping.clear.Goals as goal
 
 pub loop-place-preserved : goal.loop-place-preserved
@@ -23,3 +24,12 @@ loop-place-preserved g c =
     (ap (λ l. slice_set l i c.is_first.result) c.loop-place.invariant
     ∙ ap (slice_set (flags_after (take i ks) bs r ++ drop i ns) i) here
     ∙ next_flag ks bs ns r i (newest k) b lk (omega (arith, c.requires.before)) (omega (arith, c.requires.after)) ek refl)
+
+pub returns : goal.returns
+returns g c =
+    let bs = c.args.before.now in
+    let r = map g.T.Held.entry c.args.row.now in
+    let ts = c.args.firsts.now in
+    c.loop-place.invariant
+    ∙ all_over (λ l. flags_after l bs r) (map newest ts) c.args.after.now c.loop-place.place (length ts) c.loop-place.auto.place-end
+    c.loop-place-test.false (length-map ts newest)

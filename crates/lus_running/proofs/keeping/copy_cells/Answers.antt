@@ -1,7 +1,7 @@
-use Rattle.std.proofs.Common.{◌≡◌, ◌∙◌, sym, ap, map, ◌<◌, ◌++◌, take, drop, length, slice_set, slice_index_or, add-one, arith}
+use Rattle.std.proofs.Common.{◌≡◌, ◌∙◌, sym, ap, map, ◌<◌, ◌≤◌, ◌++◌, take, drop, length, slice_set, slice_index_or, add-one, arith}
 use Rattle.std.proofs.lemmas.List.{map-set, length-map, get_or-map}
 use Rattle.lus_instructions.specs.Followed.{cell_of}
-use Rattle.lus_running.proofs.TakenOver.{next_same}
+use Rattle.lus_running.proofs.TakenOver.{next_same, none_behind}
 use Rattle.lus_running.proofs.Cells.{cell_same}
 use Rattle.lus_running.proofs.keeping.copy_cells.Goals as goal
 
@@ -23,3 +23,12 @@ loop-place-preserved g c =
     ∙ ap (λ l. slice_set l i (copied u)) c.loop-place.invariant
     ∙ ap (slice_set (take i vs ++ drop i ns) i) (cell_same g.U.Held.entry g.T.Held.entry u v (c.in_ok-cell_copy.ensures ∙ c.see.ensures))
     ∙ next_same vs ns i (held v) lv ln ev)
+
+pub returns : goal.returns
+returns g c =
+    let vs = map (cell_of g.T.Held.entry) c.args.cells.now in
+    let ns = map (cell_of g.U.Held.entry) c.args.copies.now in
+    let i = c.loop-place.place in
+    let past : length vs ≤ i = rw (length-map c.args.cells.now (cell_of g.T.Held.entry)) c.loop-place-test.false in
+    let long : length ns ≤ i = rw (length-map c.args.copies.now (cell_of g.U.Held.entry), sym c.requires) c.loop-place-test.false in
+    c.loop-place.invariant ∙ none_behind (λ l. l) vs ns i past long

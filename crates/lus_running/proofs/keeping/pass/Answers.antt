@@ -4,6 +4,7 @@ use Rattle.lus_classes.specs.Steps.{passed}
 use Rattle.lus_flat_classes.specs.Looks.{short_argument}
 use Rattle.lus_running.specs.Kept.{argument_after}
 use Rattle.lus_running.proofs.KeptPlaces.{next_argument}
+use Rattle.lus_running.proofs.TakenOver.{all_over}
 use Rattle.lus_running.proofs.keeping.pass.Goals as goal
 
 pub loop-place-preserved : goal.loop-place-preserved
@@ -24,3 +25,11 @@ loop-place-preserved g c =
     ∙ ap (λ l. slice_set l i (g.T.Held.entry u)) c.loop-place.invariant
     ∙ ap (slice_set (passed (take i qs) r ++ drop i ns) i) here
     ∙ next_argument qs ns r i (short_argument a) lq ln e)
+
+pub returns : goal.returns
+returns g c =
+    let r = map g.T.Held.entry c.args.row.now in
+    let qs = c.args.arguments.now in
+    c.loop-place.invariant
+    ∙ all_over (λ l. passed l r) (map short_argument qs) (map g.T.Held.entry c.args.called.now) c.loop-place.place (length qs)
+    c.loop-place.auto.place-end c.loop-place-test.false (length-map qs short_argument)

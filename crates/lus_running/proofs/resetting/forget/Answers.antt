@@ -1,7 +1,7 @@
-use Rattle.std.proofs.Common.{◌∙◌, ◌<◌, ◌≤◌, sym, ap, map, length, slice_set, None, add-one}
+use Rattle.std.proofs.Common.{arith, ◌∙◌, ◌<◌, ◌≤◌, sym, ap, map, take, length, slice_set, None, add-one}
 use Rattle.std.proofs.lemmas.List.{map-set, length-map}
 use Rattle.lus_running.specs.Instants.{forgotten}
-use Rattle.lus_running.proofs.Placing.{forgotten_length, forgotten_item, none_forgotten, all_taken}
+use Rattle.lus_running.proofs.Placing.{forgotten_front, forgotten_length, forgotten_item, none_forgotten}
 use Rattle.lus_running.proofs.TakenOver.{next_same}
 use Rattle.lus_running.proofs.resetting.forget.Goals as goal
 
@@ -13,7 +13,7 @@ loop-variable-preserved g c =
     let i = c.loop-variable.variable in
     let r = map g.T.Held.entry c.args.row.now in
     let f = forgotten c.args.from r in
-    let lr : i < length r = rw (length-map c.args.row.now g.T.Held.entry) c.loop-variable-test.true in
+    let lr : i < length r = rw (length-map c.args.row.now g.T.Held.entry) (omega (arith, c.loop-variable-test.true, c.requires)) in
     let lf : i < length f = rw (forgotten_length c.args.from r) lr in
     let le : c.args.from ≤ i = c.loop-variable.auto.variable in
     rw add-one
@@ -26,8 +26,5 @@ pub returns : goal.returns
 returns g c =
     let i = c.loop-variable.variable in
     let r = map g.T.Held.entry c.args.row.now in
-    let f = forgotten c.args.from r in
-    let past : length c.args.row.now ≤ i = c.loop-variable-test.false in
-    let lr : length r ≤ i = rw (length-map c.args.row.now g.T.Held.entry) past in
-    let lf : length f ≤ i = rw (forgotten_length c.args.from r) lr in
-    c.loop-variable.invariant ∙ all_taken i f r lf lr
+    let within : c.args.end ≤ length r = rw (length-map c.args.row.now g.T.Held.entry) c.requires in
+    ap (take c.args.end) c.loop-variable.invariant ∙ forgotten_front c.args.from c.args.end i r c.loop-variable-test.false within

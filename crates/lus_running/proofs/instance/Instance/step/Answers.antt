@@ -1,5 +1,5 @@
 use Rattle.std.proofs.Common.{rules, ◌≡◌, ◌∙◌, suc, sym, subst, Ok, Err}
-use Rattle.std.proofs.lemmas.Option.{same_Some}
+use Rattle.std.proofs.lemmas.Option.{same_Some, slice_get_within}
 use Rattle.lus_classes.specs.Classes.{Class as PlainClass}
 use Rattle.lus_classes.specs.States.{WithinDepth}
 use Rattle.lus_classes.specs.Steps.{step}
@@ -67,3 +67,9 @@ returns-clause-shaped c =
     let k = c.index-classes-self.result in
     let found = class_here c.args.classes.now (seen c.args.self.now) k c.requires.shaped c.index-classes-self.is in
     record { class = k; found = found; long = c.step.ensures.long }
+
+pub bounds-classes-self : goal.bounds-classes-self
+bounds-classes-self c = slice_get_within c.args.classes.now c.args.self.now.node c.requires.shaped.class c.requires.shaped.found
+
+pub returns-clause-behind : goal.returns-clause-behind
+returns-clause-behind c = c.in_ok-answer.ensures.behind

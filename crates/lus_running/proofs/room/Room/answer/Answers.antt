@@ -1,4 +1,4 @@
-use Rattle.std.proofs.Common.{arith, ◌≡◌, ◌∙◌, ◌≤◌, Bool, ℕ, List, Option, Result, Vec, sym, ap, subst, map, length}
+use Rattle.std.proofs.Common.{arith, ◌≡◌, ◌∙◌, ◌≤◌, Bool, ℕ, List, Option, Result, Vec, refl, sym, ap, subst, map, length}
 use Rattle.std.proofs.lemmas.List.{with_items_is}
 use Rattle.std.specs.Global.{Global}
 use Rattle.std.specs.Vec.{with_items}
@@ -7,7 +7,7 @@ use Rattle.lus_values.specs.Values.{Value, Row}
 use Rattle.lus_running.specs.Answering.{AnswersTo}
 use Rattle.lus_running.specs.declared.error.Failure.{Failure}
 use Rattle.lus_running.specs.declared.setting.Setting.{Setting}
-use Rattle.lus_running.proofs.HavingWhole.{fits_whole, is_whole, whole_on}
+use Rattle.lus_running.proofs.HavingWhole.{fits_again, fits_whole, is_whole, whole_on}
 use Rattle.lus_running.proofs.room.Room.answer.Goals as goal
 
 -- the same where what is kept next is stored
@@ -18,30 +18,23 @@ stored {H} entry s i count u v w us cs cells firsts h =
     (subst (λ (l : List Bool). AnswersTo entry s i count u (map (cell_of entry) us) l) (sym (with_items_is w cs firsts)) h)
 
 -- what is stored is as long as it was
-long : {X : Type 0} (v : Vec X Global) (us : List X) (n : ℕ) → length us ≡ v.len → length v.items ≡ n → length (with_items v us).items ≡ n
-long v us n same e = ap length (with_items_is v us same) ∙ same ∙ v.ok.0 ∙ e
+long : {X : Type 0} (v : Vec X Global) (us : List X) → length us ≡ v.len → length (with_items v us).items ≡ length v.items
+long v us same = ap length (with_items_is v us same) ∙ same ∙ v.ok.0
 
 pub answer_in_row-requires-clause-fits : goal.answer_in_row-requires-clause-fits
 answer_in_row-requires-clause-fits g c =
     let s = c.args.on.now in
-    let fits = c.requires.fits in
-    let row = ap length c.deref_mut-in-Some-2.ensures.value in
+    let next = c.args.self.now.next in
     let whole = is_whole s c.in-Some.whole c.in-Some.is c.requires.class in
-    let room : length s.class.now.tests.items ≤ length c.deref_mut-in-Some-2.result.now = omega (arith, row, c.in_ok-grow-in-Some.ensures, whole.own, whole.within) in
+    let room : length s.class.now.tests.items ≤ length c.in_ok-row-in-Some.row.now =
+    omega (arith, c.in_ok-row-in-Some.ensures, whole.own, whole.within) in
     fits_whole s c.in-Some.whole c.in-Some.is c.requires.class _ _ c.args.self.now.variables.items _
-    (record {
-      cells = fits.cells;
-      firsts = fits.firsts;
-      next_cells = ap length c.deref_mut.ensures.value ∙ fits.next_cells;
-      next_firsts = ap length c.deref_mut-in-Some.ensures.value ∙ fits.next_firsts;
-      variables = fits.variables;
-    })
+    (fits_again s next.cells.items _ next.firsts.items _ c.args.self.now.variables.items c.args.self.now.variables.items c.requires.fits
+    (ap length c.deref_mut.ensures.value) (ap length c.deref_mut-in-Some.ensures.value) refl)
     room
 
 pub answer_in_row-requires-clause-room : goal.answer_in_row-requires-clause-room
-answer_in_row-requires-clause-room g c =
-    let row = ap length c.deref_mut-in-Some-2.ensures.value in
-    omega (arith, row, c.in_ok-grow-in-Some.ensures)
+answer_in_row-requires-clause-room g c = c.in_ok-row-in-Some.ensures
 
 pub answer_in_row-requires-clause-whole : goal.answer_in_row-requires-clause-whole
 answer_in_row-requires-clause-whole g c = whole_on c.args.on.now c.in-Some.whole c.in-Some.is c.requires.class
@@ -54,40 +47,30 @@ answer_in_row-requires-clause-outputs g c = c.requires.outputs
 
 pub answer_by_parts-requires : goal.answer_by_parts-requires
 answer_by_parts-requires g c =
-    let fits = c.requires.fits in
+    let room = c.args.self.now in
     record {
       class = c.requires.class;
-      fits = record {
-        cells = fits.cells;
-        firsts = fits.firsts;
-        next_cells = ap length c.deref_mut-in-None.ensures.value ∙ fits.next_cells;
-        next_firsts = ap length c.deref_mut-in-None-2.ensures.value ∙ fits.next_firsts;
-        variables = ap length c.deref_mut-in-None-3.ensures.value ∙ fits.variables;
-      };
+      fits = fits_again c.args.on.now room.next.cells.items _ room.next.firsts.items _ room.variables.items _ c.requires.fits
+          (ap length c.deref_mut-in-None.ensures.value) (ap length c.deref_mut-in-None-2.ensures.value)
+          (ap length c.deref_mut-in-None-3.ensures.value);
       inputs = c.requires.inputs;
       outputs = c.requires.outputs;
       present = c.requires.present;
     }
 
-pub returns-in_err-grow-in-Some-clause-fits : goal.returns-in_err-grow-in-Some-clause-fits
-returns-in_err-grow-in-Some-clause-fits g c = c.requires.fits
+pub returns-in_err-row-in-Some-clause-fits : goal.returns-in_err-row-in-Some-clause-fits
+returns-in_err-row-in-Some-clause-fits g c = c.requires.fits
 
-pub returns-in_ok-grow-in-Some : goal.returns-in_ok-grow-in-Some
-returns-in_ok-grow-in-Some g c =
+pub returns-in_ok-row-in-Some : goal.returns-in_ok-row-in-Some
+returns-in_ok-row-in-Some g c =
     let next = c.args.self.now.next in
-    let fits = c.requires.fits in
     let us = c.answer_in_row.new.next_cells in
     let cs = c.answer_in_row.new.next_firsts in
     let cells : length us ≡ next.cells.len = c.answer_in_row.auto.next_cells ∙ ap length c.deref_mut.ensures.value ∙ sym next.cells.ok.0 in
     let firsts : length cs ≡ next.firsts.len = c.answer_in_row.auto.next_firsts ∙ ap length c.deref_mut-in-Some.ensures.value ∙ sym next.firsts.ok.0 in
     record {
-      fits = record {
-        cells = fits.cells;
-        firsts = fits.firsts;
-        next_cells = long next.cells us _ cells fits.next_cells;
-        next_firsts = long next.firsts cs _ firsts fits.next_firsts;
-        variables = fits.variables;
-      };
+      fits = fits_again c.args.on.now next.cells.items _ next.firsts.items _ c.args.self.now.variables.items c.args.self.now.variables.items
+          c.requires.fits (long next.cells us cells) (long next.firsts cs firsts) refl;
       answers = stored g.T.Held.entry c.args.on.now _ c.args.outputs c.answer_in_row.result next.cells next.firsts us cs cells firsts c.answer_in_row.ensures;
     }
 
@@ -95,7 +78,6 @@ pub returns-in-None : goal.returns-in-None
 returns-in-None g c =
     let room = c.args.self.now in
     let next = room.next in
-    let fits = c.requires.fits in
     let us = c.answer_by_parts.new.next_cells in
     let cs = c.answer_by_parts.new.next_firsts in
     let vs = c.answer_by_parts.new.variables in
@@ -103,12 +85,7 @@ returns-in-None g c =
     let firsts : length cs ≡ next.firsts.len = c.answer_by_parts.auto.next_firsts ∙ ap length c.deref_mut-in-None-2.ensures.value ∙ sym next.firsts.ok.0 in
     let variables : length vs ≡ room.variables.len = c.answer_by_parts.auto.variables ∙ ap length c.deref_mut-in-None-3.ensures.value ∙ sym room.variables.ok.0 in
     record {
-      fits = record {
-        cells = fits.cells;
-        firsts = fits.firsts;
-        next_cells = long next.cells us _ cells fits.next_cells;
-        next_firsts = long next.firsts cs _ firsts fits.next_firsts;
-        variables = long room.variables vs _ variables fits.variables;
-      };
+      fits = fits_again c.args.on.now next.cells.items _ next.firsts.items _ room.variables.items _ c.requires.fits
+          (long next.cells us cells) (long next.firsts cs firsts) (long room.variables vs variables);
       answers = stored g.T.Held.entry c.args.on.now _ c.args.outputs c.answer_by_parts.result next.cells next.firsts us cs cells firsts c.answer_by_parts.ensures;
     }
