@@ -25,9 +25,10 @@ use Rattle.lus_source.specs.declared.entries.Placed.{Placed}
 use Rattle.lus_source.specs.Scopes.{Scope, Signature, entry}
 use Rattle.lus_source.specs.Heads.{heads, head, head_of, of_kind, kind_by, kinds_by}
 use Rattle.lus_source.specs.Labels.{branch_places, each_once, fields_asked, fields_of, size_of, test_placed}
-use Rattle.lus_source.specs.Meaning.{arranged, in_order, are_arguments, branches_meant, list_operation, structure_of, call_meant, merge_meant, structure_meant, variadic_meant, where_found, test_meant, meant, all_meant}
+use Rattle.lus_source.specs.Meaning.{arranged, in_order, are_arguments, list_operation, call_meant, merge_meant, structure_meant, variadic_meant, where_found, test_meant, meant, all_meant}
 use Rattle.lus_elaboration.specs.Wholes.{callee, Fits}
-use Rattle.lus_elaboration.proofs.Typed.{arranged_untyped, sized_branches, sized_fields}
+use Rattle.lus_elaboration.proofs.FormsMeant.{where_holds, call_holds, merge_holds, structure_holds}
+use Rattle.lus_elaboration.proofs.Typed.{ordered_untyped}
 
 pub all_meant_is : (s : Scope) (ps : List Part) (es : List Expr) → map expression_of es ≡ map (λ p. meant s (expression_seen p.value)) ps → operands_of es ≡ all_meant s (parts_of (map part_seen ps))
 all_meant_is s [] [] e = refl
@@ -97,41 +98,25 @@ sampled_kind s t a k typed = placed (test_placed s t) refl
 
 -- forms with parts that have no type
 
-found_untyped : {X : Type 0} (s : Scope) (r : Option X) (means : X → Expression) → ((x : X) → kind_by s (means x) ≡ None) → kind_by s (where_found r means) ≡ None
-found_untyped s None means over = refl
-found_untyped s (Some x) means over = over x
+module _ (s : Scope) where
+  abbrev Untyped : Expression → Type 0
+  Untyped e = kind_by s e ≡ None
 
-chosen_untyped : (s : Scope) (b : Bool) (e : Expression) → kind_by s e ≡ None → kind_by s (cond b e (literal nil)) ≡ None
-chosen_untyped s true e over = over
-chosen_untyped s false e over = refl
+  pub call_untyped : (f : Text) (ps : Parts) (es : Operands) → kinds_by s es ≡ None → Untyped (call_meant s f ps es)
+  call_untyped f ps es e = call_holds s Untyped refl f ps es (λ g is. rw e refl)
 
-pub call_untyped : (s : Scope) (f : Text) (ps : Parts) (es : Operands) → kinds_by s es ≡ None → kind_by s (call_meant s f ps es) ≡ None
-call_untyped s f ps es e =
-    found_untyped s (entry s.nodes f) (λ g. cond (are_arguments ps) (call g.place 0 es) (literal nil)) (λ g. chosen_untyped s (are_arguments ps) (call g.place 0 es) (rw e refl))
+  pub variadic_untyped : (op : ListOperator) (ps : Parts) (es : Operands) → kinds_by s es ≡ None → Untyped (variadic_meant op ps es)
+  variadic_untyped op ps es e = where_holds s Untyped refl (are_arguments ps) (operate (operators.Compute (list_operation op)) es) (rw e refl)
 
-pub variadic_untyped : (s : Scope) (op : ListOperator) (ps : Parts) (es : Operands) → kinds_by s es ≡ None → kind_by s (variadic_meant op ps es) ≡ None
-variadic_untyped s op ps es e = chosen_untyped s (are_arguments ps) (operate (operators.Compute (list_operation op)) es) (rw e refl)
+  pub merge_untyped : (c : Text) (bs : Parts) → kinds_by s (all_meant s bs) ≡ None → Untyped (merge_meant s c bs (all_meant s bs))
+  merge_untyped c bs e = merge_holds s Untyped refl c bs (λ x n ns long once. rw (ordered_untyped s n ns (all_meant s bs) long once e) refl)
 
-pub merge_untyped : (s : Scope) (c : Text) (bs : Parts) → kinds_by s (all_meant s bs) ≡ None → kind_by s (merge_meant s c bs (all_meant s bs)) ≡ None
-merge_untyped s c bs e =
-    found_untyped s (entry s.variables c) (λ x. where_found (branches_meant s x.kind bs (all_meant s bs)) (merge x.place)) (λ x.
-    arranged_untyped s (merge x.place) (λ es f. rw f refl) (size_of s x.kind) (all_meant s bs) (branch_places s x.kind bs) (sized_branches s x.kind bs) e)
+  pub structure_untyped : (t : Text) (fs : Parts) → kinds_by s (all_meant s fs) ≡ None → Untyped (structure_meant s t fs (all_meant s fs))
+  structure_untyped t fs e = structure_holds s Untyped refl t fs (λ u n ns long once. rw (ordered_untyped s n ns (all_meant s fs) long once e) refl)
 
 fields_arranged : (n : ℕ) (es : Operands) (r : Option (List Placed)) → option_and_then (λ xs. arranged n es (map (λ x. x.place) xs)) r ≡ option_and_then (arranged n es) (option_map (map (λ x. x.place)) r)
 fields_arranged n es None = refl
 fields_arranged n es (Some xs) = refl
-
-pub structure_untyped : (s : Scope) (t : Text) (fs : Parts) → kinds_by s (all_meant s fs) ≡ None → kind_by s (structure_meant s t fs (all_meant s fs)) ≡ None
-structure_untyped s t fs e = found_untyped s (entry s.types t) (λ k. structure_of s k fs (all_meant s fs)) of_one
-  where
-    of_one : (k : Kind) → kind_by s (structure_of s k fs (all_meant s fs)) ≡ None
-    of_one kinds.Bool = refl
-    of_one kinds.Int = refl
-    of_one (kinds.Enum u) = refl
-    of_one (kinds.Struct u) =
-        let fields = fields_of s (kinds.Struct u) in
-        rw (fields_arranged (length fields) (all_meant s fs) (fields_asked s (kinds.Struct u) fs))
-        (arranged_untyped s (operate (operators.Structure u)) (λ es f. rw f refl) (length fields) (all_meant s fs) (option_map (map (λ x. x.place)) (fields_asked s (kinds.Struct u) fs)) (sized_fields s (kinds.Struct u) fs) e)
 
 pub call_given : (s : Scope) (f : Text) (ps : Parts) (es : Operands)
     → kinds_given_in (heads s) (head s) (call_meant s f ps es) ≡ option_and_then (λ n. option_and_then (results (heads s) n) (kinds_by s es)) (callee s f ps)
