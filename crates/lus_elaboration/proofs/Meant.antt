@@ -1,5 +1,5 @@
 -- What forms mean, and which types they have.
-use Rattle.std.proofs.Common.{◌≡◌, ◌∙◌, ap, sym, refl, ℕ, List, [], ◌∷◌, ◌++◌, length, map, take, drop, Some, None, Option, Bool, true, false, cond, arith}
+use Rattle.std.proofs.Common.{◌≡◌, ◌∙◌, ap, sym, subst, refl, ℕ, List, [], ◌∷◌, ◌++◌, length, map, take, drop, Some, None, Option, Bool, true, false, cond, arith}
 use Rattle.std.specs.Prelude.{option_map, slice_get}
 use Rattle.std.specs.Option.{option_and_then}
 use Rattle.std.proofs.lemmas.Option.{slice_get_past, slice_get-map}
@@ -20,13 +20,14 @@ use Rattle.lus_values.specs.Values.{nil}
 use Rattle.lus_program.specs.Programs.{Expression, Operands, more, literal, operate, call, merge, when}
 use Rattle.lus_program.specs.View.{expression_of, field_of, operands_of}
 use Rattle.lus_typing.specs.Kinds.{all_same, where_true}
+use Rattle.lus_typing.proofs.Options.{and_then_gives, map_gives}
 use Rattle.lus_typing.specs.Resolved.{kinds_given_in, results, field_kinds, kind_of_variable, test_fits, call_results, input_kinds, output_kinds}
 use Rattle.lus_source.specs.declared.entries.Placed.{Placed}
 use Rattle.lus_source.specs.Scopes.{Scope, Signature, entry}
 use Rattle.lus_source.specs.Heads.{heads, head, head_of, of_kind, kind_by, kinds_by}
 use Rattle.lus_source.specs.Labels.{branch_places, each_once, fields_asked, fields_of, size_of, test_placed}
 use Rattle.lus_source.specs.Meaning.{arranged, in_order, are_arguments, list_operation, call_meant, merge_meant, structure_meant, variadic_meant, where_found, test_meant, meant, all_meant}
-use Rattle.lus_elaboration.specs.Wholes.{callee, Fits}
+use Rattle.lus_elaboration.specs.Wholes.{called, callee, Fits}
 use Rattle.lus_elaboration.proofs.FormsMeant.{where_holds, call_holds, merge_holds, structure_holds}
 use Rattle.lus_elaboration.proofs.Typed.{ordered_untyped}
 
@@ -118,37 +119,37 @@ fields_arranged : (n : ℕ) (es : Operands) (r : Option (List Placed)) → optio
 fields_arranged n es None = refl
 fields_arranged n es (Some xs) = refl
 
-pub call_given : (s : Scope) (f : Text) (ps : Parts) (es : Operands)
-    → kinds_given_in (heads s) (head s) (call_meant s f ps es) ≡ option_and_then (λ n. option_and_then (results (heads s) n) (kinds_by s es)) (callee s f ps)
-call_given s f ps es = called (entry s.nodes f)
-  where
-    called : (r : Option Signature) → kinds_given_in (heads s) (head s) (where_found r (λ g. cond (are_arguments ps) (call g.place 0 es) (literal nil))) ≡ option_and_then (λ n. option_and_then (results (heads s) n) (kinds_by s es)) (option_and_then (λ g. where_true (are_arguments ps) (Some g.place)) r)
-    called None = refl
-    called (Some g) = chosen (are_arguments ps)
-      where
-        chosen : (b : Bool) → kinds_given_in (heads s) (head s) (cond b (call g.place 0 es) (literal nil)) ≡ option_and_then (λ n. option_and_then (results (heads s) n) (kinds_by s es)) (where_true b (Some g.place))
-        chosen true = refl
-        chosen false = refl
+-- calls
 
-none_given : (s : Scope) (es : Operands) (n : Option ℕ) → kinds_by s es ≡ None → option_and_then (λ n. option_and_then (results (heads s) n) (kinds_by s es)) n ≡ None
-none_given s es None e = refl
-none_given s es (Some n) e = rw e refl
+module _ (s : Scope) (f : Text) (ps : Parts) (es : Operands) where
+  given_or : (o : Option Signature) (b : Bool) → kinds_given_in (heads s) (head s) (where_found o (λ g. cond b (call g.place 0 es) (literal nil)))
+      ≡ option_and_then (λ n. option_and_then (results (heads s) n) (kinds_by s es)) (option_and_then (λ g. where_true b (Some g.place)) o)
+  given_or None b = refl
+  given_or (Some g) true = refl
+  given_or (Some g) false = refl
 
-pub call_misfits : (s : Scope) (xs : List ℕ) (f : Text) (ps : Parts) (es : Operands) → kinds_by s es ≡ None → Fits s xs (call_meant s f ps es) → ⊥
-call_misfits s xs f ps es e fits = let none = call_given s f ps es ∙ none_given s es (callee s f ps) e in let lost = rw none at fits in cc
+  none_given : (n : Option ℕ) → kinds_by s es ≡ None → option_and_then (λ n. option_and_then (results (heads s) n) (kinds_by s es)) n ≡ None
+  none_given None e = refl
+  none_given (Some n) e = rw e refl
+
+  pub call_misfits : (xs : List ℕ) → kinds_by s es ≡ None → Fits s xs (call_meant s f ps es) → ⊥
+  call_misfits xs e fits = let lost = rw (given_or (entry s.nodes f) (are_arguments ps) ∙ none_given (callee s f ps) e) at fits in cc
+
+  call_or : (o : Option Signature) (b : Bool) (n : ℕ) → option_and_then (λ g. where_true b (Some g.place)) o ≡ Some n → where_found o (λ g. cond b (call g.place 0 es) (literal nil)) ≡ call n 0 es
+  call_or None b n e = cc
+  call_or (Some g) false n e = cc
+  call_or (Some g) true n e = let same : g.place ≡ n = cc in rw same refl
+
+  -- a call of a node that is found is that call
+  pub call_found : (ks : List Kind) (n : ℕ) (ls : List Kind) → called s f ps ks ≡ Some (n, ls) → (call_meant s f ps es ≡ call n 0 es) × (results (heads s) n ks ≡ Some ls)
+  call_found ks n ls e =
+      let one = and_then_gives (λ (m : ℕ). option_map (λ (l : List Kind). (m, l)) (results (heads s) m ks)) (callee s f ps) (n, ls) e in
+      let two = map_gives (λ (l : List Kind). (one.0, l)) (results (heads s) one.0 ks) (n, ls) one.2 in
+      let same : one.0 ≡ n = ap (λ x. x.0) two.2 in
+      let gives : two.0 ≡ ls = ap (λ x. x.1) two.2 in
+      (call_or (entry s.nodes f) (are_arguments ps) n (one.1 ∙ ap Some same), subst (λ m. results (heads s) m ks ≡ Some two.0) same two.1 ∙ ap Some gives)
 
 -- forms with parts that have types
-
-pub call_is : (s : Scope) (f : Text) (ps : Parts) (es : Operands) (n : ℕ) → Some n ≡ callee s f ps → call_meant s f ps es ≡ call n 0 es
-call_is s f ps es n e = called (entry s.nodes f) (sym e)
-  where
-    called : (r : Option Signature) → option_and_then (λ g. where_true (are_arguments ps) (Some g.place)) r ≡ Some n → where_found r (λ g. cond (are_arguments ps) (call g.place 0 es) (literal nil)) ≡ call n 0 es
-    called None e = cc
-    called (Some g) e = chosen (are_arguments ps) e
-      where
-        chosen : (b : Bool) → where_true b (Some g.place) ≡ Some n → cond b (call g.place 0 es) (literal nil) ≡ call n 0 es
-        chosen true e = let same : g.place ≡ n = cc in rw same refl
-        chosen false e = cc
 
 pub merge_is : (s : Scope) (c : Text) (bs : Parts) (es : Operands) (x : Placed) (ns : List ℕ) → entry s.variables c ≡ Some x → branch_places s x.kind bs ≡ Some ns → true ≡ each_once (size_of s x.kind) ns
     → merge_meant s c bs es ≡ merge x.place (in_order (size_of s x.kind) ns es)

@@ -1,11 +1,11 @@
 //! Branches and fields in the order in which their type declares them.
 
 ghost use Rattle.std.specs.Prelude.{◌≡◌, IfOk, IfSome, length, is_some};
-ghost use Rattle.lus_program.specs.View.{operands_of};
+ghost use Rattle.lus_program.specs.Programs.{Operands as Meanings};
 ghost use Rattle.lus_source.specs.Scopes.{Scope};
 ghost use Rattle.lus_source.specs.Labels.{each_once, index_of as index};
 ghost use Rattle.lus_source.specs.Meaning.{in_order};
-ghost use Rattle.lus_elaboration.specs.Wholes.{AreTyped};
+ghost use Rattle.lus_elaboration.specs.Wholes.{AllMean};
 
 use crate::operands::Operands;
 use std::alloc::{AllocError, Global};
@@ -32,10 +32,12 @@ pub fn arranged(
     requires exprs { length operands.exprs.items ≡ length places.items }
     requires kinds { length operands.kinds.items ≡ length places.items }
     ensures once { IfOk result (λ r. is_some r ≡ each_once count places.items) }
-    ensures order { IfOk result (λ r. IfSome r (λ x. operands_of x.exprs.items
-        ≡ in_order count places.items (operands_of operands.exprs.items))) }
-    ensures typed { IfOk result (λ r. IfSome r (λ x. (s : Scope) → AreTyped s operands → AreTyped s x)) }
+    ensures arranged { IfOk result (λ r. IfSome r (λ x. (s : Scope) (es : Meanings) → AllMean s operands es
+        → AllMean s x (in_order count places.items es))) }
 {
+    if places.len() != count {
+        return Ok(None);
+    }
     let mut arranged = Operands::with_capacity(alloc, places.len())?;
     for place in 0..count {
         let Some(index) = index_of(&places, place) else {

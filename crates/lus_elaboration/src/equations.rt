@@ -3,18 +3,19 @@
 ghost use Rattle.std.specs.Prelude.{◌≡◌, IfOk, Some, MatchResult, map};
 ghost use Rattle.std.specs.Bool.{Decides};
 ghost use Rattle.lus_syntax.specs.View.{expression_seen, equation_seen, name_seen, names_seen};
-ghost use Rattle.lus_program.specs.View.{expression_of, operands_of};
+ghost use Rattle.lus_program.specs.Programs.{Operands as Meanings};
+ghost use Rattle.lus_program.specs.View.{expression_of};
 ghost use Rattle.lus_typing.specs.Resolved.{kind_of_variable};
 ghost use Rattle.lus_source.specs.Heads.{head, heads};
 ghost use Rattle.lus_source.specs.Meaning.{call_meant, meant, targets_meant, variable_place};
 ghost use Rattle.lus_source.specs.ScopeView.{Judged, scope_of};
-ghost use Rattle.lus_elaboration.specs.Wholes.{AreTyped, EquationTyped, GivesTo, Take, parts_seen};
+ghost use Rattle.lus_elaboration.specs.Wholes.{AllMean, EquationTyped, GivesTo, Take, parts_seen};
 
 use crate::elaboration::{elaborate, elaborate_all};
 use crate::forms::{boxed, place_of};
-use crate::kinds::{results, same};
+use crate::kinds::same;
 use crate::operands::Operands;
-use crate::parts::callee;
+use crate::parts::called;
 use lus_program::{Equation, Expr, Form, Kind};
 use lus_source::{Fault, Scope};
 use lus_syntax::{Equation as SourceEquation, Expr as Source, Name, Part, Place};
@@ -88,14 +89,11 @@ fn whole_call(
     operands: Operands,
 ) -> Result<Box<Expr>, Fault>
     ensures { let s = scope_of scope.now in
-        let means = call_meant s (name_seen name.now).text (parts_seen arguments.now) (operands_of operands.exprs.items) in
-        AreTyped s operands → GivesTo s result targets.now means }
+        (es : Meanings) → AllMean s operands es
+        → GivesTo s result targets.now (call_meant s (name_seen name.now).text (parts_seen arguments.now) es) }
 {
     let (exprs, kinds) = operands.into_parts();
-    let Some(node) = callee(scope, name, arguments) else {
-        return Err(Fault::At(name.span.start));
-    };
-    let Some(outputs) = results(scope, node, &kinds) else {
+    let Some((node, outputs)) = called(scope, name, arguments, &kinds) else {
         return Err(Fault::At(name.span.start));
     };
     if take(scope, targets, outputs) {
