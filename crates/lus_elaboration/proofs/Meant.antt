@@ -1,9 +1,10 @@
 -- What forms mean, and which types they have.
-use Rattle.std.proofs.Common.{◌≡◌, ◌∙◌, ap, sym, subst, refl, ℕ, List, [], ◌∷◌, ◌++◌, length, map, take, drop, Some, None, Option, Bool, true, false, cond, arith}
+use Rattle.std.proofs.Common.{◌≡◌, ◌∙◌, ap, ap₂, sym, subst, refl, ℕ, List, [], ◌∷◌, ◌++◌, length, map, take, drop, Some, None, Option, Bool, true, false, cond, arith}
 use Rattle.std.specs.Prelude.{option_map, slice_get}
 use Rattle.std.specs.Option.{option_and_then}
 use Rattle.std.proofs.lemmas.Option.{slice_get_past, slice_get-map}
-use Rattle.std.proofs.lemmas.List.{length-map}
+use Rattle.std.proofs.Math.Seq.{take-append_seam, drop-append_seam}
+use Rattle.std.proofs.lemmas.List.{append-nil, drop-map, length-map, take-map}
 use Rattle.lus_syntax.specs.declared.tree.Part.{Part}
 use Rattle.lus_syntax.specs.Lexemes.{Text}
 use Rattle.lus_syntax.specs.View.{expression_seen, part_seen}
@@ -17,7 +18,7 @@ use Rattle.lus_program.specs.declared.types.Kind.TheVariants as kinds
 use Rattle.lus_syntax.specs.declared.tree.ListOperator.{ListOperator}
 use Rattle.lus_values.specs.declared.operator.Operator.TheVariants as operators
 use Rattle.lus_values.specs.Values.{nil}
-use Rattle.lus_program.specs.Programs.{Expression, Operands, more, literal, operate, call, merge, when}
+use Rattle.lus_program.specs.Programs.{Expression, Node, Operands, more, literal, operate, call, merge, when}
 use Rattle.lus_program.specs.View.{expression_of, field_of, operands_of}
 use Rattle.lus_typing.specs.Kinds.{all_same, where_true}
 use Rattle.lus_typing.proofs.Options.{and_then_gives, map_gives}
@@ -56,30 +57,31 @@ pub field_read : (s : Scope) (k : Kind) (fs : List StoredField) (n : ℕ) → ma
 field_read s k fs n seen =
     sym (ap (λ ks. slice_get ks n) (field_kinds_are s k ∙ ap (map (λ f. f.kind)) (sym seen)) ∙ slice_get-map (λ f. f.kind) (map field_of fs) n ∙ ap (option_map (λ f. f.kind)) (slice_get-map field_of fs n) ∙ kind_kept (slice_get fs n))
 
+-- the types of a node's inputs, outputs and locals
+pub record HasKinds (f : Node) (is os ls : List Kind) : Type 0 where
+  pub inputs : f.inputs ≡ length is
+  pub outputs : f.outputs ≡ length os
+  pub variables : map (λ v. v.kind) f.variables ≡ is ++ (os ++ ls)
+
+module _ {f : Node} {is os ls : List Kind} (has : HasKinds f is os ls) where
+  pub inputs_are : input_kinds f ≡ is
+  inputs_are = sym (take-map (λ v. v.kind) f.inputs f.variables) ∙ ap₂ take has.inputs has.variables ∙ take-append_seam is (os ++ ls)
+
+  pub outputs_are : output_kinds f ≡ os
+  outputs_are =
+      sym (take-map (λ v. v.kind) f.outputs (drop f.inputs f.variables))
+      ∙ ap₂ take has.outputs (sym (drop-map (λ v. v.kind) f.inputs f.variables) ∙ ap₂ drop has.inputs has.variables ∙ drop-append_seam is (os ++ ls))
+      ∙ take-append_seam os ls
+
 kinds_are : (ks : List Kind) → map (λ v. v.kind) (map of_kind ks) ≡ ks
 kinds_are [] = refl
 kinds_are (k ∷ ks) = ap (λ ls. k ∷ ls) (kinds_are ks)
 
-first_kinds : (ks ls : List Kind) → map (λ v. v.kind) (take (length ks) (map of_kind (ks ++ ls))) ≡ ks
-first_kinds [] ls = refl
-first_kinds (k ∷ ks) ls = ap (λ ms. k ∷ ms) (first_kinds ks ls)
-
-all_kinds : (ks : List Kind) → map (λ v. v.kind) (take (length ks) (map of_kind ks)) ≡ ks
-all_kinds [] = refl
-all_kinds (k ∷ ks) = ap (λ ms. k ∷ ms) (all_kinds ks)
-
-later_kinds : (ks ls : List Kind) → map (λ v. v.kind) (take (length ls) (drop (length ks) (map of_kind (ks ++ ls)))) ≡ ls
-later_kinds [] ls = all_kinds ls
-later_kinds (k ∷ ks) ls = later_kinds ks ls
-
-inputs_are : (g : Signature) → input_kinds (head_of g) ≡ g.inputs
-inputs_are g = first_kinds g.inputs g.outputs
-
-outputs_are : (g : Signature) → output_kinds (head_of g) ≡ g.outputs
-outputs_are g = later_kinds g.inputs g.outputs
+pub head_has : (g : Signature) → HasKinds (head_of g) g.inputs g.outputs []
+head_has g = record { inputs = refl; outputs = refl; variables = kinds_are (g.inputs ++ g.outputs) ∙ ap (λ ks. g.inputs ++ ks) (sym (append-nil g.outputs)) }
 
 pub call_gives : (s : Scope) (ks : List Kind) (g : Signature) → call_results (heads s) ks (head_of g) ≡ where_true (all_same g.inputs ks) (Some g.outputs)
-call_gives s ks g = rw (inputs_are g, outputs_are g) refl
+call_gives s ks g = rw (inputs_are (head_has g), outputs_are (head_has g)) refl
 
 -- tests
 

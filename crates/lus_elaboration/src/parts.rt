@@ -148,7 +148,7 @@ pub fn merge(
     };
     let places = branch_places(alloc, scope, clock.kind, branches)?;
     let size = scope.size_of(clock.kind);
-    let Some(operands) = arranged(alloc, size, places, operands)? else {
+    let Some(operands) = arranged(size, places, operands) else {
         return Err(Fault::At(place));
     };
     let (exprs, kinds) = operands.into_parts();
@@ -211,7 +211,7 @@ pub fn structure(
     };
     let places = field_places(alloc, scope, kind, fields)?;
     let size = scope.fields_of(kind).len();
-    let Some(operands) = arranged(alloc, size, places, operands)? else {
+    let Some(operands) = arranged(size, places, operands) else {
         return Err(Fault::At(place));
     };
     let (exprs, kinds) = operands.into_parts();

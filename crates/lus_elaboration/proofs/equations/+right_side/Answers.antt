@@ -18,7 +18,6 @@ returns-in_err-operands-in-Call t c =
 
 pub returns-in_ok-operands-in-Call : goal.returns-in_ok-operands-in-Call
 returns-in_ok-operands-in-Call t c =
-    let e : expression_seen c.args.source.now ≡ _ = ap expression_seen c.in-Call.is ∙ seen_call c.in-Call.name c.in-Call.arguments in
     let operands = rw c.deref-in-Call.ensures.value at c.in_ok-operands-in-Call.ensures.elaborated in
     let built = rw (c.deref-in-Call-2.ensures, c.deref-in-Call-3.ensures.value) at c.whole_call.ensures in
-    rw e (built _ operands)
+    rw (ap expression_seen c.in-Call.is ∙ seen_call c.in-Call.name c.in-Call.arguments) (built _ operands)

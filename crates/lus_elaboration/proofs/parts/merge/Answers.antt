@@ -11,7 +11,7 @@ pub returns-in_default-merged : goal.returns-in_default-merged
 returns-in_default-merged c = λ es means.
     let s = scope_of c.args.scope.now in
     let named : entry s.variables (name_seen c.args.variable.now).text ≡ Some c.in-Some.clock = search rules in
-    let out = rw (c.in-Some-2.is, c.size_of-size.ensures) at c.in_ok-operands.ensures in
+    let out = rw (c.size_of-size.ensures) at c.in-Some-arranged.ensures in
     let is = merge_is s (name_seen c.args.variable.now).text (parts_seen c.args.branches.now) es c.in-Some.clock c.in_ok-places.places.items named c.in_ok-places.ensures.places out.once in
     rw (is, (out.arranged s es means).0) (search rules)
 
@@ -19,7 +19,7 @@ pub returns : goal.returns
 returns c = λ es means.
     let s = scope_of c.args.scope.now in
     let named : entry s.variables (name_seen c.args.variable.now).text ≡ Some c.in-Some.clock = search rules in
-    let out = rw (c.in-Some-2.is, c.size_of-size.ensures) at c.in_ok-operands.ensures in
+    let out = rw (c.size_of-size.ensures) at c.in-Some-arranged.ensures in
     let is = merge_is s (name_seen c.args.variable.now).text (parts_seen c.args.branches.now) es c.in-Some.clock c.in_ok-places.places.items named c.in_ok-places.ensures.places out.once in
     let ordered = out.arranged s es means in
     rw is (rw ordered.0 (search rules), c.in_ok-expr.ensures ∙ seen_merge c.in-Some.clock.place c.into_parts-exprs.result.0 ∙ search rules)

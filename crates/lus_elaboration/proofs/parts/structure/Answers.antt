@@ -16,7 +16,7 @@ returns c = λ es means.
     let t = c.in-Struct.declaration in
     let sized : length c.fields_of-size.result.now ≡ length (fields_of s (kinds.Struct t)) = sym (length-map c.fields_of-size.result.now field_of) ∙ ap length c.fields_of-size.ensures.fields in
     let named : entry s.types (name_seen c.args.name.now).text ≡ Some (kinds.Struct t) = search rules in
-    let out = rw (c.in-Some-2.is, sized) at c.in_ok-operands.ensures in
+    let out = rw (sized) at c.in-Some-arranged.ensures in
     let is = structure_is s (name_seen c.args.name.now).text (parts_seen c.args.fields.now) es t c.in_ok-places.places.items named c.in_ok-places.ensures.places out.once in
     let ordered = out.arranged s es means in
     rw (is, ordered.0, ← ordered.1) (rw (c.deref-2.ensures.value, c.into_parts-exprs.ensures) at c.operated.ensures)
