@@ -1,5 +1,5 @@
 -- Operands put in the order of the numbers beside them, where each number below theirs stands once: what all count together stays.
-use Rattle.std.proofs.Common.{arith, ◌≡◌, refl, ℕ, zero, suc, ◌+◌, nat_eq, nat_le, Bool, true, false, cond, List, [], ◌∷◌, length}
+use Rattle.std.proofs.Common.{arith, ◌≡◌, ◌∙◌, refl, ℕ, zero, suc, ◌+◌, nat_eq, nat_le, Bool, true, false, cond, List, [], ◌∷◌, length}
 use Rattle.std.proofs.lemmas.Bool.{eqb-true}
 use Rattle.std.proofs.lemmas.Bool.Decides.{nat_tests}
 use Rattle.lus_values.proofs.Equalities.{and_left, and_right}
@@ -46,16 +46,19 @@ module _ (f : Expression → ℕ) where
   at_none c [] es once = refl
   at_none c (n ∷ ns) none once = refl
 
-  beside_or : (b : Bool) (e d : Expression) (m x : ℕ) → (m ≡ 0 → x ≡ 0) → (m ≡ 1 → x ≡ f d) → cond b (suc m) m ≡ 1 → cond b (f e) 0 + x ≡ f (cond b e d)
+  beside_or : (b : Bool) (e d : Expression) (m x : ℕ) → (m ≡ 0 → x ≡ 0) → (m ≡ 1 → x ≡ f d) → cond b (suc m) m ≡ 1
+      → cond b (f e) 0 + x ≡ f (cond b e d)
   beside_or true e d m x absent present once = omega (arith, absent (omega (arith, once)))
   beside_or false e d m x absent present once = omega (arith, present once)
 
   beside_one : (c : ℕ) (ns : List ℕ) (es : Operands) → operand_count es ≡ length ns → count c ns ≡ 1 → at c ns es ≡ f (beside c ns es)
   beside_one c [] es long once = absurd (omega (arith, once))
   beside_one c (n ∷ ns) none long once = absurd (omega (arith, long))
-  beside_one c (n ∷ ns) (more e es) long once = beside_or (nat_eq c n) e (beside c ns es) (count c ns) (at c ns es) (at_none c ns es) (beside_one c ns es (omega (arith, long))) once
+  beside_one c (n ∷ ns) (more e es) long once =
+      beside_or (nat_eq c n) e (beside c ns es) (count c ns) (at c ns es) (at_none c ns es) (beside_one c ns es (omega (arith, long))) once
 
-  counted : (c n : ℕ) (ns : List ℕ) (es : Operands) → operand_count es ≡ length ns → each_counted c n ns ≡ true → above c ns es ≡ total (in_order_from c n ns es) + above (c + n) ns es
+  counted : (c n : ℕ) (ns : List ℕ) (es : Operands) → operand_count es ≡ length ns → each_counted c n ns ≡ true
+      → above c ns es ≡ total (in_order_from c n ns es) + above (c + n) ns es
   counted c zero ns es long each = let same : c + 0 ≡ c = omega arith in rw same (omega arith)
   counted c (suc n) ns es long each =
       let one = eqb-true (count c ns) 1 (and_left (nat_eq (count c ns) 1) (each_counted (suc c) n ns) each) in
@@ -76,10 +79,13 @@ ordered_count : (c n : ℕ) (ns : List ℕ) (es : Operands) → operand_count (i
 ordered_count c zero ns es = refl
 ordered_count c (suc n) ns es = omega (arith, ordered_count (suc c) n ns es)
 
-pub total_ordered : (f : Expression → ℕ) (n : ℕ) (ns : List ℕ) (es : Operands) → operand_count es ≡ length ns → each_once n ns ≡ true → total f (in_order n ns es) ≡ total f es
+pub total_ordered : (f : Expression → ℕ) (n : ℕ) (ns : List ℕ) (es : Operands) → operand_count es ≡ length ns → each_once n ns ≡ true
+    → total f (in_order n ns es) ≡ total f es
 total_ordered f n ns es long once =
     let each = and_left (each_counted 0 n ns) (nat_eq (length ns) n) once in
     let size = eqb-true (length ns) n (and_right (each_counted 0 n ns) (nat_eq (length ns) n) once) in
     let counts = counted (λ e. 1) 0 n ns es long each in
-    let beyond : above (λ e. 1) (0 + n) ns es ≡ 0 = omega (arith, counts, above_all (λ e. 1) ns es long, total_one es, total_one (in_order n ns es), ordered_count 0 n ns es, long, size) in
+    let all = above_all (λ e. 1) ns es long in
+    let sizes : total (λ e. 1) (in_order n ns es) ≡ n = total_one (in_order n ns es) ∙ ordered_count 0 n ns es in
+    let beyond : above (λ e. 1) (0 + n) ns es ≡ 0 = omega (arith, counts, all, total_one es, sizes, long, size) in
     omega (arith, counted f 0 n ns es long each, above_all f ns es long, none_above f (0 + n) ns es beyond)

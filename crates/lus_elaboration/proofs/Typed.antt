@@ -16,7 +16,8 @@ use Rattle.lus_elaboration.proofs.Ordered.{operand_count, total, total_ordered}
 abbrev untyped : Scope → Expression → ℕ
 untyped s e = elim (kind_by s e) [ None ↦ 1 | Some k ↦ 0 ]
 
-kinds_where : (o : Option Kind) (r : Option (List Kind)) (n : ℕ) → nat_eq n 0 ≡ is_some r → nat_eq (elim o [ None ↦ 1 | Some k ↦ 0 ] + n) 0 ≡ is_some (option_and_then (λ k. option_map (λ ks. k ∷ ks) r) o)
+kinds_where : (o : Option Kind) (r : Option (List Kind)) (n : ℕ) → nat_eq n 0 ≡ is_some r
+    → nat_eq (elim o [ None ↦ 1 | Some k ↦ 0 ] + n) 0 ≡ is_some (option_and_then (λ k. option_map (λ ks. k ∷ ks) r) o)
 kinds_where None r n rest = grind (arith, nat_tests)
 kinds_where (Some k) None n rest = grind (arith, nat_tests)
 kinds_where (Some k) (Some ks) n rest = grind (arith, nat_tests)
@@ -30,6 +31,8 @@ is_none None e = refl
 is_none (Some x) e = cc
 
 -- operands of which one has no type
-pub ordered_untyped : (s : Scope) (n : ℕ) (ns : List ℕ) (es : Operands) → operand_count es ≡ length ns → each_once n ns ≡ true → kinds_by s es ≡ None → kinds_by s (in_order n ns es) ≡ None
+pub ordered_untyped : (s : Scope) (n : ℕ) (ns : List ℕ) (es : Operands) → operand_count es ≡ length ns → each_once n ns ≡ true
+    → kinds_by s es ≡ None → kinds_by s (in_order n ns es) ≡ None
 ordered_untyped s n ns es long once e =
-    is_none (kinds_by s (in_order n ns es)) (sym (all_typed s (in_order n ns es)) ∙ ap (λ t. nat_eq t 0) (total_ordered (untyped s) n ns es long once) ∙ all_typed s es ∙ ap is_some e)
+    let same = ap (λ t. nat_eq t 0) (total_ordered (untyped s) n ns es long once) in
+    is_none (kinds_by s (in_order n ns es)) (sym (all_typed s (in_order n ns es)) ∙ same ∙ all_typed s es ∙ ap is_some e)

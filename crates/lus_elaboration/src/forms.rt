@@ -147,7 +147,8 @@ pub fn sampled(
     source: &SourceTest,
 ) -> Result<Elaborated, Fault>
     ensures { let s = scope_of scope.now in
-        (a : Expression) → Means s operand a → IsElaborated s result (where_found (placed_test s (test_seen source.now)) (λ t. when_meant t a)) }
+        (a : Expression) → Means s operand a
+        → IsElaborated s result (where_found (placed_test s (test_seen source.now)) (λ t. when_meant t a)) }
 {
     let Elaborated { expr, kind } = operand;
     let Some(found) = test(scope, source) else {
