@@ -1,3 +1,5 @@
+pub mod Ordered
+pub mod FormsMeant
 pub mod Arranged
 pub mod Typed
 pub mod Meant

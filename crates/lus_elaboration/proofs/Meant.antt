@@ -1,9 +1,10 @@
 -- What forms mean, and which types they have.
-use Rattle.std.proofs.Common.{◌≡◌, ◌∙◌, ap, sym, refl, ℕ, List, [], ◌∷◌, ◌++◌, length, map, take, drop, Some, None, Option, Bool, true, false, cond, arith}
+use Rattle.std.proofs.Common.{◌≡◌, ◌∙◌, ap, ap₂, sym, subst, refl, ℕ, List, [], ◌∷◌, ◌++◌, length, map, take, drop, Some, None, Option, Bool, true, false, cond, arith}
 use Rattle.std.specs.Prelude.{option_map, slice_get}
 use Rattle.std.specs.Option.{option_and_then}
 use Rattle.std.proofs.lemmas.Option.{slice_get_past, slice_get-map}
-use Rattle.std.proofs.lemmas.List.{length-map}
+use Rattle.std.proofs.Math.Seq.{take-append_seam, drop-append_seam}
+use Rattle.std.proofs.lemmas.List.{append-nil, drop-map, length-map, take-map}
 use Rattle.lus_syntax.specs.declared.tree.Part.{Part}
 use Rattle.lus_syntax.specs.Lexemes.{Text}
 use Rattle.lus_syntax.specs.View.{expression_seen, part_seen}
@@ -17,17 +18,19 @@ use Rattle.lus_program.specs.declared.types.Kind.TheVariants as kinds
 use Rattle.lus_syntax.specs.declared.tree.ListOperator.{ListOperator}
 use Rattle.lus_values.specs.declared.operator.Operator.TheVariants as operators
 use Rattle.lus_values.specs.Values.{nil}
-use Rattle.lus_program.specs.Programs.{Expression, Operands, more, literal, operate, call, merge, when}
+use Rattle.lus_program.specs.Programs.{Expression, Node, Operands, more, literal, operate, call, merge, when}
 use Rattle.lus_program.specs.View.{expression_of, field_of, operands_of}
 use Rattle.lus_typing.specs.Kinds.{all_same, where_true}
+use Rattle.lus_typing.proofs.Options.{and_then_gives, map_gives}
 use Rattle.lus_typing.specs.Resolved.{kinds_given_in, results, field_kinds, kind_of_variable, test_fits, call_results, input_kinds, output_kinds}
 use Rattle.lus_source.specs.declared.entries.Placed.{Placed}
 use Rattle.lus_source.specs.Scopes.{Scope, Signature, entry}
 use Rattle.lus_source.specs.Heads.{heads, head, head_of, of_kind, kind_by, kinds_by}
 use Rattle.lus_source.specs.Labels.{branch_places, each_once, fields_asked, fields_of, size_of, test_placed}
-use Rattle.lus_source.specs.Meaning.{arranged, in_order, are_arguments, branches_meant, list_operation, structure_of, call_meant, merge_meant, structure_meant, variadic_meant, where_found, test_meant, meant, all_meant}
-use Rattle.lus_elaboration.specs.Wholes.{callee, Fits}
-use Rattle.lus_elaboration.proofs.Typed.{arranged_untyped, sized_branches, sized_fields}
+use Rattle.lus_source.specs.Meaning.{arranged, in_order, are_arguments, list_operation, call_meant, merge_meant, structure_meant, variadic_meant, where_found, test_meant, meant, all_meant}
+use Rattle.lus_elaboration.specs.Wholes.{called, callee, Fits}
+use Rattle.lus_elaboration.proofs.FormsMeant.{where_holds, call_holds, merge_holds, structure_holds}
+use Rattle.lus_elaboration.proofs.Typed.{ordered_untyped}
 
 pub all_meant_is : (s : Scope) (ps : List Part) (es : List Expr) → map expression_of es ≡ map (λ p. meant s (expression_seen p.value)) ps → operands_of es ≡ all_meant s (parts_of (map part_seen ps))
 all_meant_is s [] [] e = refl
@@ -54,30 +57,31 @@ pub field_read : (s : Scope) (k : Kind) (fs : List StoredField) (n : ℕ) → ma
 field_read s k fs n seen =
     sym (ap (λ ks. slice_get ks n) (field_kinds_are s k ∙ ap (map (λ f. f.kind)) (sym seen)) ∙ slice_get-map (λ f. f.kind) (map field_of fs) n ∙ ap (option_map (λ f. f.kind)) (slice_get-map field_of fs n) ∙ kind_kept (slice_get fs n))
 
+-- the types of a node's inputs, outputs and locals
+pub record HasKinds (f : Node) (is os ls : List Kind) : Type 0 where
+  pub inputs : f.inputs ≡ length is
+  pub outputs : f.outputs ≡ length os
+  pub variables : map (λ v. v.kind) f.variables ≡ is ++ (os ++ ls)
+
+module _ {f : Node} {is os ls : List Kind} (has : HasKinds f is os ls) where
+  pub inputs_are : input_kinds f ≡ is
+  inputs_are = sym (take-map (λ v. v.kind) f.inputs f.variables) ∙ ap₂ take has.inputs has.variables ∙ take-append_seam is (os ++ ls)
+
+  pub outputs_are : output_kinds f ≡ os
+  outputs_are =
+      sym (take-map (λ v. v.kind) f.outputs (drop f.inputs f.variables))
+      ∙ ap₂ take has.outputs (sym (drop-map (λ v. v.kind) f.inputs f.variables) ∙ ap₂ drop has.inputs has.variables ∙ drop-append_seam is (os ++ ls))
+      ∙ take-append_seam os ls
+
 kinds_are : (ks : List Kind) → map (λ v. v.kind) (map of_kind ks) ≡ ks
 kinds_are [] = refl
 kinds_are (k ∷ ks) = ap (λ ls. k ∷ ls) (kinds_are ks)
 
-first_kinds : (ks ls : List Kind) → map (λ v. v.kind) (take (length ks) (map of_kind (ks ++ ls))) ≡ ks
-first_kinds [] ls = refl
-first_kinds (k ∷ ks) ls = ap (λ ms. k ∷ ms) (first_kinds ks ls)
-
-all_kinds : (ks : List Kind) → map (λ v. v.kind) (take (length ks) (map of_kind ks)) ≡ ks
-all_kinds [] = refl
-all_kinds (k ∷ ks) = ap (λ ms. k ∷ ms) (all_kinds ks)
-
-later_kinds : (ks ls : List Kind) → map (λ v. v.kind) (take (length ls) (drop (length ks) (map of_kind (ks ++ ls)))) ≡ ls
-later_kinds [] ls = all_kinds ls
-later_kinds (k ∷ ks) ls = later_kinds ks ls
-
-inputs_are : (g : Signature) → input_kinds (head_of g) ≡ g.inputs
-inputs_are g = first_kinds g.inputs g.outputs
-
-outputs_are : (g : Signature) → output_kinds (head_of g) ≡ g.outputs
-outputs_are g = later_kinds g.inputs g.outputs
+pub head_has : (g : Signature) → HasKinds (head_of g) g.inputs g.outputs []
+head_has g = record { inputs = refl; outputs = refl; variables = kinds_are (g.inputs ++ g.outputs) ∙ ap (λ ks. g.inputs ++ ks) (sym (append-nil g.outputs)) }
 
 pub call_gives : (s : Scope) (ks : List Kind) (g : Signature) → call_results (heads s) ks (head_of g) ≡ where_true (all_same g.inputs ks) (Some g.outputs)
-call_gives s ks g = rw (inputs_are g, outputs_are g) refl
+call_gives s ks g = rw (inputs_are (head_has g), outputs_are (head_has g)) refl
 
 -- tests
 
@@ -97,73 +101,57 @@ sampled_kind s t a k typed = placed (test_placed s t) refl
 
 -- forms with parts that have no type
 
-found_untyped : {X : Type 0} (s : Scope) (r : Option X) (means : X → Expression) → ((x : X) → kind_by s (means x) ≡ None) → kind_by s (where_found r means) ≡ None
-found_untyped s None means over = refl
-found_untyped s (Some x) means over = over x
+module _ (s : Scope) where
+  abbrev Untyped : Expression → Type 0
+  Untyped e = kind_by s e ≡ None
 
-chosen_untyped : (s : Scope) (b : Bool) (e : Expression) → kind_by s e ≡ None → kind_by s (cond b e (literal nil)) ≡ None
-chosen_untyped s true e over = over
-chosen_untyped s false e over = refl
+  pub call_untyped : (f : Text) (ps : Parts) (es : Operands) → kinds_by s es ≡ None → Untyped (call_meant s f ps es)
+  call_untyped f ps es e = call_holds s Untyped refl f ps es (λ g is. rw e refl)
 
-pub call_untyped : (s : Scope) (f : Text) (ps : Parts) (es : Operands) → kinds_by s es ≡ None → kind_by s (call_meant s f ps es) ≡ None
-call_untyped s f ps es e =
-    found_untyped s (entry s.nodes f) (λ g. cond (are_arguments ps) (call g.place 0 es) (literal nil)) (λ g. chosen_untyped s (are_arguments ps) (call g.place 0 es) (rw e refl))
+  pub variadic_untyped : (op : ListOperator) (ps : Parts) (es : Operands) → kinds_by s es ≡ None → Untyped (variadic_meant op ps es)
+  variadic_untyped op ps es e = where_holds s Untyped refl (are_arguments ps) (operate (operators.Compute (list_operation op)) es) (rw e refl)
 
-pub variadic_untyped : (s : Scope) (op : ListOperator) (ps : Parts) (es : Operands) → kinds_by s es ≡ None → kind_by s (variadic_meant op ps es) ≡ None
-variadic_untyped s op ps es e = chosen_untyped s (are_arguments ps) (operate (operators.Compute (list_operation op)) es) (rw e refl)
+  pub merge_untyped : (c : Text) (bs : Parts) → kinds_by s (all_meant s bs) ≡ None → Untyped (merge_meant s c bs (all_meant s bs))
+  merge_untyped c bs e = merge_holds s Untyped refl c bs (λ x n ns long once. rw (ordered_untyped s n ns (all_meant s bs) long once e) refl)
 
-pub merge_untyped : (s : Scope) (c : Text) (bs : Parts) → kinds_by s (all_meant s bs) ≡ None → kind_by s (merge_meant s c bs (all_meant s bs)) ≡ None
-merge_untyped s c bs e =
-    found_untyped s (entry s.variables c) (λ x. where_found (branches_meant s x.kind bs (all_meant s bs)) (merge x.place)) (λ x.
-    arranged_untyped s (merge x.place) (λ es f. rw f refl) (size_of s x.kind) (all_meant s bs) (branch_places s x.kind bs) (sized_branches s x.kind bs) e)
+  pub structure_untyped : (t : Text) (fs : Parts) → kinds_by s (all_meant s fs) ≡ None → Untyped (structure_meant s t fs (all_meant s fs))
+  structure_untyped t fs e = structure_holds s Untyped refl t fs (λ u n ns long once. rw (ordered_untyped s n ns (all_meant s fs) long once e) refl)
 
 fields_arranged : (n : ℕ) (es : Operands) (r : Option (List Placed)) → option_and_then (λ xs. arranged n es (map (λ x. x.place) xs)) r ≡ option_and_then (arranged n es) (option_map (map (λ x. x.place)) r)
 fields_arranged n es None = refl
 fields_arranged n es (Some xs) = refl
 
-pub structure_untyped : (s : Scope) (t : Text) (fs : Parts) → kinds_by s (all_meant s fs) ≡ None → kind_by s (structure_meant s t fs (all_meant s fs)) ≡ None
-structure_untyped s t fs e = found_untyped s (entry s.types t) (λ k. structure_of s k fs (all_meant s fs)) of_one
-  where
-    of_one : (k : Kind) → kind_by s (structure_of s k fs (all_meant s fs)) ≡ None
-    of_one kinds.Bool = refl
-    of_one kinds.Int = refl
-    of_one (kinds.Enum u) = refl
-    of_one (kinds.Struct u) =
-        let fields = fields_of s (kinds.Struct u) in
-        rw (fields_arranged (length fields) (all_meant s fs) (fields_asked s (kinds.Struct u) fs))
-        (arranged_untyped s (operate (operators.Structure u)) (λ es f. rw f refl) (length fields) (all_meant s fs) (option_map (map (λ x. x.place)) (fields_asked s (kinds.Struct u) fs)) (sized_fields s (kinds.Struct u) fs) e)
+-- calls
 
-pub call_given : (s : Scope) (f : Text) (ps : Parts) (es : Operands)
-    → kinds_given_in (heads s) (head s) (call_meant s f ps es) ≡ option_and_then (λ n. option_and_then (results (heads s) n) (kinds_by s es)) (callee s f ps)
-call_given s f ps es = called (entry s.nodes f)
-  where
-    called : (r : Option Signature) → kinds_given_in (heads s) (head s) (where_found r (λ g. cond (are_arguments ps) (call g.place 0 es) (literal nil))) ≡ option_and_then (λ n. option_and_then (results (heads s) n) (kinds_by s es)) (option_and_then (λ g. where_true (are_arguments ps) (Some g.place)) r)
-    called None = refl
-    called (Some g) = chosen (are_arguments ps)
-      where
-        chosen : (b : Bool) → kinds_given_in (heads s) (head s) (cond b (call g.place 0 es) (literal nil)) ≡ option_and_then (λ n. option_and_then (results (heads s) n) (kinds_by s es)) (where_true b (Some g.place))
-        chosen true = refl
-        chosen false = refl
+module _ (s : Scope) (f : Text) (ps : Parts) (es : Operands) where
+  given_or : (o : Option Signature) (b : Bool) → kinds_given_in (heads s) (head s) (where_found o (λ g. cond b (call g.place 0 es) (literal nil)))
+      ≡ option_and_then (λ n. option_and_then (results (heads s) n) (kinds_by s es)) (option_and_then (λ g. where_true b (Some g.place)) o)
+  given_or None b = refl
+  given_or (Some g) true = refl
+  given_or (Some g) false = refl
 
-none_given : (s : Scope) (es : Operands) (n : Option ℕ) → kinds_by s es ≡ None → option_and_then (λ n. option_and_then (results (heads s) n) (kinds_by s es)) n ≡ None
-none_given s es None e = refl
-none_given s es (Some n) e = rw e refl
+  none_given : (n : Option ℕ) → kinds_by s es ≡ None → option_and_then (λ n. option_and_then (results (heads s) n) (kinds_by s es)) n ≡ None
+  none_given None e = refl
+  none_given (Some n) e = rw e refl
 
-pub call_misfits : (s : Scope) (xs : List ℕ) (f : Text) (ps : Parts) (es : Operands) → kinds_by s es ≡ None → Fits s xs (call_meant s f ps es) → ⊥
-call_misfits s xs f ps es e fits = let none = call_given s f ps es ∙ none_given s es (callee s f ps) e in let lost = rw none at fits in cc
+  pub call_misfits : (xs : List ℕ) → kinds_by s es ≡ None → Fits s xs (call_meant s f ps es) → ⊥
+  call_misfits xs e fits = let lost = rw (given_or (entry s.nodes f) (are_arguments ps) ∙ none_given (callee s f ps) e) at fits in cc
+
+  call_or : (o : Option Signature) (b : Bool) (n : ℕ) → option_and_then (λ g. where_true b (Some g.place)) o ≡ Some n → where_found o (λ g. cond b (call g.place 0 es) (literal nil)) ≡ call n 0 es
+  call_or None b n e = cc
+  call_or (Some g) false n e = cc
+  call_or (Some g) true n e = let same : g.place ≡ n = cc in rw same refl
+
+  -- a call of a node that is found is that call
+  pub call_found : (ks : List Kind) (n : ℕ) (ls : List Kind) → called s f ps ks ≡ Some (n, ls) → (call_meant s f ps es ≡ call n 0 es) × (results (heads s) n ks ≡ Some ls)
+  call_found ks n ls e =
+      let one = and_then_gives (λ (m : ℕ). option_map (λ (l : List Kind). (m, l)) (results (heads s) m ks)) (callee s f ps) (n, ls) e in
+      let two = map_gives (λ (l : List Kind). (one.0, l)) (results (heads s) one.0 ks) (n, ls) one.2 in
+      let same : one.0 ≡ n = ap (λ x. x.0) two.2 in
+      let gives : two.0 ≡ ls = ap (λ x. x.1) two.2 in
+      (call_or (entry s.nodes f) (are_arguments ps) n (one.1 ∙ ap Some same), subst (λ m. results (heads s) m ks ≡ Some two.0) same two.1 ∙ ap Some gives)
 
 -- forms with parts that have types
-
-pub call_is : (s : Scope) (f : Text) (ps : Parts) (es : Operands) (n : ℕ) → Some n ≡ callee s f ps → call_meant s f ps es ≡ call n 0 es
-call_is s f ps es n e = called (entry s.nodes f) (sym e)
-  where
-    called : (r : Option Signature) → option_and_then (λ g. where_true (are_arguments ps) (Some g.place)) r ≡ Some n → where_found r (λ g. cond (are_arguments ps) (call g.place 0 es) (literal nil)) ≡ call n 0 es
-    called None e = cc
-    called (Some g) e = chosen (are_arguments ps) e
-      where
-        chosen : (b : Bool) → where_true b (Some g.place) ≡ Some n → cond b (call g.place 0 es) (literal nil) ≡ call n 0 es
-        chosen true e = let same : g.place ≡ n = cc in rw same refl
-        chosen false e = cc
 
 pub merge_is : (s : Scope) (c : Text) (bs : Parts) (es : Operands) (x : Placed) (ns : List ℕ) → entry s.variables c ≡ Some x → branch_places s x.kind bs ≡ Some ns → true ≡ each_once (size_of s x.kind) ns
     → merge_meant s c bs es ≡ merge x.place (in_order (size_of s x.kind) ns es)

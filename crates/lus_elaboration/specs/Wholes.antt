@@ -1,5 +1,5 @@
 -- What is elaborated: expressions of the program, with the types that they have by what the names in their text stand for.
-use Rattle.std.specs.Prelude.{◌≡◌, ℕ, Box, List, Option, Some, None, Result, MatchResult, map}
+use Rattle.std.specs.Prelude.{◌≡◌, ℕ, Box, List, Option, Some, None, Result, MatchResult, map, option_map}
 use Rattle.std.specs.Global.{Global}
 use Rattle.std.specs.Option.{option_and_then}
 use Rattle.lus_syntax.specs.declared.tree.Part.{Part}
@@ -12,7 +12,7 @@ use Rattle.lus_program.specs.declared.types.Kind.{Kind}
 use Rattle.lus_program.specs.Programs.{Expression, Operands}
 use Rattle.lus_program.specs.View.{expression_of, operands_of}
 use Rattle.lus_typing.specs.Kinds.{where_true}
-use Rattle.lus_typing.specs.Resolved.{kind_of_variable, EquationFits}
+use Rattle.lus_typing.specs.Resolved.{kind_of_variable, results, EquationFits}
 use Rattle.lus_source.specs.Scopes.{Scope, entry}
 use Rattle.lus_source.specs.Heads.{heads, head, kind_by, kinds_by}
 use Rattle.lus_source.specs.Meaning.{are_arguments, meant, targets_meant}
@@ -37,23 +37,30 @@ Finds result look sought = MatchResult result (λ x. sought ≡ Some (look x)) (
 abbrev pub Elaborates : Result Elaborated Fault → Option Kind → Expression → Type 0
 Elaborates result kind means = MatchResult result (λ x. (kind ≡ Some x.kind) × (meaning x ≡ means)) (Faulty (kind ≡ None))
 
--- expressions of these types and meanings, or a fault at a place where there are no types
-abbrev pub ElaboratesAll : Result StoredOperands Fault → Option (List Kind) → Operands → Type 0
-ElaboratesAll result kinds means =
-    MatchResult result (λ x. (kinds ≡ Some x.kinds.items) × (operands_of x.exprs.items ≡ means)) (Faulty (kinds ≡ None))
-
 module _ (s : Scope) where
-  -- the operands have the types beside them
-  abbrev pub AreTyped : StoredOperands → Type 0
-  AreTyped x = kinds_by s (operands_of x.exprs.items) ≡ Some x.kinds.items
+  -- an expression with its type, or a fault at a place where it has none
+  abbrev pub IsElaborated : Result Elaborated Fault → Expression → Type 0
+  IsElaborated result means = Elaborates result (kind_by s means) means
 
-  -- an expression with the type that it has, if its operands have theirs, or a fault at a place where it has none
-  abbrev pub ElaboratesOver : StoredOperands → Result Elaborated Fault → Expression → Type 0
-  ElaboratesOver operands result means = AreTyped operands → Elaborates result (kind_by s means) means
+  -- what is elaborated means this, and has the type beside it
+  abbrev pub Means : Elaborated → Expression → Type 0
+  Means x means = (kind_by s means ≡ Some x.kind) × (meaning x ≡ means)
+
+  -- the operands mean these, and have the types beside them
+  abbrev pub AllMean : StoredOperands → Operands → Type 0
+  AllMean x means = (kinds_by s means ≡ Some x.kinds.items) × (operands_of x.exprs.items ≡ means)
+
+  -- what a form of operands means, whatever they mean, or a fault at a place where it has no type
+  abbrev pub ElaboratesOver : StoredOperands → Result Elaborated Fault → (Operands → Expression) → Type 0
+  ElaboratesOver operands result form = (es : Operands) → AllMean operands es → IsElaborated result (form es)
 
   -- the node that is called, with arguments alone
   abbrev pub callee : Text → Parts → Option ℕ
   callee f ps = option_and_then (λ g. where_true (are_arguments ps) (Some g.place)) (entry s.nodes f)
+
+  -- that node and what it gives for arguments of these types
+  abbrev pub called : Text → Parts → List Kind → Option (ℕ × List Kind)
+  called f ps ks = option_and_then (λ n. option_map (λ ls. (n, ls)) (results (heads s) n ks)) (callee f ps)
 
   -- the variables have these types
   abbrev pub Take : List ℕ → List Kind → Type 0

@@ -1,20 +1,21 @@
 //! Branches and fields in the order in which their type declares them.
 
-ghost use Rattle.std.specs.Prelude.{◌≡◌, IfOk, IfSome, length, is_some};
-ghost use Rattle.lus_program.specs.View.{operands_of};
+ghost use Rattle.std.specs.Prelude.{◌≡◌, ◌≢◌, ◌<◌, ◌≤◌, ℕ, IfSome, MatchOption, is_some, length, slice_index};
+ghost use Rattle.lus_program.specs.Programs.{Operands as Meanings};
 ghost use Rattle.lus_source.specs.Scopes.{Scope};
-ghost use Rattle.lus_source.specs.Labels.{each_once, index_of as index};
+ghost use Rattle.lus_source.specs.Labels.{each_once};
 ghost use Rattle.lus_source.specs.Meaning.{in_order};
-ghost use Rattle.lus_elaboration.specs.Wholes.{AreTyped};
+ghost use Rattle.lus_elaboration.specs.Wholes.{AllMean};
 
 use crate::operands::Operands;
-use std::alloc::{AllocError, Global};
 
-fn index_of(places: &[u32], place: usize) -> Option<usize>
-    ensures { result ≡ index place places.now }
+/// Where a place stands, from the index of the same number on.
+fn index_from(places: &[u32], place: usize) -> Option<usize>
+    ensures { MatchOption result ((k : ℕ) → place ≤ k → k < length places.now → slice_index places.now k ≢ place)
+        (λ i. (place ≤ i) × (i < length places.now) × (slice_index places.now i ≡ place)) }
 {
-    for (index, found) in places.iter().enumerate() {
-        if place == *found as usize {
+    for index in place..places.len() {
+        if place == places[index] as usize {
             return Some(index);
         }
     }
@@ -23,31 +24,21 @@ fn index_of(places: &[u32], place: usize) -> Option<usize>
 
 /// The operands in the order of the places beside them, where each place below `count` stands exactly once and no other
 /// does.
-pub fn arranged(
-    alloc: Global,
-    count: usize,
-    mut places: Vec<u32>,
-    mut operands: Operands,
-) -> Result<Option<Operands>, AllocError>
+pub fn arranged(count: usize, mut places: Vec<u32>, mut operands: Operands) -> Option<Operands>
     requires exprs { length operands.exprs.items ≡ length places.items }
     requires kinds { length operands.kinds.items ≡ length places.items }
-    ensures once { IfOk result (λ r. is_some r ≡ each_once count places.items) }
-    ensures order { IfOk result (λ r. IfSome r (λ x. operands_of x.exprs.items
-        ≡ in_order count places.items (operands_of operands.exprs.items))) }
-    ensures typed { IfOk result (λ r. IfSome r (λ x. (s : Scope) → AreTyped s operands → AreTyped s x)) }
+    ensures once { is_some result ≡ each_once count places.items }
+    ensures arranged { IfSome result (λ x. (s : Scope) (es : Meanings) → AllMean s operands es
+        → AllMean s x (in_order count places.items es)) }
 {
-    let mut arranged = Operands::with_capacity(alloc, places.len())?;
+    if places.len() != count {
+        return None;
+    }
     for place in 0..count {
-        let Some(index) = index_of(&places, place) else {
-            return Ok(None);
-        };
-        places.remove(index);
-        arranged.exprs.push(operands.exprs.remove(index))?;
-        arranged.kinds.push(operands.kinds.remove(index))?;
+        let index = index_from(&places, place)?;
+        places.swap(place, index);
+        operands.exprs.swap(place, index);
+        operands.kinds.swap(place, index);
     }
-    if places.is_empty() {
-        Ok(Some(arranged))
-    } else {
-        Ok(None)
-    }
+    Some(operands)
 }

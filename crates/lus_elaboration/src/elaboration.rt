@@ -1,26 +1,26 @@
 //! The program's expression for an expression of the source, and its type.
 
-ghost use Rattle.std.specs.Prelude.{◌≡◌, IfOk, length};
+ghost use Rattle.std.specs.Prelude.{◌≡◌, IfOk, MatchResult, None, length};
 ghost use Rattle.lus_syntax.specs.View.{expression_seen};
-ghost use Rattle.lus_source.specs.Heads.{kind_by, kinds_by};
+ghost use Rattle.lus_source.specs.Heads.{kinds_by};
 ghost use Rattle.lus_source.specs.Meaning.{meant, all_meant};
-ghost use Rattle.lus_source.specs.ScopeView.{scope_of};
-ghost use Rattle.lus_elaboration.specs.Wholes.{Elaborates, ElaboratesAll, parts_seen};
+ghost use Rattle.lus_source.specs.ScopeView.{Faulty, scope_of};
+ghost use Rattle.lus_elaboration.specs.Wholes.{AllMean, IsElaborated, parts_seen};
 
-use crate::forms::{Elaborated, arrow, literal, named, operated, place_of, pre, sampled};
+use crate::forms::{Elaborated, literal, named, place_of, sampled};
 use crate::operands::Operands;
+use crate::operators::{chosen, infixed, prefixed, projected};
 use crate::parts::{call, merge, structure, variadic};
-use lus_source::{Fault, Scope, field};
-use lus_syntax::{Expr as Source, Infix, Part, Prefix};
-use lus_values::{Op, Operator, Value};
+use lus_source::{Fault, Scope};
+use lus_syntax::{Expr as Source, Part};
+use lus_values::Value;
 use std::alloc::Global;
 
 /// The program's expression for an expression, and its type; a fault at its first token where it has none.
 #[cycle(elaborate)]
 pub fn elaborate(alloc: Global, scope: &Scope, source: &Source) -> Result<Elaborated, Fault>
     ensures { let s = scope_of scope.now in
-        let means = meant s (expression_seen source.now) in
-        Elaborates result (kind_by s means) means }
+        IsElaborated s result (meant s (expression_seen source.now)) }
 {
     let place = place_of(source);
     match source {
@@ -45,13 +45,7 @@ pub fn elaborate(alloc: Global, scope: &Scope, source: &Source) -> Result<Elabor
         }
         Source::Field(operand, name) => {
             let operand = elaborate(alloc, scope, operand)?;
-            let Some(found) = field(scope.fields_of(operand.kind), &name.text) else {
-                return Err(Fault::At(name.span.start));
-            };
-            let operator = Operator::Field(found.place);
-            let kinds = [operand.kind];
-            let operands = vec![in alloc; Box::into_inner(operand.expr)]?;
-            operated(alloc, scope, place, operator, &kinds, operands)
+            projected(alloc, scope, place, operand, name)
         }
         Source::Parentheses(span, inner) => {
             let mut inner = elaborate(alloc, scope, inner)?;
@@ -64,47 +58,18 @@ pub fn elaborate(alloc: Global, scope: &Scope, source: &Source) -> Result<Elabor
         }
         Source::Unary(op, _, operand) => {
             let operand = elaborate(alloc, scope, operand)?;
-            let operation = match op {
-                Prefix::Pre => return pre(alloc, place, operand),
-                Prefix::Not => Op::Not,
-                Prefix::Negate => Op::Negate,
-            };
-            let operator = Operator::Compute(operation);
-            let kinds = [operand.kind];
-            let operands = vec![in alloc; Box::into_inner(operand.expr)]?;
-            operated(alloc, scope, place, operator, &kinds, operands)
+            prefixed(alloc, scope, place, *op, operand)
         }
         Source::Binary(op, left, right) => {
             let left = elaborate(alloc, scope, left)?;
             let right = elaborate(alloc, scope, right)?;
-            match op {
-                Infix::Compute(operation) => {
-                    let operator = Operator::Compute(*operation);
-                    let kinds = [left.kind, right.kind];
-                    let operands = vec![in alloc;
-                        Box::into_inner(left.expr),
-                        Box::into_inner(right.expr),
-                    ]?;
-                    operated(alloc, scope, place, operator, &kinds, operands)
-                }
-                Infix::Arrow => arrow(alloc, place, left, right),
-                Infix::Fby => {
-                    let kept = pre(alloc, right.expr.place, right)?;
-                    arrow(alloc, place, left, kept)
-                }
-            }
+            infixed(alloc, scope, place, *op, left, right)
         }
         Source::If(_, condition, left, right) => {
             let condition = elaborate(alloc, scope, condition)?;
             let left = elaborate(alloc, scope, left)?;
             let right = elaborate(alloc, scope, right)?;
-            let kinds = [condition.kind, left.kind, right.kind];
-            let operands = vec![in alloc;
-                Box::into_inner(condition.expr),
-                Box::into_inner(left.expr),
-                Box::into_inner(right.expr),
-            ]?;
-            operated(alloc, scope, place, Operator::If, &kinds, operands)
+            chosen(alloc, scope, place, condition, left, right)
         }
     }
 }
@@ -113,7 +78,8 @@ pub fn elaborate(alloc: Global, scope: &Scope, source: &Source) -> Result<Elabor
 #[cycle(elaborate)]
 pub fn elaborate_all(alloc: Global, scope: &Scope, parts: &[Part]) -> Result<Operands, Fault>
     ensures elaborated { let s = scope_of scope.now in
-        ElaboratesAll result (kinds_by s (all_meant s (parts_seen parts.now))) (all_meant s (parts_seen parts.now)) }
+        let means = all_meant s (parts_seen parts.now) in
+        MatchResult result (λ x. AllMean s x means) (Faulty (kinds_by s means ≡ None)) }
     ensures exprs { IfOk result (λ x. length x.exprs.items ≡ length parts.now) }
     ensures kinds { IfOk result (λ x. length x.kinds.items ≡ length parts.now) }
 {

@@ -3,18 +3,19 @@
 ghost use Rattle.std.specs.Prelude.{◌≡◌, IfOk, Some, MatchResult, map};
 ghost use Rattle.std.specs.Bool.{Decides};
 ghost use Rattle.lus_syntax.specs.View.{expression_seen, equation_seen, name_seen, names_seen};
-ghost use Rattle.lus_program.specs.View.{expression_of, operands_of};
+ghost use Rattle.lus_program.specs.Programs.{Operands as Meanings};
+ghost use Rattle.lus_program.specs.View.{expression_of};
 ghost use Rattle.lus_typing.specs.Resolved.{kind_of_variable};
 ghost use Rattle.lus_source.specs.Heads.{head, heads};
 ghost use Rattle.lus_source.specs.Meaning.{call_meant, meant, targets_meant, variable_place};
 ghost use Rattle.lus_source.specs.ScopeView.{Judged, scope_of};
-ghost use Rattle.lus_elaboration.specs.Wholes.{AreTyped, EquationTyped, GivesTo, Take, parts_seen};
+ghost use Rattle.lus_elaboration.specs.Wholes.{AllMean, EquationTyped, GivesTo, Take, parts_seen};
 
 use crate::elaboration::{elaborate, elaborate_all};
 use crate::forms::{boxed, place_of};
-use crate::kinds::{results, same};
+use crate::kinds::same;
 use crate::operands::Operands;
-use crate::parts::callee;
+use crate::parts::called;
 use lus_program::{Equation, Expr, Form, Kind};
 use lus_source::{Fault, Scope};
 use lus_syntax::{Equation as SourceEquation, Expr as Source, Name, Part, Place};
@@ -88,14 +89,11 @@ fn whole_call(
     operands: Operands,
 ) -> Result<Box<Expr>, Fault>
     ensures { let s = scope_of scope.now in
-        let means = call_meant s (name_seen name.now).text (parts_seen arguments.now) (operands_of operands.exprs.items) in
-        AreTyped s operands → GivesTo s result targets.now means }
+        (es : Meanings) → AllMean s operands es
+        → GivesTo s result targets.now (call_meant s (name_seen name.now).text (parts_seen arguments.now) es) }
 {
     let (exprs, kinds) = operands.into_parts();
-    let Some(node) = callee(scope, name, arguments) else {
-        return Err(Fault::At(name.span.start));
-    };
-    let Some(outputs) = results(scope, node, &kinds) else {
+    let Some((node, outputs)) = called(scope, name, arguments, &kinds) else {
         return Err(Fault::At(name.span.start));
     };
     if take(scope, targets, outputs) {
@@ -114,22 +112,21 @@ fn target(scope: &Scope, name: &Name) -> u32
     }
 }
 
-fn targets(alloc: Global, scope: &Scope, names: &[Name]) -> Result<Vec<u32>, AllocError>
-    ensures { IfOk result (λ ts. ts.items ≡ targets_meant (scope_of scope.now) (names_seen names.now)) }
+/// The variables on a left side, and where their names stand.
+fn left_side(
+    alloc: Global,
+    scope: &Scope,
+    names: &[Name],
+) -> Result<(Vec<u32>, Vec<Place>), AllocError>
+    ensures { IfOk result (λ x. x.0.items ≡ targets_meant (scope_of scope.now) (names_seen names.now)) }
 {
     let mut targets = Vec::with_capacity(alloc, names.len())?;
-    for name in names {
-        targets.push(target(scope, name))?;
-    }
-    Ok(targets)
-}
-
-fn places(alloc: Global, names: &[Name]) -> Result<Vec<Place>, AllocError> {
     let mut places = Vec::with_capacity(alloc, names.len())?;
     for name in names {
+        targets.push(target(scope, name))?;
         places.push(name.span.start)?;
     }
-    Ok(places)
+    Ok((targets, places))
 }
 
 /// An equation of the program: the right side gives what the left side has.
@@ -138,12 +135,12 @@ pub fn equation(alloc: Global, scope: &Scope, source: &SourceEquation) -> Result
     ensures targets { IfOk result (λ q. q.targets.items ≡ targets_meant (scope_of scope.now) (names_seen source.now.left.items)) }
     ensures meant { IfOk result (λ q. expression_of q.right ≡ meant (scope_of scope.now) (expression_seen source.now.right)) }
 {
-    let targets = targets(alloc, scope, &source.left)?;
+    let (targets, places) = left_side(alloc, scope, &source.left)?;
     let place = place_of(&source.right);
     let right = right_side(alloc, scope, place, &targets, &source.right)?;
     Ok(Equation {
         targets,
-        places: places(alloc, &source.left)?,
+        places,
         right: Box::into_inner(right),
     })
 }

@@ -2,22 +2,22 @@
 
 ghost use Rattle.std.specs.Prelude.{◌≡◌, Some, IfOk, IfSome, is_some};
 ghost use Rattle.lus_syntax.specs.View.{name_seen, test_seen, label_seen};
-ghost use Rattle.lus_program.specs.Programs.{literal as literal_meant, operate, pre as pre_meant, arrow as arrow_meant, when as when_meant};
-ghost use Rattle.lus_program.specs.View.{expression_in, expression_of, operands_of};
-ghost use Rattle.lus_typing.specs.Kinds.{alike as kind_of_alike, value_kind as kind_of_value};
-ghost use Rattle.lus_typing.specs.Resolved.{operator_kind as kind_of_operator, test_fits as fits};
+ghost use Rattle.lus_program.specs.Programs.{Expression, literal as literal_meant, when as when_meant};
+ghost use Rattle.lus_program.specs.View.{expression_in, expression_of};
+ghost use Rattle.lus_typing.specs.Kinds.{value_kind as kind_of_value};
+ghost use Rattle.lus_typing.specs.Resolved.{test_fits as fits};
 ghost use Rattle.lus_values.specs.View.{value_of};
-ghost use Rattle.lus_source.specs.Heads.{head, heads, kind_by};
+ghost use Rattle.lus_source.specs.Heads.{head, heads};
 ghost use Rattle.lus_source.specs.Labels.{test_placed as placed_test, truth_place as place_of_truth, label_place as place_of_label, asked_place as place_asked, test_variable as variable_of_test};
 ghost use Rattle.lus_source.specs.Meaning.{name_meant, test_meant, where_found};
 ghost use Rattle.lus_source.specs.ScopeView.{scope_of};
-ghost use Rattle.lus_elaboration.specs.Wholes.{Elaborates, meaning};
+ghost use Rattle.lus_elaboration.specs.Wholes.{Elaborates, IsElaborated, Means};
 
-use crate::kinds::{alike, operator_kind, same, test_fits, value_kind};
+use crate::kinds::{same, test_fits, value_kind};
 use lus_program::{Expr, Form, Kind, Test};
 use lus_source::{Fault, Scope};
 use lus_syntax::{Expr as Source, Label, Name, Place, Test as SourceTest};
-use lus_values::{Operator, Value};
+use lus_values::Value;
 use std::alloc::{AllocError, Global};
 
 /// An expression of the program and its type. It is boxed at once, since expressions are large.
@@ -67,8 +67,7 @@ pub fn literal(alloc: Global, place: Place, value: Value) -> Result<Elaborated, 
 /// A name: a variable hides a constant or a constructor.
 pub fn named(alloc: Global, scope: &Scope, name: &Name) -> Result<Elaborated, Fault>
     ensures { let s = scope_of scope.now in
-        let e = name_meant s (name_seen name.now).text in
-        Elaborates result (kind_by s e) e }
+        IsElaborated s result (name_meant s (name_seen name.now).text) }
 {
     let place = name.span.start;
     if let Some(variable) = scope.variable(&name.text) {
@@ -84,57 +83,10 @@ pub fn named(alloc: Global, scope: &Scope, name: &Name) -> Result<Elaborated, Fa
     }
 }
 
-/// An operator on operands of these types.
-pub fn operated(
-    alloc: Global,
-    scope: &Scope,
-    place: Place,
-    operator: Operator,
-    kinds: &[Kind],
-    operands: Vec<Expr>,
-) -> Result<Elaborated, Fault>
-    ensures { let kind = kind_of_operator (heads (scope_of scope.now)) operator kinds.now in
-        Elaborates result kind (operate operator (operands_of operands.items)) }
-{
-    let Some(kind) = operator_kind(scope, operator, kinds) else {
-        return Err(Fault::At(place));
-    };
-    let expr = boxed(alloc, place, Form::Operate(operator, operands))?;
-    Ok(Elaborated { expr, kind })
-}
-
-/// `pre`
-pub fn pre(alloc: Global, place: Place, operand: Elaborated) -> Result<Elaborated, Fault>
-    ensures { Elaborates result (Some operand.kind) (pre_meant (meaning operand)) }
-{
-    let Elaborated { expr, kind } = operand;
-    let expr = boxed(alloc, place, Form::Pre(expr))?;
-    Ok(Elaborated { expr, kind })
-}
-
-/// `->`
-pub fn arrow(
-    alloc: Global,
-    place: Place,
-    first: Elaborated,
-    later: Elaborated,
-) -> Result<Elaborated, Fault>
-    ensures { Elaborates result (kind_of_alike first.kind later.kind) (arrow_meant (meaning first) (meaning later)) }
-{
-    let Some(kind) = alike(first.kind, later.kind) else {
-        return Err(Fault::At(place));
-    };
-    let expr = boxed(alloc, place, Form::Arrow(first.expr, later.expr))?;
-    Ok(Elaborated { expr, kind })
-}
-
 fn truth_place(kind: Kind, truth: bool) -> Option<u32>
     ensures { result ≡ place_of_truth kind truth }
 {
-    if !same(kind, Kind::Bool) {
-        return None;
-    }
-    if truth { Some(1) } else { Some(0) }
+    same(kind, Kind::Bool).then_some(u32::from(truth))
 }
 
 /// The place of a label among the constructors of a type.
@@ -178,21 +130,12 @@ pub fn test(scope: &Scope, source: &SourceTest) -> Option<Test>
     ensures fits { is_some result
         ≡ fits (heads (scope_of scope.now)) (head (scope_of scope.now)) (test_meant (scope_of scope.now) (test_seen source.now)) }
 {
-    let Some(variable) = scope.variable(&clock_variable(source).text) else {
-        return None;
-    };
-    let Some(constructor) = asked_place(scope, variable.kind, source) else {
-        return None;
-    };
+    let variable = scope.variable(&clock_variable(source).text)?;
     let test = Test {
         variable: variable.place,
-        constructor,
+        constructor: asked_place(scope, variable.kind, source)?,
     };
-    if test_fits(scope, test) {
-        Some(test)
-    } else {
-        None
-    }
+    test_fits(scope, test).then_some(test)
 }
 
 /// `when`
@@ -204,8 +147,8 @@ pub fn sampled(
     source: &SourceTest,
 ) -> Result<Elaborated, Fault>
     ensures { let s = scope_of scope.now in
-        let means = where_found (placed_test s (test_seen source.now)) (λ t. when_meant t (meaning operand)) in
-        kind_by s (meaning operand) ≡ Some operand.kind → Elaborates result (kind_by s means) means }
+        (a : Expression) → Means s operand a
+        → IsElaborated s result (where_found (placed_test s (test_seen source.now)) (λ t. when_meant t a)) }
 {
     let Elaborated { expr, kind } = operand;
     let Some(found) = test(scope, source) else {

@@ -43,7 +43,7 @@ pub fn all_same(left: &[Kind], right: &[Kind]) -> bool
 pub fn alike(left: Kind, right: Kind) -> Option<Kind>
     ensures { result ≡ alike_kind left right }
 {
-    if same(left, right) { Some(left) } else { None }
+    same(left, right).then_some(left)
 }
 
 fn all_are(kind: Kind, kinds: &[Kind]) -> bool
@@ -82,11 +82,7 @@ fn takes(shape: Shape, operands: &[Kind]) -> bool
 fn op_kind(operation: Op, operands: &[Kind]) -> Option<Kind>
     ensures { result ≡ kind_of_op operation operands.now }
 {
-    if takes(operation.shape(), operands) {
-        Some(operation_kind(operation))
-    } else {
-        None
-    }
+    takes(operation.shape(), operands).then_some(operation_kind(operation))
 }
 
 fn if_kind(operands: &[Kind]) -> Option<Kind>
@@ -114,10 +110,7 @@ fn all_fit(fields: &[Field], values: &[Kind]) -> bool
 fn field_kind(scope: &Scope, structure: Kind, field: u32) -> Option<Kind>
     ensures { result ≡ slice_get (field_kinds (heads (scope_of scope.now)) structure) field }
 {
-    match scope.fields_of(structure).get(field as usize) {
-        Some(found) => Some(found.kind),
-        None => None,
-    }
+    Some(scope.fields_of(structure).get(field as usize)?.kind)
 }
 
 fn projected(scope: &Scope, field: u32, operands: &[Kind]) -> Option<Kind>
@@ -138,11 +131,7 @@ pub fn operator_kind(scope: &Scope, operator: Operator, operands: &[Kind]) -> Op
         Operator::If => if_kind(operands),
         Operator::Structure(declaration) => {
             let kind = Kind::Struct(declaration);
-            if all_fit(scope.fields_of(kind), operands) {
-                Some(kind)
-            } else {
-                None
-            }
+            all_fit(scope.fields_of(kind), operands).then_some(kind)
         }
         Operator::Field(field) => projected(scope, field, operands),
     }
@@ -163,9 +152,7 @@ pub fn merged(scope: &Scope, variable: u32, branches: &[Kind]) -> Option<Kind>
     ensures { let s = scope_of scope.now in
         result ≡ option_and_then (kind_merged (heads s) (head s) branches.now) (kind_of_variable (heads s) (head s) variable) }
 {
-    let Some(kind) = scope.variable_kind(variable) else {
-        return None;
-    };
+    let kind = scope.variable_kind(variable)?;
     if branches.len() == scope.size_of(kind) {
         common_kind(branches)
     } else {
@@ -177,14 +164,8 @@ pub fn merged(scope: &Scope, variable: u32, branches: &[Kind]) -> Option<Kind>
 pub fn results<'a>(scope: &'a Scope, node: u32, arguments: &[Kind]) -> Option<&'a [Kind]>
     ensures { option_map (λ ks. ks.now) result ≡ results_of (heads (scope_of scope.now)) node arguments.now }
 {
-    let Some(called) = scope.node_at(node) else {
-        return None;
-    };
-    if all_same(&called.inputs, arguments) {
-        Some(&called.outputs)
-    } else {
-        None
-    }
+    let called = scope.node_at(node)?;
+    all_same(&called.inputs, arguments).then_some(called.outputs.as_slice())
 }
 
 /// The type of a value.

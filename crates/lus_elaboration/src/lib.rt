@@ -7,6 +7,7 @@ mod equations;
 mod forms;
 mod kinds;
 mod operands;
+mod operators;
 mod parts;
 mod purity;
 

@@ -2,16 +2,16 @@
 
 ghost use Rattle.std.specs.Prelude.{◌≡◌, IfOk, length, map, option_map};
 ghost use Rattle.lus_syntax.specs.View.{name_seen, lead_seen};
-ghost use Rattle.lus_program.specs.View.{operands_of};
 ghost use Rattle.lus_source.specs.Labels.{branch_place as place_of_branch, branch_places as places_of_branches, field_asked as asked_field, fields_asked as asked_fields};
 ghost use Rattle.lus_source.specs.Meaning.{are_arguments as arguments_alone, call_meant, list_operation as operation_of_list, merge_meant, structure_meant, variadic_meant};
 ghost use Rattle.lus_source.specs.ScopeView.{scope_of};
-ghost use Rattle.lus_elaboration.specs.Wholes.{ElaboratesOver, Finds, callee as called_node, parts_seen};
+ghost use Rattle.lus_elaboration.specs.Wholes.{ElaboratesOver, Finds, called as called_node, parts_seen};
 
 use crate::arrangement::arranged;
-use crate::forms::{Elaborated, boxed, label_place, operated, place_of};
+use crate::forms::{Elaborated, boxed, label_place, place_of};
 use crate::kinds::{merged, results};
 use crate::operands::Operands;
+use crate::operators::operated;
 use lus_program::{Form, Kind};
 use lus_source::{Fault, Placed, Scope, field as field_named};
 use lus_syntax::{Label, Lead, ListOperator, Name, Part, Place};
@@ -30,12 +30,20 @@ fn are_arguments(parts: &[Part]) -> bool
     true
 }
 
-/// The node that is called, with arguments alone.
-pub fn callee(scope: &Scope, name: &Name, arguments: &[Part]) -> Option<u32>
-    ensures { result ≡ called_node (scope_of scope.now) (name_seen name.now).text (parts_seen arguments.now) }
+/// The node that is called with arguments alone, of these types, and the types of what it gives.
+pub fn called<'a>(
+    scope: &'a Scope,
+    name: &Name,
+    arguments: &[Part],
+    kinds: &[Kind],
+) -> Option<(u32, &'a [Kind])>
+    ensures { option_map (λ x. (x.0, x.1.now)) result
+        ≡ called_node (scope_of scope.now) (name_seen name.now).text (parts_seen arguments.now) kinds.now }
 {
     match scope.node(&name.text) {
-        Some(node) if are_arguments(arguments) => Some(node.place),
+        Some(node) if are_arguments(arguments) => {
+            Some((node.place, results(scope, node.place, kinds)?))
+        }
         _ => None,
     }
 }
@@ -49,15 +57,11 @@ pub fn call(
     operands: Operands,
 ) -> Result<Elaborated, Fault>
     ensures { let s = scope_of scope.now in
-        let means = call_meant s (name_seen name.now).text (parts_seen arguments.now) (operands_of operands.exprs.items) in
-        ElaboratesOver s operands result means }
+        ElaboratesOver s operands result (call_meant s (name_seen name.now).text (parts_seen arguments.now)) }
 {
     let place = name.span.start;
     let (exprs, kinds) = operands.into_parts();
-    let Some(node) = callee(scope, name, arguments) else {
-        return Err(Fault::At(place));
-    };
-    let Some(outputs) = results(scope, node, &kinds) else {
+    let Some((node, outputs)) = called(scope, name, arguments, &kinds) else {
         return Err(Fault::At(place));
     };
     let [kind] = outputs else {
@@ -86,8 +90,7 @@ pub fn variadic(
     arguments: &[Part],
     operands: Operands,
 ) -> Result<Elaborated, Fault>
-    ensures { let means = variadic_meant op (parts_seen arguments.now) (operands_of operands.exprs.items) in
-        ElaboratesOver (scope_of scope.now) operands result means }
+    ensures { ElaboratesOver (scope_of scope.now) operands result (variadic_meant op (parts_seen arguments.now)) }
 {
     if !are_arguments(arguments) {
         return Err(Fault::At(place));
@@ -138,15 +141,14 @@ pub fn merge(
     requires exprs { length operands.exprs.items ≡ length branches.now }
     requires kinds { length operands.kinds.items ≡ length branches.now }
     ensures { let s = scope_of scope.now in
-        let means = merge_meant s (name_seen variable.now).text (parts_seen branches.now) (operands_of operands.exprs.items) in
-        ElaboratesOver s operands result means }
+        ElaboratesOver s operands result (merge_meant s (name_seen variable.now).text (parts_seen branches.now)) }
 {
     let Some(clock) = scope.variable(&variable.text) else {
         return Err(Fault::At(variable.span.start));
     };
     let places = branch_places(alloc, scope, clock.kind, branches)?;
     let size = scope.size_of(clock.kind);
-    let Some(operands) = arranged(alloc, size, places, operands)? else {
+    let Some(operands) = arranged(size, places, operands) else {
         return Err(Fault::At(place));
     };
     let (exprs, kinds) = operands.into_parts();
@@ -198,8 +200,7 @@ pub fn structure(
     requires exprs { length operands.exprs.items ≡ length fields.now }
     requires kinds { length operands.kinds.items ≡ length fields.now }
     ensures { let s = scope_of scope.now in
-        let means = structure_meant s (name_seen name.now).text (parts_seen fields.now) (operands_of operands.exprs.items) in
-        ElaboratesOver s operands result means }
+        ElaboratesOver s operands result (structure_meant s (name_seen name.now).text (parts_seen fields.now)) }
 {
     let place = name.span.start;
     let Some(kind) = scope.kind(&name.text) else {
@@ -210,7 +211,7 @@ pub fn structure(
     };
     let places = field_places(alloc, scope, kind, fields)?;
     let size = scope.fields_of(kind).len();
-    let Some(operands) = arranged(alloc, size, places, operands)? else {
+    let Some(operands) = arranged(size, places, operands) else {
         return Err(Fault::At(place));
     };
     let (exprs, kinds) = operands.into_parts();

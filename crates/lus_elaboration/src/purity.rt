@@ -25,13 +25,7 @@ fn recalls(op: Infix) -> bool
 fn calls_function(scope: &Scope, name: &str) -> bool
     ensures { result ≡ function_called (scope_of scope.now) name.now }
 {
-    match scope.node(name) {
-        Some(node) => match node.kind {
-            NodeKind::Function => true,
-            NodeKind::Node => false,
-        },
-        None => false,
-    }
+    matches!(scope.node(name), Some(node) if matches!(node.kind, NodeKind::Function))
 }
 
 /// The first place at which an expression has a memory, or calls a node that is no function.
@@ -67,18 +61,11 @@ pub fn memory(scope: &Scope, source: &Expr) -> Option<Place>
             if recalls(*op) {
                 return Some(place_of(source));
             }
-            match memory(scope, left) {
-                Some(place) => Some(place),
-                None => memory(scope, right),
-            }
+            memory(scope, left).or(memory(scope, right))
         }
-        Expr::If(_, condition, left, right) => match memory(scope, condition) {
-            Some(place) => Some(place),
-            None => match memory(scope, left) {
-                Some(place) => Some(place),
-                None => memory(scope, right),
-            },
-        },
+        Expr::If(_, condition, left, right) => memory(scope, condition)
+            .or(memory(scope, left))
+            .or(memory(scope, right)),
     }
 }
 

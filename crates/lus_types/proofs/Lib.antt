@@ -1,4 +1,3 @@
-pub mod Forms
 pub mod Scoped
 pub mod Places
 pub mod Lefts
@@ -8,7 +7,6 @@ pub mod Limited
 pub mod ProgramsMeant
 mod Examples
 pub mod Weights
-pub mod OrderedParts
 pub mod SourceParts
 pub mod Numbering
 pub mod Groups

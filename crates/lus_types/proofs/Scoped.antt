@@ -1,9 +1,8 @@
 -- What the scope of a node says of types is alike to what the node and its program mean.
-use Rattle.std.proofs.Common.{arith, ◌≡◌, ◌∙◌, refl, sym, ap, ap₂, ℕ, suc, ◌+◌, ◌≤◌, List, [], ◌∷◌, ◌++◌, length, take, drop, map, length-append}
+use Rattle.std.proofs.Common.{arith, ◌≡◌, ◌∙◌, refl, sym, ap, ap₂, ℕ, suc, ◌+◌, ◌≤◌, List, [], ◌∷◌, ◌++◌, length, map, length-append}
 use Rattle.std.proofs.Math.ListN.{length-map}
-use Rattle.std.proofs.Math.Seq.{take-append_seam, drop-append_seam}
 use Rattle.std.proofs.lemmas.Grind.{flat_map-append}
-use Rattle.std.proofs.lemmas.List.{append-nil, map-append, take-map, drop-map}
+use Rattle.std.proofs.lemmas.List.{map-append}
 use Rattle.std.proofs.lemmas.Simd.{map-map}
 use Rattle.std.specs.Prelude.{flat_map, option_map}
 use Rattle.lus_syntax.specs.Lexemes.{Text}
@@ -15,43 +14,20 @@ use Rattle.lus_source.specs.Heads.{of_kind, head_of, heads, head}
 use Rattle.lus_source.specs.Scopes.{Scope, Signature}
 use Rattle.lus_source.specs.Tables.{numbered_from, placed_from, each_of, group_kinds, groups, kind_named, signature, scope}
 use Rattle.lus_source.specs.Meaning.{test_meant, variables_of, node_meant, program_of}
-use Rattle.lus_typing.specs.Resolved.{input_kinds, output_kinds}
 use Rattle.lus_typing.proofs.Alike.{AreAlike, taken_and_given}
+use Rattle.lus_elaboration.proofs.Meant.{HasKinds, inputs_are, outputs_are, head_has}
 
 abbrev kinds_of : List Variable → List Kind
 kinds_of vs = map (λ v. v.kind) vs
 
--- the types of a node's inputs, outputs and locals
-record HasKinds (f : Node) (is os ls : List Kind) : Type 0 where
-  pub inputs : f.inputs ≡ length is
-  pub outputs : f.outputs ≡ length os
-  pub variables : kinds_of f.variables ≡ is ++ (os ++ ls)
-
 module _ {f : Node} {is os ls : List Kind} (has : HasKinds f is os ls) where
-  inputs_are : input_kinds f ≡ is
-  inputs_are = sym (take-map (λ v. v.kind) f.inputs f.variables) ∙ ap₂ take has.inputs has.variables ∙ take-append_seam is (os ++ ls)
-
-  outputs_are : output_kinds f ≡ os
-  outputs_are =
-      sym (take-map (λ v. v.kind) f.outputs (drop f.inputs f.variables))
-      ∙ ap₂ take has.outputs (sym (drop-map (λ v. v.kind) f.inputs f.variables) ∙ ap₂ drop has.inputs has.variables ∙ drop-append_seam is (os ++ ls))
-      ∙ take-append_seam os ls
-
   both_are : taken_and_given f ≡ (is, os)
-  both_are = λ i. (inputs_are i, outputs_are i)
+  both_are = λ i. (inputs_are has i, outputs_are has i)
 
   formals_fit : f.inputs + f.outputs ≤ length f.variables
   formals_fit =
       let all = sym (length-map f.variables (λ v. v.kind)) ∙ ap length has.variables in
       omega (arith, all, has.inputs, has.outputs, length-append is (os ++ ls), length-append os ls)
-
--- the node of a signature
-of_kinds : (ks : List Kind) → kinds_of (map of_kind ks) ≡ ks
-of_kinds [] = refl
-of_kinds (k ∷ ks) = ap (λ ls. k ∷ ls) (of_kinds ks)
-
-head_has : (g : Signature) → HasKinds (head_of g) g.inputs g.outputs []
-head_has g = record { inputs = refl; outputs = refl; variables = of_kinds (g.inputs ++ g.outputs) ∙ ap (λ ks. g.inputs ++ ks) (sym (append-nil g.outputs)) }
 
 placed_kinds : (n : ℕ) (xs : List (Text × Kind)) → kinds_of (map (λ e. of_kind e.1.kind) (placed_from n xs)) ≡ map (λ e. e.1) xs
 placed_kinds n [] = refl

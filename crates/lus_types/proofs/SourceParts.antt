@@ -25,8 +25,8 @@ use Rattle.lus_source.specs.Heads.{kind_by}
 use Rattle.lus_source.specs.Scopes.{Scope}
 use Rattle.lus_source.specs.Tables.{scope}
 use Rattle.lus_source.specs.Meaning.{are_arguments, list_operation, prefix_meant, infix_meant, meant, all_meant, equation_meant, equations_meant, node_meant, program_of}
-use Rattle.lus_types.proofs.Forms.{where_holds, name_holds, call_holds, field_holds, when_holds, merge_holds, structure_holds}
-use Rattle.lus_types.proofs.OrderedParts.{ordered_few}
+use Rattle.lus_elaboration.proofs.FormsMeant.{where_holds, name_holds, call_holds, field_holds, when_holds, merge_holds, structure_holds}
+use Rattle.lus_types.proofs.PartSums.{ordered_parts}
 use Rattle.lus_types.proofs.Weights.{weight_some, weights, weights_append, tokens_fit}
 
 abbrev HasAtMost : ℕ → Expression → Type 0
@@ -46,7 +46,7 @@ module _ (s : Scope) where
     parts_fit (call_empty n o e) = call_holds s (HasAtMost 3) (omega arith) n.text tree.End (all_meant s tree.End) (λ g is. omega arith)
     parts_fit (call n o {us} {ts} h) = call_holds s (HasAtMost (1 + (1 + weights ts))) (omega arith) n.text us (all_meant s us) (λ g is. omega (arith, all_fit h))
     parts_fit (structure n o {us} {ts} h) =
-        structure_holds s (HasAtMost (1 + (1 + weights ts))) (omega arith) n.text us (λ t m ns long once. omega (arith, ordered_few m ns (all_meant s us) long once, all_fit h))
+        structure_holds s (HasAtMost (1 + (1 + weights ts))) (omega arith) n.text us (λ t m ns long once. omega (arith, ordered_parts m ns (all_meant s us) long once, all_fit h))
     parts_fit (variadic l op c o {us} {ts} e h) =
         let all = all_fit h in
         let some = weight_some l in
@@ -58,7 +58,7 @@ module _ (s : Scope) where
         omega (arith, all, field_holds s (HasAtMost (suc (weights ts))) (omega arith) (kind_by s (meant s t)) x.text (meant s t) (λ n. omega (arith, parts_fit h)))
     parts_fit (primary {t} {ts} h) = parts_fit h
     parts_fit (merge c n {us} {ts} h) =
-        merge_holds s (HasAtMost (1 + (1 + weights ts))) (omega arith) n.text us (λ x m ns long once. omega (arith, ordered_few m ns (all_meant s us) long once, all_fit h))
+        merge_holds s (HasAtMost (1 + (1 + weights ts))) (omega arith) n.text us (λ x m ns long once. omega (arith, ordered_parts m ns (all_meant s us) long once, all_fit h))
     parts_fit (prefixed {level} {operand} {other} l op c {t} {ts} heads e h) = omega (arith, weight_some l, prefix_parts op (meant s t), parts_fit h)
     parts_fit (bare {level} {operand} {other} {t} {ts} heads h) = parts_fit h
     parts_fit (first {level} {operand} {t} {ts} joins h) = parts_fit h

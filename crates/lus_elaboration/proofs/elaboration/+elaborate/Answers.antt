@@ -5,7 +5,6 @@ use Rattle.lus_syntax.specs.View.{expression_seen, part_seen, name_seen}
 use Rattle.lus_syntax.proofs.TreeViews.{seen_call, seen_structure, seen_merge, seen_variadic}
 use Rattle.lus_program.specs.View.{expression_of}
 use Rattle.lus_source.proofs.Faults.{passed_on}
-use Rattle.lus_source.specs.Heads.{kind_by, kinds_by}
 use Rattle.lus_source.specs.Meaning.{meant}
 use Rattle.lus_source.specs.ScopeView.{scope_of}
 use Rattle.lus_elaboration.proofs.Meant.{all_meant_is, call_untyped, structure_untyped, merge_untyped, variadic_untyped}
@@ -18,10 +17,9 @@ elaborate-returns-in_err-operands-in-Call t c =
 
 pub elaborate-returns-in_ok-operands-in-Call : goal.elaborate-returns-in_ok-operands-in-Call
 elaborate-returns-in_ok-operands-in-Call t c =
-    let e : expression_seen c.args.source.now ≡ _ = ap expression_seen c.in-Call.is ∙ seen_call c.in-Call.name c.in-Call.arguments in
     let operands = rw c.deref.ensures.value at c.in_ok-operands-in-Call.ensures.elaborated in
     let built = rw (c.deref-in-Call.ensures, c.deref-in-Call-2.ensures.value) at c.call.ensures in
-    rw (e, ← operands.1) (built (ap (kinds_by (scope_of c.args.scope.now)) operands.1 ∙ operands.0))
+    rw (ap expression_seen c.in-Call.is ∙ seen_call c.in-Call.name c.in-Call.arguments) (built _ operands)
 
 pub elaborate-returns-in_err-operands-in-Structure : goal.elaborate-returns-in_err-operands-in-Structure
 elaborate-returns-in_err-operands-in-Structure t c =
@@ -32,10 +30,9 @@ elaborate-returns-in_err-operands-in-Structure t c =
 
 pub elaborate-returns-in_ok-operands-in-Structure : goal.elaborate-returns-in_ok-operands-in-Structure
 elaborate-returns-in_ok-operands-in-Structure t c =
-    let e : expression_seen c.args.source.now ≡ _ = ap expression_seen c.in-Structure.is ∙ seen_structure c.in-Structure.name c.in-Structure.fields in
     let operands = rw c.deref-in-Structure.ensures.value at c.in_ok-operands-in-Structure.ensures.elaborated in
     let built = rw (c.deref-in-Structure-2.ensures, c.deref-in-Structure-3.ensures.value) at c.structure.ensures in
-    rw (e, ← operands.1) (built (ap (kinds_by (scope_of c.args.scope.now)) operands.1 ∙ operands.0))
+    rw (ap expression_seen c.in-Structure.is ∙ seen_structure c.in-Structure.name c.in-Structure.fields) (built _ operands)
 
 pub elaborate-returns-in_err-operands-in-Merge : goal.elaborate-returns-in_err-operands-in-Merge
 elaborate-returns-in_err-operands-in-Merge t c =
@@ -46,10 +43,9 @@ elaborate-returns-in_err-operands-in-Merge t c =
 
 pub elaborate-returns-in_ok-operands-in-Merge : goal.elaborate-returns-in_ok-operands-in-Merge
 elaborate-returns-in_ok-operands-in-Merge t c =
-    let e : expression_seen c.args.source.now ≡ _ = ap expression_seen c.in-Merge.is ∙ seen_merge c.in-Merge.field-0 c.in-Merge.variable c.in-Merge.branches in
     let operands = rw c.deref-in-Merge.ensures.value at c.in_ok-operands-in-Merge.ensures.elaborated in
     let built = rw (c.deref-in-Merge-2.ensures, c.deref-in-Merge-3.ensures.value) at c.merge.ensures in
-    rw (e, ← operands.1) (built (ap (kinds_by (scope_of c.args.scope.now)) operands.1 ∙ operands.0))
+    rw (ap expression_seen c.in-Merge.is ∙ seen_merge c.in-Merge.field-0 c.in-Merge.variable c.in-Merge.branches) (built _ operands)
 
 pub elaborate-returns-in_err-operands-in-Variadic : goal.elaborate-returns-in_err-operands-in-Variadic
 elaborate-returns-in_err-operands-in-Variadic t c =
@@ -61,14 +57,31 @@ elaborate-returns-in_ok-operands-in-Variadic t c =
     let e : expression_seen c.args.source.now ≡ _ = ap expression_seen c.in-Variadic.is ∙ seen_variadic c.in-Variadic.op c.in-Variadic.field-1 c.in-Variadic.arguments in
     let operands = rw c.deref-in-Variadic.ensures.value at c.in_ok-operands-in-Variadic.ensures.elaborated in
     let built = rw (c.deref-in-Variadic-2.ensures.value) at c.variadic.ensures in
-    rw (e, ← operands.1) (built (ap (kinds_by (scope_of c.args.scope.now)) operands.1 ∙ operands.0))
+    rw e (built _ operands)
 
 pub elaborate-returns-in_ok-operand-in-When : goal.elaborate-returns-in_ok-operand-in-When
 elaborate-returns-in_ok-operand-in-When t c =
-    let e : expression_seen c.args.source.now ≡ _ = ap expression_seen c.in-When.is in
     let operand = rw c.deref-in-When.ensures at c.in_ok-operand-in-When.ensures in
     let built = rw c.deref-in-When-2.ensures at c.sampled.ensures in
-    rw (e, ← operand.1) (built (ap (kind_by (scope_of c.args.scope.now)) operand.1 ∙ operand.0))
+    rw (ap expression_seen c.in-When.is) (built _ operand)
+
+pub elaborate-returns-in_ok-operand-in-Unary : goal.elaborate-returns-in_ok-operand-in-Unary
+elaborate-returns-in_ok-operand-in-Unary t c =
+    let operand = rw c.deref-in-Unary.ensures at c.in_ok-operand-in-Unary.ensures in
+    rw (ap expression_seen c.in-Unary.is) (c.prefixed.ensures _ operand)
+
+pub elaborate-returns-in_ok-right-in-Binary : goal.elaborate-returns-in_ok-right-in-Binary
+elaborate-returns-in_ok-right-in-Binary t c =
+    let left = rw c.deref-in-Binary.ensures at c.in_ok-left-in-Binary.ensures in
+    let right = rw c.deref-in-Binary-2.ensures at c.in_ok-right-in-Binary.ensures in
+    rw (ap expression_seen c.in-Binary.is) (c.infixed.ensures _ _ left right)
+
+pub elaborate-returns-in_ok-right-in-If : goal.elaborate-returns-in_ok-right-in-If
+elaborate-returns-in_ok-right-in-If t c =
+    let condition = rw c.deref-in-If.ensures at c.in_ok-condition-in-If.ensures in
+    let left = rw c.deref-in-If-2.ensures at c.in_ok-left-in-If.ensures in
+    let right = rw c.deref-in-If-3.ensures at c.in_ok-right-in-If.ensures in
+    rw (ap expression_seen c.in-If.is) (c.chosen.ensures _ _ _ condition left right)
 
 pub elaborate_all-returns-clause-elaborated : goal.elaborate_all-returns-clause-elaborated
 elaborate_all-returns-clause-elaborated t c =

@@ -2,7 +2,7 @@ use Rattle.std.proofs.Common.{◌≡◌, ◌∙◌, ap, sym, rules, length, Some
 use Rattle.std.proofs.lemmas.List.{length-map}
 use Rattle.lus_syntax.specs.View.{name_seen}
 use Rattle.lus_program.specs.declared.types.Kind.TheVariants as kinds
-use Rattle.lus_program.specs.View.{field_of, operands_of}
+use Rattle.lus_program.specs.View.{field_of}
 use Rattle.lus_source.specs.Labels.{fields_of}
 use Rattle.lus_source.specs.Scopes.{entry}
 use Rattle.lus_source.specs.ScopeView.{scope_of}
@@ -11,11 +11,12 @@ use Rattle.lus_elaboration.proofs.Meant.{structure_is}
 use Rattle.lus_elaboration.proofs.parts.structure.Goals as goal
 
 pub returns : goal.returns
-returns c = λ typed.
+returns c = λ es means.
     let s = scope_of c.args.scope.now in
     let t = c.in-Struct.declaration in
     let sized : length c.fields_of-size.result.now ≡ length (fields_of s (kinds.Struct t)) = sym (length-map c.fields_of-size.result.now field_of) ∙ ap length c.fields_of-size.ensures.fields in
     let named : entry s.types (name_seen c.args.name.now).text ≡ Some (kinds.Struct t) = search rules in
-    let out = rw (c.in-Some-2.is, sized) at c.in_ok-operands.ensures in
-    let is = structure_is s (name_seen c.args.name.now).text (parts_seen c.args.fields.now) (operands_of c.args.operands.exprs.items) t c.in_ok-places.places.items named c.in_ok-places.ensures.places out.once in
-    rw (is, ← out.order) (rw (out.typed s typed) (rw (c.deref-2.ensures.value, c.into_parts-exprs.ensures) at c.operated.ensures))
+    let out = rw (sized) at c.in-Some-arranged.ensures in
+    let is = structure_is s (name_seen c.args.name.now).text (parts_seen c.args.fields.now) es t c.in_ok-places.places.items named c.in_ok-places.ensures.places out.once in
+    let ordered = out.arranged s es means in
+    rw (is, ordered.0, ← ordered.1) (rw (c.deref-2.ensures.value, c.into_parts-exprs.ensures) at c.operated.ensures)

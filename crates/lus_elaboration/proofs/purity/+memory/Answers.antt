@@ -1,24 +1,20 @@
-use Rattle.std.proofs.Common.{rules, ◌≡◌, ◌∙◌, ap}
+use Rattle.std.proofs.Common.{rules, ◌∙◌, ap}
 use Rattle.lus_syntax.specs.View.{expression_seen}
 use Rattle.lus_syntax.proofs.TreeViews.{seen_call, seen_structure, seen_merge, seen_variadic}
 use Rattle.lus_elaboration.proofs.purity.+memory.Goals as goal
 
 pub memory-returns-then-calls_function : goal.memory-returns-then-calls_function
 memory-returns-then-calls_function t c =
-    let e : expression_seen c.args.source.now ≡ _ = ap expression_seen c.in-Call.is ∙ seen_call c.in-Call.name c.in-Call.arguments in
-    rw e (search rules)
+    rw (ap expression_seen c.in-Call.is ∙ seen_call c.in-Call.name c.in-Call.arguments) (search rules)
 
 pub memory-returns-in-Structure : goal.memory-returns-in-Structure
 memory-returns-in-Structure t c =
-    let e : expression_seen c.args.source.now ≡ _ = ap expression_seen c.in-Structure.is ∙ seen_structure c.in-Structure.field-0 c.in-Structure.fields in
-    rw e (search rules)
+    rw (ap expression_seen c.in-Structure.is ∙ seen_structure c.in-Structure.field-0 c.in-Structure.fields) (search rules)
 
 pub memory-returns-in-Merge : goal.memory-returns-in-Merge
 memory-returns-in-Merge t c =
-    let e : expression_seen c.args.source.now ≡ _ = ap expression_seen c.in-Merge.is ∙ seen_merge c.in-Merge.field-0 c.in-Merge.field-1 c.in-Merge.branches in
-    rw e (search rules)
+    rw (ap expression_seen c.in-Merge.is ∙ seen_merge c.in-Merge.field-0 c.in-Merge.field-1 c.in-Merge.branches) (search rules)
 
 pub memory-returns-in-Variadic : goal.memory-returns-in-Variadic
 memory-returns-in-Variadic t c =
-    let e : expression_seen c.args.source.now ≡ _ = ap expression_seen c.in-Variadic.is ∙ seen_variadic c.in-Variadic.field-0 c.in-Variadic.field-1 c.in-Variadic.operands in
-    rw e (search rules)
+    rw (ap expression_seen c.in-Variadic.is ∙ seen_variadic c.in-Variadic.field-0 c.in-Variadic.field-1 c.in-Variadic.operands) (search rules)

@@ -1,4 +1,4 @@
-use Rattle.std.proofs.Common.{rules, arith, ◌≡◌, ◌∙◌, ◌<◌, ap}
+use Rattle.std.proofs.Common.{rules, arith, ◌∙◌, ◌<◌, ap}
 use Rattle.std.proofs.lemmas.Grind.{common_steps}
 use Rattle.lus_program.specs.Parts.{parts, parts_all}
 use Rattle.lus_program.specs.View.{expression_of, expression_in, operands_of}
@@ -11,18 +11,15 @@ parts_left-returns-in_err-left t c = let some = parts_some (expression_of c.args
 
 pub parts_left-returns-in-Operate : goal.parts_left-returns-in-Operate
 parts_left-returns-in-Operate t c =
-    let e : expression_of c.args.expr.now ≡ _ = ap expression_in c.in-Operate.is ∙ seen_operate c.in-Operate.field-0 c.in-Operate.operands in
-    rw e (search rules)
+    rw (ap expression_in c.in-Operate.is ∙ seen_operate c.in-Operate.field-0 c.in-Operate.operands) (search rules)
 
 pub parts_left-returns-in-Merge : goal.parts_left-returns-in-Merge
 parts_left-returns-in-Merge t c =
-    let e : expression_of c.args.expr.now ≡ _ = ap expression_in c.in-Merge.is ∙ seen_merge c.in-Merge.field-0 c.in-Merge.branches in
-    rw e (search rules)
+    rw (ap expression_in c.in-Merge.is ∙ seen_merge c.in-Merge.field-0 c.in-Merge.branches) (search rules)
 
 pub parts_left-returns-in-Call : goal.parts_left-returns-in-Call
 parts_left-returns-in-Call t c =
-    let e : expression_of c.args.expr.now ≡ _ = ap expression_in c.in-Call.is ∙ seen_call c.in-Call.field-0 c.in-Call.arguments in
-    rw e (search rules)
+    rw (ap expression_in c.in-Call.is ∙ seen_call c.in-Call.field-0 c.in-Call.arguments) (search rules)
 
 pub all_parts_left-returns-in_err-left : goal.all_parts_left-returns-in_err-left
 all_parts_left-returns-in_err-left t c =

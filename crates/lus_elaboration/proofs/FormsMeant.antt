@@ -11,16 +11,13 @@ use Rattle.lus_values.specs.Values.{Value, nil}
 use Rattle.lus_program.specs.declared.expr.Test.{Test}
 use Rattle.lus_program.specs.declared.types.Kind.{Kind}
 use Rattle.lus_program.specs.declared.types.Kind.TheVariants as kinds
-use Rattle.lus_program.specs.Programs.{Expression, literal, variable, operate, when, merge, call, Operands, none, more}
+use Rattle.lus_program.specs.Programs.{Expression, literal, variable, operate, when, merge, call, Operands}
 use Rattle.lus_typing.specs.Kinds.{where_true}
 use Rattle.lus_source.specs.declared.entries.Placed.{Placed}
 use Rattle.lus_source.specs.Scopes.{Scope, Signature, entry}
 use Rattle.lus_source.specs.Labels.{each_once, name_value, size_of, fields_of, field_named, branch_place, branch_places, field_asked, fields_asked, test_placed}
 use Rattle.lus_source.specs.Meaning.{where_found, one, are_arguments, in_order, arranged, name_meant, call_meant, field_meant, branches_meant, merge_meant, structure_of, structure_meant, all_meant}
-
-abbrev pub operand_count : Operands → ℕ
-operand_count none = 0
-operand_count (more e es) = suc (operand_count es)
+use Rattle.lus_elaboration.proofs.Ordered.{operand_count}
 
 -- one more is found than behind it
 one_more : {X : Type 0} (o : Option X) (os : Option (List X)) (xs : List X) (n : ℕ) → ((ys : List X) → os ≡ Some ys → n ≡ length ys) → option_and_then (λ x. option_map (λ ys. x ∷ ys) os) o ≡ Some xs → suc n ≡ length xs
