@@ -1,7 +1,6 @@
 -- What is counted one group at a time.
-use Rattle.std.proofs.Common.{arith, Option, Some, None, MatchOption, ◌≡◌, ◌∙◌, sym, ap, ℕ, ◌+◌, ◌<◌, ◌≤◌, Bool, true, false, List, length, take, map, sum_by, get_or}
+use Rattle.std.proofs.Common.{arith, ◌≡◌, ◌∙◌, sym, ap, ℕ, ◌+◌, ◌<◌, ◌≤◌, Bool, true, false, List, length, take, map, sum_by, get_or}
 use Rattle.std.specs.Bool.{Decides}
-use Rattle.lus_declarations.specs.Limits.{IsLimited}
 use Rattle.std.proofs.lemmas.List.{length-map, get_or-map, take-map}
 use Rattle.std.proofs.lemmas.List.Sums.{sum_by_more_le}
 
@@ -17,8 +16,3 @@ past_most seen size xs i left most n x lt here counted before less =
 -- a test that fails
 pub refuted : (b : Bool) (P : Type 0) → Decides b P → b ≡ false → P → ⊥
 refuted b P d e p = let f : b ≡ true = d.1 p in cc
-
--- what is past the limit doesn't fit
-pub limited_fits : (most n : ℕ) (r : Option ℕ) → IsLimited most n r → MatchOption r (n ≤ most → ⊥) (λ k. (k ≡ n) × (k ≤ most))
-limited_fits most n None past = λ le. omega arith
-limited_fits most n (Some k) is = is
