@@ -5,7 +5,10 @@ use Rattle.std.proofs.Math.ListN.{get_or-map as get_or_any-map}
 use Rattle.lus_values.specs.Lists.{item}
 use Rattle.lus_graph.specs.Along.{IsFilled, Solves}
 use Rattle.lus_graph.specs.Ways.{Uses, IsOrder}
-use Rattle.lus_syntax.specs.Trees.{Tree}
+use Rattle.lus_syntax.specs.declared.tree.Tree.{Tree as StoredTree}
+use Rattle.lus_syntax.specs.declared.tree.TypeDeclaration.{TypeDeclaration as StoredType}
+use Rattle.lus_syntax.specs.Trees.{TypeDeclaration, Tree}
+use Rattle.lus_syntax.specs.View.{tree_seen, type_seen}
 use Rattle.lus_program.specs.Programs.{Declared, structure}
 use Rattle.lus_typing.specs.Kinds.{nothing_declared}
 use Rattle.lus_typing.specs.Leaves.{declared_leaves, AreTheLeaves}
@@ -14,6 +17,7 @@ use Rattle.lus_typing.proofs.OneTable.{declared_alike, the_leaves}
 use Rattle.lus_source.specs.Loopless.{type_uses}
 use Rattle.lus_source.specs.Meaning.{program_of}
 use Rattle.lus_source.specs.Sized.{AreWithin, Counted, declared_nesting, size_at}
+use Rattle.lus_source.specs.Tables.{declared_as}
 use Rattle.lus_source.proofs.FieldsMeant.{meant_fields}
 use Rattle.lus_source.proofs.TypesMeant.{types_order}
 use Rattle.lus_declarations.proofs.Greatest.{greatest-same}
@@ -76,3 +80,14 @@ module _ (p : Tree) (types : List Declared) (same : types ≡ (program_of p).typ
       the_leaves (program_of p) order (types_order p order o) table (meant_fields p counted)
       (subst (λ ds. (t : ℕ) → item 1 table t ≡ declared_leaves (item 1 table) (item nothing_declared ds t)) same
       (found_solves (leaves_measure types) order ordered (λ k. k ≤ most) table found))
+
+-- the declared types of a tree are those of its declarations
+pub declared_count : (t : StoredTree) (types : List Declared) → types ≡ (program_of (tree_seen t)).types → length (uses_in types) ≡ length t.types.items
+declared_count t types same =
+    length-map types declared_uses ∙ ap length same ∙ length-map (tree_seen t).types (λ (d : TypeDeclaration). declared_as (tree_seen t) d.definition)
+    ∙ length-map t.types.items type_seen
+
+pub type_place : (t u : StoredTree) (declarations : List StoredType) (types : List Declared) (x : ℕ) → types ≡ (program_of (tree_seen t)).types → u ≡ t
+    → declarations ≡ u.types.items → x < length (uses_in types) → x < length declarations
+type_place t u declarations types x same read listed lt =
+    omega (arith, lt, declared_count t types same, ap (λ (v : StoredTree). length v.types.items) read, ap length listed)

@@ -2,7 +2,7 @@ use Rattle.std.proofs.Common.{map}
 use Rattle.lus_program.specs.View.{declared_of}
 use Rattle.lus_syntax.specs.View.{tree_seen}
 use Rattle.lus_typing.specs.Leaves.{declared_leaves}
-use Rattle.lus_declarations.proofs.TypeSizes.{leaves_measure, leaves_meant, ordered, size_past, sizes_within}
+use Rattle.lus_declarations.proofs.TypeSizes.{leaves_measure, leaves_meant, ordered, size_past, sizes_within, type_place}
 use Rattle.lus_declarations.proofs.sizes.check_leaves.Goals as goal
 
 pub along-requires-clause-order : goal.along-requires-clause-order
@@ -10,6 +10,16 @@ along-requires-clause-order c = ordered (tree_seen c.args.loopless.now) (map dec
 
 pub along-requires-clause-local : goal.along-requires-clause-local
 along-requires-clause-local c = (leaves_measure (map declared_of c.args.types.now)).local
+
+pub bounds-declarations-place : goal.bounds-declarations-place
+bounds-declarations-place c =
+    type_place c.args.loopless.now c.tree.result.now c.as_slice-declarations.result.now (map declared_of c.args.types.now) c.in-Err.place
+    c.requires.declared c.tree.ensures.same c.as_slice-declarations.ensures.value c.in-Err.ensures.refused.0
+
+pub bounds-declarations-place-in-Err : goal.bounds-declarations-place-in-Err
+bounds-declarations-place-in-Err c =
+    type_place c.args.loopless.now c.tree.result.now c.as_slice-declarations.result.now (map declared_of c.args.types.now) c.in-Err.place
+    c.requires.declared c.tree.ensures.same c.as_slice-declarations.ensures.value c.in-Err.ensures.refused.0
 
 pub returns-in-Ok-clause-leaves : goal.returns-in-Ok-clause-leaves
 returns-in-Ok-clause-leaves c =
