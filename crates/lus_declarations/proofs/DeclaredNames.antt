@@ -1,11 +1,12 @@
 -- The names that a source declares, as they come into tables that were empty.
-use Rattle.std.proofs.Common.{◌≡◌, ◌∙◌, refl, ap, sym, Bool, true, false, not, List, [], ◌∷◌, ◌++◌, map, flat_map}
+use Rattle.std.proofs.Common.{◌≡◌, ◌∙◌, refl, ap, ap₂, sym, Bool, true, false, not, List, [], ◌∷◌, ◌++◌, map, flat_map}
 use Rattle.std.specs.List.{list_all}
+use Rattle.std.proofs.lemmas.List.Folds.{flat_map-map}
 use Rattle.lus_syntax.specs.declared.tree.Tree.{Tree as StoredTree}
 use Rattle.lus_syntax.specs.Lexemes.{Text}
-use Rattle.lus_syntax.specs.Trees.{Constant}
-use Rattle.lus_syntax.specs.View.{constant_seen, tree_seen, type_seen}
-use Rattle.lus_source.specs.Named.{Distinct, all_constructor_names, all_new, is_in, known}
+use Rattle.lus_syntax.specs.Trees.{Constant, TypeDeclaration}
+use Rattle.lus_syntax.specs.View.{constant_seen, definition_seen, tree_seen, type_seen}
+use Rattle.lus_source.specs.Named.{Distinct, all_new, constructor_names, is_in, known}
 use Rattle.lus_declarations.specs.Parts.{AreDistinct}
 use Rattle.lus_declarations.proofs.NewNames.{apart, distinct_apart, first_doubled, from_empty, last_doubled, new_from_empty, not_apart}
 
@@ -36,10 +37,13 @@ module _ (t : StoredTree) where
   constants = own (λ (c : Constant). c.name.text) constant_seen t.constants.items
 
   abbrev pub constructors : List Text
-  constructors = all_constructor_names (map type_seen t.types.items)
+  constructors = flat_map (λ d. constructor_names (definition_seen d.definition)) t.types.items
+
+  pub constructors_are : constructors ≡ (known (tree_seen t) []).constructors
+  constructors_are = sym (flat_map-map (λ (d : TypeDeclaration). constructor_names d.definition) type_seen t.types.items)
 
   values_are : constants ++ constructors ≡ (known (tree_seen t) []).constants ++ (known (tree_seen t) []).constructors
-  values_are = ap (λ ns. ns ++ constructors) (one_each (λ (c : Constant). c.name.text) constant_seen t.constants.items)
+  values_are = ap₂ (λ (ns : List Text) ms. ns ++ ms) (one_each (λ (c : Constant). c.name.text) constant_seen t.constants.items) constructors_are
 
   module _ (before : List Text) (empty : before ≡ []) where
     pub constant_twice : all_new before constants ≡ false → AreDistinct (tree_seen t) → ⊥

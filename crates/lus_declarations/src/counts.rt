@@ -86,7 +86,7 @@ fn has_few_variables(node: &Node) -> bool
 }
 
 /// How many of so many more names there may be behind those of these.
-fn names_left<T: Naming>(things: &[T], most: usize) -> Option<usize>
+fn names_left<Sort, T: Naming<Sort>>(things: &[T], most: usize) -> Option<usize>
     ensures { AreLeft most (sum_by length (map T.named things.now)) result }
 {
     let mut left = most;
