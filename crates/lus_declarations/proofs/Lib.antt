@@ -3,11 +3,11 @@ pub mod NewNames
 pub mod DeclaredNames
 pub mod GroupNames
 pub mod NodeParts
-pub mod NamePlaces
 pub mod Counting
+pub mod Measures
 pub mod TypesByUses
-pub mod LeavesMeant
 pub mod Greatest
-pub mod DeepThings
+pub mod TypeSizes
+pub mod CallDepths
 pub mod Placing
 pub mod OfSource

@@ -1,5 +1,5 @@
 -- The tables of names that the code holds, as lists of names.
-use Rattle.std.specs.Prelude.{List, [], map, string_bytes, String}
+use Rattle.std.specs.Prelude.{Bool, true, false, not, List, [], map, string_bytes, String}
 use Rattle.std.specs.Global.{Global}
 use Rattle.lus_syntax.specs.Lexemes.{Text}
 use Rattle.lus_declarations.specs.declared.names.Names.{Names}
@@ -21,3 +21,8 @@ known_seen n = record {
 -- the names of a source; no variables
 abbrev pub spaces_seen : Spaces → Known
 spaces_seen s = record { variables = []; constants = s.constants; constructors = s.constructors; types = s.types; nodes = s.nodes }
+
+-- one of two holds, not both
+abbrev pub differs : Bool → Bool → Bool
+differs true b = not b
+differs false b = b

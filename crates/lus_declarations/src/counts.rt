@@ -1,19 +1,20 @@
 //! Counts of declarations, against the limits of the language.
 
-ghost use Rattle.std.specs.Prelude.{◌≡◌, ◌≤◌, IfErr, IfOk, OnOk, OnErr, map};
+ghost use Rattle.std.specs.Prelude.{◌≡◌, ◌≤◌, IfErr, IfOk, OnOk, OnErr, length, map, sum_by};
 ghost use Rattle.std.specs.Bool.{Decides};
 ghost use Rattle.lus_syntax.specs.declared.refusal.RefusalNumber.TheVariants as numbers;
 ghost use Rattle.lus_syntax.specs.Limits.{most_variables};
-ghost use Rattle.lus_syntax.specs.View.{definition_seen, fields_seen, group_seen, node_seen, tree_seen};
+ghost use Rattle.lus_syntax.specs.View.{definition_seen, node_seen, tree_seen};
 ghost use Rattle.lus_typing.specs.Refusals.{RefusesFor};
-ghost use Rattle.lus_source.specs.Sized.{Counted as IsCounted, DefinitionCounted, field_count, variable_count};
+ghost use Rattle.lus_source.specs.Sized.{Counted as IsCounted, DefinitionCounted, variable_count};
 ghost use Rattle.lus_source.specs.Tables.{groups};
 ghost use Rattle.lus_declarations.specs.Limits.{AreLeft};
 
+use crate::naming::Naming;
 use lus_source::{Counted, Fault};
 use lus_syntax::{
-    Definition, Fields, Group, MOST_CONSTRUCTORS, MOST_DECLARATIONS, MOST_FIELDS, MOST_VARIABLES,
-    Node, Place, Refusal, RefusalNumber, Tree,
+    Definition, MOST_CONSTRUCTORS, MOST_DECLARATIONS, MOST_FIELDS, MOST_VARIABLES, Node, Place,
+    Refusal, RefusalNumber, Tree,
 };
 
 /// Checks that a source declares no more than the limits admit. The place is that of a name past a limit, or of the type or
@@ -57,13 +58,14 @@ fn counts_fit(tree: &Tree) -> Result<(), Place>
 }
 
 /// Whether a type has no more constructors or fields than the limits admit, and a structure has a field.
+#[tactic(auto, using(crate::proofs::Counting::fields_counted))]
 fn is_counted(definition: &Definition) -> bool
     ensures { Decides result (DefinitionCounted (definition_seen definition.now)) }
 {
     match definition {
         Definition::Alias(_) => true,
         Definition::Enumeration(constructors) => constructors.len() <= MOST_CONSTRUCTORS,
-        Definition::Structure(fields) => match fields_left(fields, MOST_FIELDS) {
+        Definition::Structure(fields) => match names_left(fields, MOST_FIELDS) {
             Some(left) => left < MOST_FIELDS,
             None => false,
         },
@@ -74,33 +76,22 @@ fn is_counted(definition: &Definition) -> bool
 fn has_few_variables(node: &Node) -> bool
     ensures { Decides result (variable_count (groups (node_seen node.now)) ≤ most_variables) }
 {
-    let Some(left) = variables_left(&node.inputs, MOST_VARIABLES) else {
+    let Some(left) = names_left(&node.inputs, MOST_VARIABLES) else {
         return false;
     };
-    let Some(left) = variables_left(&node.outputs, left) else {
+    let Some(left) = names_left(&node.outputs, left) else {
         return false;
     };
-    variables_left(&node.locals, left).is_some()
+    names_left(&node.locals, left).is_some()
 }
 
-/// How many of so many more fields there may be behind these.
-fn fields_left(groups: &[Fields], most: usize) -> Option<usize>
-    ensures { AreLeft most (field_count (map fields_seen groups.now)) result }
+/// How many of so many more names there may be behind those of these.
+fn names_left<Sort, T: Naming<Sort>>(things: &[T], most: usize) -> Option<usize>
+    ensures { AreLeft most (sum_by length (map T.named things.now)) result }
 {
     let mut left = most;
-    for group in groups {
-        left = left.checked_sub(group.names.len())?;
-    }
-    Some(left)
-}
-
-/// How many of so many more variables there may be behind these.
-fn variables_left(groups: &[Group], most: usize) -> Option<usize>
-    ensures { AreLeft most (variable_count (map group_seen groups.now)) result }
-{
-    let mut left = most;
-    for group in groups {
-        left = left.checked_sub(group.names.len())?;
+    for thing in things {
+        left = left.checked_sub(thing.names().len())?;
     }
     Some(left)
 }

@@ -8,7 +8,7 @@ ghost use Rattle.lus_source.specs.Loopless.{type_names, type_uses};
 ghost use Rattle.lus_source.specs.Tables.{AreKinds, definition_at, definition_kind};
 
 use crate::loopless::Loopless;
-use crate::type_names::of_name;
+use crate::types::kind_of_name;
 use lus_graph::{Rule, along};
 use lus_program::Kind;
 use lus_source::Places;
@@ -50,12 +50,13 @@ pub fn kinds_of_types(alloc: Global, loopless: &Loopless) -> Result<Vec<Kind>, M
 }
 
 /// The type that a type's declaration declares, by those of the types that it names.
+#[tactic(auto, using(crate::proofs::TypesByUses::told_is))]
 fn kind_of(types: &Places, place: u32, definition: &Definition, kinds: &[Kind]) -> Kind
     ensures { let at = item kind_names.Bool kinds.now in
         result ≡ definition_kind types.now at place (definition_seen definition.now) }
 {
     match definition {
-        Definition::Alias(name) => of_name(types, name, Kind::Bool, Kind::Int, kinds),
+        Definition::Alias(name) => kind_of_name(types, kinds, name),
         Definition::Enumeration(_) => Kind::Enum(place),
         Definition::Structure(_) => Kind::Struct(place),
     }

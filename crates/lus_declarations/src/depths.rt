@@ -1,82 +1,79 @@
 //! How deep structures stand in types, and how deep calls go, against the limits of the language.
 
-ghost use Rattle.std.specs.Prelude.{◌≡◌, ◌+◌, ◌≤◌, length, map, replicate};
+ghost use Rattle.std.specs.Prelude.{◌≡◌, ◌≤◌, suc, flat_map, length, map};
 ghost use Rattle.lus_values.specs.Lists.{item};
 ghost use Rattle.lus_graph.specs.Walks.{uses_of};
+ghost use Rattle.lus_graph.specs.Ways.{used};
 ghost use Rattle.lus_syntax.specs.Limits.{most_calls_deep, most_nesting};
-ghost use Rattle.lus_syntax.specs.View.{definition_seen, tree_seen};
-ghost use Rattle.lus_source.specs.Loopless.{node_uses as calls_of_nodes, type_uses as uses_of_types};
+ghost use Rattle.lus_syntax.specs.View.{tree_seen};
+ghost use Rattle.lus_program.specs.View.{declared_of, field_of};
+ghost use Rattle.lus_typing.specs.Kinds.{nothing_declared};
+ghost use Rattle.lus_typing.specs.Sound.{declared_uses, structures_in};
+ghost use Rattle.lus_source.specs.Meaning.{program_of};
 ghost use Rattle.lus_source.specs.ScopeView.{Judged};
-ghost use Rattle.lus_source.specs.Sized.{AreWithin, call_depth_at, greatest, nesting_at, own_level};
-ghost use Rattle.lus_declarations.specs.Limits.{IsLimited, deeper as levels_deeper};
+ghost use Rattle.lus_source.specs.Sized.{AreWithin, call_depth_at, declared_nesting, greatest, nesting_at};
+ghost use Rattle.lus_declarations.specs.Limits.{IsLimited};
 
 use crate::loopless::Loopless;
-use crate::uses::{node_uses, type_uses};
+use crate::uses::node_uses;
 use lus_graph::{Rule, along};
+use lus_program::{Declared, Field, Kind};
 use lus_source::Fault;
-use lus_syntax::{Definition, MOST_CALLS_DEEP, MOST_NESTING};
+use lus_syntax::{MOST_CALLS_DEEP, MOST_NESTING};
 use std::alloc::Global;
 
-/// Each type is its own level deeper than the deepest of those that it names.
+/// Structures stand in each type as deep as in those that its declaration names, and one deeper in a structure.
 #[derive(Drop)]
 struct Nesting<'a> {
-    source: &'a Loopless,
-    uses: &'a [Vec<u32>],
-    ghost are: { uses_of uses.now ≡ uses_of_types (tree_seen source.now) },
+    types: &'a [Declared],
 }
 
-impl<'a> Rule<usize> for Nesting<'a> {
-    ghost uses = { λ r. uses_of_types (tree_seen r.source.now) };
+impl<'a> Rule<u32> for Nesting<'a> {
+    ghost uses = { λ r. map declared_uses (map declared_of r.types.now) };
 
     ghost nothing = { λ r. 0 };
 
-    ghost step = { λ r. levels_deeper (uses_of_types (tree_seen r.source.now))
-        (map (λ d. own_level d.definition) (tree_seen r.source.now).types) };
+    ghost step = { λ r at t. declared_nesting at (item nothing_declared (map declared_of r.types.now) t) };
 
     ghost fits = { λ r n. n ≤ most_nesting };
 
-    fn find(&self, thing: usize, table: &[usize]) -> Option<usize> {
-        let levels = levels_of(&self.source.tree().types[thing].definition);
-        deeper(levels, deepest_of(&self.uses[thing], table), MOST_NESTING)
+    fn find(&self, thing: usize, table: &[u32]) -> Option<u32> {
+        at_most(nesting_of(&self.types[thing], table), MOST_NESTING)
     }
 }
 
 /// Each node is one level deeper than the deepest of those that it calls.
 #[derive(Drop)]
 struct Calls<'a> {
-    source: &'a Loopless,
     uses: &'a [Vec<u32>],
-    ghost are: { uses_of uses.now ≡ calls_of_nodes (tree_seen source.now) },
 }
 
-impl<'a> Rule<usize> for Calls<'a> {
-    ghost uses = { λ r. calls_of_nodes (tree_seen r.source.now) };
+impl<'a> Rule<u32> for Calls<'a> {
+    ghost uses = { λ r. uses_of r.uses.now };
 
-    ghost nothing = { λ r. 0 };
+    ghost nothing = { λ r. 1 };
 
-    ghost step = { λ r. levels_deeper (calls_of_nodes (tree_seen r.source.now)) (replicate (length (tree_seen r.source.now).nodes) 1) };
+    ghost step = { λ r at x. suc (greatest at (used (uses_of r.uses.now) x)) };
 
     ghost fits = { λ r n. n ≤ most_calls_deep };
 
-    fn find(&self, thing: usize, table: &[usize]) -> Option<usize> {
-        deeper(1, deepest_of(&self.uses[thing], table), MOST_CALLS_DEEP)
+    fn find(&self, thing: usize, table: &[u32]) -> Option<u32> {
+        let deepest = deepest_of(&self.uses[thing], table);
+        at_most(deepest as usize + 1, MOST_CALLS_DEEP)
     }
 }
 
 /// Checks how deep structures stand in types.
-pub fn check_nesting(alloc: Global, loopless: &Loopless) -> Result<(), Fault>
-    ensures { let p = tree_seen loopless.now in Judged result (AreWithin (length p.types) (nesting_at p) most_nesting) }
+pub fn check_nesting(alloc: Global, loopless: &Loopless, types: &[Declared]) -> Result<(), Fault>
+    requires declared { map declared_of types.now ≡ (program_of (tree_seen loopless.now)).types }
+    ensures { let types = (program_of (tree_seen loopless.now)).types in
+        Judged result (AreWithin (length types) (nesting_at types) most_nesting) }
 {
-    let types = loopless.tree().types.as_slice();
-    let unknown = vec![in alloc; 0usize; types.len()]?;
-    let uses = type_uses(alloc, loopless.named())?;
-    let rule = Nesting {
-        source: loopless,
-        uses: &uses,
-    };
-    match along(&rule, loopless.types(), unknown) {
+    let declarations = loopless.tree().types.as_slice();
+    let unknown = vec![in alloc; 0u32; declarations.len()]?;
+    match along(&Nesting { types }, loopless.types(), unknown) {
         Ok(_) => Ok(()),
-        Err(place) => Err(Fault::At(types[place].name.span.start)),
+        Err(place) => Err(Fault::At(declarations[place].name.span.start)),
     }
 }
 
@@ -85,42 +82,65 @@ pub fn check_calls(alloc: Global, loopless: &Loopless) -> Result<(), Fault>
     ensures { let p = tree_seen loopless.now in Judged result (AreWithin (length p.nodes) (call_depth_at p) most_calls_deep) }
 {
     let nodes = loopless.tree().nodes.as_slice();
-    let unknown = vec![in alloc; 0usize; nodes.len()]?;
+    let unknown = vec![in alloc; 1u32; nodes.len()]?;
     let uses = node_uses(alloc, loopless.named())?;
-    let rule = Calls {
-        source: loopless,
-        uses: &uses,
-    };
-    match along(&rule, loopless.nodes(), unknown) {
+    match along(&Calls { uses: &uses }, loopless.nodes(), unknown) {
         Ok(_) => Ok(()),
         Err(place) => Err(Fault::At(nodes[place].name.span.start)),
     }
 }
 
-fn levels_of(definition: &Definition) -> usize
-    ensures { result ≡ own_level (definition_seen definition.now) }
+/// How deep structures stand in a type, by how deep they do in those that its declaration names.
+fn nesting_of(declared: &Declared, depths: &[u32]) -> usize
+    ensures { result ≡ declared_nesting (item 0 depths.now) (declared_of declared.now) }
 {
-    match definition {
-        Definition::Alias(_) => 0,
-        Definition::Enumeration(_) => 0,
-        Definition::Structure(_) => 1,
+    match declared {
+        Declared::Alias(kind) => depth_of_kind(*kind, depths) as usize,
+        Declared::Enumeration(_) => 0,
+        Declared::Structure(fields) => deepest_field(fields, depths) as usize + 1,
     }
 }
 
-fn deepest_of(used: &[u32], depths: &[usize]) -> usize
-    ensures { result ≡ greatest (item 0 depths.now) used.now }
+fn depth_of_kind(kind: Kind, depths: &[u32]) -> u32
+    ensures { result ≡ greatest (item 0 depths.now) (structures_in kind) }
+{
+    match kind {
+        Kind::Bool => 0,
+        Kind::Int => 0,
+        Kind::Enum(_) => 0,
+        Kind::Struct(place) => depths.get(place as usize).copied().unwrap_or(0),
+    }
+}
+
+fn deepest_field(fields: &[Field], depths: &[u32]) -> u32
+    ensures { let named = flat_map (λ g. structures_in g.kind) (map field_of fields.now) in
+        result ≡ greatest (item 0 depths.now) named }
 {
     let mut deepest = 0;
-    for place in used {
-        deepest = deepest.max(depths.get(*place as usize).copied().unwrap_or(0));
+    for field in fields {
+        deepest = deepest.max(depth_of_kind(field.kind, depths));
     }
     deepest
 }
 
-/// So many levels more, within the limit.
-fn deeper(levels: usize, depth: usize, most: usize) -> Option<usize>
-    ensures { IsLimited most (levels + depth) result }
+fn deepest_of(used: &[u32], depths: &[u32]) -> u32
+    ensures { result ≡ greatest (item 1 depths.now) used.now }
 {
-    let deeper = levels.checked_add(depth)?;
-    if deeper <= most { Some(deeper) } else { None }
+    let mut deepest = 0;
+    for place in used {
+        deepest = deepest.max(depths.get(*place as usize).copied().unwrap_or(1));
+    }
+    deepest
+}
+
+/// A number, where it is within a limit.
+pub fn at_most(number: usize, most: usize) -> Option<u32>
+    requires { most ≤ 4294967295 }
+    ensures { IsLimited most number result }
+{
+    if number <= most {
+        Some(number as u32)
+    } else {
+        None
+    }
 }

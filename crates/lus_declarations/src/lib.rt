@@ -18,7 +18,6 @@ mod refusing;
 mod scopes;
 mod signatures;
 mod sizes;
-mod type_names;
 mod types;
 mod uses;
 mod using;

@@ -1,112 +1,122 @@
-//! How large types are, and how deep calls go, against the limits of the language.
+//! How large types are, how deep structures stand in them, and how deep calls go, against the limits of the language.
 
 ghost use Rattle.std.specs.Prelude.{◌≡◌, ◌≤◌, IfErr, IfOk, OnOk, length, map, sum_by};
 ghost use Rattle.lus_values.specs.Lists.{item};
 ghost use Rattle.lus_syntax.specs.declared.refusal.RefusalNumber.TheVariants as numbers;
 ghost use Rattle.lus_syntax.specs.Limits.{most_leaves};
-ghost use Rattle.lus_syntax.specs.View.{definition_seen, fields_seen, tree_seen};
-ghost use Rattle.lus_typing.specs.Leaves.{AreTheLeaves};
+ghost use Rattle.lus_syntax.specs.View.{tree_seen};
+ghost use Rattle.lus_program.specs.View.{declared_of, field_of};
+ghost use Rattle.lus_typing.specs.Kinds.{nothing_declared};
+ghost use Rattle.lus_typing.specs.Leaves.{AreTheLeaves, declared_leaves, kind_leaves};
 ghost use Rattle.lus_typing.specs.Refusals.{RefusesFor};
-ghost use Rattle.lus_source.specs.Loopless.{type_names as names_of_types, type_uses as uses_of_types};
+ghost use Rattle.lus_typing.specs.Sound.{declared_uses};
 ghost use Rattle.lus_source.specs.Meaning.{program_of};
 ghost use Rattle.lus_source.specs.ScopeView.{Judged};
-ghost use Rattle.lus_source.specs.Sized.{AreWithin, Bounded, definition_leaves, group_leaves, leaves_at};
-ghost use Rattle.lus_source.specs.Tables.{definition_at};
+ghost use Rattle.lus_source.specs.Sized.{AreWithin, Bounded, leaves_at};
 ghost use Rattle.lus_declarations.specs.Limits.{IsLimited};
 
-use crate::depths::{check_calls, check_nesting};
+use crate::depths::{at_most, check_calls, check_nesting};
 use crate::loopless::Loopless;
-use crate::type_names::of_name;
 use lus_graph::{Rule, along};
-use lus_source::{Fault, Places};
-use lus_syntax::{Definition, Fields, MOST_LEAVES, Refusal, RefusalNumber};
+use lus_program::{Declared, Field, Kind};
+use lus_source::Fault;
+use lus_syntax::{MOST_LEAVES, Refusal, RefusalNumber};
 use std::alloc::Global;
 
 /// Checks leaves and nesting of types and call depth of nodes against the limits, and gives the leaves. A refusal stands at the
 /// declared name.
-pub fn check_sizes(alloc: Global, loopless: &Loopless) -> Result<Vec<u32>, Refusal>
+pub fn check_sizes(
+    alloc: Global,
+    loopless: &Loopless,
+    types: &[Declared],
+) -> Result<Vec<u32>, Refusal>
+    requires declared { map declared_of types.now ≡ (program_of (tree_seen loopless.now)).types }
     ensures leaves { IfOk result (λ leaves. AreTheLeaves (program_of (tree_seen loopless.now)) leaves.items) }
     ensures ok { OnOk result (Bounded (tree_seen loopless.now)) }
     ensures refused { IfErr result (RefusesFor numbers.Limit (Bounded (tree_seen loopless.now))) }
 {
-    match sizes(alloc, loopless) {
+    match sizes(alloc, loopless, types) {
         Ok(leaves) => Ok(leaves),
         Err(fault) => Err(fault.refusal(RefusalNumber::Limit)),
     }
 }
 
-fn sizes(alloc: Global, loopless: &Loopless) -> Result<Vec<u32>, Fault>
+fn sizes(alloc: Global, loopless: &Loopless, types: &[Declared]) -> Result<Vec<u32>, Fault>
+    requires declared { map declared_of types.now ≡ (program_of (tree_seen loopless.now)).types }
     ensures leaves { IfOk result (λ leaves. AreTheLeaves (program_of (tree_seen loopless.now)) leaves.items) }
     ensures bounded { Judged result (Bounded (tree_seen loopless.now)) }
 {
-    let leaves = check_leaves(alloc, loopless)?;
-    check_nesting(alloc, loopless)?;
+    let leaves = check_leaves(alloc, loopless, types)?;
+    check_nesting(alloc, loopless, types)?;
     check_calls(alloc, loopless)?;
     Ok(leaves)
 }
 
-/// Each type has its leaves, by those of the types that its declaration names.
+/// Each type has its leaves, by those of the structures that its declaration names.
 #[derive(Drop)]
 struct Leaves<'a> {
-    source: &'a Loopless,
+    types: &'a [Declared],
 }
 
 impl<'a> Rule<u32> for Leaves<'a> {
-    ghost uses = { λ r. uses_of_types (tree_seen r.source.now) };
+    ghost uses = { λ r. map declared_uses (map declared_of r.types.now) };
 
     ghost nothing = { λ r. 1 };
 
-    ghost step = { λ r at t. definition_leaves (names_of_types (tree_seen r.source.now)) at (definition_at (tree_seen r.source.now) t) };
+    ghost step = { λ r at t. declared_leaves at (item nothing_declared (map declared_of r.types.now) t) };
 
     ghost fits = { λ r n. n ≤ most_leaves };
 
     fn find(&self, thing: usize, table: &[u32]) -> Option<u32> {
-        let types = self.source.type_names();
-        leaves_of(types, &self.source.tree().types[thing].definition, table)
+        leaves_of(&self.types[thing], table)
     }
 }
 
-/// Checks the leaves of types, each behind the types that it names, and gives them.
-fn check_leaves(alloc: Global, loopless: &Loopless) -> Result<Vec<u32>, Fault>
+/// Checks the leaves of types, each behind the structures that its declaration names, and gives them.
+fn check_leaves(alloc: Global, loopless: &Loopless, types: &[Declared]) -> Result<Vec<u32>, Fault>
+    requires declared { map declared_of types.now ≡ (program_of (tree_seen loopless.now)).types }
     ensures leaves { IfOk result (λ leaves. AreTheLeaves (program_of (tree_seen loopless.now)) leaves.items) }
-    ensures within { let p = tree_seen loopless.now in Judged result (AreWithin (length p.types) (leaves_at p) most_leaves) }
+    ensures within { let types = (program_of (tree_seen loopless.now)).types in
+        Judged result (AreWithin (length types) (leaves_at types) most_leaves) }
 {
-    let types = loopless.tree().types.as_slice();
-    let unknown = vec![in alloc; 1u32; types.len()]?;
-    match along(&Leaves { source: loopless }, loopless.types(), unknown) {
+    let declarations = loopless.tree().types.as_slice();
+    let unknown = vec![in alloc; 1u32; declarations.len()]?;
+    match along(&Leaves { types }, loopless.types(), unknown) {
         Ok(leaves) => Ok(leaves),
-        Err(place) => Err(Fault::At(types[place].name.span.start)),
+        Err(place) => Err(Fault::At(declarations[place].name.span.start)),
     }
 }
 
-/// The leaves of a type, if they are within the limit, by those of the types that its declaration names.
-fn leaves_of(types: &Places, definition: &Definition, leaves: &[u32]) -> Option<u32>
-    ensures { let count = definition_leaves types.now (item 1 leaves.now) (definition_seen definition.now) in
-        IsLimited most_leaves count result }
+/// The leaves of a type, if they are within the limit, by those of the structures that its declaration names.
+fn leaves_of(declared: &Declared, leaves: &[u32]) -> Option<u32>
+    ensures { IsLimited most_leaves (declared_leaves (item 1 leaves.now) (declared_of declared.now)) result }
 {
-    match definition {
-        Definition::Alias(name) => at_most(of_name(types, name, 1, 1, leaves), MOST_LEAVES),
-        Definition::Enumeration(_) => Some(1),
-        Definition::Structure(fields) => leaves_of_fields(types, fields, leaves),
+    match declared {
+        Declared::Alias(kind) => at_most(leaves_of_kind(*kind, leaves) as usize, MOST_LEAVES),
+        Declared::Enumeration(_) => Some(1),
+        Declared::Structure(fields) => leaves_of_fields(fields, leaves),
     }
 }
 
 /// The leaves of all fields, if they are within the limit.
-fn leaves_of_fields(types: &Places, groups: &[Fields], leaves: &[u32]) -> Option<u32>
-    ensures { let each = group_leaves types.now (item 1 leaves.now) in
-        IsLimited most_leaves (sum_by each (map fields_seen groups.now)) result }
+fn leaves_of_fields(fields: &[Field], leaves: &[u32]) -> Option<u32>
+    ensures { let each = kind_leaves (item 1 leaves.now) in
+        IsLimited most_leaves (sum_by (λ g. each g.kind) (map field_of fields.now)) result }
 {
     let mut left = MOST_LEAVES;
-    for group in groups {
-        let each = of_name(types, &group.type_name, 1, 1, leaves);
-        let together = group.names.len().checked_mul(each as usize)?;
-        left = left.checked_sub(together)?;
+    for field in fields {
+        left = left.checked_sub(leaves_of_kind(field.kind, leaves) as usize)?;
     }
     Some((MOST_LEAVES - left) as u32)
 }
 
-fn at_most(n: u32, most: usize) -> Option<u32>
-    ensures { IsLimited most n result }
+fn leaves_of_kind(kind: Kind, leaves: &[u32]) -> u32
+    ensures { result ≡ kind_leaves (item 1 leaves.now) kind }
 {
-    if n as usize <= most { Some(n) } else { None }
+    match kind {
+        Kind::Bool => 1,
+        Kind::Int => 1,
+        Kind::Enum(_) => 1,
+        Kind::Struct(place) => leaves.get(place as usize).copied().unwrap_or(1),
+    }
 }

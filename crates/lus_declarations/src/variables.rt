@@ -24,20 +24,11 @@ pub fn enter(alloc: Global, scope: &mut Scope, node: &Node) -> Result<(), Fault>
     ensures entered { OnOk result (scope_of scope.new ≡ entered (scope_of scope.old) (node_seen node.now)) }
     ensures doubled { IfErr result (Faulty (Distinct (names_in (groups (node_seen node.now))) → ⊥)) }
 {
-    scope.variables = variable_names(alloc, node)?;
-    scope.variable_kinds = variable_kinds(alloc, &scope.names.types, &scope.types, node)?;
-    Ok(())
-}
-
-/// The names of a node's variables, where they are distinct.
-fn variable_names(alloc: Global, node: &Node) -> Result<Places, Fault>
-    requires few { variable_count (groups (node_seen node.now)) ≤ most_variables }
-    ensures names { IfOk result (λ names. names ≡ names_in (groups (node_seen node.now))) }
-    ensures doubled { IfErr result (Faulty (Distinct (names_in (groups (node_seen node.now))) → ⊥)) }
-{
     let mut names = IndexSet::new(alloc);
     declare_variables(&mut names, node)?;
-    Ok(Places::new(names))
+    scope.variables = Places::new(names);
+    scope.variable_kinds = variable_kinds(alloc, &scope.names.types, &scope.types, node)?;
+    Ok(())
 }
 
 /// The types of a node's variables.

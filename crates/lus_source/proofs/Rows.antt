@@ -245,11 +245,33 @@ fields_counted = search rules
 fields_bounded : Bounded fields
 fields_bounded = search rules
 
-three_leaves : leaves_at fields 0 ≡ 3
+three_leaves : leaves_at (program_of fields).types 0 ≡ 3
 three_leaves = refl
 
-one_deep : nesting_at fields 0 ≡ 1
+one_deep : nesting_at (program_of fields).types 0 ≡ 1
 one_deep = refl
+
+-- type r = struct { x, y: q; z: bool }, before these types
+abbrev outer : tree.Definition
+outer = tree.StructureOf (
+    record { names = n 120 ∷ n 121 ∷ []; type_name = declared 113 }
+    ∷ record { names = n 122 ∷ []; type_name = bool_name } ∷ [])
+
+abbrev nested : List program.Declared
+nested = (program_of (record { types = record { name = n 114; definition = outer } ∷ structures; constants = []; nodes = [] })).types
+
+seven_leaves : leaves_at nested 0 ≡ 7
+seven_leaves = refl
+
+two_deep : nesting_at nested 0 ≡ 2
+two_deep = refl
+
+-- an enumeration, and no type
+one_leaf : (leaves_at nested 3 ≡ 1) × (leaves_at nested 4 ≡ 1)
+one_leaf = (refl, refl)
+
+not_deep : (nesting_at nested 3 ≡ 0) × (nesting_at nested 4 ≡ 0)
+not_deep = (refl, refl)
 
 -- the programs that they mean keep what later passes rely on
 calls_resolved : Each (NodeResolved (program_of calls)) (program_of calls).nodes

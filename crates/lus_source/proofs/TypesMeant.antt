@@ -55,7 +55,7 @@ module _ (p : Tree) where
   place_leads n t u reaches (Some s) uses is = reached t s u (uses s (0, omega arith, refl)) (reaches s u is)
 
   -- a type that a declaration of t names
-  name_leads : (n t u : ℕ) → Reaches n → (y : TypeName) → ((s : ℕ) → Contains (named_type (type_names p) y) s → Contains (used (tree_uses p) t) s) → of_type (type_names p) kinds.Bool kinds.Int (followed n) y ≡ kinds.Struct u → Leads (tree_uses p) t u
+  name_leads : (n t u : ℕ) → Reaches n → (y : TypeName) → ((s : ℕ) → Contains (named_type (type_names p) y) s → Contains (used (tree_uses p) t) s) → of_type (type_names p) (followed n) y ≡ kinds.Struct u → Leads (tree_uses p) t u
   name_leads n t u reaches (DeclaredName m) uses is = place_leads n t u reaches (place_in (type_names p) m.text) uses is
   name_leads n t u reaches y uses is = cc
 

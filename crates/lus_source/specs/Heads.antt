@@ -1,5 +1,5 @@
 -- What the types of a node's text depend on, as a program and a node: the program declares the source's types and its nodes have their
--- inputs and outputs; the node has the variables of the text. None has equations.
+-- inputs and outputs; the node has the variables of the text. None has equations. Lustre V6 reference manual, "Types", "Nodes".
 use Rattle.std.specs.Prelude.{◌++◌, List, [], Option, None, length, map}
 use Rattle.lus_program.specs.declared.types.Kind.{Kind}
 use Rattle.lus_program.specs.Programs.{Expression, Operands, Variable, Node, Program, empty_node}

@@ -6,14 +6,15 @@ use Rattle.std.specs.Str.{bytes_eq}
 use Rattle.lus_syntax.specs.Limits.{most_fields}
 use Rattle.lus_syntax.specs.Lexemes.{Text}
 use Rattle.lus_syntax.specs.Trees.{Label, Constructor, Boolean, Test, Holds, Fails, Is, Lead, Of, Branch, Parts, End, More}
-use Rattle.lus_values.specs.Lists.{item}
 use Rattle.lus_values.specs.Values.{Value, enum}
 use Rattle.lus_program.specs.declared.expr.Test.{Test as PlacedTest}
 use Rattle.lus_program.specs.declared.types.Kind.{Kind}
 use Rattle.lus_program.specs.declared.types.Kind.TheVariants as kinds
 use Rattle.lus_program.specs.Programs.{Declared, Field as DeclaredField}
-use Rattle.lus_typing.specs.Kinds.{same, where_true, count, fields_in, constructors_in, nothing_declared}
+use Rattle.lus_typing.specs.Kinds.{same, where_true, count, fields_in}
+use Rattle.lus_typing.specs.Resolved.{declared_in, values_of}
 use Rattle.lus_source.specs.declared.entries.Placed.{Placed}
+use Rattle.lus_source.specs.Heads.{heads}
 use Rattle.lus_source.specs.Scopes.{Scope, entry}
 
 -- the numbers from c on, n of them, stand in the list, each exactly once
@@ -61,17 +62,12 @@ module _ (s : Scope) where
     | None ↦ option_map (λ c. enum c.enumeration c.place) (entry s.constructors n)
   ]
 
-  abbrev pub declared_at : ℕ → Declared
-  declared_at t = item nothing_declared s.declared t
-
   -- the constructors of a type, as many as there are
   abbrev pub size_of : Kind → ℕ
-  size_of kinds.Bool = 2
-  size_of (kinds.Enum t) = constructors_in (declared_at t)
-  size_of k = 0
+  size_of = values_of (heads s)
 
   abbrev pub fields_of : Kind → List DeclaredField
-  fields_of (kinds.Struct t) = fields_in (declared_at t)
+  fields_of (kinds.Struct t) = fields_in (declared_in (heads s) t)
   fields_of k = []
 
   -- the place of a label among the constructors of a type

@@ -1,5 +1,5 @@
--- The program that a tree means: names become places. What has no meaning, as a field that its structure hasn't, means nil, which has no
--- type.
+-- The program that a tree means: names become places (Halbwachs, Caspi, Raymond and Pilaud 1991, on variables and equations; Lustre V6
+-- reference manual, "Nodes"). What has no meaning, as a field that its structure hasn't, means nil, which has no type.
 use Rattle.std.specs.Prelude.{◌&&◌, ◌+◌, ℕ, zero, suc, Bool, true, false, List, [], ◌∷◌, Option, Some, None, cond, map, flat_map, length, nat_eq, option_map, unwrap_or}
 use Rattle.std.specs.Option.{option_and_then}
 use Rattle.lus_syntax.specs.Lexemes.{Text}

@@ -27,22 +27,22 @@ each_of ns x = map (λ n. (n.text, x)) ns
 
 -- types: a declared type is the place of its declaration among the source's types
 
+-- where nothing is declared, bool
 abbrev pub no_definition : Definition
-no_definition = Enumeration []
+no_definition = Alias (BoolName (record { start = record { byte = 0; line = 1; column = 1 }; length = 0 }))
 
 abbrev pub definition_at : Tree → ℕ → Definition
 definition_at p t = item no_definition (map (λ d. d.definition) p.types) t
 
--- what a type's name has, these being the declared types: x where it is bool's, y where it is int's, else what `at` gives
--- its declaration
-abbrev pub of_type : {X : Type 0} → List Text → X → X → (ℕ → X) → TypeName → X
-of_type types x y at (BoolName s) = x
-of_type types x y at (IntName s) = y
-of_type types x y at (DeclaredName n) = elim (place_in types n.text) [ Some t ↦ at t | None ↦ x ]
+-- what a type's name means, these being the declared types and these what they are; bool for an unknown one
+abbrev pub of_type : List Text → (ℕ → Kind) → TypeName → Kind
+of_type types at (BoolName s) = kinds.Bool
+of_type types at (IntName s) = kinds.Int
+of_type types at (DeclaredName n) = elim (place_in types n.text) [ Some t ↦ at t | None ↦ kinds.Bool ]
 
 -- an alias is the type it names
 abbrev pub definition_kind : List Text → (ℕ → Kind) → ℕ → Definition → Kind
-definition_kind types at t (Alias y) = of_type types kinds.Bool kinds.Int at y
+definition_kind types at t (Alias y) = of_type types at y
 definition_kind types at t (Enumeration cs) = kinds.Enum t
 definition_kind types at t (StructureOf fs) = kinds.Struct t
 
@@ -54,9 +54,9 @@ pub record AreKinds (p : Tree) (ks : List Kind) : Type 0 where
   pub size : length ks ≡ length p.types
   pub each : Below (length p.types) (λ t. item kinds.Bool ks t ≡ kind_at p t)
 
--- the type that a name means; bool for an unknown one
+-- the type that a name means
 abbrev pub kind_named : Tree → TypeName → Kind
-kind_named p = of_type (type_names p) kinds.Bool kinds.Int (kind_at p)
+kind_named p = of_type (type_names p) (kind_at p)
 
 -- the table of declared types, by the types that their declarations declare
 abbrev pub types_by : (ℕ → Kind) → List TypeDeclaration → List (Text × Kind)

@@ -16,19 +16,20 @@ ghost use Rattle.lus_source.specs.ScopeView.{Judged, scope_of};
 use crate::constants::check_constants;
 use crate::nodes::node;
 use crate::parts::check_parts;
-use lus_declarations::{Loopless, enter, tables};
+use lus_declarations::{Loopless, enter};
 use lus_program::{Node, Program};
 use lus_source::{Fault, Scope};
 use lus_syntax::{Refusal, RefusalNumber};
 use std::alloc::Global;
 
-/// Checks types, and gives the program that the source means.
-pub fn types(alloc: Global, loopless: &Loopless) -> Result<Program, Refusal>
+/// Checks types, and gives the program that the source means. The scope has what its names stand for.
+pub fn types(alloc: Global, scope: Scope<'_>, loopless: &Loopless) -> Result<Program, Refusal>
+    requires scoped { scope_of scope ≡ tables_of (tree_seen loopless.now) }
     ensures ok { OnOk result (IsTyped (tree_seen loopless.now)) }
     ensures means { IfOk result (λ q. program_seen q ≡ program_of (tree_seen loopless.now)) }
     ensures refused { IfErr result (RefusesFor numbers.Type (IsTyped (tree_seen loopless.now))) }
 {
-    match program(alloc, loopless) {
+    match program(alloc, scope, loopless) {
         Ok(program) => Ok(program),
         Err(fault) => Err(fault.refusal(RefusalNumber::Type)),
     }
@@ -46,11 +47,11 @@ pub fn parts(program: &Program) -> Result<(), Refusal>
 }
 
 /// The program that a source means, where it is well typed.
-fn program(alloc: Global, loopless: &Loopless) -> Result<Program, Fault>
+fn program(alloc: Global, mut scope: Scope<'_>, loopless: &Loopless) -> Result<Program, Fault>
+    requires scoped { scope_of scope ≡ tables_of (tree_seen loopless.now) }
     ensures typed { Judged result (IsTyped (tree_seen loopless.now)) }
     ensures means { IfOk result (λ q. program_seen q ≡ program_of (tree_seen loopless.now)) }
 {
-    let mut scope = tables(alloc, loopless)?;
     check_constants(&scope, &loopless.tree().constants)?;
     let nodes = nodes(alloc, &mut scope, loopless)?;
     Ok(Program {

@@ -11,7 +11,7 @@ ghost use Rattle.lus_source.specs.Refusals.{FirstFails, WellFormed};
 ghost use Rattle.lus_source.specs.Sized.{Counted};
 
 use crate::passes::{parts, types};
-use lus_declarations::{Loopless, check_counts, check_names, check_recursion, check_sizes};
+use lus_declarations::{Loopless, check_counts, check_names, check_recursion, check_sizes, tables};
 use lus_syntax::{Refusal, Tree};
 use lus_typing::Typed;
 use std::alloc::Global;
@@ -39,8 +39,9 @@ fn typed(alloc: Global, loopless: Loopless) -> Result<Typed, Refusal>
     ensures means { IfOk result (λ typed. program_seen typed ≡ program_of (tree_seen loopless)) }
     ensures refused { IfErr result (λ e. e.number ≢ numbers.Memory → FirstFails (tree_seen loopless) e.number) }
 {
-    let leaves = check_sizes(alloc, &loopless)?;
-    let program = types(alloc, &loopless)?;
+    let scope = tables(alloc, &loopless)?;
+    let leaves = check_sizes(alloc, &loopless, &scope.declared)?;
+    let program = types(alloc, scope, &loopless)?;
     parts(&program)?;
     Ok(Typed::new(program, loopless.into_nodes(), leaves))
 }

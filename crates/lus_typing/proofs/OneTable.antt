@@ -34,7 +34,7 @@ module _ (at at' : ℕ → ℕ) where
       let later = fields_alike fs (λ t among. h t (Contains-append_right (structures_in g.kind) rest t among)) in
       sum_by-cons (λ (f : Field). kind_leaves at f.kind) g fs ∙ rw (first, later) (sym (sum_by-cons (λ (f : Field). kind_leaves at' f.kind) g fs))
 
-  declared_alike : (d : Declared) → AreAlike (declared_uses d) → declared_leaves at d ≡ declared_leaves at' d
+  pub declared_alike : (d : Declared) → AreAlike (declared_uses d) → declared_leaves at d ≡ declared_leaves at' d
   declared_alike (alias k) h = kind_alike k h
   declared_alike (enumeration cs) h = refl
   declared_alike (structure fs) h = fields_alike fs h

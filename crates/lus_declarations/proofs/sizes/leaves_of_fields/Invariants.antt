@@ -1,8 +1,8 @@
 use Rattle.std.proofs.Common.{◌≡◌, ◌+◌, take, map, sum_by}
 use Rattle.lus_values.specs.Lists.{item}
-use Rattle.lus_syntax.specs.View.{fields_seen}
-use Rattle.lus_source.specs.Sized.{group_leaves}
+use Rattle.lus_program.specs.View.{field_of}
+use Rattle.lus_typing.specs.Leaves.{kind_leaves}
 use Rattle.lus_declarations.proofs.sizes.leaves_of_fields.Given as goal
 
-abbrev pub invariant-loop-group : goal.invariant-loop-group
-invariant-loop-group l = l.left + sum_by (group_leaves l.types (item 1 l.leaves)) (map fields_seen (take l.group-index l.groups)) ≡ 1024
+abbrev pub invariant-loop-field : goal.invariant-loop-field
+invariant-loop-field l = l.left + sum_by (λ g. kind_leaves (item 1 l.leaves) g.kind) (map field_of (take l.field-index l.fields)) ≡ 1024

@@ -23,3 +23,12 @@ pub push_called-returns-in_ok-push_place-in-Call : goal.push_called-returns-in_o
 push_called-returns-in_ok-push_place-in-Call t c =
     let e : expression_seen c.args.expr.now ≡ _ = ap expression_seen c.in-Call.is ∙ seen_call c.in-Call.name c.in-Call.arguments in
     rw e (grind (arith, common_steps))
+
+pub push_called-returns-in_ok-push_called-in-Binary : goal.push_called-returns-in_ok-push_called-in-Binary
+push_called-returns-in_ok-push_called-in-Binary t c = grind (arith, common_steps)
+
+pub push_called-returns-in_ok-push_called-in-If-2 : goal.push_called-returns-in_ok-push_called-in-If-2
+push_called-returns-in_ok-push_called-in-If-2 t c = grind (arith, common_steps)
+
+pub push_called_in-loop-part-preserved : goal.push_called_in-loop-part-preserved
+push_called_in-loop-part-preserved t c = grind (arith, common_steps)

@@ -4,3 +4,6 @@ use Rattle.lus_declarations.proofs.uses.definition_uses.Goals as goal
 
 pub loop-group-preserved : goal.loop-group-preserved
 loop-group-preserved c = grind (arith, common_steps)
+
+pub returns-after-loop-group : goal.returns-after-loop-group
+returns-after-loop-group c = grind (arith, common_steps)

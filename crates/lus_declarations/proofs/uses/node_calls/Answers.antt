@@ -4,3 +4,6 @@ use Rattle.lus_declarations.proofs.uses.node_calls.Goals as goal
 
 pub loop-equation-preserved : goal.loop-equation-preserved
 loop-equation-preserved c = grind (arith, common_steps)
+
+pub returns : goal.returns
+returns c = grind (arith, common_steps)

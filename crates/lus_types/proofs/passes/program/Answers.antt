@@ -9,12 +9,12 @@ use Rattle.lus_types.proofs.passes.program.Goals as goal
 pub returns-in_err-check_constants-clause-typed : goal.returns-in_err-check_constants-clause-typed
 returns-in_err-check_constants-clause-typed c =
     let tree = c.deref.ensures.value ∙ ap (λ (t : StoredTree). t.constants.items) c.tree.ensures.same in
-    let same = constants_are (tree_seen c.args.loopless.now) _ _ c.in_ok-scope.ensures (ap (map constant_seen) tree) in
-    let r = c.from_residual-in_err-check_constants in
+    let same = constants_are (tree_seen c.args.loopless.now) _ _ c.requires.scoped (ap (map constant_seen) tree) in
+    let r = c.from_residual in
     passed_on _ (λ failed typed. both_ways _ (sym same ∙ failed) typed.constants) r.result c.in_err-check_constants.field-0.0 r.ensures.1 c.in_err-check_constants.ensures
 
 pub returns-clause-typed : goal.returns-clause-typed
 returns-clause-typed c =
     let tree = c.deref.ensures.value ∙ ap (λ (t : StoredTree). t.constants.items) c.tree.ensures.same in
-    let same = constants_are (tree_seen c.args.loopless.now) _ _ c.in_ok-scope.ensures (ap (map constant_seen) tree) in
+    let same = constants_are (tree_seen c.args.loopless.now) _ _ c.requires.scoped (ap (map constant_seen) tree) in
     record { constants = sym same ∙ c.in_ok-check_constants.ensures; nodes = c.in_ok-nodes.ensures.typed }
