@@ -26,11 +26,6 @@ each_counted c (suc n) ms = nat_eq (count c ms) 1 && each_counted (suc c) n ms
 abbrev pub each_once : ℕ → List ℕ → Bool
 each_once n ms = each_counted 0 n ms && nat_eq (length ms) n
 
--- where a number stands first
-abbrev pub index_of : ℕ → List ℕ → Option ℕ
-index_of c [] = None
-index_of c (m ∷ ms) = cond (nat_eq c m) (Some 0) (option_map (λ i. suc i) (index_of c ms))
-
 -- the field of this name, by its place, those before it being n
 abbrev pub field_from : ℕ → List DeclaredField → Text → Option Placed
 field_from n [] x = None
