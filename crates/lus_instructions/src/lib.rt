@@ -28,7 +28,7 @@ pub use instruction::{Instruction, Operand};
 pub use layout::Layout;
 pub use located::Located;
 pub use located_machine::run_located;
-pub use locating::locate_all;
+pub use locating::{locate_all, reads_within, stays_within};
 pub use machine::run;
 pub use operation::{chosen, compute_two, decide, operate, project};
 pub use place::{entry_at, fetch, found_at, read};
