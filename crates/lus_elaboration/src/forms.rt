@@ -123,6 +123,18 @@ pub fn clock_variable(test: &SourceTest) -> &Name
     }
 }
 
+/// The test of the program, by the places of its variable and its constructor.
+fn placed(scope: &Scope, source: &SourceTest) -> Option<Test>
+    ensures { result ≡ placed_test (scope_of scope.now) (test_seen source.now) }
+{
+    let variable = scope.variable(&clock_variable(source).text)?;
+    let constructor = asked_place(scope, variable.kind, source)?;
+    Some(Test {
+        variable: variable.place,
+        constructor,
+    })
+}
+
 /// The test of the program, where its variable may hold its constructor.
 pub fn test(scope: &Scope, source: &SourceTest) -> Option<Test>
     ensures placed { IfSome result (λ t. placed_test (scope_of scope.now) (test_seen source.now) ≡ Some t) }
@@ -130,11 +142,7 @@ pub fn test(scope: &Scope, source: &SourceTest) -> Option<Test>
     ensures fits { is_some result
         ≡ fits (heads (scope_of scope.now)) (head (scope_of scope.now)) (test_meant (scope_of scope.now) (test_seen source.now)) }
 {
-    let variable = scope.variable(&clock_variable(source).text)?;
-    let test = Test {
-        variable: variable.place,
-        constructor: asked_place(scope, variable.kind, source)?,
-    };
+    let test = placed(scope, source)?;
     test_fits(scope, test).then_some(test)
 }
 
