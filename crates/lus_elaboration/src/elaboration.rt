@@ -3,7 +3,9 @@
 ghost use Rattle.std.specs.Prelude.{◌≡◌, IfOk, MatchResult, None, length};
 ghost use Rattle.lus_syntax.specs.View.{expression_seen};
 ghost use Rattle.lus_source.specs.Heads.{kinds_by};
-ghost use Rattle.lus_source.specs.Meaning.{meant, all_meant};
+ghost use Rattle.lus_program.specs.Programs.{more, operate};
+ghost use Rattle.lus_values.specs.declared.operator.Operator.TheVariants as operators;
+ghost use Rattle.lus_source.specs.Meaning.{all_meant, infix_meant, meant, two};
 ghost use Rattle.lus_source.specs.ScopeView.{Faulty, scope_of};
 ghost use Rattle.lus_elaboration.specs.Wholes.{AllMean, IsElaborated, parts_seen};
 
@@ -12,7 +14,7 @@ use crate::operands::Operands;
 use crate::operators::{chosen, infixed, prefixed, projected};
 use crate::parts::{call, merge, structure, variadic};
 use lus_source::{Fault, Scope};
-use lus_syntax::{Expr as Source, Part};
+use lus_syntax::{Expr as Source, Infix, Part, Place};
 use lus_values::Value;
 use std::alloc::Global;
 
@@ -60,18 +62,49 @@ pub fn elaborate(alloc: Global, scope: &Scope, source: &Source) -> Result<Elabor
             let operand = elaborate(alloc, scope, operand)?;
             prefixed(alloc, scope, place, *op, operand)
         }
-        Source::Binary(op, left, right) => {
-            let left = elaborate(alloc, scope, left)?;
-            let right = elaborate(alloc, scope, right)?;
-            infixed(alloc, scope, place, *op, left, right)
-        }
+        Source::Binary(op, left, right) => elaborate_infix(alloc, scope, place, *op, left, right),
         Source::If(_, condition, left, right) => {
-            let condition = elaborate(alloc, scope, condition)?;
-            let left = elaborate(alloc, scope, left)?;
-            let right = elaborate(alloc, scope, right)?;
-            chosen(alloc, scope, place, condition, left, right)
+            elaborate_if(alloc, scope, place, condition, left, right)
         }
     }
+}
+
+/// An operator between its operands.
+#[cycle(elaborate)]
+fn elaborate_infix(
+    alloc: Global,
+    scope: &Scope,
+    place: Place,
+    op: Infix,
+    left: &Source,
+    right: &Source,
+) -> Result<Elaborated, Fault>
+    ensures { let s = scope_of scope.now in
+        IsElaborated s result (infix_meant op (meant s (expression_seen left.now)) (meant s (expression_seen right.now))) }
+{
+    let left = elaborate(alloc, scope, left)?;
+    let right = elaborate(alloc, scope, right)?;
+    infixed(alloc, scope, place, op, left, right)
+}
+
+/// `if`
+#[cycle(elaborate)]
+fn elaborate_if(
+    alloc: Global,
+    scope: &Scope,
+    place: Place,
+    condition: &Source,
+    left: &Source,
+    right: &Source,
+) -> Result<Elaborated, Fault>
+    ensures { let s = scope_of scope.now in
+        let branches = two (meant s (expression_seen left.now)) (meant s (expression_seen right.now)) in
+        IsElaborated s result (operate operators.If (more (meant s (expression_seen condition.now)) branches)) }
+{
+    let condition = elaborate(alloc, scope, condition)?;
+    let left = elaborate(alloc, scope, left)?;
+    let right = elaborate(alloc, scope, right)?;
+    chosen(alloc, scope, place, condition, left, right)
 }
 
 /// The values of parts one by one, and their types.

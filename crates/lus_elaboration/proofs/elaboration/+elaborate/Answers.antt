@@ -59,6 +59,11 @@ elaborate-returns-in_ok-operands-in-Variadic t c =
     let built = rw (c.deref-in-Variadic-2.ensures.value) at c.variadic.ensures in
     rw e (built _ operands)
 
+pub elaborate-returns-in_ok-operand-in-Field : goal.elaborate-returns-in_ok-operand-in-Field
+elaborate-returns-in_ok-operand-in-Field t c =
+    let operand = rw c.deref-in-Field.ensures at c.in_ok-operand-in-Field.ensures in
+    rw (ap expression_seen c.in-Field.is) (c.projected.ensures _ operand)
+
 pub elaborate-returns-in_ok-operand-in-When : goal.elaborate-returns-in_ok-operand-in-When
 elaborate-returns-in_ok-operand-in-When t c =
     let operand = rw c.deref-in-When.ensures at c.in_ok-operand-in-When.ensures in
@@ -70,20 +75,19 @@ elaborate-returns-in_ok-operand-in-Unary t c =
     let operand = rw c.deref-in-Unary.ensures at c.in_ok-operand-in-Unary.ensures in
     rw (ap expression_seen c.in-Unary.is) (c.prefixed.ensures _ operand)
 
-pub elaborate-returns-in_ok-right-in-Binary : goal.elaborate-returns-in_ok-right-in-Binary
-elaborate-returns-in_ok-right-in-Binary t c =
-    let left = rw c.deref-in-Binary.ensures at c.in_ok-left-in-Binary.ensures in
-    let right = rw c.deref-in-Binary-2.ensures at c.in_ok-right-in-Binary.ensures in
-    rw (ap expression_seen c.in-Binary.is) (c.infixed.ensures _ _ left right)
+pub elaborate_infix-returns : goal.elaborate_infix-returns
+elaborate_infix-returns t c = c.infixed.ensures _ _ c.in_ok-left.ensures c.in_ok-right.ensures
 
-pub elaborate-returns-in_ok-right-in-If : goal.elaborate-returns-in_ok-right-in-If
-elaborate-returns-in_ok-right-in-If t c =
-    let condition = rw c.deref-in-If.ensures at c.in_ok-condition-in-If.ensures in
-    let left = rw c.deref-in-If-2.ensures at c.in_ok-left-in-If.ensures in
-    let right = rw c.deref-in-If-3.ensures at c.in_ok-right-in-If.ensures in
-    rw (ap expression_seen c.in-If.is) (c.chosen.ensures _ _ _ condition left right)
+pub elaborate_if-returns : goal.elaborate_if-returns
+elaborate_if-returns t c = c.chosen.ensures _ _ _ c.in_ok-condition.ensures c.in_ok-left.ensures c.in_ok-right.ensures
 
 pub elaborate_all-returns-clause-elaborated : goal.elaborate_all-returns-clause-elaborated
 elaborate_all-returns-clause-elaborated t c =
     let same : map expression_of c.loop-part.operands.exprs.items ≡ map (λ p. meant (scope_of c.args.scope.now) (expression_seen p.value)) c.args.parts.now = grind (arith, common_steps) in
     (grind (arith, common_steps), all_meant_is (scope_of c.args.scope.now) c.args.parts.now c.loop-part.operands.exprs.items same)
+
+pub elaborate_all-loop-part-preserved : goal.elaborate_all-loop-part-preserved
+elaborate_all-loop-part-preserved t c = grind (arith, common_steps)
+
+pub elaborate_all-returns-in_err-operand-clause-elaborated : goal.elaborate_all-returns-in_err-operand-clause-elaborated
+elaborate_all-returns-in_err-operand-clause-elaborated t c = grind (arith, common_steps)
