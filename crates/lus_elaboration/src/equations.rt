@@ -21,17 +21,26 @@ use lus_source::{Fault, Scope};
 use lus_syntax::{Equation as SourceEquation, Expr as Source, Name, Part, Place};
 use std::alloc::{AllocError, Global};
 
+/// Whether a variable takes values of this type.
+fn takes(scope: &Scope, target: u32, kind: Kind) -> bool
+    ensures { let s = scope_of scope.now in Decides result (Some kind ≡ kind_of_variable (heads s) (head s) target) }
+{
+    match scope.variable_kind(target) {
+        Some(found) => same(found, kind),
+        None => false,
+    }
+}
+
 /// Whether variables take values of these types.
 fn take(scope: &Scope, targets: &[u32], kinds: &[Kind]) -> bool
     ensures { Decides result (Take (scope_of scope.now) targets.now kinds.now) }
 {
-    match (targets, kinds) {
-        ([], []) => true,
-        ([target, targets @ ..], [kind, kinds @ ..]) => match scope.variable_kind(*target) {
-            Some(found) => same(found, *kind) && take(scope, targets, kinds),
-            None => false,
+    match targets {
+        [] => kinds.is_empty(),
+        [target, targets @ ..] => match kinds {
+            [] => false,
+            [kind, kinds @ ..] => takes(scope, *target, *kind) && take(scope, targets, kinds),
         },
-        _ => false,
     }
 }
 
