@@ -1,11 +1,11 @@
-use Rattle.std.proofs.Common.{rules, ◌≡◌, ◌∙◌, ap, arith, map}
+use Rattle.std.proofs.Common.{◌≡◌, ◌∙◌, ap, arith, map}
 use Rattle.std.proofs.lemmas.Grind.{common_steps}
 use Rattle.lus_syntax.specs.Trees.{parts_of}
 use Rattle.lus_syntax.specs.View.{expression_seen, part_seen, name_seen}
 use Rattle.lus_syntax.proofs.TreeViews.{seen_call, seen_structure, seen_merge, seen_variadic}
 use Rattle.lus_program.specs.View.{expression_of}
 use Rattle.lus_source.proofs.Faults.{passed_on}
-use Rattle.lus_source.specs.Meaning.{meant}
+use Rattle.lus_source.specs.Meaning.{all_meant, meant}
 use Rattle.lus_source.specs.ScopeView.{scope_of}
 use Rattle.lus_elaboration.proofs.Meant.{all_meant_is, call_untyped, structure_untyped, merge_untyped, variadic_untyped}
 use Rattle.lus_elaboration.proofs.elaboration.+elaborate.Goals as goal
@@ -13,7 +13,10 @@ use Rattle.lus_elaboration.proofs.elaboration.+elaborate.Goals as goal
 pub elaborate-returns-in_err-operands-in-Call : goal.elaborate-returns-in_err-operands-in-Call
 elaborate-returns-in_err-operands-in-Call t c =
     let e : expression_seen c.args.source.now ≡ _ = ap expression_seen c.in-Call.is ∙ seen_call c.in-Call.name c.in-Call.arguments in
-    rw e (search (rules, call_untyped))
+    let none = rw c.deref.ensures.value at c.in_err-operands-in-Call.ensures.elaborated in
+    let parts = parts_of (map part_seen c.in-Call.arguments.items) in
+    let untyped = call_untyped (scope_of c.args.scope.now) (name_seen c.in-Call.name.value).text parts (all_meant (scope_of c.args.scope.now) parts) in
+    rw e (passed_on _ untyped c.from_residual.result c.in_err-operands-in-Call.field-0.0 c.from_residual.ensures.1 none)
 
 pub elaborate-returns-in_ok-operands-in-Call : goal.elaborate-returns-in_ok-operands-in-Call
 elaborate-returns-in_ok-operands-in-Call t c =
@@ -50,7 +53,10 @@ elaborate-returns-in_ok-operands-in-Merge t c =
 pub elaborate-returns-in_err-operands-in-Variadic : goal.elaborate-returns-in_err-operands-in-Variadic
 elaborate-returns-in_err-operands-in-Variadic t c =
     let e : expression_seen c.args.source.now ≡ _ = ap expression_seen c.in-Variadic.is ∙ seen_variadic c.in-Variadic.op c.in-Variadic.field-1 c.in-Variadic.arguments in
-    rw e (search (rules, variadic_untyped))
+    let none = rw c.deref-in-Variadic.ensures.value at c.in_err-operands-in-Variadic.ensures.elaborated in
+    let parts = parts_of (map part_seen c.in-Variadic.arguments.items) in
+    let untyped = variadic_untyped (scope_of c.args.scope.now) c.in-Variadic.op parts (all_meant (scope_of c.args.scope.now) parts) in
+    rw e (passed_on _ untyped c.from_residual-in_err-operands-in-Variadic.result c.in_err-operands-in-Variadic.field-0.0 c.from_residual-in_err-operands-in-Variadic.ensures.1 none)
 
 pub elaborate-returns-in_ok-operands-in-Variadic : goal.elaborate-returns-in_ok-operands-in-Variadic
 elaborate-returns-in_ok-operands-in-Variadic t c =

@@ -1,4 +1,4 @@
-use Rattle.std.proofs.Common.{◌≡◌, ◌∙◌, ap, sym, rules, length, Some}
+use Rattle.std.proofs.Common.{◌≡◌, ◌∙◌, ap, sym, length, Some}
 use Rattle.std.proofs.lemmas.List.{length-map}
 use Rattle.lus_syntax.specs.View.{name_seen}
 use Rattle.lus_program.specs.declared.types.Kind.TheVariants as kinds
@@ -15,7 +15,8 @@ returns c = λ es means.
     let s = scope_of c.args.scope.now in
     let t = c.in-Struct.declaration in
     let sized : length c.fields_of-size.result.now ≡ length (fields_of s (kinds.Struct t)) = sym (length-map c.fields_of-size.result.now field_of) ∙ ap length c.fields_of-size.ensures.fields in
-    let named : entry s.types (name_seen c.args.name.now).text ≡ Some (kinds.Struct t) = search rules in
+    let found = rw c.deref.ensures at c.in-Some.ensures in
+    let named : entry s.types (name_seen c.args.name.now).text ≡ Some (kinds.Struct t) = sym found ∙ ap Some c.in-Struct.is in
     let out = rw (sized) at c.in-Some-arranged.ensures in
     let is = structure_is s (name_seen c.args.name.now).text (parts_seen c.args.fields.now) es t c.in_ok-places.places.items named c.in_ok-places.ensures.places out.once in
     let ordered = out.arranged s es means in
