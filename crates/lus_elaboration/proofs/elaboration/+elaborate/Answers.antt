@@ -1,9 +1,10 @@
-use Rattle.std.proofs.Common.{◌≡◌, ◌∙◌, ap, arith, map}
+use Rattle.std.proofs.Common.{◌≡◌, ◌∙◌, ◌≤◌, ap, arith, length, map, Some}
 use Rattle.std.proofs.lemmas.Grind.{common_steps}
+use Rattle.std.proofs.lemmas.List.{append-nil, take_all}
+use Rattle.std.proofs.Math.ListN.{drop_of_length-le}
 use Rattle.lus_syntax.specs.Trees.{parts_of}
 use Rattle.lus_syntax.specs.View.{expression_seen, part_seen, name_seen}
 use Rattle.lus_syntax.proofs.TreeViews.{seen_call, seen_structure, seen_merge, seen_variadic}
-use Rattle.lus_program.specs.View.{expression_of}
 use Rattle.lus_source.proofs.Faults.{passed_on}
 use Rattle.lus_source.specs.Meaning.{all_meant, meant}
 use Rattle.lus_source.specs.ScopeView.{scope_of}
@@ -89,8 +90,13 @@ elaborate_if-returns t c = c.chosen.ensures _ _ _ c.in_ok-condition.ensures c.in
 
 pub elaborate_all-returns-clause-elaborated : goal.elaborate_all-returns-clause-elaborated
 elaborate_all-returns-clause-elaborated t c =
-    let same : map expression_of c.loop-part.operands.exprs.items ≡ map (λ p. meant (scope_of c.args.scope.now) (expression_seen p.value)) c.args.parts.now = grind (arith, common_steps) in
-    (grind (arith, common_steps), all_meant_is (scope_of c.args.scope.now) c.args.parts.now c.loop-part.operands.exprs.items same)
+    let s = scope_of c.args.scope.now in
+    let parts = c.args.parts.now in
+    let old = c.loop-part.invariant in
+    let past : length parts ≤ c.loop-part.part-index = omega arith in
+    let same = old.meant ∙ ap (map (λ p. meant s (expression_seen p.value))) (take_all c.loop-part.part-index parts past) in
+    let typed = rw (drop_of_length-le parts past) at old.typed in
+    (typed ∙ ap Some (append-nil c.loop-part.operands.kinds.items), all_meant_is s parts c.loop-part.operands.exprs.items same)
 
 pub elaborate_all-loop-part-preserved : goal.elaborate_all-loop-part-preserved
 elaborate_all-loop-part-preserved t c = grind (arith, common_steps)

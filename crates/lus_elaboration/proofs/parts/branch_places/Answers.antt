@@ -7,3 +7,6 @@ returns-in_default-clause-places c = grind (arith, common_steps)
 
 pub loop-branch-preserved : goal.loop-branch-preserved
 loop-branch-preserved c = grind (arith, common_steps)
+
+pub returns-clause-places : goal.returns-clause-places
+returns-clause-places c = grind (arith, common_steps)

@@ -7,3 +7,6 @@ returns-in_default-clause-places c = grind (arith, common_steps)
 
 pub loop-part-preserved : goal.loop-part-preserved
 loop-part-preserved c = grind (arith, common_steps)
+
+pub returns-clause-places : goal.returns-clause-places
+returns-clause-places c = grind (arith, common_steps)

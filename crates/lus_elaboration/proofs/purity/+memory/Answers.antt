@@ -1,4 +1,5 @@
-use Rattle.std.proofs.Common.{rules, ◌∙◌, ap}
+use Rattle.std.proofs.Common.{rules, arith, ◌∙◌, ap}
+use Rattle.std.proofs.lemmas.Grind.{common_steps}
 use Rattle.lus_syntax.specs.View.{expression_seen}
 use Rattle.lus_syntax.proofs.TreeViews.{seen_call, seen_structure, seen_merge, seen_variadic}
 use Rattle.lus_elaboration.proofs.purity.+memory.Goals as goal
@@ -18,3 +19,12 @@ memory-returns-in-Merge t c =
 pub memory-returns-in-Variadic : goal.memory-returns-in-Variadic
 memory-returns-in-Variadic t c =
     rw (ap expression_seen c.in-Variadic.is ∙ seen_variadic c.in-Variadic.field-0 c.in-Variadic.field-1 c.in-Variadic.operands) (search rules)
+
+pub memory_in-returns-in-Some : goal.memory_in-returns-in-Some
+memory_in-returns-in-Some t c = grind (arith, common_steps)
+
+pub memory_in-loop-part-preserved : goal.memory_in-loop-part-preserved
+memory_in-loop-part-preserved t c = grind (arith, common_steps)
+
+pub memory_in-returns : goal.memory_in-returns
+memory_in-returns t c = grind (arith, common_steps)
