@@ -1,5 +1,5 @@
 -- What forms mean, and which types they have.
-use Rattle.std.proofs.Common.{◌≡◌, ◌∙◌, ap, ap₂, sym, subst, refl, ℕ, List, [], ◌∷◌, ◌++◌, length, map, take, drop, Some, None, Option, Bool, true, false, cond, arith}
+use Rattle.std.proofs.Common.{◌≡◌, ◌∙◌, ap, ap₂, sym, subst, refl, ℕ, suc, ◌<◌, List, [], ◌∷◌, ◌++◌, append_assoc, length, get_or, map, take, drop, drop-cons, Some, None, Option, Bool, true, false, cond, arith}
 use Rattle.std.specs.Prelude.{option_map, slice_get}
 use Rattle.std.specs.Option.{option_and_then}
 use Rattle.std.proofs.lemmas.Option.{slice_get_past, slice_get-map}
@@ -40,6 +40,34 @@ all_meant_is s (p ∷ ps) (x ∷ es) e =
     let first : expression_of x ≡ meant s (expression_seen p.value) = cc in
     let rest : map expression_of es ≡ map (λ q. meant s (expression_seen q.value)) ps = cc in
     ap (λ y. more y (operands_of es)) first ∙ ap (more (meant s (expression_seen p.value))) (all_meant_is s ps es rest)
+
+-- the types of parts, where the first so many have these
+
+typed_before : (ks : List Kind) (k : Kind) (r : Option (List Kind)) → option_map (λ ls. ks ++ ls) (option_map (λ ls. k ∷ ls) r) ≡ option_map (λ ls. (ks ++ k ∷ []) ++ ls) r
+typed_before ks k None = refl
+typed_before ks k (Some ls) = ap Some (sym (append_assoc ks (k ∷ []) ls))
+
+module _ (s : Scope) (ps : List Part) (n : ℕ) (p : Part) (item : p ≡ get_or ps n p) (within : n < length ps) where
+  abbrev kinds_from : ℕ → Option (List Kind)
+  kinds_from m = kinds_by s (all_meant s (parts_of (map part_seen (drop m ps))))
+
+  abbrev kind_here : Option Kind
+  kind_here = kind_by s (meant s (expression_seen p.value))
+
+  abbrev before_rest : Option Kind → Option (List Kind)
+  before_rest = option_and_then (λ k. option_map (λ ls. k ∷ ls) (kinds_from (suc n)))
+
+  from_here : kinds_from n ≡ before_rest kind_here
+  from_here =
+      let cut : drop n ps ≡ p ∷ drop (suc n) ps = drop-cons ps n p within ∙ ap (λ q. q ∷ drop (suc n) ps) (sym item) in
+      ap (λ qs. kinds_by s (all_meant s (parts_of (map part_seen qs)))) cut
+
+  module _ (ks : List Kind) (r : Option (List Kind)) (typed : r ≡ option_map (λ ls. ks ++ ls) (kinds_from n)) where
+    pub untyped_here : kind_here ≡ None → r ≡ None
+    untyped_here e = typed ∙ ap (option_map (λ ls. ks ++ ls)) (from_here ∙ ap before_rest e)
+
+    pub typed_here : (k : Kind) → kind_here ≡ Some k → r ≡ option_map (λ ls. (ks ++ k ∷ []) ++ ls) (kinds_from (suc n))
+    typed_here k e = typed ∙ ap (option_map (λ ls. ks ++ ls)) (from_here ∙ ap before_rest e) ∙ typed_before ks k (kinds_from (suc n))
 
 -- the rules of types, by the scope
 

@@ -1,4 +1,4 @@
-use Rattle.std.proofs.Common.{◌≡◌, ◌∙◌, ◌≤◌, ap, arith, length, map, Some}
+use Rattle.std.proofs.Common.{◌≡◌, ◌∙◌, ◌≤◌, add-one, ap, arith, length, map, Some}
 use Rattle.std.proofs.lemmas.Grind.{common_steps}
 use Rattle.std.proofs.lemmas.List.{append-nil, take_all}
 use Rattle.std.proofs.Math.ListN.{drop_of_length-le}
@@ -8,7 +8,7 @@ use Rattle.lus_syntax.proofs.TreeViews.{seen_call, seen_structure, seen_merge, s
 use Rattle.lus_source.proofs.Faults.{passed_on}
 use Rattle.lus_source.specs.Meaning.{all_meant, meant}
 use Rattle.lus_source.specs.ScopeView.{scope_of}
-use Rattle.lus_elaboration.proofs.Meant.{all_meant_is, call_untyped, structure_untyped, merge_untyped, variadic_untyped}
+use Rattle.lus_elaboration.proofs.Meant.{all_meant_is, call_untyped, structure_untyped, merge_untyped, typed_here, untyped_here, variadic_untyped}
 use Rattle.lus_elaboration.proofs.elaboration.+elaborate.Goals as goal
 
 pub elaborate-returns-in_err-operands-in-Call : goal.elaborate-returns-in_err-operands-in-Call
@@ -99,7 +99,20 @@ elaborate_all-returns-clause-elaborated t c =
     (typed ∙ ap Some (append-nil c.loop-part.operands.kinds.items), all_meant_is s parts c.loop-part.operands.exprs.items same)
 
 pub elaborate_all-loop-part-preserved : goal.elaborate_all-loop-part-preserved
-elaborate_all-loop-part-preserved t c = grind (arith, common_steps)
+elaborate_all-loop-part-preserved t c =
+    let s = scope_of c.args.scope.now in
+    let n = c.loop-part.part-index in
+    let old = c.loop-part.invariant in
+    let typed = typed_here s c.args.parts.now n c.part-item.result c.part-item.is c.loop-part-test.true c.loop-part.operands.kinds.items _ old.typed c.in_ok-operand.operand.kind c.in_ok-operand.ensures.0 in
+    record {
+      typed = rw (c.in_ok-push.ensures.kinds, add-one n) typed;
+      meant = grind (arith, common_steps);
+      exprs = grind (arith, common_steps);
+      kinds = grind (arith, common_steps);
+    }
 
 pub elaborate_all-returns-in_err-operand-clause-elaborated : goal.elaborate_all-returns-in_err-operand-clause-elaborated
-elaborate_all-returns-in_err-operand-clause-elaborated t c = grind (arith, common_steps)
+elaborate_all-returns-in_err-operand-clause-elaborated t c =
+    let s = scope_of c.args.scope.now in
+    let untyped = untyped_here s c.args.parts.now c.loop-part.part-index c.part-item.result c.part-item.is c.loop-part-test.true c.loop-part.operands.kinds.items _ c.loop-part.invariant.typed in
+    passed_on _ untyped c.from_residual-in_err-operand.result c.in_err-operand.field-0.0 c.from_residual-in_err-operand.ensures.1 c.in_err-operand.ensures
