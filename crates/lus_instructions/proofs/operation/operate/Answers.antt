@@ -9,7 +9,8 @@ pub returns-in-Structure : goal.returns-in-Structure
 returns-in-Structure c =
     let vs = map value_of c.args.values.items in
     let none : any_nil vs ≡ false = search rules in
-    ap Some (struct_fields c.args.values) ∙ sym (ap (λ b. if b then Some nil else give c.args.operator vs) none ∙ ap (λ o. give o vs) c.in-Structure.is)
+    ap Some (struct_fields c.args.values) ∙ sym (ap (λ b. if b then Some nil else give c.args.operator vs) none
+    ∙ ap (λ o. give o vs) c.in-Structure.is)
 
 pub returns-then-any_nil : goal.returns-then-any_nil
 returns-then-any_nil c =
