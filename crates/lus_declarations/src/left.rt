@@ -14,18 +14,19 @@ use crate::refusing::refuse;
 use indexmap::IndexSet;
 use lus_source::Fault;
 use lus_syntax::{Node, Place};
-use std::alloc::Global;
 
 /// Checks that equations define each output and each local of a node once, and nothing else, each at least one of them.
-/// Variables that stand twice are a fault too.
-pub fn check_lefts(alloc: Global, node: &Node) -> Result<(), Fault>
+/// Variables that stand twice are a fault too. The table serves for each list of names, and its own names are lost.
+pub fn check_lefts(table: &mut IndexSet<String>, node: &Node) -> Result<(), Fault>
     ensures named { OnOk result (LeftsNamed (node_seen node.now)) }
     ensures refused { let f = node_seen node.now in
         IfErr result (Faulty (Distinct (names_in (groups f)) → LeftsNamed f → ⊥)) }
 {
     refuse(without_left(node))?;
-    check_defined(&mut IndexSet::new(alloc), node)?;
-    check_whole(&mut IndexSet::new(alloc), node)
+    table.clear();
+    check_defined(table, node)?;
+    table.clear();
+    check_whole(table, node)
 }
 
 /// Adds the outputs and the locals to a table, which then has each variable on a left side.
