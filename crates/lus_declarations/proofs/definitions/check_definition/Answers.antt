@@ -25,11 +25,7 @@ returns-in_err-refuse-in-Structure c =
 pub returns-in_ok-refuse-in-Structure : goal.returns-in_ok-refuse-in-Structure
 returns-in_ok-refuse-in-Structure c =
     let fields = c.in-Structure.fields.items in
-    let table = texts c.new.result.keys in
     let is = rw c.deref.ensures.value at c.first_unknown.ensures in
     let known = list_all-map (λ (g : Fields). type_known (texts c.args.names.now.types.keys) g.type_name) fields_seen fields ∙ sym is ∙ c.in_ok-refuse-in-Structure.ensures in
-    let empty : table ≡ [] = search rules in
-    let same : all_new table (flat_map (λ g. map text_of (fields_seen g).names) fields) ≡ all_new [] (field_names (map fields_seen fields)) =
-    ap (λ (t : List Text). all_new t (flat_map (λ g. map text_of (fields_seen g).names) fields)) empty ∙ ap (all_new []) (names_are fields) in
-    let tested = rw c.deref-in-Structure.ensures.value at c.declare_all.ensures.new in
-    rw c.in-Structure.is (judged_by (λ new. (known, sym same ∙ new)) (λ doubled named. let new : all_new table (flat_map (λ g. map text_of (fields_seen g).names) fields) ≡ true = same ∙ named.1 in cc) c.declare_all.result tested)
+    let same : all_new [] (flat_map (λ g. map text_of (fields_seen g).names) fields) ≡ all_new [] (field_names (map fields_seen fields)) = ap (all_new []) (names_are fields) in
+    rw c.in-Structure.is (judged_by (λ new. (known, sym same ∙ new)) (λ doubled named. let new : all_new [] (flat_map (λ g. map text_of (fields_seen g).names) fields) ≡ true = same ∙ named.1 in cc) c.check_distinct.result (rw c.deref-in-Structure.ensures.value at c.check_distinct.ensures))
