@@ -10,7 +10,7 @@ use crate::named::Named;
 use crate::uses::{node_uses, type_uses};
 use lus_graph::{GraphError, order_of};
 use lus_source::Fault;
-use lus_syntax::{Expr, Part, Place, Tree};
+use lus_syntax::{Equation, Expr, Part, Place, Tree};
 use std::alloc::Global;
 
 /// The places of types, each behind those of the types that it names. A fault stands at the name of a type that leads back to
@@ -23,10 +23,7 @@ pub fn order_of_types(alloc: Global, named: &Named) -> Result<Vec<usize>, Fault>
     match order_of(alloc, &uses) {
         Ok(order) => Ok(order),
         Err(GraphError::Memory) => Err(Fault::Memory),
-        Err(GraphError::Cycle(cycle)) => {
-            let place = place_of_type(named.tree(), &cycle);
-            Err(Fault::At(place.unwrap_or(FIRST_PLACE)))
-        }
+        Err(GraphError::Cycle(cycle)) => Err(Fault::At(place_of_type(named.tree(), &cycle))),
     }
 }
 
@@ -40,10 +37,7 @@ pub fn order_of_nodes(alloc: Global, named: &Named) -> Result<Vec<usize>, Fault>
     match order_of(alloc, &uses) {
         Ok(order) => Ok(order),
         Err(GraphError::Memory) => Err(Fault::Memory),
-        Err(GraphError::Cycle(cycle)) => {
-            let place = place_of_call(named.tree(), &cycle);
-            Err(Fault::At(place.unwrap_or(FIRST_PLACE)))
-        }
+        Err(GraphError::Cycle(cycle)) => Err(Fault::At(place_of_call(named.tree(), &cycle))),
     }
 }
 
@@ -54,23 +48,39 @@ const FIRST_PLACE: Place = Place {
 };
 
 /// Where the first type of a cycle is declared.
-fn place_of_type(tree: &Tree, cycle: &[usize]) -> Option<Place> {
-    let declaration = tree.types.get(*cycle.first()?)?;
-    Some(declaration.name.span.start)
+fn place_of_type(tree: &Tree, cycle: &[usize]) -> Place {
+    let Some(first) = cycle.first() else {
+        return FIRST_PLACE;
+    };
+    match tree.types.get(*first) {
+        Some(declaration) => declaration.name.span.start,
+        None => FIRST_PLACE,
+    }
 }
 
 /// Where the first node of a cycle calls the next.
-fn place_of_call(tree: &Tree, cycle: &[usize]) -> Option<Place> {
-    let first = *cycle.first()?;
-    let caller = tree.nodes.get(first)?;
-    let next = cycle.get(1).copied().unwrap_or(first);
-    let called = tree.nodes.get(next)?;
-    for equation in &caller.equations {
-        if let Some(place) = call_in(&equation.right, called.name.text.as_str()) {
-            return Some(place);
+fn place_of_call(tree: &Tree, cycle: &[usize]) -> Place {
+    let Some(first) = cycle.first() else {
+        return FIRST_PLACE;
+    };
+    let next = cycle.get(1).unwrap_or(first);
+    let Some(caller) = tree.nodes.get(*first) else {
+        return FIRST_PLACE;
+    };
+    match tree.nodes.get(*next) {
+        Some(called) => place_in(&caller.equations, &called.name.text),
+        None => FIRST_PLACE,
+    }
+}
+
+/// Where one of these equations calls a node of this name.
+fn place_in(equations: &[Equation], name: &str) -> Place {
+    for equation in equations {
+        if let Some(place) = call_in(&equation.right, name) {
+            return place;
         }
     }
-    None
+    FIRST_PLACE
 }
 
 /// Where an expression calls a node of this name.
