@@ -10,6 +10,7 @@ ghost use Rattle.lus_declarations.specs.NameView.{texts};
 ghost use Rattle.lus_declarations.specs.Parts.{LeftsNamed};
 
 use crate::naming::{absent, declare_all};
+use crate::nodes::declare_defined;
 use crate::refusing::refuse;
 use indexmap::IndexSet;
 use lus_source::Fault;
@@ -37,8 +38,7 @@ fn check_defined(defined: &mut IndexSet<String>, node: &Node) -> Result<(), Faul
         let before = texts defined.old.keys in
         IfErr result (Faulty (all_new before (defined_names f) ≡ true → list_all (is_in (before ++ defined_names f)) (left_names f) ≡ true → ⊥)) }
 {
-    declare_all(defined, &node.outputs)?;
-    declare_all(defined, &node.locals)?;
+    declare_defined(defined, node)?;
     refuse(absent(defined, &node.equations))
 }
 
@@ -52,8 +52,7 @@ fn check_whole(left: &mut IndexSet<String>, node: &Node) -> Result<(), Fault>
         IfErr result (Faulty (all_new before (left_names f) ≡ true → list_all (is_in (before ++ left_names f)) (defined_names f) ≡ true → ⊥)) }
 {
     declare_all(left, &node.equations)?;
-    refuse(absent(left, &node.outputs))?;
-    refuse(absent(left, &node.locals))
+    refuse(absent(left, &node.outputs).or(absent(left, &node.locals)))
 }
 
 /// The name of a node that has an equation with nothing on its left: such an equation comes from no text, and has no place of

@@ -4,7 +4,7 @@ ghost use Rattle.std.specs.Prelude.{◌≡◌, ◌++◌, map, is_none, OnOk};
 ghost use Rattle.lus_values.specs.Lists.{Each};
 ghost use Rattle.lus_syntax.specs.View.{node_seen};
 ghost use Rattle.lus_source.specs.Tables.{groups};
-ghost use Rattle.lus_source.specs.Named.{NodeNamed, all_new, names_in};
+ghost use Rattle.lus_source.specs.Named.{NodeNamed, all_new, defined_names, names_in};
 ghost use Rattle.lus_source.specs.ScopeView.{Judged, Tested};
 ghost use Rattle.lus_declarations.specs.NameView.{known_seen, texts};
 ghost use Rattle.lus_declarations.specs.Parts.{in_node, node_known, outside};
@@ -46,6 +46,14 @@ pub fn declare_variables(table: &mut IndexSet<String>, node: &Node) -> Result<()
     ensures new { Tested result (all_new (texts table.old.keys) (names_in (groups (node_seen node.now)))) }
 {
     declare_all(table, &node.inputs)?;
+    declare_defined(table, node)
+}
+
+/// Declares what the equations of a node define: its outputs and its locals.
+pub fn declare_defined(table: &mut IndexSet<String>, node: &Node) -> Result<(), Fault>
+    ensures kept { OnOk result (texts table.new.keys ≡ texts table.old.keys ++ defined_names (node_seen node.now)) }
+    ensures new { Tested result (all_new (texts table.old.keys) (defined_names (node_seen node.now))) }
+{
     declare_all(table, &node.outputs)?;
     declare_all(table, &node.locals)
 }
