@@ -104,12 +104,13 @@ impl Names {
         ensures { spaces_seen result ≡ outside (known_seen self) }
     {
         let Names {
-            variables: _,
+            variables,
             constants,
             constructors,
             types,
             nodes,
         } = self;
+        let_go(variables);
         Spaces {
             types: Places::new(types),
             constants: Places::new(constants),
