@@ -1,9 +1,8 @@
 -- A field of an unknown type, or one that is doubled, breaks the rule of its structure.
-use Rattle.std.proofs.Common.{rules, ◌≡◌, ◌∙◌, true, List, [], flat_map, map, ap, sym}
+use Rattle.std.proofs.Common.{◌≡◌, ◌∙◌, true, List, [], flat_map, map, ap, sym}
 use Rattle.std.specs.Prelude.{is_none}
 use Rattle.std.proofs.lemmas.List.Folds.{flat_map-map, list_all-map}
 use Rattle.lus_syntax.specs.declared.tree.Fields.{Fields as StoredFields}
-use Rattle.lus_syntax.specs.Lexemes.{Text}
 use Rattle.lus_syntax.specs.Trees.{Fields}
 use Rattle.lus_syntax.specs.View.{fields_seen}
 use Rattle.lus_source.specs.Named.{all_new, field_names, type_known}

@@ -1,8 +1,6 @@
-use Rattle.std.proofs.Common.{rules, arith, ◌≡◌, ◌∙◌, ap}
-use Rattle.std.proofs.lemmas.Grind.{common_steps}
+use Rattle.std.proofs.Common.{rules, ◌≡◌, ◌∙◌, ap}
 use Rattle.lus_syntax.specs.View.{expression_seen}
 use Rattle.lus_syntax.proofs.TreeViews.{seen_call, seen_structure, seen_merge, seen_variadic}
-use Rattle.lus_declarations.proofs.NameLists.{none_or}
 use Rattle.lus_declarations.proofs.names.+unknown.Goals as goal
 
 pub unknown-returns-in-Call : goal.unknown-returns-in-Call
