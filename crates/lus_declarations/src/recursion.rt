@@ -6,11 +6,14 @@ ghost use Rattle.lus_syntax.specs.View.{tree_seen};
 ghost use Rattle.lus_source.specs.Loopless.{node_uses as calls_of_nodes, type_uses as uses_of_types};
 ghost use Rattle.lus_source.specs.ScopeView.{Faulty};
 
+use crate::declarations::declared;
 use crate::named::Named;
+use crate::nodes::declare_variables;
 use crate::uses::{node_uses, type_uses};
+use crate::using::first_unknown;
 use lus_graph::{GraphError, order_of};
 use lus_source::Fault;
-use lus_syntax::{Equation, Expr, Part, Place, Tree};
+use lus_syntax::{Node, Place, Tree};
 use std::alloc::Global;
 
 /// The places of types, each behind those of the types that it names. A fault stands at the name of a type that leads back to
@@ -37,7 +40,7 @@ pub fn order_of_nodes(alloc: Global, named: &Named) -> Result<Vec<usize>, Fault>
     match order_of(alloc, &uses) {
         Ok(order) => Ok(order),
         Err(GraphError::Memory) => Err(Fault::Memory),
-        Err(GraphError::Cycle(cycle)) => Err(Fault::At(place_of_call(named.tree(), &cycle))),
+        Err(GraphError::Cycle(cycle)) => Err(fault_at_call(alloc, named.tree(), &cycle)),
     }
 }
 
@@ -58,63 +61,31 @@ fn place_of_type(tree: &Tree, cycle: &[usize]) -> Place {
     }
 }
 
-/// Where the first node of a cycle calls the next.
-fn place_of_call(tree: &Tree, cycle: &[usize]) -> Place {
+/// The fault at the call by which the first node of a cycle leads to the next.
+fn fault_at_call(alloc: Global, tree: &Tree, cycle: &[usize]) -> Fault {
     let Some(first) = cycle.first() else {
-        return FIRST_PLACE;
+        return Fault::At(FIRST_PLACE);
     };
     let next = cycle.get(1).unwrap_or(first);
     let Some(caller) = tree.nodes.get(*first) else {
-        return FIRST_PLACE;
+        return Fault::At(FIRST_PLACE);
     };
-    match tree.nodes.get(*next) {
-        Some(called) => place_in(&caller.equations, &called.name.text),
-        None => FIRST_PLACE,
+    let Some(called) = tree.nodes.get(*next) else {
+        return Fault::At(FIRST_PLACE);
+    };
+    match place_of_call(alloc, tree, caller, &called.name.text) {
+        Ok(place) => Fault::At(place),
+        Err(fault) => fault,
     }
 }
 
-/// Where one of these equations calls a node of this name.
-fn place_in(equations: &[Equation], name: &str) -> Place {
-    for equation in equations {
-        if let Some(place) = call_in(&equation.right, name) {
-            return place;
-        }
+/// Where a node calls the node of this name: there stands the first unknown name, once this one is none of the names.
+fn place_of_call(alloc: Global, tree: &Tree, caller: &Node, called: &str) -> Result<Place, Fault> {
+    let mut names = declared(alloc, tree)?;
+    names.nodes.swap_remove(called);
+    declare_variables(&mut names.variables, caller)?;
+    match first_unknown(&names, &caller.equations) {
+        Some(place) => Ok(place),
+        None => Ok(FIRST_PLACE),
     }
-    FIRST_PLACE
-}
-
-/// Where an expression calls a node of this name.
-#[cycle(search)]
-fn call_in(expr: &Expr, name: &str) -> Option<Place> {
-    match expr {
-        Expr::Number(_, _) | Expr::Truth(_, _) | Expr::Name(_) => None,
-        Expr::Call(called, arguments) => {
-            if called.text.as_str() == name {
-                return Some(called.span.start);
-            }
-            call_in_parts(arguments, name)
-        }
-        Expr::Structure(_, parts) | Expr::Merge(_, _, parts) | Expr::Variadic(_, _, parts) => {
-            call_in_parts(parts, name)
-        }
-        Expr::Field(operand, _)
-        | Expr::Parentheses(_, operand)
-        | Expr::When(operand, _)
-        | Expr::Unary(_, _, operand) => call_in(operand, name),
-        Expr::Binary(_, left, right) => call_in(left, name).or(call_in(right, name)),
-        Expr::If(_, condition, first, other) => call_in(condition, name)
-            .or(call_in(first, name))
-            .or(call_in(other, name)),
-    }
-}
-
-/// Where one of these parts calls a node of this name.
-#[cycle(search)]
-fn call_in_parts(parts: &[Part], name: &str) -> Option<Place> {
-    for part in parts {
-        if let Some(place) = call_in(&part.value, name) {
-            return Some(place);
-        }
-    }
-    None
 }
