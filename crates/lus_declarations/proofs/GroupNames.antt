@@ -32,18 +32,18 @@ module _ (f : StoredNode) where
       ap₂ (λ (o : List Text) l. o ++ l) (named_are f.outputs.items) (named_are f.locals.items)
       ∙ sym (flat_map-append (λ (g : Group). map text_of g.names) (map group_seen f.outputs.items) (map group_seen f.locals.items))
 
-  variables_are : named f.inputs.items ++ (named f.outputs.items ++ named f.locals.items) ≡ names_in (groups (node_seen f))
+  variables_are : named f.inputs.items ++ defined_names (node_seen f) ≡ names_in (groups (node_seen f))
   variables_are =
-      ap₂ (λ (i : List Text) d. i ++ d) (named_are f.inputs.items) defined_are
+      ap (λ ns. ns ++ defined_names (node_seen f)) (named_are f.inputs.items)
       ∙ sym (flat_map-append (λ (g : Group). map text_of g.names) (map group_seen f.inputs.items) (map group_seen f.outputs.items ++ map group_seen f.locals.items))
 
   -- what is defined is among distinct variables
   pub defined_distinct : Distinct (names_in (groups (node_seen f))) → Distinct (defined_names (node_seen f))
-  defined_distinct distinct = ap (all_new []) (sym defined_are) ∙ last_distinct (named f.inputs.items) (named f.outputs.items ++ named f.locals.items) (ap (all_new []) variables_are ∙ distinct)
+  defined_distinct distinct = last_distinct (named f.inputs.items) (defined_names (node_seen f)) (ap (all_new []) variables_are ∙ distinct)
 
   module _ (before : List Text) where
     -- before the names of the groups one behind another
-    pub variables_remain : Remaining before (named f.inputs.items ++ (named f.outputs.items ++ named f.locals.items)) before (names_in (groups (node_seen f)))
+    pub variables_remain : Remaining before (named f.inputs.items ++ defined_names (node_seen f)) before (names_in (groups (node_seen f)))
     variables_remain = record { kept = ap (λ ns. before ++ ns) variables_are; same = ap (all_new before) variables_are }
 
     pub defined_remain : Remaining before (named f.outputs.items ++ named f.locals.items) before (defined_names (node_seen f))

@@ -34,5 +34,5 @@ fn check_uses(alloc: Global, names: &mut Names, tree: &Tree) -> Result<(), Fault
 {
     check_definitions(alloc, names, &tree.types)?;
     refuse(first_unknown(names, &tree.constants))?;
-    check_nodes(alloc, names, &tree.nodes)
+    check_nodes(names, &tree.nodes)
 }

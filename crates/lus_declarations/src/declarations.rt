@@ -45,10 +45,10 @@ fn doubled_value(constants: &IndexSet<String>, tree: &Tree) -> Option<Place>
 /// Where the second stands of a constant and the constructor of its name.
 fn second(constants: &IndexSet<String>, declared: &[Constant], constructor: &Name) -> Place {
     let place = constructor.span.start;
-    let constant = constants
-        .get_index_of(constructor.text.as_str())
-        .and_then(|index| declared.get(index));
-    match constant {
+    let Some(index) = constants.get_index_of(constructor.text.as_str()) else {
+        return place;
+    };
+    match declared.get(index) {
         Some(constant) if constant.name.span.start.byte > place.byte => constant.name.span.start,
         _ => place,
     }

@@ -8,10 +8,9 @@ ghost use Rattle.lus_source.specs.ScopeView.{Judged};
 ghost use Rattle.lus_declarations.specs.NameView.{known_seen};
 
 use crate::names::Names;
-use crate::naming::declare_all;
+use crate::naming::check_distinct;
 use crate::refusing::refuse;
 use crate::using::{first_unknown, unknown_type};
-use indexmap::IndexSet;
 use lus_source::Fault;
 use lus_syntax::{Definition, TypeDeclaration};
 use std::alloc::Global;
@@ -38,7 +37,7 @@ fn check_definition(alloc: Global, names: &Names, definition: &Definition) -> Re
         Definition::Enumeration(_) => Ok(()),
         Definition::Structure(fields) => {
             refuse(first_unknown(names, fields))?;
-            declare_all(&mut IndexSet::new(alloc), fields)
+            check_distinct(alloc, fields)
         }
     }
 }

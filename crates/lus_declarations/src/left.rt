@@ -10,22 +10,24 @@ ghost use Rattle.lus_declarations.specs.NameView.{texts};
 ghost use Rattle.lus_declarations.specs.Parts.{LeftsNamed};
 
 use crate::naming::{absent, declare_all};
+use crate::nodes::declare_defined;
 use crate::refusing::refuse;
 use indexmap::IndexSet;
 use lus_source::Fault;
 use lus_syntax::{Node, Place};
-use std::alloc::Global;
 
 /// Checks that equations define each output and each local of a node once, and nothing else, each at least one of them.
-/// Variables that stand twice are a fault too.
-pub fn check_lefts(alloc: Global, node: &Node) -> Result<(), Fault>
+/// Variables that stand twice are a fault too. The table serves for each list of names, and its own names are lost.
+pub fn check_lefts(table: &mut IndexSet<String>, node: &Node) -> Result<(), Fault>
     ensures named { OnOk result (LeftsNamed (node_seen node.now)) }
     ensures refused { let f = node_seen node.now in
         IfErr result (Faulty (Distinct (names_in (groups f)) → LeftsNamed f → ⊥)) }
 {
     refuse(without_left(node))?;
-    check_defined(&mut IndexSet::new(alloc), node)?;
-    check_whole(&mut IndexSet::new(alloc), node)
+    table.clear();
+    check_defined(table, node)?;
+    table.clear();
+    check_whole(table, node)
 }
 
 /// Adds the outputs and the locals to a table, which then has each variable on a left side.
@@ -36,8 +38,7 @@ fn check_defined(defined: &mut IndexSet<String>, node: &Node) -> Result<(), Faul
         let before = texts defined.old.keys in
         IfErr result (Faulty (all_new before (defined_names f) ≡ true → list_all (is_in (before ++ defined_names f)) (left_names f) ≡ true → ⊥)) }
 {
-    declare_all(defined, &node.outputs)?;
-    declare_all(defined, &node.locals)?;
+    declare_defined(defined, node)?;
     refuse(absent(defined, &node.equations))
 }
 
@@ -51,8 +52,7 @@ fn check_whole(left: &mut IndexSet<String>, node: &Node) -> Result<(), Fault>
         IfErr result (Faulty (all_new before (left_names f) ≡ true → list_all (is_in (before ++ left_names f)) (defined_names f) ≡ true → ⊥)) }
 {
     declare_all(left, &node.equations)?;
-    refuse(absent(left, &node.outputs))?;
-    refuse(absent(left, &node.locals))
+    refuse(absent(left, &node.outputs).or(absent(left, &node.locals)))
 }
 
 /// The name of a node that has an equation with nothing on its left: such an equation comes from no text, and has no place of

@@ -1,6 +1,6 @@
 //! The names that stand for something, and what uses them.
 
-ghost use Rattle.std.specs.Prelude.{◌≡◌, ◌++◌, map, is_none, OnOk};
+ghost use Rattle.std.specs.Prelude.{◌≡◌, ◌++◌, ◌&&◌, map, is_none, OnOk};
 ghost use Rattle.lus_syntax.specs.View.{expression_seen, name_seen, names_seen, part_seen};
 ghost use Rattle.lus_syntax.specs.Trees.{parts_of};
 ghost use Rattle.lus_source.specs.Tables.{text_of};
@@ -26,14 +26,22 @@ pub struct Names {
 impl Drop for Names {
     fn drop(self) {
         let Names {
-            variables: _,
-            constants: _,
-            constructors: _,
-            types: _,
-            nodes: _,
+            variables,
+            constants,
+            constructors,
+            types,
+            nodes,
         } = self;
+        let_go(variables);
+        let_go(constants);
+        let_go(constructors);
+        let_go(types);
+        let_go(nodes);
     }
 }
+
+/// Lets a table go.
+fn let_go(_table: IndexSet<String>) {}
 
 /// Whether a name is among those of a table.
 pub fn has(table: &IndexSet<String>, name: &str) -> bool
@@ -96,12 +104,13 @@ impl Names {
         ensures { spaces_seen result ≡ outside (known_seen self) }
     {
         let Names {
-            variables: _,
+            variables,
             constants,
             constructors,
             types,
             nodes,
         } = self;
+        let_go(variables);
         Spaces {
             types: Places::new(types),
             constants: Places::new(constants),
@@ -110,10 +119,15 @@ impl Names {
         }
     }
 
-    fn knows_name(&self, name: &str) -> bool
-        ensures { result ≡ name_known (known_seen self.now) name.now }
+    fn unknown_name(&self, name: &Name) -> Option<Place>
+        ensures { is_none result ≡ name_known (known_seen self.now) (name_seen name.now).text }
     {
-        has(&self.variables, name) || has(&self.constants, name) || has(&self.constructors, name)
+        let text = name.text.as_str();
+        if has(&self.variables, text) || has(&self.constants, text) {
+            None
+        } else {
+            missing(&self.constructors, name)
+        }
     }
 
     fn unknown_label(&self, label: &Label) -> Option<Place>
@@ -156,27 +170,18 @@ pub fn unknown(names: &Names, source: &Expr) -> Option<Place>
     ensures { is_none result ≡ knows (known_seen names.now) (expression_seen source.now) }
 {
     match source {
-        Expr::Number(_, _) => None,
-        Expr::Truth(_, _) => None,
-        Expr::Name(name) => {
-            if names.knows_name(&name.text) {
-                None
-            } else {
-                Some(name.span.start)
-            }
-        }
-        Expr::Call(name, arguments) => {
-            missing(&names.nodes, name).or(unknown_in(names, arguments))
-        }
-        Expr::Structure(name, fields) => missing(&names.types, name).or(unknown_in(names, fields)),
+        Expr::Number(_, _) | Expr::Truth(_, _) => None,
+        Expr::Name(name) => names.unknown_name(name),
+        Expr::Call(name, arguments) => unknown_in(names, missing(&names.nodes, name), arguments),
+        Expr::Structure(name, fields) => unknown_in(names, missing(&names.types, name), fields),
         Expr::Merge(_, variable, branches) => {
-            missing(&names.variables, variable).or(unknown_in(names, branches))
+            unknown_in(names, missing(&names.variables, variable), branches)
         }
-        Expr::Variadic(_, _, operands) => unknown_in(names, operands),
-        Expr::Field(operand, _) => unknown(names, operand),
-        Expr::Parentheses(_, inner) => unknown(names, inner),
+        Expr::Variadic(_, _, operands) => unknown_in(names, None, operands),
+        Expr::Field(operand, _) | Expr::Parentheses(_, operand) | Expr::Unary(_, _, operand) => {
+            unknown(names, operand)
+        }
         Expr::When(operand, test) => unknown(names, operand).or(names.unknown_test(test)),
-        Expr::Unary(_, _, operand) => unknown(names, operand),
         Expr::Binary(_, left, right) => unknown(names, left).or(unknown(names, right)),
         Expr::If(_, condition, left, right) => unknown(names, condition)
             .or(unknown(names, left))
@@ -184,11 +189,14 @@ pub fn unknown(names: &Names, source: &Expr) -> Option<Place>
     }
 }
 
-/// The first unknown name of parts.
+/// What is unknown before parts, else their first unknown name.
 #[cycle(unknown)]
-fn unknown_in(names: &Names, parts: &[Part]) -> Option<Place>
-    ensures { is_none result ≡ knows_parts (known_seen names.now) (parts_of (map part_seen parts.now)) }
+fn unknown_in(names: &Names, before: Option<Place>, parts: &[Part]) -> Option<Place>
+    ensures { is_none result ≡ (is_none before && knows_parts (known_seen names.now) (parts_of (map part_seen parts.now))) }
 {
+    if before.is_some() {
+        return before;
+    }
     for part in parts {
         if let Some(place) = names.unknown_lead(&part.lead) {
             return Some(place);

@@ -15,6 +15,7 @@ use lus_source::Fault;
 use lus_syntax::{
     Constant, Definition, Equation, Fields, Group, Name, Node, Place, TypeDeclaration,
 };
+use std::alloc::Global;
 use std::slice;
 
 /// A thing's own names: what it declares, or the variables that it defines.
@@ -103,6 +104,13 @@ pub fn declare_all<Sort, T: Naming<Sort>>(
         declare(table, thing.names())?;
     }
     Ok(())
+}
+
+/// Checks that no name of these stands twice.
+pub fn check_distinct<Sort, T: Naming<Sort>>(alloc: Global, things: &[T]) -> Result<(), Fault>
+    ensures { Tested result (all_new [] (flat_map T.named things.now)) }
+{
+    declare_all(&mut IndexSet::new(alloc), things)
 }
 
 /// The first name of these that a table has, or that it doesn't have where `among` is false.

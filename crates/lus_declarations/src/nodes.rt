@@ -4,7 +4,7 @@ ghost use Rattle.std.specs.Prelude.{◌≡◌, ◌++◌, map, is_none, OnOk};
 ghost use Rattle.lus_values.specs.Lists.{Each};
 ghost use Rattle.lus_syntax.specs.View.{node_seen};
 ghost use Rattle.lus_source.specs.Tables.{groups};
-ghost use Rattle.lus_source.specs.Named.{NodeNamed, all_new, names_in};
+ghost use Rattle.lus_source.specs.Named.{NodeNamed, all_new, defined_names, names_in};
 ghost use Rattle.lus_source.specs.ScopeView.{Judged, Tested};
 ghost use Rattle.lus_declarations.specs.NameView.{known_seen, texts};
 ghost use Rattle.lus_declarations.specs.Parts.{in_node, node_known, outside};
@@ -17,28 +17,27 @@ use crate::using::first_unknown;
 use indexmap::IndexSet;
 use lus_source::Fault;
 use lus_syntax::{Node, Place};
-use std::alloc::Global;
 
 /// Checks the names of nodes, one by one.
-pub fn check_nodes(alloc: Global, names: &mut Names, nodes: &[Node]) -> Result<(), Fault>
+pub fn check_nodes(names: &mut Names, nodes: &[Node]) -> Result<(), Fault>
     ensures kept { OnOk result (outside (known_seen names.new) ≡ outside (known_seen names.old)) }
     ensures named { Judged result (Each (λ f. NodeNamed (in_node (known_seen names.old) f) f) (map node_seen nodes.now)) }
 {
     for node in nodes {
-        check_node(alloc, names, node)?;
+        check_node(names, node)?;
     }
     Ok(())
 }
 
-/// Checks the names of a node. Its variables stand in the table from then on, and no others.
-fn check_node(alloc: Global, names: &mut Names, node: &Node) -> Result<(), Fault>
-    ensures kept { OnOk result (known_seen names.new ≡ in_node (known_seen names.old) (node_seen node.now)) }
+/// Checks the names of a node. Only the table of variables changes.
+fn check_node(names: &mut Names, node: &Node) -> Result<(), Fault>
+    ensures kept { OnOk result (outside (known_seen names.new) ≡ outside (known_seen names.old)) }
     ensures named { Judged result (NodeNamed (in_node (known_seen names.old) (node_seen node.now)) (node_seen node.now)) }
 {
     names.variables.clear();
     declare_variables(&mut names.variables, node)?;
     refuse(unknown_in_node(names, node))?;
-    check_lefts(alloc, node)
+    check_lefts(&mut names.variables, node)
 }
 
 /// Declares the variables of a node.
@@ -47,6 +46,14 @@ pub fn declare_variables(table: &mut IndexSet<String>, node: &Node) -> Result<()
     ensures new { Tested result (all_new (texts table.old.keys) (names_in (groups (node_seen node.now)))) }
 {
     declare_all(table, &node.inputs)?;
+    declare_defined(table, node)
+}
+
+/// Declares what the equations of a node define: its outputs and its locals.
+pub fn declare_defined(table: &mut IndexSet<String>, node: &Node) -> Result<(), Fault>
+    ensures kept { OnOk result (texts table.new.keys ≡ texts table.old.keys ++ defined_names (node_seen node.now)) }
+    ensures new { Tested result (all_new (texts table.old.keys) (defined_names (node_seen node.now))) }
+{
     declare_all(table, &node.outputs)?;
     declare_all(table, &node.locals)
 }

@@ -6,11 +6,14 @@ ghost use Rattle.lus_syntax.specs.View.{tree_seen};
 ghost use Rattle.lus_source.specs.Loopless.{node_uses as calls_of_nodes, type_uses as uses_of_types};
 ghost use Rattle.lus_source.specs.ScopeView.{Faulty};
 
+use crate::declarations::declared;
 use crate::named::Named;
+use crate::nodes::declare_variables;
 use crate::uses::{node_uses, type_uses};
+use crate::using::first_unknown;
 use lus_graph::{GraphError, order_of};
 use lus_source::Fault;
-use lus_syntax::{Expr, Part, Place, Tree};
+use lus_syntax::{Node, Place, Tree};
 use std::alloc::Global;
 
 /// The places of types, each behind those of the types that it names. A fault stands at the name of a type that leads back to
@@ -23,10 +26,7 @@ pub fn order_of_types(alloc: Global, named: &Named) -> Result<Vec<usize>, Fault>
     match order_of(alloc, &uses) {
         Ok(order) => Ok(order),
         Err(GraphError::Memory) => Err(Fault::Memory),
-        Err(GraphError::Cycle(cycle)) => {
-            let place = place_of_type(named.tree(), &cycle);
-            Err(Fault::At(place.unwrap_or(FIRST_PLACE)))
-        }
+        Err(GraphError::Cycle(cycle)) => Err(Fault::At(place_of_type(named.tree(), &cycle))),
     }
 }
 
@@ -40,10 +40,7 @@ pub fn order_of_nodes(alloc: Global, named: &Named) -> Result<Vec<usize>, Fault>
     match order_of(alloc, &uses) {
         Ok(order) => Ok(order),
         Err(GraphError::Memory) => Err(Fault::Memory),
-        Err(GraphError::Cycle(cycle)) => {
-            let place = place_of_call(named.tree(), &cycle);
-            Err(Fault::At(place.unwrap_or(FIRST_PLACE)))
-        }
+        Err(GraphError::Cycle(cycle)) => Err(fault_at_call(alloc, named.tree(), &cycle)),
     }
 }
 
@@ -54,57 +51,41 @@ const FIRST_PLACE: Place = Place {
 };
 
 /// Where the first type of a cycle is declared.
-fn place_of_type(tree: &Tree, cycle: &[usize]) -> Option<Place> {
-    let declaration = tree.types.get(*cycle.first()?)?;
-    Some(declaration.name.span.start)
-}
-
-/// Where the first node of a cycle calls the next.
-fn place_of_call(tree: &Tree, cycle: &[usize]) -> Option<Place> {
-    let first = *cycle.first()?;
-    let caller = tree.nodes.get(first)?;
-    let next = cycle.get(1).copied().unwrap_or(first);
-    let called = tree.nodes.get(next)?;
-    for equation in &caller.equations {
-        if let Some(place) = call_in(&equation.right, called.name.text.as_str()) {
-            return Some(place);
-        }
-    }
-    None
-}
-
-/// Where an expression calls a node of this name.
-#[cycle(search)]
-fn call_in(expr: &Expr, name: &str) -> Option<Place> {
-    match expr {
-        Expr::Number(_, _) | Expr::Truth(_, _) | Expr::Name(_) => None,
-        Expr::Call(called, arguments) => {
-            if called.text.as_str() == name {
-                return Some(called.span.start);
-            }
-            call_in_parts(arguments, name)
-        }
-        Expr::Structure(_, parts) | Expr::Merge(_, _, parts) | Expr::Variadic(_, _, parts) => {
-            call_in_parts(parts, name)
-        }
-        Expr::Field(operand, _)
-        | Expr::Parentheses(_, operand)
-        | Expr::When(operand, _)
-        | Expr::Unary(_, _, operand) => call_in(operand, name),
-        Expr::Binary(_, left, right) => call_in(left, name).or(call_in(right, name)),
-        Expr::If(_, condition, first, other) => call_in(condition, name)
-            .or(call_in(first, name))
-            .or(call_in(other, name)),
+fn place_of_type(tree: &Tree, cycle: &[usize]) -> Place {
+    let Some(first) = cycle.first() else {
+        return FIRST_PLACE;
+    };
+    match tree.types.get(*first) {
+        Some(declaration) => declaration.name.span.start,
+        None => FIRST_PLACE,
     }
 }
 
-/// Where one of these parts calls a node of this name.
-#[cycle(search)]
-fn call_in_parts(parts: &[Part], name: &str) -> Option<Place> {
-    for part in parts {
-        if let Some(place) = call_in(&part.value, name) {
-            return Some(place);
-        }
+/// The fault at the call by which the first node of a cycle leads to the next.
+fn fault_at_call(alloc: Global, tree: &Tree, cycle: &[usize]) -> Fault {
+    let Some(first) = cycle.first() else {
+        return Fault::At(FIRST_PLACE);
+    };
+    let next = cycle.get(1).unwrap_or(first);
+    let Some(caller) = tree.nodes.get(*first) else {
+        return Fault::At(FIRST_PLACE);
+    };
+    let Some(called) = tree.nodes.get(*next) else {
+        return Fault::At(FIRST_PLACE);
+    };
+    match place_of_call(alloc, tree, caller, &called.name.text) {
+        Ok(place) => Fault::At(place),
+        Err(fault) => fault,
     }
-    None
+}
+
+/// Where a node calls the node of this name: there stands the first unknown name, once this one is none of the names.
+fn place_of_call(alloc: Global, tree: &Tree, caller: &Node, called: &str) -> Result<Place, Fault> {
+    let mut names = declared(alloc, tree)?;
+    names.nodes.swap_remove(called);
+    declare_variables(&mut names.variables, caller)?;
+    match first_unknown(&names, &caller.equations) {
+        Some(place) => Ok(place),
+        None => Ok(FIRST_PLACE),
+    }
 }

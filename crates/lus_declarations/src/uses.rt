@@ -77,9 +77,7 @@ fn push_called(nodes: &Places, expr: &Expr, found: &mut Vec<u32>) -> Result<(), 
     ensures { OnOk result (found.new.items ≡ found.old.items ++ called nodes.now (expression_seen expr.now)) }
 {
     match expr {
-        Expr::Number(_, _) => Ok(()),
-        Expr::Truth(_, _) => Ok(()),
-        Expr::Name(_) => Ok(()),
+        Expr::Number(_, _) | Expr::Truth(_, _) | Expr::Name(_) => Ok(()),
         Expr::Call(name, arguments) => {
             push_place(nodes, name.text.as_str(), found)?;
             push_called_in(nodes, arguments, found)
@@ -87,10 +85,10 @@ fn push_called(nodes: &Places, expr: &Expr, found: &mut Vec<u32>) -> Result<(), 
         Expr::Structure(_, parts) => push_called_in(nodes, parts, found),
         Expr::Merge(_, _, parts) => push_called_in(nodes, parts, found),
         Expr::Variadic(_, _, parts) => push_called_in(nodes, parts, found),
-        Expr::Field(operand, _) => push_called(nodes, operand, found),
-        Expr::Parentheses(_, operand) => push_called(nodes, operand, found),
-        Expr::When(operand, _) => push_called(nodes, operand, found),
-        Expr::Unary(_, _, operand) => push_called(nodes, operand, found),
+        Expr::Field(operand, _)
+        | Expr::Parentheses(_, operand)
+        | Expr::When(operand, _)
+        | Expr::Unary(_, _, operand) => push_called(nodes, operand, found),
         Expr::Binary(_, left, right) => {
             push_called(nodes, left, found)?;
             push_called(nodes, right, found)

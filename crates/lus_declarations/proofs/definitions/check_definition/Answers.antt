@@ -1,9 +1,8 @@
 -- A field of an unknown type, or one that is doubled, breaks the rule of its structure.
-use Rattle.std.proofs.Common.{rules, ◌≡◌, ◌∙◌, true, List, [], flat_map, map, ap, sym}
+use Rattle.std.proofs.Common.{◌≡◌, ◌∙◌, true, List, [], flat_map, map, ap, sym}
 use Rattle.std.specs.Prelude.{is_none}
 use Rattle.std.proofs.lemmas.List.Folds.{flat_map-map, list_all-map}
 use Rattle.lus_syntax.specs.declared.tree.Fields.{Fields as StoredFields}
-use Rattle.lus_syntax.specs.Lexemes.{Text}
 use Rattle.lus_syntax.specs.Trees.{Fields}
 use Rattle.lus_syntax.specs.View.{fields_seen}
 use Rattle.lus_source.specs.Named.{all_new, field_names, type_known}
@@ -25,11 +24,7 @@ returns-in_err-refuse-in-Structure c =
 pub returns-in_ok-refuse-in-Structure : goal.returns-in_ok-refuse-in-Structure
 returns-in_ok-refuse-in-Structure c =
     let fields = c.in-Structure.fields.items in
-    let table = texts c.new.result.keys in
     let is = rw c.deref.ensures.value at c.first_unknown.ensures in
     let known = list_all-map (λ (g : Fields). type_known (texts c.args.names.now.types.keys) g.type_name) fields_seen fields ∙ sym is ∙ c.in_ok-refuse-in-Structure.ensures in
-    let empty : table ≡ [] = search rules in
-    let same : all_new table (flat_map (λ g. map text_of (fields_seen g).names) fields) ≡ all_new [] (field_names (map fields_seen fields)) =
-    ap (λ (t : List Text). all_new t (flat_map (λ g. map text_of (fields_seen g).names) fields)) empty ∙ ap (all_new []) (names_are fields) in
-    let tested = rw c.deref-in-Structure.ensures.value at c.declare_all.ensures.new in
-    rw c.in-Structure.is (judged_by (λ new. (known, sym same ∙ new)) (λ doubled named. let new : all_new table (flat_map (λ g. map text_of (fields_seen g).names) fields) ≡ true = same ∙ named.1 in cc) c.declare_all.result tested)
+    let same : all_new [] (flat_map (λ g. map text_of (fields_seen g).names) fields) ≡ all_new [] (field_names (map fields_seen fields)) = ap (all_new []) (names_are fields) in
+    rw c.in-Structure.is (judged_by (λ new. (known, sym same ∙ new)) (λ doubled named. let new : all_new [] (flat_map (λ g. map text_of (fields_seen g).names) fields) ≡ true = same ∙ named.1 in cc) c.check_distinct.result (rw c.deref-in-Structure.ensures.value at c.check_distinct.ensures))

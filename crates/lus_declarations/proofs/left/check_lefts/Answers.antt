@@ -12,7 +12,7 @@ use Rattle.lus_declarations.proofs.left.check_lefts.Goals as goal
 pub returns-in_err-check_defined-clause-refused : goal.returns-in_err-check_defined-clause-refused
 returns-in_err-check_defined-clause-refused c =
     let f = node_seen c.args.node.now in
-    let table = texts c.new.result.keys in
+    let table = texts c.clear.new.self.keys in
     let empty : table ≡ [] = search rules in
     passed_on _ (λ wrong distinct named.
     let new : all_new table (defined_names f) ≡ true = ap (λ (t : List Text). all_new t (defined_names f)) empty ∙ defined_distinct c.args.node.now distinct in

@@ -1,4 +1,4 @@
--- Inputs, outputs and locals are distinct where each are new behind those before them.
+-- Variables are distinct where inputs are, and the others are new behind them.
 use Rattle.std.proofs.Common.{◌∙◌, sym}
 use Rattle.std.proofs.lemmas.Result.{on_ok_weaker}
 use Rattle.lus_declarations.specs.NameView.{texts}
@@ -12,22 +12,11 @@ returns-in_err-declare_all-clause-new c =
     let start = variables_remain c.args.node.now (texts c.args.table.now.keys) in
     passed_on _ (remaining_doubled _ _ _ _ _ start) c.from_residual.result c.in_err-declare_all.field-0.0 c.from_residual.ensures.1 (rw c.deref.ensures.value at c.in_err-declare_all.ensures.new)
 
-pub returns-in_err-declare_all-2-clause-new : goal.returns-in_err-declare_all-2-clause-new
-returns-in_err-declare_all-2-clause-new c =
+pub returns : goal.returns
+returns c =
     let start = variables_remain c.args.node.now (texts c.args.table.now.keys) in
     let behind = remaining_step _ _ _ _ _ _ start (rw c.deref.ensures.value at c.in_ok-declare_all.ensures.kept) (rw c.deref.ensures.value at c.in_ok-declare_all.ensures.new) in
-    passed_on _ (remaining_doubled _ _ _ _ _ behind) c.from_residual-in_err-declare_all-2.result c.in_err-declare_all-2.field-0.0 c.from_residual-in_err-declare_all-2.ensures.1 (rw c.deref-2.ensures.value at c.in_err-declare_all-2.ensures.new)
-
-pub returns-clause-kept : goal.returns-clause-kept
-returns-clause-kept c =
-    let start = variables_remain c.args.node.now (texts c.args.table.now.keys) in
-    let behind = remaining_step _ _ _ _ _ _ start (rw c.deref.ensures.value at c.in_ok-declare_all.ensures.kept) (rw c.deref.ensures.value at c.in_ok-declare_all.ensures.new) in
-    let last = remaining_step _ _ _ _ _ _ behind (rw c.deref-2.ensures.value at c.in_ok-declare_all-2.ensures.kept) (rw c.deref-2.ensures.value at c.in_ok-declare_all-2.ensures.new) in
-    on_ok_weaker c.declare_all-3.result (λ grown. grown ∙ last.kept) (rw c.deref-3.ensures.value at c.declare_all-3.ensures.kept)
-
-pub returns-clause-new : goal.returns-clause-new
-returns-clause-new c =
-    let start = variables_remain c.args.node.now (texts c.args.table.now.keys) in
-    let behind = remaining_step _ _ _ _ _ _ start (rw c.deref.ensures.value at c.in_ok-declare_all.ensures.kept) (rw c.deref.ensures.value at c.in_ok-declare_all.ensures.new) in
-    let last = remaining_step _ _ _ _ _ _ behind (rw c.deref-2.ensures.value at c.in_ok-declare_all-2.ensures.kept) (rw c.deref-2.ensures.value at c.in_ok-declare_all-2.ensures.new) in
-    judged_by (λ new. sym last.same ∙ new) (λ doubled. sym last.same ∙ doubled) c.declare_all-3.result (rw c.deref-3.ensures.value at c.declare_all-3.ensures.new)
+    record {
+      kept = on_ok_weaker c.declare_defined.result (λ grown. grown ∙ behind.kept) c.declare_defined.ensures.kept;
+      new = judged_by (λ new. sym behind.same ∙ new) (λ doubled. sym behind.same ∙ doubled) c.declare_defined.result c.declare_defined.ensures.new;
+    }
