@@ -31,17 +31,19 @@ pub struct Room<T> {
 }
 
 impl<T: Held> Room<T> {
-    /// Room for what is kept next, and for so many variables and temporaries.
+    /// Room for so many cells and first-flags, variables and temporaries.
     pub fn fresh(
         alloc: Global,
-        next: Kept<T>,
+        cells: usize,
+        firsts: usize,
         variables: usize,
         temporaries: usize,
     ) -> Result<Room<T>, Memory>
-        ensures { IfOk result (λ r. IsNewRoom next variables r) }
+        ensures { IfOk result (λ r. IsNewRoom T.entry cells firsts variables r) }
     {
         let variables = filled(alloc, variables, Word::Absent)?;
         let temporaries = filled(alloc, temporaries, Word::Absent)?;
+        let next = Kept::fresh(alloc, cells, firsts)?;
         Ok(Room {
             next,
             variables,
@@ -53,8 +55,13 @@ impl<T: Held> Room<T> {
     pub fn over<U: Held>(&self, alloc: Global) -> Result<Room<U>, Memory>
         ensures { IfOk result (λ r. IsAsLarge self.now r) }
     {
-        let next = Kept::fresh(alloc, self.next.cells.len(), self.next.firsts.len())?;
-        Room::fresh(alloc, next, self.variables.len(), self.temporaries.len())
+        Room::fresh(
+            alloc,
+            self.next.cells.len(),
+            self.next.firsts.len(),
+            self.variables.len(),
+            self.temporaries.len(),
+        )
     }
 
     /// Whether it is so large.

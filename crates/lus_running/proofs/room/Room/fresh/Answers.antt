@@ -1,9 +1,9 @@
-use Rattle.std.proofs.Common.{None, refl}
+use Rattle.std.proofs.Common.{None}
 use Rattle.lus_running.proofs.Cells.{filled_long}
 use Rattle.lus_running.proofs.room.Room.fresh.Goals as goal
 
 pub returns : goal.returns
 returns g c = record {
-  next = refl;
+  next = c.in_ok-next.ensures;
   variables = filled_long g.T.Held.entry c.in_ok-variables.variables.items c.args.variables None c.in_ok-variables.ensures;
 }
