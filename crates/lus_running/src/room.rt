@@ -15,7 +15,7 @@ use crate::kept::Kept;
 use crate::resetting::filled;
 use crate::setting::Setting;
 use lus_flat_classes::Extent;
-use lus_instructions::Held;
+use lus_instructions::{Held, Stop};
 use lus_instructions::words::Word;
 use lus_values::{Memory, Row, Value};
 use std::alloc::Global;
@@ -89,7 +89,9 @@ impl<T: Held> Room<T> {
     {
         match &on.class.whole {
             Some(whole) => {
-                let row = room_for(&mut self.temporaries, whole.top as usize)?;
+                let Ok(row) = room_for(&mut self.temporaries, whole.top as usize) else {
+                    return Err(Failure::Stopped(Stop::Memory));
+                };
                 answer_in_row(
                     on,
                     whole,

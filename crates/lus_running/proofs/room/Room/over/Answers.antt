@@ -1,4 +1,4 @@
-use Rattle.std.proofs.Common.{◌≡◌, ◌∙◌, sym, ap, length, true, Result, Ok, Err}
+use Rattle.std.proofs.Common.{◌∙◌, sym, ap, length, true, Result, Ok, Err}
 use Rattle.std.proofs.lemmas.List.{length-map, length-replicate}
 use Rattle.std.specs.Prelude.{IfOk}
 use Rattle.lus_values.specs.Values.{nil}
