@@ -25,13 +25,15 @@ pub fn call_at<'a>(class: &'a Class, place: usize) -> (&'a Call, &'a [Target])
     }
 }
 
-/// The class of a called node, its part of what is kept, and where that part begins and ends.
+/// The class of a called node, its part of what is kept, where that part begins and ends, and where its variables do behind those
+/// of the caller.
 pub struct Callee<'a, T> {
     pub class: &'a Class,
     pub cells: &'a [T],
     pub firsts: &'a [bool],
     pub cell: (usize, usize),
     pub first: (usize, usize),
+    pub variable: (usize, usize),
 }
 
 /// The node that a call calls.
@@ -41,17 +43,20 @@ pub fn called<'a, T: Held>(on: &Setting<'a, T>, call: &Call) -> Callee<'a, T>
     ensures is { IsCalled on.now call.now result.class.now result.cells.now result.firsts.now }
     ensures cell { IsPlace (length on.now.class.now.cells.items) call.now.offset.cells call.now.extent.cells result.cell }
     ensures first { IsPlace (length on.now.class.now.firsts.items) call.now.offset.firsts call.now.extent.firsts result.first }
+    ensures variable { IsPlace 0 call.now.offset.variables call.now.extent.variables result.variable }
 {
     let cell = on.class.cells.len() + call.offset.cells as usize;
     let first = on.class.firsts.len() + call.offset.firsts as usize;
     let cells = call.extent.cells as usize;
     let firsts = call.extent.firsts as usize;
+    let variable = call.offset.variables as usize;
     Callee {
         class: &on.classes[call.node as usize],
         cells: part(on.cells, cell, cells),
         firsts: part(on.firsts, first, firsts),
         cell: (cell, cell + cells),
         first: (first, first + firsts),
+        variable: (variable, variable + call.extent.variables as usize),
     }
 }
 

@@ -45,3 +45,6 @@ returns-clause-cell g c = (ap (λ n. n + c.args.call.now.offset.cells) (c.len.en
 
 pub returns-clause-first : goal.returns-clause-first
 returns-clause-first g c = (ap (λ n. n + c.args.call.now.offset.firsts) (c.len-2.ensures ∙ c.args.on.now.class.now.firsts.ok.0), refl)
+
+pub returns-clause-variable : goal.returns-clause-variable
+returns-clause-variable g c = (omega arith, refl)
