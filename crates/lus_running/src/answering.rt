@@ -9,19 +9,32 @@ ghost use Rattle.lus_running.specs.OnClocks.{PresentOnClock};
 ghost use Rattle.lus_running.specs.Settings.{CanRunOn, FitsClass, FitsWhole, IsWholeOn};
 
 use crate::error::Failure;
-use crate::running::{part_of, place, run_parts};
+use crate::running::{place, run_parts};
 use crate::setting::Setting;
 use crate::wholes::run_in_row;
 use lus_flat_classes::Whole;
-use lus_instructions::Held;
+use lus_instructions::{Held, Stop, entry_at};
 use lus_values::{Row, Value};
 
-/// So many outputs, which stand behind the inputs of a class.
+/// So many outputs, which stand behind the inputs of a class, in no more memory than they need.
 fn outputs_in<T: Held>(on: &Setting<'_, T>, row: &[T], outputs: usize) -> Result<Row, Failure>
     requires { on.now.class.now.inputs + outputs ≤ length row.now }
     ensures { Faultless result (λ found. found ≡ take outputs (drop on.now.class.now.inputs (map T.entry row.now))) }
 {
-    Ok(part_of(on.alloc, row, on.class.inputs as usize, outputs)?)
+    let from = on.class.inputs as usize;
+    let Ok(mut found) = Vec::with_capacity(on.alloc, outputs) else {
+        return Err(Failure::Stopped(Stop::Memory));
+    };
+    for variable in from..from + outputs {
+        let Ok(entry) = entry_at(on.alloc, row, variable) else {
+            return Err(Failure::Stopped(Stop::Memory));
+        };
+        match found.push(entry) {
+            Ok(()) => {}
+            Err(_) => return Err(Failure::Stopped(Stop::Memory)),
+        }
+    }
+    Ok(Row::new(found))
 }
 
 /// So many outputs, which stand behind the inputs, of one instant by the whole of a class, in a row that has room for all its places.

@@ -40,10 +40,16 @@ impl<T: Held> Kept<T> {
     pub fn over<U: Held>(&self, alloc: Global) -> Result<Kept<U>, Stop>
         ensures { IfOk result (λ k. AreAlike T.entry U.entry self.now k) }
     {
-        let mut kept = Kept::fresh(alloc, self.cells.len(), self.firsts.len())?;
-        copy_cells(alloc, &self.cells, &mut kept.cells)?;
-        copy_flags(&self.firsts, &mut kept.firsts);
-        Ok(kept)
+        let Ok(mut kept) = Kept::fresh(alloc, self.cells.len(), self.firsts.len()) else {
+            return Err(Stop::Memory);
+        };
+        match copy_cells(alloc, &self.cells, &mut kept.cells) {
+            Ok(()) => {
+                copy_flags(&self.firsts, &mut kept.firsts);
+                Ok(kept)
+            }
+            Err(stop) => Err(stop),
+        }
     }
 
     /// Whether there are so many of each.
