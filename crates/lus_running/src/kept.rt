@@ -4,7 +4,7 @@ ghost use Rattle.std.specs.Prelude.{◌↔◌, IsTrue, IfOk};
 ghost use Rattle.lus_running.specs.Keeping.{AreAlike, AreMany, AreSetBack, AtStart};
 
 use crate::keeping::{copy_cells, copy_flags};
-use crate::resetting::{empty_all, filled, set_all, set_flags};
+use crate::resetting::{empty_all, filled, set_all};
 use lus_flat_classes::Extent;
 use lus_instructions::words::Word;
 use lus_instructions::{Held, Stop};
@@ -23,8 +23,12 @@ impl<T: Held> Kept<T> {
     pub fn fresh(alloc: Global, cells: usize, firsts: usize) -> Result<Kept<T>, Memory>
         ensures { IfOk result (λ k. AtStart T.entry cells firsts k) }
     {
-        let firsts = set_flags(alloc, firsts)?;
-        let cells = filled(alloc, cells, Word::Nil)?;
+        let Ok(firsts) = vec![in alloc; true; firsts] else {
+            return Err(Memory);
+        };
+        let Ok(cells) = filled(alloc, cells, Word::Nil) else {
+            return Err(Memory);
+        };
         Ok(Kept { cells, firsts })
     }
 

@@ -15,8 +15,8 @@ use crate::kept::Kept;
 use crate::resetting::filled;
 use crate::setting::Setting;
 use lus_flat_classes::Extent;
-use lus_instructions::{Held, Stop};
 use lus_instructions::words::Word;
+use lus_instructions::{Held, Stop};
 use lus_values::{Memory, Row, Value};
 use std::alloc::Global;
 
@@ -41,9 +41,15 @@ impl<T: Held> Room<T> {
     ) -> Result<Room<T>, Memory>
         ensures { IfOk result (λ r. IsNewRoom T.entry cells firsts variables r) }
     {
-        let variables = filled(alloc, variables, Word::Absent)?;
-        let temporaries = filled(alloc, temporaries, Word::Absent)?;
-        let next = Kept::fresh(alloc, cells, firsts)?;
+        let Ok(variables) = filled(alloc, variables, Word::Absent) else {
+            return Err(Memory);
+        };
+        let Ok(temporaries) = filled(alloc, temporaries, Word::Absent) else {
+            return Err(Memory);
+        };
+        let Ok(next) = Kept::fresh(alloc, cells, firsts) else {
+            return Err(Memory);
+        };
         Ok(Room {
             next,
             variables,
