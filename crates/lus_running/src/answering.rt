@@ -9,19 +9,32 @@ ghost use Rattle.lus_running.specs.OnClocks.{PresentOnClock};
 ghost use Rattle.lus_running.specs.Settings.{CanRunOn, FitsClass, FitsWhole, IsWholeOn};
 
 use crate::error::Failure;
-use crate::running::{part_of, place, run_parts};
+use crate::running::{place, run_parts};
 use crate::setting::Setting;
 use crate::wholes::run_in_row;
 use lus_flat_classes::Whole;
-use lus_instructions::Held;
+use lus_instructions::{Held, Stop, entry_at};
 use lus_values::{Row, Value};
 
-/// So many outputs, which stand behind the inputs of a class.
+/// So many outputs, which stand behind the inputs of a class, in no more memory than they need.
 fn outputs_in<T: Held>(on: &Setting<'_, T>, row: &[T], outputs: usize) -> Result<Row, Failure>
     requires { on.now.class.now.inputs + outputs ≤ length row.now }
     ensures { Faultless result (λ found. found ≡ take outputs (drop on.now.class.now.inputs (map T.entry row.now))) }
 {
-    Ok(part_of(on.alloc, row, on.class.inputs as usize, outputs)?)
+    let from = on.class.inputs as usize;
+    let Ok(mut found) = Vec::with_capacity(on.alloc, outputs) else {
+        return Err(Failure::Stopped(Stop::Memory));
+    };
+    for variable in from..from + outputs {
+        let Ok(entry) = entry_at(on.alloc, row, variable) else {
+            return Err(Failure::Stopped(Stop::Memory));
+        };
+        match found.push(entry) {
+            Ok(()) => {}
+            Err(_) => return Err(Failure::Stopped(Stop::Memory)),
+        }
+    }
+    Ok(Row::new(found))
 }
 
 /// So many outputs, which stand behind the inputs, of one instant by the whole of a class, in a row that has room for all its places.
@@ -42,9 +55,14 @@ pub fn answer_in_row<T: Held>(
     ensures { AnswersTo T.entry on.now (map entry_of inputs.now) outputs
         result (map (cell_of T.entry) next_cells.new) next_firsts.new }
 {
-    place(on.alloc, inputs, row)?;
-    run_in_row(on, whole, next_cells, next_firsts, row)?;
-    outputs_in(on, row, outputs)
+    match place(on.alloc, inputs, row) {
+        Ok(()) => {}
+        Err(stop) => return Err(Failure::Stopped(stop)),
+    }
+    match run_in_row(on, whole, next_cells, next_firsts, row) {
+        Ok(()) => outputs_in(on, row, outputs),
+        Err(failure) => Err(failure),
+    }
 }
 
 /// So many outputs, which stand behind the inputs, of one instant by the parts of a class.
@@ -65,7 +83,12 @@ pub fn answer_by_parts<T: Held>(
     ensures { AnswersTo T.entry on.now (map entry_of inputs.now) outputs
         result (map (cell_of T.entry) next_cells.new) next_firsts.new }
 {
-    place(on.alloc, inputs, variables)?;
-    run_parts(on, next_cells, next_firsts, variables, temporaries)?;
-    outputs_in(on, variables, outputs)
+    match place(on.alloc, inputs, variables) {
+        Ok(()) => {}
+        Err(stop) => return Err(Failure::Stopped(stop)),
+    }
+    match run_parts(on, next_cells, next_firsts, variables, temporaries) {
+        Ok(()) => outputs_in(on, variables, outputs),
+        Err(failure) => Err(failure),
+    }
 }

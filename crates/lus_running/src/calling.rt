@@ -1,8 +1,8 @@
 //! The calls of nodes, and what they need and give.
 
-ghost use Rattle.std.specs.Prelude.{map};
+ghost use Rattle.std.specs.Prelude.{length, map};
 ghost use Rattle.lus_instructions.specs.Followed.{cell_of};
-ghost use Rattle.lus_running.specs.Calls.{CanMeet, IsCallAt, IsCalled, MakesCallAt};
+ghost use Rattle.lus_running.specs.Calls.{CanMeet, IsCallAt, IsCalled, IsPlace, MakesCallAt};
 ghost use Rattle.lus_running.specs.Runs.{RestsTo};
 ghost use Rattle.lus_running.specs.Settings.{FitsClass, HasCells};
 
@@ -25,19 +25,39 @@ pub fn call_at<'a>(class: &'a Class, place: usize) -> (&'a Call, &'a [Target])
     }
 }
 
-/// The class of a called node, and its part of what is kept.
-pub fn called<'a, T: Held>(on: &Setting<'a, T>, call: &Call) -> (&'a Class, &'a [T], &'a [bool])
+/// The class of a called node, its part of what is kept, where that part begins and ends, and where its variables do behind those
+/// of the caller.
+pub struct Callee<'a, T> {
+    pub class: &'a Class,
+    pub cells: &'a [T],
+    pub firsts: &'a [bool],
+    pub cell: (usize, usize),
+    pub first: (usize, usize),
+    pub variable: (usize, usize),
+}
+
+/// The node that a call calls.
+pub fn called<'a, T: Held>(on: &Setting<'a, T>, call: &Call) -> Callee<'a, T>
     requires call { CanMeet on.now.classes.now on.now.depth on.now.class.now call.now }
     requires fits { HasCells on.now }
-    ensures { IsCalled on.now call.now result.0.now result.1.now result.2.now }
+    ensures is { IsCalled on.now call.now result.class.now result.cells.now result.firsts.now }
+    ensures cell { IsPlace (length on.now.class.now.cells.items) call.now.offset.cells call.now.extent.cells result.cell }
+    ensures first { IsPlace (length on.now.class.now.firsts.items) call.now.offset.firsts call.now.extent.firsts result.first }
+    ensures variable { IsPlace 0 call.now.offset.variables call.now.extent.variables result.variable }
 {
     let cell = on.class.cells.len() + call.offset.cells as usize;
     let first = on.class.firsts.len() + call.offset.firsts as usize;
-    (
-        &on.classes[call.node as usize],
-        part(on.cells, cell, call.extent.cells as usize),
-        part(on.firsts, first, call.extent.firsts as usize),
-    )
+    let cells = call.extent.cells as usize;
+    let firsts = call.extent.firsts as usize;
+    let variable = call.offset.variables as usize;
+    Callee {
+        class: &on.classes[call.node as usize],
+        cells: part(on.cells, cell, cells),
+        firsts: part(on.firsts, first, firsts),
+        cell: (cell, cell + cells),
+        first: (first, first + firsts),
+        variable: (variable, variable + call.extent.variables as usize),
+    }
 }
 
 /// A called node that does not run: its variables have no entries, and it keeps what it kept.
@@ -52,7 +72,11 @@ pub fn rest<T: Held>(
 {
     let count = variables.len();
     forget(variables, 0, count);
-    copy_cells(on.alloc, on.cells, next_cells)?;
-    copy_flags(on.firsts, next_firsts);
-    Ok(())
+    match copy_cells(on.alloc, on.cells, next_cells) {
+        Ok(()) => {
+            copy_flags(on.firsts, next_firsts);
+            Ok(())
+        }
+        Err(stop) => Err(Failure::Stopped(stop)),
+    }
 }

@@ -1,7 +1,6 @@
 //! Whether inputs fit a class.
 
-ghost use Rattle.std.specs.Prelude.{◌≡◌, ◌↔◌, IsTrue, None, is_some, map};
-ghost use Rattle.lus_values.specs.Lists.{item};
+ghost use Rattle.std.specs.Prelude.{◌↔◌, IsTrue, map};
 ghost use Rattle.lus_values.specs.View.{entry_of};
 ghost use Rattle.lus_running.specs.Fits.{FitsLook, FitsPresence, InputsTestInputs};
 
@@ -9,18 +8,12 @@ use crate::presence::is_present;
 use lus_flat_classes::Class;
 use lus_values::Value;
 
-/// Whether an entry is there; past the entries none is.
-fn is_there(inputs: &[Option<Value>], variable: usize) -> bool
-    ensures { result ≡ is_some (item None (map entry_of inputs.now) variable) }
-{
-    variable < inputs.len() && inputs[variable].is_some()
-}
-
 /// Whether an input is present exactly where the newest test of its clock holds, if it has one.
 fn fits_look(class: &Class, inputs: &[Option<Value>], variable: usize) -> bool
     ensures { IsTrue result ↔ FitsLook class.now (map entry_of inputs.now) variable }
 {
-    is_there(inputs, variable) == is_present(class, inputs, variable)
+    let is_there = variable < inputs.len() && inputs[variable].is_some();
+    is_there == is_present(class, inputs, variable)
 }
 
 /// Whether each input is present exactly where its clock is. Where each passes its one look, the older tests of a clock hold

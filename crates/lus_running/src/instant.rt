@@ -37,12 +37,16 @@ pub fn receive<T: Held>(
         put(row, variable, T::of_word(Word::Absent));
         return Ok(());
     }
-    let held = held_at(alloc, answer, target.place as usize)?;
-    if held.is_absent() {
-        return Err(Failure::Fault);
+    match held_at(alloc, answer, target.place as usize) {
+        Ok(held) => {
+            if held.is_absent() {
+                return Err(Failure::Fault);
+            }
+            put(row, variable, held);
+            Ok(())
+        }
+        Err(stop) => Err(Failure::Stopped(stop)),
     }
-    put(row, variable, held);
-    Ok(())
 }
 
 /// Gives variables what those of a called node hold, which stand first in its part, one after another.
@@ -59,7 +63,10 @@ pub fn receive_all<T: Held>(
 {
     let own = &answer[..called.tests.len()];
     for target in targets {
-        receive(on.alloc, on.class, own, row, *target)?;
+        match receive(on.alloc, on.class, own, row, *target) {
+            Ok(()) => {}
+            Err(failure) => return Err(failure),
+        }
     }
     Ok(())
 }

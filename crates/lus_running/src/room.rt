@@ -15,8 +15,8 @@ use crate::kept::Kept;
 use crate::resetting::filled;
 use crate::setting::Setting;
 use lus_flat_classes::Extent;
-use lus_instructions::Held;
 use lus_instructions::words::Word;
+use lus_instructions::{Held, Stop};
 use lus_values::{Memory, Row, Value};
 use std::alloc::Global;
 
@@ -31,17 +31,25 @@ pub struct Room<T> {
 }
 
 impl<T: Held> Room<T> {
-    /// Room for what is kept next, and for so many variables and temporaries.
+    /// Room for so many cells and first-flags, variables and temporaries.
     pub fn fresh(
         alloc: Global,
-        next: Kept<T>,
+        cells: usize,
+        firsts: usize,
         variables: usize,
         temporaries: usize,
     ) -> Result<Room<T>, Memory>
-        ensures { IfOk result (λ r. IsNewRoom next variables r) }
+        ensures { IfOk result (λ r. IsNewRoom T.entry cells firsts variables r) }
     {
-        let variables = filled(alloc, variables, Word::Absent)?;
-        let temporaries = filled(alloc, temporaries, Word::Absent)?;
+        let Ok(variables) = filled(alloc, variables, Word::Absent) else {
+            return Err(Memory);
+        };
+        let Ok(temporaries) = filled(alloc, temporaries, Word::Absent) else {
+            return Err(Memory);
+        };
+        let Ok(next) = Kept::fresh(alloc, cells, firsts) else {
+            return Err(Memory);
+        };
         Ok(Room {
             next,
             variables,
@@ -53,8 +61,13 @@ impl<T: Held> Room<T> {
     pub fn over<U: Held>(&self, alloc: Global) -> Result<Room<U>, Memory>
         ensures { IfOk result (λ r. IsAsLarge self.now r) }
     {
-        let next = Kept::fresh(alloc, self.next.cells.len(), self.next.firsts.len())?;
-        Room::fresh(alloc, next, self.variables.len(), self.temporaries.len())
+        Room::fresh(
+            alloc,
+            self.next.cells.len(),
+            self.next.firsts.len(),
+            self.variables.len(),
+            self.temporaries.len(),
+        )
     }
 
     /// Whether it is so large.
@@ -82,7 +95,9 @@ impl<T: Held> Room<T> {
     {
         match &on.class.whole {
             Some(whole) => {
-                let row = room_for(&mut self.temporaries, whole.top as usize)?;
+                let Ok(row) = room_for(&mut self.temporaries, whole.top as usize) else {
+                    return Err(Failure::Stopped(Stop::Memory));
+                };
                 answer_in_row(
                     on,
                     whole,

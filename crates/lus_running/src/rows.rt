@@ -26,9 +26,15 @@ impl<T: Held> Rows<T> {
     pub fn fresh(alloc: Global, extent: Extent, count: usize) -> Result<Rows<T>, Memory>
         ensures { IfOk result (λ o. (g : ℕ) → IsNew extent (rows_seen T.entry g o)) }
     {
-        let next = Kept::fresh(alloc, extent.cells as usize, extent.firsts as usize)?;
-        let room = Room::fresh(alloc, next, extent.variables as usize, count)?;
-        let kept = Kept::fresh(alloc, extent.cells as usize, extent.firsts as usize)?;
+        let cells = extent.cells as usize;
+        let firsts = extent.firsts as usize;
+        let Ok(kept) = Kept::fresh(alloc, cells, firsts) else {
+            return Err(Memory);
+        };
+        let variables = extent.variables as usize;
+        let Ok(room) = Room::fresh(alloc, cells, firsts, variables, count) else {
+            return Err(Memory);
+        };
         Ok(Rows { kept, room })
     }
 
@@ -43,9 +49,13 @@ impl<T: Held> Rows<T> {
     pub fn over<U: Held>(&self, alloc: Global) -> Result<Rows<U>, Stop>
         ensures { IfOk result (λ o. (g : ℕ) → IsCopy (rows_seen T.entry g self.now) (rows_seen U.entry g o)) }
     {
-        let room = self.room.over(alloc)?;
-        let kept = self.kept.over(alloc)?;
-        Ok(Rows { kept, room })
+        let Ok(room) = self.room.over(alloc) else {
+            return Err(Stop::Memory);
+        };
+        match self.kept.over(alloc) {
+            Ok(kept) => Ok(Rows { kept, room }),
+            Err(stop) => Err(stop),
+        }
     }
 
     /// Whether the rows are so long.

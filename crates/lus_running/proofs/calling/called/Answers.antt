@@ -21,8 +21,8 @@ pub part-requires-2 : goal.part-requires-2
 part-requires-2 g c = within _ _ _ _ _ _ (c.len-2.ensures ∙ c.args.on.now.class.now.firsts.ok.0) c.requires.call.part.firsts
     c.requires.fits.firsts
 
-pub returns : goal.returns
-returns g c =
+pub returns-clause-is : goal.returns-clause-is
+returns-clause-is g c =
     let s = c.args.on.now in
     let k = s.class.now in
     let q = c.args.call.now in
@@ -39,3 +39,12 @@ returns g c =
       cells = c.part.ensures ∙ ap (λ j. part (j + q.offset.cells) q.extent.cells s.cells.now) n;
       firsts = c.part-2.ensures ∙ ap (λ j. part (j + q.offset.firsts) q.extent.firsts s.firsts.now) m;
     })
+
+pub returns-clause-cell : goal.returns-clause-cell
+returns-clause-cell g c = (ap (λ n. n + c.args.call.now.offset.cells) (c.len.ensures ∙ c.args.on.now.class.now.cells.ok.0), refl)
+
+pub returns-clause-first : goal.returns-clause-first
+returns-clause-first g c = (ap (λ n. n + c.args.call.now.offset.firsts) (c.len-2.ensures ∙ c.args.on.now.class.now.firsts.ok.0), refl)
+
+pub returns-clause-variable : goal.returns-clause-variable
+returns-clause-variable g c = (omega arith, refl)

@@ -1,9 +1,9 @@
-use Rattle.std.proofs.Common.{None, refl}
+use Rattle.std.proofs.Common.{None}
 use Rattle.lus_running.proofs.Cells.{filled_long}
 use Rattle.lus_running.proofs.room.Room.fresh.Goals as goal
 
 pub returns : goal.returns
 returns g c = record {
-  next = refl;
-  variables = filled_long g.T.Held.entry c.in_ok-variables.variables.items c.args.variables None c.in_ok-variables.ensures;
+  next = c.in-Ok-fresh.ensures;
+  variables = filled_long g.T.Held.entry c.in-Ok.variables.items c.args.variables None c.in-Ok.ensures;
 }

@@ -1,0 +1,28 @@
+use Rattle.std.proofs.Common.{◌∙◌, ◌<◌, ◌≤◌, sym, ap, map, length, take, drop, ◌++◌, ◌∷◌, [], add-one, arith}
+use Rattle.std.proofs.lemmas.List.{length-map, map-append}
+use Rattle.lus_values.specs.View.{entry_of}
+use Rattle.lus_running.proofs.Placing.{one_more, nothing_taken, taken_between}
+use Rattle.lus_running.proofs.answering.outputs_in.Goals as goal
+
+pub loop-variable-init : goal.loop-variable-init
+loop-variable-init g c = ap (map entry_of) c.in-Ok.ensures.items ∙ sym (nothing_taken c.args.on.now.class.now.inputs (map g.T.Held.entry c.args.row.now))
+
+pub loop-variable-preserved : goal.loop-variable-preserved
+loop-variable-preserved g c =
+    let n = c.loop-variable.variable in
+    let from = c.args.on.now.class.now.inputs in
+    let r = map g.T.Held.entry c.args.row.now in
+    let e = c.in-Ok-entry_at.entry in
+    let lt : n < length r = rw (length-map c.args.row.now g.T.Held.entry) (omega arith) in
+    let le : from ≤ n = c.loop-variable.auto.variable in
+    rw add-one
+    (ap (map entry_of) c.in-Ok-push.ensures.items
+    ∙ map-append entry_of c.loop-variable.found.items (e ∷ [])
+    ∙ ap (λ l. l ++ entry_of e ∷ []) c.loop-variable.invariant
+    ∙ ap (λ v. drop from (take n r) ++ v ∷ []) c.in-Ok-entry_at.ensures
+    ∙ one_more from n r le lt)
+
+pub returns : goal.returns
+returns g c =
+    let r = map g.T.Held.entry c.args.row.now in
+    c.new.ensures ∙ c.loop-variable.invariant ∙ taken_between c.args.on.now.class.now.inputs c.args.outputs c.loop-variable.variable r (omega arith)
