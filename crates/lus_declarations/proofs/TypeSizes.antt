@@ -5,7 +5,10 @@ use Rattle.std.proofs.Math.ListN.{get_or-map as get_or_any-map}
 use Rattle.lus_values.specs.Lists.{item}
 use Rattle.lus_graph.specs.Along.{IsFilled, Solves}
 use Rattle.lus_graph.specs.Ways.{Uses, IsOrder}
-use Rattle.lus_syntax.specs.Trees.{Tree}
+use Rattle.lus_syntax.specs.declared.tree.Tree.{Tree as StoredTree}
+use Rattle.lus_syntax.specs.declared.tree.TypeDeclaration.{TypeDeclaration as StoredType}
+use Rattle.lus_syntax.specs.Trees.{TypeDeclaration, Tree}
+use Rattle.lus_syntax.specs.View.{tree_seen, type_seen}
 use Rattle.lus_program.specs.declared.types.Declared.{Declared as StoredDeclared}
 use Rattle.lus_program.specs.View.{declared_of}
 use Rattle.lus_program.specs.Programs.{Declared, structure}
@@ -21,7 +24,7 @@ use Rattle.lus_source.proofs.TypesMeant.{types_order}
 use Rattle.lus_source.specs.declared.scope.Tables.{Tables}
 use Rattle.lus_source.specs.ScopeView.{tables_seen}
 use Rattle.lus_source.specs.Scopes.{Scope}
-use Rattle.lus_source.specs.Tables.{tables as tables_of}
+use Rattle.lus_source.specs.Tables.{declared_as, tables as tables_of}
 use Rattle.lus_declarations.proofs.Greatest.{greatest-same}
 use Rattle.lus_declarations.proofs.Measures.{IsMeasure, found_solves, found_within, past_refused}
 
@@ -69,6 +72,20 @@ module _ (p : Tree) (tables : Tables) (tabled : tables_seen tables ≡ tables_of
 
   pub ordered : IsOrder (uses_in types) order
   ordered = subst (λ ds. IsOrder (uses_in ds) order) (sym same) (types_order p order o)
+
+  -- the declared types are those of its declarations
+  pub type_place : (t : StoredTree) (declarations : List StoredType) → t.types.items ≡ declarations → tree_seen t ≡ p → (x : ℕ) → x < length (uses_in types) → x < length declarations
+  type_place t declarations listed read x lt =
+      omega (
+        arith,
+        lt,
+        length-map types declared_uses,
+        ap length same,
+        length-map p.types (λ (d : TypeDeclaration). declared_as p d.definition),
+        ap (λ (q : Tree). length q.types) read,
+        length-map t.types.items type_seen,
+        ap length listed,
+      )
 
   module _ (e : ℕ) (size : Size) (m : IsMeasure (uses_in types) e (step_in size types) (length types)) (most : ℕ) where
     abbrev AreSmall : List Declared → Type 0
