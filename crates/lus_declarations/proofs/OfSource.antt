@@ -1,6 +1,6 @@
 -- What the code finds of names is what the source says.
 use Rattle.std.proofs.Common.{add-one, ◌≡◌, ◌∙◌, refl, sym, ap, subst, ℕ, suc, ◌+◌, ◌≤◌, ◌&&◌, List, [], ◌∷◌, Option, Some, None, Bool, true, false, cond, IsTrue, map, length, option_map}
-use Rattle.std.specs.List.{list_all, position_from}
+use Rattle.std.specs.List.{list_all, position_from, zip}
 use Rattle.std.specs.Str.{bytes_eq}
 use Rattle.std.proofs.lemmas.Bool.{le-leb}
 use Rattle.lus_syntax.specs.Lexemes.{Text}
@@ -14,7 +14,9 @@ use Rattle.lus_source.specs.Sized.{DefinitionCounted}
 use Rattle.lus_source.specs.Tables.{all_constructors, all_declared_by, constants_by, declared_by, fields_by, groups, kind_at, kind_named, kinds_by, numbered_from, placed, scope, signatures_by, tables, types_by}
 use Rattle.lus_source.specs.Labels.{has_few_fields}
 use Rattle.lus_source.proofs.FieldsMeant.{length-fields_by}
-use Rattle.lus_declarations.specs.ByTable.{entered, kind_in}
+use Rattle.lus_source.specs.Named.{names_in}
+use Rattle.lus_declarations.specs.ByTable.{kind_in}
+use Rattle.lus_declarations.proofs.Placing.{names-kinds_by, whole}
 
 -- ---- types
 
@@ -81,5 +83,12 @@ module _ (kind : TypeName → Kind) where
 
 -- ---- variables
 
-pub entered_of_source : (p : Tree) (f : Node) → entered (tables p) f ≡ scope p f
-entered_of_source p f = ap (λ k. let s : Scope = record (tables p) { variables = placed (kinds_by k (groups f)) } in s) (kind_in-tables p)
+-- names with the types that a table of types says are those that the source says
+pub entered : (p : Tree) (f : Node) (s : Scope) (ns : List Text) (ks : List Kind) → s ≡ tables p → ns ≡ names_in (groups f) → ks ≡ map (λ e. e.1) (kinds_by (kind_in s.types) (groups f))
+    → (let t : Scope = record s { variables = placed (zip ns ks) } in t) ≡ scope p f
+entered p f s ns ks tabled named kinded =
+    let kind = kind_in s.types in
+    let gs = groups f in
+    ap (λ vs. let t : Scope = record s { variables = placed vs } in t) (whole (kinds_by kind gs) ns ks (named ∙ sym (names-kinds_by kind gs)) kinded)
+    ∙ ap (λ (u : Scope). let t : Scope = record u { variables = placed (kinds_by (kind_in u.types) gs) } in t) tabled
+    ∙ ap (λ k. let t : Scope = record (tables p) { variables = placed (kinds_by k gs) } in t) (kind_in-tables p)

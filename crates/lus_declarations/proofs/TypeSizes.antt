@@ -9,6 +9,8 @@ use Rattle.lus_syntax.specs.declared.tree.Tree.{Tree as StoredTree}
 use Rattle.lus_syntax.specs.declared.tree.TypeDeclaration.{TypeDeclaration as StoredType}
 use Rattle.lus_syntax.specs.Trees.{TypeDeclaration, Tree}
 use Rattle.lus_syntax.specs.View.{tree_seen, type_seen}
+use Rattle.lus_program.specs.declared.types.Declared.{Declared as StoredDeclared}
+use Rattle.lus_program.specs.View.{declared_of}
 use Rattle.lus_program.specs.Programs.{Declared, structure}
 use Rattle.lus_typing.specs.Kinds.{nothing_declared}
 use Rattle.lus_typing.specs.Leaves.{declared_leaves, AreTheLeaves}
@@ -17,9 +19,12 @@ use Rattle.lus_typing.proofs.OneTable.{declared_alike, the_leaves}
 use Rattle.lus_source.specs.Loopless.{type_uses}
 use Rattle.lus_source.specs.Meaning.{program_of}
 use Rattle.lus_source.specs.Sized.{AreWithin, Counted, declared_nesting, size_at}
-use Rattle.lus_source.specs.Tables.{declared_as}
 use Rattle.lus_source.proofs.FieldsMeant.{meant_fields}
 use Rattle.lus_source.proofs.TypesMeant.{types_order}
+use Rattle.lus_source.specs.declared.scope.Tables.{Tables}
+use Rattle.lus_source.specs.ScopeView.{tables_seen}
+use Rattle.lus_source.specs.Scopes.{Scope}
+use Rattle.lus_source.specs.Tables.{declared_as, tables as tables_of}
 use Rattle.lus_declarations.proofs.Greatest.{greatest-same}
 use Rattle.lus_declarations.proofs.Measures.{IsMeasure, found_solves, found_within, past_refused}
 
@@ -58,9 +63,29 @@ module _ (types : List Declared) where
   pub nesting_measure : IsMeasure (uses_in types) 0 (step_in declared_nesting types) (length types)
   nesting_measure = measured 0 declared_nesting nesting_alike (λ at. refl)
 
-module _ (p : Tree) (types : List Declared) (same : types ≡ (program_of p).types) (order : List ℕ) (o : IsOrder (type_uses p) order) where
+module _ (p : Tree) (tables : Tables) (tabled : tables_seen tables ≡ tables_of p) (declared : List StoredDeclared) (here : declared ≡ tables.declared.items) (order : List ℕ) (o : IsOrder (type_uses p) order) where
+  abbrev types : List Declared
+  types = map declared_of declared
+
+  same : types ≡ (program_of p).types
+  same = ap (map declared_of) here ∙ ap (λ (s : Scope). s.declared) tabled
+
   pub ordered : IsOrder (uses_in types) order
   ordered = subst (λ ds. IsOrder (uses_in ds) order) (sym same) (types_order p order o)
+
+  -- the declared types are those of its declarations
+  pub type_place : (t : StoredTree) (declarations : List StoredType) → t.types.items ≡ declarations → tree_seen t ≡ p → (x : ℕ) → x < length (uses_in types) → x < length declarations
+  type_place t declarations listed read x lt =
+      omega (
+        arith,
+        lt,
+        length-map types declared_uses,
+        ap length same,
+        length-map p.types (λ (d : TypeDeclaration). declared_as p d.definition),
+        ap (λ (q : Tree). length q.types) read,
+        length-map t.types.items type_seen,
+        ap length listed,
+      )
 
   module _ (e : ℕ) (size : Size) (m : IsMeasure (uses_in types) e (step_in size types) (length types)) (most : ℕ) where
     abbrev AreSmall : List Declared → Type 0
@@ -80,14 +105,3 @@ module _ (p : Tree) (types : List Declared) (same : types ≡ (program_of p).typ
       the_leaves (program_of p) order (types_order p order o) table (meant_fields p counted)
       (subst (λ ds. (t : ℕ) → item 1 table t ≡ declared_leaves (item 1 table) (item nothing_declared ds t)) same
       (found_solves (leaves_measure types) order ordered (λ k. k ≤ most) table found))
-
--- the declared types of a tree are those of its declarations
-pub declared_count : (t : StoredTree) (types : List Declared) → types ≡ (program_of (tree_seen t)).types → length (uses_in types) ≡ length t.types.items
-declared_count t types same =
-    length-map types declared_uses ∙ ap length same ∙ length-map (tree_seen t).types (λ (d : TypeDeclaration). declared_as (tree_seen t) d.definition)
-    ∙ length-map t.types.items type_seen
-
-pub type_place : (t u : StoredTree) (declarations : List StoredType) (types : List Declared) (x : ℕ) → types ≡ (program_of (tree_seen t)).types → u ≡ t
-    → declarations ≡ u.types.items → x < length (uses_in types) → x < length declarations
-type_place t u declarations types x same read listed lt =
-    omega (arith, lt, declared_count t types same, ap (λ (v : StoredTree). length v.types.items) read, ap length listed)

@@ -2,11 +2,10 @@
 use Rattle.std.specs.Prelude.{List, Some, None}
 use Rattle.std.specs.List.{zip}
 use Rattle.lus_syntax.specs.Lexemes.{Text}
-use Rattle.lus_syntax.specs.Trees.{TypeName, BoolName, IntName, DeclaredName, Node}
+use Rattle.lus_syntax.specs.Trees.{TypeName, BoolName, IntName, DeclaredName}
 use Rattle.lus_program.specs.declared.types.Kind.{Kind}
 use Rattle.lus_program.specs.declared.types.Kind.TheVariants as kinds
-use Rattle.lus_source.specs.Scopes.{Scope, entry}
-use Rattle.lus_source.specs.Tables.{groups, kinds_by, placed}
+use Rattle.lus_source.specs.Scopes.{entry}
 
 -- the type that a name means, by a table of types; bool for an unknown one
 abbrev pub kind_in : List (Text × Kind) → TypeName → Kind
@@ -17,7 +16,3 @@ kind_in types (DeclaredName n) = elim (entry types n.text) [ Some k ↦ k | None
 -- so where the declared types have these names and are these
 abbrev pub kind_told : List Text → List Kind → TypeName → Kind
 kind_told names ks = kind_in (zip names ks)
-
--- with a node's variables in the place of those that are there
-abbrev pub entered : Scope → Node → Scope
-entered s f = record s { variables = placed (kinds_by (kind_in s.types) (groups f)) }

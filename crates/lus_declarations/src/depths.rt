@@ -15,6 +15,7 @@ ghost use Rattle.lus_source.specs.Sized.{AreWithin, call_depth_at, declared_nest
 ghost use Rattle.lus_declarations.specs.Limits.{IsLimited};
 
 use crate::loopless::Loopless;
+use crate::tabled::Tabled;
 use crate::uses::node_uses;
 use lus_graph::{Rule, along};
 use lus_program::{Declared, Field, Kind};
@@ -64,14 +65,14 @@ impl<'a> Rule<u32> for Calls<'a> {
 }
 
 /// Checks how deep structures stand in types.
-pub fn check_nesting(alloc: Global, loopless: &Loopless, types: &[Declared]) -> Result<(), Fault>
-    requires declared { map declared_of types.now ≡ (program_of (tree_seen loopless.now)).types }
-    ensures { let types = (program_of (tree_seen loopless.now)).types in
+pub fn check_nesting(alloc: Global, tabled: &Tabled) -> Result<(), Fault>
+    ensures { let types = (program_of (tree_seen tabled.now)).types in
         Judged result (AreWithin (length types) (nesting_at types) most_nesting) }
 {
-    let declarations = loopless.tree().types.as_slice();
+    let declarations = tabled.loopless.tree().types.as_slice();
     let unknown = vec![in alloc; 0u32; declarations.len()]?;
-    match along(&Nesting { types }, loopless.types(), unknown) {
+    let types = &tabled.tables.declared;
+    match along(&Nesting { types }, tabled.loopless.types(), unknown) {
         Ok(_) => Ok(()),
         Err(place) => Err(Fault::At(declarations[place].name.span.start)),
     }

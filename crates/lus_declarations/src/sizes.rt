@@ -16,7 +16,7 @@ ghost use Rattle.lus_source.specs.Sized.{AreWithin, Bounded, leaves_at};
 ghost use Rattle.lus_declarations.specs.Limits.{IsLimited};
 
 use crate::depths::{at_most, check_calls, check_nesting};
-use crate::loopless::Loopless;
+use crate::tabled::Tabled;
 use lus_graph::{Rule, along};
 use lus_program::{Declared, Field, Kind};
 use lus_source::Fault;
@@ -25,30 +25,24 @@ use std::alloc::Global;
 
 /// Checks leaves and nesting of types and call depth of nodes against the limits, and gives the leaves. A refusal stands at the
 /// declared name.
-pub fn check_sizes(
-    alloc: Global,
-    loopless: &Loopless,
-    types: &[Declared],
-) -> Result<Vec<u32>, Refusal>
-    requires declared { map declared_of types.now ≡ (program_of (tree_seen loopless.now)).types }
-    ensures leaves { IfOk result (λ leaves. AreTheLeaves (program_of (tree_seen loopless.now)) leaves.items) }
-    ensures ok { OnOk result (Bounded (tree_seen loopless.now)) }
-    ensures refused { IfErr result (RefusesFor numbers.Limit (Bounded (tree_seen loopless.now))) }
+pub fn check_sizes(alloc: Global, tabled: &Tabled) -> Result<Vec<u32>, Refusal>
+    ensures leaves { IfOk result (λ leaves. AreTheLeaves (program_of (tree_seen tabled.now)) leaves.items) }
+    ensures ok { OnOk result (Bounded (tree_seen tabled.now)) }
+    ensures refused { IfErr result (RefusesFor numbers.Limit (Bounded (tree_seen tabled.now))) }
 {
-    match sizes(alloc, loopless, types) {
+    match sizes(alloc, tabled) {
         Ok(leaves) => Ok(leaves),
         Err(fault) => Err(fault.refusal(RefusalNumber::Limit)),
     }
 }
 
-fn sizes(alloc: Global, loopless: &Loopless, types: &[Declared]) -> Result<Vec<u32>, Fault>
-    requires declared { map declared_of types.now ≡ (program_of (tree_seen loopless.now)).types }
-    ensures leaves { IfOk result (λ leaves. AreTheLeaves (program_of (tree_seen loopless.now)) leaves.items) }
-    ensures bounded { Judged result (Bounded (tree_seen loopless.now)) }
+fn sizes(alloc: Global, tabled: &Tabled) -> Result<Vec<u32>, Fault>
+    ensures leaves { IfOk result (λ leaves. AreTheLeaves (program_of (tree_seen tabled.now)) leaves.items) }
+    ensures bounded { Judged result (Bounded (tree_seen tabled.now)) }
 {
-    let leaves = check_leaves(alloc, loopless, types)?;
-    check_nesting(alloc, loopless, types)?;
-    check_calls(alloc, loopless)?;
+    let leaves = check_leaves(alloc, tabled)?;
+    check_nesting(alloc, tabled)?;
+    check_calls(alloc, tabled.loopless)?;
     Ok(leaves)
 }
 
@@ -73,15 +67,15 @@ impl<'a> Rule<u32> for Leaves<'a> {
 }
 
 /// Checks the leaves of types, each behind the structures that its declaration names, and gives them.
-fn check_leaves(alloc: Global, loopless: &Loopless, types: &[Declared]) -> Result<Vec<u32>, Fault>
-    requires declared { map declared_of types.now ≡ (program_of (tree_seen loopless.now)).types }
-    ensures leaves { IfOk result (λ leaves. AreTheLeaves (program_of (tree_seen loopless.now)) leaves.items) }
-    ensures within { let types = (program_of (tree_seen loopless.now)).types in
+fn check_leaves(alloc: Global, tabled: &Tabled) -> Result<Vec<u32>, Fault>
+    ensures leaves { IfOk result (λ leaves. AreTheLeaves (program_of (tree_seen tabled.now)) leaves.items) }
+    ensures within { let types = (program_of (tree_seen tabled.now)).types in
         Judged result (AreWithin (length types) (leaves_at types) most_leaves) }
 {
-    let declarations = loopless.tree().types.as_slice();
+    let declarations = tabled.loopless.tree().types.as_slice();
     let unknown = vec![in alloc; 1u32; declarations.len()]?;
-    match along(&Leaves { types }, loopless.types(), unknown) {
+    let types = &tabled.tables.declared;
+    match along(&Leaves { types }, tabled.loopless.types(), unknown) {
         Ok(leaves) => Ok(leaves),
         Err(place) => Err(Fault::At(declarations[place].name.span.start)),
     }

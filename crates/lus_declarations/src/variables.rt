@@ -1,16 +1,17 @@
 //! The variables of a node.
 
-ghost use Rattle.std.specs.Prelude.{◌≡◌, ◌≤◌, IfErr, IfOk, OnOk, map};
+ghost use Rattle.std.specs.Prelude.{◌≡◌, ◌≤◌, IfErr, IfOk, map};
 ghost use Rattle.lus_syntax.specs.Limits.{most_variables};
-ghost use Rattle.lus_syntax.specs.View.{node_seen};
+ghost use Rattle.lus_syntax.specs.View.{node_seen, tree_seen};
 ghost use Rattle.lus_source.specs.Named.{Distinct, names_in};
 ghost use Rattle.lus_source.specs.ScopeView.{Faulty, scope_of};
 ghost use Rattle.lus_source.specs.Sized.{variable_count};
-ghost use Rattle.lus_source.specs.Tables.{groups, kinds_by};
-ghost use Rattle.lus_declarations.specs.ByTable.{entered, kind_told};
+ghost use Rattle.lus_source.specs.Tables.{groups, kinds_by, scope};
+ghost use Rattle.lus_declarations.specs.ByTable.{kind_told};
 
 use crate::nodes::declare_variables;
 use crate::signatures::push_kinds;
+use crate::tabled::Tabled;
 use indexmap::IndexSet;
 use lus_program::Kind;
 use lus_source::{Fault, Places, Scope};
@@ -18,17 +19,21 @@ use lus_syntax::Node;
 use lus_values::Memory;
 use std::alloc::Global;
 
-/// Puts a node's variables in the place of those that the scope has, where they are distinct.
-pub fn enter(alloc: Global, scope: &mut Scope, node: &Node) -> Result<(), Fault>
+/// What the names in a node's text stand for, where its variables are distinct.
+pub fn enter<'a>(alloc: Global, tabled: &'a Tabled<'a>, node: &Node) -> Result<Scope<'a>, Fault>
     requires few { variable_count (groups (node_seen node.now)) ≤ most_variables }
-    ensures entered { OnOk result (scope_of scope.new ≡ entered (scope_of scope.old) (node_seen node.now)) }
+    ensures entered { IfOk result (λ s. scope_of s ≡ scope (tree_seen tabled.now) (node_seen node.now)) }
     ensures doubled { IfErr result (Faulty (Distinct (names_in (groups (node_seen node.now))) → ⊥)) }
 {
     let mut names = IndexSet::new(alloc);
     declare_variables(&mut names, node)?;
-    scope.variables = Places::new(names);
-    scope.variable_kinds = variable_kinds(alloc, &scope.names.types, &scope.types, node)?;
-    Ok(())
+    let tables = &tabled.tables;
+    let variable_kinds = variable_kinds(alloc, &tables.names.types, &tables.types, node)?;
+    Ok(Scope {
+        tables,
+        variables: Places::new(names),
+        variable_kinds,
+    })
 }
 
 /// The types of a node's variables.

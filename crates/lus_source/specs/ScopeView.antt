@@ -1,5 +1,5 @@
 -- What the code holds of a scope, as tables, and what a fault tells.
-use Rattle.std.specs.Prelude.{◌≡◌, Bool, true, false, Result, MatchResult, map}
+use Rattle.std.specs.Prelude.{◌≡◌, Bool, true, false, [], Result, MatchResult, map}
 use Rattle.std.specs.List.{zip}
 use Rattle.lus_syntax.specs.declared.refusal.RefusalNumber.{RefusalNumber}
 use Rattle.lus_syntax.specs.declared.refusal.RefusalNumber.TheVariants as numbers
@@ -8,6 +8,7 @@ use Rattle.lus_program.specs.View.{declared_of}
 use Rattle.lus_source.specs.declared.fault.Fault.{Fault}
 use Rattle.lus_source.specs.declared.fault.Fault.TheVariants as faults
 use Rattle.lus_source.specs.declared.scope.Scope.{Scope as StoredScope}
+use Rattle.lus_source.specs.declared.scope.Tables.{Tables as StoredTables}
 use Rattle.lus_source.specs.declared.entries.Signature.{Signature as StoredSignature}
 use Rattle.lus_source.specs.Scopes.{Scope, Signature}
 use Rattle.lus_source.specs.Tables.{placed}
@@ -33,13 +34,17 @@ number_of n (faults.At place) = n
 abbrev pub signature_of : StoredSignature → Signature
 signature_of g = record { place = g.place; kind = g.kind; inputs = g.inputs.items; outputs = g.outputs.items }
 
--- each name with what stands at its place
-abbrev pub scope_of : StoredScope → Scope
-scope_of s = record {
-  variables = placed (zip s.variables s.variable_kinds.items);
-  constants = zip s.names.now.constants (map value_of s.constants.items);
-  constructors = zip s.names.now.constructors s.constructors.items;
-  types = zip s.names.now.types s.types.items;
-  declared = map declared_of s.declared.items;
-  nodes = zip s.names.now.nodes (map signature_of s.nodes.items);
+-- each name with what stands at its place; no variables
+abbrev pub tables_seen : StoredTables → Scope
+tables_seen t = record {
+  variables = [];
+  constants = zip t.names.now.constants (map value_of t.constants.items);
+  constructors = zip t.names.now.constructors t.constructors.items;
+  types = zip t.names.now.types t.types.items;
+  declared = map declared_of t.declared.items;
+  nodes = zip t.names.now.nodes (map signature_of t.nodes.items);
 }
+
+-- with a node's variables
+abbrev pub scope_of : StoredScope → Scope
+scope_of s = record (tables_seen s.tables.now) { variables = placed (zip s.variables s.variable_kinds.items) }

@@ -11,4 +11,4 @@ pub use counted::Counted;
 pub use entries::{Constructor, Placed, Signature};
 pub use fault::Fault;
 pub use places::{Places, Spaces, find};
-pub use scope::{Scope, field};
+pub use scope::{Scope, Tables, field};

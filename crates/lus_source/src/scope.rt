@@ -1,4 +1,4 @@
-//! What the names in a node's text stand for.
+//! What the names of a source stand for, and those in a node's text.
 
 ghost use Rattle.std.specs.Prelude.{◌≡◌, ◌≤◌, IsTrue, length, map};
 ghost use Rattle.std.specs.List.{list_all};
@@ -12,11 +12,9 @@ use lus_program::{Declared, Field, Kind};
 use lus_values::{Memory, Value, copy};
 use std::alloc::Global;
 
-/// The variables of a node with their types, and what the names of its source stand for, each at its name's place:
-/// the values of constants, constructors, types, and the heads of nodes. `declared` says what each type's declaration declares.
-pub struct Scope<'a> {
-    pub variables: Places,
-    pub variable_kinds: Vec<Kind>,
+/// What the names of a source stand for, each at its name's place: the values of constants, constructors, types, and the heads
+/// of nodes. `declared` says what each type's declaration declares.
+pub struct Tables<'a> {
     pub names: &'a Spaces,
     pub constants: Vec<Value>,
     pub constructors: Vec<Constructor>,
@@ -24,6 +22,46 @@ pub struct Scope<'a> {
     pub declared: Vec<Declared>,
     pub nodes: Vec<Signature>,
     ghost few_fields: { IsTrue (list_all has_few_fields (map declared_of declared.items)) },
+}
+
+impl<'a> Tables<'a> {
+    ghost use Rattle.lus_source.specs.ScopeView.{tables_seen};
+
+    /// What the declarations of its types declare; the rest is given up.
+    pub fn into_declared(self) -> Vec<Declared>
+        ensures { map declared_of result.items ≡ (tables_seen self.entry).declared }
+    {
+        let Tables {
+            names: _,
+            constants: _,
+            constructors: _,
+            types: _,
+            declared,
+            nodes: _,
+        } = self;
+        declared
+    }
+}
+
+// By hand, so that crates above call it: what a derive drops is proved again in each of them.
+impl<'a> Drop for Tables<'a> {
+    fn drop(self) {
+        let Tables {
+            names: _,
+            constants: _,
+            constructors: _,
+            types: _,
+            declared: _,
+            nodes: _,
+        } = self;
+    }
+}
+
+/// The variables of a node with their types, and the tables of its source.
+pub struct Scope<'a> {
+    pub tables: &'a Tables<'a>,
+    pub variables: Places,
+    pub variable_kinds: Vec<Kind>,
 }
 
 impl<'a> Scope<'a> {
@@ -62,33 +100,34 @@ impl<'a> Scope<'a> {
     pub fn constant(&self, name: &str) -> Option<&Value>
         ensures { option_map (λ v. value_of v.now) result ≡ entry (scope_of self.now).constants name.now }
     {
-        find(&self.names.constants, &self.constants, name)
+        find(&self.tables.names.constants, &self.tables.constants, name)
     }
 
     pub fn constructor(&self, name: &str) -> Option<Constructor>
         ensures { result ≡ entry (scope_of self.now).constructors name.now }
     {
-        find(&self.names.constructors, &self.constructors, name).copied()
+        let tables = self.tables;
+        find(&tables.names.constructors, &tables.constructors, name).copied()
     }
 
     pub fn kind(&self, name: &str) -> Option<Kind>
         ensures { result ≡ entry (scope_of self.now).types name.now }
     {
-        find(&self.names.types, &self.types, name).copied()
+        find(&self.tables.names.types, &self.tables.types, name).copied()
     }
 
     pub fn node(&self, name: &str) -> Option<&Signature>
         ensures { option_map (λ g. signature_of g.now) result ≡ entry (scope_of self.now).nodes name.now }
     {
-        find(&self.names.nodes, &self.nodes, name)
+        find(&self.tables.names.nodes, &self.tables.nodes, name)
     }
 
     /// The node at a place.
     pub fn node_at(&self, place: u32) -> Option<&Signature>
         ensures { option_map (λ g. head_of (signature_of g.now)) result ≡ slice_get (heads (scope_of self.now)).nodes place }
     {
-        if (place as usize) < self.names.nodes.len() {
-            at(&self.nodes, place as usize)
+        if (place as usize) < self.tables.names.nodes.len() {
+            at(&self.tables.nodes, place as usize)
         } else {
             None
         }
@@ -114,7 +153,7 @@ impl<'a> Scope<'a> {
         match kind {
             Kind::Bool => 2,
             Kind::Int => 0,
-            Kind::Enum(declaration) => match self.declared.get(declaration as usize) {
+            Kind::Enum(declaration) => match self.tables.declared.get(declaration as usize) {
                 Some(Declared::Enumeration(constructors)) => constructors.len(),
                 Some(Declared::Alias(_)) => 0,
                 Some(Declared::Structure(_)) => 0,
@@ -133,7 +172,7 @@ impl<'a> Scope<'a> {
             Kind::Bool => &[],
             Kind::Int => &[],
             Kind::Enum(_) => &[],
-            Kind::Struct(declaration) => match self.declared.get(declaration as usize) {
+            Kind::Struct(declaration) => match self.tables.declared.get(declaration as usize) {
                 Some(Declared::Structure(fields)) => fields.as_slice(),
                 Some(Declared::Alias(_)) => &[],
                 Some(Declared::Enumeration(_)) => &[],
@@ -141,37 +180,15 @@ impl<'a> Scope<'a> {
             },
         }
     }
-
-    /// What the declarations of its types declare; the rest of the scope is given up.
-    pub fn into_declared(self) -> Vec<Declared>
-        ensures { map declared_of result.items ≡ (scope_of self.entry).declared }
-    {
-        let Scope {
-            variables: _,
-            variable_kinds: _,
-            names: _,
-            constants: _,
-            constructors: _,
-            types: _,
-            declared,
-            nodes: _,
-        } = self;
-        declared
-    }
 }
 
-// By hand, so that crates above call it: what a derive drops is proved again in each of them.
+// By hand, as that of `Tables`.
 impl<'a> Drop for Scope<'a> {
     fn drop(self) {
         let Scope {
+            tables: _,
             variables: _,
             variable_kinds: _,
-            names: _,
-            constants: _,
-            constructors: _,
-            types: _,
-            declared: _,
-            nodes: _,
         } = self;
     }
 }

@@ -3,12 +3,12 @@
 ghost use Rattle.std.specs.Prelude.{◌≡◌, map};
 ghost use Rattle.std.specs.List.{list_all};
 ghost use Rattle.lus_syntax.specs.View.{constant_seen};
-ghost use Rattle.lus_source.specs.ScopeView.{Tested, scope_of};
+ghost use Rattle.lus_source.specs.ScopeView.{Tested, tables_seen};
 ghost use Rattle.lus_types.specs.ByScope.{constant_fits};
 
 use lus_declarations::{kind_of_name, literal};
 use lus_elaboration::{same, value_kind};
-use lus_source::{Fault, Scope};
+use lus_source::{Fault, Tables};
 use lus_syntax::{Constant, Literal, Place};
 
 /// The place of a literal's first token.
@@ -22,28 +22,28 @@ fn literal_place(literal: &Literal) -> Place {
 }
 
 /// Whether a constant has the type that it declares.
-fn is_typed(scope: &Scope, constant: &Constant) -> bool
-    ensures { result ≡ constant_fits (scope_of scope.now) (constant_seen constant.now) }
+fn is_typed(tables: &Tables, constant: &Constant) -> bool
+    ensures { result ≡ constant_fits (tables_seen tables.now) (constant_seen constant.now) }
 {
     let Some(name) = &constant.type_name else {
         return true;
     };
     match value_kind(&literal(
-        &scope.names.constructors,
-        &scope.constructors,
+        &tables.names.constructors,
+        &tables.constructors,
         &constant.value,
     )) {
-        Some(kind) => same(kind, kind_of_name(&scope.names.types, &scope.types, name)),
+        Some(kind) => same(kind, kind_of_name(&tables.names.types, &tables.types, name)),
         None => false,
     }
 }
 
 /// Each constant has the type that it declares.
-pub fn check_constants(scope: &Scope, constants: &[Constant]) -> Result<(), Fault>
-    ensures { Tested result (list_all (constant_fits (scope_of scope.now)) (map constant_seen constants.now)) }
+pub fn check_constants(tables: &Tables, constants: &[Constant]) -> Result<(), Fault>
+    ensures { Tested result (list_all (constant_fits (tables_seen tables.now)) (map constant_seen constants.now)) }
 {
     for constant in constants {
-        if !is_typed(scope, constant) {
+        if !is_typed(tables, constant) {
             return Err(Fault::At(literal_place(&constant.value)));
         }
     }

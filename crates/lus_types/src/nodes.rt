@@ -3,18 +3,19 @@
 ghost use Rattle.std.specs.Prelude.{◌≡◌, ◌≤◌, ◌+◌, ◌++◌, IfOk, OnOk, flat_map, is_none, length, map, option_map};
 ghost use Rattle.std.specs.List.{list_all};
 ghost use Rattle.lus_syntax.specs.Limits.{most_variables};
-ghost use Rattle.lus_syntax.specs.View.{equation_seen, group_seen, node_seen, test_seen};
+ghost use Rattle.lus_syntax.specs.View.{equation_seen, group_seen, node_seen, test_seen, tree_seen};
 ghost use Rattle.lus_values.specs.Lists.{Each};
 ghost use Rattle.lus_program.specs.View.{equations_from, node_of, variable_of};
+ghost use Rattle.lus_source.specs.Named.{Distinct, names_in};
 ghost use Rattle.lus_source.specs.Tables.{groups};
 ghost use Rattle.lus_source.specs.Sized.{variable_count};
-ghost use Rattle.lus_source.specs.Meaning.{equations_meant, test_meant};
-ghost use Rattle.lus_source.specs.WellTyped.{is_pure, memory_fits};
+ghost use Rattle.lus_source.specs.Meaning.{equations_meant, node_meant, test_meant};
+ghost use Rattle.lus_source.specs.WellTyped.{NodeTyped, is_pure, memory_fits};
 ghost use Rattle.lus_source.specs.ScopeView.{Judged, Tested, scope_of};
 ghost use Rattle.lus_elaboration.specs.Wholes.{EquationTyped};
-ghost use Rattle.lus_types.specs.ByScope.{IsTypedIn, group_fits, maybe_fits, node_in, variables_in};
+ghost use Rattle.lus_types.specs.ByScope.{IsTypedIn, group_fits, maybe_fits, node_in as node_by, variables_in};
 
-use lus_declarations::kind_of_name;
+use lus_declarations::{Tabled, enter, kind_of_name};
 use lus_elaboration::{clock_variable, equation, memory, test};
 use lus_program::{Equation, Node, Test, Variable};
 use lus_source::{Fault, Scope};
@@ -44,7 +45,8 @@ fn push_group(scope: &Scope, group: &Group, variables: &mut Vec<Variable>) -> Re
         OnOk result (map variable_of variables.new.items ≡ map variable_of variables.old.items ++ more) }
     ensures fits { Tested result (group_fits (scope_of scope.now) (group_seen group.now)) }
 {
-    let kind = kind_of_name(&scope.names.types, &scope.types, &group.type_name);
+    let tables = scope.tables;
+    let kind = kind_of_name(&tables.names.types, &tables.types, &group.type_name);
     for name in &group.names {
         let test = group_test(scope, &group.test)?;
         variables.push(Variable {
@@ -141,10 +143,21 @@ fn check_memory(scope: &Scope, kind: NodeKind, sources: &[SourceEquation]) -> Re
     }
 }
 
-/// A node, as the program has it, where it is well typed.
-pub fn node(alloc: Global, scope: &Scope, source: &SourceNode) -> Result<Node, Fault>
+/// A node of a source, as the program has it, where it is well typed.
+pub fn node(alloc: Global, tabled: &Tabled, source: &SourceNode) -> Result<Node, Fault>
     requires few { variable_count (groups (node_seen source.now)) ≤ most_variables }
-    ensures meant { IfOk result (λ n. node_of n ≡ node_in (scope_of scope.now) (node_seen source.now)) }
+    requires distinct { Distinct (names_in (groups (node_seen source.now))) }
+    ensures meant { IfOk result (λ n. node_of n ≡ node_meant (tree_seen tabled.now) (node_seen source.now)) }
+    ensures typed { Judged result (NodeTyped (tree_seen tabled.now) (node_seen source.now)) }
+{
+    let scope = enter(alloc, tabled, source)?;
+    node_in(alloc, &scope, source)
+}
+
+/// A node by what the names in its text stand for.
+fn node_in(alloc: Global, scope: &Scope, source: &SourceNode) -> Result<Node, Fault>
+    requires few { variable_count (groups (node_seen source.now)) ≤ most_variables }
+    ensures meant { IfOk result (λ n. node_of n ≡ node_by (scope_of scope.now) (node_seen source.now)) }
     ensures typed { Judged result (IsTypedIn (scope_of scope.now) (node_seen source.now)) }
 {
     let variables = node_variables(alloc, scope, source)?;

@@ -8,28 +8,26 @@ ghost use Rattle.lus_program.specs.Parts.{program_parts};
 ghost use Rattle.lus_program.specs.View.{node_of, program_seen};
 ghost use Rattle.lus_values.specs.Lists.{Each};
 ghost use Rattle.lus_source.specs.Meaning.{node_meant, program_of};
-ghost use Rattle.lus_source.specs.Tables.{tables as tables_of};
 ghost use Rattle.lus_typing.specs.Refusals.{RefusesFor};
 ghost use Rattle.lus_source.specs.WellTyped.{IsTyped, NodeTyped};
-ghost use Rattle.lus_source.specs.ScopeView.{Judged, scope_of};
+ghost use Rattle.lus_source.specs.ScopeView.{Judged};
 
 use crate::constants::check_constants;
 use crate::nodes::node;
 use crate::parts::check_parts;
-use lus_declarations::{Loopless, enter};
+use lus_declarations::Tabled;
 use lus_program::{Node, Program};
-use lus_source::{Fault, Scope};
+use lus_source::Fault;
 use lus_syntax::{Refusal, RefusalNumber};
 use std::alloc::Global;
 
-/// Checks types, and gives the program that the source means. The scope has what its names stand for.
-pub fn types(alloc: Global, scope: Scope<'_>, loopless: &Loopless) -> Result<Program, Refusal>
-    requires scoped { scope_of scope ≡ tables_of (tree_seen loopless.now) }
-    ensures ok { OnOk result (IsTyped (tree_seen loopless.now)) }
-    ensures means { IfOk result (λ q. program_seen q ≡ program_of (tree_seen loopless.now)) }
-    ensures refused { IfErr result (RefusesFor numbers.Type (IsTyped (tree_seen loopless.now))) }
+/// Checks types, and gives the program that the source means.
+pub fn types(alloc: Global, tabled: Tabled<'_>) -> Result<Program, Refusal>
+    ensures ok { OnOk result (IsTyped (tree_seen tabled.entry)) }
+    ensures means { IfOk result (λ q. program_seen q ≡ program_of (tree_seen tabled.entry)) }
+    ensures refused { IfErr result (RefusesFor numbers.Type (IsTyped (tree_seen tabled.entry))) }
 {
-    match program(alloc, scope, loopless) {
+    match program(alloc, tabled) {
         Ok(program) => Ok(program),
         Err(fault) => Err(fault.refusal(RefusalNumber::Type)),
     }
@@ -47,31 +45,27 @@ pub fn parts(program: &Program) -> Result<(), Refusal>
 }
 
 /// The program that a source means, where it is well typed.
-fn program(alloc: Global, mut scope: Scope<'_>, loopless: &Loopless) -> Result<Program, Fault>
-    requires scoped { scope_of scope ≡ tables_of (tree_seen loopless.now) }
-    ensures typed { Judged result (IsTyped (tree_seen loopless.now)) }
-    ensures means { IfOk result (λ q. program_seen q ≡ program_of (tree_seen loopless.now)) }
+fn program(alloc: Global, tabled: Tabled<'_>) -> Result<Program, Fault>
+    ensures typed { Judged result (IsTyped (tree_seen tabled.entry)) }
+    ensures means { IfOk result (λ q. program_seen q ≡ program_of (tree_seen tabled.entry)) }
 {
-    check_constants(&scope, &loopless.tree().constants)?;
-    let nodes = nodes(alloc, &mut scope, loopless)?;
+    check_constants(&tabled.tables, &tabled.loopless.tree().constants)?;
+    let nodes = nodes(alloc, &tabled)?;
     Ok(Program {
-        types: scope.into_declared(),
+        types: tabled.tables.into_declared(),
         nodes,
     })
 }
 
 /// Nodes, each by its own variables.
-fn nodes(alloc: Global, scope: &mut Scope, loopless: &Loopless) -> Result<Vec<Node>, Fault>
-    requires scoped { scope_of scope.old ≡ tables_of (tree_seen loopless.now) }
-    ensures typed { let p = tree_seen loopless.now in Judged result (Each (NodeTyped p) p.nodes) }
-    ensures meant { let p = tree_seen loopless.now in IfOk result (λ ns. map node_of ns.items ≡ map (node_meant p) p.nodes) }
-    ensures declared { OnOk result ((scope_of scope.new).declared ≡ (tables_of (tree_seen loopless.now)).declared) }
+fn nodes(alloc: Global, tabled: &Tabled) -> Result<Vec<Node>, Fault>
+    ensures typed { let p = tree_seen tabled.now in Judged result (Each (NodeTyped p) p.nodes) }
+    ensures meant { let p = tree_seen tabled.now in IfOk result (λ ns. map node_of ns.items ≡ map (node_meant p) p.nodes) }
 {
-    let sources = loopless.tree().nodes.as_slice();
+    let sources = tabled.loopless.tree().nodes.as_slice();
     let mut nodes = Vec::with_capacity(alloc, sources.len())?;
     for source in sources {
-        enter(alloc, scope, source)?;
-        nodes.push(node(alloc, scope, source)?)?;
+        nodes.push(node(alloc, tabled, source)?)?;
     }
     Ok(nodes)
 }

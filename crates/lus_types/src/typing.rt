@@ -4,14 +4,11 @@ ghost use Rattle.std.specs.Prelude.{◌≡◌, ◌≢◌, IfErr, IfOk, OnOk};
 ghost use Rattle.lus_syntax.specs.declared.refusal.RefusalNumber.TheVariants as numbers;
 ghost use Rattle.lus_syntax.specs.View.{tree_seen};
 ghost use Rattle.lus_program.specs.View.{program_seen};
-ghost use Rattle.lus_source.specs.Loopless.{Loopless as IsLoopless};
 ghost use Rattle.lus_source.specs.Meaning.{program_of};
-ghost use Rattle.lus_source.specs.Named.{Named};
 ghost use Rattle.lus_source.specs.Refusals.{FirstFails, WellFormed};
-ghost use Rattle.lus_source.specs.Sized.{Counted};
 
 use crate::passes::{parts, types};
-use lus_declarations::{Loopless, check_counts, check_names, check_recursion, check_sizes, tables};
+use lus_declarations::{check_counts, check_names, check_recursion, check_sizes, tables};
 use lus_syntax::{Refusal, Tree};
 use lus_typing::Typed;
 use std::alloc::Global;
@@ -27,21 +24,9 @@ pub fn check_types(alloc: Global, tree: Tree) -> Result<Typed, Refusal>
     let counted = check_counts(tree)?;
     let named = check_names(alloc, counted)?;
     let loopless = check_recursion(alloc, named)?;
-    typed(alloc, loopless)
-}
-
-/// The checks of sizes, types and parts, of a source in which nothing leads back to itself.
-fn typed(alloc: Global, loopless: Loopless) -> Result<Typed, Refusal>
-    requires counted { Counted (tree_seen loopless) }
-    requires named { Named (tree_seen loopless) }
-    requires loopless { IsLoopless (tree_seen loopless) }
-    ensures ok { OnOk result (WellFormed (tree_seen loopless)) }
-    ensures means { IfOk result (λ typed. program_seen typed ≡ program_of (tree_seen loopless)) }
-    ensures refused { IfErr result (λ e. e.number ≢ numbers.Memory → FirstFails (tree_seen loopless) e.number) }
-{
-    let scope = tables(alloc, &loopless)?;
-    let leaves = check_sizes(alloc, &loopless, &scope.declared)?;
-    let program = types(alloc, scope, &loopless)?;
+    let tabled = tables(alloc, &loopless)?;
+    let leaves = check_sizes(alloc, &tabled)?;
+    let program = types(alloc, tabled)?;
     parts(&program)?;
     Ok(Typed::new(program, loopless.into_nodes(), leaves))
 }
