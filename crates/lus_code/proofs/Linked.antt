@@ -4,7 +4,7 @@ use Rattle.lus_values.specs.Lists.{item}
 use Rattle.lus_flat_classes.specs.declared.class.Class.{Class}
 use Rattle.lus_flat_classes.specs.declared.class.Extent.{Extent}
 use Rattle.lus_places.specs.Few.{AreAsLong}
-use Rattle.lus_linking.specs.Linked.{AreSame}
+use Rattle.lus_running.specs.Linked.{AreSame}
 
 pub as_long : (counts : List ℕ) (old new : List Class) → AreSame old new → AreAsLong counts old → AreAsLong counts new
 as_long counts old new same long g c found =

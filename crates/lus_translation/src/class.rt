@@ -10,11 +10,11 @@ ghost use Rattle.lus_translation.specs.Forms.{equation_cells, equation_firsts};
 ghost use Rattle.lus_translation.specs.Building.{AddsCells, AddsFirsts, Adds, steps_for, steps_in_turn, cells_in_turn, firsts_in_turn, steps_in_turns, cells_in_turns, firsts_in_turns, class_from};
 
 use crate::calls::{calls_of, clock_of_equation, numbers_of, tests_of};
+use crate::flat_code::parts_of;
 use crate::kept::Kept;
 use crate::steps::{Built, give_turn};
 use crate::turn::Turn;
 use lus_flat_classes::{Class, Extent};
-use lus_flat_code::parts_of;
 use lus_program::{Equation, Node, Program};
 use lus_values::Memory;
 use std::alloc::Global;

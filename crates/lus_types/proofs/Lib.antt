@@ -13,3 +13,8 @@ pub mod Groups
 pub mod TablesMeant
 pub mod TypedMeant
 pub mod PartSums
+pub mod Ordered
+pub mod FormsMeant
+pub mod Arranged
+pub mod TypedForms
+pub mod Meant

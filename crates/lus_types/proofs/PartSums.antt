@@ -10,7 +10,7 @@ use Rattle.lus_program.specs.View.{expression_of, operands_of, node_of}
 use Rattle.lus_program.proofs.Parts.{parts-equations_from}
 use Rattle.lus_source.specs.Labels.{each_once}
 use Rattle.lus_source.specs.Meaning.{in_order}
-use Rattle.lus_elaboration.proofs.Ordered.{operand_count, total, total_ordered}
+use Rattle.lus_types.proofs.Ordered.{operand_count, total, total_ordered}
 
 pub parts_some : (e : Expression) → 0 < parts e
 parts_some (literal v) = omega arith

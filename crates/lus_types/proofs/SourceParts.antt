@@ -25,7 +25,7 @@ use Rattle.lus_source.specs.Heads.{kind_by}
 use Rattle.lus_source.specs.Scopes.{Scope}
 use Rattle.lus_source.specs.Tables.{scope}
 use Rattle.lus_source.specs.Meaning.{are_arguments, list_operation, prefix_meant, infix_meant, meant, all_meant, equation_meant, equations_meant, node_meant, program_of}
-use Rattle.lus_elaboration.proofs.FormsMeant.{where_holds, name_holds, call_holds, field_holds, when_holds, merge_holds, structure_holds}
+use Rattle.lus_types.proofs.FormsMeant.{where_holds, name_holds, call_holds, field_holds, when_holds, merge_holds, structure_holds}
 use Rattle.lus_types.proofs.PartSums.{ordered_parts}
 use Rattle.lus_types.proofs.Weights.{weight_some, weights, weights_append, tokens_fit}
 

@@ -17,7 +17,7 @@ use Rattle.lus_source.specs.WellTyped.{NodeTyped}
 use Rattle.lus_typing.specs.Resolved.{kind_of_variable, test_fits, VariableFits, EquationFits}
 use Rattle.lus_typing.proofs.Alike.{equations_alike, variables_alike}
 use Rattle.lus_typing.proofs.Numbering.{given-numbered}
-use Rattle.lus_elaboration.specs.Wholes.{EquationTyped}
+use Rattle.lus_types.specs.Wholes.{EquationTyped}
 use Rattle.lus_types.specs.ByScope.{variables_in, maybe_fits, group_fits, IsTypedIn}
 use Rattle.lus_types.proofs.Scoped.{scope_alike}
 use Rattle.lus_types.proofs.TablesMeant.{variables_are}

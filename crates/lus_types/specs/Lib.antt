@@ -1,2 +1,3 @@
 pub mod ByScope
 pub mod Laws
+pub mod Wholes

@@ -2,6 +2,7 @@
 #![tactic(auto)]
 
 mod constants;
+mod elaboration;
 mod laws;
 mod nodes;
 mod parts;

@@ -12,11 +12,11 @@ ghost use Rattle.lus_source.specs.Sized.{variable_count};
 ghost use Rattle.lus_source.specs.Meaning.{equations_meant, node_meant, test_meant};
 ghost use Rattle.lus_source.specs.WellTyped.{NodeTyped, is_pure, memory_fits};
 ghost use Rattle.lus_source.specs.ScopeView.{Judged, Tested, scope_of};
-ghost use Rattle.lus_elaboration.specs.Wholes.{EquationTyped};
+ghost use Rattle.lus_types.specs.Wholes.{EquationTyped};
 ghost use Rattle.lus_types.specs.ByScope.{IsTypedIn, group_fits, maybe_fits, node_in as node_by, variables_in};
 
+use crate::elaboration::{clock_variable, equation, memory, test};
 use lus_declarations::{Tabled, enter, kind_of_name};
-use lus_elaboration::{clock_variable, equation, memory, test};
 use lus_program::{Equation, Node, Test, Variable};
 use lus_source::{Fault, Scope};
 use lus_syntax::{

@@ -1,7 +1,7 @@
 use Rattle.std.proofs.Common.{◌≡◌, ◌∙◌, length, sym, subst}
 use Rattle.std.proofs.lemmas.List.{with_items_is}
 use Rattle.lus_places.specs.Few.{AreAsLong}
-use Rattle.lus_linking.specs.Linked.{AreSame}
+use Rattle.lus_running.specs.Linked.{AreSame}
 use Rattle.lus_code.proofs.Linked.{as_long}
 use Rattle.lus_code.proofs.classes.classes_of_nodes.Goals as goal
 

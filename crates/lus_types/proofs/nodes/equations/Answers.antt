@@ -4,7 +4,7 @@ use Rattle.lus_syntax.specs.View.{equation_seen}
 use Rattle.lus_values.proofs.Lists.{each_seen}
 use Rattle.lus_source.specs.ScopeView.{scope_of}
 use Rattle.lus_source.proofs.Faults.{passed_on}
-use Rattle.lus_elaboration.specs.Wholes.{EquationTyped}
+use Rattle.lus_types.specs.Wholes.{EquationTyped}
 use Rattle.lus_types.proofs.Numbering.{unnumbered_meant, equations_are_meant}
 use Rattle.lus_types.proofs.nodes.equations.Goals as goal
 

@@ -2,7 +2,7 @@ use Rattle.std.proofs.Common.{◌≡◌, take, map}
 use Rattle.lus_syntax.specs.View.{equation_seen}
 use Rattle.lus_values.specs.Lists.{Each}
 use Rattle.lus_source.specs.ScopeView.{scope_of}
-use Rattle.lus_elaboration.specs.Wholes.{EquationTyped}
+use Rattle.lus_types.specs.Wholes.{EquationTyped}
 use Rattle.lus_types.proofs.Numbering.{unnumbered, unnumbered_meant}
 use Rattle.lus_types.proofs.nodes.equations.Given as goal
 

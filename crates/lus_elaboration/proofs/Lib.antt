@@ -1,5 +1,0 @@
-pub mod Ordered
-pub mod FormsMeant
-pub mod Arranged
-pub mod Typed
-pub mod Meant

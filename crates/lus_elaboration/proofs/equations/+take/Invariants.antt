@@ -1,5 +1,0 @@
-use Rattle.std.proofs.Common.{length}
-use Rattle.lus_elaboration.proofs.equations.+take.Given as goal
-
-abbrev pub decreases-take : goal.decreases-take
-decreases-take l = length l.kinds.now

@@ -1,6 +1,0 @@
-use Rattle.std.proofs.Common.{◌∙◌, rules}
-use Rattle.lus_program.proofs.OperandViews.{seen_operate}
-use Rattle.lus_elaboration.proofs.operators.operated.Goals as goal
-
-pub returns : goal.returns
-returns c = (search rules, c.in_ok-expr.ensures ∙ seen_operate c.args.operator c.args.operands)

@@ -1,6 +1,0 @@
-pub mod Emitting
-pub mod Selecting
-pub mod Forms
-pub mod Operands
-pub mod StepsPlayed
-pub mod PartsMade

@@ -1,2 +1,0 @@
-pub mod Flattened
-pub mod NextPart

@@ -1,0 +1,191 @@
+-- What forms mean, and which types they have.
+use Rattle.std.proofs.Common.{◌≡◌, ◌∙◌, ap, ap₂, sym, subst, refl, ℕ, suc, ◌<◌, List, [], ◌∷◌, ◌++◌, append_assoc, length, get_or, map, take, drop, drop-cons, Some, None, Option, Bool, true, false, cond, arith}
+use Rattle.std.specs.Prelude.{option_map, slice_get}
+use Rattle.std.specs.Option.{option_and_then}
+use Rattle.std.proofs.lemmas.Option.{slice_get_past, slice_get-map}
+use Rattle.std.proofs.Math.Seq.{take-append_seam, drop-append_seam}
+use Rattle.std.proofs.lemmas.List.{append-nil, drop-map, length-map, take-map}
+use Rattle.lus_syntax.specs.declared.tree.Part.{Part}
+use Rattle.lus_syntax.specs.Lexemes.{Text}
+use Rattle.lus_syntax.specs.View.{expression_seen, part_seen}
+use Rattle.lus_syntax.specs.Trees as tree
+use Rattle.lus_syntax.specs.Trees.{Parts, parts_of}
+use Rattle.lus_program.specs.declared.expr.Expr.{Expr}
+use Rattle.lus_program.specs.declared.expr.Test.{Test}
+use Rattle.lus_program.specs.declared.types.Field.{Field as StoredField}
+use Rattle.lus_program.specs.declared.types.Kind.{Kind}
+use Rattle.lus_program.specs.declared.types.Kind.TheVariants as kinds
+use Rattle.lus_syntax.specs.declared.tree.ListOperator.{ListOperator}
+use Rattle.lus_values.specs.declared.operator.Operator.TheVariants as operators
+use Rattle.lus_values.specs.Values.{nil}
+use Rattle.lus_program.specs.Programs.{Expression, Node, Operands, more, literal, operate, call, merge, when}
+use Rattle.lus_program.specs.View.{expression_of, field_of, operands_of}
+use Rattle.lus_typing.specs.Kinds.{all_same, where_true}
+use Rattle.lus_typing.proofs.Options.{and_then_gives, map_gives}
+use Rattle.lus_typing.specs.Resolved.{kinds_given_in, results, field_kinds, kind_of_variable, test_fits, call_results, input_kinds, output_kinds}
+use Rattle.lus_source.specs.declared.entries.Placed.{Placed}
+use Rattle.lus_source.specs.Scopes.{Scope, Signature, entry}
+use Rattle.lus_source.specs.Heads.{heads, head, head_of, of_kind, kind_by, kinds_by}
+use Rattle.lus_source.specs.Labels.{branch_places, each_once, fields_asked, fields_of, size_of, test_placed}
+use Rattle.lus_source.specs.Meaning.{arranged, in_order, are_arguments, list_operation, call_meant, merge_meant, structure_meant, variadic_meant, where_found, test_meant, meant, all_meant}
+use Rattle.lus_types.specs.Wholes.{called, callee, Fits}
+use Rattle.lus_types.proofs.FormsMeant.{where_holds, call_holds, merge_holds, structure_holds}
+use Rattle.lus_types.proofs.TypedForms.{ordered_untyped}
+
+pub all_meant_is : (s : Scope) (ps : List Part) (es : List Expr) → map expression_of es ≡ map (λ p. meant s (expression_seen p.value)) ps → operands_of es ≡ all_meant s (parts_of (map part_seen ps))
+all_meant_is s [] [] e = refl
+all_meant_is s [] (x ∷ es) e = cc
+all_meant_is s (p ∷ ps) [] e = cc
+all_meant_is s (p ∷ ps) (x ∷ es) e =
+    let first : expression_of x ≡ meant s (expression_seen p.value) = cc in
+    let rest : map expression_of es ≡ map (λ q. meant s (expression_seen q.value)) ps = cc in
+    ap (λ y. more y (operands_of es)) first ∙ ap (more (meant s (expression_seen p.value))) (all_meant_is s ps es rest)
+
+-- the types of parts, where the first so many have these
+
+typed_before : (ks : List Kind) (k : Kind) (r : Option (List Kind)) → option_map (λ ls. ks ++ ls) (option_map (λ ls. k ∷ ls) r) ≡ option_map (λ ls. (ks ++ k ∷ []) ++ ls) r
+typed_before ks k None = refl
+typed_before ks k (Some ls) = ap Some (sym (append_assoc ks (k ∷ []) ls))
+
+module _ (s : Scope) (ps : List Part) (n : ℕ) (p : Part) (item : p ≡ get_or ps n p) (within : n < length ps) where
+  abbrev kinds_from : ℕ → Option (List Kind)
+  kinds_from m = kinds_by s (all_meant s (parts_of (map part_seen (drop m ps))))
+
+  abbrev kind_here : Option Kind
+  kind_here = kind_by s (meant s (expression_seen p.value))
+
+  abbrev before_rest : Option Kind → Option (List Kind)
+  before_rest = option_and_then (λ k. option_map (λ ls. k ∷ ls) (kinds_from (suc n)))
+
+  from_here : kinds_from n ≡ before_rest kind_here
+  from_here =
+      let cut : drop n ps ≡ p ∷ drop (suc n) ps = drop-cons ps n p within ∙ ap (λ q. q ∷ drop (suc n) ps) (sym item) in
+      ap (λ qs. kinds_by s (all_meant s (parts_of (map part_seen qs)))) cut
+
+  module _ (ks : List Kind) (r : Option (List Kind)) (typed : r ≡ option_map (λ ls. ks ++ ls) (kinds_from n)) where
+    pub untyped_here : kind_here ≡ None → r ≡ None
+    untyped_here e = typed ∙ ap (option_map (λ ls. ks ++ ls)) (from_here ∙ ap before_rest e)
+
+    pub typed_here : (k : Kind) → kind_here ≡ Some k → r ≡ option_map (λ ls. (ks ++ k ∷ []) ++ ls) (kinds_from (suc n))
+    typed_here k e = typed ∙ ap (option_map (λ ls. ks ++ ls)) (from_here ∙ ap before_rest e) ∙ typed_before ks k (kinds_from (suc n))
+
+-- the rules of types, by the scope
+
+field_kinds_are : (s : Scope) (k : Kind) → field_kinds (heads s) k ≡ map (λ f. f.kind) (fields_of s k)
+field_kinds_are s kinds.Bool = refl
+field_kinds_are s kinds.Int = refl
+field_kinds_are s (kinds.Enum t) = refl
+field_kinds_are s (kinds.Struct t) = refl
+
+kind_kept : (r : Option StoredField) → option_map (λ f. f.kind) (option_map field_of r) ≡ option_map (λ f. f.kind) r
+kind_kept None = refl
+kind_kept (Some f) = refl
+
+pub field_read : (s : Scope) (k : Kind) (fs : List StoredField) (n : ℕ) → map field_of fs ≡ fields_of s k → option_map (λ f. f.kind) (slice_get fs n) ≡ slice_get (field_kinds (heads s) k) n
+field_read s k fs n seen =
+    sym (ap (λ ks. slice_get ks n) (field_kinds_are s k ∙ ap (map (λ f. f.kind)) (sym seen)) ∙ slice_get-map (λ f. f.kind) (map field_of fs) n ∙ ap (option_map (λ f. f.kind)) (slice_get-map field_of fs n) ∙ kind_kept (slice_get fs n))
+
+-- the types of a node's inputs, outputs and locals
+pub record HasKinds (f : Node) (is os ls : List Kind) : Type 0 where
+  pub inputs : f.inputs ≡ length is
+  pub outputs : f.outputs ≡ length os
+  pub variables : map (λ v. v.kind) f.variables ≡ is ++ (os ++ ls)
+
+module _ {f : Node} {is os ls : List Kind} (has : HasKinds f is os ls) where
+  pub inputs_are : input_kinds f ≡ is
+  inputs_are = sym (take-map (λ v. v.kind) f.inputs f.variables) ∙ ap₂ take has.inputs has.variables ∙ take-append_seam is (os ++ ls)
+
+  pub outputs_are : output_kinds f ≡ os
+  outputs_are =
+      sym (take-map (λ v. v.kind) f.outputs (drop f.inputs f.variables))
+      ∙ ap₂ take has.outputs (sym (drop-map (λ v. v.kind) f.inputs f.variables) ∙ ap₂ drop has.inputs has.variables ∙ drop-append_seam is (os ++ ls))
+      ∙ take-append_seam os ls
+
+kinds_are : (ks : List Kind) → map (λ v. v.kind) (map of_kind ks) ≡ ks
+kinds_are [] = refl
+kinds_are (k ∷ ks) = ap (λ ls. k ∷ ls) (kinds_are ks)
+
+pub head_has : (g : Signature) → HasKinds (head_of g) g.inputs g.outputs []
+head_has g = record { inputs = refl; outputs = refl; variables = kinds_are (g.inputs ++ g.outputs) ∙ ap (λ ks. g.inputs ++ ks) (sym (append-nil g.outputs)) }
+
+pub call_gives : (s : Scope) (ks : List Kind) (g : Signature) → call_results (heads s) ks (head_of g) ≡ where_true (all_same g.inputs ks) (Some g.outputs)
+call_gives s ks g = rw (inputs_are (head_has g), outputs_are (head_has g)) refl
+
+-- tests
+
+nowhere : (s : Scope) → kind_of_variable (heads s) (head s) (length s.variables) ≡ None
+nowhere s = ap (option_map (λ v. v.kind)) (slice_get_past (map (λ e. of_kind e.1.kind) s.variables) (length s.variables) (omega (arith, length-map s.variables (λ e. of_kind e.1.kind))))
+
+pub unplaced_fails : (s : Scope) (t : tree.Test) → test_placed s t ≡ None → test_fits (heads s) (head s) (test_meant s t) ≡ false
+unplaced_fails s t e = rw e (rw (nowhere s, test_fits) refl)
+
+pub sampled_kind : (s : Scope) (t : tree.Test) (a : Expression) (k : Kind) → kind_by s a ≡ Some k
+    → kind_by s (where_found (test_placed s t) (λ u. when u a)) ≡ where_true (test_fits (heads s) (head s) (test_meant s t)) (Some k)
+sampled_kind s t a k typed = placed (test_placed s t) refl
+  where
+    placed : (r : Option Test) → test_placed s t ≡ r → kind_by s (where_found r (λ u. when u a)) ≡ where_true (test_fits (heads s) (head s) (test_meant s t)) (Some k)
+    placed None e = rw (unplaced_fails s t e) refl
+    placed (Some u) e = rw (e, typed) refl
+
+-- forms with parts that have no type
+
+module _ (s : Scope) where
+  abbrev Untyped : Expression → Type 0
+  Untyped e = kind_by s e ≡ None
+
+  pub call_untyped : (f : Text) (ps : Parts) (es : Operands) → kinds_by s es ≡ None → Untyped (call_meant s f ps es)
+  call_untyped f ps es e = call_holds s Untyped refl f ps es (λ g is. rw e refl)
+
+  pub variadic_untyped : (op : ListOperator) (ps : Parts) (es : Operands) → kinds_by s es ≡ None → Untyped (variadic_meant op ps es)
+  variadic_untyped op ps es e = where_holds s Untyped refl (are_arguments ps) (operate (operators.Compute (list_operation op)) es) (rw e refl)
+
+  pub merge_untyped : (c : Text) (bs : Parts) → kinds_by s (all_meant s bs) ≡ None → Untyped (merge_meant s c bs (all_meant s bs))
+  merge_untyped c bs e = merge_holds s Untyped refl c bs (λ x n ns long once. rw (ordered_untyped s n ns (all_meant s bs) long once e) refl)
+
+  pub structure_untyped : (t : Text) (fs : Parts) → kinds_by s (all_meant s fs) ≡ None → Untyped (structure_meant s t fs (all_meant s fs))
+  structure_untyped t fs e = structure_holds s Untyped refl t fs (λ u n ns long once. rw (ordered_untyped s n ns (all_meant s fs) long once e) refl)
+
+fields_arranged : (n : ℕ) (es : Operands) (r : Option (List Placed)) → option_and_then (λ xs. arranged n es (map (λ x. x.place) xs)) r ≡ option_and_then (arranged n es) (option_map (map (λ x. x.place)) r)
+fields_arranged n es None = refl
+fields_arranged n es (Some xs) = refl
+
+-- calls
+
+module _ (s : Scope) (f : Text) (ps : Parts) (es : Operands) where
+  given_or : (o : Option Signature) (b : Bool) → kinds_given_in (heads s) (head s) (where_found o (λ g. cond b (call g.place 0 es) (literal nil)))
+      ≡ option_and_then (λ n. option_and_then (results (heads s) n) (kinds_by s es)) (option_and_then (λ g. where_true b (Some g.place)) o)
+  given_or None b = refl
+  given_or (Some g) true = refl
+  given_or (Some g) false = refl
+
+  none_given : (n : Option ℕ) → kinds_by s es ≡ None → option_and_then (λ n. option_and_then (results (heads s) n) (kinds_by s es)) n ≡ None
+  none_given None e = refl
+  none_given (Some n) e = rw e refl
+
+  pub call_misfits : (xs : List ℕ) → kinds_by s es ≡ None → Fits s xs (call_meant s f ps es) → ⊥
+  call_misfits xs e fits = let lost = rw (given_or (entry s.nodes f) (are_arguments ps) ∙ none_given (callee s f ps) e) at fits in cc
+
+  call_or : (o : Option Signature) (b : Bool) (n : ℕ) → option_and_then (λ g. where_true b (Some g.place)) o ≡ Some n → where_found o (λ g. cond b (call g.place 0 es) (literal nil)) ≡ call n 0 es
+  call_or None b n e = cc
+  call_or (Some g) false n e = cc
+  call_or (Some g) true n e = let same : g.place ≡ n = cc in rw same refl
+
+  -- a call of a node that is found is that call
+  pub call_found : (ks : List Kind) (n : ℕ) (ls : List Kind) → called s f ps ks ≡ Some (n, ls) → (call_meant s f ps es ≡ call n 0 es) × (results (heads s) n ks ≡ Some ls)
+  call_found ks n ls e =
+      let one = and_then_gives (λ (m : ℕ). option_map (λ (l : List Kind). (m, l)) (results (heads s) m ks)) (callee s f ps) (n, ls) e in
+      let two = map_gives (λ (l : List Kind). (one.0, l)) (results (heads s) one.0 ks) (n, ls) one.2 in
+      let same : one.0 ≡ n = ap (λ x. x.0) two.2 in
+      let gives : two.0 ≡ ls = ap (λ x. x.1) two.2 in
+      (call_or (entry s.nodes f) (are_arguments ps) n (one.1 ∙ ap Some same), subst (λ m. results (heads s) m ks ≡ Some two.0) same two.1 ∙ ap Some gives)
+
+-- forms with parts that have types
+
+pub merge_is : (s : Scope) (c : Text) (bs : Parts) (es : Operands) (x : Placed) (ns : List ℕ) → entry s.variables c ≡ Some x → branch_places s x.kind bs ≡ Some ns → true ≡ each_once (size_of s x.kind) ns
+    → merge_meant s c bs es ≡ merge x.place (in_order (size_of s x.kind) ns es)
+merge_is s c bs es x ns variable places each = rw variable (rw places (rw (← each) refl))
+
+pub structure_is : (s : Scope) (t : Text) (fs : Parts) (es : Operands) (u : ℕ) (ns : List ℕ) → entry s.types t ≡ Some (kinds.Struct u) → option_map (map (λ x. x.place)) (fields_asked s (kinds.Struct u) fs) ≡ Some ns → true ≡ each_once (length (fields_of s (kinds.Struct u))) ns
+    → structure_meant s t fs es ≡ operate (operators.Structure u) (in_order (length (fields_of s (kinds.Struct u))) ns es)
+structure_is s t fs es u ns type_is places each =
+    rw type_is (rw (fields_arranged (length (fields_of s (kinds.Struct u))) es (fields_asked s (kinds.Struct u) fs)) (rw places (rw (← each) refl)))

@@ -1,0 +1,13 @@
+use Rattle.std.proofs.Common.{◌∙◌, sym, rules}
+use Rattle.lus_syntax.specs.View.{name_seen}
+use Rattle.lus_program.proofs.OperandViews.{seen_call}
+use Rattle.lus_source.specs.ScopeView.{scope_of}
+use Rattle.lus_types.specs.Wholes.{parts_seen}
+use Rattle.lus_types.proofs.Meant.{call_found}
+use Rattle.lus_types.proofs.elaboration.parts.call.Goals as goal
+
+pub returns : goal.returns
+returns c = λ es means.
+    let is = sym (rw (c.deref.ensures.value, c.into_parts-exprs.ensures) at c.in-Some.ensures) in
+    let found = call_found (scope_of c.args.scope.now) (name_seen c.args.name.now).text (parts_seen c.args.arguments.now) es c.args.operands.kinds.items c.in-Some.node c.in-Some.outputs.now is in
+    rw found.0 (rw (means.0, found.1) (search rules), c.in_ok-expr.ensures ∙ seen_call c.in-Some.node c.into_parts-exprs.result.0 ∙ search rules)
