@@ -29,10 +29,9 @@ fn outputs_in<T: Held>(on: &Setting<'_, T>, row: &[T], outputs: usize) -> Result
         let Ok(entry) = entry_at(on.alloc, row, variable) else {
             return Err(Failure::Stopped(Stop::Memory));
         };
-        match found.push(entry) {
-            Ok(()) => {}
-            Err(_) => return Err(Failure::Stopped(Stop::Memory)),
-        }
+        let Ok(()) = found.push(entry) else {
+            return Err(Failure::Stopped(Stop::Memory));
+        };
     }
     Ok(Row::new(found))
 }
@@ -55,14 +54,9 @@ pub fn answer_in_row<T: Held>(
     ensures { AnswersTo T.entry on.now (map entry_of inputs.now) outputs
         result (map (cell_of T.entry) next_cells.new) next_firsts.new }
 {
-    match place(on.alloc, inputs, row) {
-        Ok(()) => {}
-        Err(stop) => return Err(Failure::Stopped(stop)),
-    }
-    match run_in_row(on, whole, next_cells, next_firsts, row) {
-        Ok(()) => outputs_in(on, row, outputs),
-        Err(failure) => Err(failure),
-    }
+    place(on.alloc, inputs, row)?;
+    run_in_row(on, whole, next_cells, next_firsts, row)?;
+    outputs_in(on, row, outputs)
 }
 
 /// So many outputs, which stand behind the inputs, of one instant by the parts of a class.
@@ -83,12 +77,7 @@ pub fn answer_by_parts<T: Held>(
     ensures { AnswersTo T.entry on.now (map entry_of inputs.now) outputs
         result (map (cell_of T.entry) next_cells.new) next_firsts.new }
 {
-    match place(on.alloc, inputs, variables) {
-        Ok(()) => {}
-        Err(stop) => return Err(Failure::Stopped(stop)),
-    }
-    match run_parts(on, next_cells, next_firsts, variables, temporaries) {
-        Ok(()) => outputs_in(on, variables, outputs),
-        Err(failure) => Err(failure),
-    }
+    place(on.alloc, inputs, variables)?;
+    run_parts(on, next_cells, next_firsts, variables, temporaries)?;
+    outputs_in(on, variables, outputs)
 }

@@ -72,11 +72,7 @@ pub fn rest<T: Held>(
 {
     let count = variables.len();
     forget(variables, 0, count);
-    match copy_cells(on.alloc, on.cells, next_cells) {
-        Ok(()) => {
-            copy_flags(on.firsts, next_firsts);
-            Ok(())
-        }
-        Err(stop) => Err(Failure::Stopped(stop)),
-    }
+    copy_cells(on.alloc, on.cells, next_cells)?;
+    copy_flags(on.firsts, next_firsts);
+    Ok(())
 }

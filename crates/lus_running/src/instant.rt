@@ -37,16 +37,12 @@ pub fn receive<T: Held>(
         put(row, variable, T::of_word(Word::Absent));
         return Ok(());
     }
-    match held_at(alloc, answer, target.place as usize) {
-        Ok(held) => {
-            if held.is_absent() {
-                return Err(Failure::Fault);
-            }
-            put(row, variable, held);
-            Ok(())
-        }
-        Err(stop) => Err(Failure::Stopped(stop)),
+    let held = held_at(alloc, answer, target.place as usize)?;
+    if held.is_absent() {
+        return Err(Failure::Fault);
     }
+    put(row, variable, held);
+    Ok(())
 }
 
 /// Gives variables what those of a called node hold, which stand first in its part, one after another.
@@ -63,10 +59,7 @@ pub fn receive_all<T: Held>(
 {
     let own = &answer[..called.tests.len()];
     for target in targets {
-        match receive(on.alloc, on.class, own, row, *target) {
-            Ok(()) => {}
-            Err(failure) => return Err(failure),
-        }
+        receive(on.alloc, on.class, own, row, *target)?;
     }
     Ok(())
 }

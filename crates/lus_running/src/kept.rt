@@ -4,7 +4,7 @@ ghost use Rattle.std.specs.Prelude.{◌↔◌, IsTrue, IfOk};
 ghost use Rattle.lus_running.specs.Keeping.{AreAlike, AreMany, AreSetBack, AtStart};
 
 use crate::keeping::{copy_cells, copy_flags};
-use crate::resetting::{empty_all, filled, set_all};
+use crate::resetting::{empty_all, filled, set_all, set_flags};
 use lus_flat_classes::Extent;
 use lus_instructions::words::Word;
 use lus_instructions::{Held, Stop};
@@ -23,12 +23,8 @@ impl<T: Held> Kept<T> {
     pub fn fresh(alloc: Global, cells: usize, firsts: usize) -> Result<Kept<T>, Memory>
         ensures { IfOk result (λ k. AtStart T.entry cells firsts k) }
     {
-        let Ok(firsts) = vec![in alloc; true; firsts] else {
-            return Err(Memory);
-        };
-        let Ok(cells) = filled(alloc, cells, Word::Nil) else {
-            return Err(Memory);
-        };
+        let firsts = set_flags(alloc, firsts)?;
+        let cells = filled(alloc, cells, Word::Nil)?;
         Ok(Kept { cells, firsts })
     }
 
@@ -44,16 +40,10 @@ impl<T: Held> Kept<T> {
     pub fn over<U: Held>(&self, alloc: Global) -> Result<Kept<U>, Stop>
         ensures { IfOk result (λ k. AreAlike T.entry U.entry self.now k) }
     {
-        let Ok(mut kept) = Kept::fresh(alloc, self.cells.len(), self.firsts.len()) else {
-            return Err(Stop::Memory);
-        };
-        match copy_cells(alloc, &self.cells, &mut kept.cells) {
-            Ok(()) => {
-                copy_flags(&self.firsts, &mut kept.firsts);
-                Ok(kept)
-            }
-            Err(stop) => Err(stop),
-        }
+        let mut kept = Kept::fresh(alloc, self.cells.len(), self.firsts.len())?;
+        copy_cells(alloc, &self.cells, &mut kept.cells)?;
+        copy_flags(&self.firsts, &mut kept.firsts);
+        Ok(kept)
     }
 
     /// Whether there are so many of each.

@@ -41,15 +41,9 @@ impl<T: Held> Room<T> {
     ) -> Result<Room<T>, Memory>
         ensures { IfOk result (λ r. IsNewRoom T.entry cells firsts variables r) }
     {
-        let Ok(variables) = filled(alloc, variables, Word::Absent) else {
-            return Err(Memory);
-        };
-        let Ok(temporaries) = filled(alloc, temporaries, Word::Absent) else {
-            return Err(Memory);
-        };
-        let Ok(next) = Kept::fresh(alloc, cells, firsts) else {
-            return Err(Memory);
-        };
+        let variables = filled(alloc, variables, Word::Absent)?;
+        let temporaries = filled(alloc, temporaries, Word::Absent)?;
+        let next = Kept::fresh(alloc, cells, firsts)?;
         Ok(Room {
             next,
             variables,

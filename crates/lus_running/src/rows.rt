@@ -28,13 +28,8 @@ impl<T: Held> Rows<T> {
     {
         let cells = extent.cells as usize;
         let firsts = extent.firsts as usize;
-        let Ok(kept) = Kept::fresh(alloc, cells, firsts) else {
-            return Err(Memory);
-        };
-        let variables = extent.variables as usize;
-        let Ok(room) = Room::fresh(alloc, cells, firsts, variables, count) else {
-            return Err(Memory);
-        };
+        let kept = Kept::fresh(alloc, cells, firsts)?;
+        let room = Room::fresh(alloc, cells, firsts, extent.variables as usize, count)?;
         Ok(Rows { kept, room })
     }
 
@@ -49,13 +44,9 @@ impl<T: Held> Rows<T> {
     pub fn over<U: Held>(&self, alloc: Global) -> Result<Rows<U>, Stop>
         ensures { IfOk result (λ o. (g : ℕ) → IsCopy (rows_seen T.entry g self.now) (rows_seen U.entry g o)) }
     {
-        let Ok(room) = self.room.over(alloc) else {
-            return Err(Stop::Memory);
-        };
-        match self.kept.over(alloc) {
-            Ok(kept) => Ok(Rows { kept, room }),
-            Err(stop) => Err(stop),
-        }
+        let room = self.room.over(alloc)?;
+        let kept = self.kept.over(alloc)?;
+        Ok(Rows { kept, room })
     }
 
     /// Whether the rows are so long.

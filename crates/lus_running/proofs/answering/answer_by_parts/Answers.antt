@@ -1,4 +1,4 @@
-use Rattle.std.proofs.Common.{arith, ◌≡◌, ◌∙◌, ◌≤◌, length, map, take, sym, ap, subst, Err, refl}
+use Rattle.std.proofs.Common.{rules, arith, ◌≡◌, ◌∙◌, ◌≤◌, length, map, take, sym, ap, subst, Err}
 use Rattle.std.proofs.lemmas.List.{length-map}
 use Rattle.lus_values.specs.View.{entry_of}
 use Rattle.lus_instructions.specs.Followed.{cell_of}
@@ -18,10 +18,10 @@ run_parts-requires-clause-present g c =
     let r = map entry c.place.new.variables in
     let narrow : length i ≡ k.inputs = length-map c.args.inputs.now entry_of ∙ c.requires.inputs in
     let room : k.inputs ≤ length before = rw (length-map c.args.variables.now entry) (omega (arith, own, c.requires.fits.variables, c.requires.outputs)) in
-    subst (PresentOnClock k.tests.items) (sym (ap (take k.inputs) c.in-Ok.ensures ∙ inputs_placed k.inputs i before (sym narrow) room)) c.requires.present
+    subst (PresentOnClock k.tests.items) (sym (ap (take k.inputs) c.in_ok-place.ensures ∙ inputs_placed k.inputs i before (sym narrow) room)) c.requires.present
 
-pub returns-in-Err-run_parts : goal.returns-in-Err-run_parts
-returns-in-Err-run_parts g c =
+pub returns-in_err-run_parts : goal.returns-in_err-run_parts
+returns-in_err-run_parts g c =
     let own = c.requires.class.can.ready.room.variables in
     let entry = g.T.Held.entry in
     let s = c.args.on.now in
@@ -32,11 +32,12 @@ returns-in-Err-run_parts g c =
     let r = map entry c.place.new.variables in
     let narrow : length i ≡ k.inputs = length-map c.args.inputs.now entry_of ∙ c.requires.inputs in
     let room : k.inputs ≤ length before = rw (length-map c.args.variables.now entry) (omega (arith, own, c.requires.fits.variables, c.requires.outputs)) in
-    let e = c.in-Err-run_parts.failure in
-    reaches_err s.classes.now s.depth k c.args.outputs vs s.firsts.now i before r narrow room c.in-Ok.ensures (Err e) e _ _ _ refl c.in-Err-run_parts.ensures
+    let e = c.in_err-run_parts.field-0.0 in
+    let failed : c.from_residual-in_err-run_parts.result ≡ Err e = search rules in
+    reaches_err s.classes.now s.depth k c.args.outputs vs s.firsts.now i before r narrow room c.in_ok-place.ensures c.from_residual-in_err-run_parts.result e _ _ _ failed c.in_err-run_parts.ensures
 
-pub returns-in-Ok-run_parts : goal.returns-in-Ok-run_parts
-returns-in-Ok-run_parts g c =
+pub returns : goal.returns
+returns g c =
     let own = c.requires.class.can.ready.room.variables in
     let entry = g.T.Held.entry in
     let s = c.args.on.now in
@@ -47,6 +48,6 @@ returns-in-Ok-run_parts g c =
     let r = map entry c.place.new.variables in
     let narrow : length i ≡ k.inputs = length-map c.args.inputs.now entry_of ∙ c.requires.inputs in
     let room : k.inputs ≤ length before = rw (length-map c.args.variables.now entry) (omega (arith, own, c.requires.fits.variables, c.requires.outputs)) in
-    reaches_part s.classes.now s.depth k c.args.outputs vs s.firsts.now i before r narrow room c.in-Ok.ensures c.outputs_in.result
+    reaches_part s.classes.now s.depth k c.args.outputs vs s.firsts.now i before r narrow room c.in_ok-place.ensures c.outputs_in.result
     (map entry c.run_parts.new.variables) _ _ c.requires.outputs
-    c.in-Ok-run_parts.ensures c.outputs_in.ensures
+    c.in_ok-run_parts.ensures c.outputs_in.ensures

@@ -8,11 +8,11 @@ use Rattle.lus_running.proofs.Placing.{all_of}
 use Rattle.lus_running.proofs.Asking.{nothing_known}
 use Rattle.lus_running.proofs.calling.rest.Goals as goal
 
-pub returns-in-Ok : goal.returns-in-Ok
-returns-in-Ok g c =
+pub returns : goal.returns
+returns g c =
     let s = c.args.on.now in
     let w = length s.class.now.tests.items in
-    let cells = sym c.in-Ok.ensures in
+    let cells = sym c.in_ok-copy_cells.ensures in
     let firsts = sym c.copy_flags.ensures in
     let count = length c.args.variables.now in
     let old = map g.T.Held.entry c.args.variables.now in

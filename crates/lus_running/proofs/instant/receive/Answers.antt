@@ -31,16 +31,16 @@ returns-then-is_absent g c =
     let r = map g.T.Held.entry c.args.row.now in
     let found = item None (map g.T.Held.entry c.args.answer.now) c.args.target.place in
     let on : is_on_row (clock_in (short_of c.args.class.now) x) r ≡ true = sym c.is_present.ensures ∙ c.if-not-is_present.false in
-    let missing : found ≡ None = sym c.in-Ok.ensures
-    ∙ none (g.T.Held.entry c.in-Ok.held) (sym c.is_absent.ensures ∙ c.if-is_absent.true) in
+    let missing : found ≡ None = sym c.in_ok-held.ensures
+    ∙ none (g.T.Held.entry c.in_ok-held.held) (sym c.is_absent.ensures ∙ c.if-is_absent.true) in
     (λ i. option_map (slice_set r x) (guarded (on i) (missing i)))
 
-pub returns-else-is_absent : goal.returns-else-is_absent
-returns-else-is_absent g c =
+pub returns : goal.returns
+returns g c =
     let x = c.args.target.variable in
     let r = map g.T.Held.entry c.args.row.now in
-    let held = g.T.Held.entry c.in-Ok.held in
+    let held = g.T.Held.entry c.in_ok-held.held in
     let on : is_on_row (clock_in (short_of c.args.class.now) x) r ≡ true = sym c.is_present.ensures ∙ c.if-not-is_present.false in
-    (λ i. option_map (slice_set r x) (guarded (on i) (sym c.in-Ok.ensures i)))
+    (λ i. option_map (slice_set r x) (guarded (on i) (sym c.in_ok-held.ensures i)))
     ∙ ap (option_map (slice_set r x)) (some held (sym c.is_absent.ensures ∙ c.if-is_absent.false))
-    ∙ ap Some (sym c.put-in-Ok.ensures)
+    ∙ ap Some (sym c.put-2.ensures)

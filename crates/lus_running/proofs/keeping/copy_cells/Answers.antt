@@ -13,7 +13,7 @@ loop-place-preserved g c =
     let vs = map held c.args.cells.now in
     let ns = map copied c.args.copies.now in
     let v = c.index-cells-place.result in
-    let u = c.in-Ok.cell_copy in
+    let u = c.in_ok-cell_copy.cell_copy in
     let lt : i < length c.args.cells.now = c.loop-place-test.true in
     let lv : i < length vs = rw (length-map c.args.cells.now held) lt in
     let ln : i < length ns = rw (length-map c.args.copies.now copied) (omega (arith, c.requires)) in
@@ -21,7 +21,7 @@ loop-place-preserved g c =
     rw add-one
     (map-set copied c.loop-place.copies i u
     ∙ ap (λ l. slice_set l i (copied u)) c.loop-place.invariant
-    ∙ ap (slice_set (take i vs ++ drop i ns) i) (cell_same g.U.Held.entry g.T.Held.entry u v (c.in-Ok.ensures ∙ c.see.ensures))
+    ∙ ap (slice_set (take i vs ++ drop i ns) i) (cell_same g.U.Held.entry g.T.Held.entry u v (c.in_ok-cell_copy.ensures ∙ c.see.ensures))
     ∙ next_same vs ns i (held v) lv ln ev)
 
 pub returns : goal.returns

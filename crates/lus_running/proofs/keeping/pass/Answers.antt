@@ -14,12 +14,12 @@ loop-place-preserved g c =
     let ns = map g.T.Held.entry c.args.called.now in
     let r = map g.T.Held.entry c.args.row.now in
     let a = c.index-arguments-place.result in
-    let u = c.in-Ok.value in
+    let u = c.in_ok-value.value in
     let lt : i < length c.args.arguments.now = c.loop-place-test.true in
     let lq : i < length qs = rw (length-map c.args.arguments.now short_argument) lt in
     let ln : i < length ns = rw (length-map c.args.called.now g.T.Held.entry) (omega (arith, c.requires)) in
     let e : short_argument a ≡ slice_index_or qs i (short_argument a) = sym (get_or-map short_argument c.args.arguments.now i a (short_argument a) lt ∙ ap short_argument (sym c.index-arguments-place.is)) in
-    let here : g.T.Held.entry u ≡ argument_after (short_argument a) r = c.in-Ok.ensures in
+    let here : g.T.Held.entry u ≡ argument_after (short_argument a) r = c.in_ok-value.ensures in
     rw add-one
     (map-set g.T.Held.entry c.loop-place.called i u
     ∙ ap (λ l. slice_set l i (g.T.Held.entry u)) c.loop-place.invariant

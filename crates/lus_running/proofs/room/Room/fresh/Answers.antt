@@ -4,6 +4,6 @@ use Rattle.lus_running.proofs.room.Room.fresh.Goals as goal
 
 pub returns : goal.returns
 returns g c = record {
-  next = c.in-Ok-fresh.ensures;
-  variables = filled_long g.T.Held.entry c.in-Ok.variables.items c.args.variables None c.in-Ok.ensures;
+  next = c.in_ok-next.ensures;
+  variables = filled_long g.T.Held.entry c.in_ok-variables.variables.items c.args.variables None c.in_ok-variables.ensures;
 }

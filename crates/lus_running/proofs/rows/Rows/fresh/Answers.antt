@@ -2,8 +2,8 @@ use Rattle.lus_running.proofs.rows.Rows.fresh.Goals as goal
 
 pub returns : goal.returns
 returns g c =
-    let kept = c.in-Ok.ensures in
-    let room = c.in-Ok-fresh.ensures in
+    let kept = c.in_ok-kept.ensures in
+    let room = c.in_ok-room.ensures in
     λ n. record {
       cells = kept.cells;
       firsts = kept.firsts;
