@@ -12,9 +12,9 @@ ghost use Rattle.lus_places.specs.Shaped.{AreNested};
 ghost use Rattle.lus_code.specs.Made.{AreSmall, AreTurned, HasSource, NodesKeepTo};
 
 use lus_flat_classes::Class;
-use lus_running::link_classes;
 use lus_places::{order_of_classes, place_classes};
 use lus_program::Program;
+use lus_running::link_classes;
 use lus_turns::class_of;
 use lus_values::Memory;
 use std::alloc::Global;
