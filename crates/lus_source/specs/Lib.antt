@@ -9,3 +9,8 @@ pub mod Meaning
 pub mod WellTyped
 pub mod Refusals
 pub mod ScopeView
+pub mod NameView
+pub mod Parts
+pub mod Sources
+pub mod Limits
+pub mod ByTable

@@ -9,7 +9,7 @@ use Rattle.lus_program.specs.View.{variable_of}
 use Rattle.lus_source.specs.Scopes.{Scope}
 use Rattle.lus_source.specs.Sized.{variable_count}
 use Rattle.lus_types.specs.ByScope.{variable_in, variables_in}
-use Rattle.lus_declarations.proofs.Placing.{length-for_each}
+use Rattle.lus_source.proofs.Placing.{length-for_each}
 
 pub length-grown : (s : Scope) (old new : List Variable) (gs : List Group) → map variable_of new ≡ map variable_of old ++ flat_map (variables_in s) gs → length new ≡ length old + variable_count gs
 length-grown s old new gs e =

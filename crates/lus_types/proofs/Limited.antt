@@ -10,7 +10,7 @@ use Rattle.lus_source.specs.Sized.{DefinitionCounted, variable_count}
 use Rattle.lus_typing.specs.Sound.{IsLimited}
 use Rattle.lus_source.specs.Tables.{declared_as, groups, scope, text_of}
 use Rattle.lus_typing.specs.Kinds.{constructors_in}
-use Rattle.lus_declarations.proofs.Placing.{length-for_each}
+use Rattle.lus_source.proofs.Placing.{length-for_each}
 use Rattle.lus_types.proofs.Scoped.{variable_meant}
 
 constructors_few : (p : Tree) (d : Definition) → DefinitionCounted d → constructors_in (declared_as p d) ≤ most_constructors

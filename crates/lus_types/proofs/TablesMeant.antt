@@ -9,8 +9,8 @@ use Rattle.lus_source.specs.Tables.{groups, kind_named, literal_value, scope, ta
 use Rattle.lus_source.specs.Meaning.{equations_meant, node_meant, test_meant, variables_of}
 use Rattle.lus_source.specs.WellTyped.{constant_typed, value_is}
 use Rattle.lus_types.specs.ByScope.{constant_fits, node_in, variables_in}
-use Rattle.lus_declarations.proofs.OfSource.{kind_in-tables}
-use Rattle.lus_declarations.proofs.Placing.{length-kinds_by}
+use Rattle.lus_source.proofs.OfSource.{kind_in-tables}
+use Rattle.lus_source.proofs.Placing.{length-kinds_by}
 
 module _ (p : tree.Tree) where
   pub constants_are : (s : Scope) (cs : List tree.Constant) → s ≡ tables p → cs ≡ p.constants → list_all (constant_fits s) cs ≡ list_all (constant_typed p) p.constants

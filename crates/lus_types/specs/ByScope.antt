@@ -12,7 +12,7 @@ use Rattle.lus_source.specs.Sized.{variable_count}
 use Rattle.lus_source.specs.Tables.{groups, value_in}
 use Rattle.lus_source.specs.Meaning.{equations_meant, test_meant}
 use Rattle.lus_source.specs.WellTyped.{memory_fits, value_is}
-use Rattle.lus_declarations.specs.ByTable.{kind_in}
+use Rattle.lus_source.specs.ByTable.{kind_in}
 use Rattle.lus_types.specs.Wholes.{EquationTyped}
 
 -- a constant with a declared type has that type

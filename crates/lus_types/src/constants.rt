@@ -7,8 +7,7 @@ ghost use Rattle.lus_source.specs.ScopeView.{Tested, tables_seen};
 ghost use Rattle.lus_types.specs.ByScope.{constant_fits};
 
 use crate::elaboration::{same, value_kind};
-use lus_declarations::{kind_of_name, literal};
-use lus_source::{Fault, Tables};
+use lus_source::{Fault, Tables, kind_of_name, literal};
 use lus_syntax::{Constant, Literal, Place};
 
 /// The place of a literal's first token.

@@ -16,9 +16,8 @@ ghost use Rattle.lus_types.specs.Wholes.{EquationTyped};
 ghost use Rattle.lus_types.specs.ByScope.{IsTypedIn, group_fits, maybe_fits, node_in as node_by, variables_in};
 
 use crate::elaboration::{clock_variable, equation, memory, test};
-use lus_declarations::{Tabled, enter, kind_of_name};
 use lus_program::{Equation, Node, Test, Variable};
-use lus_source::{Fault, Scope};
+use lus_source::{Fault, Scope, Tabled, enter, kind_of_name};
 use lus_syntax::{
     Equation as SourceEquation, Group, Node as SourceNode, NodeKind, Place, Test as SourceTest,
 };

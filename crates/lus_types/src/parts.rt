@@ -2,7 +2,7 @@
 
 ghost use Rattle.std.specs.Prelude.{◌<◌, ◌≤◌, OnOk, OnErr};
 ghost use Rattle.lus_syntax.specs.Limits.{most_parts};
-ghost use Rattle.lus_declarations.specs.Limits.{AreLeft};
+ghost use Rattle.lus_source.specs.Limits.{AreLeft};
 ghost use Rattle.lus_program.specs.Parts.{node_parts, parts, parts_all, program_parts};
 ghost use Rattle.lus_program.specs.View.{expression_of, node_of, operands_of, program_seen};
 

@@ -15,9 +15,8 @@ ghost use Rattle.lus_source.specs.ScopeView.{Judged};
 use crate::constants::check_constants;
 use crate::nodes::node;
 use crate::parts::check_parts;
-use lus_declarations::Tabled;
 use lus_program::{Node, Program};
-use lus_source::Fault;
+use lus_source::{Fault, Tabled};
 use lus_syntax::{Refusal, RefusalNumber};
 use std::alloc::Global;
 

@@ -8,7 +8,7 @@ ghost use Rattle.lus_source.specs.Meaning.{program_of};
 ghost use Rattle.lus_source.specs.Refusals.{FirstFails, WellFormed};
 
 use crate::passes::{parts, types};
-use lus_declarations::{check_counts, check_names, check_recursion, check_sizes, tables};
+use lus_source::{check_counts, check_names, check_recursion, check_sizes, tables};
 use lus_syntax::{Refusal, Tree};
 use lus_typing::Typed;
 use std::alloc::Global;

@@ -1,0 +1,132 @@
+//! Sources in which nothing leads back to itself.
+
+ghost use Rattle.std.specs.Prelude.{◌≡◌, IfErr, IfOk, OnOk};
+ghost use Rattle.lus_graph.specs.Ways.{IsOrder};
+ghost use Rattle.lus_syntax.specs.declared.refusal.RefusalNumber.TheVariants as numbers;
+ghost use Rattle.lus_syntax.specs.View.{tree_seen};
+ghost use Rattle.lus_typing.specs.Refusals.{RefusesFor};
+ghost use Rattle.lus_source.specs.Loopless.{Loopless as IsLoopless, node_uses as calls_of_nodes, type_names as names_of_types, type_uses as uses_of_types};
+ghost use Rattle.lus_source.specs.Named.{Named as IsNamed};
+ghost use Rattle.lus_source.specs.ScopeView.{Judged};
+ghost use Rattle.lus_source.specs.Sized.{Counted as IsCounted};
+
+use crate::fault::Fault;
+use crate::named::Named;
+use crate::places::Places;
+use crate::recursion::{order_of_nodes, order_of_types};
+use lus_syntax::{Refusal, RefusalNumber, Tree};
+use std::alloc::Global;
+use std::marker::Model;
+
+/// A source of right names in which nothing leads back to itself, with its types and its nodes in orders in which what one
+/// uses stands before it. Contracts see it as its tree.
+pub struct Loopless {
+    named: Named,
+    types: Vec<usize>,
+    nodes: Vec<usize>,
+}
+
+impl Model for Loopless {
+    ghost use Rattle.std.specs.Coded.{codes};
+    ghost use Rattle.lus_syntax.specs.contracts.tree.Expr as source_expr;
+    ghost use Rattle.lus_syntax.specs.declared.tree.Tree.{Tree as StoredTree};
+    ghost use Rattle.lus_syntax.specs.View.{tree_seen};
+    ghost use Rattle.lus_source.specs.Sources.{AreOrders};
+
+    ghost Value = { StoredTree };
+
+    ghost coded = { Prim.hlevel (codes, source_expr.the_row.coded) };
+
+    ghost view = { λ l. l.named };
+
+    ghost invariant = { λ l. AreOrders (tree_seen l.named) l.types.items l.nodes.items };
+}
+
+impl Loopless {
+    /// The source of right names.
+    pub fn named(&self) -> &Named
+        ensures same { result.now ≡ self.now }
+        ensures loopless { IsLoopless (tree_seen result.now) }
+    {
+        &self.named
+    }
+
+    /// The source.
+    pub fn tree(&self) -> &Tree
+        ensures same { result.now ≡ self.now }
+        ensures counted { IsCounted (tree_seen result.now) }
+        ensures named { IsNamed (tree_seen result.now) }
+    {
+        self.named.tree()
+    }
+
+    /// The places of the names of its types.
+    pub fn type_names(&self) -> &Places
+        ensures { result.now ≡ names_of_types (tree_seen self.now) }
+    {
+        self.named.types()
+    }
+
+    /// The places of its types, each behind those of the types that it names.
+    pub fn types(&self) -> &[usize]
+        ensures { IsOrder (uses_of_types (tree_seen self.now)) result.now }
+    {
+        &self.types
+    }
+
+    /// The places of its nodes, each behind those of the nodes that it calls.
+    pub fn nodes(&self) -> &[usize]
+        ensures { IsOrder (calls_of_nodes (tree_seen self.now)) result.now }
+    {
+        &self.nodes
+    }
+
+    /// The places of its nodes, each behind those of the nodes that it calls; the source is given up.
+    pub fn into_nodes(self) -> Vec<usize>
+        ensures { IsOrder (calls_of_nodes (tree_seen self)) result.items }
+    {
+        let Loopless {
+            named: _,
+            types: _,
+            nodes,
+        } = self;
+        nodes
+    }
+}
+
+// By hand, so that other functions call it: what a derive drops is proved again in each of them.
+impl Drop for Loopless {
+    fn drop(self) {
+        let Loopless {
+            named: _,
+            types: _,
+            nodes: _,
+        } = self;
+    }
+}
+
+/// Checks that nothing leads back to itself; a refusal stands at a type's name, or at a call's.
+pub fn check_recursion(alloc: Global, named: Named) -> Result<Loopless, Refusal>
+    ensures same { IfOk result (λ loopless. loopless ≡ named) }
+    ensures ok { OnOk result (IsLoopless (tree_seen named)) }
+    ensures refused { IfErr result (RefusesFor numbers.Recursion (IsLoopless (tree_seen named))) }
+{
+    match ordered(alloc, named) {
+        Ok(loopless) => Ok(loopless),
+        Err(fault) => Err(fault.refusal(RefusalNumber::Recursion)),
+    }
+}
+
+/// The source with its orders.
+fn ordered(alloc: Global, named: Named) -> Result<Loopless, Fault>
+    ensures same { IfOk result (λ loopless. loopless ≡ named) }
+    ensures loopless { Judged result (IsLoopless (tree_seen named)) }
+{
+    let types = order_of_types(alloc, &named)?;
+    let nodes = order_of_nodes(alloc, &named)?;
+    Ok(Loopless {
+        named,
+        types,
+        nodes,
+    })
+}
