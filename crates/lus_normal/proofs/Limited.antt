@@ -1,5 +1,5 @@
 -- The new variables of the normal form of a program within the limits have numbers.
-use Rattle.std.proofs.Common.{arith, ◌≡◌, sym, subst, ℕ, ◌+◌, ◌<◌, ◌≤◌, List, [], ◌∷◌, length, sum_by, refl}
+use Rattle.std.proofs.Common.{arith, ◌≡◌, sym, subst, ℕ, zero, suc, ◌+◌, ◌<◌, ◌≤◌, List, [], ◌∷◌, length, map, sum_by, refl}
 use Rattle.std.proofs.lemmas.List.Sums.{sum_by-cons}
 use Rattle.lus_values.specs.Lists.{item, Each}
 use Rattle.lus_syntax.specs.Limits.{most_parts, most_variables}
@@ -14,16 +14,21 @@ use Rattle.lus_typing.specs.Sound.{IsLimited}
 use Rattle.lus_normal_form.specs.Forms.{equations_count}
 use Rattle.lus_normal_form.proofs.NewAreFew.{new_are_few}
 use Rattle.lus_normal_form.proofs.Numbers.{right_count_numbered}
+use Rattle.lus_normal.specs.Declarable.{AreDeclarable}
 use Rattle.lus_normal.specs.Laws.{equations_take}
-use Rattle.lus_normal.specs.Numbers.{AllFit}
 use Rattle.lus_normal.specs.View.{equations_seen}
 use Rattle.lus_normal.specs.Walk.{NodeHasRoom}
-use Rattle.lus_normal.proofs.TakesTyped.{each_seen_at}
-use Rattle.lus_normal.proofs.TestsFit.{taken_fit}
+use Rattle.lus_normal.proofs.Declarable.{taken_are_declarable}
 
 counts_seen : (n : ℕ) (qs : List StoredEquation) → equations_count (equations_from n qs) ≡ equations_count (equations_seen qs)
 counts_seen n [] = refl
 counts_seen n (q ∷ qs) = λ i. right_count_numbered n (expression_of q.right) i + counts_seen (n + calls (expression_of q.right)) qs i
+
+-- what holds of each thing that is seen holds of the one at a place
+pub each_seen_at : {X Y : Type 0} (see : X → Y) (P : Y → Type 0) (xs : List X) (i : ℕ) (d : X) → Each P (map see xs) → i < length xs → P (see (item d xs i))
+each_seen_at see P [] i d h lt = absurd (omega arith)
+each_seen_at see P (x ∷ xs) zero d h lt = h.0
+each_seen_at see P (x ∷ xs) (suc i) d h lt = each_seen_at see P xs i d h.1 (omega (arith, lt))
 
 -- what is no more in all is no more in each
 pub each_within_sum : {X : Type 0} (f : X → ℕ) (xs : List X) (most : ℕ) → sum_by f xs ≤ most → Each (λ x. f x ≤ most) xs
@@ -43,9 +48,8 @@ each_small p (f ∷ fs) r n s = (record { resolved = r.0; narrow = n.0; parts = 
 
 -- what the code asks of a node
 pub record CanBeMade (p : Program) (f : StoredNode) : Type 0 where
-  pub resolved : NodeResolved p (node_of f)
   pub room : NodeHasRoom f
-  pub fit : AllFit (equations_take p (node_of f) f.equations.items)
+  pub declarable : AreDeclarable p (node_of f) (equations_take p (node_of f) f.equations.items)
 
 -- the node at a place can be made
 pub made_here : (p : StoredProgram) → Resolved (program_seen p) → IsLimited (program_seen p)
@@ -61,7 +65,6 @@ made_here p resolved limited i f lt is =
     let few = new_are_few (node_of f) in
     let seen = counts_seen 0 f.equations.items in
     record {
-      resolved = small.resolved;
       room = omega (arith, narrow, parts, few, seen);
-      fit = taken_fit q resolved limited (node_of f) f.equations.items refl small.resolved narrow;
+      declarable = taken_are_declarable q resolved limited (node_of f) f.equations.items refl small.resolved narrow;
     }
