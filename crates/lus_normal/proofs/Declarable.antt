@@ -144,7 +144,9 @@ module _ (p : Program) (few : Each (λ d. constructors_in d ≤ most_constructor
         right_fit : (e : Expression) (o : Option Test) → HasKind p f e → Fits o → Fit (R e o)
         right_fit (literal v) o h b = tt
         right_fit (variable x) o h b = tt
-        right_fit (operate n es) o h b = let given = operate_typed p f n es h in operands_fit Inside es (λ m. o) 0 given.0 given.1 (λ m lt. b)
+        right_fit (operate n es) o h b =
+            let given = operate_typed p f n es h in
+            operands_fit Inside es (λ m. o) 0 given.0 given.1 (λ m lt. b)
         right_fit (pre a) o h b = one Operand a o h b (right_fit a o h b)
         right_fit (arrow a c) o h b =
             let both = both_typed p f a c h in
@@ -171,7 +173,8 @@ module _ (p : Program) (few : Each (λ d. constructors_in d ≤ most_constructor
             let counted = rest.2 in
             let b = fit m (omega (arith, counted)) in
             let has = (more_typed p f a es (ks, e)).0 in
-            each_append (IsDeclarable p f) (takes p f here a (os m)) (operands_takes p f here es os (suc m)) (one here a (os m) has b (right_fit a (os m) has b))
+            each_append (IsDeclarable p f) (takes p f here a (os m)) (operands_takes p f here es os (suc m))
+            (one here a (os m) has b (right_fit a (os m) has b))
             (operands_fit here es os (suc m) rest.0 rest.1 (λ i lt. fit i (omega (arith, counted, lt))))
 
       whole_fit : (e : Expression) (o : Option Test) (ls : List Kind) → kinds_given_in p f e ≡ Some ls → Fits o → Fit (R e o)
@@ -198,7 +201,8 @@ called_fit p resolved limited g =
     each_fit [] h l = tt
     each_fit (f ∷ fs) h l = (own_fit p limited.constructors f l.0 h.0.variables, each_fit fs h.1 l.1)
 
-pub taken_are_declarable : (p : Program) → Resolved p → IsLimited p → (f : Node) (qs : List StoredEquation) → f.equations ≡ equations_from 0 qs → NodeResolved p f → length f.variables ≤ most_variables
+pub taken_are_declarable : (p : Program) → Resolved p → IsLimited p → (f : Node) (qs : List StoredEquation)
+    → f.equations ≡ equations_from 0 qs → NodeResolved p f → length f.variables ≤ most_variables
     → AreDeclarable p f (equations_take p f qs)
 taken_are_declarable p resolved limited f qs e h narrow =
     equations_fit p limited.constructors f narrow (own_fit p limited.constructors f narrow h.variables) (called_fit p resolved limited) 0 qs

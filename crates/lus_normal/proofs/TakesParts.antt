@@ -84,7 +84,8 @@ module _ (p : Program) (f : Node) (declared : Declared f) (callees : (g : ℕ) �
   abbrev Same : ℕ → Expression → Option Test → Clock → Type 0
   Same m e o k = tests (R e o) ≡ part_tests (T (numbered m e) k)
 
-  one : (here : Position) (m : ℕ) (e : Expression) (o : Option Test) (k : Clock) → clock_from f o ≡ k → Same m e o k → tests (takes p f here e o) ≡ part_tests (taken p here (numbered m e) k)
+  one : (here : Position) (m : ℕ) (e : Expression) (o : Option Test) (k : Clock) → clock_from f o ≡ k → Same m e o k
+      → tests (takes p f here e o) ≡ part_tests (taken p here (numbered m e) k)
   one here m e o k c h = choose (is_taken here e) ∙ ap both (sym (taken_numbered here m e))
     where
       both : Bool → List (Option Test)
@@ -95,23 +96,29 @@ module _ (p : Program) (f : Node) (declared : Declared f) (callees : (g : ℕ) �
       choose false = h
 
   -- one before others
-  first : (here : Position) (m : ℕ) (e : Expression) (o : Option Test) (k : Clock) (ts : List Taken) (us : List Part) → clock_from f o ≡ k → Same m e o k → tests ts ≡ part_tests us
+  first : (here : Position) (m : ℕ) (e : Expression) (o : Option Test) (k : Clock) (ts : List Taken) (us : List Part)
+      → clock_from f o ≡ k → Same m e o k → tests ts ≡ part_tests us
       → tests (takes p f here e o ++ ts) ≡ part_tests (taken p here (numbered m e) k ++ us)
   first here m e o k ts us c h l =
-      map_append (λ (t : Taken). t.test) (takes p f here e o) ts ∙ (λ i. one here m e o k c h i ++ l i) ∙ sym (map_append part_test (taken p here (numbered m e) k) us)
+      map_append (λ (t : Taken). t.test) (takes p f here e o) ts
+      ∙ (λ i. one here m e o k c h i ++ l i)
+      ∙ sym (map_append part_test (taken p here (numbered m e) k) us)
 
   mutual
-    right_tests : (m : ℕ) (e : Expression) (o : Option Test) (k : Clock) → clock_from f o ≡ k → RightOnClock p f (parts p (numbered m e) k) → Same m e o k
+    right_tests : (m : ℕ) (e : Expression) (o : Option Test) (k : Clock)
+        → clock_from f o ≡ k → RightOnClock p f (parts p (numbered m e) k) → Same m e o k
     right_tests m (literal v) o k c on = refl
     right_tests m (variable x) o k c on = refl
     right_tests m (operate op es) o k c on = operands_tests Inside m es (λ i. o) (λ i. k) (λ i. c) 0 on.1
     right_tests m (pre a) o k c on = one Operand m a o k c (right_tests m a o k c (whole (numbered m a) k on.1))
     right_tests m (arrow a b) o k c on =
         let n = m + calls a in
-        let left = left_of (parts p (numbered m a) k) (parts p (numbered n b) k) on.1 in
-        let right = right_of (parts p (numbered m a) k) (parts p (numbered n b) k) on.1 in
-        first Inside m a o k (takes p f Inside b o) (taken p Inside (numbered n b) k) c (right_tests m a o k c (whole (numbered m a) k left))
-        (one Inside n b o k c (right_tests n b o k c (whole (numbered n b) k right)))
+        let a' = numbered m a in
+        let b' = numbered n b in
+        let left = left_of (parts p a' k) (parts p b' k) on.1 in
+        let right = right_of (parts p a' k) (parts p b' k) on.1 in
+        first Inside m a o k (takes p f Inside b o) (taken p Inside b' k) c (right_tests m a o k c (whole a' k left))
+        (one Inside n b o k c (right_tests n b o k c (whole b' k right)))
     right_tests m (when t a) o k c on =
         let u = test_of f t.variable in
         let inside : clock_from f u ≡ drop 1 k = sym (clock_is f declared t.variable) ∙ sym (ap (drop 1) on.0) in
@@ -123,10 +130,14 @@ module _ (p : Program) (f : Node) (declared : Declared f) (callees : (g : ℕ) �
         let called = node_at p g in
         let base = base_test f called o in
         let args' = all_numbered (suc m) args in
-        ap (λ names. tests (operands_takes p f Operand args (argument_test called names base) 0)) (ap names_in (actuals_none args) ∙ sym (names_numbered (suc m) args))
-        ∙ operands_tests Operand (suc m) args (argument_test called (names_in args') base) (formal_clock called args' (base_of called k)) (formals g args' o k c on) 0 on
+        let names = ap names_in (actuals_none args) ∙ sym (names_numbered (suc m) args) in
+        let os = argument_test called (names_in args') base in
+        let ks = formal_clock called args' (base_of called k) in
+        ap (λ own. tests (operands_takes p f Operand args (argument_test called own base) 0)) names
+        ∙ operands_tests Operand (suc m) args os ks (formals g args' o k c on) 0 on
 
-    operands_tests : (here : Position) (m : ℕ) (es : Operands) (os : ℕ → Option Test) (ks : ℕ → Clock) → ((i : ℕ) → clock_from f (os i) ≡ ks i) → (i : ℕ) → OnClock (all_parts p (all_numbered m es) ks i)
+    operands_tests : (here : Position) (m : ℕ) (es : Operands) (os : ℕ → Option Test) (ks : ℕ → Clock)
+        → ((i : ℕ) → clock_from f (os i) ≡ ks i) → (i : ℕ) → OnClock (all_parts p (all_numbered m es) ks i)
         → tests (operands_takes p f here es os i) ≡ part_tests (operands_taken p here (all_numbered m es) ks i)
     operands_tests here m none os ks cs i on = refl
     operands_tests here m (more e es) os ks cs i on =
@@ -135,9 +146,11 @@ module _ (p : Program) (f : Node) (declared : Declared f) (callees : (g : ℕ) �
         let es' = all_numbered n es in
         let rest = all_parts p es' ks (suc i) in
         first here m e (os i) (ks i) (operands_takes p f here es os (suc i)) (operands_taken p here es' ks (suc i)) (cs i)
-        (right_tests m e (os i) (ks i) (cs i) (whole e' (ks i) (left_of (parts p e' (ks i)) rest on))) (operands_tests here n es os ks cs (suc i) (right_of (parts p e' (ks i)) rest on))
+        (right_tests m e (os i) (ks i) (cs i) (whole e' (ks i) (left_of (parts p e' (ks i)) rest on)))
+        (operands_tests here n es os ks cs (suc i) (right_of (parts p e' (ks i)) rest on))
 
-  equation_tests : (n : ℕ) (qs : List StoredEquation) → Each (λ q. RightOnClock p f (parts p q.right (equation_clock f q))) (equations_from n qs)
+  equation_tests : (n : ℕ) (qs : List StoredEquation)
+      → Each (λ q. RightOnClock p f (parts p q.right (equation_clock f q))) (equations_from n qs)
       → tests (equations_take p f qs) ≡ part_tests (equations_taken p f (equations_from n qs))
   equation_tests n [] on = refl
   equation_tests n (q ∷ qs) on =
@@ -154,4 +167,6 @@ module _ (p : Program) (f : Node) (declared : Declared f) (callees : (g : ℕ) �
 
 pub tests_are_newest : TestsAreNewest
 tests_are_newest p on_clocks f h qs e =
-    equation_tests p f h.declared (all_declared p on_clocks) 0 qs (subst (Each (λ q. RightOnClock p f (parts p q.right (equation_clock f q)))) e h.rights) ∙ ap (λ rs. part_tests (equations_taken p f rs)) (sym e)
+    let rights = subst (Each (λ q. RightOnClock p f (parts p q.right (equation_clock f q)))) e h.rights in
+    equation_tests p f h.declared (all_declared p on_clocks) 0 qs rights
+    ∙ ap (λ rs. part_tests (equations_taken p f rs)) (sym e)

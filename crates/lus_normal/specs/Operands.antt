@@ -23,4 +23,6 @@ position_in positions.Operand = Operand
 abbrev pub operand_test : StoredProgram → List Expr → Clocks → ℕ → Option Test
 operand_test p es (Same clock) m = clock_in clock
 operand_test p es (Branches x) m = branch_test x m
-operand_test p es (Arguments g base) m = argument_test (node_at (program_seen p) g) (names_in (actuals (operands_of es) [])) (clock_in base) m
+operand_test p es (Arguments g base) m =
+    let names = names_in (actuals (operands_of es) []) in
+    argument_test (node_at (program_seen p) g) names (clock_in base) m

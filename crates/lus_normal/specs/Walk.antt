@@ -18,10 +18,6 @@ use Rattle.lus_normal.specs.Laws.{equations_take}
 use Rattle.lus_normal.specs.Operands.{operand_test}
 use Rattle.lus_normal.specs.View.{all_taken_seen, equations_seen}
 
--- how many new variables an expression makes that is taken out
-abbrev pub new_in_part : Expr → ℕ
-new_in_part e = suc (right_count (expression_of e))
-
 -- numbers are left for n new variables
 abbrev pub HasRoom : Taking → (n : ℕ) → Type 0
 HasRoom t n = t.next + n < 2 ^ 32
