@@ -7,7 +7,7 @@ use Rattle.lus_program.specs.declared.node.Equation.{Equation as StoredEquation}
 use Rattle.lus_program.specs.declared.node.Node.{Node as StoredNode}
 use Rattle.lus_program.specs.declared.node.Program.{Program as StoredProgram}
 use Rattle.lus_program.specs.Parts.{node_parts}
-use Rattle.lus_program.specs.Programs.{calls, Node, Program}
+use Rattle.lus_program.specs.Programs.{calls}
 use Rattle.lus_program.specs.View.{expression_of, equations_from, node_of, program_seen}
 use Rattle.lus_typing.specs.Resolved.{NodeResolved, Resolved}
 use Rattle.lus_typing.specs.Sound.{IsLimited}
