@@ -1,5 +1,5 @@
 -- The new variables of the normal form of a program within the limits have numbers.
-use Rattle.std.proofs.Common.{arith, ◌≡◌, sym, subst, ℕ, ◌+◌, ◌<◌, ◌≤◌, List, [], ◌∷◌, length, sum_by, refl}
+use Rattle.std.proofs.Common.{arith, ◌≡◌, sym, subst, ℕ, zero, suc, ◌+◌, ◌<◌, ◌≤◌, List, [], ◌∷◌, length, map, sum_by, refl}
 use Rattle.std.proofs.lemmas.List.Sums.{sum_by-cons}
 use Rattle.lus_values.specs.Lists.{item, Each}
 use Rattle.lus_syntax.specs.Limits.{most_parts, most_variables}
@@ -7,45 +7,35 @@ use Rattle.lus_program.specs.declared.node.Equation.{Equation as StoredEquation}
 use Rattle.lus_program.specs.declared.node.Node.{Node as StoredNode}
 use Rattle.lus_program.specs.declared.node.Program.{Program as StoredProgram}
 use Rattle.lus_program.specs.Parts.{node_parts}
-use Rattle.lus_program.specs.Programs.{calls, Node, Program}
+use Rattle.lus_program.specs.Programs.{calls}
 use Rattle.lus_program.specs.View.{expression_of, equations_from, node_of, program_seen}
 use Rattle.lus_typing.specs.Resolved.{NodeResolved, Resolved}
 use Rattle.lus_typing.specs.Sound.{IsLimited}
 use Rattle.lus_normal_form.specs.Forms.{equations_count}
 use Rattle.lus_normal_form.proofs.NewAreFew.{new_are_few}
 use Rattle.lus_normal_form.proofs.Numbers.{right_count_numbered}
-use Rattle.lus_normal.specs.Laws.{equations_take}
-use Rattle.lus_normal.specs.Numbers.{AllFit}
 use Rattle.lus_normal.specs.View.{equations_seen}
-use Rattle.lus_normal.specs.Walk.{NodeHasRoom}
-use Rattle.lus_normal.proofs.TakesTyped.{each_seen_at}
-use Rattle.lus_normal.proofs.TestsFit.{taken_fit}
+use Rattle.lus_normal.specs.Walk.{CanBeMade}
+use Rattle.lus_normal.proofs.Declarable.{taken_are_declarable}
 
 counts_seen : (n : ℕ) (qs : List StoredEquation) → equations_count (equations_from n qs) ≡ equations_count (equations_seen qs)
 counts_seen n [] = refl
 counts_seen n (q ∷ qs) = λ i. right_count_numbered n (expression_of q.right) i + counts_seen (n + calls (expression_of q.right)) qs i
 
+-- what holds of each thing that is seen holds of the one at a place
+pub each_seen_at : {X Y : Type 0} (see : X → Y) (P : Y → Type 0) (xs : List X) (i : ℕ) (x : X)
+    → x ≡ item x xs i → Each P (map see xs) → i < length xs → P (see x)
+each_seen_at {X = X} see P xs i x is all lt = subst (λ y. P (see y)) (sym is) (at_place xs i all lt)
+  where
+    at_place : (ys : List X) (i : ℕ) → Each P (map see ys) → i < length ys → P (see (item x ys i))
+    at_place [] i h lt = absurd (omega arith)
+    at_place (y ∷ ys) zero h lt = h.0
+    at_place (y ∷ ys) (suc i) h lt = at_place ys i h.1 (omega (arith, lt))
+
 -- what is no more in all is no more in each
 pub each_within_sum : {X : Type 0} (f : X → ℕ) (xs : List X) (most : ℕ) → sum_by f xs ≤ most → Each (λ x. f x ≤ most) xs
 each_within_sum f [] most h = tt
 each_within_sum f (x ∷ xs) most h = let sum = sum_by-cons f x xs in (omega (arith, sum, h), each_within_sum f xs most (omega (arith, sum, h)))
-
--- what a node's normal form asks of it
-record IsSmall (p : Program) (f : Node) : Type 0 where
-  resolved : NodeResolved p f
-  narrow : length f.variables ≤ most_variables
-  parts : node_parts f ≤ most_parts
-
-each_small : (p : Program) (fs : List Node) → Each (NodeResolved p) fs → Each (λ f. length f.variables ≤ most_variables) fs → Each (λ f. node_parts f ≤ most_parts) fs
-    → Each (IsSmall p) fs
-each_small p [] r n s = tt
-each_small p (f ∷ fs) r n s = (record { resolved = r.0; narrow = n.0; parts = s.0 }, each_small p fs r.1 n.1 s.1)
-
--- what the code asks of a node
-pub record CanBeMade (p : Program) (f : StoredNode) : Type 0 where
-  pub resolved : NodeResolved p (node_of f)
-  pub room : NodeHasRoom f
-  pub fit : AllFit (equations_take p (node_of f) f.equations.items)
 
 -- the node at a place can be made
 pub made_here : (p : StoredProgram) → Resolved (program_seen p) → IsLimited (program_seen p)
@@ -53,15 +43,13 @@ pub made_here : (p : StoredProgram) → Resolved (program_seen p) → IsLimited 
 made_here p resolved limited i f lt is =
     let q = program_seen p in
     let fs = p.nodes.items in
+    let fits = each_seen_at node_of (NodeResolved q) fs i f is resolved.nodes lt in
+    let narrow = each_seen_at node_of (λ g. length g.variables ≤ most_variables) fs i f is limited.variables lt in
     let parts_few = each_within_sum node_parts q.nodes most_parts resolved.parts in
-    let all = each_small q q.nodes resolved.nodes limited.variables parts_few in
-    let small = subst (λ g. IsSmall q (node_of g)) (sym is) (each_seen_at node_of (IsSmall q) fs i f all lt) in
-    let narrow = small.narrow in
-    let parts = small.parts in
+    let parts = each_seen_at node_of (λ g. node_parts g ≤ most_parts) fs i f is parts_few lt in
     let few = new_are_few (node_of f) in
     let seen = counts_seen 0 f.equations.items in
     record {
-      resolved = small.resolved;
       room = omega (arith, narrow, parts, few, seen);
-      fit = taken_fit q resolved limited (node_of f) f.equations.items refl small.resolved narrow;
+      declarable = taken_are_declarable q resolved limited (node_of f) f.equations.items refl fits narrow;
     }

@@ -1,110 +1,69 @@
 -- What the walk over a right side adds to what has been taken out and to the equations in normal form.
-use Rattle.std.specs.Prelude.{◌≡◌, ◌+◌, ◌^◌, ◌<◌, ℕ, suc, Option, List, [], ◌∷◌, ◌++◌, length}
-use Rattle.lus_values.specs.Lists.{item}
-use Rattle.lus_program.specs.declared.expr.Test.{Test}
+use Rattle.std.specs.Prelude.{◌≡◌, ◌+◌, ◌^◌, ◌<◌, ℕ, suc, Option, List, ◌∷◌, ◌++◌, length}
 use Rattle.lus_program.specs.declared.expr.Expr.{Expr}
-use Rattle.lus_program.specs.declared.node.Equation.{Equation as StoredEquation}
+use Rattle.lus_program.specs.declared.expr.Form.{Form}
 use Rattle.lus_program.specs.declared.node.Node.{Node as StoredNode}
 use Rattle.lus_program.specs.declared.node.Program.{Program as StoredProgram}
-use Rattle.lus_program.specs.Programs.{Equation, node_at}
-use Rattle.lus_program.specs.View.{expression_of, node_of, operands_of, program_seen}
-use Rattle.lus_streams.specs.OnClock.{actuals, test_of}
+use Rattle.lus_program.specs.Programs.{Equation, Expression, Program}
+use Rattle.lus_program.specs.View.{expression_in, expression_of, node_of, operands_of, program_seen}
 use Rattle.lus_clocks.specs.declared.clock.NewestTest.{NewestTest}
-use Rattle.lus_clocks.specs.Fitting.{names_in}
 use Rattle.lus_clocks.specs.View.{clock_in}
-use Rattle.lus_normal_form.specs.Forms.{Position, right_count, operands_count, size, form, right_form, right_out, operands_out, out}
+use Rattle.lus_normal_form.specs.Forms.{Position, right_count, operands_count, size, right_form, right_out, operands_out, out}
 use Rattle.lus_normal_form.specs.Forms.{added_equations, equations_count, normal_equations}
+use Rattle.lus_normal.specs.declared.operands.Clocks.{Clocks}
 use Rattle.lus_normal.specs.declared.taking.Taking.{Taking}
-use Rattle.lus_normal.specs.Forms.{Taken, argument_test, right_takes, operands_takes, takes}
+use Rattle.lus_normal.specs.Declarable.{AreDeclarable}
+use Rattle.lus_normal.specs.Forms.{Taken, right_takes, operands_takes, takes}
 use Rattle.lus_normal.specs.Laws.{equations_take}
+use Rattle.lus_normal.specs.Operands.{operand_test}
 use Rattle.lus_normal.specs.View.{all_taken_seen, equations_seen}
-
--- how many new variables a whole right side makes, and one that is taken out
-abbrev pub new_in_right : Expr → ℕ
-new_in_right e = right_count (expression_of e)
-
-abbrev pub new_in_part : Expr → ℕ
-new_in_part e = suc (right_count (expression_of e))
-
--- how many an expression makes where it stands, and operands
-abbrev pub new_in : Position → Expr → ℕ
-new_in here e = size here (expression_of e)
-
-abbrev pub new_in_operands : Position → List Expr → ℕ
-new_in_operands here es = operands_count here (operands_of es)
-
--- the newest tests of the clocks of these arguments of a call of g with this base
-abbrev pub argument_tests : StoredProgram → List Expr → (g : ℕ) → Option NewestTest → ℕ → Option Test
-argument_tests p es g base = argument_test (node_at (program_seen p) g) (names_in (actuals (operands_of es) [])) (clock_in base)
 
 -- numbers are left for n new variables
 abbrev pub HasRoom : Taking → (n : ℕ) → Type 0
 HasRoom t n = t.next + n < 2 ^ 32
 
-module _ (old new : Taking) where
-  -- these are taken out behind what was
-  abbrev pub Takes : List Taken → Type 0
-  Takes ts = all_taken_seen new.taken.items ≡ all_taken_seen old.taken.items ++ ts
+-- these parts were taken out and these equations added, each behind what stood there, and n variables got numbers
+pub record Adds (old new : Taking) (ts : List Taken) (qs : List Equation) (n : ℕ) : Type 0 where
+  pub taken : all_taken_seen new.taken.items ≡ all_taken_seen old.taken.items ++ ts
+  pub equations : equations_seen new.equations.items ≡ equations_seen old.equations.items ++ qs
+  pub next : new.next ≡ old.next + n
 
-  -- n variables got numbers
-  abbrev pub Numbers : ℕ → Type 0
-  Numbers n = new.next ≡ old.next + n
+module _ (old new : Taking) (p : StoredProgram) (f : StoredNode) where
+  abbrev takes_out : Expression → Option NewestTest → List Taken
+  takes_out e clock = right_takes (program_seen p) (node_of f) e (clock_in clock)
 
-  -- these equations stand behind those that stood
-  abbrev pub Adds : List Equation → Type 0
-  Adds qs = equations_seen new.equations.items ≡ equations_seen old.equations.items ++ qs
+  -- what a whole right side adds
+  abbrev pub AddsRight : Form → Option NewestTest → Type 0
+  AddsRight form clock =
+      let e = expression_in form in
+      Adds old new (takes_out e clock) (added_equations old.next (right_out e)) (right_count e)
 
-  module _ (p : StoredProgram) (f : StoredNode) where
-    -- what is taken out of a whole right side
-    abbrev pub TakesRight : Expr → Option NewestTest → Type 0
-    TakesRight e clock = Takes (right_takes (program_seen p) (node_of f) (expression_of e) (clock_in clock))
+  -- an equation with these variables on its left
+  abbrev pub AddsEquation : (targets : List ℕ) → Expr → Option NewestTest → Type 0
+  AddsEquation xs expr clock =
+      let e = expression_of expr in
+      let here : Equation = record { targets = xs; right = right_form old.next e } in
+      Adds old new (takes_out e clock) (here ∷ added_equations old.next (right_out e)) (right_count e)
 
-    -- an operand, and what is taken out of it in turn
-    abbrev pub TakesPart : Expr → Option NewestTest → Type 0
-    TakesPart e clock =
-        let own = expression_of e in
-        let test = clock_in clock in
-        Takes (record { test = test; operand = own } ∷ right_takes (program_seen p) (node_of f) own test)
+  -- an expression that is taken out
+  abbrev pub AddsPart : Expr → Option NewestTest → Type 0
+  AddsPart expr clock =
+      let e = expression_of expr in
+      let here : Taken = record { test = clock_in clock; operand = e } in
+      Adds old new (here ∷ takes_out e clock) (added_equations old.next (e ∷ right_out e)) (suc (right_count e))
 
-    -- what is taken out for an expression where it stands
-    abbrev pub TakesAt : Position → Expr → Option NewestTest → Type 0
-    TakesAt here e clock = Takes (takes (program_seen p) (node_of f) here (expression_of e) (clock_in clock))
+  -- an expression where it stands
+  abbrev pub AddsAt : Position → Expr → Option NewestTest → Type 0
+  AddsAt here expr clock =
+      let e = expression_of expr in
+      Adds old new (takes (program_seen p) (node_of f) here e (clock_in clock)) (added_equations old.next (out here e)) (size here e)
 
-    -- what is taken out of operands, each on the clock with the test of its number
-    abbrev pub TakesOperands : Position → List Expr → (ℕ → Option Test) → Type 0
-    TakesOperands here es os = Takes (operands_takes (program_seen p) (node_of f) here (operands_of es) os 0)
-
-    -- what is taken out of an equation, on the clock of its first variable
-    abbrev pub TakesEquation : StoredEquation → Type 0
-    TakesEquation q =
-        let test = test_of (node_of f) (item 0 q.targets.items 0) in
-        Takes (right_takes (program_seen p) (node_of f) (expression_of q.right) test)
-
-  -- the equations of what is taken out of a whole right side
-  abbrev pub AddsRight : Expr → Type 0
-  AddsRight e = Adds (added_equations old.next (right_out (expression_of e)))
-
-  -- that of an operand, and those of what is taken out of it in turn
-  abbrev pub AddsPart : Expr → Type 0
-  AddsPart e = Adds (added_equations old.next (expression_of e ∷ right_out (expression_of e)))
-
-  -- those of what is taken out for an expression where it stands, and of operands
-  abbrev pub AddsAt : Position → Expr → Type 0
-  AddsAt here e = Adds (added_equations old.next (out here (expression_of e)))
-
-  abbrev pub AddsOperands : Position → List Expr → Type 0
-  AddsOperands here es = Adds (added_equations old.next (operands_out here (operands_of es)))
-
-  -- an equation in normal form, and those of what is taken out of it
-  abbrev pub AddsEquation : StoredEquation → Type 0
-  AddsEquation q =
-      Adds
-      (record { targets = q.targets.items; right = right_form old.next (expression_of q.right) }
-      ∷ added_equations old.next (right_out (expression_of q.right)))
-
--- what stands for an expression, n being the next new variable
-abbrev pub IsForm : Position → (n : ℕ) → (e result : Expr) → Type 0
-IsForm here n e result = expression_of result ≡ form here n (expression_of e)
+  -- operands, each on its clock
+  abbrev pub AddsOperands : Position → List Expr → Clocks → Type 0
+  AddsOperands here operands clocks =
+      let es = operands_of operands in
+      let ts = operands_takes (program_seen p) (node_of f) here es (operand_test p operands clocks) 0 in
+      Adds old new ts (added_equations old.next (operands_out here es)) (operands_count here es)
 
 -- all equations of a node in normal form
 abbrev pub HasEquations : StoredNode → Taking → Type 0
@@ -117,3 +76,8 @@ HasTaken p f t = all_taken_seen t.taken.items ≡ equations_take (program_seen p
 -- numbers are left for all new variables of a node
 abbrev pub NodeHasRoom : StoredNode → Type 0
 NodeHasRoom f = length (node_of f).variables + equations_count (equations_seen f.equations.items) < 2 ^ 32
+
+-- what the code asks of a node: numbers for its new variables, and that it can declare them
+pub record CanBeMade (p : Program) (f : StoredNode) : Type 0 where
+  pub room : NodeHasRoom f
+  pub declarable : AreDeclarable p (node_of f) (equations_take p (node_of f) f.equations.items)

@@ -1,4 +1,4 @@
--- The tests of what is taken out of a node of a resolved program, within the limits of a source, can be stored.
+-- What is taken out of a node of a resolved program, within the limits of a source, can be declared.
 use Rattle.std.proofs.Common.{arith, subst, ◌≡◌, ◌∙◌, sym, ap, refl, true≢false, ℕ, zero, suc, ◌+◌, ◌^◌, ◌<◌, ◌≤◌, nat_lt, nat_eq, Bool, true, false, cond, List, [], ◌∷◌, length, Option, Some, None}
 use Rattle.std.proofs.lemmas.Bool.{eqb-true, ltb-true}
 use Rattle.std.proofs.lemmas.Option.{slice_get_within}
@@ -25,10 +25,7 @@ use Rattle.lus_normal_form.specs.Forms.{Position, Inside, Operand, is_taken}
 use Rattle.lus_normal.specs.Forms.{Taken, branch_test, argument_test, right_takes, operands_takes, takes}
 use Rattle.lus_normal.specs.Laws.{equations_take}
 use Rattle.lus_typing.specs.Sound.{IsLimited}
-use Rattle.lus_normal.specs.Numbers.{AllFit, Fits}
-
-abbrev Stored : Taken → Type 0
-Stored t = Fits t.test
+use Rattle.lus_normal.specs.Declarable.{AreDeclarable, Fits, IsDeclarable}
 
 -- without its newest tests
 without_fit : (f : Node) → ((x : ℕ) → Fits (test_of f x)) → (n : ℕ) (o : Option Test) → Fits o → Fits (without_tests f n o)
@@ -120,11 +117,14 @@ module _ (p : Program) (few : Each (λ d. constructors_in d ≤ most_constructor
     abbrev R : Expression → Option Test → List Taken
     R = right_takes p f
 
-    one : (here : Position) (e : Expression) (o : Option Test) → Fits o → AllFit (R e o) → AllFit (takes p f here e o)
-    one here e o h hs = choose (is_taken here e)
+    abbrev Fit : List Taken → Type 0
+    Fit = AreDeclarable p f
+
+    one : (here : Position) (e : Expression) (o : Option Test) → HasKind p f e → Fits o → Fit (R e o) → Fit (takes p f here e o)
+    one here e o h b hs = choose (is_taken here e)
       where
-        choose : (b : Bool) → AllFit (cond b (record { test = o; operand = e } ∷ R e o) (R e o))
-        choose true = (h, hs)
+        choose : (b : Bool) → Fit (cond b (record { test = o; operand = e } ∷ R e o) (R e o))
+        choose true = (record { typed = h; fits = b }, hs)
         choose false = hs
 
     -- the tests with which variables are declared, in this node and in those that are called
@@ -141,50 +141,56 @@ module _ (p : Program) (few : Each (λ d. constructors_in d ≤ most_constructor
           renamed_fits (names_in (actuals args [])) (names_fit args h) (clock_of node m) (base_test f node o) (chain_fits vs (called g) (length vs) m) base
 
       mutual
-        right_fits : (e : Expression) (o : Option Test) → HasKind p f e → Fits o → AllFit (R e o)
-        right_fits (literal v) o h b = tt
-        right_fits (variable x) o h b = tt
-        right_fits (operate n es) o h b = let given = operate_typed p f n es h in operands_fit Inside es (λ m. o) 0 given.0 given.1 (λ m lt. b)
-        right_fits (pre a) o h b = one Operand a o b (right_fits a o h b)
-        right_fits (arrow a c) o h b =
+        right_fit : (e : Expression) (o : Option Test) → HasKind p f e → Fits o → Fit (R e o)
+        right_fit (literal v) o h b = tt
+        right_fit (variable x) o h b = tt
+        right_fit (operate n es) o h b =
+            let given = operate_typed p f n es h in
+            operands_fit Inside es (λ m. o) 0 given.0 given.1 (λ m lt. b)
+        right_fit (pre a) o h b = one Operand a o h b (right_fit a o h b)
+        right_fit (arrow a c) o h b =
             let both = both_typed p f a c h in
-            each_append Stored (takes p f Inside a o) (takes p f Inside c o) (one Inside a o b (right_fits a o both.0 b)) (one Inside c o b (right_fits c o both.1 b))
-        right_fits (when t a) o h b =
+            each_append (IsDeclarable p f) (takes p f Inside a o) (takes p f Inside c o) (one Inside a o both.0 b (right_fit a o both.0 b))
+            (one Inside c o both.1 b (right_fit c o both.1 b))
+        right_fit (when t a) o h b =
             let outer = test_of f t.variable in
-            one Operand a outer (own t.variable) (right_fits a outer (when_typed p f t a h).1 (own t.variable))
-        right_fits (merge x bs) o h b =
+            let given = when_typed p f t a h in
+            one Operand a outer given.1 (own t.variable) (right_fit a outer given.1 (own t.variable))
+        right_fit (merge x bs) o h b =
             let counted = merge_counted x bs h in
             let few_branches = counted.2 in
             operands_fit Inside bs (branch_test x) 0 counted.0 counted.1 (λ m lt. (variable_fits x (merge_typed p f x bs h).0, omega (arith, few_branches, lt)))
-        right_fits (call g c args) o h b =
+        right_fit (call g c args) o h b =
             let made = call_typed p f g c args h in
             operands_fit Operand args (formals g args o) 0 made.2.arguments made.2.have (λ m lt. formals_fit g args (made.2.arguments, made.2.have) o b m)
 
         -- operands of these types, as many as tests that can be stored
         operands_fit : (here : Position) (es : Operands) (os : ℕ → Option Test) (m : ℕ) (ks : List Kind) → kinds_in p f es ≡ Some ks → ((i : ℕ) → i < m + length ks → Fits (os i))
-            → AllFit (operands_takes p f here es os m)
+            → Fit (operands_takes p f here es os m)
         operands_fit here none os m ks e fit = tt
         operands_fit here (more a es) os m ks e fit =
             let rest = more_counted a es ks e in
             let counted = rest.2 in
             let b = fit m (omega (arith, counted)) in
-            each_append Stored (takes p f here a (os m)) (operands_takes p f here es os (suc m))
-            (one here a (os m) b (right_fits a (os m) (more_typed p f a es (ks, e)).0 b)) (operands_fit here es os (suc m) rest.0 rest.1 (λ i lt. fit i (omega (arith, counted, lt))))
+            let has = (more_typed p f a es (ks, e)).0 in
+            each_append (IsDeclarable p f) (takes p f here a (os m)) (operands_takes p f here es os (suc m))
+            (one here a (os m) has b (right_fit a (os m) has b))
+            (operands_fit here es os (suc m) rest.0 rest.1 (λ i lt. fit i (omega (arith, counted, lt))))
 
-      whole_fits : (e : Expression) (o : Option Test) (ls : List Kind) → kinds_given_in p f e ≡ Some ls → Fits o → AllFit (R e o)
-      whole_fits (call g c args) o ls h b =
+      whole_fit : (e : Expression) (o : Option Test) (ls : List Kind) → kinds_given_in p f e ≡ Some ls → Fits o → Fit (R e o)
+      whole_fit (call g c args) o ls h b =
           let made = whole_call p f g c args ls h in
           operands_fit Operand args (formals g args o) 0 made.arguments made.have (λ m lt. formals_fit g args (made.arguments, made.have) o b m)
-      whole_fits e o ls h b = right_fits e o (whole_typed p f e ls h) b
+      whole_fit e o ls h b = right_fit e o (whole_typed p f e ls h) b
 
-      equations_fit : (n : ℕ) (qs : List StoredEquation) → Each (EquationFits p f) (equations_from n qs) → AllFit (equations_take p f qs)
+      equations_fit : (n : ℕ) (qs : List StoredEquation) → Each (EquationFits p f) (equations_from n qs) → Fit (equations_take p f qs)
       equations_fit n [] h = tt
       equations_fit n (q ∷ qs) h =
           let e = expression_of q.right in
           let x = item 0 q.targets.items 0 in
           let given = fits_given p f (record { targets = q.targets.items; right = numbered n e }) h.0 in
-          each_append Stored (R e (test_of f x)) (equations_take p f qs)
-          (whole_fits e (test_of f x) given.kinds (sym (given-numbered p f e n) ∙ given.given) (own x)) (equations_fit (n + calls e) qs h.1)
+          each_append (IsDeclarable p f) (R e (test_of f x)) (equations_take p f qs)
+          (whole_fit e (test_of f x) given.kinds (sym (given-numbered p f e n) ∙ given.given) (own x)) (equations_fit (n + calls e) qs h.1)
 
 -- the tests of a program's variables
 called_fit : (p : Program) → Resolved p → IsLimited p → (g x : ℕ) → Fits (test_of (node_at p g) x)
@@ -195,8 +201,9 @@ called_fit p resolved limited g =
     each_fit [] h l = tt
     each_fit (f ∷ fs) h l = (own_fit p limited.constructors f l.0 h.0.variables, each_fit fs h.1 l.1)
 
-pub taken_fit : (p : Program) → Resolved p → IsLimited p → (f : Node) (qs : List StoredEquation) → f.equations ≡ equations_from 0 qs → NodeResolved p f → length f.variables ≤ most_variables
-    → AllFit (equations_take p f qs)
-taken_fit p resolved limited f qs e h narrow =
+pub taken_are_declarable : (p : Program) → Resolved p → IsLimited p → (f : Node) (qs : List StoredEquation)
+    → f.equations ≡ equations_from 0 qs → NodeResolved p f → length f.variables ≤ most_variables
+    → AreDeclarable p f (equations_take p f qs)
+taken_are_declarable p resolved limited f qs e h narrow =
     equations_fit p limited.constructors f narrow (own_fit p limited.constructors f narrow h.variables) (called_fit p resolved limited) 0 qs
     (subst (Each (EquationFits p f)) e h.equations)
