@@ -24,20 +24,17 @@ long v us same = ap length (with_items_is v us same) ∙ same ∙ v.ok.0
 pub answer_in_row-requires-clause-fits : goal.answer_in_row-requires-clause-fits
 answer_in_row-requires-clause-fits g c =
     let s = c.args.on.now in
-    let next = c.args.self.now.next in
-    let whole = is_whole s c.in-Some.whole c.in-Some.is c.requires.class in
+    let whole = is_whole s c.in-Some.is c.requires.class in
     let room : length s.class.now.tests.items ≤ length c.in-Ok.row.now =
     omega (arith, c.in-Ok.ensures, whole.own, whole.within) in
-    fits_whole s c.in-Some.whole c.in-Some.is c.requires.class _ _ c.args.self.now.variables.items _
-    (fits_again s next.cells.items _ next.firsts.items _ c.args.self.now.variables.items c.args.self.now.variables.items c.requires.fits
-    (ap length c.deref_mut.ensures.value) (ap length c.deref_mut-in-Some.ensures.value) refl)
-    room
+    fits_whole s c.in-Some.is c.requires.class
+    (fits_again c.requires.fits (ap length c.deref_mut.ensures.value) (ap length c.deref_mut-in-Some.ensures.value) refl) room
 
 pub answer_in_row-requires-clause-room : goal.answer_in_row-requires-clause-room
 answer_in_row-requires-clause-room g c = c.in-Ok.ensures
 
 pub answer_in_row-requires-clause-whole : goal.answer_in_row-requires-clause-whole
-answer_in_row-requires-clause-whole g c = whole_on c.args.on.now c.in-Some.whole c.in-Some.is c.requires.class
+answer_in_row-requires-clause-whole g c = whole_on c.args.on.now c.in-Some.is c.requires.class
 
 pub answer_in_row-requires-clause-inputs : goal.answer_in_row-requires-clause-inputs
 answer_in_row-requires-clause-inputs g c = c.requires.inputs
@@ -50,9 +47,8 @@ answer_by_parts-requires g c =
     let room = c.args.self.now in
     record {
       class = c.requires.class;
-      fits = fits_again c.args.on.now room.next.cells.items _ room.next.firsts.items _ room.variables.items _ c.requires.fits
-          (ap length c.deref_mut-in-None.ensures.value) (ap length c.deref_mut-in-None-2.ensures.value)
-          (ap length c.deref_mut-in-None-3.ensures.value);
+      fits = fits_again c.requires.fits (ap length c.deref_mut-in-None.ensures.value)
+          (ap length c.deref_mut-in-None-2.ensures.value) (ap length c.deref_mut-in-None-3.ensures.value);
       inputs = c.requires.inputs;
       outputs = c.requires.outputs;
       present = c.requires.present;
@@ -69,8 +65,7 @@ returns-in-Ok g c =
     let cells : length us ≡ next.cells.len = c.answer_in_row.auto.next_cells ∙ ap length c.deref_mut.ensures.value ∙ sym next.cells.ok.0 in
     let firsts : length cs ≡ next.firsts.len = c.answer_in_row.auto.next_firsts ∙ ap length c.deref_mut-in-Some.ensures.value ∙ sym next.firsts.ok.0 in
     record {
-      fits = fits_again c.args.on.now next.cells.items _ next.firsts.items _ c.args.self.now.variables.items c.args.self.now.variables.items
-          c.requires.fits (long next.cells us cells) (long next.firsts cs firsts) refl;
+      fits = fits_again c.requires.fits (long next.cells us cells) (long next.firsts cs firsts) refl;
       answers = stored g.T.Held.entry c.args.on.now _ c.args.outputs c.answer_in_row.result next.cells next.firsts us cs cells firsts c.answer_in_row.ensures;
     }
 
@@ -85,7 +80,6 @@ returns-in-None g c =
     let firsts : length cs ≡ next.firsts.len = c.answer_by_parts.auto.next_firsts ∙ ap length c.deref_mut-in-None-2.ensures.value ∙ sym next.firsts.ok.0 in
     let variables : length vs ≡ room.variables.len = c.answer_by_parts.auto.variables ∙ ap length c.deref_mut-in-None-3.ensures.value ∙ sym room.variables.ok.0 in
     record {
-      fits = fits_again c.args.on.now next.cells.items _ next.firsts.items _ room.variables.items _ c.requires.fits
-          (long next.cells us cells) (long next.firsts cs firsts) (long room.variables vs variables);
+      fits = fits_again c.requires.fits (long next.cells us cells) (long next.firsts cs firsts) (long room.variables vs variables);
       answers = stored g.T.Held.entry c.args.on.now _ c.args.outputs c.answer_by_parts.result next.cells next.firsts us cs cells firsts c.answer_by_parts.ensures;
     }
