@@ -25,13 +25,13 @@ pub answer_in_row-requires-clause-fits : goal.answer_in_row-requires-clause-fits
 answer_in_row-requires-clause-fits g c =
     let s = c.args.on.now in
     let whole = is_whole s c.in-Some.is c.requires.class in
-    let room : length s.class.now.tests.items ≤ length c.in-Ok.row.now =
-    omega (arith, c.in-Ok.ensures, whole.own, whole.within) in
+    let room : length s.class.now.tests.items ≤ length c.in_ok-row-in-Some.row.now =
+    omega (arith, c.in_ok-row-in-Some.ensures, whole.own, whole.within) in
     fits_whole s c.in-Some.is c.requires.class
     (fits_again c.requires.fits (ap length c.deref_mut.ensures.value) (ap length c.deref_mut-in-Some.ensures.value) refl) room
 
 pub answer_in_row-requires-clause-room : goal.answer_in_row-requires-clause-room
-answer_in_row-requires-clause-room g c = c.in-Ok.ensures
+answer_in_row-requires-clause-room g c = c.in_ok-row-in-Some.ensures
 
 pub answer_in_row-requires-clause-whole : goal.answer_in_row-requires-clause-whole
 answer_in_row-requires-clause-whole g c = whole_on c.args.on.now c.in-Some.is c.requires.class
@@ -54,11 +54,11 @@ answer_by_parts-requires g c =
       present = c.requires.present;
     }
 
-pub returns-in_default-clause-fits : goal.returns-in_default-clause-fits
-returns-in_default-clause-fits g c = c.requires.fits
+pub returns-in_err-row-in-Some-clause-fits : goal.returns-in_err-row-in-Some-clause-fits
+returns-in_err-row-in-Some-clause-fits g c = c.requires.fits
 
-pub returns-in-Ok : goal.returns-in-Ok
-returns-in-Ok g c =
+pub returns-in_ok-row-in-Some : goal.returns-in_ok-row-in-Some
+returns-in_ok-row-in-Some g c =
     let next = c.args.self.now.next in
     let us = c.answer_in_row.new.next_cells in
     let cs = c.answer_in_row.new.next_firsts in
