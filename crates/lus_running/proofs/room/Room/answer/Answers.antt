@@ -12,7 +12,8 @@ use Rattle.lus_running.proofs.room.Room.answer.Goals as goal
 
 -- the same where what is kept next is stored
 stored : {H : Type 0} (entry : H → Option Value) (s : Setting H) (i : Row) (count : ℕ) (u : Result Row Failure) (v : Vec H Global) (w : Vec Bool Global) (us : List H) (cs : List Bool)
-    → length us ≡ v.len → length cs ≡ w.len → AnswersTo entry s i count u (map (cell_of entry) us) cs → AnswersTo entry s i count u (map (cell_of entry) (with_items v us).items) (with_items w cs).items
+    → length us ≡ v.len → length cs ≡ w.len → AnswersTo entry s i count u (map (cell_of entry) us) cs
+    → AnswersTo entry s i count u (map (cell_of entry) (with_items v us).items) (with_items w cs).items
 stored {H} entry s i count u v w us cs cells firsts h =
     subst (λ (l : List H). AnswersTo entry s i count u (map (cell_of entry) l) (with_items w cs).items) (sym (with_items_is v us cells))
     (subst (λ (l : List Bool). AnswersTo entry s i count u (map (cell_of entry) us) l) (sym (with_items_is w cs firsts)) h)
@@ -63,10 +64,13 @@ returns-in_ok-row-in-Some g c =
     let us = c.answer_in_row.new.next_cells in
     let cs = c.answer_in_row.new.next_firsts in
     let cells : length us ≡ next.cells.len = c.answer_in_row.auto.next_cells ∙ ap length c.deref_mut.ensures.value ∙ sym next.cells.ok.0 in
-    let firsts : length cs ≡ next.firsts.len = c.answer_in_row.auto.next_firsts ∙ ap length c.deref_mut-in-Some.ensures.value ∙ sym next.firsts.ok.0 in
+    let firsts : length cs ≡ next.firsts.len =
+    c.answer_in_row.auto.next_firsts ∙ ap length c.deref_mut-in-Some.ensures.value ∙ sym next.firsts.ok.0 in
     record {
       fits = fits_again c.requires.fits (long next.cells us cells) (long next.firsts cs firsts) refl;
-      answers = stored g.T.Held.entry c.args.on.now _ c.args.outputs c.answer_in_row.result next.cells next.firsts us cs cells firsts c.answer_in_row.ensures;
+      answers =
+          stored g.T.Held.entry c.args.on.now _ c.args.outputs c.answer_in_row.result next.cells next.firsts us cs cells firsts
+          c.answer_in_row.ensures;
     }
 
 pub returns-in-None : goal.returns-in-None
@@ -76,10 +80,15 @@ returns-in-None g c =
     let us = c.answer_by_parts.new.next_cells in
     let cs = c.answer_by_parts.new.next_firsts in
     let vs = c.answer_by_parts.new.variables in
-    let cells : length us ≡ next.cells.len = c.answer_by_parts.auto.next_cells ∙ ap length c.deref_mut-in-None.ensures.value ∙ sym next.cells.ok.0 in
-    let firsts : length cs ≡ next.firsts.len = c.answer_by_parts.auto.next_firsts ∙ ap length c.deref_mut-in-None-2.ensures.value ∙ sym next.firsts.ok.0 in
-    let variables : length vs ≡ room.variables.len = c.answer_by_parts.auto.variables ∙ ap length c.deref_mut-in-None-3.ensures.value ∙ sym room.variables.ok.0 in
+    let cells : length us ≡ next.cells.len =
+    c.answer_by_parts.auto.next_cells ∙ ap length c.deref_mut-in-None.ensures.value ∙ sym next.cells.ok.0 in
+    let firsts : length cs ≡ next.firsts.len =
+    c.answer_by_parts.auto.next_firsts ∙ ap length c.deref_mut-in-None-2.ensures.value ∙ sym next.firsts.ok.0 in
+    let variables : length vs ≡ room.variables.len =
+    c.answer_by_parts.auto.variables ∙ ap length c.deref_mut-in-None-3.ensures.value ∙ sym room.variables.ok.0 in
     record {
       fits = fits_again c.requires.fits (long next.cells us cells) (long next.firsts cs firsts) (long room.variables vs variables);
-      answers = stored g.T.Held.entry c.args.on.now _ c.args.outputs c.answer_by_parts.result next.cells next.firsts us cs cells firsts c.answer_by_parts.ensures;
+      answers =
+          stored g.T.Held.entry c.args.on.now _ c.args.outputs c.answer_by_parts.result next.cells next.firsts us cs cells firsts
+          c.answer_by_parts.ensures;
     }
