@@ -11,7 +11,8 @@ use Rattle.lus_running.proofs.HavingWhole.{fits_again, fits_whole, is_whole, who
 use Rattle.lus_running.proofs.room.Room.answer.Goals as goal
 
 -- the same where what is kept next is stored
-stored : {H : Type 0} (entry : H → Option Value) (s : Setting H) (i : Row) (count : ℕ) (u : Result Row Failure) (v : Vec H Global) (w : Vec Bool Global) (us : List H) (cs : List Bool)
+stored : {H : Type 0} (entry : H → Option Value) (s : Setting H) (i : Row) (count : ℕ) (u : Result Row Failure)
+    (v : Vec H Global) (w : Vec Bool Global) (us : List H) (cs : List Bool)
     → length us ≡ v.len → length cs ≡ w.len → AnswersTo entry s i count u (map (cell_of entry) us) cs
     → AnswersTo entry s i count u (map (cell_of entry) (with_items v us).items) (with_items w cs).items
 stored {H} entry s i count u v w us cs cells firsts h =
