@@ -89,9 +89,7 @@ impl<T: Held> Room<T> {
     {
         match &on.class.whole {
             Some(whole) => {
-                let Ok(row) = room_for(&mut self.temporaries, whole.top as usize) else {
-                    return Err(Failure::Stopped(Stop::Memory));
-                };
+                let row = room_for(&mut self.temporaries, whole.top as usize)?;
                 answer_in_row(
                     on,
                     whole,

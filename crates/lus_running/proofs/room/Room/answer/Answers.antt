@@ -11,8 +11,10 @@ use Rattle.lus_running.proofs.HavingWhole.{fits_again, fits_whole, is_whole, who
 use Rattle.lus_running.proofs.room.Room.answer.Goals as goal
 
 -- the same where what is kept next is stored
-stored : {H : Type 0} (entry : H → Option Value) (s : Setting H) (i : Row) (count : ℕ) (u : Result Row Failure) (v : Vec H Global) (w : Vec Bool Global) (us : List H) (cs : List Bool)
-    → length us ≡ v.len → length cs ≡ w.len → AnswersTo entry s i count u (map (cell_of entry) us) cs → AnswersTo entry s i count u (map (cell_of entry) (with_items v us).items) (with_items w cs).items
+stored : {H : Type 0} (entry : H → Option Value) (s : Setting H) (i : Row) (count : ℕ) (u : Result Row Failure)
+    (v : Vec H Global) (w : Vec Bool Global) (us : List H) (cs : List Bool)
+    → length us ≡ v.len → length cs ≡ w.len → AnswersTo entry s i count u (map (cell_of entry) us) cs
+    → AnswersTo entry s i count u (map (cell_of entry) (with_items v us).items) (with_items w cs).items
 stored {H} entry s i count u v w us cs cells firsts h =
     subst (λ (l : List H). AnswersTo entry s i count u (map (cell_of entry) l) (with_items w cs).items) (sym (with_items_is v us cells))
     (subst (λ (l : List Bool). AnswersTo entry s i count u (map (cell_of entry) us) l) (sym (with_items_is w cs firsts)) h)
@@ -24,20 +26,17 @@ long v us same = ap length (with_items_is v us same) ∙ same ∙ v.ok.0
 pub answer_in_row-requires-clause-fits : goal.answer_in_row-requires-clause-fits
 answer_in_row-requires-clause-fits g c =
     let s = c.args.on.now in
-    let next = c.args.self.now.next in
-    let whole = is_whole s c.in-Some.whole c.in-Some.is c.requires.class in
-    let room : length s.class.now.tests.items ≤ length c.in-Ok.row.now =
-    omega (arith, c.in-Ok.ensures, whole.own, whole.within) in
-    fits_whole s c.in-Some.whole c.in-Some.is c.requires.class _ _ c.args.self.now.variables.items _
-    (fits_again s next.cells.items _ next.firsts.items _ c.args.self.now.variables.items c.args.self.now.variables.items c.requires.fits
-    (ap length c.deref_mut.ensures.value) (ap length c.deref_mut-in-Some.ensures.value) refl)
-    room
+    let whole = is_whole s c.in-Some.is c.requires.class in
+    let room : length s.class.now.tests.items ≤ length c.in_ok-row-in-Some.row.now =
+    omega (arith, c.in_ok-row-in-Some.ensures, whole.own, whole.within) in
+    fits_whole s c.in-Some.is c.requires.class
+    (fits_again c.requires.fits (ap length c.deref_mut.ensures.value) (ap length c.deref_mut-in-Some.ensures.value) refl) room
 
 pub answer_in_row-requires-clause-room : goal.answer_in_row-requires-clause-room
-answer_in_row-requires-clause-room g c = c.in-Ok.ensures
+answer_in_row-requires-clause-room g c = c.in_ok-row-in-Some.ensures
 
 pub answer_in_row-requires-clause-whole : goal.answer_in_row-requires-clause-whole
-answer_in_row-requires-clause-whole g c = whole_on c.args.on.now c.in-Some.whole c.in-Some.is c.requires.class
+answer_in_row-requires-clause-whole g c = whole_on c.args.on.now c.in-Some.is c.requires.class
 
 pub answer_in_row-requires-clause-inputs : goal.answer_in_row-requires-clause-inputs
 answer_in_row-requires-clause-inputs g c = c.requires.inputs
@@ -50,28 +49,29 @@ answer_by_parts-requires g c =
     let room = c.args.self.now in
     record {
       class = c.requires.class;
-      fits = fits_again c.args.on.now room.next.cells.items _ room.next.firsts.items _ room.variables.items _ c.requires.fits
-          (ap length c.deref_mut-in-None.ensures.value) (ap length c.deref_mut-in-None-2.ensures.value)
-          (ap length c.deref_mut-in-None-3.ensures.value);
+      fits = fits_again c.requires.fits (ap length c.deref_mut-in-None.ensures.value)
+          (ap length c.deref_mut-in-None-2.ensures.value) (ap length c.deref_mut-in-None-3.ensures.value);
       inputs = c.requires.inputs;
       outputs = c.requires.outputs;
       present = c.requires.present;
     }
 
-pub returns-in_default-clause-fits : goal.returns-in_default-clause-fits
-returns-in_default-clause-fits g c = c.requires.fits
+pub returns-in_err-row-in-Some-clause-fits : goal.returns-in_err-row-in-Some-clause-fits
+returns-in_err-row-in-Some-clause-fits g c = c.requires.fits
 
-pub returns-in-Ok : goal.returns-in-Ok
-returns-in-Ok g c =
+pub returns-in_ok-row-in-Some : goal.returns-in_ok-row-in-Some
+returns-in_ok-row-in-Some g c =
     let next = c.args.self.now.next in
     let us = c.answer_in_row.new.next_cells in
     let cs = c.answer_in_row.new.next_firsts in
     let cells : length us ≡ next.cells.len = c.answer_in_row.auto.next_cells ∙ ap length c.deref_mut.ensures.value ∙ sym next.cells.ok.0 in
-    let firsts : length cs ≡ next.firsts.len = c.answer_in_row.auto.next_firsts ∙ ap length c.deref_mut-in-Some.ensures.value ∙ sym next.firsts.ok.0 in
+    let firsts : length cs ≡ next.firsts.len =
+    c.answer_in_row.auto.next_firsts ∙ ap length c.deref_mut-in-Some.ensures.value ∙ sym next.firsts.ok.0 in
     record {
-      fits = fits_again c.args.on.now next.cells.items _ next.firsts.items _ c.args.self.now.variables.items c.args.self.now.variables.items
-          c.requires.fits (long next.cells us cells) (long next.firsts cs firsts) refl;
-      answers = stored g.T.Held.entry c.args.on.now _ c.args.outputs c.answer_in_row.result next.cells next.firsts us cs cells firsts c.answer_in_row.ensures;
+      fits = fits_again c.requires.fits (long next.cells us cells) (long next.firsts cs firsts) refl;
+      answers =
+          stored g.T.Held.entry c.args.on.now _ c.args.outputs c.answer_in_row.result next.cells next.firsts us cs cells firsts
+          c.answer_in_row.ensures;
     }
 
 pub returns-in-None : goal.returns-in-None
@@ -81,11 +81,15 @@ returns-in-None g c =
     let us = c.answer_by_parts.new.next_cells in
     let cs = c.answer_by_parts.new.next_firsts in
     let vs = c.answer_by_parts.new.variables in
-    let cells : length us ≡ next.cells.len = c.answer_by_parts.auto.next_cells ∙ ap length c.deref_mut-in-None.ensures.value ∙ sym next.cells.ok.0 in
-    let firsts : length cs ≡ next.firsts.len = c.answer_by_parts.auto.next_firsts ∙ ap length c.deref_mut-in-None-2.ensures.value ∙ sym next.firsts.ok.0 in
-    let variables : length vs ≡ room.variables.len = c.answer_by_parts.auto.variables ∙ ap length c.deref_mut-in-None-3.ensures.value ∙ sym room.variables.ok.0 in
+    let cells : length us ≡ next.cells.len =
+    c.answer_by_parts.auto.next_cells ∙ ap length c.deref_mut-in-None.ensures.value ∙ sym next.cells.ok.0 in
+    let firsts : length cs ≡ next.firsts.len =
+    c.answer_by_parts.auto.next_firsts ∙ ap length c.deref_mut-in-None-2.ensures.value ∙ sym next.firsts.ok.0 in
+    let variables : length vs ≡ room.variables.len =
+    c.answer_by_parts.auto.variables ∙ ap length c.deref_mut-in-None-3.ensures.value ∙ sym room.variables.ok.0 in
     record {
-      fits = fits_again c.args.on.now next.cells.items _ next.firsts.items _ room.variables.items _ c.requires.fits
-          (long next.cells us cells) (long next.firsts cs firsts) (long room.variables vs variables);
-      answers = stored g.T.Held.entry c.args.on.now _ c.args.outputs c.answer_by_parts.result next.cells next.firsts us cs cells firsts c.answer_by_parts.ensures;
+      fits = fits_again c.requires.fits (long next.cells us cells) (long next.firsts cs firsts) (long room.variables vs variables);
+      answers =
+          stored g.T.Held.entry c.args.on.now _ c.args.outputs c.answer_by_parts.result next.cells next.firsts us cs cells firsts
+          c.answer_by_parts.ensures;
     }
