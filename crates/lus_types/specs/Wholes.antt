@@ -15,11 +15,14 @@ use Rattle.lus_typing.specs.Kinds.{where_true}
 use Rattle.lus_typing.specs.Resolved.{kind_of_variable, results, EquationFits}
 use Rattle.lus_source.specs.Scopes.{Scope, entry}
 use Rattle.lus_source.specs.Heads.{heads, head, kind_by, kinds_by}
+use Rattle.lus_source.specs.Labels.{branch_place, branch_places, field_asked, fields_asked}
 use Rattle.lus_source.specs.Meaning.{are_arguments, meant, targets_meant}
 use Rattle.lus_source.specs.declared.fault.Fault.{Fault}
 use Rattle.lus_source.specs.ScopeView.{Faulty}
 use Rattle.lus_types.specs.declared.elaboration.forms.Elaborated.{Elaborated}
 use Rattle.lus_types.specs.declared.elaboration.operands.Operands.{Operands as StoredOperands}
+use Rattle.lus_types.specs.declared.elaboration.parts.Members.{Members}
+use Rattle.lus_types.specs.declared.elaboration.parts.Members.TheVariants as members
 
 -- the parts of a form, in the order of the text
 abbrev pub parts_seen : List Part → Parts
@@ -53,6 +56,16 @@ module _ (s : Scope) where
   -- what a form of operands means, whatever they mean, or a fault at a place where it has no type
   abbrev pub ElaboratesOver : StoredOperands → Result Elaborated Fault → (Operands → Expression) → Type 0
   ElaboratesOver operands result form = (es : Operands) → AllMean operands es → IsElaborated result (form es)
+
+  -- the place of the constructor or the field that a part names
+  abbrev pub member_place : Members → Kind → tree.Lead → Option ℕ
+  member_place members.Constructors k l = branch_place s k l
+  member_place members.Fields k l = option_map (λ x. x.place) (field_asked s k l)
+
+  -- the places of those that all parts name
+  abbrev pub member_places : Members → Kind → Parts → Option (List ℕ)
+  member_places members.Constructors k ps = branch_places s k ps
+  member_places members.Fields k ps = option_map (map (λ x. x.place)) (fields_asked s k ps)
 
   -- the node that is called, with arguments alone
   abbrev pub callee : Text → Parts → Option ℕ

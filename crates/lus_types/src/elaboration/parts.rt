@@ -1,11 +1,10 @@
 //! Forms with parts: calls, structures and merges, their parts being elaborated already.
 
-ghost use Rattle.std.specs.Prelude.{◌≡◌, IfOk, length, map, option_map};
+ghost use Rattle.std.specs.Prelude.{◌≡◌, IfOk, length, option_map};
 ghost use Rattle.lus_syntax.specs.View.{name_seen, lead_seen};
-ghost use Rattle.lus_source.specs.Labels.{branch_place as place_of_branch, branch_places as places_of_branches, field_asked as asked_field, fields_asked as asked_fields};
 ghost use Rattle.lus_source.specs.Meaning.{are_arguments as arguments_alone, call_meant, list_operation as operation_of_list, merge_meant, structure_meant, variadic_meant};
 ghost use Rattle.lus_source.specs.ScopeView.{scope_of};
-ghost use Rattle.lus_types.specs.Wholes.{ElaboratesOver, Finds, called as called_node, parts_seen};
+ghost use Rattle.lus_types.specs.Wholes.{ElaboratesOver, Finds, called as called_node, member_place as place_of_member, member_places as places_of_members, parts_seen};
 
 use crate::elaboration::arrangement::arranged;
 use crate::elaboration::forms::{Elaborated, boxed, label_place, place_of};
@@ -13,7 +12,7 @@ use crate::elaboration::kinds::{merged, results};
 use crate::elaboration::operands::Operands;
 use crate::elaboration::operators::operated;
 use lus_program::{Form, Kind};
-use lus_source::{Fault, Placed, Scope, field as field_named};
+use lus_source::{Fault, Scope, field};
 use lus_syntax::{Label, Lead, ListOperator, Name, Part, Place};
 use lus_values::{Op, Operator};
 use std::alloc::Global;
@@ -100,29 +99,41 @@ pub fn variadic(
     operated(alloc, scope, place, operator, &kinds, exprs)
 }
 
-fn branch_place(scope: &Scope, kind: Kind, lead: &Lead) -> Option<u32>
-    ensures { result ≡ place_of_branch (scope_of scope.now) kind (lead_seen lead.now) }
+/// What a type declares, and parts name: the branches of a merge its constructors, the values of a structure its fields.
+#[derive(Clone, Copy)]
+enum Members {
+    Constructors,
+    Fields,
+}
+
+/// The place of what a part names.
+fn member_place(scope: &Scope, members: Members, kind: Kind, lead: &Lead) -> Option<u32>
+    ensures { result ≡ place_of_member (scope_of scope.now) members kind (lead_seen lead.now) }
 {
-    match lead {
-        Lead::Branch(_, label) => label_place(scope, kind, label),
+    match (members, lead) {
+        (Members::Constructors, Lead::Branch(_, label)) => label_place(scope, kind, label),
+        (Members::Fields, Lead::Field(name)) => {
+            Some(field(scope.fields_of(kind), &name.text)?.place)
+        }
         _ => None,
     }
 }
 
-/// The constructors before the arrows of a merge over a variable of this type.
-fn branch_places(
+/// The places of what parts name.
+fn member_places(
     alloc: Global,
     scope: &Scope,
+    members: Members,
     kind: Kind,
-    branches: &[Part],
+    parts: &[Part],
 ) -> Result<Vec<u32>, Fault>
-    ensures places { Finds result (λ cs. cs.items) (places_of_branches (scope_of scope.now) kind (parts_seen branches.now)) }
-    ensures alike { IfOk result (λ cs. length cs.items ≡ length branches.now) }
+    ensures places { Finds result (λ ps. ps.items) (places_of_members (scope_of scope.now) members kind (parts_seen parts.now)) }
+    ensures alike { IfOk result (λ ps. length ps.items ≡ length parts.now) }
 {
     let mut places = Vec::new(alloc);
-    for branch in branches {
-        let Some(place) = branch_place(scope, kind, &branch.lead) else {
-            return Err(Fault::At(part_place(branch)));
+    for part in parts {
+        let Some(place) = member_place(scope, members, kind, &part.lead) else {
+            return Err(Fault::At(part_place(part)));
         };
         places.push(place)?;
     }
@@ -146,7 +157,7 @@ pub fn merge(
     let Some(clock) = scope.variable(&variable.text) else {
         return Err(Fault::At(variable.span.start));
     };
-    let places = branch_places(alloc, scope, clock.kind, branches)?;
+    let places = member_places(alloc, scope, Members::Constructors, clock.kind, branches)?;
     let size = scope.size_of(clock.kind);
     let Some(operands) = arranged(size, places, operands) else {
         return Err(Fault::At(place));
@@ -157,36 +168,6 @@ pub fn merge(
     };
     let expr = boxed(alloc, place, Form::Merge(clock.place, exprs))?;
     Ok(Elaborated { expr, kind })
-}
-
-fn field_asked(scope: &Scope, kind: Kind, lead: &Lead) -> Option<Placed>
-    ensures { result ≡ asked_field (scope_of scope.now) kind (lead_seen lead.now) }
-{
-    match lead {
-        Lead::Field(name) => field_named(scope.fields_of(kind), &name.text),
-        _ => None,
-    }
-}
-
-/// The places of the fields of a structure of this type, as its parts name them.
-fn field_places(
-    alloc: Global,
-    scope: &Scope,
-    kind: Kind,
-    fields: &[Part],
-) -> Result<Vec<u32>, Fault>
-    ensures places { Finds result (λ ps. ps.items)
-        (option_map (map (λ x. x.place)) (asked_fields (scope_of scope.now) kind (parts_seen fields.now))) }
-    ensures alike { IfOk result (λ ps. length ps.items ≡ length fields.now) }
-{
-    let mut places = Vec::new(alloc);
-    for part in fields {
-        let Some(found) = field_asked(scope, kind, &part.lead) else {
-            return Err(Fault::At(part_place(part)));
-        };
-        places.push(found.place)?;
-    }
-    Ok(places)
 }
 
 /// A structure's value: its type is a structure, and each field stands exactly once, with a value of its type.
@@ -203,26 +184,18 @@ pub fn structure(
         ElaboratesOver s operands result (structure_meant s (name_seen name.now).text (parts_seen fields.now)) }
 {
     let place = name.span.start;
-    let Some(kind) = scope.kind(&name.text) else {
+    let Some(Kind::Struct(declaration)) = scope.kind(&name.text) else {
         return Err(Fault::At(place));
     };
-    let Kind::Struct(declaration) = kind else {
-        return Err(Fault::At(place));
-    };
-    let places = field_places(alloc, scope, kind, fields)?;
+    let kind = Kind::Struct(declaration);
+    let places = member_places(alloc, scope, Members::Fields, kind, fields)?;
     let size = scope.fields_of(kind).len();
     let Some(operands) = arranged(size, places, operands) else {
         return Err(Fault::At(place));
     };
     let (exprs, kinds) = operands.into_parts();
-    operated(
-        alloc,
-        scope,
-        place,
-        Operator::Structure(declaration),
-        &kinds,
-        exprs,
-    )
+    let operator = Operator::Structure(declaration);
+    operated(alloc, scope, place, operator, &kinds, exprs)
 }
 
 /// The place of a part: its field, its label, or its value.

@@ -1,14 +1,13 @@
-use Rattle.std.proofs.Common.{◌≡◌, ◌∙◌, ◌≤◌, add-one, ap, arith, length, map, Some}
+use Rattle.std.proofs.Common.{◌≡◌, ◌∙◌, ◌≤◌, add-one, ap, arith, length, map}
 use Rattle.std.proofs.lemmas.Grind.{common_steps}
-use Rattle.std.proofs.lemmas.List.{append-nil, take_all}
-use Rattle.std.proofs.Math.ListN.{drop_of_length-le}
+use Rattle.std.proofs.lemmas.List.{take_all}
 use Rattle.lus_syntax.specs.Trees.{parts_of}
 use Rattle.lus_syntax.specs.View.{expression_seen, part_seen, name_seen}
 use Rattle.lus_syntax.proofs.TreeViews.{seen_call, seen_structure, seen_merge, seen_variadic}
 use Rattle.lus_source.proofs.Faults.{passed_on}
 use Rattle.lus_source.specs.Meaning.{all_meant, meant}
 use Rattle.lus_source.specs.ScopeView.{scope_of}
-use Rattle.lus_types.proofs.Meant.{all_meant_is, call_untyped, structure_untyped, merge_untyped, typed_here, untyped_here, variadic_untyped}
+use Rattle.lus_types.proofs.Meant.{all_meant_is, call_untyped, structure_untyped, merge_untyped, all_found, kinds_one_by_one, none_found, one_found, variadic_untyped}
 use Rattle.lus_types.proofs.elaboration.expressions.+elaborate.Goals as goal
 
 pub elaborate-returns-in_err-operands-in-Call : goal.elaborate-returns-in_err-operands-in-Call
@@ -92,18 +91,17 @@ pub elaborate_all-returns-clause-elaborated : goal.elaborate_all-returns-clause-
 elaborate_all-returns-clause-elaborated t c =
     let s = scope_of c.args.scope.now in
     let parts = c.args.parts.now in
+    let n = c.loop-part.part-index in
     let old = c.loop-part.invariant in
-    let past : length parts ≤ c.loop-part.part-index = omega arith in
-    let same = old.meant ∙ ap (map (λ p. meant s (expression_seen p.value))) (take_all c.loop-part.part-index parts past) in
-    let typed = rw (drop_of_length-le parts past) at old.typed in
-    (typed ∙ ap Some (append-nil c.loop-part.operands.kinds.items), all_meant_is s parts c.loop-part.operands.exprs.items same)
+    let past : length parts ≤ n = omega arith in
+    let same = old.meant ∙ ap (map (λ p. meant s (expression_seen p.value))) (take_all n parts past) in
+    (all_found _ _ (kinds_one_by_one s) parts n c.loop-part.operands.kinds.items _ old.typed past, all_meant_is s parts c.loop-part.operands.exprs.items same)
 
 pub elaborate_all-loop-part-preserved : goal.elaborate_all-loop-part-preserved
 elaborate_all-loop-part-preserved t c =
-    let s = scope_of c.args.scope.now in
     let n = c.loop-part.part-index in
-    let old = c.loop-part.invariant in
-    let typed = typed_here s c.args.parts.now n c.part-item.result c.part-item.is c.loop-part-test.true c.loop-part.operands.kinds.items _ old.typed c.in_ok-operand.operand.kind c.in_ok-operand.ensures.0 in
+    let each = kinds_one_by_one (scope_of c.args.scope.now) in
+    let typed = one_found _ _ each c.args.parts.now n c.loop-part.operands.kinds.items _ c.loop-part.invariant.typed c.part-item.result c.part-item.is c.loop-part-test.true c.in_ok-operand.operand.kind c.in_ok-operand.ensures.0 in
     record {
       typed = rw (c.in_ok-push.ensures.kinds, add-one n) typed;
       meant = grind (arith, common_steps);
@@ -113,6 +111,6 @@ elaborate_all-loop-part-preserved t c =
 
 pub elaborate_all-returns-in_err-operand-clause-elaborated : goal.elaborate_all-returns-in_err-operand-clause-elaborated
 elaborate_all-returns-in_err-operand-clause-elaborated t c =
-    let s = scope_of c.args.scope.now in
-    let untyped = untyped_here s c.args.parts.now c.loop-part.part-index c.part-item.result c.part-item.is c.loop-part-test.true c.loop-part.operands.kinds.items _ c.loop-part.invariant.typed in
+    let each = kinds_one_by_one (scope_of c.args.scope.now) in
+    let untyped = none_found _ _ each c.args.parts.now c.loop-part.part-index c.loop-part.operands.kinds.items _ c.loop-part.invariant.typed c.part-item.result c.part-item.is c.loop-part-test.true in
     passed_on _ untyped c.from_residual-in_err-operand.result c.in_err-operand.field-0.0 c.from_residual-in_err-operand.ensures.1 c.in_err-operand.ensures
