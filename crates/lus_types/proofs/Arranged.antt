@@ -1,5 +1,5 @@
 -- Operands with a place and a type beside each, moved until each is at its place.
-use Rattle.std.proofs.Common.{◌≡◌, ◌∙◌, ◌⊎◌, inl, inr, sym, ap, ap₂, subst, refl, ℕ, zero, suc, ◌+◌, ◌<◌, ◌≤◌, List, [], ◌∷◌, length, cond, Some, true, false, Bool, nat_eq, arith}
+use Rattle.std.proofs.Common.{◌≡◌, ◌∙◌, inl, inr, sym, ap, ap₂, subst, refl, ℕ, zero, suc, ◌+◌, ◌<◌, ◌≤◌, List, [], ◌∷◌, length, cond, Some, true, false, Bool, nat_eq, arith}
 use Rattle.std.specs.Prelude.{slice_index, sum_by, option_map, ◌≢◌}
 use Rattle.std.specs.List.{All, swap, zip}
 use Rattle.std.specs.List.Sorted.{IsPermutation}

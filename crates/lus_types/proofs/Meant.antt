@@ -21,7 +21,7 @@ use Rattle.lus_values.specs.declared.operator.Operator.TheVariants as operators
 use Rattle.lus_values.specs.Values.{nil}
 use Rattle.lus_program.specs.Programs.{Expression, Node, Operands, more, literal, operate, call, merge, when}
 use Rattle.lus_program.specs.View.{expression_of, field_of, operands_of}
-use Rattle.lus_typing.specs.Kinds.{all_same, where_true}
+use Rattle.lus_typing.specs.Kinds.{all_same, the_one, where_true}
 use Rattle.lus_typing.proofs.Options.{and_then_gives, map_gives}
 use Rattle.lus_typing.specs.Resolved.{kinds_given_in, results, field_kinds, kind_of_variable, test_fits, call_results, input_kinds, output_kinds}
 use Rattle.lus_source.specs.declared.entries.Placed.{Placed}
@@ -31,8 +31,8 @@ use Rattle.lus_source.specs.Labels.{branch_places, each_once, field_asked, field
 use Rattle.lus_source.specs.Meaning.{arranged, in_order, are_arguments, list_operation, call_meant, merge_meant, structure_meant, variadic_meant, where_found, test_meant, meant, all_meant}
 use Rattle.lus_types.specs.declared.elaboration.parts.Members.{Members}
 use Rattle.lus_types.specs.declared.elaboration.parts.Members.TheVariants as members
-use Rattle.lus_types.specs.Wholes.{called, callee, Fits, member_place, member_places, parts_seen}
-use Rattle.lus_types.proofs.FormsMeant.{where_holds, call_holds, merge_holds, structure_holds}
+use Rattle.lus_types.specs.Wholes.{called, callee, Fits, Take, given_by, member_place, member_places, parts_seen}
+use Rattle.lus_types.proofs.FormsMeant.{where_holds, merge_holds, structure_holds}
 use Rattle.lus_types.proofs.TypedForms.{ordered_untyped}
 
 pub all_meant_is : (s : Scope) (ps : List Part) (es : List Expr) → map expression_of es ≡ map (λ p. meant s (expression_seen p.value)) ps → operands_of es ≡ all_meant s (parts_of (map part_seen ps))
@@ -156,9 +156,6 @@ module _ (s : Scope) where
   abbrev Untyped : Expression → Type 0
   Untyped e = kind_by s e ≡ None
 
-  pub call_untyped : (f : Text) (ps : Parts) (es : Operands) → kinds_by s es ≡ None → Untyped (call_meant s f ps es)
-  call_untyped f ps es e = call_holds s Untyped refl f ps es (λ g is. rw e refl)
-
   pub variadic_untyped : (op : ListOperator) (ps : Parts) (es : Operands) → kinds_by s es ≡ None → Untyped (variadic_meant op ps es)
   variadic_untyped op ps es e = where_holds s Untyped refl (are_arguments ps) (operate (operators.Compute (list_operation op)) es) (rw e refl)
 
@@ -171,6 +168,13 @@ module _ (s : Scope) where
 fields_arranged : (n : ℕ) (es : Operands) (r : Option (List Placed)) → option_and_then (λ xs. arranged n es (map (λ x. x.place) xs)) r ≡ option_and_then (arranged n es) (option_map (map (λ x. x.place)) r)
 fields_arranged n es None = refl
 fields_arranged n es (Some xs) = refl
+
+-- what gives the types of a left side fits it, and what gives nothing fits none
+pub fits_given : (s : Scope) (xs : List ℕ) (e : Expression) (ks : List Kind) → given_by s e ≡ Some ks → Take s xs ks → Fits s xs e
+fits_given s xs e ks gives takes = rw gives (ap Some takes)
+
+pub misfits : (s : Scope) (xs : List ℕ) (e : Expression) → given_by s e ≡ None → Fits s xs e → ⊥
+misfits s xs e none fits = let lost = rw none at fits in cc
 
 -- calls
 
@@ -185,8 +189,21 @@ module _ (s : Scope) (f : Text) (ps : Parts) (es : Operands) where
   none_given None e = refl
   none_given (Some n) e = rw e refl
 
-  pub call_misfits : (xs : List ℕ) → kinds_by s es ≡ None → Fits s xs (call_meant s f ps es) → ⊥
-  call_misfits xs e fits = let lost = rw (given_or (entry s.nodes f) (are_arguments ps) ∙ none_given (callee s f ps) e) at fits in cc
+  pub call_gives_none : kinds_by s es ≡ None → given_by s (call_meant s f ps es) ≡ None
+  call_gives_none e = given_or (entry s.nodes f) (are_arguments ps) ∙ none_given (callee s f ps) e
+
+  -- the type of a call is the one that it gives
+  one_of : (g : ℕ) (r : Option (List Kind)) → option_and_then (λ ks. option_and_then the_one (results (heads s) g ks)) r ≡ option_and_then the_one (option_and_then (results (heads s) g) r)
+  one_of g None = refl
+  one_of g (Some ks) = refl
+
+  kind_or : (o : Option Signature) (b : Bool) → kind_by s (where_found o (λ g. cond b (call g.place 0 es) (literal nil))) ≡ option_and_then the_one (given_by s (where_found o (λ g. cond b (call g.place 0 es) (literal nil))))
+  kind_or None b = refl
+  kind_or (Some g) true = one_of g.place (kinds_by s es)
+  kind_or (Some g) false = refl
+
+  pub call_kind : kind_by s (call_meant s f ps es) ≡ option_and_then the_one (given_by s (call_meant s f ps es))
+  call_kind = kind_or (entry s.nodes f) (are_arguments ps)
 
   call_or : (o : Option Signature) (b : Bool) (n : ℕ) → option_and_then (λ g. where_true b (Some g.place)) o ≡ Some n → where_found o (λ g. cond b (call g.place 0 es) (literal nil)) ≡ call n 0 es
   call_or None b n e = cc

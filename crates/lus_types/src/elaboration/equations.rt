@@ -3,22 +3,19 @@
 ghost use Rattle.std.specs.Prelude.{◌≡◌, IfOk, Some, MatchResult, map};
 ghost use Rattle.std.specs.Bool.{Decides};
 ghost use Rattle.lus_syntax.specs.View.{expression_seen, equation_seen, name_seen, names_seen};
-ghost use Rattle.lus_program.specs.Programs.{Operands as Meanings};
 ghost use Rattle.lus_program.specs.View.{expression_of};
 ghost use Rattle.lus_typing.specs.Resolved.{kind_of_variable};
 ghost use Rattle.lus_source.specs.Heads.{head, heads};
-ghost use Rattle.lus_source.specs.Meaning.{call_meant, meant, targets_meant, variable_place};
+ghost use Rattle.lus_source.specs.Meaning.{meant, targets_meant, variable_place};
 ghost use Rattle.lus_source.specs.ScopeView.{Judged, scope_of};
-ghost use Rattle.lus_types.specs.Wholes.{AllMean, EquationTyped, GivesTo, Take, parts_seen};
+ghost use Rattle.lus_types.specs.Wholes.{EquationTyped, GivesTo, Take};
 
-use crate::elaboration::expressions::{elaborate, elaborate_all};
-use crate::elaboration::forms::{boxed, place_of};
+use crate::elaboration::expressions::{elaborate, whole_call};
+use crate::elaboration::forms::place_of;
 use crate::elaboration::kinds::same;
-use crate::elaboration::operands::Operands;
-use crate::elaboration::parts::called;
-use lus_program::{Equation, Expr, Form, Kind};
+use lus_program::{Equation, Expr, Kind};
 use lus_source::{Fault, Scope};
-use lus_syntax::{Equation as SourceEquation, Expr as Source, Name, Part, Place};
+use lus_syntax::{Equation as SourceEquation, Expr as Source, Name, Place};
 use std::alloc::{AllocError, Global};
 
 /// Whether a variable takes values of this type.
@@ -63,8 +60,12 @@ pub fn right_side(
             Ok(inner)
         }
         Source::Call(name, arguments) => {
-            let operands = elaborate_all(alloc, scope, arguments)?;
-            whole_call(alloc, scope, place, targets, name, arguments, operands)
+            let (expr, outputs) = whole_call(alloc, scope, name, arguments)?;
+            if take(scope, targets, outputs) {
+                Ok(expr)
+            } else {
+                Err(Fault::At(place))
+            }
         }
         Source::Number(_, _)
         | Source::Truth(_, _)
@@ -84,31 +85,6 @@ pub fn right_side(
                 Err(Fault::At(place))
             }
         }
-    }
-}
-
-/// A call with any number of outputs.
-fn whole_call(
-    alloc: Global,
-    scope: &Scope,
-    place: Place,
-    targets: &[u32],
-    name: &Name,
-    arguments: &[Part],
-    operands: Operands,
-) -> Result<Box<Expr>, Fault>
-    ensures { let s = scope_of scope.now in
-        (es : Meanings) → AllMean s operands es
-        → GivesTo s result targets.now (call_meant s (name_seen name.now).text (parts_seen arguments.now) es) }
-{
-    let (exprs, kinds) = operands.into_parts();
-    let Some((node, outputs)) = called(scope, name, arguments, &kinds) else {
-        return Err(Fault::At(name.span.start));
-    };
-    if take(scope, targets, outputs) {
-        Ok(boxed(alloc, name.span.start, Form::Call(node, exprs))?)
-    } else {
-        Err(Fault::At(place))
     }
 }
 
