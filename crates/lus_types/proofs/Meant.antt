@@ -12,16 +12,15 @@ use Rattle.lus_syntax.specs.View.{expression_seen, lead_seen, part_seen}
 use Rattle.lus_syntax.specs.Trees as tree
 use Rattle.lus_syntax.specs.Trees.{Parts, parts_of}
 use Rattle.lus_program.specs.declared.expr.Expr.{Expr}
-use Rattle.lus_program.specs.declared.expr.Test.{Test}
 use Rattle.lus_program.specs.declared.types.Field.{Field as StoredField}
 use Rattle.lus_program.specs.declared.types.Kind.{Kind}
 use Rattle.lus_program.specs.declared.types.Kind.TheVariants as kinds
 use Rattle.lus_syntax.specs.declared.tree.ListOperator.{ListOperator}
 use Rattle.lus_values.specs.declared.operator.Operator.TheVariants as operators
 use Rattle.lus_values.specs.Values.{nil}
-use Rattle.lus_program.specs.Programs.{Expression, Node, Operands, more, literal, operate, call, merge, when}
+use Rattle.lus_program.specs.Programs.{Expression, Node, Operands, more, literal, operate, call, merge}
 use Rattle.lus_program.specs.View.{expression_of, field_of, operands_of}
-use Rattle.lus_typing.specs.Kinds.{all_same, the_one, where_true}
+use Rattle.lus_typing.specs.Kinds.{all_same, where_true}
 use Rattle.lus_typing.proofs.Options.{and_then_gives, map_gives}
 use Rattle.lus_typing.specs.Resolved.{kinds_given_in, results, field_kinds, kind_of_variable, test_fits, call_results, input_kinds, output_kinds}
 use Rattle.lus_source.specs.declared.entries.Placed.{Placed}
@@ -142,14 +141,6 @@ nowhere s = ap (option_map (λ v. v.kind)) (slice_get_past (map (λ e. of_kind e
 pub unplaced_fails : (s : Scope) (t : tree.Test) → test_placed s t ≡ None → test_fits (heads s) (head s) (test_meant s t) ≡ false
 unplaced_fails s t e = rw e (rw (nowhere s, test_fits) refl)
 
-pub sampled_kind : (s : Scope) (t : tree.Test) (a : Expression) (k : Kind) → kind_by s a ≡ Some k
-    → kind_by s (where_found (test_placed s t) (λ u. when u a)) ≡ where_true (test_fits (heads s) (head s) (test_meant s t)) (Some k)
-sampled_kind s t a k typed = placed (test_placed s t) refl
-  where
-    placed : (r : Option Test) → test_placed s t ≡ r → kind_by s (where_found r (λ u. when u a)) ≡ where_true (test_fits (heads s) (head s) (test_meant s t)) (Some k)
-    placed None e = rw (unplaced_fails s t e) refl
-    placed (Some u) e = rw (e, typed) refl
-
 -- forms with parts that have no type
 
 module _ (s : Scope) where
@@ -191,19 +182,6 @@ module _ (s : Scope) (f : Text) (ps : Parts) (es : Operands) where
 
   pub call_gives_none : kinds_by s es ≡ None → given_by s (call_meant s f ps es) ≡ None
   call_gives_none e = given_or (entry s.nodes f) (are_arguments ps) ∙ none_given (callee s f ps) e
-
-  -- the type of a call is the one that it gives
-  one_of : (g : ℕ) (r : Option (List Kind)) → option_and_then (λ ks. option_and_then the_one (results (heads s) g ks)) r ≡ option_and_then the_one (option_and_then (results (heads s) g) r)
-  one_of g None = refl
-  one_of g (Some ks) = refl
-
-  kind_or : (o : Option Signature) (b : Bool) → kind_by s (where_found o (λ g. cond b (call g.place 0 es) (literal nil))) ≡ option_and_then the_one (given_by s (where_found o (λ g. cond b (call g.place 0 es) (literal nil))))
-  kind_or None b = refl
-  kind_or (Some g) true = one_of g.place (kinds_by s es)
-  kind_or (Some g) false = refl
-
-  pub call_kind : kind_by s (call_meant s f ps es) ≡ option_and_then the_one (given_by s (call_meant s f ps es))
-  call_kind = kind_or (entry s.nodes f) (are_arguments ps)
 
   call_or : (o : Option Signature) (b : Bool) (n : ℕ) → option_and_then (λ g. where_true b (Some g.place)) o ≡ Some n → where_found o (λ g. cond b (call g.place 0 es) (literal nil)) ≡ call n 0 es
   call_or None b n e = cc

@@ -97,24 +97,21 @@ fn target(scope: &Scope, name: &Name) -> u32
     }
 }
 
-/// The variables on a left side.
-fn targets(alloc: Global, scope: &Scope, names: &[Name]) -> Result<Vec<u32>, AllocError>
-    ensures { IfOk result (λ ts. ts.items ≡ targets_meant (scope_of scope.now) (names_seen names.now)) }
+/// The variables on a left side, and where they stand.
+fn targets(
+    alloc: Global,
+    scope: &Scope,
+    names: &[Name],
+) -> Result<(Vec<u32>, Vec<Place>), AllocError>
+    ensures { IfOk result (λ ts. ts.0.items ≡ targets_meant (scope_of scope.now) (names_seen names.now)) }
 {
     let mut targets = Vec::with_capacity(alloc, names.len())?;
-    for name in names {
-        targets.push(target(scope, name))?;
-    }
-    Ok(targets)
-}
-
-/// Where names stand.
-fn places(alloc: Global, names: &[Name]) -> Result<Vec<Place>, AllocError> {
     let mut places = Vec::with_capacity(alloc, names.len())?;
     for name in names {
+        targets.push(target(scope, name))?;
         places.push(name.span.start)?;
     }
-    Ok(places)
+    Ok((targets, places))
 }
 
 /// An equation of the program: the right side gives what the left side has.
@@ -123,8 +120,7 @@ pub fn equation(alloc: Global, scope: &Scope, source: &SourceEquation) -> Result
     ensures targets { IfOk result (λ q. q.targets.items ≡ targets_meant (scope_of scope.now) (names_seen source.now.left.items)) }
     ensures meant { IfOk result (λ q. expression_of q.right ≡ meant (scope_of scope.now) (expression_seen source.now.right)) }
 {
-    let targets = targets(alloc, scope, &source.left)?;
-    let places = places(alloc, &source.left)?;
+    let (targets, places) = targets(alloc, scope, &source.left)?;
     let place = place_of(&source.right);
     let right = right_side(alloc, scope, place, &targets, &source.right)?;
     Ok(Equation {

@@ -218,7 +218,7 @@ fn structure(
 
 /// The values of parts one by one, and their types.
 #[cycle(elaborate)]
-pub fn elaborate_all(alloc: Global, scope: &Scope, parts: &[Part]) -> Result<Operands, Fault>
+fn elaborate_all(alloc: Global, scope: &Scope, parts: &[Part]) -> Result<Operands, Fault>
     ensures elaborated { let s = scope_of scope.now in
         let means = all_meant s (parts_seen parts.now) in
         MatchResult result (λ x. AllMean s x means) (Faulty (kinds_by s means ≡ None)) }
