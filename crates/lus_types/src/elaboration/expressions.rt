@@ -110,7 +110,8 @@ pub fn whole_call<'a>(
     ensures { let s = scope_of scope.now in
         let parts = parts_seen arguments.now in
         let means = call_meant s (name_seen name.now).text parts (all_meant s parts) in
-        MatchResult result (λ x. (given_by s means ≡ Some x.1.now) × (expression_of x.0.value ≡ means)) (Faulty (given_by s means ≡ None)) }
+        MatchResult result (λ x. (given_by s means ≡ Some x.1.now) × (expression_of x.0.value ≡ means))
+        (Faulty (given_by s means ≡ None)) }
 {
     let operands = elaborate_all(alloc, scope, arguments)?;
     let (exprs, kinds) = operands.into_parts();
