@@ -1,15 +1,17 @@
 -- Operands with a place and a type beside each, moved until each is at its place.
-use Rattle.std.proofs.Common.{◌≡◌, ◌∙◌, ◌⊎◌, inl, inr, sym, ap, ap₂, subst, refl, ℕ, zero, suc, ◌+◌, ◌<◌, ◌≤◌, List, [], ◌∷◌, length, cond, Some, true, false, Bool, nat_eq, arith}
+use Rattle.std.proofs.Common.{◌≡◌, ◌∙◌, inl, inr, sym, ap, ap₂, subst, refl, ℕ, zero, suc, ◌+◌, ◌<◌, ◌≤◌, List, [], ◌∷◌, length, cond, Some, true, false, Bool, nat_eq, arith}
 use Rattle.std.specs.Prelude.{slice_index, sum_by, option_map, ◌≢◌}
 use Rattle.std.specs.List.{All, swap, zip}
 use Rattle.std.specs.List.Sorted.{IsPermutation}
 use Rattle.std.proofs.Math.ListN.{set, get_or}
 use Rattle.std.proofs.Math.Bool.{and-false}
-use Rattle.std.proofs.lemmas.Bool.{eq-eqb}
+use Rattle.std.proofs.Math.Nat.{eq-or-lt_of_le}
+use Rattle.std.proofs.lemmas.Bool.{cases_lt, eq-eqb}
 use Rattle.std.proofs.lemmas.Bool.Decides.{nat_tests}
 use Rattle.std.proofs.lemmas.List.Elements.{All-cons, All-tail}
 use Rattle.std.proofs.lemmas.List.Sums.{sum_by-cons}
 use Rattle.std.proofs.lemmas.List.Edits.{length-swap}
+use Rattle.std.proofs.lemmas.Slice.Zip.{get_or-zip, length-zip}
 use Rattle.std.proofs.lemmas.List.Sorted.{IsPermutation-swap, IsPermutation-trans, All-permutation, sum_by-IsPermutation}
 use Rattle.lus_program.specs.declared.expr.Expr.{Expr}
 use Rattle.lus_program.specs.declared.types.Kind.{Kind}
@@ -33,27 +35,16 @@ module _ {X Y : Type 0} where
   zip_set (a ∷ xs) (b ∷ ys) zero x y = refl
   zip_set (a ∷ xs) (b ∷ ys) (suc i) x y = ap (λ zs. (a, b) ∷ zs) (zip_set xs ys i x y)
 
-  zip_get : (xs : List X) (ys : List Y) (i : ℕ) (x : X) (y : Y) → length xs ≡ length ys
-      → get_or (zip xs ys) i (x, y) ≡ (get_or xs i x, get_or ys i y)
-  zip_get [] [] i x y e = refl
-  zip_get (a ∷ xs) (b ∷ ys) zero x y e = refl
-  zip_get (a ∷ xs) (b ∷ ys) (suc i) x y e = zip_get xs ys i x y (omega (arith, e))
-  zip_get _ _ i x y e = absurd (omega (arith, e))
-
-  zip_swap : (xs : List X) (ys : List Y) (i j : ℕ) → length xs ≡ length ys → zip (swap xs i j) (swap ys i j) ≡ swap (zip xs ys) i j
-  zip_swap [] [] i j e = refl
-  zip_swap (x ∷ xs) (y ∷ ys) i j e =
+  zip_swap : (xs : List X) (ys : List Y) (i j : ℕ) → length xs ≡ length ys → i < length xs → j < length xs → zip (swap xs i j) (swap ys i j) ≡ swap (zip xs ys) i j
+  zip_swap [] ys i j e here there = absurd (omega arith)
+  zip_swap (x ∷ xs) [] i j e here there = absurd (omega (arith, e))
+  zip_swap (x ∷ xs) (y ∷ ys) i j e here there =
       let a = x ∷ xs in
       let b = y ∷ ys in
       let first = zip_set a b i (get_or a j x) (get_or b j y) in
       let second = zip_set (set a i (get_or a j x)) (set b i (get_or b j y)) j (get_or a i x) (get_or b i y) in
-      rw (zip_get a b i x y e, zip_get a b j x y e) (second ∙ ap (λ zs. set zs j (get_or a i x, get_or b i y)) first)
-  zip_swap _ _ i j e = absurd (omega (arith, e))
-
-  length_zip : (xs : List X) (ys : List Y) → length xs ≡ length ys → length (zip xs ys) ≡ length xs
-  length_zip [] ys e = refl
-  length_zip (x ∷ xs) [] e = absurd (omega (arith, e))
-  length_zip (x ∷ xs) (y ∷ ys) e = omega (arith, length_zip xs ys (omega (arith, e)))
+      rw (get_or-zip a b i (x, y) here (omega (arith, e, here)), get_or-zip a b j (x, y) there (omega (arith, e, there)))
+      (second ∙ ap (λ zs. set zs j (get_or a i x, get_or b i y)) first)
 
 -- operands with a place and a type beside each
 pub record Held : Type 0 where
@@ -76,7 +67,7 @@ pub record AreBeside (f : Held) : Type 0 where
   pub kinds : length f.kinds ≡ length f.places
 
 pairs : (f : Held) → AreBeside f → length f.places ≡ length (zip f.exprs f.kinds)
-pairs f h = omega (arith, h.exprs, length_zip f.exprs f.kinds (h.exprs ∙ sym h.kinds))
+pairs f h = omega (arith, h.exprs, h.kinds, length-zip f.exprs f.kinds)
 
 -- g is f, moved
 pub record IsMoved (f g : Held) : Type 0 where
@@ -87,11 +78,11 @@ pub record IsMoved (f g : Held) : Type 0 where
 
 pub exchanged : (f g : Held) (i j : ℕ) → IsMoved f g → i < length g.places → j < length g.places → IsMoved f (exchange i j g)
 exchanged f g i j h a b =
-    let size = length_zip g.places (zip g.exprs g.kinds) (pairs g h.beside) in
-    let typed = zip_swap g.exprs g.kinds i j (h.beside.exprs ∙ sym h.beside.kinds) in
-    let here : all (exchange i j g) ≡ swap (all g) i j =
-    ap (zip (swap g.places i j)) typed ∙ zip_swap g.places (zip g.exprs g.kinds) i j (pairs g h.beside) in
-    let once = IsPermutation-swap (all g) (all (exchange i j g)) i j (omega (arith, size, a)) (omega (arith, size, b)) here in
+    let size = length-zip g.places (zip g.exprs g.kinds) in
+    let same = pairs g h.beside in
+    let typed = zip_swap g.exprs g.kinds i j (h.beside.exprs ∙ sym h.beside.kinds) (omega (arith, a, h.beside.exprs)) (omega (arith, b, h.beside.exprs)) in
+    let here : all (exchange i j g) ≡ swap (all g) i j = ap (zip (swap g.places i j)) typed ∙ zip_swap g.places (zip g.exprs g.kinds) i j same a b in
+    let once = IsPermutation-swap (all g) (all (exchange i j g)) i j (omega (arith, size, same, a)) (omega (arith, size, same, b)) here in
     let exprs = length-swap g.exprs i j in
     let kinds = length-swap g.kinds i j in
     let places = length-swap g.places i j in
@@ -129,12 +120,6 @@ none_counted : (d : ℕ) (ns : List ℕ) → ((k : ℕ) → k < length ns → sl
 none_counted d [] h = refl
 none_counted d (n ∷ ns) h = rw (differs d n (h 0 (omega arith))) (none_counted d ns (λ k lt. h (suc k) (omega (arith, lt))))
 
-same_or_above : (c d : ℕ) → c ≤ d → (c ≡ d) ⊎ (suc c ≤ d)
-same_or_above c d h = grind arith
-
-pub below_or_not : (d n : ℕ) → (d < n) ⊎ (n ≤ d)
-below_or_not d n = grind arith
-
 -- from place c on, each is at its place
 abbrev pub AtPlaces : ℕ → List ℕ → Type 0
 AtPlaces c ns = (k : ℕ) → k < length ns → slice_index ns k ≡ c + k
@@ -147,7 +132,7 @@ one_counted c [] at d low high = absurd (omega (arith, low, high))
 one_counted c (n ∷ ns) at d low high =
     let first : n ≡ c = at 0 (omega arith) ∙ omega arith in
     let rest = later c n ns at in
-    elim (same_or_above c d low) [
+    elim (eq-or-lt_of_le low) [
       | inl same ↦
           rw (eq-eqb d n (sym same ∙ sym first)) (ap (λ m. suc m)
           (none_counted d ns (λ k lt e. absurd (omega (arith, rest k lt, e, same)))))
@@ -162,7 +147,7 @@ each_counted-all c (suc n) ns h =
 
 each_counted-missing : (c n d : ℕ) (ns : List ℕ) → c ≤ d → d < c + n → count d ns ≡ 0 → each_counted c n ns ≡ false
 each_counted-missing c zero d ns low high gone = absurd (omega (arith, low, high))
-each_counted-missing c (suc n) d ns low high gone = elim (same_or_above c d low) [
+each_counted-missing c (suc n) d ns low high gone = elim (eq-or-lt_of_le low) [
   | inl same ↦ rw (ap (λ k. count k ns) same ∙ gone) refl
   | inr above ↦ rw (each_counted-missing (suc c) n d ns above (omega (arith, high)) gone) (and-false (nat_eq (count c ns) 1))
 ]
@@ -226,7 +211,7 @@ module _ (f g : Held) (h : IsMoved f g) where
     once = rw (each_counted-all 0 size f.places (λ d low high. one_within d (omega (arith, high)))) (eq-eqb size size refl)
 
     at_most_one : (d : ℕ) → count d f.places ≤ 1
-    at_most_one d = elim (below_or_not d size) [
+    at_most_one d = elim (cases_lt d size) [
       | inl lt ↦ omega (arith, one_within d lt)
       | inr past ↦
           omega (arith, same_count f g d h, none_counted d g.places (λ k lt e. absurd (omega (arith, at k lt, e, lt, past, h.sized))))

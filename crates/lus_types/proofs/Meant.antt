@@ -1,24 +1,24 @@
 -- What forms mean, and which types they have.
-use Rattle.std.proofs.Common.{◌≡◌, ◌∙◌, ap, ap₂, sym, subst, refl, ℕ, suc, ◌<◌, List, [], ◌∷◌, ◌++◌, append_assoc, length, get_or, map, take, drop, drop-cons, Some, None, Option, Bool, true, false, cond, arith}
+use Rattle.std.proofs.Common.{◌≡◌, ◌∙◌, ap, ap₂, sym, subst, refl, ℕ, suc, ◌<◌, ◌≤◌, List, [], ◌∷◌, ◌++◌, append_assoc, length, get_or, map, take, drop, drop-cons, Some, None, Option, Bool, true, false, cond, arith}
 use Rattle.std.specs.Prelude.{option_map, slice_get}
 use Rattle.std.specs.Option.{option_and_then}
 use Rattle.std.proofs.lemmas.Option.{slice_get_past, slice_get-map}
+use Rattle.std.proofs.Math.ListN.{drop_of_length-le}
 use Rattle.std.proofs.Math.Seq.{take-append_seam, drop-append_seam}
 use Rattle.std.proofs.lemmas.List.{append-nil, drop-map, length-map, take-map}
 use Rattle.lus_syntax.specs.declared.tree.Part.{Part}
 use Rattle.lus_syntax.specs.Lexemes.{Text}
-use Rattle.lus_syntax.specs.View.{expression_seen, part_seen}
+use Rattle.lus_syntax.specs.View.{expression_seen, lead_seen, part_seen}
 use Rattle.lus_syntax.specs.Trees as tree
 use Rattle.lus_syntax.specs.Trees.{Parts, parts_of}
 use Rattle.lus_program.specs.declared.expr.Expr.{Expr}
-use Rattle.lus_program.specs.declared.expr.Test.{Test}
 use Rattle.lus_program.specs.declared.types.Field.{Field as StoredField}
 use Rattle.lus_program.specs.declared.types.Kind.{Kind}
 use Rattle.lus_program.specs.declared.types.Kind.TheVariants as kinds
 use Rattle.lus_syntax.specs.declared.tree.ListOperator.{ListOperator}
 use Rattle.lus_values.specs.declared.operator.Operator.TheVariants as operators
 use Rattle.lus_values.specs.Values.{nil}
-use Rattle.lus_program.specs.Programs.{Expression, Node, Operands, more, literal, operate, call, merge, when}
+use Rattle.lus_program.specs.Programs.{Expression, Node, Operands, more, literal, operate, call, merge}
 use Rattle.lus_program.specs.View.{expression_of, field_of, operands_of}
 use Rattle.lus_typing.specs.Kinds.{all_same, where_true}
 use Rattle.lus_typing.proofs.Options.{and_then_gives, map_gives}
@@ -26,10 +26,12 @@ use Rattle.lus_typing.specs.Resolved.{kinds_given_in, results, field_kinds, kind
 use Rattle.lus_source.specs.declared.entries.Placed.{Placed}
 use Rattle.lus_source.specs.Scopes.{Scope, Signature, entry}
 use Rattle.lus_source.specs.Heads.{heads, head, head_of, of_kind, kind_by, kinds_by}
-use Rattle.lus_source.specs.Labels.{branch_places, each_once, fields_asked, fields_of, size_of, test_placed}
+use Rattle.lus_source.specs.Labels.{branch_places, each_once, field_asked, fields_asked, fields_of, size_of, test_placed}
 use Rattle.lus_source.specs.Meaning.{arranged, in_order, are_arguments, list_operation, call_meant, merge_meant, structure_meant, variadic_meant, where_found, test_meant, meant, all_meant}
-use Rattle.lus_types.specs.Wholes.{called, callee, Fits}
-use Rattle.lus_types.proofs.FormsMeant.{where_holds, call_holds, merge_holds, structure_holds}
+use Rattle.lus_types.specs.declared.elaboration.parts.Members.{Members}
+use Rattle.lus_types.specs.declared.elaboration.parts.Members.TheVariants as members
+use Rattle.lus_types.specs.Wholes.{called, callee, Fits, Take, given_by, member_place, member_places, parts_seen}
+use Rattle.lus_types.proofs.FormsMeant.{where_holds, merge_holds, structure_holds}
 use Rattle.lus_types.proofs.TypedForms.{ordered_untyped}
 
 pub all_meant_is : (s : Scope) (ps : List Part) (es : List Expr) → map expression_of es ≡ map (λ p. meant s (expression_seen p.value)) ps → operands_of es ≡ all_meant s (parts_of (map part_seen ps))
@@ -41,33 +43,53 @@ all_meant_is s (p ∷ ps) (x ∷ es) e =
     let rest : map expression_of es ≡ map (λ q. meant s (expression_seen q.value)) ps = cc in
     ap (λ y. more y (operands_of es)) first ∙ ap (more (meant s (expression_seen p.value))) (all_meant_is s ps es rest)
 
--- the types of parts, where the first so many have these
+-- what is found of each part, where of the first so many these are
 
-typed_before : (ks : List Kind) (k : Kind) (r : Option (List Kind)) → option_map (λ ls. ks ++ ls) (option_map (λ ls. k ∷ ls) r) ≡ option_map (λ ls. (ks ++ k ∷ []) ++ ls) r
-typed_before ks k None = refl
-typed_before ks k (Some ls) = ap Some (sym (append_assoc ks (k ∷ []) ls))
+found_before : {X : Type 0} (xs : List X) (x : X) (r : Option (List X)) → option_map (λ ys. xs ++ ys) (option_map (λ ys. x ∷ ys) r) ≡ option_map (λ ys. (xs ++ x ∷ []) ++ ys) r
+found_before xs x None = refl
+found_before xs x (Some ys) = ap Some (sym (append_assoc xs (x ∷ []) ys))
 
-module _ (s : Scope) (ps : List Part) (n : ℕ) (p : Part) (item : p ≡ get_or ps n p) (within : n < length ps) where
-  abbrev kinds_from : ℕ → Option (List Kind)
-  kinds_from m = kinds_by s (all_meant s (parts_of (map part_seen (drop m ps))))
+module _ {X : Type 0} (found : Parts → Option (List X)) (of_part : tree.Lead → tree.Expression → Option X) where
+  abbrev then_rest : Parts → Option X → Option (List X)
+  then_rest ps = option_and_then (λ x. option_map (λ xs. x ∷ xs) (found ps))
 
-  abbrev kind_here : Option Kind
-  kind_here = kind_by s (meant s (expression_seen p.value))
+  pub record AreOneByOne : Type 0 where
+    pub end : found tree.End ≡ Some []
+    pub more : (l : tree.Lead) (e : tree.Expression) (ps : Parts) → found (tree.More l e ps) ≡ then_rest ps (of_part l e)
 
-  abbrev before_rest : Option Kind → Option (List Kind)
-  before_rest = option_and_then (λ k. option_map (λ ls. k ∷ ls) (kinds_from (suc n)))
+  module _ (each : AreOneByOne) (ps : List Part) (n : ℕ) (xs : List X) (r : Option (List X)) (so_far : r ≡ option_map (λ ys. xs ++ ys) (found (parts_seen (drop n ps)))) where
+    pub all_found : length ps ≤ n → r ≡ Some xs
+    all_found past = so_far ∙ ap (λ qs. option_map (λ ys. xs ++ ys) (found (parts_seen qs))) (drop_of_length-le ps past) ∙ ap (option_map (λ ys. xs ++ ys)) each.end ∙ ap Some (append-nil xs)
 
-  from_here : kinds_from n ≡ before_rest kind_here
-  from_here =
-      let cut : drop n ps ≡ p ∷ drop (suc n) ps = drop-cons ps n p within ∙ ap (λ q. q ∷ drop (suc n) ps) (sym item) in
-      ap (λ qs. kinds_by s (all_meant s (parts_of (map part_seen qs)))) cut
+    module _ (p : Part) (item : p ≡ get_or ps n p) (within : n < length ps) where
+      abbrev here : Option X
+      here = of_part (lead_seen p.lead) (expression_seen p.value)
 
-  module _ (ks : List Kind) (r : Option (List Kind)) (typed : r ≡ option_map (λ ls. ks ++ ls) (kinds_from n)) where
-    pub untyped_here : kind_here ≡ None → r ≡ None
-    untyped_here e = typed ∙ ap (option_map (λ ls. ks ++ ls)) (from_here ∙ ap before_rest e)
+      from_here : r ≡ option_map (λ ys. xs ++ ys) (then_rest (parts_seen (drop (suc n) ps)) here)
+      from_here =
+          let cut = drop-cons ps n p within ∙ ap (λ q. q ∷ drop (suc n) ps) (sym item) in
+          so_far ∙ ap (option_map (λ ys. xs ++ ys)) (ap (λ qs. found (parts_seen qs)) cut ∙ each.more (lead_seen p.lead) (expression_seen p.value) (parts_seen (drop (suc n) ps)))
 
-    pub typed_here : (k : Kind) → kind_here ≡ Some k → r ≡ option_map (λ ls. (ks ++ k ∷ []) ++ ls) (kinds_from (suc n))
-    typed_here k e = typed ∙ ap (option_map (λ ls. ks ++ ls)) (from_here ∙ ap before_rest e) ∙ typed_before ks k (kinds_from (suc n))
+      pub none_found : here ≡ None → r ≡ None
+      none_found e = from_here ∙ ap (λ o. option_map (λ ys. xs ++ ys) (then_rest (parts_seen (drop (suc n) ps)) o)) e
+
+      pub one_found : (x : X) → here ≡ Some x → r ≡ option_map (λ ys. (xs ++ x ∷ []) ++ ys) (found (parts_seen (drop (suc n) ps)))
+      one_found x e =
+          from_here ∙ ap (λ o. option_map (λ ys. xs ++ ys) (then_rest (parts_seen (drop (suc n) ps)) o)) e ∙ found_before xs x (found (parts_seen (drop (suc n) ps)))
+
+module _ (s : Scope) where
+  pub kinds_one_by_one : AreOneByOne (λ ps. kinds_by s (all_meant s ps)) (λ l e. kind_by s (meant s e))
+  kinds_one_by_one = record { end = refl; more = λ l e ps. refl }
+
+  pub members_one_by_one : (m : Members) (k : Kind) → AreOneByOne (member_places s m k) (λ l e. member_place s m k l)
+  members_one_by_one members.Constructors k = record { end = refl; more = λ l e ps. refl }
+  members_one_by_one members.Fields k = record { end = refl; more = λ l e ps. placed (field_asked s k l) (fields_asked s k ps) }
+    where
+      placed : (o : Option Placed) (r : Option (List Placed)) → option_map (map (λ x. x.place)) (option_and_then (λ x. option_map (λ xs. x ∷ xs) r) o)
+          ≡ option_and_then (λ c. option_map (λ cs. c ∷ cs) (option_map (map (λ x. x.place)) r)) (option_map (λ x. x.place) o)
+      placed None r = refl
+      placed (Some x) None = refl
+      placed (Some x) (Some xs) = refl
 
 -- the rules of types, by the scope
 
@@ -119,22 +141,11 @@ nowhere s = ap (option_map (λ v. v.kind)) (slice_get_past (map (λ e. of_kind e
 pub unplaced_fails : (s : Scope) (t : tree.Test) → test_placed s t ≡ None → test_fits (heads s) (head s) (test_meant s t) ≡ false
 unplaced_fails s t e = rw e (rw (nowhere s, test_fits) refl)
 
-pub sampled_kind : (s : Scope) (t : tree.Test) (a : Expression) (k : Kind) → kind_by s a ≡ Some k
-    → kind_by s (where_found (test_placed s t) (λ u. when u a)) ≡ where_true (test_fits (heads s) (head s) (test_meant s t)) (Some k)
-sampled_kind s t a k typed = placed (test_placed s t) refl
-  where
-    placed : (r : Option Test) → test_placed s t ≡ r → kind_by s (where_found r (λ u. when u a)) ≡ where_true (test_fits (heads s) (head s) (test_meant s t)) (Some k)
-    placed None e = rw (unplaced_fails s t e) refl
-    placed (Some u) e = rw (e, typed) refl
-
 -- forms with parts that have no type
 
 module _ (s : Scope) where
   abbrev Untyped : Expression → Type 0
   Untyped e = kind_by s e ≡ None
-
-  pub call_untyped : (f : Text) (ps : Parts) (es : Operands) → kinds_by s es ≡ None → Untyped (call_meant s f ps es)
-  call_untyped f ps es e = call_holds s Untyped refl f ps es (λ g is. rw e refl)
 
   pub variadic_untyped : (op : ListOperator) (ps : Parts) (es : Operands) → kinds_by s es ≡ None → Untyped (variadic_meant op ps es)
   variadic_untyped op ps es e = where_holds s Untyped refl (are_arguments ps) (operate (operators.Compute (list_operation op)) es) (rw e refl)
@@ -149,6 +160,13 @@ fields_arranged : (n : ℕ) (es : Operands) (r : Option (List Placed)) → optio
 fields_arranged n es None = refl
 fields_arranged n es (Some xs) = refl
 
+-- what gives the types of a left side fits it, and what gives nothing fits none
+pub fits_given : (s : Scope) (xs : List ℕ) (e : Expression) (ks : List Kind) → given_by s e ≡ Some ks → Take s xs ks → Fits s xs e
+fits_given s xs e ks gives takes = rw gives (ap Some takes)
+
+pub misfits : (s : Scope) (xs : List ℕ) (e : Expression) → given_by s e ≡ None → Fits s xs e → ⊥
+misfits s xs e none fits = let lost = rw none at fits in cc
+
 -- calls
 
 module _ (s : Scope) (f : Text) (ps : Parts) (es : Operands) where
@@ -162,8 +180,8 @@ module _ (s : Scope) (f : Text) (ps : Parts) (es : Operands) where
   none_given None e = refl
   none_given (Some n) e = rw e refl
 
-  pub call_misfits : (xs : List ℕ) → kinds_by s es ≡ None → Fits s xs (call_meant s f ps es) → ⊥
-  call_misfits xs e fits = let lost = rw (given_or (entry s.nodes f) (are_arguments ps) ∙ none_given (callee s f ps) e) at fits in cc
+  pub call_gives_none : kinds_by s es ≡ None → given_by s (call_meant s f ps es) ≡ None
+  call_gives_none e = given_or (entry s.nodes f) (are_arguments ps) ∙ none_given (callee s f ps) e
 
   call_or : (o : Option Signature) (b : Bool) (n : ℕ) → option_and_then (λ g. where_true b (Some g.place)) o ≡ Some n → where_found o (λ g. cond b (call g.place 0 es) (literal nil)) ≡ call n 0 es
   call_or None b n e = cc

@@ -12,14 +12,17 @@ use Rattle.lus_program.specs.declared.types.Kind.{Kind}
 use Rattle.lus_program.specs.Programs.{Expression, Operands}
 use Rattle.lus_program.specs.View.{expression_of, operands_of}
 use Rattle.lus_typing.specs.Kinds.{where_true}
-use Rattle.lus_typing.specs.Resolved.{kind_of_variable, results, EquationFits}
+use Rattle.lus_typing.specs.Resolved.{kind_of_variable, kinds_given_in, results, EquationFits}
 use Rattle.lus_source.specs.Scopes.{Scope, entry}
 use Rattle.lus_source.specs.Heads.{heads, head, kind_by, kinds_by}
+use Rattle.lus_source.specs.Labels.{branch_place, branch_places, field_asked, fields_asked}
 use Rattle.lus_source.specs.Meaning.{are_arguments, meant, targets_meant}
 use Rattle.lus_source.specs.declared.fault.Fault.{Fault}
 use Rattle.lus_source.specs.ScopeView.{Faulty}
 use Rattle.lus_types.specs.declared.elaboration.forms.Elaborated.{Elaborated}
 use Rattle.lus_types.specs.declared.elaboration.operands.Operands.{Operands as StoredOperands}
+use Rattle.lus_types.specs.declared.elaboration.parts.Members.{Members}
+use Rattle.lus_types.specs.declared.elaboration.parts.Members.TheVariants as members
 
 -- the parts of a form, in the order of the text
 abbrev pub parts_seen : List Part → Parts
@@ -50,9 +53,15 @@ module _ (s : Scope) where
   abbrev pub AllMean : StoredOperands → Operands → Type 0
   AllMean x means = (kinds_by s means ≡ Some x.kinds.items) × (operands_of x.exprs.items ≡ means)
 
-  -- what a form of operands means, whatever they mean, or a fault at a place where it has no type
-  abbrev pub ElaboratesOver : StoredOperands → Result Elaborated Fault → (Operands → Expression) → Type 0
-  ElaboratesOver operands result form = (es : Operands) → AllMean operands es → IsElaborated result (form es)
+  -- the place of the constructor or the field that a part names
+  abbrev pub member_place : Members → Kind → tree.Lead → Option ℕ
+  member_place members.Constructors k l = branch_place s k l
+  member_place members.Fields k l = option_map (λ x. x.place) (field_asked s k l)
+
+  -- the places of those that all parts name
+  abbrev pub member_places : Members → Kind → Parts → Option (List ℕ)
+  member_places members.Constructors k ps = branch_places s k ps
+  member_places members.Fields k ps = option_map (map (λ x. x.place)) (fields_asked s k ps)
 
   -- the node that is called, with arguments alone
   abbrev pub callee : Text → Parts → Option ℕ
@@ -61,6 +70,10 @@ module _ (s : Scope) where
   -- that node and what it gives for arguments of these types
   abbrev pub called : Text → Parts → List Kind → Option (ℕ × List Kind)
   called f ps ks = option_and_then (λ n. option_map (λ ls. (n, ls)) (results (heads s) n ks)) (callee f ps)
+
+  -- what a whole right side gives
+  abbrev pub given_by : Expression → Option (List Kind)
+  given_by means = kinds_given_in (heads s) (head s) means
 
   -- the variables have these types
   abbrev pub Take : List ℕ → List Kind → Type 0

@@ -3,22 +3,19 @@
 ghost use Rattle.std.specs.Prelude.{◌≡◌, IfOk, Some, MatchResult, map};
 ghost use Rattle.std.specs.Bool.{Decides};
 ghost use Rattle.lus_syntax.specs.View.{expression_seen, equation_seen, name_seen, names_seen};
-ghost use Rattle.lus_program.specs.Programs.{Operands as Meanings};
 ghost use Rattle.lus_program.specs.View.{expression_of};
 ghost use Rattle.lus_typing.specs.Resolved.{kind_of_variable};
 ghost use Rattle.lus_source.specs.Heads.{head, heads};
-ghost use Rattle.lus_source.specs.Meaning.{call_meant, meant, targets_meant, variable_place};
+ghost use Rattle.lus_source.specs.Meaning.{meant, targets_meant, variable_place};
 ghost use Rattle.lus_source.specs.ScopeView.{Judged, scope_of};
-ghost use Rattle.lus_types.specs.Wholes.{AllMean, EquationTyped, GivesTo, Take, parts_seen};
+ghost use Rattle.lus_types.specs.Wholes.{EquationTyped, GivesTo, Take};
 
-use crate::elaboration::expressions::{elaborate, elaborate_all};
-use crate::elaboration::forms::{boxed, place_of};
+use crate::elaboration::expressions::{elaborate, whole_call};
+use crate::elaboration::forms::place_of;
 use crate::elaboration::kinds::same;
-use crate::elaboration::operands::Operands;
-use crate::elaboration::parts::called;
-use lus_program::{Equation, Expr, Form, Kind};
+use lus_program::{Equation, Expr, Kind};
 use lus_source::{Fault, Scope};
-use lus_syntax::{Equation as SourceEquation, Expr as Source, Name, Part, Place};
+use lus_syntax::{Equation as SourceEquation, Expr as Source, Name, Place};
 use std::alloc::{AllocError, Global};
 
 /// Whether a variable takes values of this type.
@@ -63,8 +60,12 @@ pub fn right_side(
             Ok(inner)
         }
         Source::Call(name, arguments) => {
-            let operands = elaborate_all(alloc, scope, arguments)?;
-            whole_call(alloc, scope, place, targets, name, arguments, operands)
+            let (expr, outputs) = whole_call(alloc, scope, name, arguments)?;
+            if take(scope, targets, outputs) {
+                Ok(expr)
+            } else {
+                Err(Fault::At(place))
+            }
         }
         Source::Number(_, _)
         | Source::Truth(_, _)
@@ -87,31 +88,6 @@ pub fn right_side(
     }
 }
 
-/// A call with any number of outputs.
-fn whole_call(
-    alloc: Global,
-    scope: &Scope,
-    place: Place,
-    targets: &[u32],
-    name: &Name,
-    arguments: &[Part],
-    operands: Operands,
-) -> Result<Box<Expr>, Fault>
-    ensures { let s = scope_of scope.now in
-        (es : Meanings) → AllMean s operands es
-        → GivesTo s result targets.now (call_meant s (name_seen name.now).text (parts_seen arguments.now) es) }
-{
-    let (exprs, kinds) = operands.into_parts();
-    let Some((node, outputs)) = called(scope, name, arguments, &kinds) else {
-        return Err(Fault::At(name.span.start));
-    };
-    if take(scope, targets, outputs) {
-        Ok(boxed(alloc, name.span.start, Form::Call(node, exprs))?)
-    } else {
-        Err(Fault::At(place))
-    }
-}
-
 fn target(scope: &Scope, name: &Name) -> u32
     ensures { result ≡ variable_place (scope_of scope.now) (name_seen name.now).text }
 {
@@ -121,24 +97,21 @@ fn target(scope: &Scope, name: &Name) -> u32
     }
 }
 
-/// The variables on a left side.
-fn targets(alloc: Global, scope: &Scope, names: &[Name]) -> Result<Vec<u32>, AllocError>
-    ensures { IfOk result (λ ts. ts.items ≡ targets_meant (scope_of scope.now) (names_seen names.now)) }
+/// The variables on a left side, and where they stand.
+fn targets(
+    alloc: Global,
+    scope: &Scope,
+    names: &[Name],
+) -> Result<(Vec<u32>, Vec<Place>), AllocError>
+    ensures { IfOk result (λ ts. ts.0.items ≡ targets_meant (scope_of scope.now) (names_seen names.now)) }
 {
     let mut targets = Vec::with_capacity(alloc, names.len())?;
-    for name in names {
-        targets.push(target(scope, name))?;
-    }
-    Ok(targets)
-}
-
-/// Where names stand.
-fn places(alloc: Global, names: &[Name]) -> Result<Vec<Place>, AllocError> {
     let mut places = Vec::with_capacity(alloc, names.len())?;
     for name in names {
+        targets.push(target(scope, name))?;
         places.push(name.span.start)?;
     }
-    Ok(places)
+    Ok((targets, places))
 }
 
 /// An equation of the program: the right side gives what the left side has.
@@ -147,8 +120,7 @@ pub fn equation(alloc: Global, scope: &Scope, source: &SourceEquation) -> Result
     ensures targets { IfOk result (λ q. q.targets.items ≡ targets_meant (scope_of scope.now) (names_seen source.now.left.items)) }
     ensures meant { IfOk result (λ q. expression_of q.right ≡ meant (scope_of scope.now) (expression_seen source.now.right)) }
 {
-    let targets = targets(alloc, scope, &source.left)?;
-    let places = places(alloc, &source.left)?;
+    let (targets, places) = targets(alloc, scope, &source.left)?;
     let place = place_of(&source.right);
     let right = right_side(alloc, scope, place, &targets, &source.right)?;
     Ok(Equation {

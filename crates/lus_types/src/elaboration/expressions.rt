@@ -1,21 +1,25 @@
 //! The program's expression for an expression of the source, and its type.
 
-ghost use Rattle.std.specs.Prelude.{◌≡◌, IfOk, MatchResult, None, length};
-ghost use Rattle.lus_syntax.specs.View.{expression_seen};
+ghost use Rattle.std.specs.Prelude.{◌≡◌, IfOk, MatchResult, None, Some, length};
+ghost use Rattle.lus_syntax.specs.View.{expression_seen, name_seen};
 ghost use Rattle.lus_source.specs.Heads.{kinds_by};
 ghost use Rattle.lus_program.specs.Programs.{more, operate};
+ghost use Rattle.lus_program.specs.View.{expression_of};
 ghost use Rattle.lus_values.specs.declared.operator.Operator.TheVariants as operators;
-ghost use Rattle.lus_source.specs.Meaning.{all_meant, infix_meant, meant, two};
+ghost use Rattle.lus_source.specs.Meaning.{all_meant, call_meant, infix_meant, meant, merge_meant, structure_meant, two, variadic_meant};
 ghost use Rattle.lus_source.specs.ScopeView.{Faulty, scope_of};
-ghost use Rattle.lus_types.specs.Wholes.{AllMean, IsElaborated, parts_seen};
+ghost use Rattle.lus_types.specs.Wholes.{AllMean, IsElaborated, given_by, parts_seen};
 
-use crate::elaboration::forms::{Elaborated, literal, named, place_of, sampled};
+use crate::elaboration::arrangement::arranged;
+use crate::elaboration::forms::{Elaborated, boxed, literal, named, place_of, sampled};
+use crate::elaboration::kinds::merged;
 use crate::elaboration::operands::Operands;
-use crate::elaboration::operators::{chosen, infixed, prefixed, projected};
-use crate::elaboration::parts::{call, merge, structure, variadic};
+use crate::elaboration::operators::{chosen, infixed, operated, prefixed, projected};
+use crate::elaboration::parts::{Members, are_arguments, called, list_operation, member_places};
+use lus_program::{Expr, Form, Kind};
 use lus_source::{Fault, Scope};
-use lus_syntax::{Expr as Source, Infix, Part, Place};
-use lus_values::Value;
+use lus_syntax::{Expr as Source, Infix, ListOperator, Name, Part, Place};
+use lus_values::{Operator, Value};
 use std::alloc::Global;
 
 /// The program's expression for an expression, and its type; a fault at its first token where it has none.
@@ -29,22 +33,10 @@ pub fn elaborate(alloc: Global, scope: &Scope, source: &Source) -> Result<Elabor
         Source::Number(number, _) => literal(alloc, place, Value::Int(*number)),
         Source::Truth(truth, _) => literal(alloc, place, Value::Bool(*truth)),
         Source::Name(name) => named(alloc, scope, name),
-        Source::Call(name, arguments) => {
-            let operands = elaborate_all(alloc, scope, arguments)?;
-            call(alloc, scope, name, arguments, operands)
-        }
-        Source::Structure(name, fields) => {
-            let operands = elaborate_all(alloc, scope, fields)?;
-            structure(alloc, scope, name, fields, operands)
-        }
-        Source::Merge(_, variable, branches) => {
-            let operands = elaborate_all(alloc, scope, branches)?;
-            merge(alloc, scope, place, variable, branches, operands)
-        }
-        Source::Variadic(op, _, arguments) => {
-            let operands = elaborate_all(alloc, scope, arguments)?;
-            variadic(alloc, scope, place, *op, arguments, operands)
-        }
+        Source::Call(name, arguments) => call(alloc, scope, name, arguments),
+        Source::Structure(name, fields) => structure(alloc, scope, name, fields),
+        Source::Merge(_, variable, branches) => merge(alloc, scope, place, variable, branches),
+        Source::Variadic(op, _, arguments) => variadic(alloc, scope, place, *op, arguments),
         Source::Field(operand, name) => {
             let operand = elaborate(alloc, scope, operand)?;
             projected(alloc, scope, place, operand, name)
@@ -107,9 +99,127 @@ fn elaborate_if(
     chosen(alloc, scope, place, condition, left, right)
 }
 
+/// A call, and the types of what it gives.
+#[cycle(elaborate)]
+pub fn whole_call<'a>(
+    alloc: Global,
+    scope: &'a Scope,
+    name: &Name,
+    arguments: &[Part],
+) -> Result<(Box<Expr>, &'a [Kind]), Fault>
+    ensures { let s = scope_of scope.now in
+        let parts = parts_seen arguments.now in
+        let means = call_meant s (name_seen name.now).text parts (all_meant s parts) in
+        MatchResult result (λ x. (given_by s means ≡ Some x.1.now) × (expression_of x.0.value ≡ means))
+        (Faulty (given_by s means ≡ None)) }
+{
+    let operands = elaborate_all(alloc, scope, arguments)?;
+    let (exprs, kinds) = operands.into_parts();
+    let place = name.span.start;
+    let Some((node, outputs)) = called(scope, name, arguments, &kinds) else {
+        return Err(Fault::At(place));
+    };
+    let expr = boxed(alloc, place, Form::Call(node, exprs))?;
+    Ok((expr, outputs))
+}
+
+/// A call with one output.
+#[cycle(elaborate)]
+fn call(alloc: Global, scope: &Scope, name: &Name, arguments: &[Part]) -> Result<Elaborated, Fault>
+    ensures { let s = scope_of scope.now in
+        let parts = parts_seen arguments.now in
+        IsElaborated s result (call_meant s (name_seen name.now).text parts (all_meant s parts)) }
+{
+    let (expr, outputs) = whole_call(alloc, scope, name, arguments)?;
+    match outputs {
+        [kind] => Ok(Elaborated { expr, kind: *kind }),
+        _ => Err(Fault::At(name.span.start)),
+    }
+}
+
+/// An operator before a list of operands: one truth value or more.
+#[cycle(elaborate)]
+fn variadic(
+    alloc: Global,
+    scope: &Scope,
+    place: Place,
+    op: ListOperator,
+    arguments: &[Part],
+) -> Result<Elaborated, Fault>
+    ensures { let s = scope_of scope.now in
+        let parts = parts_seen arguments.now in
+        IsElaborated s result (variadic_meant op parts (all_meant s parts)) }
+{
+    let operands = elaborate_all(alloc, scope, arguments)?;
+    let (exprs, kinds) = operands.into_parts();
+    if !are_arguments(arguments) {
+        return Err(Fault::At(place));
+    }
+    let operator = Operator::Compute(list_operation(op));
+    operated(alloc, scope, place, operator, &kinds, exprs)
+}
+
+/// A merge: each constructor of its variable's type stands exactly once, and the branches are of one type.
+#[cycle(elaborate)]
+fn merge(
+    alloc: Global,
+    scope: &Scope,
+    place: Place,
+    variable: &Name,
+    branches: &[Part],
+) -> Result<Elaborated, Fault>
+    ensures { let s = scope_of scope.now in
+        let parts = parts_seen branches.now in
+        IsElaborated s result (merge_meant s (name_seen variable.now).text parts (all_meant s parts)) }
+{
+    let operands = elaborate_all(alloc, scope, branches)?;
+    let Some(clock) = scope.variable(&variable.text) else {
+        return Err(Fault::At(variable.span.start));
+    };
+    let places = member_places(alloc, scope, Members::Constructors, clock.kind, branches)?;
+    let size = scope.size_of(clock.kind);
+    let Some(operands) = arranged(size, places, operands) else {
+        return Err(Fault::At(place));
+    };
+    let (exprs, kinds) = operands.into_parts();
+    let Some(kind) = merged(scope, clock.place, &kinds) else {
+        return Err(Fault::At(place));
+    };
+    let expr = boxed(alloc, place, Form::Merge(clock.place, exprs))?;
+    Ok(Elaborated { expr, kind })
+}
+
+/// A structure's value: its type is a structure, and each field stands exactly once, with a value of its type.
+#[cycle(elaborate)]
+fn structure(
+    alloc: Global,
+    scope: &Scope,
+    name: &Name,
+    fields: &[Part],
+) -> Result<Elaborated, Fault>
+    ensures { let s = scope_of scope.now in
+        let parts = parts_seen fields.now in
+        IsElaborated s result (structure_meant s (name_seen name.now).text parts (all_meant s parts)) }
+{
+    let operands = elaborate_all(alloc, scope, fields)?;
+    let place = name.span.start;
+    let Some(Kind::Struct(declaration)) = scope.kind(&name.text) else {
+        return Err(Fault::At(place));
+    };
+    let kind = Kind::Struct(declaration);
+    let places = member_places(alloc, scope, Members::Fields, kind, fields)?;
+    let size = scope.fields_of(kind).len();
+    let Some(operands) = arranged(size, places, operands) else {
+        return Err(Fault::At(place));
+    };
+    let (exprs, kinds) = operands.into_parts();
+    let operator = Operator::Structure(declaration);
+    operated(alloc, scope, place, operator, &kinds, exprs)
+}
+
 /// The values of parts one by one, and their types.
 #[cycle(elaborate)]
-pub fn elaborate_all(alloc: Global, scope: &Scope, parts: &[Part]) -> Result<Operands, Fault>
+fn elaborate_all(alloc: Global, scope: &Scope, parts: &[Part]) -> Result<Operands, Fault>
     ensures elaborated { let s = scope_of scope.now in
         let means = all_meant s (parts_seen parts.now) in
         MatchResult result (λ x. AllMean s x means) (Faulty (kinds_by s means ≡ None)) }

@@ -34,9 +34,7 @@ pub fn memory(scope: &Scope, source: &Expr) -> Option<Place>
     ensures { is_none result ≡ is_pure (scope_of scope.now) (expression_seen source.now) }
 {
     match source {
-        Expr::Number(_, _) => None,
-        Expr::Truth(_, _) => None,
-        Expr::Name(_) => None,
+        Expr::Number(_, _) | Expr::Truth(_, _) | Expr::Name(_) => None,
         Expr::Call(name, arguments) => {
             if calls_function(scope, &name.text) {
                 memory_in(scope, arguments)
@@ -47,9 +45,9 @@ pub fn memory(scope: &Scope, source: &Expr) -> Option<Place>
         Expr::Structure(_, fields) => memory_in(scope, fields),
         Expr::Merge(_, _, branches) => memory_in(scope, branches),
         Expr::Variadic(_, _, operands) => memory_in(scope, operands),
-        Expr::Field(operand, _) => memory(scope, operand),
-        Expr::Parentheses(_, inner) => memory(scope, inner),
-        Expr::When(operand, _) => memory(scope, operand),
+        Expr::Field(operand, _) | Expr::Parentheses(_, operand) | Expr::When(operand, _) => {
+            memory(scope, operand)
+        }
         Expr::Unary(op, span, operand) => {
             if remembers(*op) {
                 Some(span.start)

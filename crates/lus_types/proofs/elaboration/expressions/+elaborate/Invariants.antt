@@ -10,16 +10,31 @@ use Rattle.lus_syntax.specs.declared.tree.Expr.{size-Expr}
 use Rattle.lus_types.proofs.elaboration.expressions.+elaborate.Given as goal
 
 abbrev pub decreases-elaborate : goal.decreases-elaborate
-decreases-elaborate l = 2 * goal.size-elaborate l
+decreases-elaborate l = 4 * goal.size-elaborate l
 
 abbrev pub decreases-elaborate_infix : goal.decreases-elaborate_infix
-decreases-elaborate_infix l = 2 * max (size-Expr l.left.now) (size-Expr l.right.now) + 1
+decreases-elaborate_infix l = 4 * max (size-Expr l.left.now) (size-Expr l.right.now) + 1
 
 abbrev pub decreases-elaborate_if : goal.decreases-elaborate_if
-decreases-elaborate_if l = 2 * max (size-Expr l.condition.now) (max (size-Expr l.left.now) (size-Expr l.right.now)) + 1
+decreases-elaborate_if l = 4 * max (size-Expr l.condition.now) (max (size-Expr l.left.now) (size-Expr l.right.now)) + 1
+
+abbrev pub decreases-call : goal.decreases-call
+decreases-call l = 4 * goal.size-call l + 3
+
+abbrev pub decreases-whole_call : goal.decreases-whole_call
+decreases-whole_call l = 4 * goal.size-whole_call l + 2
+
+abbrev pub decreases-variadic : goal.decreases-variadic
+decreases-variadic l = 4 * goal.size-variadic l + 2
+
+abbrev pub decreases-merge : goal.decreases-merge
+decreases-merge l = 4 * goal.size-merge l + 2
+
+abbrev pub decreases-structure : goal.decreases-structure
+decreases-structure l = 4 * goal.size-structure l + 2
 
 abbrev pub decreases-elaborate_all : goal.decreases-elaborate_all
-decreases-elaborate_all l = 2 * goal.size-elaborate_all l + 1
+decreases-elaborate_all l = 4 * goal.size-elaborate_all l + 1
 
 abbrev pub invariant-elaborate_all-loop-part : goal.invariant-elaborate_all-loop-part
 invariant-elaborate_all-loop-part l = record {
