@@ -3,5 +3,4 @@ pub mod Steps
 pub mod Dots
 pub mod Items
 pub mod Turns
-pub mod Shorter
 pub mod Refusals
