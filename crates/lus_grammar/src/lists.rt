@@ -77,7 +77,7 @@ impl<T: Items> Turns for T {
     }
 }
 
-/// All turns, behind what was found before. Each of them takes a token, so they are no more than the tokens.
+/// All turns, behind what was found before: at most as many as there are tokens.
 pub fn in_turns<T: Turns>(
     alloc: Global,
     found: T::Found,

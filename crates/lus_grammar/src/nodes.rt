@@ -11,6 +11,7 @@ use crate::expressions::inside;
 use crate::fault::{Parsed, Tokens};
 use crate::front::{expect_symbol, expect_word, identifier, skip_symbol, symbol};
 use crate::lists::{Items, in_turns};
+use crate::operators::Rule;
 use crate::types::names;
 use crate::variables::{inputs, locals, outputs};
 use lus_syntax::{Equation, MOST_DEPTH, Name, Node, NodeKind, Symbol, TokenKind, Word};
@@ -55,7 +56,7 @@ impl Items for EquationList {
     fn item(alloc: Global, tokens: Tokens<'_>) -> Parsed<'_, Equation> {
         let (left, rest) = left(alloc, tokens)?;
         let rest = expect_symbol(Symbol::Equal, rest)?;
-        let (right, _, rest) = inside(alloc, MOST_DEPTH, rest)?;
+        let (right, _, rest) = inside(alloc, Rule::Whole, MOST_DEPTH, rest)?;
         let rest = expect_symbol(Symbol::Semicolon, rest)?;
         let right = Box::into_inner(right);
         Ok((Equation { left, right }, rest))
