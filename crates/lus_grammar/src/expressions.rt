@@ -1,11 +1,11 @@
 //! Expressions. The functions of the grammar's cycle stand together; they hold trees in boxes alone, since they are
 //! entered once for each rule at each depth.
 
-ghost use Rattle.std.specs.Prelude.{◌≤◌, ◌<◌, ◌+◌, suc, [], length, Ok, IfOk};
+ghost use Rattle.std.specs.Prelude.{◌≤◌, ◌<◌, ◌+◌, suc, [], length, Some, Ok, IfOk};
 ghost use Rattle.lus_syntax.specs.Limits.{most_depth};
 ghost use Rattle.lus_syntax.specs.View.{tokens_seen, name_seen, expression_seen};
 ghost use Rattle.lus_spelling.specs.Expressions.{Whole, Arrow, Else, Primary, Dotted, Atom};
-ghost use Rattle.lus_spelling.specs.Reading.{found, two_on, part_at, parts_at, name_at, parentheses_at, plain_at, branches_at, read};
+ghost use Rattle.lus_spelling.specs.Reading.{found, two_on, merge_on, refuse, operands_at, part_at, parts_at, name_at, parentheses_at, plain_at, branches_at, read};
 ghost use Rattle.lus_grammar.specs.Rules.{level_of, head_level, rule_level};
 ghost use Rattle.lus_grammar.specs.Answers.{Gives, tree_read, part_read, parts_read};
 
@@ -19,7 +19,7 @@ use crate::parts::{lead, tail, turn};
 use crate::primaries::{dots, sampled, truth};
 use crate::trees;
 use lus_spelling::{Form, primary_shape};
-use lus_syntax::{Expr, Infix, Name, Part, Span, Symbol, Token, TokenKind, Word};
+use lus_syntax::{Expr, Infix, ListOperator, Name, Part, Span, Symbol, Token, TokenKind, Word};
 use std::alloc::Global;
 
 /// Parts, the greatest depth among them, and the tokens after what closes them.
@@ -195,7 +195,7 @@ fn prefixed(alloc: Global, head: Head, limit: u32, tokens: Tokens<'_>) -> Read<'
 }
 
 #[cycle(parser)]
-#[tactic(auto, unfolding(lus_spelling::specs::Reading::read, lus_spelling::specs::Reading::read_primary, lus_spelling::specs::Reading::primary_at, lus_spelling::specs::Reading::listed_at))]
+#[tactic(auto, unfolding(lus_spelling::specs::Reading::read, lus_spelling::specs::Reading::read_primary, lus_spelling::specs::Reading::primary_at))]
 fn primary(alloc: Global, limit: u32, tokens: Tokens<'_>) -> Read<'_>
     requires { limit ≤ most_depth }
     ensures within { IfOk result (λ x. x.1 ≤ limit + 1) }
@@ -203,12 +203,21 @@ fn primary(alloc: Global, limit: u32, tokens: Tokens<'_>) -> Read<'_>
 {
     match word(Word::Merge, tokens) {
         None => dotted(alloc, limit, tokens),
-        Some((span, rest)) => {
-            let (name, rest) = identifier(alloc, rest)?;
-            let (branches, depth, rest) = parts(alloc, Form::Merge, limit, rest)?;
-            Ok((trees::merge(alloc, span, name, branches)?, depth + 1, rest))
-        }
+        Some((span, rest)) => merge(alloc, limit, span, rest),
     }
+}
+
+/// What stands after `merge`.
+#[cycle(parser)]
+#[tactic(auto, unfolding(lus_spelling::specs::Reading::listed_at))]
+fn merge(alloc: Global, limit: u32, span: Span, tokens: Tokens<'_>) -> Read<'_>
+    requires { limit ≤ most_depth }
+    ensures within { IfOk result (λ x. x.1 ≤ limit + 1) }
+    ensures exact { Gives tree_read result (merge_on (read limit Whole) refuse [] (Some (span, tokens_seen tokens.now))) }
+{
+    let (name, rest) = identifier(alloc, tokens)?;
+    let (branches, depth, rest) = parts(alloc, Form::Merge, limit, rest)?;
+    Ok((trees::merge(alloc, span, name, branches)?, depth + 1, rest))
 }
 
 #[cycle(parser)]
@@ -223,7 +232,7 @@ fn dotted(alloc: Global, limit: u32, tokens: Tokens<'_>) -> Read<'_>
 }
 
 #[cycle(parser)]
-#[tactic(auto, unfolding(lus_spelling::specs::Reading::read, lus_spelling::specs::Reading::read_atom, lus_spelling::specs::Reading::atom_at, lus_spelling::specs::Reading::operands_at))]
+#[tactic(auto, unfolding(lus_spelling::specs::Reading::read, lus_spelling::specs::Reading::read_atom, lus_spelling::specs::Reading::atom_at))]
 fn atom(alloc: Global, limit: u32, tokens: Tokens<'_>) -> Read<'_>
     requires { limit ≤ most_depth }
     ensures within { IfOk result (λ x. x.1 ≤ limit + 1) }
@@ -231,15 +240,31 @@ fn atom(alloc: Global, limit: u32, tokens: Tokens<'_>) -> Read<'_>
 {
     match list_operator(tokens) {
         None => plain(alloc, limit, tokens),
-        Some((operator, span, after)) => {
-            let Some((_, rest)) = symbol(Symbol::Open, after) else {
-                return Err(ParseError::Syntax(after.len()));
-            };
-            let (operands, depth, rest) = parts(alloc, Form::Call, limit, rest)?;
-            let tree = trees::variadic(alloc, operator, span, operands)?;
-            Ok((tree, depth + 1, rest))
-        }
+        Some((operator, span, rest)) => operands(alloc, limit, operator, span, rest),
     }
+}
+
+/// The operands after an operator before a list.
+#[cycle(parser)]
+#[tactic(auto, unfolding(lus_spelling::specs::Reading::operands_at, lus_spelling::specs::Reading::listed_at))]
+fn operands(
+    alloc: Global,
+    limit: u32,
+    operator: ListOperator,
+    span: Span,
+    tokens: Tokens<'_>,
+) -> Read<'_>
+    requires { limit ≤ most_depth }
+    ensures within { IfOk result (λ x. x.1 ≤ limit + 1) }
+    ensures exact { Gives tree_read result (operands_at (read limit Whole) operator span (tokens_seen tokens.now)) }
+{
+    let rest = expect_symbol(Symbol::Open, tokens)?;
+    let (operands, depth, rest) = parts(alloc, Form::Call, limit, rest)?;
+    Ok((
+        trees::variadic(alloc, operator, span, operands)?,
+        depth + 1,
+        rest,
+    ))
 }
 
 /// An atom that begins with no operator.
@@ -288,7 +313,7 @@ fn named(alloc: Global, limit: u32, name: Name, tokens: Tokens<'_>) -> Read<'_>
 fn parts(alloc: Global, form: Form, limit: u32, tokens: Tokens<'_>) -> Parts<'_>
     requires { limit ≤ most_depth }
     ensures within { IfOk result (λ x. x.1 ≤ limit) }
-    ensures exact { Gives parts_read result (parts_at (length tokens.now + 1) form (read limit Whole) [] 0 (tokens_seen tokens.now)) }
+    ensures exact { Gives parts_read result (parts_at (length (tokens_seen tokens.now) + 1) form (read limit Whole) [] 0 (tokens_seen tokens.now)) }
 {
     let mut found = Vec::with_capacity(alloc, 1)?;
     let (mut deepest, mut rest) = begun(0u32, tokens);
