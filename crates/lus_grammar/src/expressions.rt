@@ -179,6 +179,7 @@ fn with_right(
 }
 
 #[cycle(parser)]
+#[tactic(auto, using(crate::proofs::Steps::prefixed_is))]
 fn prefixed(alloc: Global, head: Head, limit: u32, tokens: Tokens<'_>) -> Read<'_>
     requires { limit ≤ most_depth }
     ensures within { IfOk result (λ x. x.1 ≤ limit + 1) }

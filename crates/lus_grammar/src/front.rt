@@ -5,7 +5,7 @@ ghost use Rattle.lus_syntax.specs.Lexemes.{Sign, Keyword};
 ghost use Rattle.lus_syntax.specs.Trees.{named};
 ghost use Rattle.lus_syntax.specs.View.{tokens_seen, name_seen, label_seen, test_seen};
 ghost use Rattle.lus_spelling.specs.Reading.{front, expect, identifier_at, label_at, closed_name_at, test_at};
-ghost use Rattle.lus_spelling.specs.ReadingDeclarations.{skip, after, further, at_name};
+ghost use Rattle.lus_spelling.specs.ReadingDeclarations.{skip, further, at_name};
 ghost use Rattle.lus_grammar.specs.Answers.{Gives};
 
 use crate::fault::{ParseError, Tokens};
@@ -64,14 +64,6 @@ pub fn skip_symbol(wanted: Symbol, tokens: Tokens<'_>) -> Tokens<'_>
     tokens
 }
 
-/// The tokens after a symbol that may stand between items.
-pub fn after(wanted: Symbol, tokens: Tokens<'_>) -> Option<Tokens<'_>>
-    ensures { option_map (λ x. tokens_seen x.now) result ≡ after (Sign wanted) (tokens_seen tokens.now) }
-{
-    let (_, rest) = symbol(wanted, tokens)?;
-    Some(rest)
-}
-
 /// The tokens after a semicolon that isn't the last before `close`.
 pub fn further(close: Symbol, tokens: Tokens<'_>) -> Option<Tokens<'_>>
     ensures { option_map (λ x. tokens_seen x.now) result ≡ further close (tokens_seen tokens.now) }
@@ -94,8 +86,8 @@ pub fn begun<T>(found: T, tokens: Tokens<'_>) -> (T, Tokens<'_>)
 pub fn at_name(tokens: Tokens<'_>) -> Option<Tokens<'_>>
     ensures { option_map (λ x. tokens_seen x.now) result ≡ at_name (tokens_seen tokens.now) }
 {
-    match tokens.first()?.kind {
-        TokenKind::Identifier(_) => Some(tokens),
+    match tokens {
+        [first, ..] if matches!(first.kind, TokenKind::Identifier(_)) => Some(tokens),
         _ => None,
     }
 }

@@ -31,7 +31,7 @@ pub trait Turns {
         ensures { Gives (read_as seen) result (turn (seen found) (tokens_seen tokens.now)) };
 }
 
-/// Items that stand one after the other.
+/// A kind of list: what its items are, and where another one begins.
 pub trait Items {
     type Item: Drop;
 
@@ -47,6 +47,7 @@ pub trait Items {
     fn next(tokens: Tokens<'_>) -> Option<Tokens<'_>>
         ensures { option_map (λ x. tokens_seen x.now) result ≡ next (tokens_seen tokens.now) };
 
+    /// The item at the front.
     fn item(alloc: Global, tokens: Tokens<'_>) -> Parsed<'_, Self::Item>
         ensures { Gives (read_as seen) result (item (tokens_seen tokens.now)) };
 }

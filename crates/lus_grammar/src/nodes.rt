@@ -32,6 +32,7 @@ fn left(alloc: Global, tokens: Tokens<'_>) -> Parsed<'_, Vec<Name>>
     }
 }
 
+/// Equations, each with its semicolon.
 struct EquationList;
 
 impl Items for EquationList {

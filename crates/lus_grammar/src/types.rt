@@ -9,15 +9,14 @@ ghost use Rattle.lus_spelling.specs.Reading.{identifier_at};
 ghost use Rattle.lus_spelling.specs.ReadingDeclarations.{after, further, at_name, names_at, type_name_at, fields_at, enumeration_at, structure_at, definition_at, type_at};
 
 use crate::fault::{ParseError, Parsed, Tokens};
-use crate::front::{
-    after, at_name, expect_symbol, further, identifier, name, skip_symbol, symbol, word,
-};
+use crate::front::{at_name, expect_symbol, further, identifier, name, skip_symbol, symbol, word};
 use crate::lists::{Items, several};
 use lus_syntax::{
     Definition, Fields, Name, Symbol, Token, TokenKind, TypeDeclaration, TypeName, Word,
 };
 use std::alloc::Global;
 
+/// Names with commas between.
 struct NameList;
 
 impl Items for NameList {
@@ -32,7 +31,8 @@ impl Items for NameList {
     ghost item = { identifier_at };
 
     fn next(tokens: Tokens<'_>) -> Option<Tokens<'_>> {
-        after(Symbol::Comma, tokens)
+        let (_, rest) = symbol(Symbol::Comma, tokens)?;
+        Some(rest)
     }
 
     fn item(alloc: Global, tokens: Tokens<'_>) -> Parsed<'_, Name> {
@@ -40,7 +40,7 @@ impl Items for NameList {
     }
 }
 
-/// Names with commas between.
+/// One name or more, with commas between.
 pub fn names(alloc: Global, tokens: Tokens<'_>) -> Parsed<'_, Vec<Name>>
     ensures { Gives (λ x. (names_seen x.0.items, tokens_seen x.1.now)) result (names_at (tokens_seen tokens.now)) }
 {
