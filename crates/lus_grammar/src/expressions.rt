@@ -5,7 +5,8 @@ ghost use Rattle.std.specs.Prelude.{◌≤◌, ◌<◌, ◌+◌, suc, [], length
 ghost use Rattle.lus_syntax.specs.Limits.{most_depth};
 ghost use Rattle.lus_syntax.specs.View.{tokens_seen, name_seen, expression_seen};
 ghost use Rattle.lus_spelling.specs.Expressions.{Whole, Arrow, Else, Primary, Dotted, Atom};
-ghost use Rattle.lus_spelling.specs.Reading.{found, two_on, merge_on, refuse, operands_at, part_at, parts_at, name_at, parentheses_at, plain_at, branches_at, read};
+ghost use Rattle.lus_spelling.specs.Reading.{found, two_on, merge_on, refuse, operands_at, part_at, parts_at, name_at};
+ghost use Rattle.lus_spelling.specs.Reading.{parentheses_at, plain_at, branches_at, read};
 ghost use Rattle.lus_grammar.specs.Rules.{level_of, head_level, rule_level};
 ghost use Rattle.lus_grammar.specs.Answers.{Gives, tree_read, part_read, parts_read};
 
@@ -134,17 +135,10 @@ fn joined(alloc: Global, chain: Chain, limit: u32, tokens: Tokens<'_>) -> Read<'
     ensures within { IfOk result (λ x. x.1 ≤ limit + 1) }
     ensures exact { Gives tree_read result (read (suc limit) (level_of chain) (tokens_seen tokens.now)) }
 {
-    let (mut left, mut depth, mut rest) = by_rule(alloc, operand(chain), limit, tokens)?;
+    let rule = operand(chain);
+    let (mut left, mut depth, mut rest) = by_rule(alloc, rule, limit, tokens)?;
     while let Some((operator, after)) = infix(chain, &*left, rest) {
-        let (tree, deeper, after) = with_right(
-            alloc,
-            operator,
-            operand(chain),
-            limit,
-            left,
-            depth,
-            after,
-        )?;
+        let (tree, deeper, after) = with_right(alloc, operator, rule, limit, left, depth, after)?;
         left = tree;
         depth = deeper;
         rest = after;
@@ -314,7 +308,8 @@ fn named(alloc: Global, limit: u32, name: Name, tokens: Tokens<'_>) -> Read<'_>
 fn parts(alloc: Global, form: Form, limit: u32, tokens: Tokens<'_>) -> Parts<'_>
     requires { limit ≤ most_depth }
     ensures within { IfOk result (λ x. x.1 ≤ limit) }
-    ensures exact { Gives parts_read result (parts_at (length (tokens_seen tokens.now) + 1) form (read limit Whole) [] 0 (tokens_seen tokens.now)) }
+    ensures exact { let ts = tokens_seen tokens.now in
+        Gives parts_read result (parts_at (length ts + 1) form (read limit Whole) [] 0 ts) }
 {
     let mut found = Vec::with_capacity(alloc, 1)?;
     let (mut deepest, mut rest) = begun(0u32, tokens);
