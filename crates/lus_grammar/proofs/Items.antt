@@ -1,10 +1,10 @@
 -- Reading parts one after the other, as a loop does.
-use Rattle.std.proofs.Common.{◌≡◌, ℕ, suc, ◌+◌, ◌-◌, ◌<◌, ◌≤◌, max, true, false, List, [], ◌∷◌, ◌++◌, length, Ok, Err, refl, sym, ap, ◌∙◌, arith, add-one, subst}
+use Rattle.std.proofs.Common.{◌≡◌, ℕ, suc, ◌+◌, ◌-◌, ◌<◌, ◌≤◌, max, true, false, List, [], ◌∷◌, ◌++◌, length, Ok, Err, refl, sym, ap, ◌∙◌, arith}
 use Rattle.lus_grammar.specs.declared.fault.ParseError.{ParseError}
 use Rattle.lus_spelling.specs.declared.form.Form.{Form}
 use Rattle.lus_syntax.specs.Lexemes.{Lexeme}
-use Rattle.lus_syntax.specs.Trees.{Expression, Lead, Parts, parts_of}
-use Rattle.lus_spelling.specs.Reading.{Syntax, found, Reader, Several, Item, ◌>>=◌, turn_at, part_at, parts_at, onward, listed_at}
+use Rattle.lus_syntax.specs.Trees.{Expression, Lead}
+use Rattle.lus_spelling.specs.Reading.{Syntax, Reader, Several, Item, ◌>>=◌, turn_at, part_at, parts_at, onward}
 use Rattle.lus_grammar.specs.Answers.{Fails}
 use Rattle.lus_syntax.specs.View.{tokens_seen}
 use Rattle.lus_syntax.specs.declared.token.Token.{Token}
@@ -35,15 +35,3 @@ module _ (form : Form) (whole : Reader) (us : List (Lead × Expression)) (d coun
 pub seen_length : (ts : List Token) → length ts ≡ length (tokens_seen ts)
 seen_length [] = refl
 seen_length (t ∷ ts) = ap suc (seen_length ts)
-
--- the parts of a tree
-module _ (make : Parts → Expression) (form : Form) (whole : Reader) (ts : List Lexeme) where
-  pub listed_fails : (k : ℕ) (e : ParseError) → k ≡ length ts → Fails e (parts_at (k + 1) form whole [] 0 ts) → Fails e (listed_at make form whole ts)
-  unfolding listed_at
-  listed_fails k e same h = bind_fails e (parts_at (length ts + 1) form whole [] 0 ts) _ (subst (λ (n : ℕ). Fails e (parts_at (n + 1) form whole [] 0 ts)) same h)
-
-  pub listed_ok : (k : ℕ) (us : List (Lead × Expression)) (d : ℕ) (rest : List Lexeme) (t : Expression) → k ≡ length ts → parts_at (k + 1) form whole [] 0 ts ≡ Ok (us, d, rest) → t ≡ make (parts_of us) → listed_at make form whole ts ≡ Ok (found t (d + 1) rest)
-  unfolding listed_at
-  listed_ok k us d rest t same h e =
-      let h2 : parts_at (length ts + 1) form whole [] 0 ts ≡ Ok (us, d, rest) = ap (λ (n : ℕ). parts_at (n + 1) form whole [] 0 ts) (sym same) ∙ h in
-      rw (h2, e, add-one d) refl

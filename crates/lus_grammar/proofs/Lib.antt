@@ -1,7 +1,5 @@
-pub mod Loop
+pub mod Depths
 pub mod Steps
-pub mod Dots
 pub mod Items
 pub mod Turns
-pub mod Shorter
 pub mod Refusals

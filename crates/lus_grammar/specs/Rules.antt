@@ -6,7 +6,9 @@ use Rattle.lus_grammar.specs.declared.operators.Chain.{Chain}
 use Rattle.lus_grammar.specs.declared.operators.Chain.TheVariants as chains
 use Rattle.lus_grammar.specs.declared.operators.Head.{Head}
 use Rattle.lus_grammar.specs.declared.operators.Head.TheVariants as heads
-use Rattle.lus_spelling.specs.Expressions.{Level, Implication, Disjunction, Conjunction, Negation, Negated, Comparison, Sum, Term, Signed, Primary}
+use Rattle.lus_grammar.specs.declared.operators.Rule.{Rule}
+use Rattle.lus_grammar.specs.declared.operators.Rule.TheVariants as variants
+use Rattle.lus_spelling.specs.Expressions.{Level, Whole, Arrow, Else, Implication, Disjunction, Conjunction, Negation, Negated, Comparison, Sum, Term, Signed, Primary}
 
 abbrev pub level_of : Chain → Level
 level_of chains.Implication = Implication
@@ -41,6 +43,14 @@ abbrev pub head_other : Head → Level
 head_other heads.Negation = Comparison
 head_other heads.Negated = Signed
 head_other heads.Signed = Primary
+
+abbrev pub rule_level : Rule → Level
+rule_level variants.Whole = Whole
+rule_level variants.Arrow = Arrow
+rule_level variants.Else = Else
+rule_level (variants.Joined c) = level_of c
+rule_level (variants.Prefixed h) = head_level h
+rule_level variants.Primary = Primary
 
 -- how tight a rule must be, at least, to begin there
 abbrev pub entry_of : Entry → ℕ

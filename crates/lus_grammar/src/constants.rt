@@ -1,12 +1,14 @@
 //! Declarations of constants.
 
-ghost use Rattle.std.specs.Prelude.{map, option_map};
+ghost use Rattle.std.specs.Prelude.{option_map};
+ghost use Rattle.lus_syntax.specs.Trees as plain;
 ghost use Rattle.lus_syntax.specs.View.{tokens_seen, type_name_seen, literal_seen, constant_seen};
-ghost use Rattle.lus_grammar.specs.Answers.{Gives, read_as, all_read_as};
-ghost use Rattle.lus_spelling.specs.ReadingDeclarations.{several_at, at_name, negative_at, literal_at, type_of_at, constant_at};
+ghost use Rattle.lus_grammar.specs.Answers.{Gives, read_as};
+ghost use Rattle.lus_spelling.specs.ReadingDeclarations.{at_name, negative_at, literal_at, type_of_at, constant_at};
 
 use crate::fault::{ParseError, Parsed, Tokens};
-use crate::front::{begins_name, expect_symbol, identifier, name, symbol};
+use crate::front::{at_name, expect_symbol, identifier, name, symbol};
+use crate::lists::Items;
 use crate::types::type_name;
 use lus_syntax::{Constant, Literal, Span, Symbol, Token, TokenKind, TypeName, Word};
 use std::alloc::Global;
@@ -56,38 +58,36 @@ fn type_of(alloc: Global, tokens: Tokens<'_>) -> Parsed<'_, Option<TypeName>>
     }
 }
 
-#[tactic(auto, unfolding(lus_spelling::specs::ReadingDeclarations::constant_at))]
-fn constant(alloc: Global, tokens: Tokens<'_>) -> Parsed<'_, Constant>
-    ensures { Gives (read_as constant_seen) result (constant_at (tokens_seen tokens.now)) }
-{
-    let (name, rest) = identifier(alloc, tokens)?;
-    let (type_name, rest) = type_of(alloc, rest)?;
-    let rest = expect_symbol(Symbol::Equal, rest)?;
-    let (value, rest) = literal(alloc, rest)?;
-    let rest = expect_symbol(Symbol::Semicolon, rest)?;
-    let constant = Constant {
-        name,
-        type_name,
-        value,
-    };
-    Ok((constant, rest))
-}
+/// What stands after `const`.
+pub struct ConstantList;
 
-/// What stands after `const`, behind the constants that were found before.
-pub fn constants(
-    alloc: Global,
-    mut found: Vec<Constant>,
-    tokens: Tokens<'_>,
-) -> Parsed<'_, Vec<Constant>>
-    ensures { let before = map constant_seen found.items in
-        Gives (all_read_as constant_seen) result (several_at at_name constant_at before (tokens_seen tokens.now)) }
-{
-    let (first, mut rest) = constant(alloc, tokens)?;
-    found.push(first)?;
-    while begins_name(rest) {
-        let (next, after) = constant(alloc, rest)?;
-        found.push(next)?;
-        rest = after;
+impl Items for ConstantList {
+    type Item = Constant;
+
+    ghost Seen = { plain.Constant };
+
+    ghost seen = { constant_seen };
+
+    ghost next = { at_name };
+
+    ghost item = { constant_at };
+
+    fn next(tokens: Tokens<'_>) -> Option<Tokens<'_>> {
+        at_name(tokens)
     }
-    Ok((found, rest))
+
+    #[tactic(auto, unfolding(lus_spelling::specs::ReadingDeclarations::constant_at))]
+    fn item(alloc: Global, tokens: Tokens<'_>) -> Parsed<'_, Constant> {
+        let (name, rest) = identifier(alloc, tokens)?;
+        let (type_name, rest) = type_of(alloc, rest)?;
+        let rest = expect_symbol(Symbol::Equal, rest)?;
+        let (value, rest) = literal(alloc, rest)?;
+        let rest = expect_symbol(Symbol::Semicolon, rest)?;
+        let constant = Constant {
+            name,
+            type_name,
+            value,
+        };
+        Ok((constant, rest))
+    }
 }

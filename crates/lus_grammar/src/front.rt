@@ -5,7 +5,7 @@ ghost use Rattle.lus_syntax.specs.Lexemes.{Sign, Keyword};
 ghost use Rattle.lus_syntax.specs.Trees.{named};
 ghost use Rattle.lus_syntax.specs.View.{tokens_seen, name_seen, label_seen, test_seen};
 ghost use Rattle.lus_spelling.specs.Reading.{front, expect, identifier_at, label_at, closed_name_at, test_at};
-ghost use Rattle.lus_spelling.specs.ReadingDeclarations.{skip, further, begins_named, begins_equation};
+ghost use Rattle.lus_spelling.specs.ReadingDeclarations.{skip, further, at_name};
 ghost use Rattle.lus_grammar.specs.Answers.{Gives};
 
 use crate::fault::{ParseError, Tokens};
@@ -82,27 +82,14 @@ pub fn begun<T>(found: T, tokens: Tokens<'_>) -> (T, Tokens<'_>)
     (found, tokens)
 }
 
-/// Whether a name stands at the front.
-pub fn begins_name(tokens: Tokens<'_>) -> bool
-    ensures { result ≡ begins_named (tokens_seen tokens.now) }
+/// The tokens, where a name stands at the front.
+pub fn at_name(tokens: Tokens<'_>) -> Option<Tokens<'_>>
+    ensures { option_map (λ x. tokens_seen x.now) result ≡ at_name (tokens_seen tokens.now) }
 {
-    match tokens.first() {
-        Some(first) => matches!(first.kind, TokenKind::Identifier(_)),
-        None => false,
+    match tokens {
+        [first, ..] if matches!(first.kind, TokenKind::Identifier(_)) => Some(tokens),
+        _ => None,
     }
-}
-
-/// Whether an equation may stand at the front.
-pub fn begins_equation(tokens: Tokens<'_>) -> bool
-    ensures { result ≡ begins_equation (tokens_seen tokens.now) }
-{
-    let Some(first) = tokens.first() else {
-        return false;
-    };
-    matches!(
-        first.kind,
-        TokenKind::Identifier(_) | TokenKind::Punctuation(Symbol::Open)
-    )
 }
 
 /// The name that a token spells.

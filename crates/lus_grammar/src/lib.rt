@@ -5,6 +5,7 @@ mod constants;
 mod expressions;
 mod fault;
 mod front;
+mod lists;
 mod nodes;
 mod openings;
 mod operators;

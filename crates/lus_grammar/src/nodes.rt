@@ -1,19 +1,20 @@
 //! Equations and nodes.
 
-ghost use Rattle.std.specs.Prelude.{◌≡◌, []};
+ghost use Rattle.std.specs.Prelude.{◌≡◌};
+ghost use Rattle.lus_syntax.specs.Trees as plain;
 ghost use Rattle.lus_syntax.specs.Limits.{most_depth};
 ghost use Rattle.lus_syntax.specs.View.{tokens_seen, names_seen, equation_seen, node_seen};
 ghost use Rattle.lus_grammar.specs.Answers.{Gives, read_as, all_read_as};
-ghost use Rattle.lus_spelling.specs.ReadingDeclarations.{others_at, at_equation, left_at, ended, equation_at, body_at, node_at};
+ghost use Rattle.lus_spelling.specs.ReadingDeclarations.{at_equation, left_at, ended, equation_at, body_at, node_at};
 
 use crate::expressions::inside;
 use crate::fault::{Parsed, Tokens};
-use crate::front::{
-    begins_equation, begun, expect_symbol, expect_word, identifier, skip_symbol, symbol,
-};
+use crate::front::{expect_symbol, expect_word, identifier, skip_symbol, symbol};
+use crate::lists::{Items, in_turns};
+use crate::operators::Rule;
 use crate::types::names;
 use crate::variables::{inputs, locals, outputs};
-use lus_syntax::{Equation, MOST_DEPTH, Name, Node, NodeKind, Symbol, Word};
+use lus_syntax::{Equation, MOST_DEPTH, Name, Node, NodeKind, Symbol, TokenKind, Word};
 use std::alloc::Global;
 
 /// The variables on the left, in parentheses or not.
@@ -31,28 +32,36 @@ fn left(alloc: Global, tokens: Tokens<'_>) -> Parsed<'_, Vec<Name>>
     }
 }
 
-#[tactic(auto, unfolding(lus_spelling::specs::ReadingDeclarations::equation_at))]
-fn equation(alloc: Global, tokens: Tokens<'_>) -> Parsed<'_, Equation>
-    ensures { Gives (read_as equation_seen) result (equation_at most_depth (tokens_seen tokens.now)) }
-{
-    let (left, rest) = left(alloc, tokens)?;
-    let rest = expect_symbol(Symbol::Equal, rest)?;
-    let (right, _, rest) = inside(alloc, MOST_DEPTH, rest)?;
-    let rest = expect_symbol(Symbol::Semicolon, rest)?;
-    let right = Box::into_inner(right);
-    Ok((Equation { left, right }, rest))
-}
+/// Equations, each with its semicolon.
+struct EquationList;
 
-fn equations(alloc: Global, tokens: Tokens<'_>) -> Parsed<'_, Vec<Equation>>
-    ensures { Gives (all_read_as equation_seen) result (others_at at_equation (equation_at most_depth) [] (tokens_seen tokens.now)) }
-{
-    let (mut found, mut rest) = begun(Vec::new(alloc), tokens);
-    while begins_equation(rest) {
-        let (next, after) = equation(alloc, rest)?;
-        found.push(next)?;
-        rest = after;
+impl Items for EquationList {
+    type Item = Equation;
+
+    ghost Seen = { plain.Equation };
+
+    ghost seen = { equation_seen };
+
+    ghost next = { at_equation };
+
+    ghost item = { equation_at most_depth };
+
+    fn next(tokens: Tokens<'_>) -> Option<Tokens<'_>> {
+        match tokens.first()?.kind {
+            TokenKind::Identifier(_) | TokenKind::Punctuation(Symbol::Open) => Some(tokens),
+            _ => None,
+        }
     }
-    Ok((found, rest))
+
+    #[tactic(auto, unfolding(lus_spelling::specs::ReadingDeclarations::equation_at))]
+    fn item(alloc: Global, tokens: Tokens<'_>) -> Parsed<'_, Equation> {
+        let (left, rest) = left(alloc, tokens)?;
+        let rest = expect_symbol(Symbol::Equal, rest)?;
+        let (right, _, rest) = inside(alloc, Rule::Whole, MOST_DEPTH, rest)?;
+        let rest = expect_symbol(Symbol::Semicolon, rest)?;
+        let right = Box::into_inner(right);
+        Ok((Equation { left, right }, rest))
+    }
 }
 
 /// The tokens after what may follow `tel`.
@@ -71,7 +80,7 @@ fn body(alloc: Global, tokens: Tokens<'_>) -> Parsed<'_, Vec<Equation>>
     ensures { Gives (all_read_as equation_seen) result (body_at most_depth (tokens_seen tokens.now)) }
 {
     let rest = expect_word(Word::Let, tokens)?;
-    let (equations, rest) = equations(alloc, rest)?;
+    let (equations, rest) = in_turns::<EquationList>(alloc, Vec::new(alloc), rest)?;
     let rest = expect_word(Word::Tel, rest)?;
     Ok((equations, after_end(rest)))
 }

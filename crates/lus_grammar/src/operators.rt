@@ -5,7 +5,7 @@ ghost use Rattle.lus_syntax.specs.Lexemes.{Sign, Keyword};
 ghost use Rattle.lus_syntax.specs.View.{kind_seen, tokens_seen, expression_seen};
 ghost use Rattle.lus_spelling.specs.Expressions.{joined_at, infix_of, mixing_of, mixes, may_join, prefix_of, list_operator_of};
 ghost use Rattle.lus_spelling.specs.Reading.{entry, infix_at, list_operator_at, prefix_at};
-ghost use Rattle.lus_grammar.specs.Rules.{entry_of, level_of, operand_of, head_level, head_operand};
+ghost use Rattle.lus_grammar.specs.Rules.{entry_of, level_of, operand_of, head_level, head_operand, head_other, rule_level};
 
 use crate::fault::Tokens;
 use crate::openings::Entry;
@@ -30,6 +30,17 @@ pub enum Head {
     Negation,
     Negated,
     Signed,
+}
+
+/// The rules that read expressions.
+#[derive(Clone, Copy)]
+pub enum Rule {
+    Whole,
+    Arrow,
+    Else,
+    Joined(Chain),
+    Prefixed(Head),
+    Primary,
 }
 
 fn mixing_of(operator: Infix) -> Mixing
@@ -176,22 +187,42 @@ pub fn after_prefix(head: Head) -> Head
     }
 }
 
-/// What the operands of a chain may begin with.
-pub fn operand_entry(chain: Chain) -> Entry
-    ensures { entry_of result ≡ entry (operand_of chain) }
+/// The rule of a chain's operands.
+pub fn operand(chain: Chain) -> Rule
+    ensures { rule_level result ≡ operand_of chain }
 {
     match chain {
-        Chain::Implication | Chain::Disjunction | Chain::Conjunction => Entry::Negation,
-        Chain::Comparison | Chain::Sum | Chain::Term => Entry::Signed,
+        Chain::Implication => Rule::Joined(Chain::Disjunction),
+        Chain::Disjunction => Rule::Joined(Chain::Conjunction),
+        Chain::Conjunction => Rule::Prefixed(Head::Negation),
+        Chain::Comparison => Rule::Joined(Chain::Sum),
+        Chain::Sum => Rule::Joined(Chain::Term),
+        Chain::Term => Rule::Prefixed(Head::Signed),
     }
 }
 
-/// What an expression with operators before an operand may begin with.
-pub fn head_entry(head: Head) -> Entry
-    ensures { entry_of result ≡ entry (head_level head) }
+/// The rule for what stands where no operator does.
+pub fn without_prefix(head: Head) -> Rule
+    ensures { rule_level result ≡ head_other head }
 {
     match head {
-        Head::Negation | Head::Negated => Entry::Negation,
-        Head::Signed => Entry::Signed,
+        Head::Negation => Rule::Joined(Chain::Comparison),
+        Head::Negated => Rule::Prefixed(Head::Signed),
+        Head::Signed => Rule::Primary,
+    }
+}
+
+/// What an expression by a rule may begin with.
+pub fn entry(rule: Rule) -> Entry
+    ensures { entry_of result ≡ entry (rule_level rule) }
+{
+    match rule {
+        Rule::Whole | Rule::Arrow | Rule::Else => Entry::Choice,
+        Rule::Joined(Chain::Implication | Chain::Disjunction | Chain::Conjunction) =>
+            Entry::Negation,
+        Rule::Prefixed(Head::Negation | Head::Negated) => Entry::Negation,
+        Rule::Joined(Chain::Comparison | Chain::Sum | Chain::Term) => Entry::Signed,
+        Rule::Prefixed(Head::Signed) => Entry::Signed,
+        Rule::Primary => Entry::Primary,
     }
 }

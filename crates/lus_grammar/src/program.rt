@@ -1,73 +1,74 @@
 //! Whole sources.
 
 ghost use Rattle.std.specs.Prelude.{◌≡◌, ◌≢◌, ◌≤◌, IfOk, IfErr};
+ghost use Rattle.lus_syntax.specs.Trees as plain;
 ghost use Rattle.lus_syntax.specs.Limits.{most_depth};
 ghost use Rattle.lus_syntax.specs.View.{tokens_seen, tree_seen};
 ghost use Rattle.lus_spelling.specs.Declarations.{SpellsProgram, tree_depth};
 ghost use Rattle.lus_grammar.specs.Answers.{Gives, read_as, Numbered, Answers, RefusedRightly, ReadsAll};
-ghost use Rattle.lus_spelling.specs.ReadingDeclarations.{more_node, declaration_at, program_at};
+ghost use Rattle.lus_spelling.specs.ReadingDeclarations.{at_token, more_node, declaration_at, program_at};
 
-use crate::constants::constants;
+use crate::constants::ConstantList;
 use crate::fault::{ParseError, Parsed, Tokens};
-use crate::front::begun;
+use crate::lists::{Turns, in_turns, several};
 use crate::nodes::node;
-use crate::types::type_declarations;
+use crate::types::TypeList;
 use lus_syntax::{NodeKind, Place, Refusal, RefusalNumber, Token, TokenKind, Tree, Word};
 use std::alloc::Global;
 
 /// A node behind the declarations that were found before.
-fn with_node(alloc: Global, kind: NodeKind, found: Tree, tokens: Tokens<'_>) -> Parsed<'_, Tree>
+fn with_node(alloc: Global, kind: NodeKind, mut found: Tree, tokens: Tokens<'_>) -> Parsed<'_, Tree>
     ensures { Gives (read_as tree_seen) result (more_node most_depth kind (tree_seen found) (tokens_seen tokens.now)) }
 {
-    let Tree {
-        types,
-        constants,
-        mut nodes,
-    } = found;
     let (next, rest) = node(alloc, kind, tokens)?;
-    nodes.push(next)?;
-    let tree = Tree {
-        types,
-        constants,
-        nodes,
-    };
-    Ok((tree, rest))
+    found.nodes.push(next)?;
+    Ok((found, rest))
 }
 
-/// One declaration behind those that were found before.
-#[tactic(auto, unfolding(lus_spelling::specs::ReadingDeclarations::declaration_at))]
-fn declaration(alloc: Global, found: Tree, tokens: Tokens<'_>) -> Parsed<'_, Tree>
-    ensures { Gives (read_as tree_seen) result (declaration_at most_depth (tree_seen found) (tokens_seen tokens.now)) }
-{
-    let Some((first, rest)) = tokens.split_first() else {
-        return Err(ParseError::Syntax(0));
-    };
-    match first.kind {
-        TokenKind::Keyword(Word::Type) => {
-            let (types, rest) = type_declarations(alloc, found.types, rest)?;
-            let tree = Tree {
-                types,
-                constants: found.constants,
-                nodes: found.nodes,
-            };
-            Ok((tree, rest))
+/// The declarations of a source.
+struct Declarations;
+
+impl Turns for Declarations {
+    type Found = Tree;
+
+    ghost Seen = { plain.Tree };
+
+    ghost seen = { tree_seen };
+
+    ghost begins = { at_token };
+
+    ghost turn = { declaration_at most_depth };
+
+    fn begins(tokens: Tokens<'_>) -> Option<Tokens<'_>> {
+        match tokens {
+            [] => None,
+            [_, ..] => Some(tokens),
         }
-        TokenKind::Keyword(Word::Const) => {
-            let (constants, rest) = constants(alloc, found.constants, rest)?;
-            let tree = Tree {
-                types: found.types,
-                constants,
-                nodes: found.nodes,
-            };
-            Ok((tree, rest))
+    }
+
+    #[tactic(auto, unfolding(lus_spelling::specs::ReadingDeclarations::declaration_at))]
+    fn turn(alloc: Global, found: Tree, tokens: Tokens<'_>) -> Parsed<'_, Tree> {
+        let Some((first, rest)) = tokens.split_first() else {
+            return Err(ParseError::Syntax(0));
+        };
+        match first.kind {
+            TokenKind::Keyword(Word::Type) => {
+                let (types, rest) = several::<TypeList>(alloc, found.types, rest)?;
+                Ok((Tree { types, ..found }, rest))
+            }
+            TokenKind::Keyword(Word::Const) => {
+                let (constants, rest) = several::<ConstantList>(alloc, found.constants, rest)?;
+                Ok((Tree { constants, ..found }, rest))
+            }
+            TokenKind::Keyword(Word::Node) => with_node(alloc, NodeKind::Node, found, rest),
+            TokenKind::Keyword(Word::Function) => with_node(alloc, NodeKind::Function, found, rest),
+            _ => Err(ParseError::Syntax(tokens.len())),
         }
-        TokenKind::Keyword(Word::Node) => with_node(alloc, NodeKind::Node, found, rest),
-        TokenKind::Keyword(Word::Function) => with_node(alloc, NodeKind::Function, found, rest),
-        _ => Err(ParseError::Syntax(tokens.len())),
     }
 }
 
-/// The declarations of a whole source.
+/// The tree of a whole source.
+#[tactic(auto, unfolding(lus_spelling::specs::ReadingDeclarations::program_at))]
 fn program(alloc: Global, tokens: Tokens<'_>) -> Result<Tree, ParseError>
     ensures { Gives tree_seen result (program_at most_depth (tokens_seen tokens.now)) }
 {
@@ -76,12 +77,7 @@ fn program(alloc: Global, tokens: Tokens<'_>) -> Result<Tree, ParseError>
         constants: Vec::new(alloc),
         nodes: Vec::new(alloc),
     };
-    let (mut tree, mut rest) = begun(empty, tokens);
-    while !rest.is_empty() {
-        let (more, after) = declaration(alloc, tree, rest)?;
-        tree = more;
-        rest = after;
-    }
+    let (tree, _) = in_turns::<Declarations>(alloc, empty, tokens)?;
     Ok(tree)
 }
 

@@ -1,33 +1,50 @@
 //! Names, and declarations of types.
 
-ghost use Rattle.std.specs.Prelude.{[], map};
-ghost use Rattle.lus_syntax.specs.declared.token.Symbol.TheVariants.{CloseBrace};
-ghost use Rattle.lus_syntax.specs.View.{tokens_seen, names_seen, type_name_seen, fields_seen, definition_seen, type_seen};
-ghost use Rattle.lus_grammar.specs.Answers.{Gives, read_as, all_read_as};
-ghost use Rattle.lus_spelling.specs.ReadingDeclarations.{several_at, further, at_name, names_at, type_name_at, fields_at, enumeration_at, structure_at, definition_at, type_at};
+ghost use Rattle.lus_syntax.specs.declared.token.Symbol.TheVariants.{CloseBrace, Comma};
+ghost use Rattle.lus_syntax.specs.Lexemes.{Sign};
+ghost use Rattle.lus_syntax.specs.Trees as plain;
+ghost use Rattle.lus_syntax.specs.View.{tokens_seen, name_seen, names_seen, type_name_seen, fields_seen, definition_seen, type_seen};
+ghost use Rattle.lus_grammar.specs.Answers.{Gives, read_as};
+ghost use Rattle.lus_spelling.specs.Reading.{identifier_at};
+ghost use Rattle.lus_spelling.specs.ReadingDeclarations.{after, further, at_name, names_at, type_name_at, fields_at, enumeration_at, structure_at, definition_at, type_at};
 
 use crate::fault::{ParseError, Parsed, Tokens};
-use crate::front::{
-    begins_name, expect_symbol, further, identifier, name, skip_symbol, symbol, word,
-};
+use crate::front::{at_name, expect_symbol, further, identifier, name, skip_symbol, symbol, word};
+use crate::lists::{Items, several};
 use lus_syntax::{
     Definition, Fields, Name, Symbol, Token, TokenKind, TypeDeclaration, TypeName, Word,
 };
 use std::alloc::Global;
 
 /// Names with commas between.
+struct NameList;
+
+impl Items for NameList {
+    type Item = Name;
+
+    ghost Seen = { plain.Named };
+
+    ghost seen = { name_seen };
+
+    ghost next = { after (Sign Comma) };
+
+    ghost item = { identifier_at };
+
+    fn next(tokens: Tokens<'_>) -> Option<Tokens<'_>> {
+        let (_, rest) = symbol(Symbol::Comma, tokens)?;
+        Some(rest)
+    }
+
+    fn item(alloc: Global, tokens: Tokens<'_>) -> Parsed<'_, Name> {
+        identifier(alloc, tokens)
+    }
+}
+
+/// One name or more, with commas between.
 pub fn names(alloc: Global, tokens: Tokens<'_>) -> Parsed<'_, Vec<Name>>
     ensures { Gives (λ x. (names_seen x.0.items, tokens_seen x.1.now)) result (names_at (tokens_seen tokens.now)) }
 {
-    let mut names = Vec::with_capacity(alloc, 1)?;
-    let (first, mut rest) = identifier(alloc, tokens)?;
-    names.push(first)?;
-    while let Some((_, after)) = symbol(Symbol::Comma, rest) {
-        let (next, after) = identifier(alloc, after)?;
-        names.push(next)?;
-        rest = after;
-    }
-    Ok((names, rest))
+    several::<NameList>(alloc, Vec::with_capacity(alloc, 1)?, tokens)
 }
 
 /// `bool`, `int` or a name.
@@ -58,18 +75,26 @@ pub fn fields(alloc: Global, tokens: Tokens<'_>) -> Parsed<'_, Fields>
 }
 
 /// Fields with semicolons between.
-fn all_fields(alloc: Global, tokens: Tokens<'_>) -> Parsed<'_, Vec<Fields>>
-    ensures { Gives (all_read_as fields_seen) result (several_at (further CloseBrace) fields_at [] (tokens_seen tokens.now)) }
-{
-    let mut found = Vec::new(alloc);
-    let (first, mut rest) = fields(alloc, tokens)?;
-    found.push(first)?;
-    while let Some(after) = further(Symbol::CloseBrace, rest) {
-        let (next, after) = fields(alloc, after)?;
-        found.push(next)?;
-        rest = after;
+struct FieldsList;
+
+impl Items for FieldsList {
+    type Item = Fields;
+
+    ghost Seen = { plain.Fields };
+
+    ghost seen = { fields_seen };
+
+    ghost next = { further CloseBrace };
+
+    ghost item = { fields_at };
+
+    fn next(tokens: Tokens<'_>) -> Option<Tokens<'_>> {
+        further(Symbol::CloseBrace, tokens)
     }
-    Ok((found, rest))
+
+    fn item(alloc: Global, tokens: Tokens<'_>) -> Parsed<'_, Fields> {
+        fields(alloc, tokens)
+    }
 }
 
 /// What stands after `enum`.
@@ -89,7 +114,7 @@ fn structure(alloc: Global, tokens: Tokens<'_>) -> Parsed<'_, Definition>
     ensures { Gives (read_as definition_seen) result (structure_at (tokens_seen tokens.now)) }
 {
     let rest = expect_symbol(Symbol::OpenBrace, tokens)?;
-    let (fields, rest) = all_fields(alloc, rest)?;
+    let (fields, rest) = several::<FieldsList>(alloc, Vec::new(alloc), rest)?;
     let rest = expect_symbol(Symbol::CloseBrace, skip_symbol(Symbol::Semicolon, rest))?;
     Ok((Definition::Structure(fields), rest))
 }
@@ -112,31 +137,30 @@ fn definition(alloc: Global, tokens: Tokens<'_>) -> Parsed<'_, Definition>
     Ok((Definition::Alias(type_name), rest))
 }
 
-#[tactic(auto, unfolding(lus_spelling::specs::ReadingDeclarations::type_at))]
-fn type_declaration(alloc: Global, tokens: Tokens<'_>) -> Parsed<'_, TypeDeclaration>
-    ensures { Gives (read_as type_seen) result (type_at (tokens_seen tokens.now)) }
-{
-    let (name, rest) = identifier(alloc, tokens)?;
-    let rest = expect_symbol(Symbol::Equal, rest)?;
-    let (definition, rest) = definition(alloc, rest)?;
-    let rest = expect_symbol(Symbol::Semicolon, rest)?;
-    Ok((TypeDeclaration { name, definition }, rest))
-}
+/// What stands after `type`.
+pub struct TypeList;
 
-/// What stands after `type`, behind the types that were found before.
-pub fn type_declarations(
-    alloc: Global,
-    mut found: Vec<TypeDeclaration>,
-    tokens: Tokens<'_>,
-) -> Parsed<'_, Vec<TypeDeclaration>>
-    ensures { Gives (all_read_as type_seen) result (several_at at_name type_at (map type_seen found.items) (tokens_seen tokens.now)) }
-{
-    let (first, mut rest) = type_declaration(alloc, tokens)?;
-    found.push(first)?;
-    while begins_name(rest) {
-        let (next, after) = type_declaration(alloc, rest)?;
-        found.push(next)?;
-        rest = after;
+impl Items for TypeList {
+    type Item = TypeDeclaration;
+
+    ghost Seen = { plain.TypeDeclaration };
+
+    ghost seen = { type_seen };
+
+    ghost next = { at_name };
+
+    ghost item = { type_at };
+
+    fn next(tokens: Tokens<'_>) -> Option<Tokens<'_>> {
+        at_name(tokens)
     }
-    Ok((found, rest))
+
+    #[tactic(auto, unfolding(lus_spelling::specs::ReadingDeclarations::type_at))]
+    fn item(alloc: Global, tokens: Tokens<'_>) -> Parsed<'_, TypeDeclaration> {
+        let (name, rest) = identifier(alloc, tokens)?;
+        let rest = expect_symbol(Symbol::Equal, rest)?;
+        let (definition, rest) = definition(alloc, rest)?;
+        let rest = expect_symbol(Symbol::Semicolon, rest)?;
+        Ok((TypeDeclaration { name, definition }, rest))
+    }
 }

@@ -1,15 +1,17 @@
 //! Declarations of variables.
 
-ghost use Rattle.std.specs.Prelude.{[], map, option_map};
+ghost use Rattle.std.specs.Prelude.{List, map, option_map};
 ghost use Rattle.lus_syntax.specs.declared.token.Symbol.TheVariants.{Close};
+ghost use Rattle.lus_syntax.specs.declared.token.Word.TheVariants.{Var};
+ghost use Rattle.lus_syntax.specs.Lexemes.{Keyword};
+ghost use Rattle.lus_syntax.specs.Trees as plain;
 ghost use Rattle.lus_syntax.specs.View.{tokens_seen, test_seen, group_seen};
 ghost use Rattle.lus_grammar.specs.Answers.{Gives, read_as, all_read_as};
-ghost use Rattle.lus_spelling.specs.ReadingDeclarations.{several_at, further, at_name, clock_at, group_at, variables_at, inputs_at, outputs_at, local_at, locals_at};
+ghost use Rattle.lus_spelling.specs.ReadingDeclarations.{several_at, after, further, at_name, clock_at, group_at, variables_at, inputs_at, outputs_at, local_at, locals_at};
 
 use crate::fault::{Parsed, Tokens};
-use crate::front::{
-    begins_name, begun, expect_symbol, expect_word, further, skip_symbol, symbol, test, word,
-};
+use crate::front::{at_name, expect_symbol, expect_word, further, skip_symbol, symbol, test, word};
+use crate::lists::{Items, Turns, in_turns, several};
 use crate::types::fields;
 use lus_syntax::{Fields, Group, Symbol, Test, Word};
 use std::alloc::Global;
@@ -44,18 +46,26 @@ fn group(alloc: Global, tokens: Tokens<'_>) -> Parsed<'_, Group>
 }
 
 /// Groups with semicolons between.
-fn groups(alloc: Global, tokens: Tokens<'_>) -> Parsed<'_, Vec<Group>>
-    ensures { Gives (all_read_as group_seen) result (several_at (further Close) group_at [] (tokens_seen tokens.now)) }
-{
-    let mut found = Vec::new(alloc);
-    let (first, mut rest) = group(alloc, tokens)?;
-    found.push(first)?;
-    while let Some(after) = further(Symbol::Close, rest) {
-        let (next, after) = group(alloc, after)?;
-        found.push(next)?;
-        rest = after;
+struct ParameterList;
+
+impl Items for ParameterList {
+    type Item = Group;
+
+    ghost Seen = { plain.Group };
+
+    ghost seen = { group_seen };
+
+    ghost next = { further Close };
+
+    ghost item = { group_at };
+
+    fn next(tokens: Tokens<'_>) -> Option<Tokens<'_>> {
+        further(Symbol::Close, tokens)
     }
-    Ok((found, rest))
+
+    fn item(alloc: Global, tokens: Tokens<'_>) -> Parsed<'_, Group> {
+        group(alloc, tokens)
+    }
 }
 
 /// Groups, and a last semicolon that may stand.
@@ -63,7 +73,7 @@ fn groups(alloc: Global, tokens: Tokens<'_>) -> Parsed<'_, Vec<Group>>
 fn variables(alloc: Global, tokens: Tokens<'_>) -> Parsed<'_, Vec<Group>>
     ensures { Gives (all_read_as group_seen) result (variables_at (tokens_seen tokens.now)) }
 {
-    let (groups, rest) = groups(alloc, tokens)?;
+    let (groups, rest) = several::<ParameterList>(alloc, Vec::new(alloc), tokens)?;
     Ok((groups, skip_symbol(Symbol::Semicolon, rest)))
 }
 
@@ -93,39 +103,59 @@ pub fn outputs(alloc: Global, tokens: Tokens<'_>) -> Parsed<'_, Vec<Group>>
     Ok((groups, skip_symbol(Symbol::Semicolon, rest)))
 }
 
-/// A group and its semicolon.
-#[tactic(auto, unfolding(lus_spelling::specs::ReadingDeclarations::local_at))]
-fn local(alloc: Global, tokens: Tokens<'_>) -> Parsed<'_, Group>
-    ensures { Gives (read_as group_seen) result (local_at (tokens_seen tokens.now)) }
-{
-    let (group, rest) = group(alloc, tokens)?;
-    let rest = expect_symbol(Symbol::Semicolon, rest)?;
-    Ok((group, rest))
+/// Groups, each with its semicolon: what stands after `var`.
+struct LocalList;
+
+impl Items for LocalList {
+    type Item = Group;
+
+    ghost Seen = { plain.Group };
+
+    ghost seen = { group_seen };
+
+    ghost next = { at_name };
+
+    ghost item = { local_at };
+
+    fn next(tokens: Tokens<'_>) -> Option<Tokens<'_>> {
+        at_name(tokens)
+    }
+
+    #[tactic(auto, unfolding(lus_spelling::specs::ReadingDeclarations::local_at))]
+    fn item(alloc: Global, tokens: Tokens<'_>) -> Parsed<'_, Group> {
+        let (group, rest) = group(alloc, tokens)?;
+        let rest = expect_symbol(Symbol::Semicolon, rest)?;
+        Ok((group, rest))
+    }
 }
 
-/// What stands after `var`, behind the groups that were found before.
-fn section(alloc: Global, mut found: Vec<Group>, tokens: Tokens<'_>) -> Parsed<'_, Vec<Group>>
-    ensures { Gives (all_read_as group_seen) result (several_at at_name local_at (map group_seen found.items) (tokens_seen tokens.now)) }
-{
-    let (first, mut rest) = local(alloc, tokens)?;
-    found.push(first)?;
-    while begins_name(rest) {
-        let (next, after) = local(alloc, rest)?;
-        found.push(next)?;
-        rest = after;
+/// Sections of locals, each after a `var`.
+struct Sections;
+
+impl Turns for Sections {
+    type Found = Vec<Group>;
+
+    ghost Seen = { List plain.Group };
+
+    ghost seen = { λ found. map group_seen found.items };
+
+    ghost begins = { after (Keyword Var) };
+
+    ghost turn = { several_at at_name local_at };
+
+    fn begins(tokens: Tokens<'_>) -> Option<Tokens<'_>> {
+        let (_, rest) = word(Word::Var, tokens)?;
+        Some(rest)
     }
-    Ok((found, rest))
+
+    fn turn(alloc: Global, found: Vec<Group>, tokens: Tokens<'_>) -> Parsed<'_, Vec<Group>> {
+        several::<LocalList>(alloc, found, tokens)
+    }
 }
 
 /// The locals of a node, in any number of sections.
 pub fn locals(alloc: Global, tokens: Tokens<'_>) -> Parsed<'_, Vec<Group>>
     ensures { Gives (all_read_as group_seen) result (locals_at (tokens_seen tokens.now)) }
 {
-    let (mut found, mut rest) = begun(Vec::new(alloc), tokens);
-    while let Some((_, after)) = word(Word::Var, rest) {
-        let (more, after) = section(alloc, found, after)?;
-        found = more;
-        rest = after;
-    }
-    Ok((found, rest))
+    in_turns::<Sections>(alloc, Vec::new(alloc), tokens)
 }
