@@ -2,18 +2,12 @@
 use Rattle.std.proofs.Common.{arith, ◌≡◌, ◌∙◌, sym, ℕ, ◌<◌, ◌≤◌, List, length, ⊎_elim}
 use Rattle.std.proofs.lemmas.Bool.{cases_lt}
 use Rattle.std.proofs.lemmas.List.{get_or_past}
-use Rattle.lus_values.specs.Lists.{item}
+use Rattle.lus_values.specs.Lists.{Below, item}
 use Rattle.lus_values.proofs.Lists.{below_all, below_at}
-use Rattle.lus_graph.specs.Along.{IsFilled, IsLocal, Solves, within}
+use Rattle.lus_graph.specs.Along.{IsFilled, Solves, within}
 use Rattle.lus_graph.specs.Ways.{Uses, IsOrder}
-use Rattle.lus_graph.proofs.AlongOrders.{GivesNothing, alike_solves, all_fit, nothing_solved}
-use Rattle.lus_source.specs.Sized.{AreWithin}
-
--- each of n things has what the step gives it by what those have that it uses; past the things there is e
-pub record IsMeasure {X : Type 0} (uses : Uses) (e : X) (step : (ℕ → X) → ℕ → X) (n : ℕ) : Type 0 where
-  pub count : length uses ≡ n
-  pub local : IsLocal uses step
-  pub nothing : GivesNothing uses e step
+use Rattle.lus_graph.proofs.AlongOrders.{alike_solves, all_fit, nothing_solved}
+use Rattle.lus_source.specs.Sized.{IsMeasure}
 
 module _ {X : Type 0} {uses : Uses} {e : X} {step : (ℕ → X) → ℕ → X} {n : ℕ} (m : IsMeasure uses e step n)
     (order : List ℕ) (o : IsOrder uses order) where
@@ -30,13 +24,12 @@ module _ {X : Type 0} {uses : Uses} {e : X} {step : (ℕ → X) → ℕ → X} {
       let same = alike_solves uses e step m.local (within n e step) (item e table) solved right past in
       ⊎_elim (same.each x) (λ le. past x le ∙ sym (m.nothing (item e table) x le)) (cases_lt x (length uses))
 
-module _ {uses : Uses} {e : ℕ} {step : (ℕ → ℕ) → ℕ → ℕ} {n : ℕ} (m : IsMeasure uses e step n)
-    (order : List ℕ) (o : IsOrder uses order) (most : ℕ) where
-  pub found_within : (table : List ℕ) → IsFilled uses e step (λ k. k ≤ most) order table → AreWithin n (within n e step) most
-  found_within table found = below_all (λ k. within n e step k ≤ most) n (λ k lt.
-      all_fit uses e step (λ k. k ≤ most) order o table found (within n e step) (solved m order o) k (omega (arith, lt, m.count)))
+  module _ (Fits : X → Type 0) where
+    pub found_fit : (table : List X) → IsFilled uses e step Fits order table → Below n (λ x. Fits (within n e step x))
+    found_fit table found = below_all (λ x. Fits (within n e step x)) n (λ x lt.
+        all_fit uses e step Fits order o table found (within n e step) solved x (omega (arith, lt, m.count)))
 
-  pub past_refused : (x : ℕ) → x < length uses → ((at : ℕ → ℕ) → Solves uses e step at → at x ≤ most → ⊥)
-      → AreWithin n (within n e step) most → ⊥
-  past_refused x lt past all =
-      past (within n e step) (solved m order o) (below_at (λ k. within n e step k ≤ most) n all x (omega (arith, lt, m.count)))
+    pub past_refused : (x : ℕ) → x < length uses → ((at : ℕ → X) → Solves uses e step at → Fits (at x) → ⊥)
+        → Below n (λ x. Fits (within n e step x)) → ⊥
+    past_refused x lt past all =
+        past (within n e step) solved (below_at (λ x. Fits (within n e step x)) n all x (omega (arith, lt, m.count)))

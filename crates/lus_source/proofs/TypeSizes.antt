@@ -1,13 +1,13 @@
 -- The sizes of declared types that are found, and what is refused.
-use Rattle.std.proofs.Common.{arith, ◌≡◌, ◌∙◌, refl, sym, ap, subst, ℕ, suc, ◌<◌, ◌≤◌, List, length, map, Contains}
+use Rattle.std.proofs.Common.{arith, ◌≡◌, ◌∙◌, refl, sym, ap, subst, ℕ, suc, ◌≤◌, List, length, map, Contains}
 use Rattle.std.proofs.lemmas.List.{get_or_past, length-map}
 use Rattle.std.proofs.Math.ListN.{get_or-map as get_or_any-map}
-use Rattle.lus_values.specs.Lists.{item}
-use Rattle.lus_graph.specs.Along.{IsFilled, Solves}
+use Rattle.lus_values.specs.Lists.{Below, item}
+use Rattle.lus_graph.specs.Along.{IsFilled, within}
 use Rattle.lus_graph.specs.Ways.{Uses, IsOrder}
 use Rattle.lus_syntax.specs.declared.tree.Tree.{Tree as StoredTree}
 use Rattle.lus_syntax.specs.declared.tree.TypeDeclaration.{TypeDeclaration as StoredType}
-use Rattle.lus_syntax.specs.Trees.{TypeDeclaration, Tree}
+use Rattle.lus_syntax.specs.Trees.{TypeDeclaration}
 use Rattle.lus_syntax.specs.View.{tree_seen, type_seen}
 use Rattle.lus_program.specs.declared.types.Declared.{Declared as StoredDeclared}
 use Rattle.lus_program.specs.View.{declared_of}
@@ -18,15 +18,15 @@ use Rattle.lus_typing.specs.Sound.{declared_uses}
 use Rattle.lus_typing.proofs.OneTable.{declared_alike, the_leaves}
 use Rattle.lus_source.specs.Loopless.{type_uses}
 use Rattle.lus_source.specs.Meaning.{program_of}
-use Rattle.lus_source.specs.Sized.{AreWithin, Counted, declared_nesting, size_at}
+use Rattle.lus_source.specs.Sized.{AreWithin, Counted, IsMeasure, declared_nesting, size_at}
 use Rattle.lus_source.proofs.FieldsMeant.{meant_fields}
 use Rattle.lus_source.proofs.TypesMeant.{types_order}
 use Rattle.lus_source.specs.declared.scope.Tables.{Tables}
-use Rattle.lus_source.specs.ScopeView.{tables_seen}
+use Rattle.lus_source.specs.Sources.{HasTables}
 use Rattle.lus_source.specs.Scopes.{Scope}
-use Rattle.lus_source.specs.Tables.{declared_as, tables as tables_of}
+use Rattle.lus_source.specs.Tables.{declared_as}
 use Rattle.lus_source.proofs.Greatest.{greatest-same}
-use Rattle.lus_source.proofs.Measures.{IsMeasure, found_solves, found_within, past_refused}
+use Rattle.lus_source.proofs.Measures.{found_solves}
 
 abbrev Size : Type 0
 Size = (ℕ → ℕ) → Declared → ℕ
@@ -63,45 +63,42 @@ module _ (types : List Declared) where
   pub nesting_measure : IsMeasure (uses_in types) 0 (step_in declared_nesting types) (length types)
   nesting_measure = measured 0 declared_nesting nesting_alike (λ at. refl)
 
-module _ (p : Tree) (tables : Tables) (tabled : tables_seen tables ≡ tables_of p) (declared : List StoredDeclared) (here : declared ≡ tables.declared.items) (order : List ℕ) (o : IsOrder (type_uses p) order) where
+-- of the types that a source declares, as its tables have them
+module _ (t : StoredTree) (tables : Tables) (has : HasTables (tree_seen t) tables) (declared : List StoredDeclared) (here : declared ≡ tables.declared.items) where
   abbrev types : List Declared
   types = map declared_of declared
 
-  same : types ≡ (program_of p).types
-  same = ap (map declared_of) here ∙ ap (λ (s : Scope). s.declared) tabled
+  same : types ≡ (program_of (tree_seen t)).types
+  same = ap (map declared_of) here ∙ ap (λ (s : Scope). s.declared) has.seen
 
-  pub ordered : IsOrder (uses_in types) order
-  ordered = subst (λ ds. IsOrder (uses_in ds) order) (sym same) (types_order p order o)
+  module _ (order : List ℕ) (o : IsOrder (type_uses (tree_seen t)) order) where
+    pub ordered : IsOrder (uses_in types) order
+    ordered = subst (λ ds. IsOrder (uses_in ds) order) (sym same) (types_order (tree_seen t) order o)
 
-  -- the declared types are those of its declarations
-  pub type_place : (t : StoredTree) (declarations : List StoredType) → t.types.items ≡ declarations → tree_seen t ≡ p → (x : ℕ) → x < length (uses_in types) → x < length declarations
-  type_place t declarations listed read x lt =
-      omega (
-        arith,
-        lt,
-        length-map types declared_uses,
-        ap length same,
-        length-map p.types (λ (d : TypeDeclaration). declared_as p d.definition),
-        ap (λ (q : Tree). length q.types) read,
-        length-map t.types.items type_seen,
-        ap length listed,
-      )
+    pub leaves_meant : (most : ℕ) (table : List ℕ) → IsFilled (uses_in types) 1 (step_in declared_leaves types) (λ k. k ≤ most) order table
+        → Counted (tree_seen t) → AreTheLeaves (program_of (tree_seen t)) table
+    leaves_meant most table found counted =
+        the_leaves (program_of (tree_seen t)) order (types_order (tree_seen t) order o) table (meant_fields (tree_seen t) counted)
+        (subst (λ ds. (x : ℕ) → item 1 table x ≡ declared_leaves (item 1 table) (item nothing_declared ds x)) same
+        (found_solves (leaves_measure types) order ordered (λ k. k ≤ most) table found))
 
-  module _ (e : ℕ) (size : Size) (m : IsMeasure (uses_in types) e (step_in size types) (length types)) (most : ℕ) where
-    abbrev AreSmall : List Declared → Type 0
-    AreSmall ds = AreWithin (length ds) (size_at e size ds) most
+  module _ (e : ℕ) (size : Size) (m : IsMeasure (uses_in types) e (step_in size types) (length types)) (things : List StoredType) (listed : things ≡ t.types.items) where
+    count : length types ≡ length things
+    count = omega (
+      arith,
+      ap length same,
+      length-map (tree_seen t).types (λ (d : TypeDeclaration). declared_as (tree_seen t) d.definition),
+      length-map t.types.items type_seen,
+      ap length listed,
+    )
 
-    pub sizes_within : (table : List ℕ) → IsFilled (uses_in types) e (step_in size types) (λ k. k ≤ most) order table
-        → AreSmall (program_of p).types
-    sizes_within table found = subst AreSmall same (found_within m order ordered most table found)
+    -- there are as many as declarations
+    pub of_things : IsMeasure (uses_in types) e (step_in size types) (length things)
+    of_things = subst (λ n. IsMeasure (uses_in types) e (step_in size types) n) count m
 
-    pub size_past : (x : ℕ) → x < length (uses_in types)
-        → ((at : ℕ → ℕ) → Solves (uses_in types) e (step_in size types) at → at x ≤ most → ⊥) → AreSmall (program_of p).types → ⊥
-    size_past x lt past all = past_refused m order ordered most x lt past (subst AreSmall (sym same) all)
-
-  pub leaves_meant : (most : ℕ) (table : List ℕ) → IsFilled (uses_in types) 1 (step_in declared_leaves types) (λ k. k ≤ most) order table
-      → Counted p → AreTheLeaves (program_of p) table
-  leaves_meant most table found counted =
-      the_leaves (program_of p) order (types_order p order o) table (meant_fields p counted)
-      (subst (λ ds. (t : ℕ) → item 1 table t ≡ declared_leaves (item 1 table) (item nothing_declared ds t)) same
-      (found_solves (leaves_measure types) order ordered (λ k. k ≤ most) table found))
+    -- what is within a limit is so of the types that are meant
+    pub meant_within : (most : ℕ) → Below (length things) (λ x. within (length things) e (step_in size types) x ≤ most)
+        ≡ AreWithin (length (program_of (tree_seen t)).types) (size_at e size (program_of (tree_seen t)).types) most
+    meant_within most =
+        ap (λ n. Below n (λ x. within n e (step_in size types) x ≤ most)) (sym count)
+        ∙ ap (λ ds. AreWithin (length ds) (size_at e size ds) most) same

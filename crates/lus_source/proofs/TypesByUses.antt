@@ -16,7 +16,7 @@ use Rattle.lus_values.specs.Lists.{item}
 use Rattle.lus_source.proofs.Lookups.{entry_at}
 use Rattle.lus_source.proofs.TypesMeant.{used_is}
 use Rattle.lus_source.specs.ByTable.{kind_told}
-use Rattle.lus_source.proofs.Measures.{IsMeasure}
+use Rattle.lus_source.specs.Sized.{IsMeasure}
 
 module _ (types : List Text) (at at' : ℕ → Kind) where
   place_alike : (o : Option ℕ) → ((t : ℕ) → Contains (option_to_list o) t → at t ≡ at' t) → ◌≡◌ {A = Kind} (elim o [ Some t ↦ at t | None ↦ kinds.Bool ]) (elim o [ Some t ↦ at' t | None ↦ kinds.Bool ])

@@ -12,13 +12,13 @@ ghost use Rattle.lus_typing.specs.Sound.{declared_uses, structures_in};
 ghost use Rattle.lus_source.specs.Meaning.{program_of};
 ghost use Rattle.lus_source.specs.ScopeView.{Judged};
 ghost use Rattle.lus_source.specs.Sized.{AreWithin, call_depth_at, declared_nesting, greatest, nesting_at};
-ghost use Rattle.lus_source.specs.Limits.{IsLimited};
 
 use crate::fault::Fault;
 use crate::loopless::Loopless;
+use crate::measuring::{at_most, measured};
 use crate::tabled::Tabled;
 use crate::uses::node_uses;
-use lus_graph::{Rule, along};
+use lus_graph::Rule;
 use lus_program::{Declared, Field, Kind};
 use lus_syntax::{MOST_CALLS_DEEP, MOST_NESTING};
 use std::alloc::Global;
@@ -64,31 +64,32 @@ impl<'a> Rule<u32> for Calls<'a> {
     }
 }
 
-/// Checks how deep structures stand in types.
-pub fn check_nesting(alloc: Global, tabled: &Tabled) -> Result<(), Fault>
+/// Checks how deep structures stand in types, and gives how deep in each.
+pub fn check_nesting(alloc: Global, tabled: &Tabled) -> Result<Vec<u32>, Fault>
     ensures { let types = (program_of (tree_seen tabled.now)).types in
         Judged result (AreWithin (length types) (nesting_at types) most_nesting) }
 {
-    let declarations = tabled.loopless.tree().types.as_slice();
-    let unknown = vec![in alloc; 0u32; declarations.len()]?;
     let types = &tabled.tables.declared;
-    match along(&Nesting { types }, tabled.loopless.types(), unknown) {
-        Ok(_) => Ok(()),
-        Err(place) => Err(Fault::At(declarations[place].name.span.start)),
-    }
+    let loopless = tabled.loopless;
+    measured(
+        alloc,
+        &Nesting { types },
+        loopless.types(),
+        &loopless.tree().types,
+    )
 }
 
-/// Checks how deep calls go.
-pub fn check_calls(alloc: Global, loopless: &Loopless) -> Result<(), Fault>
+/// Checks how deep calls go, and gives how deep those of each node.
+pub fn check_calls(alloc: Global, loopless: &Loopless) -> Result<Vec<u32>, Fault>
     ensures { let p = tree_seen loopless.now in Judged result (AreWithin (length p.nodes) (call_depth_at p) most_calls_deep) }
 {
-    let nodes = loopless.tree().nodes.as_slice();
-    let unknown = vec![in alloc; 1u32; nodes.len()]?;
     let uses = node_uses(alloc, loopless.named())?;
-    match along(&Calls { uses: &uses }, loopless.nodes(), unknown) {
-        Ok(_) => Ok(()),
-        Err(place) => Err(Fault::At(nodes[place].name.span.start)),
-    }
+    measured(
+        alloc,
+        &Calls { uses: &uses },
+        loopless.nodes(),
+        &loopless.tree().nodes,
+    )
 }
 
 /// How deep structures stand in a type, by how deep they do in those that its declaration names.
@@ -132,16 +133,4 @@ fn deepest_of(used: &[u32], depths: &[u32]) -> u32
         deepest = deepest.max(depths.get(*place as usize).copied().unwrap_or(1));
     }
     deepest
-}
-
-/// A number, where it is within a limit.
-pub fn at_most(number: usize, most: usize) -> Option<u32>
-    requires { most ≤ 4294967295 }
-    ensures { IsLimited most number result }
-{
-    if number <= most {
-        Some(number as u32)
-    } else {
-        None
-    }
 }

@@ -1,7 +1,6 @@
 //! What a source means, and what it declares, checked and resolved before any right side is elaborated.
 #![tactic(auto)]
 
-mod checking;
 mod counted;
 mod counts;
 mod declarations;
@@ -12,6 +11,7 @@ mod entries;
 mod fault;
 mod left;
 mod loopless;
+mod measuring;
 mod named;
 mod names;
 mod naming;
@@ -27,7 +27,6 @@ mod types;
 mod uses;
 mod using;
 mod values;
-mod variables;
 
 pub use counted::Counted;
 pub use counts::check_counts;
@@ -38,7 +37,6 @@ pub use named::{Named, check_names};
 pub use places::{Places, Spaces, find};
 pub use scope::{Scope, Tables, field};
 pub use sizes::check_sizes;
-pub use tabled::{Tabled, tables};
+pub use tabled::{Tabled, enter, tables};
 pub use types::kind_of_name;
 pub use values::literal;
-pub use variables::enter;

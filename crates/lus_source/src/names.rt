@@ -81,7 +81,6 @@ impl Names {
     ghost use Rattle.lus_syntax.specs.View.{lead_seen, label_seen, test_seen};
     ghost use Rattle.lus_source.specs.Named.{knows_lead, knows_label, knows_test, knows_name as name_known};
     ghost use Rattle.lus_source.specs.NameView.{known_seen, spaces_seen};
-    ghost use Rattle.lus_source.specs.Parts.{outside};
 
     /// No names.
     pub fn new(alloc: Global) -> Names
@@ -102,7 +101,7 @@ impl Names {
         requires constants { length self.constants.keys ≤ 4294967295 }
         requires constructors { length self.constructors.keys ≤ 4294967295 }
         requires nodes { length self.nodes.keys ≤ 4294967295 }
-        ensures { spaces_seen result ≡ outside (known_seen self) }
+        ensures { spaces_seen result ≡ record (known_seen self) { variables = [] } }
     {
         let Names {
             variables,

@@ -15,10 +15,11 @@ ghost use Rattle.lus_source.specs.ScopeView.{Judged};
 ghost use Rattle.lus_source.specs.Sized.{AreWithin, Bounded, leaves_at};
 ghost use Rattle.lus_source.specs.Limits.{IsLimited};
 
-use crate::depths::{at_most, check_calls, check_nesting};
+use crate::depths::{check_calls, check_nesting};
 use crate::fault::Fault;
+use crate::measuring::{at_most, measured};
 use crate::tabled::Tabled;
-use lus_graph::{Rule, along};
+use lus_graph::Rule;
 use lus_program::{Declared, Field, Kind};
 use lus_syntax::{MOST_LEAVES, Refusal, RefusalNumber};
 use std::alloc::Global;
@@ -72,13 +73,14 @@ fn check_leaves(alloc: Global, tabled: &Tabled) -> Result<Vec<u32>, Fault>
     ensures within { let types = (program_of (tree_seen tabled.now)).types in
         Judged result (AreWithin (length types) (leaves_at types) most_leaves) }
 {
-    let declarations = tabled.loopless.tree().types.as_slice();
-    let unknown = vec![in alloc; 1u32; declarations.len()]?;
     let types = &tabled.tables.declared;
-    match along(&Leaves { types }, tabled.loopless.types(), unknown) {
-        Ok(leaves) => Ok(leaves),
-        Err(place) => Err(Fault::At(declarations[place].name.span.start)),
-    }
+    let loopless = tabled.loopless;
+    measured(
+        alloc,
+        &Leaves { types },
+        loopless.types(),
+        &loopless.tree().types,
+    )
 }
 
 /// The leaves of a type, if they are within the limit, by those of the structures that its declaration names.
