@@ -1,24 +1,17 @@
 //! What a source means, and what it declares, checked and resolved before any right side is elaborated.
 #![tactic(auto)]
 
-mod counted;
 mod counts;
 mod declarations;
-mod declared_kinds;
-mod definitions;
-mod depths;
 mod entries;
 mod fault;
 mod left;
 mod loopless;
-mod measuring;
 mod named;
 mod names;
 mod naming;
 mod nodes;
 mod places;
-mod recursion;
-mod refusing;
 mod scope;
 mod signatures;
 mod sizes;
@@ -28,8 +21,7 @@ mod uses;
 mod using;
 mod values;
 
-pub use counted::Counted;
-pub use counts::check_counts;
+pub use counts::{Counted, check_counts};
 pub use entries::{Constructor, Placed, Signature};
 pub use fault::Fault;
 pub use loopless::{Loopless, check_recursion};

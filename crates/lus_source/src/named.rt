@@ -12,14 +12,12 @@ ghost use Rattle.lus_source.specs.Sized.{Counted as IsCounted};
 ghost use Rattle.lus_source.specs.NameView.{known_seen, spaces_seen};
 ghost use Rattle.lus_source.specs.Tables.{groups, node_at};
 
-use crate::counted::Counted;
-use crate::declarations::declared;
-use crate::definitions::check_definitions;
-use crate::fault::Fault;
+use crate::counts::Counted;
+use crate::declarations::{check_definitions, declared};
+use crate::fault::{Fault, refuse};
 use crate::names::Names;
 use crate::nodes::check_nodes;
 use crate::places::{Places, Spaces};
-use crate::refusing::refuse;
 use crate::using::first_unknown;
 use lus_syntax::{Refusal, RefusalNumber, Tree};
 use std::alloc::Global;

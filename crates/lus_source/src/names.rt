@@ -139,7 +139,7 @@ impl Names {
         }
     }
 
-    #[tactic(auto, using(crate::proofs::NameLists::none_or))]
+    #[tactic(auto, using(crate::proofs::AppendedNames::none_or))]
     pub fn unknown_test(&self, test: &Test) -> Option<Place>
         ensures { is_none result ≡ knows_test (known_seen self.now) (test_seen test.now) }
     {
@@ -165,7 +165,7 @@ impl Names {
 
 /// The first unknown name of an expression.
 #[cycle(unknown)]
-#[tactic(auto, using(crate::proofs::NameLists::none_or))]
+#[tactic(auto, using(crate::proofs::AppendedNames::none_or))]
 pub fn unknown(names: &Names, source: &Expr) -> Option<Place>
     ensures { is_none result ≡ knows (known_seen names.now) (expression_seen source.now) }
 {

@@ -11,12 +11,11 @@ ghost use Rattle.lus_source.specs.Sized.{variable_count};
 ghost use Rattle.lus_source.specs.NameView.{known_seen, texts};
 ghost use Rattle.lus_source.specs.Parts.{in_node, node_known};
 
-use crate::fault::Fault;
+use crate::fault::{Fault, refuse};
 use crate::left::check_lefts;
 use crate::names::Names;
 use crate::naming::declare_all;
 use crate::places::Places;
-use crate::refusing::refuse;
 use crate::using::first_unknown;
 use indexmap::IndexSet;
 use lus_syntax::{Node, Place};

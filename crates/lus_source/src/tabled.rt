@@ -5,11 +5,10 @@ ghost use Rattle.lus_syntax.specs.View.{tree_seen};
 ghost use Rattle.lus_source.specs.ScopeView.{scope_of};
 ghost use Rattle.lus_source.specs.Tables.{node_at, scope};
 
-use crate::declared_kinds::kinds_of_types;
 use crate::loopless::Loopless;
 use crate::scope::{Scope, Tables};
 use crate::signatures::{nodes, variables};
-use crate::types::declared;
+use crate::types::{declared, kinds_of_types};
 use crate::values::{constants, constructors};
 use lus_values::Memory;
 use std::alloc::Global;

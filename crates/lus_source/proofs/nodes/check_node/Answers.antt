@@ -7,7 +7,7 @@ use Rattle.lus_source.specs.Named.{names_in}
 use Rattle.lus_source.specs.Tables.{groups}
 use Rattle.lus_source.specs.NameView.{known_seen, texts}
 use Rattle.lus_source.proofs.Faults.{passed_on}
-use Rattle.lus_source.proofs.NewNames.{from_empty, new_from_empty}
+use Rattle.lus_source.proofs.AppendedNames.{from_empty, new_from_empty}
 use Rattle.lus_source.proofs.NodeParts.{lefts_named, part_unknown, parts_named}
 use Rattle.lus_source.proofs.Placing.{length-for_each}
 use Rattle.lus_source.proofs.nodes.check_node.Goals as goal
