@@ -1,4 +1,4 @@
-//! Sources in which nothing leads back to itself, and where one does.
+//! Sources in which nothing leads back to itself, and the fault where something does.
 
 ghost use Rattle.std.specs.Prelude.{◌≡◌, IfErr, IfOk, OnOk};
 ghost use Rattle.lus_graph.specs.Ways.{IsOrder, HasNoWayBack};

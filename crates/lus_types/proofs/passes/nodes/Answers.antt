@@ -1,5 +1,5 @@
 -- Each node by what the names in its text stand for.
-use Rattle.std.proofs.Common.{arith, ◌+◌, ◌≡◌, ◌∙◌, ◌<◌, ◌++◌, [], ◌∷◌, ap, length, map, subst, sym, take}
+use Rattle.std.proofs.Common.{arith, ◌+◌, ◌≡◌, ◌∙◌, ◌<◌, ◌++◌, [], ◌∷◌, ap, length, subst, sym, take}
 use Rattle.std.proofs.lemmas.Grind.{common_steps}
 use Rattle.std.proofs.lemmas.List.{length-map, take_more}
 use Rattle.lus_syntax.specs.declared.tree.Tree.{Tree as StoredTree}
