@@ -1,21 +1,12 @@
-pub mod Steps
 pub mod Lookups
-pub mod DeclaredFields
-pub mod AppendedNames
 pub mod Faults
-pub mod TypesMeant
 pub mod FieldsMeant
 mod Rows
-pub mod NameLists
-pub mod NewNames
+pub mod AppendedNames
 pub mod DeclaredNames
-pub mod GroupNames
 pub mod NodeParts
 pub mod Counting
+pub mod TypesMeant
 pub mod Measures
-pub mod TypesByUses
-pub mod Greatest
-pub mod TypeSizes
-pub mod CallDepths
 pub mod Placing
 pub mod OfSource

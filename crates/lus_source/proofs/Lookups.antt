@@ -1,5 +1,6 @@
--- What stands at a name's place is its entry.
-use Rattle.std.proofs.Common.{◌≡◌, ◌∙◌, ◌+◌, ℕ, suc, refl, ap, sym, zero, ◌<◌, ◌≤◌, length, List, [], ◌∷◌, Option, Some, None, Bool, true, false, String, Global, option_map, cond, map, add-one, zero-add, add-zero, Bor, arith, subst}
+-- One step through a list, and what stands at a name's place.
+use Rattle.std.proofs.Common.{◌≡◌, ℕ, ◌+◌, ◌<◌, List, ◌∷◌, length, get_or, drop, arith, ◌∙◌, suc, refl, ap, sym, zero, ◌≤◌, [], Option, Some, None, Bool, true, false, String, Global, option_map, cond, map, add-one, zero-add, add-zero, Bor, subst}
+use Rattle.std.proofs.lemmas.Grind.{common_steps}
 use Rattle.std.specs.Prelude.{slice_get, string_bytes}
 use Rattle.std.specs.List.{position, position_from, zip}
 use Rattle.std.specs.Option.{option_and_then, option_copied}
@@ -12,6 +13,9 @@ use Rattle.lus_source.specs.Loopless.{place_in}
 use Rattle.lus_source.specs.Scopes.{entry}
 use Rattle.lus_source.specs.Tables.{placed, placed_from}
 use Rattle.lus_source.specs.Heads.{of_kind}
+
+pub drop_step : {X : Type 0} (xs : List X) (i : ℕ) (x : X) → i < length xs → x ≡ get_or xs i x → drop i xs ≡ x ∷ drop (i + 1) xs
+drop_step xs i x lt is = grind (arith, common_steps)
 
 -- places
 

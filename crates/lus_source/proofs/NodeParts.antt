@@ -13,7 +13,7 @@ use Rattle.lus_source.specs.Tables.{groups}
 use Rattle.lus_source.specs.Named.{Distinct, Known, NodeNamed, knows, names_in, test_known, type_known}
 use Rattle.lus_values.proofs.Equalities.{and_left, and_right}
 use Rattle.lus_source.specs.Parts.{LeftsNamed, group_known, in_node, node_known}
-use Rattle.lus_source.proofs.NameLists.{none_or}
+use Rattle.lus_source.proofs.AppendedNames.{none_or}
 
 and_across : (a b c d : Bool) → (a && b) && (c && d) ≡ (a && c) && (b && d)
 and_across false b c d = refl

@@ -8,10 +8,13 @@ use Rattle.lus_syntax.specs.Trees.{TypeName, BoolName, IntName, DeclaredName, De
 use Rattle.lus_values.specs.Lists.{Each}
 use Rattle.lus_program.specs.declared.types.Kind.{Kind}
 use Rattle.lus_program.specs.declared.types.Kind.TheVariants as kinds
+use Rattle.lus_source.specs.declared.scope.Tables.{Tables}
 use Rattle.lus_source.specs.Scopes.{Scope, entry}
+use Rattle.lus_source.specs.ScopeView.{kinds_seen, tables_seen}
+use Rattle.lus_source.specs.Sources.{HasTables}
 use Rattle.lus_source.specs.Loopless.{place_in, type_names}
 use Rattle.lus_source.specs.Sized.{DefinitionCounted}
-use Rattle.lus_source.specs.Tables.{all_constructors, all_declared_by, constants_by, declared_by, fields_by, groups, kind_at, kind_named, kinds_by, numbered_from, placed, scope, signatures_by, tables, types_by}
+use Rattle.lus_source.specs.Tables.{all_constructors, all_declared_by, constants_by, declared_by, fields_by, group_kinds, groups, kind_at, kind_named, kinds_by, numbered_from, placed, scope, signatures_by, tables, types_by}
 use Rattle.lus_source.specs.Labels.{has_few_fields}
 use Rattle.lus_source.proofs.FieldsMeant.{length-fields_by}
 use Rattle.lus_source.specs.Named.{names_in}
@@ -57,13 +60,24 @@ pub record IsMade (p : Tree) (s : Scope) : Type 0 where
   pub constants : s.constants ≡ constants_by s.constructors p.constants
   pub nodes : s.nodes ≡ signatures_by (kind_in s.types) p.nodes
 
-pub made_of_source : (p : Tree) (s : Scope) → IsMade p s → s ≡ tables p
+kind_in-made : (p : Tree) (s : Scope) → IsMade p s → kind_in s.types ≡ kind_named p
+kind_in-made p s made = ap kind_in made.types ∙ kind_in-tables p
+
+made_of_source : (p : Tree) (s : Scope) → IsMade p s → s ≡ tables p
 made_of_source p s made =
-    let kind : kind_in s.types ≡ kind_named p = ap kind_in made.types ∙ kind_in-tables p in
+    let kind = kind_in-made p s made in
     let declared : s.declared ≡ (tables p).declared = made.declared ∙ ap (λ k. all_declared_by k p.types) kind in
     let constants : s.constants ≡ (tables p).constants = made.constants ∙ ap (λ cs. constants_by cs p.constants) made.constructors in
     let nodes : s.nodes ≡ (tables p).nodes = made.nodes ∙ ap (λ k. signatures_by k p.nodes) kind in
     λ i. record { variables = made.variables i; constants = constants i; constructors = made.constructors i; types = made.types i; declared = declared i; nodes = nodes i }
+
+-- with the types of each node's variables
+pub made_tables : (p : Tree) (t : Tables) → IsMade p (tables_seen t)
+    → kinds_seen t.variables.items ≡ map (λ f. map (λ e. e.1) (kinds_by (kind_in (tables_seen t).types) (groups f))) p.nodes → HasTables p t
+made_tables p t made kinds = record {
+  seen = made_of_source p (tables_seen t) made;
+  variables = kinds ∙ ap (λ kind. map (λ f. map (λ e. e.1) (kinds_by kind (groups f))) p.nodes) (kind_in-made p (tables_seen t) made);
+}
 
 -- ---- few fields
 
@@ -83,12 +97,10 @@ module _ (kind : TypeName → Kind) where
 
 -- ---- variables
 
--- names with the types that a table of types says are those that the source says
-pub entered : (p : Tree) (f : Node) (s : Scope) (ns : List Text) (ks : List Kind) → s ≡ tables p → ns ≡ names_in (groups f) → ks ≡ map (λ e. e.1) (kinds_by (kind_in s.types) (groups f))
+-- a node's variables by their names and their types
+pub entered : (p : Tree) (f : Node) (s : Scope) (ns : List Text) (ks : List Kind) → s ≡ tables p → ns ≡ names_in (groups f) → ks ≡ map (λ e. e.1) (group_kinds p (groups f))
     → (let t : Scope = record s { variables = placed (zip ns ks) } in t) ≡ scope p f
 entered p f s ns ks tabled named kinded =
-    let kind = kind_in s.types in
-    let gs = groups f in
-    ap (λ vs. let t : Scope = record s { variables = placed vs } in t) (whole (kinds_by kind gs) ns ks (named ∙ sym (names-kinds_by kind gs)) kinded)
-    ∙ ap (λ (u : Scope). let t : Scope = record u { variables = placed (kinds_by (kind_in u.types) gs) } in t) tabled
-    ∙ ap (λ k. let t : Scope = record (tables p) { variables = placed (kinds_by k gs) } in t) (kind_in-tables p)
+    let kinds = group_kinds p (groups f) in
+    ap (λ vs. let t : Scope = record s { variables = placed vs } in t) (whole kinds ns ks (named ∙ sym (names-kinds_by (kind_named p) (groups f))) kinded)
+    ∙ ap (λ (u : Scope). let t : Scope = record u { variables = placed kinds } in t) tabled

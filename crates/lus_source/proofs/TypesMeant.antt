@@ -1,14 +1,14 @@
--- The types of a program lead where the declarations of its tree lead, so nowhere back, and an order of these is one of those.
-use Rattle.std.proofs.Common.{arith, ◌≡◌, ◌∙◌, sym, ap, refl, subst, ℕ, zero, suc, ◌⊎◌, inl, inr, List, [], ◌∷◌, Option, Some, None, map, flat_map, Contains, ⊎_elim}
-use Rattle.std.specs.Option.{option_to_list}
+-- The types of a program lead where the declarations of its tree lead, so nowhere back, and come from those that they name.
+use Rattle.std.proofs.Common.{arith, ◌≡◌, ◌∙◌, sym, ap, refl, subst, ℕ, zero, suc, ◌⊎◌, inl, inr, List, [], ◌∷◌, Option, Some, None, map, flat_map, Contains, ⊎_elim, ◌<◌, length, get_or}
+use Rattle.std.specs.Option.{option_to_list, option_and_then}
 use Rattle.std.proofs.lemmas.Grind.{flat_map-append}
-use Rattle.std.proofs.lemmas.List.{length-map}
+use Rattle.std.proofs.lemmas.List.{length-map, get_or_past, get_or-map}
 use Rattle.std.proofs.lemmas.List.Elements.{Contains-append_cases, Contains-append_left, Contains-append_right}
 use Rattle.lus_values.specs.Lists.{item}
 use Rattle.lus_graph.specs.Ways.{used, Leads, step, then, HasNoWayBack, IsOrder}
 use Rattle.lus_graph.proofs.NoWayBack.{led_nowhere_back, led_order}
 use Rattle.lus_graph.proofs.Steps.{no_item, one_item}
-use Rattle.lus_syntax.specs.Trees.{Named, TypeName, DeclaredName, Fields, Definition, Alias, Enumeration, StructureOf, TypeDeclaration, Tree}
+use Rattle.lus_syntax.specs.Trees.{Named, TypeName, DeclaredName, Fields, Definition, Alias, Enumeration, StructureOf, TypeDeclaration, Tree, BoolName, IntName}
 use Rattle.lus_program.specs.declared.types.Kind.{Kind}
 use Rattle.lus_program.specs.declared.types.Kind.TheVariants as kinds
 use Rattle.lus_program.specs.Programs.{Field}
@@ -17,6 +17,14 @@ use Rattle.lus_graph.specs.Along.{within}
 use Rattle.lus_source.specs.Tables.{of_type, definition_at, no_definition, definition_kind, kind_named, fields_declared, declared_as}
 use Rattle.lus_source.specs.Meaning.{program_of}
 use Rattle.lus_typing.specs.Sound.{structures_in, declared_uses, type_uses}
+use Rattle.std.specs.Prelude.{slice_get}
+use Rattle.lus_syntax.specs.declared.tree.Tree.{Tree as StoredTree}
+use Rattle.lus_syntax.specs.declared.tree.TypeDeclaration.{TypeDeclaration as StoredType}
+use Rattle.lus_syntax.specs.Lexemes.{Text}
+use Rattle.lus_syntax.specs.View.{definition_seen, tree_seen, type_seen}
+use Rattle.lus_source.proofs.Lookups.{entry_at}
+use Rattle.lus_source.specs.ByTable.{kind_told}
+use Rattle.lus_source.specs.Sized.{IsMeasure}
 
 -- structures
 
@@ -100,3 +108,51 @@ module _ (p : Tree) where
   pub types_order : (order : List ℕ) → IsOrder (tree_uses p) order → IsOrder (type_uses (program_of p)) order
   types_order = led_order (tree_uses p) (type_uses (program_of p)) types_lead
       (length-map (map (λ d. declared_as p d.definition) p.types) declared_uses ∙ length-map p.types (λ d. declared_as p d.definition) ∙ sym (length-map p.types (λ d. definition_uses (type_names p) d.definition)))
+
+module _ (types : List Text) (at at' : ℕ → Kind) where
+  place_alike : (o : Option ℕ) → ((t : ℕ) → Contains (option_to_list o) t → at t ≡ at' t) → ◌≡◌ {A = Kind} (elim o [ Some t ↦ at t | None ↦ kinds.Bool ]) (elim o [ Some t ↦ at' t | None ↦ kinds.Bool ])
+  place_alike None agree = refl
+  place_alike (Some t) agree = agree t (0, omega arith, refl)
+
+  name_alike : (n : TypeName) → ((t : ℕ) → Contains (named_type types n) t → at t ≡ at' t) → of_type types at n ≡ of_type types at' n
+  name_alike (BoolName s) agree = refl
+  name_alike (IntName s) agree = refl
+  name_alike (DeclaredName n) agree = place_alike (place_in types n.text) agree
+
+  definition_alike : (k : ℕ) (d : Definition) → ((t : ℕ) → Contains (definition_uses types d) t → at t ≡ at' t) → definition_kind types at k d ≡ definition_kind types at' k d
+  definition_alike k (Alias y) agree = name_alike y agree
+  definition_alike k (Enumeration cs) agree = refl
+  definition_alike k (StructureOf fs) agree = refl
+
+told_at : (ks : List Kind) (o : Option ℕ) → ◌≡◌ {A = Kind} (elim (option_and_then (slice_get ks) o) [ Some k ↦ k | None ↦ kinds.Bool ]) (elim o [ Some t ↦ item kinds.Bool ks t | None ↦ kinds.Bool ])
+told_at ks None = refl
+told_at [] (Some t) = refl
+told_at (k ∷ ks) (Some zero) = refl
+told_at (k ∷ ks) (Some (suc t)) = told_at ks (Some t)
+
+-- the type of a name by a table
+pub told_is : (names : List Text) (ks : List Kind) (y : TypeName) → kind_told names ks y ≡ of_type names (item kinds.Bool ks) y
+told_is names ks (BoolName s) = refl
+told_is names ks (IntName s) = refl
+told_is names ks (DeclaredName n) = ap (λ (o : Option Kind). elim o as (λ _. Kind) [ Some k ↦ k | None ↦ kinds.Bool ]) (sym (entry_at names ks n.text)) ∙ told_at ks (place_in names n.text)
+
+abbrev pub kind_step : Tree → (ℕ → Kind) → ℕ → Kind
+kind_step p at t = definition_kind (type_names p) at t (definition_at p t)
+
+pub uses_count : (p : Tree) → length (tree_uses p) ≡ length p.types
+uses_count p = length-map p.types (λ d. definition_uses (type_names p) d.definition)
+
+pub kind_measure : (p : Tree) → IsMeasure (tree_uses p) kinds.Bool (kind_step p) (length p.types)
+kind_measure p = record {
+  count = uses_count p;
+  local = λ at at' t agree. definition_alike (type_names p) at at' t (definition_at p t) (λ y among. agree y (rw (used_is p t) among));
+  nothing = λ at t le. ap (definition_kind (type_names p) at t) (get_or_past (map (λ d. d.definition) p.types) t no_definition (omega (arith, le, uses_count p, length-map p.types (λ (d : TypeDeclaration). d.definition))));
+}
+
+-- a definition as it lies in the tree
+pub definition_here : (t : StoredTree) (x : ℕ) (d : StoredType) → x < length (tree_uses (tree_seen t)) → d ≡ get_or t.types.items x d → definition_at (tree_seen t) x ≡ definition_seen d.definition
+definition_here t x d lt here =
+    let lt : x < length t.types.items = omega (arith, uses_count (tree_seen t), length-map t.types.items type_seen) in
+    get_or-map (λ e. e.definition) (map type_seen t.types.items) x (type_seen d) no_definition (omega (arith, length-map t.types.items type_seen))
+    ∙ ap (λ (e : TypeDeclaration). e.definition) (get_or-map type_seen t.types.items x d (type_seen d) lt)
+    ∙ ap (λ (e : StoredType). definition_seen e.definition) (sym here)

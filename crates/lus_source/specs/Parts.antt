@@ -10,10 +10,6 @@ use Rattle.lus_source.specs.Named.{DefinitionNamed, Distinct, Known, NodeNamed, 
 abbrev pub in_node : Known → Node → Known
 in_node k f = record k { variables = names_in (groups f) }
 
--- what stands for something outside of nodes
-abbrev pub outside : Known → Known
-outside k = record k { variables = [] }
-
 -- the type and the clock of a declaration
 abbrev pub group_known : Known → Group → Bool
 group_known k g = type_known k.types g.type_name && test_known k g.test

@@ -1,9 +1,11 @@
 -- What the code holds of a scope, as tables, and what a fault tells.
-use Rattle.std.specs.Prelude.{◌≡◌, Bool, true, false, [], Result, MatchResult, map}
+use Rattle.std.specs.Prelude.{◌≡◌, Bool, true, false, List, [], Result, MatchResult, Vec, map}
+use Rattle.std.specs.declared.alloc.Global.{Global}
 use Rattle.std.specs.List.{zip}
 use Rattle.lus_syntax.specs.declared.refusal.RefusalNumber.{RefusalNumber}
 use Rattle.lus_syntax.specs.declared.refusal.RefusalNumber.TheVariants as numbers
 use Rattle.lus_values.specs.View.{value_of}
+use Rattle.lus_program.specs.declared.types.Kind.{Kind}
 use Rattle.lus_program.specs.View.{declared_of}
 use Rattle.lus_source.specs.declared.fault.Fault.{Fault}
 use Rattle.lus_source.specs.declared.fault.Fault.TheVariants as faults
@@ -45,6 +47,10 @@ tables_seen t = record {
   nodes = zip t.names.now.nodes (map signature_of t.nodes.items);
 }
 
+-- the types of each node's variables
+abbrev pub kinds_seen : List (Vec Kind Global) → List (List Kind)
+kinds_seen all = map (λ kinds. kinds.items) all
+
 -- with a node's variables
 abbrev pub scope_of : StoredScope → Scope
-scope_of s = record (tables_seen s.tables.now) { variables = placed (zip s.variables s.variable_kinds.items) }
+scope_of s = record (tables_seen s.tables.now) { variables = placed (zip s.variables.now s.variable_kinds.now) }

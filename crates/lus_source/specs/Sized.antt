@@ -1,10 +1,10 @@
 -- The limits of a source: counts, and what counts only where nothing leads back to itself.
-use Rattle.std.specs.Prelude.{◌<◌, ◌≤◌, ℕ, suc, true, false, List, [], ◌∷◌, length, sum_by, nat_lt}
+use Rattle.std.specs.Prelude.{◌≡◌, ◌<◌, ◌≤◌, ℕ, suc, true, false, List, [], ◌∷◌, length, sum_by, nat_lt}
 use Rattle.lus_syntax.specs.Limits.{most_calls_deep, most_constructors, most_declarations, most_fields, most_leaves, most_nesting, most_variables}
 use Rattle.lus_syntax.specs.Trees.{Fields, Definition, Alias, Enumeration, StructureOf, Group, Tree}
 use Rattle.lus_values.specs.Lists.{item, Each, Below}
-use Rattle.lus_graph.specs.Along.{within}
-use Rattle.lus_graph.specs.Ways.{used}
+use Rattle.lus_graph.specs.Along.{IsLocal, within}
+use Rattle.lus_graph.specs.Ways.{Uses, used}
 use Rattle.lus_program.specs.Programs.{Declared, structure}
 use Rattle.lus_typing.specs.Kinds.{nothing_declared}
 use Rattle.lus_typing.specs.Leaves.{declared_leaves}
@@ -60,6 +60,12 @@ nesting_at = size_at 0 declared_nesting
 -- how deep each node's calls go: one deeper than those of the deepest that it calls, a node without calls one deep
 abbrev pub call_depth_at : Tree → ℕ → ℕ
 call_depth_at p = within (length p.nodes) 1 (λ at x. suc (greatest at (used (node_uses p) x)))
+
+-- each of n things has what the step gives it by what those have that it uses; past the things there is e
+pub record IsMeasure {X : Type 0} (uses : Uses) (e : X) (step : (ℕ → X) → ℕ → X) (n : ℕ) : Type 0 where
+  pub count : length uses ≡ n
+  pub local : IsLocal uses step
+  pub nothing : (at : ℕ → X) (x : ℕ) → length uses ≤ x → step at x ≡ e
 
 -- each of the first n is within a limit
 abbrev pub AreWithin : ℕ → (ℕ → ℕ) → ℕ → Type 0

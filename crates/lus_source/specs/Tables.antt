@@ -1,7 +1,9 @@
 -- The tables of a source: what its declarations give each name, in the order of the text.
 use Rattle.std.specs.Prelude.{◌≡◌, ◌++◌, ℕ, suc, ℤ, pos, negsuc, neg_ℤ, List, [], ◌∷◌, Some, None, map, flat_map, length}
+use Rattle.lus_syntax.specs.declared.token.Span.{Span}
+use Rattle.lus_syntax.specs.declared.tree.NodeKind.TheVariants as node_kinds
 use Rattle.lus_syntax.specs.Lexemes.{Text}
-use Rattle.lus_syntax.specs.Trees.{Named, TypeName, BoolName, IntName, DeclaredName, Fields, Definition, Alias, Enumeration, StructureOf, TypeDeclaration, Literal, Positive, Negative, TruthValue, ConstructorName, Constant, Group, Node, Tree}
+use Rattle.lus_syntax.specs.Trees.{Named, named, TypeName, BoolName, IntName, DeclaredName, Fields, Definition, Alias, Enumeration, StructureOf, TypeDeclaration, Literal, Positive, Negative, TruthValue, ConstructorName, Constant, Group, Node, Tree}
 use Rattle.lus_values.specs.Lists.{item, Below}
 use Rattle.lus_values.specs.Values.{Value, bool, int, enum, nil}
 use Rattle.lus_program.specs.declared.types.Kind.{Kind}
@@ -27,9 +29,13 @@ each_of ns x = map (λ n. (n.text, x)) ns
 
 -- types: a declared type is the place of its declaration among the source's types
 
+-- nothing of a text
+abbrev no_span : Span
+no_span = record { start = record { byte = 0; line = 1; column = 1 }; length = 0 }
+
 -- where nothing is declared, bool
 abbrev pub no_definition : Definition
-no_definition = Alias (BoolName (record { start = record { byte = 0; line = 1; column = 1 }; length = 0 }))
+no_definition = Alias (BoolName no_span)
 
 abbrev pub definition_at : Tree → ℕ → Definition
 definition_at p t = item no_definition (map (λ d. d.definition) p.types) t
@@ -110,6 +116,13 @@ placed_from n xs = map (λ e. (e.0.0, record { place = e.1; kind = e.0.1 })) (nu
 
 abbrev pub placed : List (Text × Kind) → List (Text × Placed)
 placed = placed_from 0
+
+-- where there is no node, one of nothing
+abbrev pub no_node : Node
+no_node = record { kind = node_kinds.Node; name = named [] no_span; inputs = []; outputs = []; locals = []; equations = [] }
+
+abbrev pub node_at : Tree → ℕ → Node
+node_at p x = item no_node p.nodes x
 
 -- the declarations of a node's variables: inputs, outputs, locals
 abbrev pub groups : Node → List Group

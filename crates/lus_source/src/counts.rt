@@ -1,22 +1,68 @@
-//! Counts of declarations, against the limits of the language.
+//! Sources within the limits of counts.
 
 ghost use Rattle.std.specs.Prelude.{◌≡◌, ◌≤◌, IfErr, IfOk, OnOk, OnErr, length, map, sum_by};
+ghost use Rattle.lus_syntax.specs.View.{tree_seen, definition_seen, node_seen};
+ghost use Rattle.lus_source.specs.Sized.{Counted as IsCounted, DefinitionCounted, variable_count};
 ghost use Rattle.std.specs.Bool.{Decides};
 ghost use Rattle.lus_syntax.specs.declared.refusal.RefusalNumber.TheVariants as numbers;
 ghost use Rattle.lus_syntax.specs.Limits.{most_variables};
-ghost use Rattle.lus_syntax.specs.View.{definition_seen, node_seen, tree_seen};
 ghost use Rattle.lus_typing.specs.Refusals.{RefusesFor};
-ghost use Rattle.lus_source.specs.Sized.{Counted as IsCounted, DefinitionCounted, variable_count};
 ghost use Rattle.lus_source.specs.Tables.{groups};
 ghost use Rattle.lus_source.specs.Limits.{AreLeft};
 
-use crate::counted::Counted;
 use crate::fault::Fault;
 use crate::naming::Naming;
 use lus_syntax::{
     Definition, MOST_CONSTRUCTORS, MOST_DECLARATIONS, MOST_FIELDS, MOST_VARIABLES, Node, Place,
     Refusal, RefusalNumber, Tree,
 };
+use std::marker::Model;
+
+/// A source that declares no more than the limits allow. Contracts see it as its tree.
+pub struct Counted {
+    tree: Tree,
+}
+
+impl Model for Counted {
+    ghost use Rattle.std.specs.Coded.{codes};
+    ghost use Rattle.lus_syntax.specs.contracts.tree.Expr as source_expr;
+    ghost use Rattle.lus_syntax.specs.declared.tree.Tree.{Tree as StoredTree};
+    ghost use Rattle.lus_syntax.specs.View.{tree_seen};
+    ghost use Rattle.lus_source.specs.Sized.{Counted as IsCounted};
+
+    ghost Value = { StoredTree };
+
+    ghost coded = { Prim.hlevel (codes, source_expr.the_row.coded) };
+
+    ghost view = { λ c. c.tree };
+
+    ghost invariant = { λ c. IsCounted (tree_seen c.tree) };
+}
+
+impl Counted {
+    /// A source that keeps the limits.
+    pub fn new(tree: Tree) -> Counted
+        requires { IsCounted (tree_seen tree) }
+        ensures { result ≡ tree }
+    {
+        Counted { tree }
+    }
+
+    /// The source.
+    pub fn tree(&self) -> &Tree
+        ensures same { result.now ≡ self.now }
+        ensures counted { IsCounted (tree_seen result.now) }
+    {
+        &self.tree
+    }
+}
+
+// By hand, so that crates above call it: what a derive drops is proved again in each of them.
+impl Drop for Counted {
+    fn drop(self) {
+        let Counted { tree: _ } = self;
+    }
+}
 
 /// Checks that a source declares no more than the limits admit. The place is that of a name past a limit, or of the type or
 /// the node that has too much.

@@ -1,19 +1,20 @@
-//! What a source declares: the tables of its types, values and nodes.
+//! What a source declares: the tables of its types, values and nodes, and the names in the declarations of types.
 
-ghost use Rattle.std.specs.Prelude.{◌≡◌, [], flat_map, not, is_none, IfOk};
+ghost use Rattle.std.specs.Prelude.{◌≡◌, [], flat_map, not, is_none, IfOk, map};
 ghost use Rattle.std.specs.List.{list_all};
-ghost use Rattle.lus_syntax.specs.View.{definition_seen, tree_seen};
-ghost use Rattle.lus_source.specs.Named.{constructor_names, is_in, known};
+ghost use Rattle.lus_syntax.specs.View.{definition_seen, tree_seen, type_seen};
+ghost use Rattle.lus_source.specs.Named.{constructor_names, is_in, known, DefinitionNamed};
 ghost use Rattle.lus_source.specs.ScopeView.{Judged};
 ghost use Rattle.lus_source.specs.NameView.{known_seen, texts};
 ghost use Rattle.lus_source.specs.Parts.{AreDistinct};
+ghost use Rattle.lus_values.specs.Lists.{Each};
 
-use crate::fault::Fault;
+use crate::fault::{Fault, refuse};
 use crate::names::Names;
-use crate::naming::{Constructors, Own, declare_all, first};
-use crate::refusing::refuse;
+use crate::naming::{Constructors, Own, check_distinct, declare_all, first};
+use crate::using::{first_unknown, unknown_type};
 use indexmap::IndexSet;
-use lus_syntax::{Constant, Name, Place, Tree, TypeDeclaration};
+use lus_syntax::{Constant, Definition, Name, Place, Tree, TypeDeclaration};
 use std::alloc::Global;
 
 /// The names of a source's types, values and nodes; a fault at a name that stands twice in its space. Constants and constructors
@@ -51,5 +52,32 @@ fn second(constants: &IndexSet<String>, declared: &[Constant], constructor: &Nam
     match declared.get(index) {
         Some(constant) if constant.name.span.start.byte > place.byte => constant.name.span.start,
         _ => place,
+    }
+}
+
+/// Checks the names in the declarations of types.
+pub fn check_definitions(
+    alloc: Global,
+    names: &Names,
+    declarations: &[TypeDeclaration],
+) -> Result<(), Fault>
+    ensures { Judged result (Each (λ d. DefinitionNamed (known_seen names.now).types d.definition) (map type_seen declarations.now)) }
+{
+    for declaration in declarations {
+        check_definition(alloc, names, &declaration.definition)?;
+    }
+    Ok(())
+}
+
+fn check_definition(alloc: Global, names: &Names, definition: &Definition) -> Result<(), Fault>
+    ensures { Judged result (DefinitionNamed (known_seen names.now).types (definition_seen definition.now)) }
+{
+    match definition {
+        Definition::Alias(name) => refuse(unknown_type(&names.types, name)),
+        Definition::Enumeration(_) => Ok(()),
+        Definition::Structure(fields) => {
+            refuse(first_unknown(names, fields))?;
+            check_distinct(alloc, fields)
+        }
     }
 }

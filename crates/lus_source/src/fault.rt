@@ -1,7 +1,8 @@
 //! What stops a pass: out of memory, or a place at which its rule is broken.
 
-ghost use Rattle.std.specs.Prelude.{◌≡◌};
+ghost use Rattle.std.specs.Prelude.{◌≡◌, is_none};
 ghost use Rattle.lus_source.specs.declared.fault.Fault.TheVariants.{Memory as OfMemory};
+ghost use Rattle.lus_source.specs.ScopeView.{Tested};
 
 use lus_syntax::{Place, Refusal, RefusalNumber};
 use lus_values::Memory;
@@ -50,5 +51,15 @@ impl<T: Drop> From<AllocFailed<T>> for Fault {
 
     fn from(_error: AllocFailed<T>) -> Fault {
         Fault::Memory
+    }
+}
+
+/// A fault at a place, if there is one.
+pub fn refuse(found: Option<Place>) -> Result<(), Fault>
+    ensures { Tested result (is_none found) }
+{
+    match found {
+        None => Ok(()),
+        Some(place) => Err(Fault::At(place)),
     }
 }

@@ -9,10 +9,9 @@ ghost use Rattle.lus_source.specs.ScopeView.{Faulty};
 ghost use Rattle.lus_source.specs.NameView.{texts};
 ghost use Rattle.lus_source.specs.Parts.{LeftsNamed};
 
-use crate::fault::Fault;
+use crate::fault::{Fault, refuse};
 use crate::naming::{absent, declare_all};
 use crate::nodes::declare_defined;
-use crate::refusing::refuse;
 use indexmap::IndexSet;
 use lus_syntax::{Node, Place};
 

@@ -1,13 +1,8 @@
 //! What a source means, and what it declares, checked and resolved before any right side is elaborated.
 #![tactic(auto)]
 
-mod checking;
-mod counted;
 mod counts;
 mod declarations;
-mod declared_kinds;
-mod definitions;
-mod depths;
 mod entries;
 mod fault;
 mod left;
@@ -17,8 +12,6 @@ mod names;
 mod naming;
 mod nodes;
 mod places;
-mod recursion;
-mod refusing;
 mod scope;
 mod signatures;
 mod sizes;
@@ -27,10 +20,8 @@ mod types;
 mod uses;
 mod using;
 mod values;
-mod variables;
 
-pub use counted::Counted;
-pub use counts::check_counts;
+pub use counts::{Counted, check_counts};
 pub use entries::{Constructor, Placed, Signature};
 pub use fault::Fault;
 pub use loopless::{Loopless, check_recursion};
@@ -38,7 +29,6 @@ pub use named::{Named, check_names};
 pub use places::{Places, Spaces, find};
 pub use scope::{Scope, Tables, field};
 pub use sizes::check_sizes;
-pub use tabled::{Tabled, tables};
+pub use tabled::{Tabled, enter, tables};
 pub use types::kind_of_name;
 pub use values::literal;
-pub use variables::enter;

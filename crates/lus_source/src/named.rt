@@ -1,25 +1,34 @@
 //! Sources whose names are right.
 
-ghost use Rattle.std.specs.Prelude.{◌≡◌, [], IfErr, IfOk, OnOk};
+ghost use Rattle.std.specs.Prelude.{◌≡◌, ◌<◌, [], IfErr, IfOk, OnOk, length, map};
 ghost use Rattle.lus_syntax.specs.declared.refusal.RefusalNumber.TheVariants as numbers;
 ghost use Rattle.lus_syntax.specs.View.{tree_seen};
 ghost use Rattle.lus_typing.specs.Refusals.{RefusesFor};
 ghost use Rattle.lus_source.specs.Loopless.{node_names, type_names};
-ghost use Rattle.lus_source.specs.Named.{Named as IsNamed, known};
+ghost use Rattle.lus_source.specs.Named.{Named as IsNamed, known, names_in};
+ghost use Rattle.lus_source.specs.Parts.{UsesKnown};
+ghost use Rattle.lus_source.specs.ScopeView.{Judged};
 ghost use Rattle.lus_source.specs.Sized.{Counted as IsCounted};
-ghost use Rattle.lus_source.specs.NameView.{spaces_seen};
+ghost use Rattle.lus_source.specs.NameView.{known_seen, spaces_seen};
+ghost use Rattle.lus_source.specs.Tables.{groups, node_at};
 
-use crate::checking::names_of;
-use crate::counted::Counted;
+use crate::counts::Counted;
+use crate::declarations::{check_definitions, declared};
+use crate::fault::{Fault, refuse};
+use crate::names::Names;
+use crate::nodes::check_nodes;
 use crate::places::{Places, Spaces};
+use crate::using::first_unknown;
 use lus_syntax::{Refusal, RefusalNumber, Tree};
 use std::alloc::Global;
 use std::marker::Model;
 
-/// A counted source whose names are declared once, and used as what they are declared, with its names. Contracts see it as its tree.
+/// A counted source whose names are declared once, and used as what they are declared, with its names and those of each node's
+/// variables. Contracts see it as its tree.
 pub struct Named {
     counted: Counted,
     names: Spaces,
+    variables: Vec<Places>,
 }
 
 impl Model for Named {
@@ -35,7 +44,7 @@ impl Model for Named {
 
     ghost view = { λ n. n.counted };
 
-    ghost invariant = { λ n. HasNames (tree_seen n.counted) n.names };
+    ghost invariant = { λ n. HasNames (tree_seen n.counted) n.names n.variables.items };
 }
 
 impl Named {
@@ -68,6 +77,14 @@ impl Named {
     {
         &self.names.nodes
     }
+
+    /// The places of the variables of the node at a place.
+    pub fn variables(&self, node: usize) -> &Places
+        requires { node < length (tree_seen self.now).nodes }
+        ensures { result.now ≡ names_in (groups (node_at (tree_seen self.now) node)) }
+    {
+        &self.variables[node]
+    }
 }
 
 // By hand, so that other functions call it: what a derive drops is proved again in each of them.
@@ -76,6 +93,7 @@ impl Drop for Named {
         let Named {
             counted: _,
             names: _,
+            variables: _,
         } = self;
     }
 }
@@ -88,10 +106,36 @@ pub fn check_names(alloc: Global, counted: Counted) -> Result<Named, Refusal>
     ensures ok { OnOk result (IsNamed (tree_seen counted)) }
     ensures refused { IfErr result (RefusesFor numbers.Name (IsNamed (tree_seen counted))) }
 {
-    let names = match names_of(alloc, counted.tree()) {
-        Ok(names) => names,
-        Err(fault) => return Err(fault.refusal(RefusalNumber::Name)),
-    };
+    match with_names(alloc, counted) {
+        Ok(named) => Ok(named),
+        Err(fault) => Err(fault.refusal(RefusalNumber::Name)),
+    }
+}
+
+/// The source with its names.
+fn with_names(alloc: Global, counted: Counted) -> Result<Named, Fault>
+    ensures same { IfOk result (λ named. named ≡ counted) }
+    ensures named { Judged result (IsNamed (tree_seen counted)) }
+{
+    let mut names = declared(alloc, counted.tree())?;
+    let variables = check_uses(alloc, &mut names, &counted)?;
     let names = names.into_spaces();
-    Ok(Named { counted, names })
+    Ok(Named {
+        counted,
+        names,
+        variables,
+    })
+}
+
+/// Checks that what the declarations of a source use is among these names, and gives the names of each node's variables.
+fn check_uses(alloc: Global, names: &mut Names, counted: &Counted) -> Result<Vec<Places>, Fault>
+    requires empty { (known_seen names.old).variables ≡ [] }
+    ensures known { Judged result (UsesKnown (known_seen names.old) (tree_seen counted.now)) }
+    ensures kept { OnOk result (known_seen names.new ≡ known_seen names.old) }
+    ensures variables { IfOk result (λ all. all.items ≡ map (λ f. names_in (groups f)) (tree_seen counted.now).nodes) }
+{
+    let tree = counted.tree();
+    check_definitions(alloc, names, &tree.types)?;
+    refuse(first_unknown(names, &tree.constants))?;
+    check_nodes(alloc, names, &tree.nodes)
 }

@@ -81,7 +81,6 @@ impl Names {
     ghost use Rattle.lus_syntax.specs.View.{lead_seen, label_seen, test_seen};
     ghost use Rattle.lus_source.specs.Named.{knows_lead, knows_label, knows_test, knows_name as name_known};
     ghost use Rattle.lus_source.specs.NameView.{known_seen, spaces_seen};
-    ghost use Rattle.lus_source.specs.Parts.{outside};
 
     /// No names.
     pub fn new(alloc: Global) -> Names
@@ -102,7 +101,7 @@ impl Names {
         requires constants { length self.constants.keys ≤ 4294967295 }
         requires constructors { length self.constructors.keys ≤ 4294967295 }
         requires nodes { length self.nodes.keys ≤ 4294967295 }
-        ensures { spaces_seen result ≡ outside (known_seen self) }
+        ensures { spaces_seen result ≡ record (known_seen self) { variables = [] } }
     {
         let Names {
             variables,
@@ -140,7 +139,7 @@ impl Names {
         }
     }
 
-    #[tactic(auto, using(crate::proofs::NameLists::none_or))]
+    #[tactic(auto, using(crate::proofs::AppendedNames::none_or))]
     pub fn unknown_test(&self, test: &Test) -> Option<Place>
         ensures { is_none result ≡ knows_test (known_seen self.now) (test_seen test.now) }
     {
@@ -166,7 +165,7 @@ impl Names {
 
 /// The first unknown name of an expression.
 #[cycle(unknown)]
-#[tactic(auto, using(crate::proofs::NameLists::none_or))]
+#[tactic(auto, using(crate::proofs::AppendedNames::none_or))]
 pub fn unknown(names: &Names, source: &Expr) -> Option<Place>
     ensures { is_none result ≡ knows (known_seen names.now) (expression_seen source.now) }
 {

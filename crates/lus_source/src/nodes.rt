@@ -1,43 +1,56 @@
 //! The names of a node.
 
-ghost use Rattle.std.specs.Prelude.{◌≡◌, ◌++◌, map, is_none, OnOk};
+ghost use Rattle.std.specs.Prelude.{◌≡◌, ◌≤◌, ◌++◌, [], map, is_none, IfOk, OnOk};
 ghost use Rattle.lus_values.specs.Lists.{Each};
+ghost use Rattle.lus_syntax.specs.Limits.{most_variables};
 ghost use Rattle.lus_syntax.specs.View.{node_seen};
 ghost use Rattle.lus_source.specs.Tables.{groups};
 ghost use Rattle.lus_source.specs.Named.{NodeNamed, all_new, defined_names, names_in};
 ghost use Rattle.lus_source.specs.ScopeView.{Judged, Tested};
+ghost use Rattle.lus_source.specs.Sized.{variable_count};
 ghost use Rattle.lus_source.specs.NameView.{known_seen, texts};
-ghost use Rattle.lus_source.specs.Parts.{in_node, node_known, outside};
+ghost use Rattle.lus_source.specs.Parts.{in_node, node_known};
 
-use crate::fault::Fault;
+use crate::fault::{Fault, refuse};
 use crate::left::check_lefts;
 use crate::names::Names;
 use crate::naming::declare_all;
-use crate::refusing::refuse;
+use crate::places::Places;
 use crate::using::first_unknown;
 use indexmap::IndexSet;
 use lus_syntax::{Node, Place};
+use std::alloc::Global;
+use std::mem;
 
-/// Checks the names of nodes, one by one.
-pub fn check_nodes(names: &mut Names, nodes: &[Node]) -> Result<(), Fault>
-    ensures kept { OnOk result (outside (known_seen names.new) ≡ outside (known_seen names.old)) }
+/// Checks the names of nodes, one by one, and gives those of each node's variables.
+pub fn check_nodes(alloc: Global, names: &mut Names, nodes: &[Node]) -> Result<Vec<Places>, Fault>
+    requires empty { (known_seen names.old).variables ≡ [] }
+    requires few { Each (λ f. variable_count (groups f) ≤ most_variables) (map node_seen nodes.now) }
+    ensures kept { OnOk result (known_seen names.new ≡ known_seen names.old) }
     ensures named { Judged result (Each (λ f. NodeNamed (in_node (known_seen names.old) f) f) (map node_seen nodes.now)) }
+    ensures variables { IfOk result (λ all. all.items ≡ map (λ f. names_in (groups f)) (map node_seen nodes.now)) }
 {
+    let mut variables = Vec::new(alloc);
     for node in nodes {
-        check_node(names, node)?;
+        variables.push(check_node(alloc, names, node)?)?;
     }
-    Ok(())
+    Ok(variables)
 }
 
-/// Checks the names of a node. Only the table of variables changes.
-fn check_node(names: &mut Names, node: &Node) -> Result<(), Fault>
-    ensures kept { OnOk result (outside (known_seen names.new) ≡ outside (known_seen names.old)) }
+/// Checks the names of a node, and gives those of its variables.
+fn check_node(alloc: Global, names: &mut Names, node: &Node) -> Result<Places, Fault>
+    requires empty { (known_seen names.old).variables ≡ [] }
+    requires few { variable_count (groups (node_seen node.now)) ≤ most_variables }
+    ensures kept { OnOk result (known_seen names.new ≡ known_seen names.old) }
     ensures named { Judged result (NodeNamed (in_node (known_seen names.old) (node_seen node.now)) (node_seen node.now)) }
+    ensures variables { IfOk result (λ own. own ≡ names_in (groups (node_seen node.now))) }
 {
-    names.variables.clear();
     declare_variables(&mut names.variables, node)?;
     refuse(unknown_in_node(names, node))?;
-    check_lefts(&mut names.variables, node)
+    let variables = Places::new(mem::replace(&mut names.variables, IndexSet::new(alloc)));
+    check_lefts(&mut names.variables, node)?;
+    names.variables.clear();
+    Ok(variables)
 }
 
 /// Declares the variables of a node.

@@ -13,7 +13,7 @@ use lus_values::{Memory, Value, copy};
 use std::alloc::Global;
 
 /// What the names of a source stand for, each at its name's place: the values of constants, constructors, types, and the heads
-/// of nodes. `declared` says what each type's declaration declares.
+/// of nodes. `declared` says what each type's declaration declares, `variables` the types of each node's variables.
 pub struct Tables<'a> {
     pub names: &'a Spaces,
     pub constants: Vec<Value>,
@@ -21,6 +21,7 @@ pub struct Tables<'a> {
     pub types: Vec<Kind>,
     pub declared: Vec<Declared>,
     pub nodes: Vec<Signature>,
+    pub variables: Vec<Vec<Kind>>,
     ghost few_fields: { IsTrue (list_all has_few_fields (map declared_of declared.items)) },
 }
 
@@ -38,6 +39,7 @@ impl<'a> Tables<'a> {
             types: _,
             declared,
             nodes: _,
+            variables: _,
         } = self;
         declared
     }
@@ -53,15 +55,17 @@ impl<'a> Drop for Tables<'a> {
             types: _,
             declared: _,
             nodes: _,
+            variables: _,
         } = self;
     }
 }
 
 /// The variables of a node with their types, and the tables of its source.
+#[derive(Clone, Copy)]
 pub struct Scope<'a> {
     pub tables: &'a Tables<'a>,
-    pub variables: Places,
-    pub variable_kinds: Vec<Kind>,
+    pub variables: &'a Places,
+    pub variable_kinds: &'a [Kind],
 }
 
 impl<'a> Scope<'a> {
@@ -78,7 +82,7 @@ impl<'a> Scope<'a> {
         ensures { result ≡ entry (scope_of self.now).variables name.now }
     {
         match self.variables.place(name) {
-            Some(place) => match at(&self.variable_kinds, place as usize).copied() {
+            Some(place) => match at(self.variable_kinds, place as usize).copied() {
                 Some(kind) => Some(Placed { place, kind }),
                 None => None,
             },
@@ -91,7 +95,7 @@ impl<'a> Scope<'a> {
         ensures { let s = scope_of self.now in result ≡ kind_of_variable (heads s) (head s) place }
     {
         if (place as usize) < self.variables.len() {
-            at(&self.variable_kinds, place as usize).copied()
+            at(self.variable_kinds, place as usize).copied()
         } else {
             None
         }
@@ -179,17 +183,6 @@ impl<'a> Scope<'a> {
                 None => &[],
             },
         }
-    }
-}
-
-// By hand, as that of `Tables`.
-impl<'a> Drop for Scope<'a> {
-    fn drop(self) {
-        let Scope {
-            tables: _,
-            variables: _,
-            variable_kinds: _,
-        } = self;
     }
 }
 

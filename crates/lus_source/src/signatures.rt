@@ -2,8 +2,8 @@
 
 ghost use Rattle.std.specs.Prelude.{◌≡◌, ◌++◌, IfOk, OnOk, map};
 ghost use Rattle.lus_syntax.specs.View.{group_seen, names_seen, node_seen, tree_seen};
-ghost use Rattle.lus_source.specs.ScopeView.{signature_of};
-ghost use Rattle.lus_source.specs.Tables.{each_of, kinds_by, signature_by, signatures_by};
+ghost use Rattle.lus_source.specs.ScopeView.{kinds_seen, signature_of};
+ghost use Rattle.lus_source.specs.Tables.{each_of, groups, kinds_by, signature_by, signatures_by};
 ghost use Rattle.lus_source.specs.ByTable.{kind_told};
 
 use crate::entries::Signature;
@@ -54,8 +54,42 @@ fn signature(
     })
 }
 
+/// The types of each node's variables.
+pub fn variables(
+    alloc: Global,
+    types: &Places,
+    kinds: &[Kind],
+    nodes: &[Node],
+) -> Result<Vec<Vec<Kind>>, Memory>
+    ensures { let found = map (λ f. map (λ e. e.1) (kinds_by (kind_told types.now kinds.now) (groups f))) (map node_seen nodes.now) in
+        IfOk result (λ all. kinds_seen all.items ≡ found) }
+{
+    let mut all = Vec::new(alloc);
+    for node in nodes {
+        all.push(variable_kinds(alloc, types, kinds, node)?)?;
+    }
+    Ok(all)
+}
+
+/// The types of a node's variables.
+fn variable_kinds(
+    alloc: Global,
+    types: &Places,
+    kinds: &[Kind],
+    node: &Node,
+) -> Result<Vec<Kind>, Memory>
+    ensures { let found = map (λ e. e.1) (kinds_by (kind_told types.now kinds.now) (groups (node_seen node.now))) in
+        IfOk result (λ all. all.items ≡ found) }
+{
+    let mut all = Vec::new(alloc);
+    push_kinds(&mut all, types, kinds, &node.inputs)?;
+    push_kinds(&mut all, types, kinds, &node.outputs)?;
+    push_kinds(&mut all, types, kinds, &node.locals)?;
+    Ok(all)
+}
+
 /// Appends the types of variables, one by one.
-pub fn push_kinds(
+fn push_kinds(
     found: &mut Vec<Kind>,
     types: &Places,
     kinds: &[Kind],

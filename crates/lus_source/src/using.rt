@@ -31,7 +31,7 @@ impl Using for Fields {
 impl Using for Constant {
     ghost known = { λ k c. constant_known k (constant_seen c) };
 
-    #[tactic(auto, using(crate::proofs::NameLists::none_or))]
+    #[tactic(auto, using(crate::proofs::AppendedNames::none_or))]
     fn unknown(&self, names: &Names) -> Option<Place> {
         let unknown = match &self.type_name {
             Some(name) => unknown_type(&names.types, name),
@@ -44,7 +44,7 @@ impl Using for Constant {
 impl Using for Group {
     ghost known = { λ k g. group_known k (group_seen g) };
 
-    #[tactic(auto, using(crate::proofs::NameLists::none_or))]
+    #[tactic(auto, using(crate::proofs::AppendedNames::none_or))]
     fn unknown(&self, names: &Names) -> Option<Place> {
         let unknown = match &self.test {
             Some(test) => names.unknown_test(test),

@@ -1,13 +1,12 @@
 //! Nodes: the tests of their variables and their equations are well typed, and a function keeps no memory.
 
-ghost use Rattle.std.specs.Prelude.{◌≡◌, ◌≤◌, ◌+◌, ◌++◌, IfOk, OnOk, flat_map, is_none, length, map, option_map};
+ghost use Rattle.std.specs.Prelude.{◌≡◌, ◌<◌, ◌≤◌, ◌+◌, ◌++◌, IfOk, OnOk, flat_map, is_none, length, map, option_map};
 ghost use Rattle.std.specs.List.{list_all};
 ghost use Rattle.lus_syntax.specs.Limits.{most_variables};
 ghost use Rattle.lus_syntax.specs.View.{equation_seen, group_seen, node_seen, test_seen, tree_seen};
 ghost use Rattle.lus_values.specs.Lists.{Each};
 ghost use Rattle.lus_program.specs.View.{equations_from, node_of, variable_of};
-ghost use Rattle.lus_source.specs.Named.{Distinct, names_in};
-ghost use Rattle.lus_source.specs.Tables.{groups};
+ghost use Rattle.lus_source.specs.Tables.{groups, node_at};
 ghost use Rattle.lus_source.specs.Sized.{variable_count};
 ghost use Rattle.lus_source.specs.Meaning.{equations_meant, node_meant, test_meant};
 ghost use Rattle.lus_source.specs.WellTyped.{NodeTyped, is_pure, memory_fits};
@@ -142,14 +141,14 @@ fn check_memory(scope: &Scope, kind: NodeKind, sources: &[SourceEquation]) -> Re
     }
 }
 
-/// A node of a source, as the program has it, where it is well typed.
-pub fn node(alloc: Global, tabled: &Tabled, source: &SourceNode) -> Result<Node, Fault>
-    requires few { variable_count (groups (node_seen source.now)) ≤ most_variables }
-    requires distinct { Distinct (names_in (groups (node_seen source.now))) }
-    ensures meant { IfOk result (λ n. node_of n ≡ node_meant (tree_seen tabled.now) (node_seen source.now)) }
-    ensures typed { Judged result (NodeTyped (tree_seen tabled.now) (node_seen source.now)) }
+/// The node at a place of a source, as the program has it, where it is well typed.
+pub fn node(alloc: Global, tabled: &Tabled, place: usize) -> Result<Node, Fault>
+    requires { place < length (tree_seen tabled.now).nodes }
+    ensures meant { let p = tree_seen tabled.now in IfOk result (λ n. node_of n ≡ node_meant p (node_at p place)) }
+    ensures typed { let p = tree_seen tabled.now in Judged result (NodeTyped p (node_at p place)) }
 {
-    let scope = enter(alloc, tabled, source)?;
+    let source = &tabled.loopless.tree().nodes[place];
+    let scope = enter(tabled, place);
     node_in(alloc, &scope, source)
 }
 

@@ -61,10 +61,10 @@ fn nodes(alloc: Global, tabled: &Tabled) -> Result<Vec<Node>, Fault>
     ensures typed { let p = tree_seen tabled.now in Judged result (Each (NodeTyped p) p.nodes) }
     ensures meant { let p = tree_seen tabled.now in IfOk result (λ ns. map node_of ns.items ≡ map (node_meant p) p.nodes) }
 {
-    let sources = tabled.loopless.tree().nodes.as_slice();
-    let mut nodes = Vec::with_capacity(alloc, sources.len())?;
-    for source in sources {
-        nodes.push(node(alloc, tabled, source)?)?;
+    let count = tabled.loopless.tree().nodes.len();
+    let mut nodes = Vec::with_capacity(alloc, count)?;
+    for place in 0..count {
+        nodes.push(node(alloc, tabled, place)?)?;
     }
     Ok(nodes)
 }

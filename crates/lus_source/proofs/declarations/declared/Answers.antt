@@ -6,7 +6,7 @@ use Rattle.lus_syntax.specs.View.{constant_seen, node_seen, type_seen}
 use Rattle.lus_source.specs.Named.{Known}
 use Rattle.lus_source.specs.NameView.{texts}
 use Rattle.lus_source.proofs.Faults.{passed_on}
-use Rattle.lus_source.proofs.NewNames.{from_empty}
+use Rattle.lus_source.proofs.AppendedNames.{from_empty}
 use Rattle.lus_source.proofs.DeclaredNames.{constant_twice, constructor_twice, constructors, constructors_are, each_distinct, each_there, one_twice, value_twice, values_distinct}
 use Rattle.lus_source.proofs.declarations.declared.Goals as goal
 

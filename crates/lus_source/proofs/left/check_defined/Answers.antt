@@ -4,7 +4,7 @@ use Rattle.std.specs.Prelude.{is_none}
 use Rattle.std.proofs.lemmas.Result.{MatchResult-weaker}
 use Rattle.lus_source.specs.NameView.{texts}
 use Rattle.lus_source.proofs.Faults.{judged_by, passed_on}
-use Rattle.lus_source.proofs.GroupNames.{lefts_defined}
+use Rattle.lus_source.proofs.DeclaredNames.{lefts_defined}
 use Rattle.lus_source.proofs.left.check_defined.Goals as goal
 
 pub returns-in_err-declare_defined-clause-refused : goal.returns-in_err-declare_defined-clause-refused

@@ -6,7 +6,7 @@ use Rattle.lus_syntax.specs.View.{node_seen}
 use Rattle.lus_source.specs.Named.{all_new, defined_names, is_in, left_names}
 use Rattle.lus_source.specs.NameView.{texts}
 use Rattle.lus_source.proofs.Faults.{passed_on}
-use Rattle.lus_source.proofs.GroupNames.{defined_distinct}
+use Rattle.lus_source.proofs.DeclaredNames.{defined_distinct}
 use Rattle.lus_source.proofs.left.check_lefts.Goals as goal
 
 pub returns-in_err-check_defined-clause-refused : goal.returns-in_err-check_defined-clause-refused

@@ -6,8 +6,8 @@ use Rattle.lus_syntax.specs.View.{node_seen}
 use Rattle.lus_source.specs.Named.{all_new, left_names}
 use Rattle.lus_source.specs.NameView.{texts}
 use Rattle.lus_source.proofs.Faults.{judged_by, passed_on}
-use Rattle.lus_source.proofs.GroupNames.{defined_whole, left_new}
-use Rattle.lus_source.proofs.NameLists.{none_or}
+use Rattle.lus_source.proofs.DeclaredNames.{defined_whole, left_new}
+use Rattle.lus_source.proofs.AppendedNames.{none_or}
 use Rattle.lus_source.proofs.left.check_whole.Goals as goal
 
 pub returns-in_err-declare_all-clause-refused : goal.returns-in_err-declare_all-clause-refused

@@ -3,7 +3,7 @@ use Rattle.std.proofs.lemmas.Grind.{common_steps}
 use Rattle.std.specs.List.{list_all}
 use Rattle.lus_syntax.specs.View.{equation_seen}
 use Rattle.lus_source.specs.Named.{has_left}
-use Rattle.lus_source.proofs.Steps.{drop_step}
+use Rattle.lus_source.proofs.Lookups.{drop_step}
 use Rattle.lus_source.proofs.left.without_left.Goals as goal
 
 pub loop-equation-preserved : goal.loop-equation-preserved

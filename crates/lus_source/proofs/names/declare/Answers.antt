@@ -7,7 +7,7 @@ use Rattle.lus_syntax.specs.View.{names_seen}
 use Rattle.lus_source.specs.Tables.{text_of}
 use Rattle.lus_source.specs.Named.{is_in, all_new}
 use Rattle.lus_source.specs.NameView.{texts}
-use Rattle.lus_source.proofs.NameLists.{is_in_keys, not_new, is_new_too, grown_keys}
+use Rattle.lus_source.proofs.AppendedNames.{is_in_keys, not_new, is_new_too, grown_keys}
 use Rattle.lus_source.proofs.names.declare.Goals as goal
 
 pub returns-then-not-is_new-clause-new : goal.returns-then-not-is_new-clause-new

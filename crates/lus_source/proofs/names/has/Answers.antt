@@ -1,5 +1,5 @@
 use Rattle.std.proofs.Common.{◌∙◌}
-use Rattle.lus_source.proofs.NameLists.{is_in_keys}
+use Rattle.lus_source.proofs.AppendedNames.{is_in_keys}
 use Rattle.lus_source.proofs.names.has.Goals as goal
 
 pub returns : goal.returns

@@ -1,8 +1,8 @@
 -- A doubled name is doubled in the whole list; each thing adds its names.
 use Rattle.std.proofs.Common.{ap, flat_map}
 use Rattle.lus_source.proofs.Faults.{passed_on}
-use Rattle.lus_source.proofs.Steps.{drop_step}
-use Rattle.lus_source.proofs.NewNames.{remaining_doubled, remaining_step}
+use Rattle.lus_source.proofs.Lookups.{drop_step}
+use Rattle.lus_source.proofs.AppendedNames.{remaining_doubled, remaining_step}
 use Rattle.lus_source.proofs.naming.declare_all.Goals as goal
 
 pub returns-in_err-declare-clause-new : goal.returns-in_err-declare-clause-new

@@ -4,7 +4,7 @@ use Rattle.std.specs.List.{list_all}
 use Rattle.std.proofs.lemmas.List.Folds.{list_all-append}
 use Rattle.lus_syntax.specs.Lexemes.{Text}
 use Rattle.lus_source.specs.Named.{is_in}
-use Rattle.lus_source.proofs.Steps.{drop_step}
+use Rattle.lus_source.proofs.Lookups.{drop_step}
 use Rattle.lus_source.specs.NameView.{differs, texts}
 use Rattle.lus_source.proofs.naming.first.Goals as goal
 

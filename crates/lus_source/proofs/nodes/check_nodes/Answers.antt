@@ -1,5 +1,6 @@
 -- One wrong node breaks the rule of all.
-use Rattle.std.proofs.Common.{◌≡◌, ◌∙◌, ◌+◌, ◌++◌, ◌∷◌, [], ap, map, sym, subst, take}
+use Rattle.std.proofs.Common.{arith, ◌≡◌, ◌≤◌, ◌∙◌, ◌+◌, ◌++◌, ◌∷◌, [], ap, map, sym, subst, take}
+use Rattle.std.proofs.lemmas.Grind.{common_steps}
 use Rattle.std.proofs.lemmas.List.{map_more}
 use Rattle.lus_syntax.specs.View.{node_seen}
 use Rattle.lus_syntax.specs.Trees.{Node}
@@ -7,6 +8,9 @@ use Rattle.lus_values.specs.Lists.{Each}
 use Rattle.lus_source.specs.Named.{Known, NodeNamed}
 use Rattle.lus_source.specs.NameView.{known_seen}
 use Rattle.lus_source.specs.Parts.{in_node}
+use Rattle.lus_source.specs.Sized.{variable_count}
+use Rattle.lus_source.specs.Tables.{groups}
+use Rattle.lus_syntax.specs.Limits.{most_variables}
 use Rattle.lus_values.proofs.Lists.{each_append, each_seen}
 use Rattle.lus_source.proofs.Faults.{passed_on}
 use Rattle.lus_source.proofs.nodes.check_nodes.Goals as goal
@@ -31,4 +35,12 @@ loop-node-preserved c =
     record {
       kept = c.in_ok-check_node.ensures.kept ∙ c.loop-node.invariant.kept;
       named = subst (Each right) (sym grown) (each_append right before (node_seen x ∷ []) c.loop-node.invariant.named (one, tt));
+      variables = grind (arith, common_steps);
+    }
+
+pub check_node-requires : goal.check_node-requires
+check_node-requires c =
+    record {
+      empty = ap (λ (k : Known). k.variables) c.loop-node.invariant.kept ∙ c.requires.empty;
+      few = each_seen node_seen (λ f. variable_count (groups f) ≤ most_variables) c.args.nodes.now c.loop-node.node-index c.node-item.result c.loop-node-test.true c.node-item.is c.requires.few;
     }

@@ -1,14 +1,16 @@
--- The tables but the variables are as before, and each node before this one is right.
+-- The tables are as before, each node before this one is right, and its variables are found.
 use Rattle.std.proofs.Common.{◌≡◌, map, take}
 use Rattle.lus_values.specs.Lists.{Each}
 use Rattle.lus_syntax.specs.View.{node_seen}
-use Rattle.lus_source.specs.Named.{NodeNamed}
+use Rattle.lus_source.specs.Named.{NodeNamed, names_in}
 use Rattle.lus_source.specs.NameView.{known_seen}
-use Rattle.lus_source.specs.Parts.{in_node, outside}
+use Rattle.lus_source.specs.Parts.{in_node}
+use Rattle.lus_source.specs.Tables.{groups}
 use Rattle.lus_source.proofs.nodes.check_nodes.Given as goal
 
 abbrev pub invariant-loop-node : goal.invariant-loop-node
 invariant-loop-node l = record {
-  kept : outside (known_seen l.names) ≡ outside (known_seen l.fn.names);
+  kept : known_seen l.names ≡ known_seen l.fn.names;
   named : Each (λ f. NodeNamed (in_node (known_seen l.fn.names) f) f) (map node_seen (take l.node-index l.nodes));
+  variables : l.variables.items ≡ map (λ f. names_in (groups f)) (map node_seen (take l.node-index l.nodes));
 }

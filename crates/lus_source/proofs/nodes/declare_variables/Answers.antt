@@ -3,8 +3,8 @@ use Rattle.std.proofs.Common.{◌∙◌, sym}
 use Rattle.std.proofs.lemmas.Result.{on_ok_weaker}
 use Rattle.lus_source.specs.NameView.{texts}
 use Rattle.lus_source.proofs.Faults.{judged_by, passed_on}
-use Rattle.lus_source.proofs.GroupNames.{variables_remain}
-use Rattle.lus_source.proofs.NewNames.{remaining_doubled, remaining_step}
+use Rattle.lus_source.proofs.DeclaredNames.{variables_remain}
+use Rattle.lus_source.proofs.AppendedNames.{remaining_doubled, remaining_step}
 use Rattle.lus_source.proofs.nodes.declare_variables.Goals as goal
 
 pub returns-in_err-declare_all-clause-new : goal.returns-in_err-declare_all-clause-new

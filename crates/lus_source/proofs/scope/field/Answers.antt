@@ -4,7 +4,7 @@ use Rattle.std.specs.Str.{bytes_eq}
 use Rattle.lus_program.specs.View.{field_of}
 use Rattle.lus_source.specs.declared.entries.Placed.{Placed}
 use Rattle.lus_source.specs.Labels.{field_from}
-use Rattle.lus_source.proofs.DeclaredFields.{field_step}
+use Rattle.lus_source.proofs.FieldsMeant.{field_step}
 use Rattle.lus_source.proofs.scope.field.Goals as goal
 
 pub returns-then-eq : goal.returns-then-eq

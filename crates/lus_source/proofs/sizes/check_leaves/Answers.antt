@@ -1,34 +1,32 @@
-use Rattle.std.proofs.Common.{◌∙◌, ap, map, sym}
+use Rattle.std.proofs.Common.{◌∙◌, ap, map, subst}
+use Rattle.std.proofs.lemmas.Result.{MatchResult-weaker}
 use Rattle.lus_program.specs.View.{declared_of}
-use Rattle.lus_syntax.specs.View.{tree_seen}
+use Rattle.lus_syntax.specs.declared.tree.Tree.{Tree as StoredTree}
 use Rattle.lus_typing.specs.Leaves.{declared_leaves}
-use Rattle.lus_source.proofs.TypeSizes.{leaves_measure, leaves_meant, ordered, size_past, sizes_within, type_place}
+use Rattle.lus_source.specs.ScopeView.{Judged}
+use Rattle.lus_source.proofs.Measures.{leaves_meant, leaves_measure, meant_within, of_things, ordered}
 use Rattle.lus_source.proofs.sizes.check_leaves.Goals as goal
 
-pub along-requires-clause-order : goal.along-requires-clause-order
-along-requires-clause-order c = ordered (tree_seen c.args.tabled.now) c.tabled.inside.tables (rw c.tabled.view_is at c.tabled.invariant) c.deref.result.now c.deref.ensures.value c.types.result.now (rw c.tabled.view_is at c.types.ensures)
+pub measured-requires : goal.measured-requires
+measured-requires c =
+    let t = c.args.tabled.now in
+    let has = rw c.tabled.view_is at c.tabled.invariant in
+    let listed = c.deref-2.ensures.value ∙ ap (λ (u : StoredTree). u.types.items) (c.tree.ensures.same ∙ c.tabled.view_is) in
+    let measure = leaves_measure (map declared_of c.deref.result.now) in
+    record {
+      order = ordered t c.tabled.inside.tables has c.deref.result.now c.deref.ensures.value c.types.result.now (rw c.tabled.view_is at c.types.ensures);
+      measure = of_things t c.tabled.inside.tables has c.deref.result.now c.deref.ensures.value 1 declared_leaves measure c.deref-2.result.now listed;
+    }
 
-pub along-requires-clause-local : goal.along-requires-clause-local
-along-requires-clause-local c = (leaves_measure (map declared_of c.deref.result.now)).local
-
-pub bounds-declarations-place : goal.bounds-declarations-place
-bounds-declarations-place c =
-    type_place (tree_seen c.args.tabled.now) c.tabled.inside.tables (rw c.tabled.view_is at c.tabled.invariant) c.deref.result.now c.deref.ensures.value c.types.result.now (rw c.tabled.view_is at c.types.ensures)
-    c.tree.result.now c.as_slice-declarations.result.now (sym c.as_slice-declarations.ensures.value) (ap tree_seen (c.tree.ensures.same ∙ c.tabled.view_is)) c.in-Err.place c.in-Err.ensures.refused.0
-
-pub bounds-declarations-place-in-Err : goal.bounds-declarations-place-in-Err
-bounds-declarations-place-in-Err c =
-    type_place (tree_seen c.args.tabled.now) c.tabled.inside.tables (rw c.tabled.view_is at c.tabled.invariant) c.deref.result.now c.deref.ensures.value c.types.result.now (rw c.tabled.view_is at c.types.ensures)
-    c.tree.result.now c.as_slice-declarations.result.now (sym c.as_slice-declarations.ensures.value) (ap tree_seen (c.tree.ensures.same ∙ c.tabled.view_is)) c.in-Err.place c.in-Err.ensures.refused.0
-
-pub returns-in-Ok-clause-leaves : goal.returns-in-Ok-clause-leaves
-returns-in-Ok-clause-leaves c =
-    leaves_meant (tree_seen c.args.tabled.now) c.tabled.inside.tables (rw c.tabled.view_is at c.tabled.invariant) c.deref.result.now c.deref.ensures.value c.types.result.now (rw c.tabled.view_is at c.types.ensures) 1024 c.in-Ok.leaves.items c.in-Ok.ensures.found (rw (c.tree.ensures.same, c.tabled.view_is) at c.tree.ensures.counted)
-
-pub returns-in-Ok-clause-within : goal.returns-in-Ok-clause-within
-returns-in-Ok-clause-within c =
-    sizes_within (tree_seen c.args.tabled.now) c.tabled.inside.tables (rw c.tabled.view_is at c.tabled.invariant) c.deref.result.now c.deref.ensures.value c.types.result.now (rw c.tabled.view_is at c.types.ensures) 1 declared_leaves (leaves_measure (map declared_of c.deref.result.now)) 1024 c.in-Ok.leaves.items c.in-Ok.ensures.found
-
-pub returns-in-Err-clause-within : goal.returns-in-Err-clause-within
-returns-in-Err-clause-within c =
-    size_past (tree_seen c.args.tabled.now) c.tabled.inside.tables (rw c.tabled.view_is at c.tabled.invariant) c.deref.result.now c.deref.ensures.value c.types.result.now (rw c.tabled.view_is at c.types.ensures) 1 declared_leaves (leaves_measure (map declared_of c.deref.result.now)) 1024 c.in-Err.place c.in-Err.ensures.refused.0 c.in-Err.ensures.refused.1
+pub returns : goal.returns
+returns c =
+    let t = c.args.tabled.now in
+    let has = rw c.tabled.view_is at c.tabled.invariant in
+    let listed = c.deref-2.ensures.value ∙ ap (λ (u : StoredTree). u.types.items) (c.tree.ensures.same ∙ c.tabled.view_is) in
+    let measure = leaves_measure (map declared_of c.deref.result.now) in
+    let order = rw c.tabled.view_is at c.types.ensures in
+    let counted = rw (c.tree.ensures.same, c.tabled.view_is) at c.tree.ensures.counted in
+    record {
+      leaves = MatchResult-weaker c.measured.result c.measured.ensures.found (λ leaves found. leaves_meant t c.tabled.inside.tables has c.deref.result.now c.deref.ensures.value c.types.result.now order 1024 leaves.items found counted) (λ _ _. tt);
+      within = subst (λ (P : Type 0). Judged c.measured.result P) (meant_within t c.tabled.inside.tables has c.deref.result.now c.deref.ensures.value 1 declared_leaves measure c.deref-2.result.now listed 1024) c.measured.ensures.fit;
+    }

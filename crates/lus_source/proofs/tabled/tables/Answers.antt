@@ -15,7 +15,7 @@ use Rattle.lus_source.specs.Tables.{all_constructors, all_declared_by, constants
 use Rattle.lus_source.specs.Labels.{has_few_fields}
 use Rattle.lus_source.specs.ByTable.{kind_told}
 use Rattle.lus_source.specs.NameView.{spaces_seen}
-use Rattle.lus_source.proofs.OfSource.{all_have_few, made_of_source}
+use Rattle.lus_source.proofs.OfSource.{all_have_few, made_tables}
 use Rattle.lus_source.proofs.Placing.{kinds_listed, names-all_constructors, names-numbered, names-rows, whole}
 use Rattle.lus_source.proofs.tabled.tables.Goals as goal
 
@@ -37,7 +37,7 @@ invariant_of-result c =
     let kind = kind_told ns.types ks in
     let known_constructors = zip ns.constructors cs in
     let named : spaces_seen ns ≡ known p [] = rw c.named-named.ensures.same at c.names-names.ensures in
-    made_of_source p _ (record {
+    made_tables p _ (record {
       variables = refl;
       types =
           whole (types_by (kind_at p) p.types) ns.types ks (ap (λ (k : Known). k.types) named ∙ sym (names-numbered (λ d. d.name.text) (λ d. kind_at p) 0 p.types))
@@ -47,8 +47,8 @@ invariant_of-result c =
       constants =
           whole (constants_by known_constructors p.constants) ns.constants (map value_of c.in_ok-constants.constants.items)
           (ap (λ (k : Known). k.constants) named ∙ sym (names-rows (λ k. k.name.text) (λ k. value_in known_constructors k.value) p.constants))
-          (rw (c.deref-4.ensures.value, c.deref-5.ensures.value, c.tree-2.ensures.same, c.named-named.ensures.same) at c.in_ok-constants.ensures);
+          (rw (c.deref-6.ensures.value, c.deref-7.ensures.value, c.tree-3.ensures.same, c.named-named.ensures.same) at c.in_ok-constants.ensures);
       nodes =
           whole (signatures_by kind p.nodes) ns.nodes (map signature_of c.in_ok-nodes.nodes.items) (ap (λ (k : Known). k.nodes) named ∙ sym (names-numbered (λ f. f.name.text) (signature_by kind) 0 p.nodes))
           (rw (c.deref-3.ensures.value, c.named-named.ensures.same) at c.in_ok-nodes.ensures);
-    })
+    }) (rw (c.deref-5.ensures.value, c.deref-4.ensures.value, c.tree-2.ensures.same, c.named-named.ensures.same) at c.in_ok-variables.ensures)

@@ -1,7 +1,7 @@
 use Rattle.std.proofs.Common.{rules, ◌≡◌, ◌∙◌, ◌+◌, ◌&&◌, ap, drop, false, sym, true}
 use Rattle.std.specs.Prelude.{is_none}
 use Rattle.std.specs.List.{list_all}
-use Rattle.lus_source.proofs.Steps.{drop_step}
+use Rattle.lus_source.proofs.Lookups.{drop_step}
 use Rattle.lus_source.specs.NameView.{known_seen}
 use Rattle.lus_source.proofs.using.first_unknown.Goals as goal
 

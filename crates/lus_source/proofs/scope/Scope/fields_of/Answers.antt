@@ -2,7 +2,7 @@ use Rattle.std.proofs.Common.{◌≡◌, ap, refl, length, arith, Some}
 use Rattle.std.specs.Prelude.{slice_get}
 use Rattle.std.proofs.lemmas.Option.{slice_get_read}
 use Rattle.std.proofs.lemmas.List.{length-map}
-use Rattle.lus_source.proofs.DeclaredFields.{few_fields_at}
+use Rattle.lus_source.proofs.FieldsMeant.{few_fields_at}
 use Rattle.lus_source.proofs.scope.Scope.fields_of.Goals as goal
 
 pub returns-in-Some-Structure-clause-few : goal.returns-in-Some-Structure-clause-few

@@ -9,17 +9,17 @@ pub returns-in-Some-copied : goal.returns-in-Some-copied
 returns-in-Some-copied c =
     let s = c.args.self.now in
     let i = c.in-Some.place in
-    ap (option_map (at_place i)) (sym c.in-Some-copied.is ∙ c.copied.ensures ∙ (rw c.deref.ensures.value at c.at.ensures))
-    ∙ ap (option_and_then (λ j. option_map (at_place j) (slice_get s.variable_kinds.items j))) (sym c.in-Some.is ∙ c.place.ensures) ∙ variable_at s.variables s.variable_kinds.items c.args.name.now
+    ap (option_map (at_place i)) (sym c.in-Some-copied.is ∙ c.copied.ensures ∙ c.at.ensures)
+    ∙ ap (option_and_then (λ j. option_map (at_place j) (slice_get s.variable_kinds.now j))) (sym c.in-Some.is ∙ c.place.ensures) ∙ variable_at s.variables.now s.variable_kinds.now c.args.name.now
 
 pub returns-in-None-copied : goal.returns-in-None-copied
 returns-in-None-copied c =
     let s = c.args.self.now in
     let i = c.in-Some.place in
-    ap (option_map (at_place i)) (sym c.in-None-copied.is ∙ c.copied.ensures ∙ (rw c.deref.ensures.value at c.at.ensures))
-    ∙ ap (option_and_then (λ j. option_map (at_place j) (slice_get s.variable_kinds.items j))) (sym c.in-Some.is ∙ c.place.ensures) ∙ variable_at s.variables s.variable_kinds.items c.args.name.now
+    ap (option_map (at_place i)) (sym c.in-None-copied.is ∙ c.copied.ensures ∙ c.at.ensures)
+    ∙ ap (option_and_then (λ j. option_map (at_place j) (slice_get s.variable_kinds.now j))) (sym c.in-Some.is ∙ c.place.ensures) ∙ variable_at s.variables.now s.variable_kinds.now c.args.name.now
 
 pub returns-in-None : goal.returns-in-None
 returns-in-None c =
     let s = c.args.self.now in
-    ap (option_and_then (λ j. option_map (at_place j) (slice_get s.variable_kinds.items j))) (sym c.in-None.is ∙ c.place.ensures) ∙ variable_at s.variables s.variable_kinds.items c.args.name.now
+    ap (option_and_then (λ j. option_map (at_place j) (slice_get s.variable_kinds.now j))) (sym c.in-None.is ∙ c.place.ensures) ∙ variable_at s.variables.now s.variable_kinds.now c.args.name.now

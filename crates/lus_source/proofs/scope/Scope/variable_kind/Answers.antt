@@ -6,9 +6,9 @@ use Rattle.lus_source.proofs.scope.Scope.variable_kind.Goals as goal
 pub returns-then-place-len : goal.returns-then-place-len
 returns-then-place-len c =
     let s = c.args.self.now in
-    c.copied.ensures ∙ (rw c.deref.ensures.value at c.at.ensures) ∙ kind_found 0 s.variables s.variable_kinds.items c.args.place (rw c.len.ensures at c.if-place-len.true)
+    c.copied.ensures ∙ c.at.ensures ∙ kind_found 0 s.variables.now s.variable_kinds.now c.args.place (rw c.len.ensures at c.if-place-len.true)
 
 pub returns-else-place-len : goal.returns-else-place-len
 returns-else-place-len c =
     let s = c.args.self.now in
-    kind_past 0 s.variables s.variable_kinds.items c.args.place (rw c.len.ensures at c.if-place-len.false)
+    kind_past 0 s.variables.now s.variable_kinds.now c.args.place (rw c.len.ensures at c.if-place-len.false)

@@ -1,7 +1,0 @@
-use Rattle.std.proofs.Common.{arith}
-use Rattle.std.proofs.lemmas.Grind.{common_steps}
-use Rattle.lus_source.proofs.Greatest.{greatest-append}
-use Rattle.lus_source.proofs.depths.deepest_field.Goals as goal
-
-pub loop-field-preserved : goal.loop-field-preserved
-loop-field-preserved c = grind (arith, common_steps, greatest-append)
