@@ -1,5 +1,6 @@
 -- One more step, call or clock.
 use Rattle.std.proofs.Common.{◌≡◌, ◌∙◌, ℕ, zero, suc, ◌+◌, ◌≤◌, List, [], ◌∷◌, ◌++◌, map, length, None, slice_get, refl, sym, ap, append_assoc, append-nil, le_of_suc-le-suc, not-suc-le-zero}
+use Rattle.std.proofs.lemmas.List.{length-append, length-map, map-append}
 use Rattle.lus_program.specs.Programs.{Expression, literal, Program}
 use Rattle.lus_streams.specs.Clocks.{Clock}
 use Rattle.lus_classes.specs.Classes.{Code, Step, Call}
@@ -18,6 +19,14 @@ steps_pushed (r ∷ ss) s = ap (λ l. steps_in r ++ l) (steps_pushed ss s) ∙ s
 pub first_before : (p : Program) (e : Expression) (k : Clock) (qs : List Call) → call_first p e k qs ≡ call_first p e k [] ++ qs
 first_before p (literal v) k qs = refl
 first_before p e k qs = refl
+
+-- what was kept for the first, before what is kept for the rest
+pub kept_next : {X Y : Type 0} (f : X → Y) (before now whole : List Y) (here rest : List X) → now ≡ before ++ map f here → before ++ map f (here ++ rest) ≡ whole → now ++ map f rest ≡ whole
+kept_next f before now whole here rest is all =
+    ap (λ l. l ++ map f rest) is ∙ append_assoc before (map f here) (map f rest) ∙ ap (λ l. before ++ l) (sym (map-append f here rest)) ∙ all
+
+pub kept_long : {X Y : Type 0} (f : X → Y) (before now : List Y) (here : List X) → now ≡ before ++ map f here → length now ≡ length before + length here
+kept_long f before now here is = ap length is ∙ length-append before (map f here) ∙ ap (λ j. length before + j) (length-map here f)
 
 -- one variable more has been given the code of e
 pub given_next : (ss whole : List Step) (d : Code) (m n m' n' : ℕ) (e : Expression) (k : Clock) (x : ℕ) (xs : List ℕ) → d ≡ code_form m n e k → m' ≡ m + length (kept_cells e k) → n' ≡ n + length (kept_firsts e k)

@@ -10,7 +10,7 @@ ghost use Rattle.lus_translation.specs.Building.{calls_from, AddsCall};
 
 use crate::call::call_of;
 use crate::clock::clock_at;
-use crate::kept::number_of;
+use crate::numbers::next;
 use lus_flat_classes::Call;
 use lus_program::{Equation, Form, Node, Program, Test};
 use lus_values::Memory;
@@ -68,14 +68,11 @@ pub fn numbers_of(alloc: Global, node: &Node) -> Result<Vec<u32>, Memory>
     ensures size { IfOk result (λ ns. length ns.items ≡ length node.now.equations.items) }
 {
     let mut numbers = Vec::with_capacity(alloc, node.equations.len())?;
-    let mut calls: usize = 0;
+    let mut calls = 0;
     for equation in &node.equations {
-        numbers.push(number_of(calls)?)?;
+        numbers.push(calls)?;
         if let Form::Call(_, _) = &equation.right.form {
-            calls = match calls.checked_add(1) {
-                Some(more) => more,
-                None => return Err(Memory),
-            };
+            calls = next(calls)?;
         }
     }
     Ok(numbers)
