@@ -1,5 +1,5 @@
 -- One more step, call or clock.
-use Rattle.std.proofs.Common.{◌≡◌, ◌∙◌, ℕ, zero, suc, ◌+◌, ◌≤◌, List, [], ◌∷◌, ◌++◌, map, length, None, slice_get, refl, sym, ap, append_assoc, append-nil, le_of_suc-le-suc, not-suc-le-zero}
+use Rattle.std.proofs.Common.{◌≡◌, ◌∙◌, ℕ, suc, ◌+◌, ◌≤◌, List, [], ◌∷◌, ◌++◌, map, length, refl, sym, ap, append_assoc, append-nil}
 use Rattle.std.proofs.lemmas.List.{length-append, length-map, map-append}
 use Rattle.lus_program.specs.Programs.{Expression, literal, Program}
 use Rattle.lus_streams.specs.Clocks.{Clock}
@@ -7,10 +7,6 @@ use Rattle.lus_classes.specs.Classes.{Code, Step, Call}
 use Rattle.lus_flat_classes.specs.declared.class.Step.{Step as StoredStep}
 use Rattle.lus_flat_classes.specs.View.{steps_in, steps_of}
 use Rattle.lus_translation.specs.Forms.{call_first, code_form, given_steps, kept_cells, kept_firsts}
-
-pub map_one_more : {X Y : Type 0} (f : X → Y) (xs : List X) (x : X) → map f (xs ++ x ∷ []) ≡ map f xs ++ f x ∷ []
-map_one_more f [] x = refl
-map_one_more f (y ∷ xs) x = ap (λ l. f y ∷ l) (map_one_more f xs x)
 
 pub steps_pushed : (ss : List StoredStep) (s : StoredStep) → steps_of (ss ++ s ∷ []) ≡ steps_of ss ++ steps_in s
 steps_pushed [] s = append-nil (steps_in s)
@@ -35,8 +31,3 @@ given_next ss whole d m n m' n' e k x xs is cells firsts h =
     append_assoc ss (record { target = x; code = d } ∷ []) (given_steps m' n' e k xs)
     ∙ (λ j. ss ++ (let one : Step = record { target = x; code = is j } in one) ∷ given_steps (cells j) (firsts j) e k xs)
     ∙ h
-
-pub slice_past : {X : Type 0} (xs : List X) (i : ℕ) → length xs ≤ i → slice_get xs i ≡ None
-slice_past [] i le = refl
-slice_past (x ∷ xs) zero le = elim (not-suc-le-zero le) [ ]
-slice_past (x ∷ xs) (suc i) le = slice_past xs i (le_of_suc-le-suc le)
