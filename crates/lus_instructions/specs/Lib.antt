@@ -4,6 +4,5 @@ pub mod Seeing
 pub mod Executed
 pub mod Played
 pub mod Locations
-pub mod Placed
 pub mod Followed
 pub mod Tallied

@@ -1,19 +1,16 @@
 -- The calls that are made belong to those of the text.
-use Rattle.std.proofs.Common.{◌≡◌, ◌∙◌, ℕ, suc, ◌+◌, ◌<◌, ◌≤◌, List, [], ◌∷◌, ◌++◌, length, Option, Some, None, refl, sym, ap, subst, arith, suc-ne-zero, ⊎_elim, drop, append_assoc}
+use Rattle.std.proofs.Common.{◌≡◌, ◌∙◌, ℕ, suc, ◌+◌, ◌<◌, ◌≤◌, List, [], ◌∷◌, ◌++◌, length, refl, sym, ap, subst, arith, ⊎_elim}
 use Rattle.std.proofs.lemmas.Bool.{cases_lt}
 use Rattle.lus_values.specs.Lists.{Each}
-use Rattle.lus_values.proofs.Lists.{below_at}
-use Rattle.lus_program.specs.declared.expr.Test.{Test}
-use Rattle.lus_program.specs.Programs.{Expression, literal, variable, operate, pre, arrow, when, merge, call, Operands, none, more, Equation, Variable, Node, Program, no_variable, empty_node, node_at}
-use Rattle.lus_streams.specs.Clocks.{Clock, clock_of, operand, formal_clock, base_of, branch_clock, Part, parts, all_parts}
+use Rattle.lus_program.specs.Programs.{Expression, literal, call, Operands, none, more, Equation, Node, Program, node_at}
+use Rattle.lus_streams.specs.Clocks.{Clock, clock_of, operand, formal_clock, base_of, Part, parts, all_parts}
 use Rattle.lus_streams.specs.Equations.{equation_clock, equation_parts, Site, sites_in}
-use Rattle.lus_streams.specs.OnClock.{IsDeclared, IsName, IsOnClocks, RightOnClock, ProgramOnClocks, test_of}
-use Rattle.lus_streams.proofs.Clocks.{chain_none}
-use Rattle.lus_streams.proofs.Lists.{each_left, each_right, each_item, item_past}
+use Rattle.lus_streams.specs.OnClock.{IsName, RightOnClock}
+use Rattle.lus_streams.proofs.Lists.{each_left, each_right}
 use Rattle.lus_clocks.proofs.NewestTests.{clock_tail}
 use Rattle.lus_classes.specs.Classes.{Call, Class}
 use Rattle.lus_classes.specs.ClassesOf.{AreArguments, Linked, IsCall, AreCalls}
-use Rattle.lus_normal_form.specs.NormalForm.{IsAtom, AreAtoms, IsSimple, AreSimple, IsSimpleRight}
+use Rattle.lus_normal_form.specs.NormalForm.{AreAtoms, IsSimple, IsSimpleRight}
 use Rattle.lus_normal_form.specs.Named.{Known, GivesOutput, Uses, Numbered}
 use Rattle.lus_normal_form.specs.Computed.{HaveFormals}
 use Rattle.lus_normal_form.specs.Ready.{Declared, HasArguments, RightHasFormals, operand_size}

@@ -1,15 +1,12 @@
 -- One more step, call or clock.
-use Rattle.std.proofs.Common.{◌≡◌, ◌∙◌, ℕ, zero, suc, ◌+◌, ◌≤◌, List, [], ◌∷◌, ◌++◌, map, length, None, slice_get, refl, sym, ap, append_assoc, append-nil, le_of_suc-le-suc, not-suc-le-zero}
+use Rattle.std.proofs.Common.{◌≡◌, ◌∙◌, ℕ, ◌+◌, List, [], ◌∷◌, ◌++◌, map, length, refl, sym, ap, append_assoc, append-nil}
+use Rattle.std.proofs.lemmas.List.{length-append, length-map, map-append}
 use Rattle.lus_program.specs.Programs.{Expression, literal, Program}
 use Rattle.lus_streams.specs.Clocks.{Clock}
 use Rattle.lus_classes.specs.Classes.{Code, Step, Call}
 use Rattle.lus_flat_classes.specs.declared.class.Step.{Step as StoredStep}
 use Rattle.lus_flat_classes.specs.View.{steps_in, steps_of}
 use Rattle.lus_translation.specs.Forms.{call_first, code_form, given_steps, kept_cells, kept_firsts}
-
-pub map_one_more : {X Y : Type 0} (f : X → Y) (xs : List X) (x : X) → map f (xs ++ x ∷ []) ≡ map f xs ++ f x ∷ []
-map_one_more f [] x = refl
-map_one_more f (y ∷ xs) x = ap (λ l. f y ∷ l) (map_one_more f xs x)
 
 pub steps_pushed : (ss : List StoredStep) (s : StoredStep) → steps_of (ss ++ s ∷ []) ≡ steps_of ss ++ steps_in s
 steps_pushed [] s = append-nil (steps_in s)
@@ -19,6 +16,14 @@ pub first_before : (p : Program) (e : Expression) (k : Clock) (qs : List Call) �
 first_before p (literal v) k qs = refl
 first_before p e k qs = refl
 
+-- what was kept for the first, before what is kept for the rest
+pub kept_next : {X Y : Type 0} (f : X → Y) (before now whole : List Y) (here rest : List X) → now ≡ before ++ map f here → before ++ map f (here ++ rest) ≡ whole → now ++ map f rest ≡ whole
+kept_next f before now whole here rest is all =
+    ap (λ l. l ++ map f rest) is ∙ append_assoc before (map f here) (map f rest) ∙ ap (λ l. before ++ l) (sym (map-append f here rest)) ∙ all
+
+pub kept_long : {X Y : Type 0} (f : X → Y) (before now : List Y) (here : List X) → now ≡ before ++ map f here → length now ≡ length before + length here
+kept_long f before now here is = ap length is ∙ length-append before (map f here) ∙ ap (λ j. length before + j) (length-map here f)
+
 -- one variable more has been given the code of e
 pub given_next : (ss whole : List Step) (d : Code) (m n m' n' : ℕ) (e : Expression) (k : Clock) (x : ℕ) (xs : List ℕ) → d ≡ code_form m n e k → m' ≡ m + length (kept_cells e k) → n' ≡ n + length (kept_firsts e k)
     → ss ++ given_steps m n e k (x ∷ xs) ≡ whole → (ss ++ record { target = x; code = d } ∷ []) ++ given_steps m' n' e k xs ≡ whole
@@ -26,8 +31,3 @@ given_next ss whole d m n m' n' e k x xs is cells firsts h =
     append_assoc ss (record { target = x; code = d } ∷ []) (given_steps m' n' e k xs)
     ∙ (λ j. ss ++ (let one : Step = record { target = x; code = is j } in one) ∷ given_steps (cells j) (firsts j) e k xs)
     ∙ h
-
-pub slice_past : {X : Type 0} (xs : List X) (i : ℕ) → length xs ≤ i → slice_get xs i ≡ None
-slice_past [] i le = refl
-slice_past (x ∷ xs) zero le = elim (not-suc-le-zero le) [ ]
-slice_past (x ∷ xs) (suc i) le = slice_past xs i (le_of_suc-le-suc le)

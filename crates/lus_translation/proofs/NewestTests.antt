@@ -1,6 +1,7 @@
 -- A class that keeps the newest tests of the class of a node in normal form is that class.
 use Rattle.std.proofs.Common.{◌≡◌, ◌∙◌, ℕ, zero, suc, ◌+◌, ◌<◌, ◌≤◌, List, [], ◌∷◌, map, length, drop, Option, Some, None, refl, sym, ap, ap₂, subst, arith, drop-cons, drop_of_length-le}
-use Rattle.std.proofs.Math.ListN.{length-map}
+use Rattle.std.proofs.Math.ListN.{get_or-map, length-map}
+use Rattle.std.proofs.lemmas.Simd.{map-map}
 use Rattle.lus_values.specs.Lists.{item, Each}
 use Rattle.lus_program.specs.declared.expr.Test.{Test}
 use Rattle.lus_program.specs.declared.node.Variable.{Variable as StoredVariable}
@@ -27,13 +28,10 @@ abbrev test : Variable → Option Test
 test v = v.test
 
 pub tests_seen : (vs : List StoredVariable) → map (λ (v : StoredVariable). v.test) vs ≡ map test (map variable_of vs)
-tests_seen [] = refl
-tests_seen (v ∷ vs) = ap (λ l. v.test ∷ l) (tests_seen vs)
+tests_seen vs = sym (map-map test variable_of vs)
 
 test_at : (vs : List Variable) (x : ℕ) → item None (map test vs) x ≡ (item no_variable vs x).test
-test_at [] x = refl
-test_at (v ∷ vs) zero = refl
-test_at (v ∷ vs) (suc x) = test_at vs x
+test_at vs x = get_or-map test vs x no_variable
 
 module _ (f : Node) where
   abbrev tests : List (Option Test)
@@ -95,16 +93,14 @@ module _ (f : Node) where
   whole_call q = record { node = q.node; base = clock_from tests q.base; arguments = map whole_argument q.arguments }
 
   memories_seen : (ms : List Cell) → map (memory_of tests) ms ≡ map whole_memory (map cell_seen ms)
-  memories_seen [] = refl
-  memories_seen (m ∷ ms) = ap (λ l. memory_of tests m ∷ l) (memories_seen ms)
+  memories_seen ms = sym (map-map whole_memory cell_seen ms)
 
   memories_again : (ms : List Memory) → Each (Chained f) ms → map whole_memory (map tested_memory ms) ≡ ms
   memories_again [] h = refl
   memories_again (m ∷ ms) h = ap₂ (λ k l. (let one : Memory = record { clock = k; operand = m.operand } in one) ∷ l) (found_again m.clock h.0) (memories_again ms h.1)
 
   arguments_seen : (xs : List StoredArgument) → map (argument_of tests) xs ≡ map whole_argument (map argument_seen xs)
-  arguments_seen [] = refl
-  arguments_seen (a ∷ xs) = ap (λ l. argument_of tests a ∷ l) (arguments_seen xs)
+  arguments_seen xs = sym (map-map whole_argument argument_seen xs)
 
   arguments_again : (xs : List Argument) → Each (ArgumentChained f) xs → map whole_argument (map tested_argument xs) ≡ xs
   arguments_again [] h = refl

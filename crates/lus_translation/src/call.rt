@@ -10,7 +10,7 @@ ghost use Rattle.lus_translation.specs.Building.{clock_among, arguments_from};
 
 use crate::atom::atom_of;
 use crate::clock::{clock_at, newest, without_tests};
-use crate::kept::number_of;
+use crate::numbers::number_of;
 use lus_clocks::{inputs_at, variables_at};
 use lus_flat_classes::{Argument, Call, Extent};
 use lus_program::{Expr, Form, Program, Test, Variable};
@@ -40,16 +40,6 @@ fn renamed(arguments: &[Expr], test: Test) -> Option<Test>
     }
 }
 
-/// Appends the tests of a clock.
-fn add_all(tests: &[Test], clock: &mut Vec<Test>) -> Result<(), Memory>
-    ensures { OnOk result (clock.new.items ≡ clock.old.items ++ tests.now) }
-{
-    for test in tests {
-        clock.push(*test)?;
-    }
-    Ok(())
-}
-
 /// Appends tests on formals, as tests on the arguments.
 fn add_renamed(arguments: &[Expr], tests: &[Test], clock: &mut Vec<Test>) -> Result<(), Memory>
     ensures { OnOk result (clock.new.items ≡ clock.old.items ++ renamed_clock (operands_of arguments.now) tests.now) }
@@ -75,7 +65,7 @@ fn formal_clock(
     let tests = clock_at(alloc, formals, formal)?;
     let mut clock = Vec::new(alloc);
     add_renamed(arguments, &tests, &mut clock)?;
-    add_all(base, &mut clock)?;
+    clock.extend_from_slice(base)?;
     Ok(clock)
 }
 

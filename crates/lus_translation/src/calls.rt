@@ -2,17 +2,17 @@
 
 ghost use Rattle.std.specs.Prelude.{◌≡◌, IfOk, OnOk, length, map};
 ghost use Rattle.lus_values.specs.Lists.{item};
-ghost use Rattle.lus_program.specs.View.{node_of};
+ghost use Rattle.lus_program.specs.View.{expression_of, node_of};
 ghost use Rattle.lus_streams.specs.Clocks.{clock_of as clock_in};
-ghost use Rattle.lus_translation.specs.Forms.{numbers_form};
+ghost use Rattle.lus_translation.specs.Forms.{next_number, numbers_form};
 ghost use Rattle.lus_translation.specs.Newest.{call_seen, tested_call};
 ghost use Rattle.lus_translation.specs.Building.{calls_from, AddsCall};
 
 use crate::call::call_of;
 use crate::clock::clock_at;
-use crate::kept::number_of;
+use crate::numbers::next;
 use lus_flat_classes::Call;
-use lus_program::{Equation, Form, Node, Program, Test};
+use lus_program::{Equation, Expr, Form, Node, Program, Test};
 use lus_values::Memory;
 use std::alloc::Global;
 
@@ -62,21 +62,26 @@ pub fn calls_of(alloc: Global, program: &Program, node: &Node) -> Result<Vec<Cal
     Ok(calls)
 }
 
+/// The number of the next call behind a right side: that of its own call is counted, where it is one.
+fn number_behind(number: u32, right: &Expr) -> Result<u32, Memory>
+    ensures { IfOk result (λ n. n ≡ next_number number (expression_of right.now)) }
+{
+    match &right.form {
+        Form::Call(_, _) => next(number),
+        _ => Ok(number),
+    }
+}
+
 /// For each equation the number of its call: how many calls are right sides before it.
 pub fn numbers_of(alloc: Global, node: &Node) -> Result<Vec<u32>, Memory>
     ensures numbers { IfOk result (λ ns. ns.items ≡ numbers_form 0 node.now.equations.items) }
     ensures size { IfOk result (λ ns. length ns.items ≡ length node.now.equations.items) }
 {
     let mut numbers = Vec::with_capacity(alloc, node.equations.len())?;
-    let mut calls: usize = 0;
+    let mut calls = 0;
     for equation in &node.equations {
-        numbers.push(number_of(calls)?)?;
-        if let Form::Call(_, _) = &equation.right.form {
-            calls = match calls.checked_add(1) {
-                Some(more) => more,
-                None => return Err(Memory),
-            };
-        }
+        numbers.push(calls)?;
+        calls = number_behind(calls, &equation.right)?;
     }
     Ok(numbers)
 }

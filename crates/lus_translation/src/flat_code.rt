@@ -1,7 +1,9 @@
 //! Flat code: the steps of classes as instructions.
 
 mod flattening;
+mod operands;
 mod parts;
 mod playing;
+mod room;
 
 pub use parts::parts_of;

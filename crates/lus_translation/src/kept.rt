@@ -5,6 +5,7 @@ ghost use Rattle.lus_flat_classes.specs.View.{atom_of as atom_in};
 ghost use Rattle.lus_translation.specs.Building.{next_cell, next_first};
 ghost use Rattle.lus_translation.specs.Newest.{Tested, cell_seen};
 
+use crate::numbers::number_of;
 use lus_flat_classes::{Atom, Cell};
 use lus_program::Test;
 use lus_values::Memory;
@@ -14,16 +15,6 @@ use lus_values::Memory;
 pub struct Kept {
     pub cells: Vec<Cell>,
     pub firsts: Vec<Option<Test>>,
-}
-
-/// The number of what comes next, where it is a `u32`.
-pub fn number_of(count: usize) -> Result<u32, Memory>
-    ensures { IfOk result (λ n. n ≡ count) }
-{
-    match u32::try_from(count) {
-        Ok(number) => Ok(number),
-        Err(_) => Err(Memory),
-    }
 }
 
 /// A cell for an operand on a clock with this newest test: its number.

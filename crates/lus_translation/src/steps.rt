@@ -10,7 +10,8 @@ ghost use Rattle.lus_translation.specs.Forms.{answers_form, given_cells, given_f
 ghost use Rattle.lus_translation.specs.Building.{AddsCells, AddsFirsts, Adds, given_from, turn_from};
 
 use crate::code::code_of;
-use crate::kept::{Kept, number_of};
+use crate::kept::Kept;
+use crate::numbers::number_of;
 use lus_clocks::inputs_at;
 use lus_flat_classes::{Step, Target};
 use lus_program::{Equation, Expr, Form, Program, Test};

@@ -1,11 +1,10 @@
-use Rattle.std.proofs.Common.{◌≡◌, ◌∙◌, ◌+◌, ◌<◌, ◌≤◌, ◌++◌, ◌∷◌, [], suc, map, drop, length, sym, ap, arith, drop-cons, drop_of_length-le, append_assoc, append-nil}
-use Rattle.std.proofs.lemmas.List.{map-append}
+use Rattle.std.proofs.Common.{◌≡◌, ◌∙◌, ◌+◌, ◌<◌, ◌≤◌, ◌++◌, ◌∷◌, [], suc, map, drop, length, sym, ap, arith, drop-cons, drop_of_length-le, append-nil}
 use Rattle.lus_values.specs.Lists.{item}
 use Rattle.lus_program.specs.View.{expression_of, node_of, program_seen}
 use Rattle.lus_streams.specs.Clocks.{clock_of}
 use Rattle.lus_translation.specs.Forms.{call_first}
 use Rattle.lus_translation.specs.Newest.{call_seen, tested_call}
-use Rattle.lus_translation.proofs.Giving.{first_before}
+use Rattle.lus_translation.proofs.Giving.{first_before, kept_next}
 use Rattle.lus_translation.proofs.Numbered.{stored_calls, calls_stored}
 use Rattle.lus_translation.proofs.calls.calls_of.Goals as goal
 
@@ -24,12 +23,10 @@ loop-equation-preserved c =
     let old = map call_seen c.loop-equation.calls.items in
     let later = stored_calls p f (drop (i + 1) qs) in
     let first = call_first p (expression_of q.right) k in
-    ap (λ l. l ++ map tested_call later) c.in_ok-add_call.ensures
-    ∙ append_assoc old (map tested_call (first [])) (map tested_call later)
-    ∙ ap (λ l. old ++ l) (sym (map-append tested_call (first []) later))
-    ∙ ap (λ l. old ++ map tested_call l) (sym (first_before p (expression_of q.right) k later))
+    kept_next tested_call old _ _ (first []) later c.in_ok-add_call.ensures
+    (ap (λ l. old ++ map tested_call l) (sym (first_before p (expression_of q.right) k later))
     ∙ ap (λ l. old ++ map tested_call (stored_calls p f l)) (sym rest)
-    ∙ c.loop-equation.invariant
+    ∙ c.loop-equation.invariant)
 
 pub returns : goal.returns
 returns c =

@@ -1,5 +1,4 @@
-use Rattle.std.proofs.Common.{◌≡◌, ◌∙◌, ◌+◌, ◌<◌, ◌++◌, ◌∷◌, [], suc, map, drop, length, get_or, sym, ap, subst, arith, drop-cons, append_assoc, length-append}
-use Rattle.std.proofs.lemmas.List.{length-map, map-append}
+use Rattle.std.proofs.Common.{◌≡◌, ◌∙◌, ◌+◌, ◌<◌, ◌++◌, ◌∷◌, [], suc, map, drop, length, get_or, sym, ap, subst, arith, drop-cons}
 use Rattle.lus_program.specs.View.{expression_of}
 use Rattle.lus_flat_classes.specs.View.{steps_of}
 use Rattle.lus_flat_classes.specs.declared.class.Step.TheVariants as variants
@@ -8,7 +7,7 @@ use Rattle.lus_streams.proofs.Lists.{each_append}
 use Rattle.lus_translation.specs.Making.{GivesAny}
 use Rattle.lus_translation.specs.Forms.{given_cells, given_firsts, given_steps, kept_cells, kept_firsts}
 use Rattle.lus_translation.specs.Newest.{cell_seen, newest, tested_memory}
-use Rattle.lus_translation.proofs.Giving.{given_next, steps_pushed}
+use Rattle.lus_translation.proofs.Giving.{given_next, kept_long, kept_next, steps_pushed}
 use Rattle.lus_translation.proofs.steps.give_right.Goals as goal
 
 pub loop-variable-preserved : goal.loop-variable-preserved
@@ -26,8 +25,8 @@ loop-variable-preserved c =
     let rest : drop i xs ≡ x ∷ drop (i + 1) xs = drop-cons xs i 0 lt ∙ ap (λ n. x ∷ drop n xs) (sym next) in
     let more_cells = c.in_ok-code.ensures.cells in
     let more_firsts = c.in_ok-code.ensures.firsts in
-    let m' = ap length more_cells ∙ length-append cells (map tested_memory (kept_cells e k)) ∙ ap (λ j. length cells + j) (length-map (kept_cells e k) tested_memory) in
-    let n' = ap length more_firsts ∙ length-append firsts (map newest (kept_firsts e k)) ∙ ap (λ j. length firsts + j) (length-map (kept_firsts e k) newest) in
+    let m' = kept_long tested_memory cells _ (kept_cells e k) more_cells in
+    let n' = kept_long newest firsts _ (kept_firsts e k) more_firsts in
     let pushed = ap steps_of c.in_ok-push.ensures.items ∙ steps_pushed ss (variants.Give x c.in_ok-code.code) in
     let before = ap (λ l. steps_of ss ++ given_steps (length cells) (length firsts) e k l) (sym rest) ∙ c.loop-variable.invariant.steps in
     record {
@@ -35,12 +34,10 @@ loop-variable-preserved c =
           ap (λ l. l ++ given_steps (length (map cell_seen c.code_of.new.kept.cells.items)) (length c.code_of.new.kept.firsts.items) e k (drop (i + 1) xs)) pushed
           ∙ given_next (steps_of ss) _ _ (length cells) (length firsts) _ _ e k x (drop (i + 1) xs) c.in_ok-code.ensures.code m' n' before;
       cells =
-          ap (λ l. l ++ map tested_memory (given_cells e k (drop (i + 1) xs))) more_cells ∙ append_assoc cells (map tested_memory (kept_cells e k)) (map tested_memory (given_cells e k (drop (i + 1) xs)))
-          ∙ ap (λ l. cells ++ l) (sym (map-append tested_memory (kept_cells e k) (given_cells e k (drop (i + 1) xs))))
-          ∙ ap (λ l. cells ++ map tested_memory (given_cells e k l)) (sym rest) ∙ c.loop-variable.invariant.cells;
+          kept_next tested_memory cells _ _ (kept_cells e k) (given_cells e k (drop (i + 1) xs)) more_cells
+          (ap (λ l. cells ++ map tested_memory (given_cells e k l)) (sym rest) ∙ c.loop-variable.invariant.cells);
       given = λ first. subst (Each GivesAny) (sym c.in_ok-push.ensures.items) (each_append GivesAny ss (variants.Give x c.in_ok-code.code ∷ []) (c.loop-variable.invariant.given first) (tt, tt));
       firsts =
-          ap (λ l. l ++ map newest (given_firsts e k (drop (i + 1) xs))) more_firsts ∙ append_assoc firsts (map newest (kept_firsts e k)) (map newest (given_firsts e k (drop (i + 1) xs)))
-          ∙ ap (λ l. firsts ++ l) (sym (map-append newest (kept_firsts e k) (given_firsts e k (drop (i + 1) xs))))
-          ∙ ap (λ l. firsts ++ map newest (given_firsts e k l)) (sym rest) ∙ c.loop-variable.invariant.firsts;
+          kept_next newest firsts _ _ (kept_firsts e k) (given_firsts e k (drop (i + 1) xs)) more_firsts
+          (ap (λ l. firsts ++ map newest (given_firsts e k l)) (sym rest) ∙ c.loop-variable.invariant.firsts);
     }
