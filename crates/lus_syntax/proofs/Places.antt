@@ -64,8 +64,8 @@ room_after at xs ys room = record {
 }
 
 -- a place whose numbers fit is itself
-pub fits : (at : Place) → at.byte < 2 ^ 32 → at.column < 2 ^ 32 → within_words at ≡ at
+pub fits : (at : Place) → at.byte < 2 ^ 64 → at.column < 2 ^ 64 → within_words at ≡ at
 fits at byte column =
-    let same_byte : min at.byte (2 ^ 32 - 1) ≡ at.byte = omega (arith, byte) in
-    let same_column : min at.column (2 ^ 32 - 1) ≡ at.column = omega (arith, column) in
+    let same_byte : min at.byte (2 ^ 64 - 1) ≡ at.byte = omega (arith, byte) in
+    let same_column : min at.column (2 ^ 64 - 1) ≡ at.column = omega (arith, column) in
     rw (same_byte, same_column) refl

@@ -32,9 +32,9 @@ past at (b ∷ bs) = past (past_one at b) bs
 abbrev pub end_of : Span → Place
 end_of span = record { byte = span.start.byte + span.length; line = span.start.line; column = span.start.column + span.length }
 
--- the place in numbers of 32 bits: past the greatest, the greatest
+-- the place in numbers of 64 bits: past the greatest, the greatest
 abbrev pub within_words : Place → Place
-within_words at = record { byte = min at.byte (2 ^ 32 - 1); line = at.line; column = min at.column (2 ^ 32 - 1) }
+within_words at = record { byte = min at.byte (2 ^ 64 - 1); line = at.line; column = min at.column (2 ^ 64 - 1) }
 
 -- the last bytes or characters that no line feed is among, the last of them first
 abbrev pub last_line : List ℕ → List ℕ

@@ -23,9 +23,9 @@ use Rattle.lus_syntax.specs.View.{kind_seen, token_seen}
 
 -- the numbers of each place within these bytes fit
 pub record HasRoom (at : Place) (bytes : List ℕ) : Type 0 where
-  pub byte : at.byte + length bytes < 2 ^ 32
-  pub line : at.line + length bytes < 2 ^ 32
-  pub column : at.column + length bytes < 2 ^ 32
+  pub byte : at.byte + length bytes < 2 ^ 64
+  pub line : at.line + length bytes < 2 ^ 64
+  pub column : at.column + length bytes < 2 ^ 64
 
 -- ---- tables
 

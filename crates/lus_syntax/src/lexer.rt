@@ -57,7 +57,7 @@ fn token_at(bytes: &[u8], start: Place) -> Result<(Token<'_>, &[u8]), RefusalNum
         kind,
         span: Span {
             start,
-            length: n as u32,
+            length: n,
         },
     };
     Ok((token, rest))
@@ -86,10 +86,6 @@ fn tokens_of(alloc: Global, text: &str) -> Result<Vec<Token<'_>>, LexError>
     ensures found { IfOk result (λ v. Tokens text.now (tokens_seen v.items)) }
     ensures fault { IfErr result (λ e. IsFault text.now e) }
 {
-    // A place of a longer text may have a number that doesn't fit.
-    if text.len() >= u32::MAX as usize {
-        return Err(LexError::Memory);
-    }
     let mut tokens = Vec::new(alloc);
     let mut rest = text.as_bytes();
     let mut at = Place::START;
@@ -102,7 +98,7 @@ fn tokens_of(alloc: Global, text: &str) -> Result<Vec<Token<'_>>, LexError>
 }
 
 /// The tokens of a source. A refusal is `Lexical`, `Unsupported` or `Limit`, whichever stands leftmost, at the line and
-/// column where its text begins, or `Memory`, also for a text of 4,294,967,295 bytes or more: places have 32 bits.
+/// column where its text begins, or `Memory`.
 pub fn lex(alloc: Global, text: &str) -> Result<Vec<Token<'_>>, Refusal>
     // What is read is the text's tokens.
     ensures found { IfOk result (λ v. Tokens text.now (tokens_seen v.items)) }

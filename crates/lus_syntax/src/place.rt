@@ -8,9 +8,9 @@ use crate::token::Place;
 
 /// The place behind one byte. Only the first byte of a character is counted as one.
 fn past_one(at: Place, b: u8) -> Place
-    requires byte { at.byte < 2 ^ 32 - 1 }
-    requires line { at.line < 2 ^ 32 - 1 }
-    requires column { at.column < 2 ^ 32 - 1 }
+    requires byte { at.byte < 2 ^ 64 - 1 }
+    requires line { at.line < 2 ^ 64 - 1 }
+    requires column { at.column < 2 ^ 64 - 1 }
     ensures { result ≡ past_one at b }
 {
     let byte = at.byte + 1;
@@ -45,7 +45,6 @@ pub(crate) fn past(at: Place, bytes: &[u8]) -> Place
 
 /// The place behind the first bytes of a text.
 pub fn place_behind(bytes: &[u8]) -> Place
-    requires { length bytes.now + 1 < 2 ^ 32 }
     ensures { result ≡ place_behind bytes.now }
 {
     past(Place::START, bytes)

@@ -135,8 +135,8 @@ impl fmt::Display for Cycle {
 #[derive(Debug, Drop)]
 pub struct Refusal {
     pub number: RefusalNumber,
-    pub line: u32,
-    pub column: u32,
+    pub line: usize,
+    pub column: usize,
     pub cycle: Cycle,
     pub ghost cycle_only: { number ≢ numbers.Cycle → cycle ≡ [] },
     pub ghost memory_nowhere: { number ≡ numbers.Memory → (line ≡ 0) × (column ≡ 0) },
@@ -144,7 +144,7 @@ pub struct Refusal {
 
 impl Refusal {
     /// A refusal at a place, with no cycle.
-    pub fn new(number: RefusalNumber, line: u32, column: u32) -> Refusal
+    pub fn new(number: RefusalNumber, line: usize, column: usize) -> Refusal
         requires { number ≢ RefusalNumber.Memory }
         ensures number { result.number ≡ number }
         ensures line { result.line ≡ line }
@@ -160,7 +160,7 @@ impl Refusal {
     }
 
     /// A refusal at a place for a causal cycle of these variables.
-    pub fn with_cycle(line: u32, column: u32, names: Vec<String>) -> Refusal
+    pub fn with_cycle(line: usize, column: usize, names: Vec<String>) -> Refusal
         ensures number { result.number ≡ RefusalNumber.Cycle }
         ensures line { result.line ≡ line }
         ensures column { result.column ≡ column }

@@ -7,9 +7,9 @@ ghost use Rattle.lus_syntax.specs.Places.{end_of, within_words};
 /// columns in characters.
 #[derive(Clone, Copy, Debug, PartialEq, Eq)]
 pub struct Place {
-    pub byte: u32,
-    pub line: u32,
-    pub column: u32,
+    pub byte: usize,
+    pub line: usize,
+    pub column: usize,
 }
 
 impl Place {
@@ -25,7 +25,7 @@ impl Place {
 #[derive(Clone, Copy, PartialEq, Eq)]
 pub struct Span {
     pub start: Place,
-    pub length: u32,
+    pub length: usize,
 }
 
 impl Span {
