@@ -2,7 +2,7 @@
 use Rattle.std.specs.Prelude.{◌<◌, ◌^◌, ℕ, List, length, map}
 use Rattle.std.specs.List.{All, AllZip}
 use Rattle.lus_program.specs.Programs.{Program}
-use Rattle.lus_program.specs.declared.node.NodeId.{NodeId}
+use Rattle.lus_program.specs.SyntaxSpecs.declared.tree.NodeId.{NodeId}
 use Rattle.lus_requests.specs.declared.request.Entry.{Entry}
 use Rattle.lus_shared.specs.declared.shared.Journal.{Journal}
 use Rattle.lus_requests.specs.declared.call.Call.{Call}

@@ -6,7 +6,7 @@ use Rattle.std.proofs.lemmas.List.{get_or-map, length-map}
 use Rattle.std.proofs.lemmas.List.Elements.{All-cons, All-nil}
 use Rattle.std.proofs.lemmas.List.Folds.{list_all-map}
 use Rattle.lus_values.specs.Lists.{Each, item}
-use Rattle.lus_program.specs.declared.node.NodeId.{NodeId}
+use Rattle.lus_syntax.specs.declared.tree.NodeId.{NodeId}
 use Rattle.lus_program.specs.Programs.{Program}
 use Rattle.lus_requests.specs.declared.request.Entry.{Entry}
 use Rattle.lus_callers.specs.HistorySpecs.Histories.{History}

@@ -26,5 +26,5 @@ pub use refusal::{Cycle, Refusal, RefusalNumber};
 pub use token::{Place, Span, Symbol, Token, TokenKind, Word};
 pub use tree::{
     Constant, Definition, Equation, Expr, Fields, Group, Infix, Label, Lead, ListOperator, Literal,
-    Name, Node, NodeKind, Part, Prefix, Test, Tree, TypeDeclaration, TypeName,
+    Name, Node, NodeId, NodeKind, Part, Prefix, Test, Tree, TypeDeclaration, TypeName,
 };

@@ -171,6 +171,10 @@ pub struct Node {
     pub equations: Vec<Equation>,
 }
 
+/// A node, by its place from 0 among the nodes of its source.
+#[derive(Clone, Copy, PartialEq, Eq, Debug)]
+pub struct NodeId(pub u32);
+
 /// The declarations of a source, each kind in the order in which they stand.
 #[derive(Drop)]
 pub struct Tree {

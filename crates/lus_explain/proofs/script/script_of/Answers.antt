@@ -4,7 +4,7 @@ use Rattle.std.proofs.lemmas.Result.{IfOk-weaker}
 use Rattle.std.proofs.lemmas.List.{length-map}
 use Rattle.lus_program.specs.Programs.{Program}
 use Rattle.lus_program.specs.View.{node_of}
-use Rattle.lus_program.specs.declared.node.NodeId.{NodeId}
+use Rattle.lus_syntax.specs.declared.tree.NodeId.{NodeId}
 use Rattle.lus_reports.specs.CliSpecs.CodeSpecs.Codes.{program_of}
 use Rattle.lus_reports.specs.CliSpecs.MachineSpecs.Formals.{node_named}
 use Rattle.lus_explain.specs.Skeletons.{is_tried, is_unknown}
