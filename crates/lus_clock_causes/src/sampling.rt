@@ -31,8 +31,8 @@ pub fn is_whole(source: &str, equation: &Equation, span: Span) -> bool {
     let bytes = source.as_bytes();
     let start = span.start.byte;
     let end = span.end().byte;
-    let before = last_byte(bytes.get(..start as usize).unwrap_or(&[]));
-    let behind = first_byte(bytes.get(end as usize..).unwrap_or(&[]));
+    let before = last_byte(bytes.get(..start).unwrap_or(&[]));
+    let behind = first_byte(bytes.get(end..).unwrap_or(&[]));
     if start == start_of(&equation.right).byte && behind == b';' {
         return true;
     }

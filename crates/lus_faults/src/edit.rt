@@ -6,16 +6,16 @@ use std::str;
 /// A change of a text: the bytes from one place on, so many, become others.
 #[derive(Drop)]
 pub struct Edit {
-    pub byte: u32,
-    pub length: u32,
+    pub byte: usize,
+    pub length: usize,
     pub text: String,
 }
 
 /// The bytes of a text after a change.
 fn edited_bytes(alloc: Global, source: &str, edit: &Edit) -> Result<Vec<u8>, AllocError> {
     let bytes = source.as_bytes();
-    let start = edit.byte as usize;
-    let end = start.saturating_add(edit.length as usize);
+    let start = edit.byte;
+    let end = start.saturating_add(edit.length);
     let mut changed = Vec::new(alloc);
     changed.extend_from_slice(bytes.get(..start).unwrap_or(bytes))?;
     changed.extend_from_slice(edit.text.as_bytes())?;
@@ -59,7 +59,7 @@ fn line_end(bytes: &[u8], byte: usize) -> usize {
 /// The lines of a text that a change made, as they read after it.
 pub fn edited_lines<'t>(changed: &'t str, edit: &Edit) -> Option<&'t str> {
     let bytes = changed.as_bytes();
-    let start = edit.byte as usize;
+    let start = edit.byte;
     let end = start.saturating_add(edit.text.len());
     let lines = bytes.get(line_start(bytes, start)..line_end(bytes, end))?;
     str::from_utf8(lines).ok()

@@ -23,9 +23,9 @@ pub fn start_of(expr: &Expr) -> Place {
 }
 
 /// The byte behind the next one of this kind, from a byte on; that byte itself where there is none.
-fn behind_next(source: &str, from: u32, wanted: u8) -> u32 {
+fn behind_next(source: &str, from: usize, wanted: u8) -> usize {
     let mut at = from;
-    for byte in source.as_bytes().get(from as usize..).unwrap_or(&[]) {
+    for byte in source.as_bytes().get(from..).unwrap_or(&[]) {
         at = at.saturating_add(1);
         if *byte == wanted {
             return at;
@@ -35,7 +35,7 @@ fn behind_next(source: &str, from: u32, wanted: u8) -> u32 {
 }
 
 /// The byte behind a test.
-fn test_end(source: &str, test: &Test) -> u32 {
+fn test_end(source: &str, test: &Test) -> usize {
     match test {
         Test::Holds(name) => name.span.end().byte,
         Test::Fails(_, name) => name.span.end().byte,
@@ -45,7 +45,7 @@ fn test_end(source: &str, test: &Test) -> u32 {
 
 /// The byte behind an expression. One that a bracket closes ends with the first one behind its last part.
 #[cycle(ends)]
-fn end_of(source: &str, expr: &Expr) -> u32 {
+fn end_of(source: &str, expr: &Expr) -> usize {
     match expr {
         Expr::Number(_, span) => span.end().byte,
         Expr::Truth(_, span) => span.end().byte,
@@ -73,7 +73,7 @@ fn end_of(source: &str, expr: &Expr) -> u32 {
 
 /// The byte behind the last of some parts, and a byte before them where there is none.
 #[cycle(ends)]
-fn last_end(source: &str, before: u32, parts: &[Part]) -> u32 {
+fn last_end(source: &str, before: usize, parts: &[Part]) -> usize {
     let mut end = before;
     if let Some(part) = parts.last() {
         end = end_of(source, &part.value);

@@ -16,7 +16,7 @@ pub struct Related {
 #[derive(Drop)]
 pub struct Finding {
     pub sentence: String,
-    pub length: u32,
+    pub length: usize,
     pub related: Vec<Related>,
     pub note: Option<String>,
     pub edit: Option<Edit>,
@@ -24,7 +24,7 @@ pub struct Finding {
 
 impl Finding {
     /// A sentence alone, on so many bytes.
-    pub fn new(alloc: Global, sentence: String, length: u32) -> Finding {
+    pub fn new(alloc: Global, sentence: String, length: usize) -> Finding {
         Finding {
             sentence,
             length,

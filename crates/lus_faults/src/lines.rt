@@ -4,15 +4,10 @@ use lus_syntax::Span;
 use std::alloc::{AllocError, Global};
 use std::str;
 
-/// The line of this number, from 1, if the text has so many.
-pub fn line_at(text: &str, number: u32) -> Option<&str> {
-    text.lines().nth((number as usize).saturating_sub(1))
-}
-
 /// How many bytes stand before a line and a column, which count from 1, columns in characters.
-pub fn offset_of(text: &str, line: u32, column: u32) -> usize {
-    let mut at_line = 1u32;
-    let mut at_column = 1u32;
+pub fn offset_of(text: &str, line: usize, column: usize) -> usize {
+    let mut at_line = 1usize;
+    let mut at_column = 1usize;
     for (place, byte) in text.as_bytes().iter().enumerate() {
         let begins = *byte < 128 || *byte >= 192;
         if at_line == line && at_column == column && begins {
@@ -36,8 +31,8 @@ pub fn bytes_at(text: &str, from: usize, to: usize) -> Option<&str> {
 
 /// The text of a span.
 pub fn slice_of(text: &str, span: Span) -> &str {
-    let from = span.start.byte as usize;
-    let to = from.saturating_add(span.length as usize);
+    let from = span.start.byte;
+    let to = from.saturating_add(span.length);
     bytes_at(text, from, to).unwrap_or("")
 }
 
@@ -62,8 +57,8 @@ pub fn lines_of(alloc: Global, text: &str) -> Result<Lines<'_>, AllocError> {
 
 impl<'t> Lines<'t> {
     /// The line of this number, from 1, if the text has so many.
-    pub fn line(&self, number: u32) -> Option<&'t str> {
-        let place = (number as usize).saturating_sub(1);
+    pub fn line(&self, number: usize) -> Option<&'t str> {
+        let place = number.saturating_sub(1);
         let from = self.starts.get(place).copied()?;
         let behind = match self.starts.get(place.saturating_add(1)) {
             Some(next) => next.saturating_sub(1),

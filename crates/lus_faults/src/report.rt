@@ -9,11 +9,11 @@ use std::alloc::{AllocError, Global};
 pub fn further_marks(
     alloc: Global,
     line: &str,
-    column: u32,
-    length: u32,
+    column: usize,
+    length: usize,
 ) -> Result<String, AllocError> {
     let mut marks = String::new(alloc);
-    let mut at = 0u32;
+    let mut at = 0usize;
     let mut left = length;
     for byte in line.as_bytes() {
         let begins = *byte < 128 || *byte >= 192;
@@ -35,8 +35,8 @@ pub fn push_marked(
     alloc: Global,
     text: &mut String,
     line: &str,
-    column: u32,
-    length: u32,
+    column: usize,
+    length: usize,
 ) -> Result<(), AllocError> {
     write!(text, "{line}\n")?;
     push_blanks(text, line, column)?;
@@ -45,8 +45,8 @@ pub fn push_marked(
 }
 
 /// What stands before a mark under a column: a blank for each character, which is a tab under a tab.
-fn push_blanks(text: &mut String, line: &str, column: u32) -> Result<(), AllocError> {
-    let mut at = 1u32;
+fn push_blanks(text: &mut String, line: &str, column: usize) -> Result<(), AllocError> {
+    let mut at = 1usize;
     for byte in line.as_bytes() {
         if *byte < 128 || *byte >= 192 {
             if at >= column {

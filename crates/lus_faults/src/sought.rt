@@ -5,8 +5,8 @@ use lus_syntax::{Group, Name, Node, Place, Refusal, Tree};
 /// A place that is looked for, by its line and its column.
 #[derive(Clone, Copy)]
 pub struct Sought {
-    pub line: u32,
-    pub column: u32,
+    pub line: usize,
+    pub column: usize,
 }
 
 /// What a variable of a node is.

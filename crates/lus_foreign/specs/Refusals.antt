@@ -1,5 +1,5 @@
 -- How C is answered why a text is refused.
-use Rattle.std.specs.Prelude.{◌≡◌, ℕ}
+use Rattle.std.specs.Prelude.{◌≡◌, ◌-◌, ◌^◌, ℕ, min}
 use Rattle.lus_syntax.specs.Lexemes.{Text}
 use Rattle.lus_syntax.specs.declared.refusal.Refusal.{Refusal}
 use Rattle.lus_syntax.specs.declared.refusal.RefusalNumber.{RefusalNumber}
@@ -21,11 +21,11 @@ code Recursion = 9
 code Limit = 10
 code Memory = 11
 
--- the refusal's own number and place
+-- the refusal's own number and place; past the greatest number of 32 bits, the greatest
 pub record IsWritten (e : Refusal) (r : Refused) : Type 0 where
   pub number : r.number ≡ code e.number
-  pub line : r.line ≡ e.line
-  pub column : r.column ≡ e.column
+  pub line : r.line ≡ min e.line (2 ^ 32 - 1)
+  pub column : r.column ≡ min e.column (2 ^ 32 - 1)
 
 -- the number and the place of the first pass that refuses the text
 pub record TellsRefusal (text : Text) (r : Refused) : Type 0 where

@@ -51,8 +51,8 @@ fn write_refusal(refused: &mut Refused, names: &mut [u8], refusal: &Refusal)
     ensures { IsWritten refusal.now refused.new }
 {
     refused.number = number_of(refusal.number);
-    refused.line = refusal.line;
-    refused.column = refusal.column;
+    refused.line = refusal.line.min(u32::MAX as usize) as u32;
+    refused.column = refusal.column.min(u32::MAX as usize) as u32;
     let mut count = 0u32;
     let mut at = 0;
     for name in refusal.cycle.names() {

@@ -17,7 +17,7 @@ use std::str;
 #[derive(Drop)]
 pub struct Window {
     pub text: String,
-    pub ahead: u32,
+    pub ahead: usize,
 }
 
 /// The declarations that begin up to a byte: how many, and the first bytes of the last one and of the part that is told by it.
@@ -71,7 +71,7 @@ fn part_at(source: &str, byte: usize) -> Option<Cut> {
 }
 
 /// Line feeds and blanks, so many that what stands behind them is at this line and column.
-fn blanks_to(alloc: Global, line: u32, column: u32) -> Result<String, AllocError>
+fn blanks_to(alloc: Global, line: usize, column: usize) -> Result<String, AllocError>
     requires line { 1 ≤ line }
     requires column { 1 ≤ column }
     ensures { IfOk result (λ blanks. place_behind (string_bytes blanks) ≡ behind_blanks line column) }
@@ -91,7 +91,7 @@ fn window_of(alloc: Global, source: &str, part: Cut) -> Result<Option<Window>, A
     ensures { IfOk result (λ found. IfSome found (λ window. IsPart source.now (window_seen window))) }
 {
     let bytes = source.as_bytes();
-    if part.start > part.end || part.end > bytes.len() || part.start >= u32::MAX as usize {
+    if part.start > part.end || part.end > bytes.len() {
         return Ok(None);
     }
     let Ok(inside) = str::from_utf8(&bytes[part.start..part.end]) else {
@@ -99,7 +99,7 @@ fn window_of(alloc: Global, source: &str, part: Cut) -> Result<Option<Window>, A
     };
     let place = place_behind(&bytes[..part.start]);
     let mut text = blanks_to(alloc, place.line, place.column)?;
-    let ahead = (part.start - text.len()) as u32;
+    let ahead = part.start - text.len();
     text.push_str(inside)?;
     Ok(Some(Window { text, ahead }))
 }
@@ -123,8 +123,8 @@ pub(crate) fn window_round(
 pub fn window_at(
     alloc: Global,
     source: &str,
-    line: u32,
-    column: u32,
+    line: usize,
+    column: usize,
 ) -> Result<Option<Window>, AllocError>
     ensures { IfOk result (λ found. IfSome found (λ window. IsPart source.now (window_seen window))) }
 {
@@ -132,7 +132,7 @@ pub fn window_at(
 }
 
 /// A finding of a part, for the source in which all stands so many bytes further on.
-pub fn further_on(finding: Finding, ahead: u32) -> Finding {
+pub fn further_on(finding: Finding, ahead: usize) -> Finding {
     let mut finding = finding;
     for related in &mut finding.related {
         related.span.start.byte = related.span.start.byte.saturating_add(ahead);

@@ -6,8 +6,8 @@ use lus_syntax::{Refusal, Span};
 /// A line and a column, which count from 1, columns in characters.
 #[derive(Clone, Copy)]
 pub(crate) struct Spot {
-    pub line: u32,
-    pub column: u32,
+    pub line: usize,
+    pub column: usize,
 }
 
 /// From one place to the one behind the last character.
@@ -34,13 +34,13 @@ fn behind(source: &str, byte: usize, start: Spot, length: usize) -> Spot {
 }
 
 /// So many bytes from a refusal's place on.
-pub(crate) fn range_of_refusal(source: &str, refusal: &Refusal, length: u32) -> Range {
+pub(crate) fn range_of_refusal(source: &str, refusal: &Refusal, length: usize) -> Range {
     let start = Spot {
         line: refusal.line,
         column: refusal.column,
     };
     let byte = offset_of(source, start.line, start.column);
-    let end = behind(source, byte, start, length as usize);
+    let end = behind(source, byte, start, length);
     Range { start, end }
 }
 
@@ -50,19 +50,14 @@ pub(crate) fn range_of_span(source: &str, span: Span) -> Range {
         line: span.start.line,
         column: span.start.column,
     };
-    let end = behind(
-        source,
-        span.start.byte as usize,
-        start,
-        span.length as usize,
-    );
+    let end = behind(source, span.start.byte, start, span.length);
     Range { start, end }
 }
 
 /// The places of so many bytes from one on.
-pub(crate) fn range_of_bytes(source: &str, byte: u32, length: u32) -> Range {
+pub(crate) fn range_of_bytes(source: &str, byte: usize, length: usize) -> Range {
     let first = Spot { line: 1, column: 1 };
-    let start = behind(source, 0, first, byte as usize);
-    let end = behind(source, byte as usize, start, length as usize);
+    let start = behind(source, 0, first, byte);
+    let end = behind(source, byte, start, length);
     Range { start, end }
 }

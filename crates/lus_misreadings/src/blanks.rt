@@ -8,8 +8,8 @@ use lus_faults::bytes_at;
 use lus_syntax::{Token, TokenKind};
 
 /// Whether blanks stand between two bytes of a source, and nothing else.
-fn is_blank(source: &str, from: u32, to: u32) -> bool {
-    match bytes_at(source, from as usize, to as usize) {
+fn is_blank(source: &str, from: usize, to: usize) -> bool {
+    match bytes_at(source, from, to) {
         Some(between) => from < to && blanks_of(between) == between.len(),
         None => false,
     }
@@ -24,7 +24,7 @@ pub fn is_punctuation(token: Option<&Token>) -> bool {
 }
 
 /// The byte behind the token before the fault, and the one at which the token behind it begins: its own bytes where there is none.
-fn sides(fault: &Fault<'_>, found: &Token) -> (u32, u32) {
+fn sides(fault: &Fault<'_>, found: &Token) -> (usize, usize) {
     let front = match fault.token_before(1) {
         Some(before) => before.span.end().byte,
         None => found.span.start.byte,

@@ -11,11 +11,6 @@ const COUNTED_DOWN: &str =
 
 const NEGATED: &str = "A minus of a minus is written `3 - (-n)`.";
 
-/// A number of bytes, or the greatest that fits.
-pub fn within(bytes: usize) -> u32 {
-    bytes.min(u32::MAX as usize) as u32
-}
-
 /// Whether a byte is one of a word.
 pub fn is_of_word(byte: u8) -> bool {
     byte.is_ascii_alphanumeric() || byte == b'_'
@@ -56,8 +51,8 @@ fn is_of_code(inside: &str) -> bool {
 }
 
 /// What stands on a byte's line from that byte on.
-fn line_from(source: &str, byte: u32) -> &str {
-    let rest = bytes_at(source, byte as usize, source.len()).unwrap_or("");
+fn line_from(source: &str, byte: usize) -> &str {
+    let rest = bytes_at(source, byte, source.len()).unwrap_or("");
     rest.lines().next().unwrap_or("")
 }
 
@@ -70,13 +65,12 @@ fn comment_before<'t>(fault: &Fault<'t>) -> Option<(Span, &'t str)> {
     let line = line_from(fault.source, end.byte);
     let blanks = blanks_of(line);
     let comment = bytes_at(line, blanks, line.len()).unwrap_or("");
-    let offset = within(blanks);
     let start = Place {
-        byte: end.byte.saturating_add(offset),
+        byte: end.byte.saturating_add(blanks),
         line: end.line,
-        column: end.column.saturating_add(offset),
+        column: end.column.saturating_add(blanks),
     };
-    let length = within(comment.len());
+    let length = comment.len();
     match comment.strip_prefix("--") {
         Some(inside) => Some((Span { start, length }, inside)),
         None => None,
@@ -93,11 +87,7 @@ pub fn commented<'t>(fault: &Fault<'t>) -> Option<Remark<'t>> {
     }
     let word = word_of(inside);
     let byte = comment.start.byte;
-    let before = bytes_at(
-        fault.source,
-        (byte as usize).saturating_sub(1),
-        byte as usize,
-    );
+    let before = bytes_at(fault.source, byte.saturating_sub(1), byte);
     let (note, length, text) = match (inside.starts_with(">"), word, before) {
         (true, _, _) => ("The arrow is written `->`.", 3, "->"),
         (false, "", _) => (COUNTED_DOWN, 0, ""),
@@ -109,6 +99,6 @@ pub fn commented<'t>(fault: &Fault<'t>) -> Option<Remark<'t>> {
     if length == 0 {
         return Some(remark);
     }
-    let end = byte.saturating_add(within(length));
+    let end = byte.saturating_add(length);
     Some(remark.with(sure(byte, end, Phrase::new(text, word, "", ""))))
 }

@@ -17,8 +17,8 @@ pub struct Fault<'t> {
     pub all: &'t [Token<'t>],
     pub tokens: &'t [Token<'t>],
     pub place: usize,
-    pub line: u32,
-    pub column: u32,
+    pub line: usize,
+    pub column: usize,
 }
 
 impl<'t> Fault<'t> {
@@ -84,7 +84,7 @@ impl<'t> Fault<'t> {
     }
 
     /// The byte behind the token at a place.
-    pub fn byte_behind(&self, place: usize) -> Option<u32> {
+    pub fn byte_behind(&self, place: usize) -> Option<usize> {
         match self.tokens.get(place) {
             Some(token) => Some(token.span.end().byte),
             None => None,
@@ -92,7 +92,7 @@ impl<'t> Fault<'t> {
     }
 
     /// The bytes from the first token's first one up to the last token's last one.
-    pub fn bytes_of(&self, from: usize, last: usize) -> Option<(u32, u32)> {
+    pub fn bytes_of(&self, from: usize, last: usize) -> Option<(usize, usize)> {
         match (self.tokens.get(from), self.byte_behind(last)) {
             (Some(first), Some(end)) => Some((first.span.start.byte, end)),
             _ => None,
@@ -102,7 +102,7 @@ impl<'t> Fault<'t> {
     /// The text from a token up to the one before another.
     pub fn text_of(&self, from: usize, to: usize) -> Option<&'t str> {
         let (start, end) = self.bytes_of(from, to.checked_sub(1)?)?;
-        bytes_at(self.source, start as usize, end as usize)
+        bytes_at(self.source, start, end)
     }
 
     /// The first place from one on at which one of some texts stands.
@@ -116,7 +116,7 @@ impl<'t> Fault<'t> {
     }
 
     /// How many bytes of the line are marked: those of the token that isn't read.
-    pub fn length(&self) -> u32 {
+    pub fn length(&self) -> usize {
         match self.token() {
             Some(token) => token.span.length,
             None => 1,
@@ -176,7 +176,7 @@ fn opens(token: &Token) -> bool {
 
 /// The place of the first token that doesn't stand before a line and a column, and that of the last token before it that opens a
 /// declaration.
-fn place_at(tokens: &[Token], line: u32, column: u32) -> (usize, usize) {
+fn place_at(tokens: &[Token], line: usize, column: usize) -> (usize, usize) {
     let mut opening = 0;
     for (place, token) in tokens.iter().enumerate() {
         let start = token.span.start;
@@ -205,8 +205,8 @@ fn end_behind(tokens: &[Token], fault: usize) -> usize {
 pub fn fault_at<'t>(
     source: &'t str,
     all: &'t [Token<'t>],
-    line: u32,
-    column: u32,
+    line: usize,
+    column: usize,
 ) -> Option<Fault<'t>> {
     let (place, start) = place_at(all, line, column);
     let before = place.saturating_sub(start);

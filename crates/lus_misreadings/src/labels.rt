@@ -54,7 +54,7 @@ fn last_branch(fault: &Fault<'_>, open: usize) -> usize {
 }
 
 /// The arrow behind the label of a branch, and the bytes from that label's end up to those behind its sign.
-fn arrow_in(fault: &Fault<'_>, open: usize) -> Option<(u32, u32, &'static str)> {
+fn arrow_in(fault: &Fault<'_>, open: usize) -> Option<(usize, usize, &'static str)> {
     let label = open.saturating_add(1);
     let sign = label.saturating_add(1);
     let found = (
@@ -82,7 +82,7 @@ pub fn push_arrows(text: &mut String, fault: &Fault<'_>, open: usize) -> Result<
             return Ok(());
         };
         let from = behind.unwrap_or(start);
-        text.push_str(bytes_at(fault.source, from as usize, start as usize).unwrap_or(""))?;
+        text.push_str(bytes_at(fault.source, from, start).unwrap_or(""))?;
         text.push_str(arrow)?;
         behind = Some(end);
         match next_branch(fault, branch) {

@@ -1,6 +1,5 @@
 //! Text of which no token is made.
 
-use crate::comments::within;
 use crate::fault::Fault;
 use crate::kept::kept_words;
 use crate::phrase::Phrase;
@@ -37,11 +36,10 @@ fn rest_of<'t>(fault: &Fault<'t>) -> (usize, &'t str) {
 
 /// What is said of a case whose text begins at a byte, with a text in its place.
 fn remark_of<'t>(case: Case, start: usize, instead: Option<Phrase<'t>>) -> Remark<'t> {
-    let length = within(case.text.len());
+    let length = case.text.len();
     let remark = remark_on(length, Phrase::plain(case.sentence), case.note);
-    let byte = within(start);
     match instead {
-        Some(phrase) => remark.with(sure(byte, byte.saturating_add(length), phrase)),
+        Some(phrase) => remark.with(sure(start, start.saturating_add(length), phrase)),
         None => remark,
     }
 }
@@ -91,7 +89,7 @@ pub fn kept_back<'t>(fault: &Fault<'t>) -> Option<Remark<'t>> {
     let length = case.text.len();
     if is_behind_name(bytes_at(text, length, text.len()).unwrap_or("")) {
         let sentence = Phrase::new("`{}` is a word of Lustre, and no name", case.text, "", "");
-        return Some(remark_on(within(length), sentence, "Choose another name."));
+        return Some(remark_on(length, sentence, "Choose another name."));
     }
     let instead = match case.instead {
         Some(text) => Some(Phrase::plain(text)),
@@ -122,5 +120,5 @@ pub fn great_number<'t>(fault: &Fault<'t>) -> Option<Remark<'t>> {
     }
     let sentence = Phrase::plain("this number is past the greatest, 9223372036854775807");
     let note = "The least integer is written `-9223372036854775807 - 1`.";
-    Some(remark_on(within(length), sentence, note))
+    Some(remark_on(length, sentence, note))
 }

@@ -1,6 +1,5 @@
 //! Mixes of operators, with all the parentheses that their expression needs.
 
-use crate::comments::within;
 use crate::fault::{Fault, fault_at};
 use crate::grouping::mix_at;
 use crate::remark::{edit_of, said};
@@ -19,12 +18,12 @@ fn joined(
     first: &Edit,
     second: &Edit,
 ) -> Result<Option<Edit>, AllocError> {
-    let made = (first.byte as usize).saturating_add(first.text.len());
-    let start = (first.byte as usize).min(second.byte as usize);
-    let taken = (second.byte as usize).saturating_add(second.length as usize);
+    let made = first.byte.saturating_add(first.text.len());
+    let start = first.byte.min(second.byte);
+    let taken = second.byte.saturating_add(second.length);
     let end = made.max(taken);
     let (Some(before), Some(behind)) = (
-        bytes_at(changed, start, second.byte as usize),
+        bytes_at(changed, start, second.byte),
         bytes_at(changed, taken, end),
     ) else {
         return Ok(None);
@@ -32,20 +31,20 @@ fn joined(
     let text = &second.text;
     let length = end
         .saturating_sub(made)
-        .saturating_add(first.byte as usize)
-        .saturating_add(first.length as usize)
+        .saturating_add(first.byte)
+        .saturating_add(first.length)
         .saturating_sub(start);
     Ok(Some(Edit {
-        byte: within(start),
-        length: within(length),
+        byte: start,
+        length,
         text: format!(in alloc; "{before}{text}{behind}")?,
     }))
 }
 
 /// Whether nothing ends an equation between a change of a text and a place behind it.
-fn is_of_same(changed: &str, edit: &Edit, place: u32) -> bool {
-    let made = (edit.byte as usize).saturating_add(edit.text.len());
-    match bytes_at(changed, made, place as usize) {
+fn is_of_same(changed: &str, edit: &Edit, place: usize) -> bool {
+    let made = edit.byte.saturating_add(edit.text.len());
+    match bytes_at(changed, made, place) {
         Some(between) => !between.as_bytes().contains(&b';'),
         None => true,
     }
@@ -106,7 +105,7 @@ fn whole(alloc: Global, text: &str, first: Edit) -> Result<Edit, AllocError> {
 }
 
 /// The text of a declaration's tokens, and where it begins.
-fn text_of<'t>(fault: &Fault<'t>) -> Option<(u32, &'t str)> {
+fn text_of<'t>(fault: &Fault<'t>) -> Option<(usize, &'t str)> {
     let start = fault.tokens.first()?.span.start.byte;
     Some((start, fault.text_of(0, fault.tokens.len())?))
 }

@@ -30,8 +30,8 @@ pub enum Trust {
 /// A text in the place of bytes.
 #[derive(Clone, Copy)]
 pub struct Change<'t> {
-    pub byte: u32,
-    pub length: u32,
+    pub byte: usize,
+    pub length: usize,
     pub text: Text<'t>,
     pub trust: Trust,
 }
@@ -41,13 +41,13 @@ pub struct Change<'t> {
 pub struct Remark<'t> {
     pub sentence: Phrase<'t>,
     pub note: Phrase<'t>,
-    pub length: u32,
+    pub length: usize,
     pub comment: Option<Span>,
     pub change: Option<Change<'t>>,
 }
 
 /// A sentence and a note on so many bytes from a fault on.
-pub fn remark_on<'t>(length: u32, sentence: Phrase<'t>, note: &'static str) -> Remark<'t> {
+pub fn remark_on<'t>(length: usize, sentence: Phrase<'t>, note: &'static str) -> Remark<'t> {
     Remark {
         sentence,
         note: Phrase::plain(note),
@@ -89,7 +89,7 @@ impl<'t> Remark<'t> {
 }
 
 /// The change by which a text takes the place of the bytes from one up to another.
-pub fn across<'t>(byte: u32, end: u32, text: Text<'t>, trust: Trust) -> Option<Change<'t>> {
+pub fn across<'t>(byte: usize, end: usize, text: Text<'t>, trust: Trust) -> Option<Change<'t>> {
     Some(Change {
         byte,
         length: end.saturating_sub(byte),
@@ -99,7 +99,7 @@ pub fn across<'t>(byte: u32, end: u32, text: Text<'t>, trust: Trust) -> Option<C
 }
 
 /// The change by which a phrase surely takes the place of the bytes from one up to another.
-pub fn sure<'t>(byte: u32, end: u32, phrase: Phrase<'t>) -> Option<Change<'t>> {
+pub fn sure<'t>(byte: usize, end: usize, phrase: Phrase<'t>) -> Option<Change<'t>> {
     across(byte, end, Text::Phrase(phrase), Trust::Sure)
 }
 
@@ -148,7 +148,7 @@ fn helps(alloc: Global, source: &str, edit: &Edit) -> Result<bool, AllocError> {
     let Ok(tokens) = lex(alloc, &changed) else {
         return Ok(false);
     };
-    let end = (edit.byte as usize).saturating_add(edit.text.len());
+    let end = edit.byte.saturating_add(edit.text.len());
     match parse(alloc, &tokens) {
         Ok(_) => Ok(true),
         Err(found) => Ok(offset_of(&changed, found.line, found.column) > end),

@@ -173,7 +173,7 @@ fn has_form(fault: &Fault<'_>, row: &Row) -> bool {
 }
 
 /// The bytes that another text takes the place of, from one up to another.
-fn bytes_of(fault: &Fault<'_>, taken: Taken) -> Option<(u32, u32)> {
+fn bytes_of(fault: &Fault<'_>, taken: Taken) -> Option<(usize, usize)> {
     let found = fault.place;
     let before = found.saturating_sub(1);
     match taken {

@@ -1,6 +1,6 @@
 //! Signs that no token begins with, by what stands round them.
 
-use crate::comments::{is_of_word, within};
+use crate::comments::is_of_word;
 use crate::fault::Fault;
 use crate::foreign::{CHOICES, LAST};
 use crate::lexical::Case;
@@ -77,8 +77,8 @@ pub fn told_by_signs<'t>(fault: &Fault<'t>, start: usize) -> Option<Remark<'t>> 
     let (place, word) = last_word(before);
     match (sign, word) {
         (Some(b'\''), "last") => {
-            let end = within(start.saturating_add(1));
-            let written = sure(within(place), end, Phrase::plain("pre "));
+            let end = start.saturating_add(1);
+            let written = sure(place, end, Phrase::plain("pre "));
             Some(told(fault, "`last` is no word of the language", LAST).with(written))
         }
         (Some(b'|'), "of") => Some(told(fault, "`case` is no word of the language", CHOICES)),

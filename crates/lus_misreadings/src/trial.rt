@@ -8,8 +8,8 @@ use std::alloc::{AllocError, Global};
 /// How far tokens are read: the line and the column of the first that isn't, the greatest where all are.
 #[derive(Clone, Copy)]
 pub struct Reach {
-    pub line: u32,
-    pub column: u32,
+    pub line: usize,
+    pub column: usize,
 }
 
 impl Reach {
@@ -23,8 +23,8 @@ impl Reach {
 fn reach_of(alloc: Global, tokens: &[Token]) -> Reach {
     match parse(alloc, tokens) {
         Ok(_) => Reach {
-            line: u32::MAX,
-            column: u32::MAX,
+            line: usize::MAX,
+            column: usize::MAX,
         },
         Err(refusal) => {
             if refusal.number == RefusalNumber::Syntax {

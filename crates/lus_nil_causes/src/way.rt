@@ -21,8 +21,8 @@ pub struct Given<'c, 't> {
 /// Whether parentheses stand right before and behind a span.
 fn is_enclosed(source: &str, span: Span) -> bool {
     let bytes = source.as_bytes();
-    let front = bytes.get(..span.start.byte as usize).unwrap_or(&[]);
-    let behind = bytes.get(span.end().byte as usize).copied();
+    let front = bytes.get(..span.start.byte).unwrap_or(&[]);
+    let behind = bytes.get(span.end().byte).copied();
     front.last().copied() == Some(b'(') && behind == Some(b')')
 }
 

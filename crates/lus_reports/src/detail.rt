@@ -52,7 +52,7 @@ fn helps(alloc: Global, source: &str, refusal: &Refusal, edit: &Edit) -> Result<
         return Ok(false);
     };
     let fault = offset_of(source, refusal.line, refusal.column);
-    let part = tried_part(alloc, &changed, refusal.number, fault, edit.byte as usize)?;
+    let part = tried_part(alloc, &changed, refusal.number, fault, edit.byte)?;
     let text = part.as_deref().unwrap_or(&changed);
     match check(alloc, text) {
         Ok(_) => Ok(true),

@@ -35,7 +35,7 @@ pub fn explain(alloc: Global, bytes: &[u8]) -> Result<Program, Explanation<'_>>
     match compile(alloc, text) {
         Ok(program) => Ok(program),
         Err(refusal) => {
-            let line = line_at(text, refusal.line as usize);
+            let line = line_at(text, refusal.line);
             Err(Explanation { refusal, line })
         }
     }
@@ -58,7 +58,7 @@ pub fn accept(alloc: Global, bytes: &[u8]) -> Result<usize, Explanation<'_>>
     match check(alloc, text) {
         Ok(nodes) => Ok(nodes),
         Err(refusal) => {
-            let line = line_at(text, refusal.line as usize);
+            let line = line_at(text, refusal.line);
             Err(Explanation { refusal, line })
         }
     }

@@ -3,7 +3,8 @@
 ghost use Rattle.std.specs.Prelude.{◌≤◌, length};
 
 use crate::detail::source_finding;
-use lus_causes::lus_faults::{line_at, push_finding, push_marked};
+use crate::lines::line_at;
+use lus_causes::lus_faults::{push_finding, push_marked};
 use lus_cli::lus_host::lus_machine::check;
 use lus_cli::lus_host::text_of;
 use lus_further::{Told, without_declaration};

@@ -45,7 +45,7 @@ fn push_line(
     let Some(line) = line else {
         return Ok(());
     };
-    let blanks = blanks(alloc, line, refusal.column as usize)?;
+    let blanks = blanks(alloc, line, refusal.column)?;
     let marks = &detail.marks;
     write!(report, "{line}\n{blanks}^{marks}\n")
 }

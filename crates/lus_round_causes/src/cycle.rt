@@ -20,7 +20,7 @@ pub fn cycle_cause(
     };
     let text = first.as_str();
     let sentence = format!(in alloc; "`{text}` needs itself at the same instant")?;
-    let length = first.len().min(u32::MAX as usize) as u32;
+    let length = first.len();
     let mut told = Finding::new(alloc, sentence, length);
     let mut is_argument = false;
     for (place, name) in names.iter().enumerate() {

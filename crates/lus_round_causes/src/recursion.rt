@@ -42,7 +42,7 @@ struct Round<'t> {
     start: usize,
     what: &'static str,
     owner: &'t Name,
-    length: u32,
+    length: usize,
     note: &'static str,
 }
 

@@ -55,10 +55,7 @@ fn token_at(bytes: &[u8], start: Place) -> Result<(Token<'_>, &[u8]), RefusalNum
     let kind = kind_of(text)?;
     let token = Token {
         kind,
-        span: Span {
-            start,
-            length: n,
-        },
+        span: Span { start, length: n },
     };
     Ok((token, rest))
 }
