@@ -76,10 +76,10 @@ impl Code {
     }
 
     /// How many nodes there are.
-    pub fn nodes(&self) -> usize
+    pub fn nodes(&self) -> u32
         ensures { result ≡ length (program_of self.now).nodes }
     {
-        self.classes.len()
+        self.source.program().nodes.len() as u32
     }
 
     /// The state cells of a node: for each `pre` and each `fby` the leaves of its type, one for each `->` and each `fby`, and
