@@ -82,7 +82,8 @@ impl Object {
     }
 
     /// One more instant: its outputs, or a fault where the source has no streams for these inputs. After an error the object is
-    /// as it was.
+    /// as it was: the step is made in rows beside those that are kept, and they change places once the outputs are there. Words
+    /// that have become entries before, where a structure came up, stay entries, which keep the same.
     pub fn step(&mut self, code: &Code, inputs: &Row) -> Result<Row, StepError>
         requires shaped { IsObjectOf code.now self.old }
         requires shape { IsTrue (has_shape (program_of code.now) self.old.node inputs.now) }
@@ -95,7 +96,8 @@ impl Object {
     }
 
     /// One more instant as `step` makes it, with its outputs twice, neither in more memory than it needs. After an
-    /// error the object is as it was, also where there is memory for the outputs only once.
+    /// error the object is as it was. The outputs are copied behind the step: where there is memory for them only once, the rows
+    /// before the step, which still are beside the new ones, change places with these again, which takes no memory.
     pub fn step_twice(&mut self, code: &Code, inputs: &Row) -> Result<(Row, Row), StepError>
         requires shaped { IsObjectOf code.now self.old }
         requires shape { IsTrue (has_shape (program_of code.now) self.old.node inputs.now) }

@@ -1,5 +1,6 @@
 //! Values, rows and names: printed texts, and that calls succeed. A call that only ever wants memory fails its test.
 
+use lus_requests::Rows;
 use lus_values::{Memory, Names, Op, Row, Value, copy, fits_op, print, push_value, same};
 use std::alloc::Global;
 use std::test::Fail;
@@ -112,15 +113,25 @@ fn half_a_row(alloc: Global) -> Result<Row, Memory> {
     Ok(Row::new(items))
 }
 
-/// Whether a copy of a row has its items.
+/// Whether a copy of a row has its items, and gives them back.
 fn is_copied(alloc: Global) -> Result<bool, Memory> {
     let row = half_a_row(alloc)?;
     let twin = row.copy(alloc)?;
-    Ok(matches!(twin.items(), [Some(Value::Int(3)), None]))
+    let items = twin.into_items();
+    Ok(matches!(items.as_slice(), [Some(Value::Int(3)), None]))
+}
+
+/// How many rows come back of two.
+fn rows_back(alloc: Global) -> Result<usize, Memory> {
+    let mut rows = Vec::new(alloc);
+    rows.push(half_a_row(alloc)?)?;
+    rows.push(half_a_row(alloc)?)?;
+    Ok(Rows::new(rows).into_items().len())
 }
 
 #[test]
 fn rows_copy(rt: HostRuntime) -> Result<(), Fail> {
     assert!(rt; is_copied(rt.alloc())?);
+    assert_eq!(rt; rows_back(rt.alloc())?, 2);
     Ok(())
 }

@@ -52,8 +52,8 @@ impl Machine {
         })
     }
 
-    /// Answers a request and enters it with its reply, or makes no entry and leaves all as it was: every growth is made before
-    /// anything changes.
+    /// Answers a request and enters it with its reply, or makes no entry and leaves all as it was: room for the entry is taken
+    /// first, a step whose outputs can't be kept is undone without memory, and a burst is tried by a copy of the object.
     pub fn call(&mut self, caller: u32, request: &Request) -> Result<Reply, CallError>
         ensures ok { IfOk result (λ a. self.new ≡ record self.old { history = self.old.history ++ entry caller request.now a ∷ [] }) }
         ensures err { IfErr result (λ e. self.new ≡ self.old) }

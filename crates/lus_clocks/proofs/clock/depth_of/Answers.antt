@@ -1,11 +1,11 @@
 -- A clock has no more tests than its node has variables.
-use Rattle.std.proofs.Common.{◌≡◌, ◌≤◌, ℕ, zero, suc, List, [], ◌∷◌, Option, Some, None, map, length, inl, ap, arith}
+use Rattle.std.proofs.Common.{◌≤◌, ℕ, zero, suc, List, [], ◌∷◌, Option, Some, None, map, length, inl, ap, arith}
 use Rattle.std.proofs.Math.ListN.{length-map}
 use Rattle.lus_values.specs.Lists.{item}
 use Rattle.lus_program.specs.declared.expr.Test.{Test}
 use Rattle.lus_program.specs.Programs.{Variable, no_variable}
 use Rattle.lus_program.specs.View.{variable_of}
-use Rattle.lus_streams.specs.Clocks.{Clock, chain}
+use Rattle.lus_streams.specs.Clocks.{chain}
 use Rattle.lus_clocks.proofs.clock.depth_of.Goals as goal
 
 one_more : (n : ℕ) (vs : List Variable) (o : Option Test) → ((x : ℕ) → length (chain n vs x) ≤ n) → length {A = Test} (elim o [ None ↦ [] | Some t ↦ t ∷ chain n vs t.variable ]) ≤ suc n
