@@ -38,6 +38,14 @@ impl Rows {
         self.items.as_slice()
     }
 
+    /// The rows, of which there is no list then. No memory is taken.
+    pub fn into_items(self) -> Vec<Row>
+        ensures { result.items ≡ self }
+    {
+        let Rows { items } = self;
+        items
+    }
+
     /// Equal rows.
     pub fn copy(&self, alloc: Global) -> Result<Rows, Memory>
         ensures { IfOk result (λ r. r ≡ self.now) }

@@ -40,6 +40,14 @@ impl Row {
         self.items.as_slice()
     }
 
+    /// The entries, with which the row is given up. No memory is taken.
+    pub fn into_items(self) -> Vec<Option<Value>>
+        ensures { map entry_of result.items ≡ self }
+    {
+        let Row { items } = self;
+        items
+    }
+
     /// An equal row.
     pub fn copy(&self, alloc: Global) -> Result<Row, Memory>
         ensures { IfOk result (λ r. r ≡ self.now) }
