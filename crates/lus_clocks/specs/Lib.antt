@@ -1,3 +1,4 @@
 pub mod Fitting
 pub mod View
 pub mod Raising
+pub use Rattle.lus_streams.specs as StreamsSpecs

@@ -9,6 +9,7 @@ ghost use Rattle.lus_streams.specs.Clocks.{chain};
 ghost use Rattle.lus_clocks.specs.Fitting.{same_test, without_test, without_tests as without_newest};
 ghost use Rattle.lus_clocks.specs.View.{clock_in};
 
+use crate::tests::tests_of;
 use lus_program::{Node, Test, Variable};
 
 /// The newest test of a clock. A constructor is a branch's place too, of which there may be any number.
@@ -63,18 +64,7 @@ pub fn same_clock(left: Option<NewestTest>, right: Option<NewestTest>) -> bool
 pub fn depth_of(variables: &[Variable], variable: usize) -> usize
     ensures { result ≡ length (chain (length (map variable_of variables.now)) (map variable_of variables.now) variable) }
 {
-    let mut depth = 0;
-    let mut current = variable;
-    for _step in 0..variables.len() {
-        match test_at(variables, current) {
-            Some(test) => {
-                depth += 1;
-                current = test.variable as usize;
-            }
-            None => return depth,
-        }
-    }
-    depth
+    tests_of(variables, variable).count()
 }
 
 /// The clock without its newest test.

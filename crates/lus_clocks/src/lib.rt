@@ -13,6 +13,7 @@ mod formals;
 mod passes;
 mod raising;
 mod required;
+mod tests;
 mod values;
 
 pub use call::{argument_clock, base_of};
@@ -20,4 +21,6 @@ pub use checking::clocks_fit;
 pub use clock::{NewestTest, clock_on};
 pub use flagging::flags_fit;
 pub use formals::{inputs_at, variables_at};
+pub use lus_streams;
 pub use passes::{Clocked, Initialised, check_clocks, check_nil};
+pub use tests::{Tests, tests_of};

@@ -1,17 +1,22 @@
--- A test that is met is one more, and one fewer is left.
-use Rattle.std.proofs.Common.{◌≡◌, ◌+◌, ◌-◌, ◌<◌, suc, List, Some, map, length, sym, ap, ◌∙◌, arith}
+-- A clock has no more tests than its node has variables.
+use Rattle.std.proofs.Common.{◌≤◌, ℕ, zero, suc, List, [], ◌∷◌, Option, Some, None, map, length, inl, ap, arith}
 use Rattle.std.proofs.Math.ListN.{length-map}
 use Rattle.lus_values.specs.Lists.{item}
+use Rattle.lus_program.specs.declared.expr.Test.{Test}
 use Rattle.lus_program.specs.Programs.{Variable, no_variable}
 use Rattle.lus_program.specs.View.{variable_of}
-use Rattle.lus_streams.proofs.Clocks.{chain_some}
+use Rattle.lus_streams.specs.Clocks.{chain}
 use Rattle.lus_clocks.proofs.clock.depth_of.Goals as goal
 
-pub loop-step-preserved : goal.loop-step-preserved
-loop-step-preserved c =
+one_more : (n : ℕ) (vs : List Variable) (o : Option Test) → ((x : ℕ) → length (chain n vs x) ≤ n) → length {A = Test} (elim o [ None ↦ [] | Some t ↦ t ∷ chain n vs t.variable ]) ≤ suc n
+one_more n vs None ih = omega arith
+one_more n vs (Some t) ih = omega (arith, ih t.variable)
+
+short : (n : ℕ) (vs : List Variable) (x : ℕ) → length (chain n vs x) ≤ n
+short zero vs x = omega arith
+short (suc n) vs x = one_more n vs (item no_variable vs x).test (short n vs)
+
+pub count-requires-clause-fits : goal.count-requires-clause-fits
+count-requires-clause-fits c =
     let vs : List Variable = map variable_of c.args.variables.now in
-    let some : (item no_variable vs c.loop-step.current).test ≡ Some c.in-Some.test = sym c.test_at.ensures ∙ c.in-Some.is in
-    let below : c.loop-step._step < length vs = omega (arith, length-map c.args.variables.now variable_of, c.loop-step-test.true) in
-    let left : length vs - c.loop-step._step ≡ suc (length vs - (c.loop-step._step + 1)) = omega (arith, below) in
-    let e = ap length (chain_some (length vs - (c.loop-step._step + 1)) (length vs - c.loop-step._step) vs c.loop-step.current c.in-Some.test left some) in
-    (omega arith, omega (arith, e, c.loop-step.invariant.1))
+    inl (omega (arith, short (length vs) vs c.args.variable, ap length c.tests_of.ensures, length-map c.args.variables.now variable_of))
