@@ -22,6 +22,7 @@ use Rattle.lus_normal_form.specs.Parts.{equations_taken, node_taken, right_taken
 use Rattle.lus_normal_form.proofs.Counted.{taken_length}
 use Rattle.lus_normal_form.proofs.NewAreFew.{new_are_few}
 use Rattle.lus_normal.specs.Laws.{AreMadeOf, IsMadeOf, IsNormalProgram}
+use Rattle.lus_normal.specs.Parts.{HasFewParts}
 use Rattle.lus_normal.specs.View.{equations_seen}
 use Rattle.lus_turns.specs.Turned.{HasOneLeft, HaveOneLeft}
 use Rattle.lus_cells.specs.Cells.{AreStateCells, HaveLeaves}
@@ -123,11 +124,11 @@ within_sum f [] most h = tt
 within_sum f (x ∷ xs) most h = let sum = sum_by-cons f x xs in (omega (arith, sum, h), within_sum f xs most (omega (arith, sum, h)))
 
 -- the normal form of a node has at most as many more variables as the node has parts
-pub variables_few : (p p' : Program) → Resolved p → IsLimited p → IsNormalProgram p p' → (g : ℕ) → length (node_at p' g).variables ≤ most_variables + most_parts
-variables_few p p' resolved few normal g =
+pub variables_few : (p p' : Program) → IsLimited p → HasFewParts p → IsNormalProgram p p' → (g : ℕ) → length (node_at p' g).variables ≤ most_variables + most_parts
+variables_few p p' limited few normal g =
     let f = node_at p g in
-    let own : length f.variables ≤ most_variables = each_item (λ h. length h.variables ≤ most_variables) empty_node p.nodes (omega arith) few.variables g in
-    let parts : node_parts f ≤ most_parts = each_item (λ h. node_parts h ≤ most_parts) empty_node p.nodes (omega arith) (within_sum node_parts p.nodes most_parts resolved.parts) g in
+    let own : length f.variables ≤ most_variables = each_item (λ h. length h.variables ≤ most_variables) empty_node p.nodes (omega arith) limited.variables g in
+    let parts : node_parts f ≤ most_parts = each_item (λ h. node_parts h ≤ most_parts) empty_node p.nodes (omega arith) (within_sum node_parts p.nodes most_parts few) g in
     let new = new_are_few f in
     let taken = taken_count p f f.equations in
     let width = (normal g).width in

@@ -6,6 +6,7 @@ ghost use Rattle.lus_syntax.specs.declared.refusal.RefusalNumber.TheVariants as 
 ghost use Rattle.lus_program.specs.View.{program_seen};
 ghost use Rattle.lus_typing.specs.Refusals.{RefusesFor};
 ghost use Rattle.lus_typing.specs.Sound.{IsLimited};
+ghost use Rattle.lus_normal.specs.Parts.{HasFewParts};
 ghost use Rattle.lus_flat_classes.specs.Turns.{AreReady};
 ghost use Rattle.lus_flat_classes.specs.View.{classes_of};
 ghost use Rattle.lus_simulation.specs.Checked.{IsChecked};
@@ -98,6 +99,7 @@ fn typed_of(normal: &Normal) -> &Typed
     ensures same { result.now ≡ normal.now.source.program }
     ensures checked { IsChecked (program_seen normal.now.source.program) }
     ensures limited { IsLimited (program_seen normal.now.source.program) }
+    ensures few { HasFewParts (program_seen normal.now.source.program) }
 {
     let source = normal.source();
     let _program = source.program();

@@ -2,10 +2,10 @@
 
 use lus_clocks::{check_clocks, check_nil};
 use lus_grammar::parse;
-use lus_normal::{Normal, normalise};
+use lus_normal::{Normal, has_few_parts, normalise};
 use lus_program::{Equation, Expr, Form, Node, NodeId, Program, Variable};
 use lus_promises::{check_flags, check_on_clocks, counts_of, order_variables};
-use lus_syntax::{Refusal, lex};
+use lus_syntax::{Refusal, RefusalNumber, lex};
 use lus_types::check_types;
 use lus_values::{Op, Operator, Value};
 use std::alloc::Global;
@@ -20,7 +20,11 @@ fn normal_of(alloc: Global, text: &str) -> Result<Normal, Refusal> {
     let clocked = check_clocks(typed)?;
     check_flags(alloc, clocked.program())?;
     let initialised = check_nil(alloc, clocked)?;
-    normalise(alloc, order_variables(alloc, initialised)?)
+    let ordered = order_variables(alloc, initialised)?;
+    if !has_few_parts(ordered.program()) {
+        return Err(Refusal::new(RefusalNumber::Limit, 1, 1));
+    }
+    normalise(alloc, ordered)
 }
 
 /// A node of a text, and how many memories and marks stand in it.
@@ -77,7 +81,7 @@ static CASES: [Case; 6] = [
 ];
 
 fn are_counted(normal: &Normal, case: &Case) -> bool {
-    if case.node as usize >= normal.nodes() {
+    if case.node >= normal.nodes() {
         return false;
     }
     let counts = counts_of(normal, NodeId(case.node));

@@ -4,7 +4,6 @@ use Rattle.lus_values.specs.Lists.{Each}
 use Rattle.lus_syntax.specs.Limits.{most_parts, most_variables}
 use Rattle.lus_program.specs.Parts.{node_parts}
 use Rattle.lus_program.specs.Programs.{empty_node, Equation, Node, node_at, Program}
-use Rattle.lus_typing.specs.Resolved.{Resolved}
 use Rattle.lus_typing.specs.Sound.{IsLimited}
 use Rattle.lus_streams.specs.Equations.{equation_clock}
 use Rattle.lus_streams.proofs.Lists.{each_item, each_of_items}
@@ -14,6 +13,7 @@ use Rattle.lus_normal_form.proofs.Counted.{taken_length}
 use Rattle.lus_normal_form.proofs.NewAreFew.{new_are_few}
 use Rattle.lus_order.specs.Orders.{IsNarrow}
 use Rattle.lus_normal.specs.Laws.{IsNormalProgram}
+use Rattle.lus_normal.specs.Parts.{HasFewParts}
 use Rattle.lus_normal.proofs.Limited.{each_within_sum}
 
 module _ (p : Program) where
@@ -26,14 +26,14 @@ module _ (p : Program) where
       let rest = taken_counted f qs in
       omega (arith, sum, first, rest)
 
-pub normal_is_narrow : (p p' : Program) → Resolved p → IsLimited p → IsNormalProgram p p' → Each IsNarrow p'.nodes
-normal_is_narrow p p' resolved limited normal =
+pub normal_is_narrow : (p p' : Program) → IsLimited p → HasFewParts p → IsNormalProgram p p' → Each IsNarrow p'.nodes
+normal_is_narrow p p' limited few normal =
     let narrow : (g : ℕ) → length (node_at p g).variables ≤ most_variables = each_item (λ f. length f.variables ≤ most_variables) empty_node p.nodes (omega arith) limited.variables in
-    let few : (g : ℕ) → node_parts (node_at p g) ≤ most_parts = each_item (λ f. node_parts f ≤ most_parts) empty_node p.nodes (omega arith) (each_within_sum node_parts p.nodes most_parts resolved.parts) in
+    let parts_few : (g : ℕ) → node_parts (node_at p g) ≤ most_parts = each_item (λ f. node_parts f ≤ most_parts) empty_node p.nodes (omega arith) (each_within_sum node_parts p.nodes most_parts few) in
     each_of_items IsNarrow empty_node p'.nodes (λ g lt.
     let f = node_at p g in
     let old = narrow g in
-    let parts = few g in
+    let parts = parts_few g in
     let width = (normal g).width in
     let taken = taken_counted p f f.equations in
     let new = new_are_few f in

@@ -30,16 +30,16 @@ classes_of_nodes-requires-clause-small c =
     let counted = subst (λ z. AreStateCells (program_seen z) cells) given c.in_ok-cells.ensures.ok in
     let leaves = subst (λ z. HaveLeaves (program_seen z)) given c.in_ok-cells.ensures.leaves in
     let resolved = c.typed_of.ensures.checked.resolved in
-    let few = c.typed_of.ensures.limited in
+    let limited = c.typed_of.ensures.limited in
     let long = length-map q.nodes.items node_of ∙ as_many (program_seen p) p.nodes.items q.nodes.items c.program.ensures.made ∙ sym (length-map p.nodes.items node_of) in
-    let nodes = few.nodes in
+    let nodes = limited.nodes in
     record {
       counts = cells;
       kept = kept_to p q c.program.ensures.normal cells resolved leaves counted;
       few = λ g. each_item (λ n. n ≤ most_cells) 0 cells (omega arith) counted.few g;
       lefts = lefts_one p q resolved c.program.ensures.made;
       nodes = omega (arith, long, nodes);
-      variables = variables_few (program_seen p) (program_seen q) resolved few c.program.ensures.normal;
+      variables = variables_few (program_seen p) (program_seen q) limited c.typed_of.ensures.few c.program.ensures.normal;
     }
 
 pub invariant_of-result : goal.invariant_of-result
