@@ -42,7 +42,9 @@ fn node_parts(node: &Node) -> u32
 {
     let mut total: u32 = 0;
     for equation in &node.equations {
-        total = total.saturating_add(parts(&equation.right)).saturating_add(1);
+        total = total
+            .saturating_add(parts(&equation.right))
+            .saturating_add(1);
     }
     total
 }

@@ -69,4 +69,4 @@ new-requires c =
       bounded = leaves.ok;
       typed = program.ok;
     } in
-    found (tree_seen c.args.tree) (program_seen c.in_ok-program.program) c.into_nodes.result.items c.in_ok-leaves.leaves.items formed program.means (rw loopless.same at c.into_nodes.ensures) leaves.leaves
+    found (tree_seen c.args.tree) (program_seen c.in_ok-program.program) c.into_parts.result.1.items c.in_ok-leaves.leaves.items formed program.means (rw loopless.same at c.into_parts.ensures.nodes) leaves.leaves
