@@ -1,5 +1,5 @@
 -- What each check shows holds of the tree that all of them are given.
-use Rattle.std.proofs.Common.{◌≢◌, ◌∙◌, inr, sym, subst, Result}
+use Rattle.std.proofs.Common.{◌≡◌, ◌≢◌, ◌∙◌, inr, sym, subst, Result}
 use Rattle.std.specs.Prelude.{IfErr}
 use Rattle.std.specs.Result.{IsErrAnd}
 use Rattle.std.proofs.lemmas.Result.{err_from_is_err_and}
@@ -69,4 +69,4 @@ new-requires c =
       bounded = leaves.ok;
       typed = program.ok;
     } in
-    found (tree_seen c.args.tree) (program_seen c.in_ok-program.program) c.into_parts.result.1.items c.in_ok-leaves.leaves.items formed program.means (rw loopless.same at c.into_parts.ensures.nodes) leaves.leaves
+    found (tree_seen c.args.tree) (program_seen c.in_ok-program.program) c.into_parts-tree.result.1.items c.in_ok-leaves.leaves.items formed program.means (rw loopless.same at c.into_parts-tree.ensures.nodes) leaves.leaves
