@@ -1,4 +1,4 @@
-//! The checks as passes over a typed program. Contracts see what they give as the program.
+//! The checks as passes over a typed source. Contracts see what they give as its program.
 
 ghost use Rattle.std.specs.Prelude.{◌≡◌, IfOk, IfErr, OnOk};
 ghost use Rattle.lus_syntax.specs.declared.refusal.RefusalNumber.TheVariants as numbers;
@@ -13,14 +13,14 @@ use crate::checking::clocks_fit;
 use crate::flagging::flags_fit;
 use lus_program::Program;
 use lus_syntax::Refusal;
-use lus_typing::Typed;
+use lus_typing::{Sound, Typed};
 use std::alloc::Global;
 use std::marker::Model;
 
-/// A typed program that is on clocks.
+/// A sound program that is on clocks.
 #[derive(Drop)]
 pub struct Clocked {
-    typed: Typed,
+    sound: Sound,
 }
 
 impl Model for Clocked {
@@ -34,18 +34,18 @@ impl Model for Clocked {
 
     ghost coded = { Prim.hlevel (codes, program_expr.the_row.coded) };
 
-    ghost view = { λ c. c.typed };
+    ghost view = { λ c. c.sound };
 
-    ghost invariant = { λ c. ProgramOnClocks (program_seen c.typed) };
+    ghost invariant = { λ c. ProgramOnClocks (program_seen c.sound) };
 }
 
 impl Clocked {
-    /// The typed program that is on clocks.
-    pub fn typed(&self) -> &Typed
+    /// The sound program that is on clocks.
+    pub fn sound(&self) -> &Sound
         ensures same { result.now ≡ self.now }
         ensures on_clocks { ProgramOnClocks (program_seen result.now) }
     {
-        &self.typed
+        &self.sound
     }
 
     /// The program that is on clocks.
@@ -55,19 +55,20 @@ impl Clocked {
         ensures limited { IsLimited (program_seen result.now) }
         ensures on_clocks { ProgramOnClocks (program_seen result.now) }
     {
-        self.typed.program()
+        self.sound.program()
     }
 }
 
-/// Checks that every declared clock, equation and call is on clocks. A refusal stands at the declared variable, or at the
-/// first token of an expression.
+/// Checks that every declared clock, equation and call is on clocks, and gives the source's tree up. A refusal stands at the
+/// declared variable, or at the first token of an expression.
 pub fn check_clocks(typed: Typed) -> Result<Clocked, Refusal>
-    ensures same { IfOk result (λ clocked. clocked ≡ typed) }
-    ensures ok { OnOk result (ProgramOnClocks (program_seen typed)) }
-    ensures refused { IfErr result (λ e. (ProgramOnClocks (program_seen typed) → ⊥) × (e.number ≡ numbers.Clock)) }
+    ensures same { IfOk result (λ clocked. clocked ≡ typed.program) }
+    ensures ok { OnOk result (ProgramOnClocks (program_seen typed.program)) }
+    ensures refused { IfErr result (λ e. (ProgramOnClocks (program_seen typed.program) → ⊥) × (e.number ≡ numbers.Clock)) }
 {
-    match clocks_fit(typed.program()) {
-        Ok(()) => Ok(Clocked { typed }),
+    let sound = typed.into_sound();
+    match clocks_fit(sound.program()) {
+        Ok(()) => Ok(Clocked { sound }),
         Err(refusal) => Err(refusal),
     }
 }

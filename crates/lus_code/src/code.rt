@@ -6,6 +6,7 @@ ghost use Rattle.lus_syntax.specs.declared.refusal.RefusalNumber.TheVariants as 
 ghost use Rattle.lus_program.specs.View.{program_seen};
 ghost use Rattle.lus_typing.specs.Refusals.{RefusesFor};
 ghost use Rattle.lus_typing.specs.Sound.{IsLimited};
+ghost use Rattle.lus_normal.specs.Parts.{HasFewParts};
 ghost use Rattle.lus_flat_classes.specs.Turns.{AreReady};
 ghost use Rattle.lus_flat_classes.specs.View.{classes_of};
 ghost use Rattle.lus_simulation.specs.Checked.{IsChecked};
@@ -20,7 +21,7 @@ use lus_normal::Normal;
 use lus_order::Ordered;
 use lus_program::{NodeId, Program};
 use lus_syntax::Refusal;
-use lus_typing::Typed;
+use lus_typing::Sound;
 use std::alloc::Global;
 use std::marker::Model;
 
@@ -93,17 +94,18 @@ impl Code {
     }
 }
 
-/// The typed program that a normal form is made of, whose checks the passes after it have made.
-fn typed_of(normal: &Normal) -> &Typed
+/// The sound program that a normal form is made of, whose checks the passes after it have made.
+fn sound_of(normal: &Normal) -> &Sound
     ensures same { result.now ≡ normal.now.source.program }
     ensures checked { IsChecked (program_seen normal.now.source.program) }
     ensures limited { IsLimited (program_seen normal.now.source.program) }
+    ensures few { HasFewParts (program_seen normal.now.source.program) }
 {
     let source = normal.source();
     let _program = source.program();
-    let typed = source.initialised().clocked().typed();
-    let _program = typed.program();
-    typed
+    let sound = source.initialised().clocked().sound();
+    let _program = sound.program();
+    sound
 }
 
 /// Translates a program in normal form. A program with a node that has more than 100,000 state cells is refused at that node's
@@ -114,7 +116,7 @@ pub fn translate(alloc: Global, normal: Normal) -> Result<Code, Refusal>
     ensures refused { IfErr result (RefusesFor numbers.Limit (FitsCells (program_seen normal.source.program))) }
     ensures placed { IfErr result (λ e. e.number ≢ numbers.Memory → NamesTooMany normal.source.program e.line e.column) }
 {
-    let cells = cells_of_nodes(alloc, typed_of(&normal))?;
+    let cells = cells_of_nodes(alloc, sound_of(&normal))?;
     let classes = classes_of_nodes(alloc, normal.program(), normal.orders())?;
     let source = normal.into_source();
     Ok(Code {

@@ -4,10 +4,10 @@ use lus_clocks::{check_clocks, check_nil};
 use lus_code::{Code, translate};
 use lus_flat_classes::{Call, Class, Extent, Part};
 use lus_grammar::parse;
-use lus_normal::normalise;
+use lus_normal::{has_few_parts, normalise};
 use lus_order::order;
 use lus_program::NodeId;
-use lus_syntax::{Refusal, lex};
+use lus_syntax::{Refusal, RefusalNumber, lex};
 use lus_types::check_types;
 use std::alloc::Global;
 use std::test::Fail;
@@ -20,6 +20,9 @@ fn code_of(alloc: Global, text: &str) -> Result<Code, Refusal> {
     let clocked = check_clocks(typed)?;
     let initialised = check_nil(alloc, clocked)?;
     let ordered = order(alloc, initialised)?;
+    if !has_few_parts(ordered.program()) {
+        return Err(Refusal::new(RefusalNumber::Limit, 1, 1));
+    }
     let normal = normalise(alloc, ordered)?;
     translate(alloc, normal)
 }
@@ -104,7 +107,7 @@ fn ends_in_code(parts: &[Part], least: usize, most: usize) -> bool {
     }
 }
 
-fn has_few_parts(code: &Code) -> bool {
+fn is_one_part_each(code: &Code) -> bool {
     match code.classes() {
         [counter, caller] => {
             ends_in_code(&counter.parts, 1, 1) && ends_in_code(&caller.parts, 2, 3)
@@ -118,6 +121,6 @@ fn neighbours_are_made_by_one_part(rt: HostRuntime) -> Result<(), Fail> {
     let Ok(code) = code_of(rt.alloc(), AROUND) else {
         panic!(rt; "refused")
     };
-    assert!(rt; has_few_parts(&code));
+    assert!(rt; is_one_part_each(&code));
     Ok(())
 }

@@ -1,26 +1,35 @@
-//! What normal forms of small programs keep, and what is taken out of them.
+//! What typed sources and normal forms of small programs keep, and what is taken out of them.
 
 use lus_clocks::{check_clocks, check_nil};
 use lus_grammar::parse;
-use lus_normal::{Normal, normalise};
+use lus_normal::{Normal, has_few_parts, normalise};
 use lus_program::{Equation, Expr, Form, Node, NodeId, Program, Variable};
 use lus_promises::{check_flags, check_on_clocks, counts_of, order_variables};
-use lus_syntax::{Refusal, lex};
-use lus_types::check_types;
+use lus_syntax::{Refusal, RefusalNumber, lex};
+use lus_types::{Typed, check_types};
 use lus_values::{Op, Operator, Value};
 use std::alloc::Global;
 use std::test::Fail;
 
-/// The normal form of a text.
-fn normal_of(alloc: Global, text: &str) -> Result<Normal, Refusal> {
+/// The typed source of a text.
+fn typed_of(alloc: Global, text: &str) -> Result<Typed, Refusal> {
     let tokens = lex(alloc, text)?;
     let tree = parse(alloc, &tokens)?;
-    let typed = check_types(alloc, tree)?;
-    check_on_clocks(typed.program())?;
+    check_types(alloc, tree)
+}
+
+/// The normal form of a text.
+fn normal_of(alloc: Global, text: &str) -> Result<Normal, Refusal> {
+    let typed = typed_of(alloc, text)?;
+    check_on_clocks(typed.sound().program())?;
     let clocked = check_clocks(typed)?;
     check_flags(alloc, clocked.program())?;
     let initialised = check_nil(alloc, clocked)?;
-    normalise(alloc, order_variables(alloc, initialised)?)
+    let ordered = order_variables(alloc, initialised)?;
+    if !has_few_parts(ordered.program()) {
+        return Err(Refusal::new(RefusalNumber::Limit, 1, 1));
+    }
+    normalise(alloc, ordered)
 }
 
 /// A node of a text, and how many memories and marks stand in it.
@@ -76,8 +85,22 @@ static CASES: [Case; 6] = [
     },
 ];
 
+/// Whether there are so many nodes, in the source and in its program.
+fn has_nodes(typed: &Typed, count: usize) -> bool {
+    typed.tree().nodes.len() == count && typed.sound().program().nodes.len() == count
+}
+
+#[test]
+fn a_typed_source_keeps_its_tree(rt: HostRuntime) -> Result<(), Fail> {
+    let Ok(typed) = typed_of(rt.alloc(), CALLED) else {
+        panic!(rt; "refused")
+    };
+    assert!(rt; has_nodes(&typed, 2));
+    Ok(())
+}
+
 fn are_counted(normal: &Normal, case: &Case) -> bool {
-    if case.node as usize >= normal.nodes() {
+    if case.node >= normal.nodes() {
         return false;
     }
     let counts = counts_of(normal, NodeId(case.node));

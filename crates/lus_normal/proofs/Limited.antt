@@ -1,4 +1,4 @@
--- The new variables of the normal form of a program within the limits have numbers.
+-- The new variables of the normal form of a program within the limits, of few parts, have numbers.
 use Rattle.std.proofs.Common.{arith, ◌≡◌, sym, subst, ℕ, zero, suc, ◌+◌, ◌<◌, ◌≤◌, List, [], ◌∷◌, length, map, sum_by, refl}
 use Rattle.std.proofs.lemmas.List.Sums.{sum_by-cons}
 use Rattle.lus_values.specs.Lists.{item, Each}
@@ -14,6 +14,7 @@ use Rattle.lus_typing.specs.Sound.{IsLimited}
 use Rattle.lus_normal_form.specs.Forms.{equations_count}
 use Rattle.lus_normal_form.proofs.NewAreFew.{new_are_few}
 use Rattle.lus_normal_form.proofs.Numbers.{right_count_numbered}
+use Rattle.lus_normal.specs.Parts.{HasFewParts}
 use Rattle.lus_normal.specs.View.{equations_seen}
 use Rattle.lus_normal.specs.Walk.{CanBeMade}
 use Rattle.lus_normal.proofs.Declarable.{taken_are_declarable}
@@ -38,18 +39,18 @@ each_within_sum f [] most h = tt
 each_within_sum f (x ∷ xs) most h = let sum = sum_by-cons f x xs in (omega (arith, sum, h), each_within_sum f xs most (omega (arith, sum, h)))
 
 -- the node at a place can be made
-pub made_here : (p : StoredProgram) → Resolved (program_seen p) → IsLimited (program_seen p)
+pub made_here : (p : StoredProgram) → Resolved (program_seen p) → IsLimited (program_seen p) → HasFewParts (program_seen p)
     → (i : ℕ) (f : StoredNode) → i < length p.nodes.items → f ≡ item f p.nodes.items i → CanBeMade (program_seen p) f
-made_here p resolved limited i f lt is =
+made_here p resolved limited few i f lt is =
     let q = program_seen p in
     let fs = p.nodes.items in
     let fits = each_seen_at node_of (NodeResolved q) fs i f is resolved.nodes lt in
     let narrow = each_seen_at node_of (λ g. length g.variables ≤ most_variables) fs i f is limited.variables lt in
-    let parts_few = each_within_sum node_parts q.nodes most_parts resolved.parts in
+    let parts_few = each_within_sum node_parts q.nodes most_parts few in
     let parts = each_seen_at node_of (λ g. node_parts g ≤ most_parts) fs i f is parts_few lt in
-    let few = new_are_few (node_of f) in
+    let new = new_are_few (node_of f) in
     let seen = counts_seen 0 f.equations.items in
     record {
-      room = omega (arith, narrow, parts, few, seen);
+      room = omega (arith, narrow, parts, new, seen);
       declarable = taken_are_declarable q resolved limited (node_of f) f.equations.items refl fits narrow;
     }

@@ -1,10 +1,9 @@
 -- The places of the variables of a normal form have 32 bits: they are no more than the variables and the parts of its source.
-use Rattle.std.proofs.Common.{arith, ◌≡◌, refl, ℕ, ◌≤◌, List, [], ◌∷◌, length, length-append}
+use Rattle.std.proofs.Common.{arith, ◌≡◌, refl, ℕ, ◌+◌, ◌≤◌, List, [], ◌∷◌, length, length-append}
 use Rattle.lus_values.specs.Lists.{Each}
 use Rattle.lus_syntax.specs.Limits.{most_parts, most_variables}
 use Rattle.lus_program.specs.Parts.{node_parts}
 use Rattle.lus_program.specs.Programs.{empty_node, Equation, Node, node_at, Program}
-use Rattle.lus_typing.specs.Resolved.{Resolved}
 use Rattle.lus_typing.specs.Sound.{IsLimited}
 use Rattle.lus_streams.specs.Equations.{equation_clock}
 use Rattle.lus_streams.proofs.Lists.{each_item, each_of_items}
@@ -14,6 +13,7 @@ use Rattle.lus_normal_form.proofs.Counted.{taken_length}
 use Rattle.lus_normal_form.proofs.NewAreFew.{new_are_few}
 use Rattle.lus_order.specs.Orders.{IsNarrow}
 use Rattle.lus_normal.specs.Laws.{IsNormalProgram}
+use Rattle.lus_normal.specs.Parts.{HasFewParts}
 use Rattle.lus_normal.proofs.Limited.{each_within_sum}
 
 module _ (p : Program) where
@@ -26,15 +26,17 @@ module _ (p : Program) where
       let rest = taken_counted f qs in
       omega (arith, sum, first, rest)
 
-pub normal_is_narrow : (p p' : Program) → Resolved p → IsLimited p → IsNormalProgram p p' → Each IsNarrow p'.nodes
-normal_is_narrow p p' resolved limited normal =
-    let narrow : (g : ℕ) → length (node_at p g).variables ≤ most_variables = each_item (λ f. length f.variables ≤ most_variables) empty_node p.nodes (omega arith) limited.variables in
-    let few : (g : ℕ) → node_parts (node_at p g) ≤ most_parts = each_item (λ f. node_parts f ≤ most_parts) empty_node p.nodes (omega arith) (each_within_sum node_parts p.nodes most_parts resolved.parts) in
-    each_of_items IsNarrow empty_node p'.nodes (λ g lt.
+-- the normal form of a node has at most as many more variables as the node has parts
+pub normal_variables_few : (p p' : Program) → IsLimited p → HasFewParts p → IsNormalProgram p p' → (g : ℕ) → length (node_at p' g).variables ≤ most_variables + most_parts
+normal_variables_few p p' limited few normal g =
     let f = node_at p g in
-    let old = narrow g in
-    let parts = few g in
-    let width = (normal g).width in
-    let taken = taken_counted p f f.equations in
+    let own : length f.variables ≤ most_variables = each_item (λ h. length h.variables ≤ most_variables) empty_node p.nodes (omega arith) limited.variables g in
+    let parts : node_parts f ≤ most_parts = each_item (λ h. node_parts h ≤ most_parts) empty_node p.nodes (omega arith) (each_within_sum node_parts p.nodes most_parts few) g in
     let new = new_are_few f in
-    omega (arith, width, taken, new, old, parts))
+    let taken = taken_counted p f f.equations in
+    let width = (normal g).width in
+    omega (arith, own, parts, new, taken, width)
+
+pub normal_is_narrow : (p p' : Program) → IsLimited p → HasFewParts p → IsNormalProgram p p' → Each IsNarrow p'.nodes
+normal_is_narrow p p' limited few normal =
+    each_of_items IsNarrow empty_node p'.nodes (λ g lt. let most = normal_variables_few p p' limited few normal g in omega (arith, most))

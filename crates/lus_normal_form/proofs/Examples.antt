@@ -4,7 +4,6 @@ use Rattle.lus_values.specs.declared.operator.Op.TheVariants.{Add, Divide}
 use Rattle.lus_values.specs.declared.operator.Operator.TheVariants.{Compute}
 use Rattle.lus_program.specs.declared.types.Kind.TheVariants.{Bool as BoolKind}
 use Rattle.lus_program.specs.Programs.{Expression, variable, operate, pre, arrow, when, merge, call, Operands, Variable, Node, Program, empty_node}
-use Rattle.lus_program.specs.Parts.{program_parts}
 use Rattle.lus_streams.specs.Clocks.{Part, at}
 use Rattle.lus_streams.specs.OnClock.{ProgramOnClocks}
 use Rattle.lus_streams.specs.Order.{HasOrder}
@@ -94,7 +93,6 @@ source_resolved : Resolved source
 source_resolved = record {
   nodes = (summed_resolved, (divided_resolved, tt));
   loopless = λ f way. let before = leads_before f f way in let wrong : ⊥ = omega (arith, before) in wrong;
-  parts = let count : program_parts source ≡ 22 = refl in omega (arith, count);
 }
 
 source_clocks : ProgramOnClocks source

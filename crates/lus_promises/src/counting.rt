@@ -12,7 +12,7 @@ use lus_cells::cells_of_nodes;
 use lus_normal::Normal;
 use lus_program::NodeId;
 use lus_syntax::Refusal;
-use lus_typing::Typed;
+use lus_typing::Sound;
 use std::alloc::Global;
 
 /// How many memories and how many marks of a first instant stand in a node.
@@ -35,9 +35,9 @@ pub fn counts_of(normal: &Normal, node: NodeId) -> Counts
 }
 
 /// The state cells of each node, or a refusal of a node that has too many.
-pub fn count_cells(alloc: Global, typed: &Typed) -> Result<Vec<u32>, Refusal>
-    ensures ok { IfOk result (λ cells. AreStateCells (program_seen typed.now) cells.items) }
-    ensures refused { IfErr result (RefusesFor numbers.Limit (FitsCells (program_seen typed.now))) }
+pub fn count_cells(alloc: Global, sound: &Sound) -> Result<Vec<u32>, Refusal>
+    ensures ok { IfOk result (λ cells. AreStateCells (program_seen sound.now) cells.items) }
+    ensures refused { IfErr result (RefusesFor numbers.Limit (FitsCells (program_seen sound.now))) }
 {
-    cells_of_nodes(alloc, typed)
+    cells_of_nodes(alloc, sound)
 }

@@ -32,7 +32,13 @@ fn declared_name(source: &Source, place: u32) -> &str {
 
 /// The name of a constructor of an enumeration.
 fn constructor_name(source: &Source, enumeration: u32, place: u32) -> &str {
-    match source.typed.program().types.get(enumeration as usize) {
+    match source
+        .typed
+        .sound()
+        .program()
+        .types
+        .get(enumeration as usize)
+    {
         Some(Declared::Enumeration(names)) => match names.get(place as usize) {
             Some(name) => name.as_str(),
             None => "?",

@@ -31,7 +31,7 @@ fn source_of(alloc: Global, text: &str) -> Result<Source, Refusal> {
 fn outline_text(alloc: Global, source: &Source, cells: &[u32]) -> Result<String, AllocError> {
     let mut text = String::new(alloc);
     push_types(alloc, &mut text, source)?;
-    for (place, node) in source.typed.program().nodes.iter().enumerate() {
+    for (place, node) in source.typed.sound().program().nodes.iter().enumerate() {
         if place > 0 {
             text.push_str("\n")?;
         }
@@ -45,6 +45,6 @@ fn outline_text(alloc: Global, source: &Source, cells: &[u32]) -> Result<String,
 pub fn outline(alloc: Global, bytes: &[u8]) -> Result<String, Refusal> {
     let text = text_of(bytes)?;
     let source = source_of(alloc, text)?;
-    let cells = cells_of_nodes(alloc, &source.typed)?;
+    let cells = cells_of_nodes(alloc, source.typed.sound())?;
     Ok(outline_text(alloc, &source, &cells)?)
 }

@@ -101,7 +101,7 @@ pub(crate) fn push_types(
     text: &mut String,
     source: &Source,
 ) -> Result<(), AllocError> {
-    let program = source.typed.program();
+    let program = source.typed.sound().program();
     let shown = shown_types(alloc, program)?;
     let mut any = false;
     for (place, declared) in program.types.iter().enumerate() {

@@ -1,19 +1,12 @@
 -- Which trees are programs, and what the first failing pass answers.
-use Rattle.std.specs.Prelude.{◌⊎◌, ◌≤◌}
+use Rattle.std.specs.Prelude.{◌⊎◌}
 use Rattle.lus_syntax.specs.declared.refusal.RefusalNumber.{RefusalNumber}
 use Rattle.lus_syntax.specs.declared.refusal.RefusalNumber.TheVariants as numbers
-use Rattle.lus_syntax.specs.Limits.{most_parts}
 use Rattle.lus_syntax.specs.Trees.{Tree}
-use Rattle.lus_program.specs.Parts.{program_parts}
 use Rattle.lus_source.specs.Named.{Named}
 use Rattle.lus_source.specs.Loopless.{Loopless}
 use Rattle.lus_source.specs.Sized.{Counted, Bounded}
 use Rattle.lus_source.specs.WellTyped.{IsTyped}
-use Rattle.lus_source.specs.Meaning.{program_of}
-
--- the program that it means has no more parts than a program may have
-abbrev pub HasFewParts : Tree → Type 0
-HasFewParts p = program_parts (program_of p) ≤ most_parts
 
 -- within the limits, its names right, without recursion, and well typed: in the order of the passes
 pub record WellFormed (p : Tree) : Type 0 where
@@ -22,14 +15,10 @@ pub record WellFormed (p : Tree) : Type 0 where
   pub loopless : Loopless p
   pub bounded : Bounded p
   pub typed : IsTyped p
-  pub parts : HasFewParts p
 
 -- the passes before it hold, and it doesn't; other numbers are no answers of these passes
 abbrev pub FirstFails : Tree → RefusalNumber → Type 0
-FirstFails p numbers.Limit =
-    (Counted p → ⊥)
-    ⊎ ((Counted p × Named p × Loopless p × (Bounded p → ⊥))
-    ⊎ (Counted p × Named p × Loopless p × Bounded p × IsTyped p × (HasFewParts p → ⊥)))
+FirstFails p numbers.Limit = (Counted p → ⊥) ⊎ (Counted p × Named p × Loopless p × (Bounded p → ⊥))
 FirstFails p numbers.Name = Counted p × (Named p → ⊥)
 FirstFails p numbers.Recursion = Counted p × Named p × (Loopless p → ⊥)
 FirstFails p numbers.Type = Counted p × Named p × Loopless p × Bounded p × (IsTyped p → ⊥)

@@ -55,6 +55,14 @@ impl Counted {
     {
         &self.tree
     }
+
+    /// The source, by itself.
+    pub fn into_tree(self) -> Tree
+        ensures { result ≡ self }
+    {
+        let Counted { tree } = self;
+        tree
+    }
 }
 
 // By hand, so that crates above call it: what a derive drops is proved again in each of them.

@@ -85,16 +85,17 @@ impl Loopless {
         &self.nodes
     }
 
-    /// The places of its nodes, each behind those of the nodes that it calls; the source is given up.
-    pub fn into_nodes(self) -> Vec<usize>
-        ensures { IsOrder (calls_of_nodes (tree_seen self)) result.items }
+    /// The source, and the places of its nodes, each behind those of the nodes that it calls.
+    pub fn into_parts(self) -> (Tree, Vec<usize>)
+        ensures tree { result.0 ≡ self }
+        ensures nodes { IsOrder (calls_of_nodes (tree_seen self)) result.1.items }
     {
         let Loopless {
-            named: _,
+            named,
             types: _,
             nodes,
         } = self;
-        nodes
+        (named.into_tree(), nodes)
     }
 }
 

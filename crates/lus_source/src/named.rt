@@ -57,6 +57,18 @@ impl Named {
         self.counted.tree()
     }
 
+    /// The source, by itself.
+    pub fn into_tree(self) -> Tree
+        ensures { result ≡ self }
+    {
+        let Named {
+            counted,
+            names: _,
+            variables: _,
+        } = self;
+        counted.into_tree()
+    }
+
     /// Its names.
     pub fn names(&self) -> &Spaces
         ensures { spaces_seen result.now ≡ known (tree_seen self.now) [] }

@@ -17,7 +17,7 @@ use Rattle.lus_types.proofs.NodesMeant.{meant_nodes_resolved}
 
 pub meant_programs_are_sound : MeantProgramsAreSound
 meant_programs_are_sound t formed = record {
-  resolved = record { nodes = meant_nodes_resolved t formed; loopless = meant_loopless t formed.loopless.nodes; parts = formed.parts };
+  resolved = record { nodes = meant_nodes_resolved t formed; loopless = meant_loopless t formed.loopless.nodes };
   loopless = types_loopless t formed.loopless.types;
   fields = meant_fields t formed.counted;
   limited = meant_limited t formed;

@@ -5,7 +5,6 @@ mod constants;
 mod elaboration;
 mod laws;
 mod nodes;
-mod parts;
 mod passes;
 mod typing;
 

@@ -1,10 +1,8 @@
 //! The passes over a source without recursion, each with the number that it refuses by.
 
-ghost use Rattle.std.specs.Prelude.{◌≡◌, ◌≤◌, IfErr, IfOk, OnOk, map};
+ghost use Rattle.std.specs.Prelude.{◌≡◌, IfErr, IfOk, OnOk, map};
 ghost use Rattle.lus_syntax.specs.declared.refusal.RefusalNumber.TheVariants as numbers;
-ghost use Rattle.lus_syntax.specs.Limits.{most_parts};
 ghost use Rattle.lus_syntax.specs.View.{tree_seen};
-ghost use Rattle.lus_program.specs.Parts.{program_parts};
 ghost use Rattle.lus_program.specs.View.{node_of, program_seen};
 ghost use Rattle.lus_values.specs.Lists.{Each};
 ghost use Rattle.lus_source.specs.Meaning.{node_meant, program_of};
@@ -14,7 +12,6 @@ ghost use Rattle.lus_source.specs.ScopeView.{Judged};
 
 use crate::constants::check_constants;
 use crate::nodes::node;
-use crate::parts::check_parts;
 use lus_program::{Node, Program};
 use lus_source::{Fault, Tabled};
 use lus_syntax::{Refusal, RefusalNumber};
@@ -29,17 +26,6 @@ pub fn types(alloc: Global, tabled: Tabled<'_>) -> Result<Program, Refusal>
     match program(alloc, tabled) {
         Ok(program) => Ok(program),
         Err(fault) => Err(fault.refusal(RefusalNumber::Type)),
-    }
-}
-
-/// Checks the parts of a program.
-pub fn parts(program: &Program) -> Result<(), Refusal>
-    ensures ok { OnOk result (program_parts (program_seen program.now) ≤ most_parts) }
-    ensures refused { IfErr result (λ e. (program_parts (program_seen program.now) ≤ most_parts → ⊥) × (e.number ≡ numbers.Limit)) }
-{
-    match check_parts(program) {
-        Ok(_) => Ok(()),
-        Err(place) => Err(Fault::At(place).refusal(RefusalNumber::Limit)),
     }
 }
 

@@ -7,18 +7,19 @@ ghost use Rattle.lus_program.specs.View.{program_seen};
 ghost use Rattle.lus_source.specs.Meaning.{program_of};
 ghost use Rattle.lus_source.specs.Refusals.{FirstFails, WellFormed};
 
-use crate::passes::{parts, types};
+use crate::passes::types;
 use lus_source::{check_counts, check_names, check_recursion, check_sizes, tables};
 use lus_syntax::{Refusal, Tree};
-use lus_typing::Typed;
+use lus_typing::{Sound, Typed};
 use std::alloc::Global;
 
-/// Checks a source against the limits of its declarations, then its names, recursion, the limits of sizes, types, and the
-/// limit of parts, each over the whole source; gives the program that it means. Refuses by the number of the
-/// first of these that fails (E10, E4, E9, E10, E5, E10) at a place of a fault of it, or out of memory (E11).
+/// Checks a source against the limits of its declarations, then its names, recursion, the limits of sizes, and types, each
+/// over the whole source; gives it back with the program that it means. Refuses by the number of the first of these that
+/// fails (E10, E4, E9, E10, E5) at a place of a fault of it, or out of memory (E11).
 pub fn check_types(alloc: Global, tree: Tree) -> Result<Typed, Refusal>
     ensures ok { OnOk result (WellFormed (tree_seen tree)) }
-    ensures means { IfOk result (λ typed. program_seen typed ≡ program_of (tree_seen tree)) }
+    ensures same { IfOk result (λ typed. typed.tree ≡ tree) }
+    ensures means { IfOk result (λ typed. program_seen typed.program ≡ program_of (tree_seen tree)) }
     ensures refused { IfErr result (λ e. e.number ≢ numbers.Memory → FirstFails (tree_seen tree) e.number) }
 {
     let counted = check_counts(tree)?;
@@ -27,6 +28,6 @@ pub fn check_types(alloc: Global, tree: Tree) -> Result<Typed, Refusal>
     let tabled = tables(alloc, &loopless)?;
     let leaves = check_sizes(alloc, &tabled)?;
     let program = types(alloc, tabled)?;
-    parts(&program)?;
-    Ok(Typed::new(program, loopless.into_nodes(), leaves))
+    let (tree, nodes) = loopless.into_parts();
+    Ok(Typed::new(tree, Sound::new(program, nodes, leaves)))
 }

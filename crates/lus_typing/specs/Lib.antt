@@ -4,3 +4,4 @@ pub mod Given
 pub mod Sound
 pub mod Leaves
 pub mod Refusals
+pub mod TypedPrograms

@@ -9,12 +9,10 @@ use Rattle.lus_values.specs.declared.operator.Operator.{Operator}
 use Rattle.lus_values.specs.declared.operator.Operator.TheVariants as operators
 use Rattle.lus_values.specs.Lists.{item, Each, Below}
 use Rattle.lus_values.specs.Operators.{shape}
-use Rattle.lus_syntax.specs.Limits.{most_parts}
 use Rattle.lus_program.specs.declared.expr.Test.{Test}
 use Rattle.lus_program.specs.declared.types.Kind.{Kind}
 use Rattle.lus_program.specs.declared.types.Kind.TheVariants as kinds
 use Rattle.lus_program.specs.Programs.{Expression, literal, variable, operate, pre, arrow, when, merge, call, Operands, none, more, calls, numbered, Declared, Variable, Equation, Node, Program}
-use Rattle.lus_program.specs.Parts.{program_parts}
 use Rattle.lus_graph.specs.Ways.{Uses, HasNoWayBack}
 use Rattle.lus_typing.specs.Kinds.{same, all_same, where_true, alike, choice_kind, value_kind, the_one, common_kind, count, fields_in, constructors_in, nothing_declared}
 
@@ -168,8 +166,7 @@ abbrev mutual
 abbrev pub program_uses : Program → Uses
 program_uses p = map (λ f. flat_map (λ q. nodes_called q.right) f.equations) p.nodes
 
--- each node is well typed and defines its variables, none calls itself, directly or round, and the parts are few
+-- each node is well typed and defines its variables, and none calls itself, directly or round
 pub record Resolved (p : Program) : Type 0 where
   pub nodes : Each (NodeResolved p) p.nodes
   pub loopless : HasNoWayBack (program_uses p)
-  pub parts : program_parts p ≤ most_parts

@@ -1,85 +1,65 @@
-//! Typed programs.
+//! Typed sources.
 
 ghost use Rattle.std.specs.Prelude.{◌≡◌};
-ghost use Rattle.lus_graph.specs.Ways.{HasNoWayBack, IsOrder};
-ghost use Rattle.lus_program.specs.View.{program_seen};
-ghost use Rattle.lus_typing.specs.Leaves.{AreTheLeaves};
-ghost use Rattle.lus_typing.specs.Resolved.{Resolved, program_uses};
-ghost use Rattle.lus_typing.specs.Sound.{AreFound, HaveFields, IsLimited, type_uses};
 
-use lus_program::Program;
+use crate::sound::Sound;
+use lus_syntax::Tree;
 use std::marker::Model;
 
-/// A program that keeps the rules of names, recursion, limits and types, with what was found of it on the way. Contracts see
-/// it as that program.
+/// A source's tree, and the sound program that it means. Contracts see both.
 pub struct Typed {
-    program: Program,
-    nodes: Vec<usize>,
-    leaves: Vec<u32>,
+    tree: Tree,
+    sound: Sound,
 }
 
 impl Model for Typed {
     ghost use Rattle.std.specs.Coded.{codes};
+    ghost use Rattle.lus_syntax.specs.contracts.tree.Expr as source_expr;
     ghost use Rattle.lus_program.specs.contracts.expr.Expr as program_expr;
-    ghost use Rattle.lus_program.specs.declared.node.Program.{Program as StoredProgram};
-    ghost use Rattle.lus_program.specs.View.{program_seen};
-    ghost use Rattle.lus_typing.specs.Sound.{AreFound};
+    ghost use Rattle.lus_typing.specs.TypedPrograms.{TypedProgram};
 
-    ghost Value = { StoredProgram };
+    ghost Value = { TypedProgram };
 
-    ghost coded = { Prim.hlevel (codes, program_expr.the_row.coded) };
+    ghost coded = { Prim.hlevel (codes, source_expr.the_row.coded, program_expr.the_row.coded) };
 
-    ghost view = { λ t. t.program };
-
-    ghost invariant = { λ t. AreFound (program_seen t.program) t.nodes.items t.leaves.items };
+    ghost view = { λ t. record { tree = t.tree; program = t.sound } };
 }
 
 impl Typed {
-    /// A program that keeps the rules, its nodes each behind those that it calls, and the leaves of its types.
-    pub fn new(program: Program, nodes: Vec<usize>, leaves: Vec<u32>) -> Typed
-        requires { AreFound (program_seen program) nodes.items leaves.items }
-        ensures { result ≡ program }
+    /// A source with its program.
+    pub fn new(tree: Tree, sound: Sound) -> Typed
+        ensures tree { result.tree ≡ tree }
+        ensures program { result.program ≡ sound }
     {
-        Typed {
-            program,
-            nodes,
-            leaves,
-        }
+        Typed { tree, sound }
     }
 
-    /// The program.
-    pub fn program(&self) -> &Program
-        ensures same { result.now ≡ self.now }
-        ensures resolved { Resolved (program_seen result.now) }
-        ensures loopless { HasNoWayBack (type_uses (program_seen result.now)) }
-        ensures fields { HaveFields (program_seen result.now) }
-        ensures limited { IsLimited (program_seen result.now) }
+    /// The source.
+    pub fn tree(&self) -> &Tree
+        ensures { result.now ≡ self.now.tree }
     {
-        &self.program
+        &self.tree
     }
 
-    /// The places of its nodes, each behind those of the nodes that it calls.
-    pub fn nodes(&self) -> &[usize]
-        ensures { IsOrder (program_uses (program_seen self.now)) result.now }
+    /// The program that it means.
+    pub fn sound(&self) -> &Sound
+        ensures { result.now ≡ self.now.program }
     {
-        &self.nodes
+        &self.sound
     }
 
-    /// The leaves of its declared types, one by one.
-    pub fn leaves(&self) -> &[u32]
-        ensures { AreTheLeaves (program_seen self.now) result.now }
+    /// The program that it means; the source is given up.
+    pub fn into_sound(self) -> Sound
+        ensures { result ≡ self.program }
     {
-        &self.leaves
+        let Typed { tree: _, sound } = self;
+        sound
     }
 }
 
 // By hand, so that crates above call it: what a derive drops is proved again in each of them.
 impl Drop for Typed {
     fn drop(self) {
-        let Typed {
-            program: _,
-            nodes: _,
-            leaves: _,
-        } = self;
+        let Typed { tree: _, sound: _ } = self;
     }
 }

@@ -7,7 +7,8 @@ use Rattle.lus_syntax.specs.Limits.{most_cells}
 use Rattle.lus_streams.proofs.Lists.{each_item}
 use Rattle.lus_cells.specs.Cells.{AreStateCells, HaveLeaves}
 use Rattle.lus_code.specs.Codes.{IsTranslated}
-use Rattle.lus_code.proofs.FewNodes.{kept_to, lefts_one, variables_few}
+use Rattle.lus_normal.proofs.Narrow.{normal_variables_few}
+use Rattle.lus_code.proofs.NormalForms.{kept_to, lefts_one}
 use Rattle.lus_code.proofs.MadeClasses.{as_many}
 use Rattle.lus_code.proofs.code.translate.Goals as goal
 
@@ -17,7 +18,7 @@ classes_of_nodes-requires-clause-source c =
     record {
       source = program_seen p;
       new_parts = λ g. node_taken (program_seen p) (node_at (program_seen p) g);
-      checked = c.typed_of.ensures.checked;
+      checked = c.sound_of.ensures.checked;
       normal = c.program.ensures.normal;
     }
 
@@ -26,27 +27,27 @@ classes_of_nodes-requires-clause-small c =
     let p = c.args.normal.source.program in
     let q = c.program.result.now in
     let cells = c.in_ok-cells.cells.items in
-    let given : c.typed_of.result.now ≡ p = c.typed_of.ensures.same in
+    let given : c.sound_of.result.now ≡ p = c.sound_of.ensures.same in
     let counted = subst (λ z. AreStateCells (program_seen z) cells) given c.in_ok-cells.ensures.ok in
     let leaves = subst (λ z. HaveLeaves (program_seen z)) given c.in_ok-cells.ensures.leaves in
-    let resolved = c.typed_of.ensures.checked.resolved in
-    let few = c.typed_of.ensures.limited in
+    let resolved = c.sound_of.ensures.checked.resolved in
+    let limited = c.sound_of.ensures.limited in
     let long = length-map q.nodes.items node_of ∙ as_many (program_seen p) p.nodes.items q.nodes.items c.program.ensures.made ∙ sym (length-map p.nodes.items node_of) in
-    let nodes = few.nodes in
+    let nodes = limited.nodes in
     record {
       counts = cells;
       kept = kept_to p q c.program.ensures.normal cells resolved leaves counted;
       few = λ g. each_item (λ n. n ≤ most_cells) 0 cells (omega arith) counted.few g;
       lefts = lefts_one p q resolved c.program.ensures.made;
       nodes = omega (arith, long, nodes);
-      variables = variables_few (program_seen p) (program_seen q) resolved few c.program.ensures.normal;
+      variables = normal_variables_few (program_seen p) (program_seen q) limited c.sound_of.ensures.few c.program.ensures.normal;
     }
 
 pub invariant_of-result : goal.invariant_of-result
 invariant_of-result c =
     let p = c.args.normal.source.program in
     let q = c.program.result.now in
-    let given : c.typed_of.result.now ≡ p = c.typed_of.ensures.same in
+    let given : c.sound_of.result.now ≡ p = c.sound_of.ensures.same in
     let same : c.into_source-source.result.program ≡ p = ap (λ s. s.program) c.into_source-source.ensures in
     let long = length-map q.nodes.items node_of ∙ as_many (program_seen p) p.nodes.items q.nodes.items c.program.ensures.made ∙ sym (length-map p.nodes.items node_of) in
     let cells = c.in_ok-cells.cells.items in
@@ -64,5 +65,5 @@ invariant_of-result c =
       size = c.in_ok-classes.ensures.size ∙ long;
       ready = c.in_ok-classes.ensures.ready;
       counted = counted;
-      rows = c.in_ok-classes.ensures.long cells (kept_to p q c.program.ensures.normal cells c.typed_of.ensures.checked.resolved leaves counted);
+      rows = c.in_ok-classes.ensures.long cells (kept_to p q c.program.ensures.normal cells c.sound_of.ensures.checked.resolved leaves counted);
     })

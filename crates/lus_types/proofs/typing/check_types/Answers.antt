@@ -1,18 +1,16 @@
 -- What each check shows holds of the tree that all of them are given.
-use Rattle.std.proofs.Common.{◌≡◌, ◌≢◌, ◌∙◌, ◌≤◌, inl, inr, subst, sym, Result}
+use Rattle.std.proofs.Common.{◌≡◌, ◌≢◌, ◌∙◌, inr, sym, subst, Result}
 use Rattle.std.specs.Prelude.{IfErr}
 use Rattle.std.specs.Result.{IsErrAnd}
 use Rattle.std.proofs.lemmas.Result.{err_from_is_err_and}
 use Rattle.lus_syntax.specs.declared.refusal.Refusal.{Refusal}
 use Rattle.lus_syntax.specs.declared.refusal.RefusalNumber.{RefusalNumber}
 use Rattle.lus_syntax.specs.declared.refusal.RefusalNumber.TheVariants as numbers
-use Rattle.lus_syntax.specs.Limits.{most_parts}
 use Rattle.lus_syntax.specs.Trees.{Tree}
 use Rattle.lus_syntax.specs.View.{tree_seen}
-use Rattle.lus_program.specs.Parts.{program_parts}
 use Rattle.lus_program.specs.Programs.{Program}
 use Rattle.lus_program.specs.View.{program_seen}
-use Rattle.lus_source.specs.Refusals.{FirstFails, HasFewParts, WellFormed}
+use Rattle.lus_source.specs.Refusals.{FirstFails, WellFormed}
 use Rattle.lus_typing.specs.Refusals.{RefusesFor}
 use Rattle.lus_types.proofs.ProgramsMeant.{found}
 use Rattle.lus_types.proofs.typing.check_types.Goals as goal
@@ -28,7 +26,7 @@ returns-in_err-leaves-clause-refused c =
     let counted = c.in_ok-counted.ensures in
     let named = rw counted.same at c.in_ok-named.ensures in
     let loopless = rw named.same at c.in_ok-loopless.ensures in
-    first_fails (tree_seen c.args.tree) numbers.Limit (λ wrong. inr (inl (counted.ok, named.ok, loopless.ok, wrong)))
+    first_fails (tree_seen c.args.tree) numbers.Limit (λ wrong. inr (counted.ok, named.ok, loopless.ok, wrong))
     c.from_residual-in_err-leaves.result c.in_err-leaves.field-0.0 c.from_residual-in_err-leaves.ensures.1 (rw (c.in_ok-tabled.ensures ∙ loopless.same) at c.in_err-leaves.ensures.refused)
 
 pub returns-in_err-program-clause-refused : goal.returns-in_err-program-clause-refused
@@ -40,20 +38,6 @@ returns-in_err-program-clause-refused c =
     let bounded = rw same at c.in_ok-leaves.ensures.ok in
     first_fails (tree_seen c.args.tree) numbers.Type (λ wrong. (counted.ok, named.ok, loopless.ok, bounded, wrong))
     c.from_residual-in_err-program.result c.in_err-program.field-0.0 c.from_residual-in_err-program.ensures.1 (rw same at c.in_err-program.ensures.refused)
-
-pub returns-in_err-parts-clause-refused : goal.returns-in_err-parts-clause-refused
-returns-in_err-parts-clause-refused c =
-    let p = tree_seen c.args.tree in
-    let counted = c.in_ok-counted.ensures in
-    let named = rw counted.same at c.in_ok-named.ensures in
-    let loopless = rw named.same at c.in_ok-loopless.ensures in
-    let same = c.in_ok-tabled.ensures ∙ loopless.same in
-    let bounded = rw same at c.in_ok-leaves.ensures.ok in
-    let program = rw same at c.in_ok-program.ensures in
-    let refused = c.in_err-parts.ensures.refused in
-    let wrong : HasFewParts p → ⊥ = subst (λ (q : Program). program_parts q ≤ most_parts → ⊥) program.means refused.0 in
-    first_fails p numbers.Limit (λ wrong. inr (inr (counted.ok, named.ok, loopless.ok, bounded, program.ok, wrong)))
-    c.from_residual-in_err-parts.result c.in_err-parts.field-0.0 c.from_residual-in_err-parts.ensures.1 (λ other. (wrong, refused.1))
 
 pub returns-clause-ok : goal.returns-clause-ok
 returns-clause-ok c =
@@ -68,7 +52,6 @@ returns-clause-ok c =
       loopless = loopless.ok;
       bounded = rw same at c.in_ok-leaves.ensures.ok;
       typed = program.ok;
-      parts = subst (λ (q : Program). program_parts q ≤ most_parts) program.means c.in_ok-parts.ensures.ok;
     }
 
 pub new-requires : goal.new-requires
@@ -85,6 +68,5 @@ new-requires c =
       loopless = loopless.ok;
       bounded = leaves.ok;
       typed = program.ok;
-      parts = subst (λ (q : Program). program_parts q ≤ most_parts) program.means c.in_ok-parts.ensures.ok;
     } in
-    found (tree_seen c.args.tree) (program_seen c.in_ok-program.program) c.into_nodes.result.items c.in_ok-leaves.leaves.items formed program.means (rw loopless.same at c.into_nodes.ensures) leaves.leaves
+    found (tree_seen c.args.tree) (program_seen c.in_ok-program.program) c.into_parts-tree.result.1.items c.in_ok-leaves.leaves.items formed program.means (rw loopless.same at c.into_parts-tree.ensures.nodes) leaves.leaves

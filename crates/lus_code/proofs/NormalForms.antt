@@ -1,26 +1,19 @@
--- The nodes of a normal form are few, with few variables, and each right side that is no call gives one variable.
-use Rattle.std.proofs.Common.{◌≡◌, ℕ, suc, ◌+◌, ◌≤◌, List, [], ◌∷◌, ◌++◌, length, length-append, map, sum_by, Some, refl, sym, ap, subst, arith}
+-- Each right side of a normal form that is no call gives one variable, and its nodes keep to the state cells of the source.
+use Rattle.std.proofs.Common.{◌≡◌, ℕ, suc, ◌+◌, ◌≤◌, List, [], ◌∷◌, ◌++◌, length, map, Some, sym, ap, subst, arith}
 use Rattle.std.specs.Prelude.{option_map}
-use Rattle.std.proofs.lemmas.List.Sums.{sum_by-cons}
 use Rattle.lus_values.specs.Lists.{Each}
-use Rattle.lus_syntax.specs.Limits.{most_parts, most_variables}
 use Rattle.lus_program.specs.declared.types.Kind.{Kind}
 use Rattle.lus_program.specs.declared.node.Equation.{Equation as StoredEquation}
 use Rattle.lus_program.specs.declared.node.Node.{Node as StoredNode}
 use Rattle.lus_program.specs.declared.node.Program.{Program as StoredProgram}
-use Rattle.lus_program.specs.Parts.{node_parts}
 use Rattle.lus_program.specs.Programs.{Expression, call, calls, numbered, Equation, Node, Program, node_at, empty_node}
 use Rattle.lus_program.specs.View.{expression_of, equations_from, node_of, program_seen}
-use Rattle.lus_streams.specs.Equations.{equation_clock}
 use Rattle.lus_streams.proofs.Lists.{each_item}
 use Rattle.lus_typing.specs.Resolved.{EquationFits, NodeResolved, Resolved, kind_in, kinds_given_in}
-use Rattle.lus_typing.specs.Sound.{IsLimited}
 use Rattle.lus_typing.proofs.Options.{map_gives}
 use Rattle.lus_typing.proofs.TypedParts.{fits_given}
-use Rattle.lus_normal_form.specs.Forms.{added_equations, equations_count, normal_equations, right_count, right_form, right_out}
-use Rattle.lus_normal_form.specs.Parts.{equations_taken, node_taken, right_taken}
-use Rattle.lus_normal_form.proofs.Counted.{taken_length}
-use Rattle.lus_normal_form.proofs.NewAreFew.{new_are_few}
+use Rattle.lus_normal_form.specs.Forms.{added_equations, normal_equations, right_count, right_form, right_out}
+use Rattle.lus_normal_form.specs.Parts.{node_taken}
 use Rattle.lus_normal.specs.Laws.{AreMadeOf, IsMadeOf, IsNormalProgram}
 use Rattle.lus_normal.specs.View.{equations_seen}
 use Rattle.lus_turns.specs.Turned.{HasOneLeft, HaveOneLeft}
@@ -107,33 +100,9 @@ all_one p (f ∷ fs) fs' resolved made =
 pub lefts_one : (p p' : StoredProgram) → Resolved (program_seen p) → AreMadeOf (program_seen p) p.nodes.items p'.nodes.items → (g : ℕ) → HaveOneLeft (node_at (program_seen p') g)
 lefts_one p p' resolved made g = each_item HaveOneLeft empty_node (map node_of p'.nodes.items) tt (all_one (program_seen p) p.nodes.items p'.nodes.items resolved.nodes made) g
 
--- ---- numbers
+-- ---- state cells
 
-taken_count : (p : Program) (f : Node) (qs : List Equation) → length (equations_taken p f qs) ≡ equations_count qs
-taken_count p f [] = refl
-taken_count p f (q ∷ qs) =
-    let k = equation_clock f q in
-    let sum = length-append (right_taken p q.right k) (equations_taken p f qs) in
-    let first = taken_length p q.right k in
-    let rest = taken_count p f qs in
-    omega (arith, sum, first, rest)
-
-within_sum : {X : Type 0} (f : X → ℕ) (xs : List X) (most : ℕ) → sum_by f xs ≤ most → Each (λ x. f x ≤ most) xs
-within_sum f [] most h = tt
-within_sum f (x ∷ xs) most h = let sum = sum_by-cons f x xs in (omega (arith, sum, h), within_sum f xs most (omega (arith, sum, h)))
-
--- the normal form of a node has at most as many more variables as the node has parts
-pub variables_few : (p p' : Program) → Resolved p → IsLimited p → IsNormalProgram p p' → (g : ℕ) → length (node_at p' g).variables ≤ most_variables + most_parts
-variables_few p p' resolved few normal g =
-    let f = node_at p g in
-    let own : length f.variables ≤ most_variables = each_item (λ h. length h.variables ≤ most_variables) empty_node p.nodes (omega arith) few.variables g in
-    let parts : node_parts f ≤ most_parts = each_item (λ h. node_parts h ≤ most_parts) empty_node p.nodes (omega arith) (within_sum node_parts p.nodes most_parts resolved.parts) g in
-    let new = new_are_few f in
-    let taken = taken_count p f f.equations in
-    let width = (normal g).width in
-    omega (arith, own, parts, new, taken, width)
-
--- and its nodes keep to the state cells of the source
+-- the nodes of a normal form keep to the state cells of the source
 pub kept_to : (p p' : StoredProgram) → IsNormalProgram (program_seen p) (program_seen p') → (cells : List ℕ) → Resolved (program_seen p) → HaveLeaves (program_seen p) → AreStateCells (program_seen p) cells
     → NodesKeepTo cells (program_seen p')
 kept_to p p' normal cells resolved leaves counted =
