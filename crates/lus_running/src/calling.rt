@@ -1,6 +1,8 @@
 //! The calls of nodes, and what they need and give.
 
-ghost use Rattle.std.specs.Prelude.{length, map};
+ghost use Rattle.std.specs.Prelude.{◌≡◌, length, map};
+ghost use Rattle.lus_classes.specs.Steps.{is_on_row};
+ghost use Rattle.lus_flat_classes.specs.Looks.{newest};
 ghost use Rattle.lus_instructions.specs.Followed.{cell_of};
 ghost use Rattle.lus_running.specs.Calls.{CanMeet, IsCallAt, IsCalled, IsPlace, MakesCallAt};
 ghost use Rattle.lus_running.specs.Runs.{RestsTo};
@@ -9,6 +11,7 @@ ghost use Rattle.lus_running.specs.Settings.{FitsClass, HasCells};
 use crate::error::Failure;
 use crate::keeping::{copy_cells, copy_flags};
 use crate::parts::part;
+use crate::presence::is_on;
 use crate::resetting::forget;
 use crate::setting::Setting;
 use lus_flat_classes::{Call, Class, Step, Target};
@@ -58,6 +61,14 @@ pub fn called<'a, T: Held>(on: &Setting<'a, T>, call: &Call) -> Callee<'a, T>
         first: (first, first + firsts),
         variable: (variable, variable + call.extent.variables as usize),
     }
+}
+
+/// Whether a called node has an instant, by the row of its caller: where the base of the call is present.
+#[inline(always)]
+pub fn is_called<T: Held>(call: &Call, row: &[T]) -> bool
+    ensures { result ≡ is_on_row (newest call.now.base) (map T.entry row.now) }
+{
+    is_on(call.base, row)
 }
 
 /// A called node that does not run: its variables have no entries, and it keeps what it kept.

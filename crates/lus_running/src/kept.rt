@@ -20,6 +20,7 @@ pub struct Kept<T> {
 
 impl<T: Held> Kept<T> {
     /// So many of each, at their start.
+    #[tactic(auto, using(crate::proofs::Cells::filled_cells))]
     pub fn fresh(alloc: Global, cells: usize, firsts: usize) -> Result<Kept<T>, Memory>
         ensures { IfOk result (λ k. AtStart T.entry cells firsts k) }
     {

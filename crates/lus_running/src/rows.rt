@@ -1,8 +1,8 @@
 //! Rows of what an instance keeps, of one kind.
 
-ghost use Rattle.std.specs.Prelude.{◌↔◌, ℕ, IsTrue, IfOk, OnErr, OnOk};
+ghost use Rattle.std.specs.Prelude.{◌≡◌, ◌↔◌, ℕ, false, true, IsTrue, IfOk, OnErr, OnOk};
 ghost use Rattle.lus_running.specs.Instances.{CanStep, IsBack, IsCopy, IsLong, IsNew, IsReset, KeepsSame, LeavesBehind};
-ghost use Rattle.lus_running.specs.Instances.{MakesStep, rows_seen};
+ghost use Rattle.lus_running.specs.Instances.{MakesStep, exchanged, rows_seen};
 
 use crate::error::Failure;
 use crate::kept::Kept;
@@ -83,9 +83,19 @@ impl<T: Held> Rows<T> {
             cells: &self.kept.cells,
             firsts: &self.kept.firsts,
         };
-        let answer = self.room.answer(&on, inputs.items(), outputs)?;
-        swap(&mut self.kept, &mut self.room.next);
-        Ok(answer)
+        let answer = self.room.answer(&on, inputs.items(), outputs);
+        self.take_over(answer.is_ok());
+        answer
+    }
+
+    /// Keeps what an instant left for the next one, if it was made; otherwise what was kept stays.
+    fn take_over(&mut self, is_made: bool)
+        ensures made { is_made ≡ true → self.new ≡ exchanged self.old }
+        ensures not { is_made ≡ false → self.new ≡ self.old }
+    {
+        if is_made {
+            swap(&mut self.kept, &mut self.room.next);
+        }
     }
 
     /// As they were before the step that was their last call; takes no memory.
