@@ -1,13 +1,10 @@
 //! Scripts: the instances of a program's nodes, and the callers with their calls, that bytes of JSON are.
 #![tactic(auto)]
 
-mod document;
 mod form;
 mod known;
 mod limits;
 mod names;
-mod number;
-mod parsing;
 mod reading;
 mod refusal;
 mod request;
