@@ -1,12 +1,12 @@
 -- Scripts of small JSON values, worked by computation, with a value for each refusal.
-use Rattle.std.proofs.Common.{◌≡◌, ℕ, Bool, true, false, pos, List, [], ◌∷◌, Some, None, Ok, Err, codes, refl}
-use Rattle.serde_json.specs.Data.{Data, null, boolean, number, string, array, object, unsigned, Items, no_items, item, Members, no_members, member}
+use Rattle.std.proofs.Common.{◌≡◌, ℕ, true, false, [], ◌∷◌, Some, None, Ok, Err, codes, refl}
+use Rattle.serde_json.specs.Data.{Data, null, boolean, number, string, array, object, unsigned, no_items, item, no_members, member}
 use Rattle.lus_values.specs.Names.{Text, Names}
-use Rattle.lus_values.specs.Values.{int, enum, Row}
+use Rattle.lus_values.specs.Values.{enum}
 use Rattle.lus_syntax.specs.declared.tree.NodeKind.TheVariants as node_kinds
 use Rattle.lus_program.specs.declared.types.Kind.TheVariants.{Int, Enum}
-use Rattle.lus_program.specs.Programs.{Declared, enumeration, Variable, Node, Program}
-use Rattle.lus_requests.specs.declared.request.Request.TheVariants.{Step, Reset, Save, Restore, Burst}
+use Rattle.lus_program.specs.Programs.{enumeration, Program}
+use Rattle.lus_requests.specs.declared.request.Request.TheVariants.{Step, Reset, Save, Restore}
 use Rattle.lus_scripts.specs.Scripts.{scripts_of, instance_of, value_of_json}
 use Rattle.lus_scripts.specs.declared.refusal.ScriptRefusal.TheVariants.{Form, Unknown, Double}
 

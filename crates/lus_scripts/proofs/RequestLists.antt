@@ -1,5 +1,5 @@
 -- Requests that are read by themselves.
-use Rattle.std.proofs.Common.{◌≡◌, ◌∙◌, ℕ, ap, sym, List, length, map, min, take, Option, Some, None, option_map, option_and_then, Result, Ok, Err, IfOk, IfErr, IsUtf8, ◌⊎◌, inl, inr}
+use Rattle.std.proofs.Common.{◌≡◌, ◌∙◌, ℕ, ap, sym, List, length, map, min, take, Option, Some, None, option_and_then, Result, Ok, Err, IfOk, IfErr, IsUtf8, ◌⊎◌, inl, inr}
 use Rattle.std.proofs.lemmas.List.{take-map, take_min}
 use Rattle.serde_json.specs.Data.{Data}
 use Rattle.serde_json.specs.Read.{read}
@@ -7,7 +7,7 @@ use Rattle.lus_values.specs.Names.{Text, Names}
 use Rattle.lus_program.specs.Programs.{Node, Program}
 use Rattle.lus_requests.specs.declared.request.Request.{Request}
 use Rattle.lus_scripts.specs.declared.refusal.ScriptRefusal.{ScriptRefusal}
-use Rattle.lus_scripts.specs.declared.refusal.ScriptRefusal.TheVariants.{Memory}
+use Rattle.lus_scripts.specs.declared.refusal.ScriptRefusal.TheVariants.{Json, Memory}
 use Rattle.lus_scripts.specs.Requests.{request_alone, request_in}
 
 -- as many of the first as there are
@@ -34,5 +34,6 @@ module _ (p : Program) (names : Names) (f : Option Node) (text : Text) where
   request_refused d g (Err e) some same is =
       elim is [ inl memory ↦ inl memory | inr none ↦ inr (λ utf8. request_read d None g some.1 same none) ]
 
-  pub request_no_json : (e : ScriptRefusal) → (e ≡ Memory) ⊎ (IsUtf8 text → read text ≡ None) → (e ≡ Memory) ⊎ (IsUtf8 text → request_in p names f text ≡ None)
-  request_no_json e is = elim is [ inl memory ↦ inl memory | inr none ↦ inr (λ utf8. request_unread (none utf8)) ]
+  pub request_no_json : (e : ScriptRefusal) → (e ≡ Memory) ⊎ ((e ≡ Json) × (IsUtf8 text → read text ≡ None))
+      → (e ≡ Memory) ⊎ (IsUtf8 text → request_in p names f text ≡ None)
+  request_no_json e is = elim is [ inl memory ↦ inl memory | inr none ↦ inr (λ utf8. request_unread (none.1 utf8)) ]

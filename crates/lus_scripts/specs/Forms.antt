@@ -1,4 +1,5 @@
--- The form of scripts: what a JSON value says before its names are looked up and the values of its steps are read.
+-- The form of scripts (own): what a JSON value says before its names are looked up and the values of its steps are read. JSON is what
+-- `serde_json` reads: an object has each key once, with the last value that the text gives it.
 use Rattle.std.specs.Prelude.{◌==◌, ◌&&◌, ◌||◌, ℕ, Bool, false, List, [], ◌∷◌, length, nat_le, codes}
 use Rattle.std.specs.Prelude.{Option, Some, None, is_some, option_map, option_and_then, unwrap_or, if◌then◌else◌}
 use Rattle.std.specs.List.{list_all}
@@ -31,7 +32,7 @@ as_list d = option_map listed (as_array d)
 abbrev pub members_count : Data → ℕ
 members_count d = option_map_or members_len (as_object d) 0
 
--- the values of an object with exactly these two keys
+-- the values of an object with exactly these two keys: it has two members, and they are at these
 abbrev pub two_members : Text → Text → Data → Option (Data × Data)
 two_members a b d = if members_count d == 2 then both (get a d) (get b d) else None
 

@@ -1,4 +1,4 @@
--- One request to a node, as a JSON value says it by itself: `[18, 19, 22]`, `{"reset": true}`, `{"inputs": {"low": 19}}`.
+-- One request to a node (own), as a JSON value says it by itself: `[18, 19, 22]`, `{"reset": true}`, `{"inputs": {"low": 19}}`.
 use Rattle.std.specs.Prelude.{◌==◌, ◌&&◌, Bool, List, [], take, Option, Some, None, is_some, option_map, option_and_then, codes, if◌then◌else◌}
 use Rattle.std.specs.List.{count_by}
 use Rattle.serde_json.specs.Data.{Data}
@@ -33,7 +33,7 @@ inputs_of (Some f) = take f.inputs f.variables
 abbrev pub is_given : Data → Variable → Bool
 is_given given v = is_some (get v.name given)
 
--- it is an object, and each of its keys an input's name
+-- it is an object, and each of its keys an input's name: as many inputs are given as it has members
 abbrev pub names_inputs : List Variable → Data → Bool
 names_inputs inputs given = is_some (as_object given) && (members_count given == count_by (is_given given) inputs)
 

@@ -1,4 +1,4 @@
--- The scripts that a JSON value is, for a program: its names are looked up, and the values of its steps are read.
+-- The scripts that a JSON value is, for a program (own): its names are looked up, and the values of its steps are read.
 use Rattle.std.specs.Prelude.{◌==◌, ◌&&◌, ◌+◌, ◌<◌, ℕ, suc, Bool, true, false, not, List, [], ◌∷◌, map, length, take, nat_le, nat_lt, position, slice_get}
 use Rattle.std.specs.Prelude.{Option, Some, None, is_some, option_map, option_and_then, if◌then◌else◌, Result, Ok, Err}
 use Rattle.std.specs.List.{list_all, list_any}
@@ -67,7 +67,7 @@ abbrev pub fields_at : Program → Option Kind → Option (List Field)
 fields_at p (Some (Struct t)) = fields_in (slice_get p.types t)
 fields_at p _ = None
 
--- the value of an object with exactly these fields, each read by its type
+-- the value of an object with exactly these fields, each read by its type: it has as many members as there are fields
 abbrev pub fields_value : (Option Kind → Data → Option Value) → Members → List Field → Option Value
 fields_value read ms fields =
     if members_len ms == length fields

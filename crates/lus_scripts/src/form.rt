@@ -47,7 +47,8 @@ pub(crate) struct Form<'v> {
     pub callers: Vec<CallerForm<'v>>,
 }
 
-pub(crate) fn as_list(value: &Value) -> Option<&[Value]>
+/// The items of a list.
+pub fn as_list(value: &Value) -> Option<&[Value]>
     ensures { option_map (λ items. map view items.now) result ≡ as_list (view value.now) }
 {
     let items = value.as_array()?;
@@ -65,7 +66,11 @@ pub(crate) fn member_count(value: &Value) -> usize
 }
 
 /// The values of an object with exactly these two keys.
-fn two_members<'v>(value: &'v Value, first: &str, second: &str) -> Option<(&'v Value, &'v Value)>
+pub fn two_members<'v>(
+    value: &'v Value,
+    first: &str,
+    second: &str,
+) -> Option<(&'v Value, &'v Value)>
     ensures { option_map (λ p. (view p.0.now, view p.1.now)) result ≡ two_members first.now second.now (view value.now) }
 {
     if member_count(value) != 2 {
@@ -104,7 +109,8 @@ fn starts_with_letter(bytes: &[u8]) -> bool
     }
 }
 
-fn is_name(text: &str) -> bool
+/// Whether a text is a name: a letter or `_`, and then letters, digits and `_`, of no more bytes than a name may have.
+pub fn is_name(text: &str) -> bool
     ensures { result ≡ is_name text.now }
 {
     let bytes = text.as_bytes();

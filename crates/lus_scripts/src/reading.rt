@@ -35,6 +35,22 @@ pub(crate) struct Scope<'p> {
     pub instances: &'p [Instance],
 }
 
+/// The value that bytes of JSON are.
+pub(crate) fn parse(alloc: Global, bytes: &[u8]) -> Result<Value, ScriptRefusal>
+    ensures ok { IfOk result (λ v. IsUtf8 bytes.now × (read bytes.now ≡ Some (view v))) }
+    ensures refused { IfErr result (λ e. (e ≡ ScriptRefusal.Memory)
+        ⊎ ((e ≡ ScriptRefusal.Json) × (IsUtf8 bytes.now → read bytes.now ≡ None))) }
+{
+    match Value::from_slice(alloc, bytes) {
+        Ok(json) => Ok(json),
+        Err(error) => Err(if error.is_memory() {
+            ScriptRefusal::Memory
+        } else {
+            ScriptRefusal::Json
+        }),
+    }
+}
+
 /// The node of the instance at this place.
 fn node_on(scope: Scope<'_>, on: usize) -> Option<&Node>
     ensures { option_map (λ f. node_of f.now) result ≡ node_on (scope_seen scope.entry) on }
@@ -226,12 +242,8 @@ pub fn read_scripts(
     if bytes.len() > MOST_BYTES {
         return Err(ScriptRefusal::Limit);
     }
-    match Value::from_slice(alloc, bytes) {
+    match parse(alloc, bytes) {
         Ok(json) => from_json(alloc, program, names, &json),
-        Err(error) => Err(if error.is_memory() {
-            ScriptRefusal::Memory
-        } else {
-            ScriptRefusal::Json
-        }),
+        Err(refusal) => Err(refusal),
     }
 }

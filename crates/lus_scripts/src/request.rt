@@ -11,7 +11,7 @@ ghost use Rattle.lus_scripts.specs.Requests.{asked_alone, inputs_in, inputs_of, 
 ghost use Rattle.lus_scripts.specs.View.{ask_seen};
 
 use crate::form::{Ask, as_list, member_count, read_ask};
-use crate::reading::{Scope, read_request as read_asked};
+use crate::reading::{Scope, parse, read_request as read_asked};
 use crate::refusal::ScriptRefusal;
 use crate::value::read_item;
 use indexmap::IndexSet;
@@ -169,21 +169,6 @@ fn read_alone(
     read_asked(alloc, scope, node, ask)
 }
 
-/// The value that a text of JSON is.
-fn parsed(alloc: Global, text: &[u8]) -> Result<Value, ScriptRefusal>
-    ensures ok { IfOk result (λ v. IsUtf8 text.now × (read text.now ≡ Some (view v))) }
-    ensures refused { IfErr result (λ e. (e ≡ ScriptRefusal.Memory) ⊎ (IsUtf8 text.now → read text.now ≡ None)) }
-{
-    match Value::from_slice(alloc, text) {
-        Ok(json) => Ok(json),
-        Err(error) => Err(if error.is_memory() {
-            ScriptRefusal::Memory
-        } else {
-            ScriptRefusal::Json
-        }),
-    }
-}
-
 fn node_at(program: &Program, node: NodeId) -> Option<&Node>
     ensures { option_map (λ f. node_of f.now) result ≡ slice_get (program_seen program.now).nodes node.0 }
 {
@@ -205,7 +190,7 @@ pub fn read_request(
     ensures refused { IfErr result (λ e. (e ≡ ScriptRefusal.Memory) ⊎ (IsUtf8 text.now
         → request_in (program_seen program.now) names.now (slice_get (program_seen program.now).nodes node.0) text.now ≡ None)) }
 {
-    match parsed(alloc, text) {
+    match parse(alloc, text) {
         Ok(json) => read_alone(alloc, program, names, node_at(program, node), &json),
         Err(refusal) => Err(refusal),
     }

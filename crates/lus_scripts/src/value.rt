@@ -127,8 +127,8 @@ fn read_typed(
     read_value(alloc, program, names, MOST_NESTING, kind, json)
 }
 
-/// An item of a step: null is absent.
-pub(crate) fn read_item(
+/// Reads an item of a step at the place of an input of this type, or where there is no input: null is absent. A refusal is `Form`.
+pub fn read_item(
     alloc: Global,
     program: &Program,
     names: &Names,
