@@ -1,14 +1,14 @@
 -- Bytes of scripts that are read up to one more than there may be are taken and refused as those left are.
 use Rattle.std.proofs.Common.{◌≡◌, ◌∙◌, ◌⊎◌, inl, inr, sym, ap, subst, ℕ, ◌+◌, ◌<◌, ◌≤◌, length, take, arith, Some, None, Result, Ok, Err, IfOk, IfErr, IsUtf8}
 use Rattle.std.proofs.lemmas.Bool.Decides.{leb_tells}
-use Rattle.json.specs.Json.{Json}
+use Rattle.serde_json.specs.Data.{Data}
+use Rattle.serde_json.specs.Read.{read}
 use Rattle.lus_values.specs.Names.{Names}
 use Rattle.lus_program.specs.Programs.{Program}
 use Rattle.lus_syntax.specs.Limits.{most_bytes}
 use Rattle.lus_callers.specs.MachineSpecs.Constructors.{names_of}
 use Rattle.lus_devices.specs.Devices.{Bytes}
 use Rattle.lus_host.specs.ScriptRefusals.{AreRefused, AreScripts, ScriptsRefused, are_too_long, are_no_json, are_refused}
-use Rattle.lus_scripts.specs.Documents.{read}
 use Rattle.lus_scripts.specs.Scripts.{Scripts, scripts_of}
 use Rattle.lus_scripts.specs.declared.refusal.ScriptRefusal.{ScriptRefusal}
 use Rattle.lus_scripts.specs.declared.refusal.ScriptRefusal.TheVariants as refusals
@@ -31,12 +31,12 @@ module _ (p : Program) (bytes : Bytes) where
       → (most_bytes < length bytes → e ≡ refusals.Limit)
       → (e ≡ refusals.Json → IsUtf8 bytes → read bytes ≡ None)
       → (length bytes ≤ most_bytes → (e ≡ refusals.Memory) ⊎ ((e ≡ refusals.Json)
-      ⊎ (IsUtf8 bytes × (d : Json) × (read bytes ≡ Some d) × (scripts_of p (names_of p) d ≡ Err e))))
+      ⊎ (IsUtf8 bytes × (d : Data) × (read bytes ≡ Some d) × (scripts_of p (names_of p) d ≡ Err e))))
       → AreRefused p bytes e
   unread e long json refused = sized (long_or_short most_bytes (length bytes))
     where
       why : length bytes ≤ most_bytes → (e ≡ refusals.Memory) ⊎ ((e ≡ refusals.Json)
-          ⊎ (IsUtf8 bytes × (d : Json) × (read bytes ≡ Some d) × (scripts_of p (names_of p) d ≡ Err e))) → AreRefused p bytes e
+          ⊎ (IsUtf8 bytes × (d : Data) × (read bytes ≡ Some d) × (scripts_of p (names_of p) d ≡ Err e))) → AreRefused p bytes e
       why short (inl is) = subst (AreRefused p bytes) (sym is) tt
       why short (inr (inl is)) = subst (AreRefused p bytes) (sym is) (are_no_json short (json is))
       why short (inr (inr r)) = refused_is e (are_refused short r.0 r.1 r.2 r.3)
@@ -48,7 +48,7 @@ module _ (p : Program) (bytes : Bytes) where
 -- what the clauses of reading say of bytes
 module _ (p : Program) (bytes : Bytes) (names : Names) (named : names ≡ names_of p) where
   pub read_are : {X : Type 0} (r : Result X ScriptRefusal) (seen : X → Scripts) → IfOk r (λ s. length bytes ≤ most_bytes) → IfOk r (λ s. IsUtf8 bytes)
-      → IfOk r (λ s. (d : Json) × (read bytes ≡ Some d) × (scripts_of p names d ≡ Ok (seen s))) → IfOk r (λ s. AreScripts p bytes (seen s))
+      → IfOk r (λ s. (d : Data) × (read bytes ≡ Some d) × (scripts_of p names d ≡ Ok (seen s))) → IfOk r (λ s. AreScripts p bytes (seen s))
   read_are (Ok s) seen short utf8 ok =
       record { size = short; utf8 = utf8; json = ok.0; reads = ok.1; means = ap (λ ns. scripts_of p ns ok.0) (sym named) ∙ ok.2 }
   read_are (Err e) seen short utf8 ok = tt
@@ -56,14 +56,14 @@ module _ (p : Program) (bytes : Bytes) (names : Names) (named : names ≡ names_
   pub read_refused : {X : Type 0} (r : Result X ScriptRefusal) → (most_bytes < length bytes → r ≡ Err refusals.Limit)
       → (r ≡ Err refusals.Json → IsUtf8 bytes → read bytes ≡ None)
       → (length bytes ≤ most_bytes → IfErr r (λ e. (e ≡ refusals.Memory) ⊎ ((e ≡ refusals.Json)
-      ⊎ (IsUtf8 bytes × (d : Json) × (read bytes ≡ Some d) × (scripts_of p names d ≡ Err e)))))
+      ⊎ (IsUtf8 bytes × (d : Data) × (read bytes ≡ Some d) × (scripts_of p names d ≡ Err e)))))
       → IfErr r (λ e. AreRefused p bytes e)
   read_refused (Ok s) long json refused = tt
   read_refused (Err e) long json refused =
       unread p bytes e (λ more. let same = long more in cc) (λ same. json (ap (λ x. Err x) same)) (λ short. go (refused short))
     where
-      go : (e ≡ refusals.Memory) ⊎ ((e ≡ refusals.Json) ⊎ (IsUtf8 bytes × (d : Json) × (read bytes ≡ Some d) × (scripts_of p names d ≡ Err e)))
-          → (e ≡ refusals.Memory) ⊎ ((e ≡ refusals.Json) ⊎ (IsUtf8 bytes × (d : Json) × (read bytes ≡ Some d) × (scripts_of p (names_of p) d ≡ Err e)))
+      go : (e ≡ refusals.Memory) ⊎ ((e ≡ refusals.Json) ⊎ (IsUtf8 bytes × (d : Data) × (read bytes ≡ Some d) × (scripts_of p names d ≡ Err e)))
+          → (e ≡ refusals.Memory) ⊎ ((e ≡ refusals.Json) ⊎ (IsUtf8 bytes × (d : Data) × (read bytes ≡ Some d) × (scripts_of p (names_of p) d ≡ Err e)))
       go (inl memory) = inl memory
       go (inr (inl same)) = inr (inl same)
       go (inr (inr r)) = inr (inr (r.0, r.1, r.2, ap (λ ns. scripts_of p ns r.1) (sym named) ∙ r.3))

@@ -5,7 +5,7 @@ use Rattle.lus_values.specs.Names.{Text, Names}
 use Rattle.lus_program.specs.Programs.{Program}
 use Rattle.lus_requests.specs.declared.call.Call.{Call}
 use Rattle.lus_scripts.specs.Forms.{Form, each, form_of}
-use Rattle.json.specs.Json.{Json}
+use Rattle.serde_json.specs.Data.{Data}
 use Rattle.lus_scripts.specs.Scripts.{Instance, all_distinct, caller_names, calls_of, calls_known, demand, instance_names, instance_of, place_of, scope_of, scripts_of, scripts_of_form, scripts_of_option, with_calls, with_instances, with_table, within_limits}
 use Rattle.lus_scripts.specs.View.{call_seen, caller_seen}
 use Rattle.lus_scripts.specs.declared.form.CallForm.{CallForm}
@@ -85,5 +85,5 @@ never_option : (p : Program) (names : Names) (form : Option Form) → scripts_of
 never_option p names None same = cc
 never_option p names (Some f) same = never_form p names f same
 
-pub never_json : (p : Program) (names : Names) (d : Json) → scripts_of p names d ≡ Err refusal.Json → ⊥
+pub never_json : (p : Program) (names : Names) (d : Data) → scripts_of p names d ≡ Err refusal.Json → ⊥
 never_json p names d same = never_option p names (form_of d) same

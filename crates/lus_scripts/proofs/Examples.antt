@@ -1,13 +1,12 @@
 -- Scripts of small JSON values, worked by computation, with a value for each refusal.
-use Rattle.std.proofs.Common.{◌≡◌, true, false, [], ◌∷◌, Some, None, Ok, Err, codes, refl}
-use Rattle.json.specs.Json.{Json, null, boolean, number, string, array, object, no_items, item, no_members, member}
+use Rattle.std.proofs.Common.{◌≡◌, ℕ, true, false, [], ◌∷◌, Some, None, Ok, Err, codes, refl}
+use Rattle.serde_json.specs.Data.{Data, null, boolean, number, string, array, object, unsigned, no_items, item, no_members, member}
 use Rattle.lus_values.specs.Names.{Text, Names}
 use Rattle.lus_values.specs.Values.{enum}
 use Rattle.lus_syntax.specs.declared.tree.NodeKind.TheVariants as node_kinds
 use Rattle.lus_program.specs.declared.types.Kind.TheVariants.{Int, Enum}
 use Rattle.lus_program.specs.Programs.{enumeration, Program}
 use Rattle.lus_requests.specs.declared.request.Request.TheVariants.{Step, Reset, Save, Restore}
-use Rattle.lus_asked.specs.Reading.{number_below}
 use Rattle.lus_scripts.specs.Scripts.{scripts_of, instance_of, value_of_json}
 use Rattle.lus_scripts.specs.declared.refusal.ScriptRefusal.TheVariants.{Form, Unknown, Double}
 
@@ -28,31 +27,34 @@ program = record {
   } ∷ [];
 }
 
-abbrev one : Json → Json
+abbrev one : Data → Data
 one d = array (item d no_items)
 
 -- an object of two members
-abbrev two : Text → Json → Text → Json → Json
+abbrev two : Text → Data → Text → Data → Data
 two a d b e = object (member a d (member b e no_members))
 
-abbrev instance : Text → Text → Json
+abbrev instance : Text → Text → Data
 instance name node = two (codes "name") (string name) (codes "node") (string node)
 
-abbrev caller : Text → Json → Json
+abbrev caller : Text → Data → Data
 caller name calls = two (codes "calls") calls (codes "name") (string name)
 
-abbrev whole : Json → Json → Json
+abbrev whole : Data → Data → Data
 whole instances callers = two (codes "callers") callers (codes "instances") instances
 
-abbrev asked : Text → Json → Json
+abbrev asked : Text → Data → Data
 asked key d = two (codes "on") (string (codes "k")) key d
 
-abbrev calls : Json
+abbrev some : ℕ → Data
+some n = number (unsigned n)
+
+abbrev calls : Data
 calls =
     array (item (asked (codes "step") (array (item (string (codes "B")) (item null no_items))))
     (item (asked (codes "reset") (boolean true))
-    (item (asked (codes "save") (number (codes "8")))
-    (item (asked (codes "restore") (number (codes "3"))) no_items))))
+    (item (asked (codes "save") (some 8))
+    (item (asked (codes "restore") (some 3)) no_items))))
 
 -- an absent item is null, a constructor its name; a slot that there isn't is read all the same
 calls_are_read : scripts_of program names (whole (one (instance (codes "k") (codes "g"))) (one (caller (codes "a") calls)))
@@ -65,7 +67,7 @@ calls_are_read : scripts_of program names (whole (one (instance (codes "k") (cod
           ∷ record { on = 0; request = Restore 3 }
           ∷ []) ∷ [];
     })
-unfolding instance_of value_of_json number_below
+unfolding instance_of value_of_json
 calls_are_read = refl
 
 nothing_is_asked : scripts_of program names (whole (array no_items) (array no_items)) ≡ Ok (record { instances = []; callers = []; calls = [] })

@@ -1,8 +1,15 @@
--- Searches in lists that are mapped.
+-- Lists of JSON values, and searches in lists that are mapped.
 use Rattle.std.proofs.Common.{◌≡◌, refl, ap, ap₂, List, [], ◌∷◌, ◌+◌, map, Bool, not, ◌||◌, nat_lt, Some, None, if◌then◌else◌}
 use Rattle.std.specs.Prelude.{position}
 use Rattle.std.specs.List.{list_any, prefix_len}
 use Rattle.std.proofs.lemmas.List.{length-map}
+use Rattle.serde_json.specs.Data.{Data}
+use Rattle.serde_json.specs.View.{items_of}
+use Rattle.lus_scripts.specs.Forms.{listed}
+
+pub listed-items_of : (ds : List Data) → listed (items_of ds) ≡ ds
+listed-items_of [] = refl
+listed-items_of (d ∷ ds) = ap (λ rest. d ∷ rest) (listed-items_of ds)
 
 pub list_any-map : {X Y : Type 0} (p : Y → Bool) (f : X → Y) (xs : List X) → list_any p (map f xs) ≡ list_any (λ x. p (f x)) xs
 list_any-map p f [] = refl

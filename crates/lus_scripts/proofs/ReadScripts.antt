@@ -8,7 +8,7 @@ use Rattle.std.proofs.lemmas.List.{length-map}
 use Rattle.std.proofs.lemmas.List.Folds.{list_all-map}
 use Rattle.std.proofs.lemmas.List.Quantifiers.{position-Some}
 use Rattle.std.specs.Str.{bytes_eq}
-use Rattle.json.specs.Json.{Json}
+use Rattle.serde_json.specs.Data.{Data}
 use Rattle.lus_values.specs.Names.{Text, Names}
 use Rattle.lus_requests.specs.declared.request.Request.{Request}
 use Rattle.lus_program.specs.Programs.{Program, empty_node}
@@ -161,7 +161,7 @@ module _ (p : Program) (names : Names) (s : Scripts) where
   of_option (Some f) same = of_form f same
 
   -- the instances of scripts are of nodes of the program
-  pub instances_known : (d : Json) → scripts_of p names d ≡ Ok s → HaveNodes p s.instances
+  pub instances_known : (d : Data) → scripts_of p names d ≡ Ok s → HaveNodes p s.instances
   instances_known d same = of_option (form_of d) same
 
 -- ---- what is kept of scripts

@@ -1,12 +1,14 @@
--- The form of scripts: what a JSON value says before its names are looked up and the values of its steps are read.
+-- The form of scripts (own): what a JSON value says before its names are looked up and the values of its steps are read. JSON is what
+-- `serde_json` reads: an object has each key once, with the last value that the text gives it.
 use Rattle.std.specs.Prelude.{◌==◌, ◌&&◌, ◌||◌, ℕ, Bool, false, List, [], ◌∷◌, length, nat_le, codes}
 use Rattle.std.specs.Prelude.{Option, Some, None, is_some, option_map, option_and_then, unwrap_or, if◌then◌else◌}
 use Rattle.std.specs.List.{list_all}
-use Rattle.json.specs.Json.{Json}
-use Rattle.json.specs.Find.{get, as_str, as_array, as_bool}
+use Rattle.std.specs.Option.{option_map_or}
+use Rattle.serde_json.specs.Data.{Data, Items, no_items, item}
+use Rattle.serde_json.specs.Events.{members_len}
 use Rattle.lus_values.specs.Names.{Text}
 use Rattle.lus_scripts.specs.Limits.{most_name_bytes}
-use Rattle.lus_scripts.specs.Documents.{has_only, listed, slot_of}
+use Rattle.serde_json.specs.Find.{get, as_str, as_array, as_object, as_bool, as_number, as_u64}
 
 abbrev pub both : {A B : Type 0} → Option A → Option B → Option (A × B)
 both None b = None
@@ -20,16 +22,19 @@ each f (x ∷ xs) = option_map (λ p. p.0 ∷ p.1) (both (f x) (each f xs))
 
 -- ---- values of JSON
 
-abbrev pub as_list : Json → Option (List Json)
+abbrev pub listed : Items → List Data
+listed no_items = []
+listed (item d ds) = d ∷ listed ds
+
+abbrev pub as_list : Data → Option (List Data)
 as_list d = option_map listed (as_array d)
 
--- the value at a key of an object that has no other keys than it and these
-abbrev pub alone_at : Text → List Text → Json → Option Json
-alone_at key others d = if has_only key others d then get key d else None
+abbrev pub members_count : Data → ℕ
+members_count d = option_map_or members_len (as_object d) 0
 
--- the values of an object with exactly these two keys
-abbrev pub two_members : Text → Text → Json → Option (Json × Json)
-two_members a b d = if has_only a (b ∷ []) d then both (get a d) (get b d) else None
+-- the values of an object with exactly these two keys: it has two members, and they are at these
+abbrev pub two_members : Text → Text → Data → Option (Data × Data)
+two_members a b d = if members_count d == 2 then both (get a d) (get b d) else None
 
 -- ---- names
 
@@ -48,51 +53,52 @@ starts_with_letter (b ∷ bs) = is_letter b
 abbrev pub is_name : Text → Bool
 is_name t = starts_with_letter t && (list_all is_name_byte t && nat_le (length t) most_name_bytes)
 
-abbrev pub name_of : Json → Option Text
+abbrev pub name_of : Data → Option Text
 name_of d = option_and_then (λ t. if is_name t then Some t else None) (as_str d)
 
 -- ---- calls
 
 -- what a call asks of its instance
 pub data Ask : Type 0 where
-  step : List Json → Ask
+  step : List Data → Ask
   reset : Ask
   save : ℕ → Ask
   restore : ℕ → Ask
-  burst : List Json → Ask
+  burst : List Data → Ask
 
-abbrev pub reset_of : Json → Option Ask
+abbrev pub slot_of : Data → Option ℕ
+slot_of d = option_and_then as_u64 (as_number d)
+
+abbrev pub reset_of : Data → Option Ask
 reset_of d = if unwrap_or (as_bool d) false then Some reset else None
 
-abbrev pub is_list : Json → Bool
+abbrev pub is_list : Data → Bool
 is_list d = is_some (as_list d)
 
 -- a list of lists
-abbrev pub burst_of : Json → Option Ask
+abbrev pub burst_of : Data → Option Ask
 burst_of d = option_and_then (λ ds. if list_all is_list ds then Some (burst ds) else None) (as_list d)
 
 -- by the first of the keys that is there
-abbrev pub ask_among : (step reset save restore burst : Option Json) → Option Ask
+abbrev pub ask_among : (step reset save restore burst : Option Data) → Option Ask
 ask_among (Some d) r s t b = option_map step (as_list d)
 ask_among None (Some d) s t b = reset_of d
 ask_among None None (Some d) t b = option_map save (slot_of d)
 ask_among None None None (Some d) b = option_map restore (slot_of d)
 ask_among None None None None b = option_and_then burst_of b
 
--- what an object asks that has one key, and these beside it
-abbrev pub ask_of : List Text → Json → Option Ask
-ask_of beside d =
-    ask_among (alone_at (codes "step") beside d) (alone_at (codes "reset") beside d) (alone_at (codes "save") beside d)
-    (alone_at (codes "restore") beside d) (alone_at (codes "burst") beside d)
+abbrev pub ask_of : Data → Option Ask
+ask_of d = ask_among (get (codes "step") d) (get (codes "reset") d) (get (codes "save") d) (get (codes "restore") d) (get (codes "burst") d)
 
 pub record CallForm : Type 0 where
   pub on : Text
   pub ask : Ask
 
-abbrev pub call_form : Json → Option CallForm
+abbrev pub call_form : Data → Option CallForm
 call_form d =
-    option_map (λ p. record { on = p.0; ask = p.1 })
-    (both (option_and_then as_str (get (codes "on") d)) (ask_of (codes "on" ∷ []) d))
+    if members_count d == 2
+    then option_map (λ p. record { on = p.0; ask = p.1 }) (both (option_and_then as_str (get (codes "on") d)) (ask_of d))
+    else None
 
 -- ---- instances and callers
 
@@ -100,7 +106,7 @@ pub record InstanceForm : Type 0 where
   pub name : Text
   pub node : Text
 
-abbrev pub instance_form : Json → Option InstanceForm
+abbrev pub instance_form : Data → Option InstanceForm
 instance_form d =
     option_map (λ p. record { name = p.0; node = p.1 })
     (option_and_then (λ p. both (name_of p.0) (as_str p.1)) (two_members (codes "name") (codes "node") d))
@@ -109,10 +115,10 @@ pub record CallerForm : Type 0 where
   pub name : Text
   pub calls : List CallForm
 
-abbrev pub calls_form : Json → Option (List CallForm)
+abbrev pub calls_form : Data → Option (List CallForm)
 calls_form d = option_and_then (each call_form) (as_list d)
 
-abbrev pub caller_form : Json → Option CallerForm
+abbrev pub caller_form : Data → Option CallerForm
 caller_form d =
     option_map (λ p. record { name = p.0; calls = p.1 })
     (option_and_then (λ p. both (name_of p.0) (calls_form p.1)) (two_members (codes "name") (codes "calls") d))
@@ -121,13 +127,13 @@ pub record Form : Type 0 where
   pub instances : List InstanceForm
   pub callers : List CallerForm
 
-abbrev pub instances_form : Json → Option (List InstanceForm)
+abbrev pub instances_form : Data → Option (List InstanceForm)
 instances_form d = option_and_then (each instance_form) (as_list d)
 
-abbrev pub callers_form : Json → Option (List CallerForm)
+abbrev pub callers_form : Data → Option (List CallerForm)
 callers_form d = option_and_then (each caller_form) (as_list d)
 
-abbrev pub form_of : Json → Option Form
+abbrev pub form_of : Data → Option Form
 form_of d =
     option_map (λ p. record { instances = p.0; callers = p.1 })
     (option_and_then (λ p. both (instances_form p.0) (callers_form p.1)) (two_members (codes "instances") (codes "callers") d))

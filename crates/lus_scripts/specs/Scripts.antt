@@ -1,10 +1,11 @@
--- The scripts that a JSON value is, for a program: its names are looked up, and the values of its steps are read.
-use Rattle.std.specs.Prelude.{◌&&◌, ◌+◌, ◌<◌, ℕ, suc, Bool, true, false, not, List, [], ◌∷◌, map, length, take, nat_le, nat_lt, position, slice_get}
+-- The scripts that a JSON value is, for a program (own): its names are looked up, and the values of its steps are read.
+use Rattle.std.specs.Prelude.{◌==◌, ◌&&◌, ◌+◌, ◌<◌, ℕ, suc, Bool, true, false, not, List, [], ◌∷◌, map, length, take, nat_le, nat_lt, position, slice_get}
 use Rattle.std.specs.Prelude.{Option, Some, None, is_some, option_map, option_and_then, if◌then◌else◌, Result, Ok, Err}
 use Rattle.std.specs.List.{list_all, list_any}
 use Rattle.std.specs.Str.{bytes_eq}
-use Rattle.json.specs.Json.{Json, null, boolean, number, string, array, object, Members}
-use Rattle.json.specs.Find.{is_null, get_member}
+use Rattle.serde_json.specs.Data.{Data, null, boolean, number, string, array, object, Members}
+use Rattle.serde_json.specs.Events.{members_len}
+use Rattle.serde_json.specs.Find.{as_i64, as_null, get_member}
 use Rattle.lus_syntax.specs.Limits.{most_nesting}
 use Rattle.lus_values.specs.Lists.{Each}
 use Rattle.lus_values.specs.Names.{Text, Names, numbers_of}
@@ -14,7 +15,6 @@ use Rattle.lus_program.specs.declared.types.Kind.TheVariants.{Struct}
 use Rattle.lus_program.specs.Programs.{Declared, alias, enumeration, structure, Field, Node, Program}
 use Rattle.lus_requests.specs.declared.request.Request.{Request}
 use Rattle.lus_requests.specs.declared.request.Request.TheVariants.{Step, Reset, Save, Restore, Burst}
-use Rattle.lus_scripts.specs.Documents.{keys_of, whole}
 use Rattle.lus_scripts.specs.Limits.{most_callers, most_calls, most_instances}
 use Rattle.lus_scripts.specs.Forms.{both, each, as_list, Ask, step, reset, save, restore, burst, CallForm, InstanceForm, CallerForm, Form, form_of}
 use Rattle.lus_scripts.specs.declared.refusal.ScriptRefusal.{ScriptRefusal}
@@ -48,10 +48,10 @@ caller_names f = map (λ c. c.name) f.callers
 -- ---- values
 
 -- a number, a truth value, or the name of a constructor
-abbrev pub scalar : Names → Json → Option Value
+abbrev pub scalar : Names → Data → Option Value
 scalar names null = None
 scalar names (boolean b) = Some (bool b)
-scalar names (number n) = option_map int (whole n)
+scalar names (number n) = option_map int (as_i64 n)
 scalar names (string t) = option_map (λ c. enum c.0 c.1) (numbers_of names t)
 scalar names (array ds) = None
 scalar names (object ms) = None
@@ -67,31 +67,27 @@ abbrev pub fields_at : Program → Option Kind → Option (List Field)
 fields_at p (Some (Struct t)) = fields_in (slice_get p.types t)
 fields_at p _ = None
 
--- each of these keys is a field's name
-abbrev pub are_fields : List Field → List Text → Bool
-are_fields fields = list_all (λ k. list_any (λ f. bytes_eq k f.name) fields)
-
--- the value of an object with exactly these fields, each read by its type
-abbrev pub fields_value : (Option Kind → Json → Option Value) → Members → List Field → Option Value
+-- the value of an object with exactly these fields, each read by its type: it has as many members as there are fields
+abbrev pub fields_value : (Option Kind → Data → Option Value) → Members → List Field → Option Value
 fields_value read ms fields =
-    if are_fields fields (keys_of ms)
+    if members_len ms == length fields
     then option_map (λ vs. struct (fields_of vs)) (each (λ f. option_and_then (read (Some f.kind)) (get_member f.name ms)) fields)
     else None
 
 -- likewise, where objects nest at most this many levels
-abbrev pub value_at : ℕ → Program → Names → Option Kind → Json → Option Value
+abbrev pub value_at : ℕ → Program → Names → Option Kind → Data → Option Value
 value_at (suc levels) p names kind (object ms) = option_and_then (fields_value (value_at levels p names) ms) (fields_at p kind)
 value_at levels p names kind d = scalar names d
 
 -- ---- requests
 
 -- the value of JSON at the place of a type
-unfoldable pub value_of_json : Program → Names → Option Kind → Json → Option Value
+unfoldable pub value_of_json : Program → Names → Option Kind → Data → Option Value
 value_of_json p names kind d = value_at most_nesting p names kind d
 
 -- an item of a step: null is absent
-abbrev pub item_of_json : Program → Names → Option Kind → Json → Option (Option Value)
-item_of_json p names kind d = if is_null d then Some None else option_map Some (value_of_json p names kind d)
+abbrev pub item_of_json : Program → Names → Option Kind → Data → Option (Option Value)
+item_of_json p names kind d = if is_some (as_null d) then Some None else option_map Some (value_of_json p names kind d)
 
 -- the type of a node's nth input
 abbrev pub input_kind : Option Node → ℕ → Option Kind
@@ -99,12 +95,12 @@ input_kind None n = None
 input_kind (Some f) n = option_map (λ v. v.kind) (slice_get (take f.inputs f.variables) n)
 
 -- the items of a step from the nth input on
-abbrev pub row_from : Program → Names → Option Node → ℕ → List Json → Option Row
+abbrev pub row_from : Program → Names → Option Node → ℕ → List Data → Option Row
 row_from p names f n [] = Some []
 row_from p names f n (d ∷ ds) = option_map (λ q. q.0 ∷ q.1) (both (item_of_json p names (input_kind f n) d) (row_from p names f (n + 1) ds))
 
 -- the row that a list is
-abbrev pub listed_row : Program → Names → Option Node → Json → Option Row
+abbrev pub listed_row : Program → Names → Option Node → Data → Option Row
 listed_row p names f d = option_and_then (row_from p names f 0) (as_list d)
 
 -- what calls are read by: a program, the names of its constructors, and the names and the nodes' places of the instances
@@ -207,5 +203,5 @@ scripts_of_option p names None = Err NotTheForm
 scripts_of_option p names (Some f) = scripts_of_form p names f
 
 -- the scripts that a JSON value is
-abbrev pub scripts_of : Program → Names → Json → Result Scripts ScriptRefusal
+abbrev pub scripts_of : Program → Names → Data → Result Scripts ScriptRefusal
 scripts_of p names d = scripts_of_option p names (form_of d)

@@ -1,9 +1,9 @@
 -- What the values of the code stand for.
 use Rattle.std.specs.Prelude.{List, map, string_bytes}
+use Rattle.serde_json.specs.View.{view}
 use Rattle.lus_program.specs.View.{program_seen}
 use Rattle.lus_requests.specs.declared.call.Call.{Call}
 use Rattle.lus_requests.specs.declared.call.Caller.{Caller}
-use Rattle.lus_scripts.specs.Documents.{items_in}
 use Rattle.lus_scripts.specs.Forms as forms
 use Rattle.lus_scripts.specs.Scripts as scripts
 use Rattle.lus_scripts.specs.declared.form.Ask.{Ask}
@@ -17,11 +17,11 @@ use Rattle.lus_scripts.specs.declared.scripts.Instance.{Instance}
 use Rattle.lus_scripts.specs.declared.scripts.Scripts.{Scripts}
 
 abbrev pub ask_seen : Ask → forms.Ask
-ask_seen (asks.Step list) = forms.step (items_in list)
+ask_seen (asks.Step items) = forms.step (map view items.now)
 ask_seen asks.Reset = forms.reset
 ask_seen (asks.Save n) = forms.save n
 ask_seen (asks.Restore n) = forms.restore n
-ask_seen (asks.Burst rows) = forms.burst (items_in rows)
+ask_seen (asks.Burst rows) = forms.burst (map view rows.now)
 
 abbrev pub call_seen : CallForm → forms.CallForm
 call_seen c = record { on = c.on.now; ask = ask_seen c.ask }

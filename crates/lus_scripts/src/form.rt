@@ -1,34 +1,32 @@
 //! The form of scripts, before names are looked up and the values of steps are read.
 
-ghost use Rattle.std.specs.Prelude.{◌≡◌, ◌⊎◌, ◌∷◌, [], IfErr, IfOk, Some, None, Err, map, option_map, codes};
-ghost use Rattle.std.specs.List.{list_all, list_any};
-ghost use Rattle.std.specs.Str.{bytes_eq};
-ghost use Rattle.lus_scripts.specs.Documents.{has_only, is_among, slot_of};
-ghost use Rattle.lus_scripts.specs.Forms.{alone_at, as_list, ask_of, burst_of, call_form, caller_form, callers_form, calls_form, each, form_of, instance_form, instances_form, is_letter, is_list, is_name, is_name_byte, name_of, reset_of, starts_with_letter, step, two_members};
+ghost use Rattle.std.specs.Prelude.{◌≡◌, ◌⊎◌, IfErr, IfOk, Some, None, Err, map, option_map, codes};
+ghost use Rattle.std.specs.List.{list_all};
+ghost use Rattle.serde_json.specs.View.{view};
+ghost use Rattle.lus_scripts.specs.Forms.{as_list, ask_of, burst_of, call_form, caller_form, callers_form, calls_form, each, form_of, instance_form, instances_form, is_letter, is_list, is_name, is_name_byte, members_count, name_of, reset_of, slot_of, starts_with_letter, two_members};
 ghost use Rattle.lus_scripts.specs.View.{ask_seen, call_seen, caller_seen, form_seen, instance_seen};
 
-use crate::document::{Items, Json, Keys};
 use crate::limits::MOST_NAME_BYTES;
 use crate::refusal::ScriptRefusal;
+use serde_json::Value;
 use std::alloc::Global;
 
 /// What a call asks of its instance.
-#[derive(Drop)]
-pub(crate) enum Ask<'t, 'v> {
-    /// A list of values.
-    Step(Json<'t, 'v>),
+#[derive(Clone, Copy)]
+pub(crate) enum Ask<'v> {
+    Step(&'v [Value]),
     Reset,
     Save(u64),
     Restore(u64),
-    /// A list of lists of values, a row each.
-    Burst(Json<'t, 'v>),
+    /// Lists of values, a row each.
+    Burst(&'v [Value]),
 }
 
 /// A call on an instance that is named.
-#[derive(Drop)]
-pub(crate) struct CallForm<'t, 'v> {
+#[derive(Clone, Copy)]
+pub(crate) struct CallForm<'v> {
     pub on: &'v str,
-    pub ask: Ask<'t, 'v>,
+    pub ask: Ask<'v>,
 }
 
 #[derive(Clone, Copy)]
@@ -38,77 +36,44 @@ pub(crate) struct InstanceForm<'v> {
 }
 
 #[derive(Drop)]
-pub(crate) struct CallerForm<'t, 'v> {
+pub(crate) struct CallerForm<'v> {
     pub name: &'v str,
-    pub calls: Vec<CallForm<'t, 'v>>,
+    pub calls: Vec<CallForm<'v>>,
 }
 
 #[derive(Drop)]
-pub(crate) struct Form<'t, 'v> {
+pub(crate) struct Form<'v> {
     pub instances: Vec<InstanceForm<'v>>,
-    pub callers: Vec<CallerForm<'t, 'v>>,
+    pub callers: Vec<CallerForm<'v>>,
 }
 
-fn stands_among(found: &str, others: &[&str]) -> bool
-    ensures { result ≡ list_any (λ k. bytes_eq found.now k.now) others.now }
+/// The items of a list.
+pub fn as_list(value: &Value) -> Option<&[Value]>
+    ensures { option_map (λ items. map view items.now) result ≡ as_list (view value.now) }
 {
-    others.iter().any(|other| found == *other)
+    let items = value.as_array()?;
+    Some(items.as_slice())
 }
 
-/// Whether a key is this one or one of the others.
-fn is_among(found: &str, key: &str, others: &[&str]) -> bool
-    ensures { result ≡ is_among key.now (map (λ k. k.now) others.now) found.now }
+/// How many members an object has, and 0 of any other value.
+pub(crate) fn member_count(value: &Value) -> usize
+    ensures { result ≡ members_count (view value.now) }
 {
-    found == key || stands_among(found, others)
-}
-
-/// Whether each of these keys is this one or one of the others.
-fn are_among(key: &str, others: &[&str], keys: Keys<'_, '_>) -> bool
-    ensures { result ≡ list_all (is_among key.now (map (λ k. k.now) others.now)) keys.entry }
-{
-    let mut left = keys;
-    while let Some(found) = left.next() {
-        if !is_among(found, key, others) {
-            return false;
-        }
-    }
-    true
-}
-
-/// Whether a value is an object that has no other keys than these.
-fn has_only(value: &Json<'_, '_>, key: &str, others: &[&str]) -> bool
-    ensures { result ≡ has_only key.now (map (λ k. k.now) others.now) value.now }
-{
-    match value.keys() {
-        Some(keys) => are_among(key, others, keys),
-        None => false,
-    }
-}
-
-/// The value at a key of an object that has no other keys than it and these.
-pub(crate) fn alone_at<'t, 'v>(
-    value: &Json<'t, 'v>,
-    key: &str,
-    others: &[&str],
-) -> Option<Json<'t, 'v>>
-    ensures { result ≡ alone_at key.now (map (λ k. k.now) others.now) value.now }
-{
-    if has_only(value, key, others) {
-        value.get(key)
-    } else {
-        None
+    match value.as_object() {
+        Some(members) => members.len(),
+        None => 0,
     }
 }
 
 /// The values of an object with exactly these two keys.
-fn two_members<'t, 'v>(
-    value: &Json<'t, 'v>,
+pub fn two_members<'v>(
+    value: &'v Value,
     first: &str,
     second: &str,
-) -> Option<(Json<'t, 'v>, Json<'t, 'v>)>
-    ensures { result ≡ two_members first.now second.now value.now }
+) -> Option<(&'v Value, &'v Value)>
+    ensures { option_map (λ p. (view p.0.now, view p.1.now)) result ≡ two_members first.now second.now (view value.now) }
 {
-    if !has_only(value, first, &[second]) {
+    if member_count(value) != 2 {
         return None;
     }
     match (value.get(first), value.get(second)) {
@@ -144,22 +109,23 @@ fn starts_with_letter(bytes: &[u8]) -> bool
     }
 }
 
-fn is_name(text: &str) -> bool
+/// Whether a text is a name: a letter or `_`, and then letters, digits and `_`, of no more bytes than a name may have.
+pub fn is_name(text: &str) -> bool
     ensures { result ≡ is_name text.now }
 {
     let bytes = text.as_bytes();
     starts_with_letter(bytes) && (has_name_bytes(bytes) && bytes.len() <= MOST_NAME_BYTES)
 }
 
-fn read_name<'t, 'v>(value: &Json<'t, 'v>) -> Option<&'v str>
-    ensures { option_map (λ t. t.now) result ≡ name_of value.now }
+fn read_name(value: &Value) -> Option<&str>
+    ensures { option_map (λ t. t.now) result ≡ name_of (view value.now) }
 {
     let text = value.as_str()?;
     if is_name(text) { Some(text) } else { None }
 }
 
-fn read_reset<'t, 'v>(value: &Json<'t, 'v>) -> Option<Ask<'t, 'v>>
-    ensures { option_map ask_seen result ≡ reset_of value.now }
+fn read_reset(value: &Value) -> Option<Ask<'_>>
+    ensures { option_map ask_seen result ≡ reset_of (view value.now) }
 {
     match value.as_bool() {
         Some(true) => Some(Ask::Reset),
@@ -167,165 +133,139 @@ fn read_reset<'t, 'v>(value: &Json<'t, 'v>) -> Option<Ask<'t, 'v>>
     }
 }
 
-pub(crate) fn is_list(value: &Json<'_, '_>) -> bool
-    ensures { result ≡ is_list value.now }
+fn is_list(value: &Value) -> bool
+    ensures { result ≡ is_list (view value.now) }
 {
-    value.items().is_some()
+    as_list(value).is_some()
 }
 
-/// A step with the values of a list.
-pub(crate) fn read_step<'t, 'v>(list: Json<'t, 'v>) -> Option<Ask<'t, 'v>>
-    ensures { option_map ask_seen result ≡ option_map step (as_list list.entry) }
+fn are_lists(values: &[Value]) -> bool
+    ensures { result ≡ list_all (λ v. is_list (view v)) values.now }
 {
-    if is_list(&list) {
-        Some(Ask::Step(list))
+    values.iter().all(|value| is_list(value))
+}
+
+fn read_burst(value: &Value) -> Option<Ask<'_>>
+    ensures { option_map ask_seen result ≡ burst_of (view value.now) }
+{
+    let rows = as_list(value)?;
+    if are_lists(rows) {
+        Some(Ask::Burst(rows))
     } else {
         None
     }
 }
 
-fn are_lists(values: Items<'_, '_>) -> bool
-    ensures { result ≡ list_all is_list values.entry }
+/// What a call asks, by the first of the keys that is there.
+pub(crate) fn read_ask(call: &Value) -> Option<Ask<'_>>
+    ensures { option_map ask_seen result ≡ ask_of (view call.now) }
 {
-    let mut left = values;
-    while let Some(value) = left.next() {
-        if !is_list(&value) {
-            return false;
-        }
+    if let Some(items) = call.get("step") {
+        return Some(Ask::Step(as_list(items)?));
     }
-    true
+    if let Some(flag) = call.get("reset") {
+        return read_reset(flag);
+    }
+    if let Some(slot) = call.get("save") {
+        return Some(Ask::Save(slot.as_u64()?));
+    }
+    if let Some(slot) = call.get("restore") {
+        return Some(Ask::Restore(slot.as_u64()?));
+    }
+    read_burst(call.get("burst")?)
 }
 
-fn read_burst<'t, 'v>(value: Json<'t, 'v>) -> Option<Ask<'t, 'v>>
-    ensures { option_map ask_seen result ≡ burst_of value.entry }
+fn read_call(call: &Value) -> Option<CallForm<'_>>
+    ensures { option_map call_seen result ≡ call_form (view call.now) }
 {
-    let lists = value.items()?;
-    if are_lists(lists) {
-        Some(Ask::Burst(value))
-    } else {
-        None
+    if member_count(call) != 2 {
+        return None;
     }
-}
-
-/// What an object asks that has one key, and these beside it.
-pub(crate) fn read_ask<'t, 'v>(call: &Json<'t, 'v>, beside: &[&str]) -> Option<Ask<'t, 'v>>
-    ensures { option_map ask_seen result ≡ ask_of (map (λ k. k.now) beside.now) call.now }
-{
-    if let Some(list) = alone_at(call, "step", beside) {
-        return read_step(list);
-    }
-    if let Some(flag) = alone_at(call, "reset", beside) {
-        return read_reset(&flag);
-    }
-    if let Some(slot) = alone_at(call, "save", beside) {
-        return Some(Ask::Save(slot.as_slot()?));
-    }
-    if let Some(slot) = alone_at(call, "restore", beside) {
-        return Some(Ask::Restore(slot.as_slot()?));
-    }
-    read_burst(alone_at(call, "burst", beside)?)
-}
-
-fn read_call<'t, 'v>(call: &Json<'t, 'v>) -> Option<CallForm<'t, 'v>>
-    ensures { option_map call_seen result ≡ call_form call.now }
-{
     let on = call.get("on")?;
-    match (on.as_str(), read_ask(call, &["on"])) {
+    match (on.as_str(), read_ask(call)) {
         (Some(on), Some(ask)) => Some(CallForm { on, ask }),
         _ => None,
     }
 }
 
-fn read_calls<'t, 'v>(
-    alloc: Global,
-    calls: Items<'t, 'v>,
-) -> Result<Vec<CallForm<'t, 'v>>, ScriptRefusal>
-    ensures ok { IfOk result (λ v. each call_form calls.entry ≡ Some (map call_seen v.items)) }
-    ensures form { result ≡ Err ScriptRefusal.Form → each call_form calls.entry ≡ None }
+fn read_calls<'v>(alloc: Global, calls: &'v [Value]) -> Result<Vec<CallForm<'v>>, ScriptRefusal>
+    ensures ok { IfOk result (λ v. each call_form (map view calls.now) ≡ Some (map call_seen v.items)) }
+    ensures form { result ≡ Err ScriptRefusal.Form → each call_form (map view calls.now) ≡ None }
     ensures errors { IfErr result (λ e. (e ≡ ScriptRefusal.Form) ⊎ (e ≡ ScriptRefusal.Memory)) }
 {
-    let mut left = calls;
     let mut forms = Vec::new(alloc);
-    while let Some(call) = left.next() {
-        let form = read_call(&call).ok_or(ScriptRefusal::Form)?;
+    for call in calls {
+        let form = read_call(call).ok_or(ScriptRefusal::Form)?;
         forms.push(form)?;
     }
     Ok(forms)
 }
 
-fn read_instance<'t, 'v>(instance: &Json<'t, 'v>) -> Option<InstanceForm<'v>>
-    ensures { option_map instance_seen result ≡ instance_form instance.now }
+fn read_instance(instance: &Value) -> Option<InstanceForm<'_>>
+    ensures { option_map instance_seen result ≡ instance_form (view instance.now) }
 {
     let (name, node) = two_members(instance, "name", "node")?;
-    match (read_name(&name), node.as_str()) {
+    match (read_name(name), node.as_str()) {
         (Some(name), Some(node)) => Some(InstanceForm { name, node }),
         _ => None,
     }
 }
 
-fn read_instances<'t, 'v>(
+fn read_instances<'v>(
     alloc: Global,
-    instances: Items<'t, 'v>,
+    instances: &'v [Value],
 ) -> Result<Vec<InstanceForm<'v>>, ScriptRefusal>
-    ensures ok { IfOk result (λ v. each instance_form instances.entry ≡ Some (map instance_seen v.items)) }
-    ensures form { result ≡ Err ScriptRefusal.Form → each instance_form instances.entry ≡ None }
+    ensures ok { IfOk result (λ v. each instance_form (map view instances.now) ≡ Some (map instance_seen v.items)) }
+    ensures form { result ≡ Err ScriptRefusal.Form → each instance_form (map view instances.now) ≡ None }
     ensures errors { IfErr result (λ e. (e ≡ ScriptRefusal.Form) ⊎ (e ≡ ScriptRefusal.Memory)) }
 {
-    let mut left = instances;
     let mut forms = Vec::new(alloc);
-    while let Some(instance) = left.next() {
-        let form = read_instance(&instance).ok_or(ScriptRefusal::Form)?;
+    for instance in instances {
+        let form = read_instance(instance).ok_or(ScriptRefusal::Form)?;
         forms.push(form)?;
     }
     Ok(forms)
 }
 
-fn read_caller<'t, 'v>(
-    alloc: Global,
-    caller: &Json<'t, 'v>,
-) -> Result<CallerForm<'t, 'v>, ScriptRefusal>
-    ensures ok { IfOk result (λ c. caller_form caller.now ≡ Some (caller_seen c)) }
-    ensures form { result ≡ Err ScriptRefusal.Form → caller_form caller.now ≡ None }
+fn read_caller<'v>(alloc: Global, caller: &'v Value) -> Result<CallerForm<'v>, ScriptRefusal>
+    ensures ok { IfOk result (λ c. caller_form (view caller.now) ≡ Some (caller_seen c)) }
+    ensures form { result ≡ Err ScriptRefusal.Form → caller_form (view caller.now) ≡ None }
     ensures errors { IfErr result (λ e. (e ≡ ScriptRefusal.Form) ⊎ (e ≡ ScriptRefusal.Memory)) }
 {
     let (name, calls) = two_members(caller, "name", "calls").ok_or(ScriptRefusal::Form)?;
-    let name = read_name(&name).ok_or(ScriptRefusal::Form)?;
-    let calls = calls.items().ok_or(ScriptRefusal::Form)?;
+    let name = read_name(name).ok_or(ScriptRefusal::Form)?;
+    let calls = as_list(calls).ok_or(ScriptRefusal::Form)?;
     let calls = read_calls(alloc, calls)?;
     Ok(CallerForm { name, calls })
 }
 
-fn read_callers<'t, 'v>(
+fn read_callers<'v>(
     alloc: Global,
-    callers: Items<'t, 'v>,
-) -> Result<Vec<CallerForm<'t, 'v>>, ScriptRefusal>
-    ensures ok { IfOk result (λ v. each caller_form callers.entry ≡ Some (map caller_seen v.items)) }
-    ensures form { result ≡ Err ScriptRefusal.Form → each caller_form callers.entry ≡ None }
+    callers: &'v [Value],
+) -> Result<Vec<CallerForm<'v>>, ScriptRefusal>
+    ensures ok { IfOk result (λ v. each caller_form (map view callers.now) ≡ Some (map caller_seen v.items)) }
+    ensures form { result ≡ Err ScriptRefusal.Form → each caller_form (map view callers.now) ≡ None }
     ensures errors { IfErr result (λ e. (e ≡ ScriptRefusal.Form) ⊎ (e ≡ ScriptRefusal.Memory)) }
 {
-    let mut left = callers;
     let mut forms = Vec::new(alloc);
-    while let Some(caller) = left.next() {
-        let form = read_caller(alloc, &caller)?;
+    for caller in callers {
+        let form = read_caller(alloc, caller)?;
         forms.push(form)?;
     }
     Ok(forms)
 }
 
 /// The form of scripts.
-pub(crate) fn read_form<'t, 'v>(
-    alloc: Global,
-    scripts: &Json<'t, 'v>,
-) -> Result<Form<'t, 'v>, ScriptRefusal>
-    ensures ok { IfOk result (λ f. form_of scripts.now ≡ Some (form_seen f)) }
-    ensures form { result ≡ Err ScriptRefusal.Form → form_of scripts.now ≡ None }
+pub(crate) fn read_form(alloc: Global, scripts: &Value) -> Result<Form<'_>, ScriptRefusal>
+    ensures ok { IfOk result (λ f. form_of (view scripts.now) ≡ Some (form_seen f)) }
+    ensures form { result ≡ Err ScriptRefusal.Form → form_of (view scripts.now) ≡ None }
     ensures errors { IfErr result (λ e. (e ≡ ScriptRefusal.Form) ⊎ (e ≡ ScriptRefusal.Memory)) }
 {
     let (instances, callers) = two_members(scripts, "instances", "callers").ok_or(
         ScriptRefusal::Form,
     )?;
-    let instances = instances.items().ok_or(ScriptRefusal::Form)?;
-    let callers = callers.items().ok_or(ScriptRefusal::Form)?;
+    let instances = as_list(instances).ok_or(ScriptRefusal::Form)?;
+    let callers = as_list(callers).ok_or(ScriptRefusal::Form)?;
     let instances = read_instances(alloc, instances)?;
     let callers = read_callers(alloc, callers)?;
     Ok(Form { instances, callers })

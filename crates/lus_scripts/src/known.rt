@@ -18,14 +18,14 @@ use indexmap::IndexSet;
 use lus_program::{Node, NodeId, Program};
 use std::alloc::Global;
 
-pub(crate) fn is_within_limits(form: &Form<'_, '_>) -> bool
+pub(crate) fn is_within_limits(form: &Form<'_>) -> bool
     ensures { result ≡ within_limits (form_seen form.now) }
 {
     form.instances.len() <= MOST_INSTANCES
         && (form.callers.len() <= MOST_CALLERS && have_few_calls(&form.callers))
 }
 
-fn have_few_calls(callers: &[CallerForm<'_, '_>]) -> bool
+fn have_few_calls(callers: &[CallerForm<'_>]) -> bool
     ensures { result ≡ list_all (λ c. nat_le (length c.calls.items) most_calls) callers.now }
 {
     callers
@@ -73,7 +73,7 @@ fn instance_of(
 pub(crate) fn instances_of(
     alloc: Global,
     program: &Program,
-    form: &Form<'_, '_>,
+    form: &Form<'_>,
 ) -> Result<Vec<Instance>, ScriptRefusal>
     requires { length program.now.nodes.items < 2 ^ 32 }
     ensures ok { IfOk result (λ v. each (instance_of (program_seen program.now)) (form_seen form.now).instances
@@ -90,14 +90,14 @@ pub(crate) fn instances_of(
     Ok(instances)
 }
 
-fn are_on_instances(table: &IndexSet<String>, calls: &[CallForm<'_, '_>]) -> bool
+fn are_on_instances(table: &IndexSet<String>, calls: &[CallForm<'_>]) -> bool
     ensures { result ≡ list_all (λ c. is_some (place_of (map string_bytes table.now.keys) c.on.now)) calls.now }
 {
     calls.iter().all(|call| place_of(table, call.on).is_some())
 }
 
 /// Whether each call is on an instance in the table.
-pub(crate) fn are_calls_known(table: &IndexSet<String>, form: &Form<'_, '_>) -> bool
+pub(crate) fn are_calls_known(table: &IndexSet<String>, form: &Form<'_>) -> bool
     ensures { result ≡ list_all (λ c. list_all (λ call. is_some (place_of (map string_bytes table.now.keys) call.on.now)) c.calls.items)
         form.now.callers.items }
 {

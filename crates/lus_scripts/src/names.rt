@@ -45,10 +45,7 @@ pub(crate) fn place_of(table: &IndexSet<String>, name: &str) -> Option<usize>
     table.get_index_of(name)
 }
 
-pub(crate) fn instance_names<'t, 'v>(
-    alloc: Global,
-    form: &Form<'t, 'v>,
-) -> Result<Vec<&'v str>, AllocError>
+pub(crate) fn instance_names<'v>(alloc: Global, form: &Form<'v>) -> Result<Vec<&'v str>, AllocError>
     ensures { IfOk result (λ v. map (λ n. n.now) v.items ≡ instance_names (form_seen form.now)) }
 {
     let mut names = Vec::new(alloc);
@@ -58,10 +55,7 @@ pub(crate) fn instance_names<'t, 'v>(
     Ok(names)
 }
 
-pub(crate) fn caller_names<'t, 'v>(
-    alloc: Global,
-    form: &Form<'t, 'v>,
-) -> Result<Vec<&'v str>, AllocError>
+pub(crate) fn caller_names<'v>(alloc: Global, form: &Form<'v>) -> Result<Vec<&'v str>, AllocError>
     ensures { IfOk result (λ v. map (λ n. n.now) v.items ≡ caller_names (form_seen form.now)) }
 {
     let mut names = Vec::new(alloc);

@@ -1,29 +1,28 @@
 //! Reading scripts.
 
 ghost use Rattle.std.specs.Prelude.{◌≡◌, ◌⊎◌, ◌<◌, ◌≤◌, ◌^◌, IfErr, IfOk, Some, None, Ok, Err, map, length, option_map, string_bytes, true};
-ghost use Rattle.json.specs.Json.{Json as Data};
+ghost use Rattle.serde_json.specs.Data.{Data};
+ghost use Rattle.serde_json.specs.Read.{read};
+ghost use Rattle.serde_json.specs.View.{view};
 ghost use Rattle.std.specs.Str.{IsUtf8};
 ghost use Rattle.lus_syntax.specs.Limits.{most_bytes};
 ghost use Rattle.lus_program.specs.View.{node_of, program_seen};
-ghost use Rattle.lus_scripts.specs.Documents.{read};
 ghost use Rattle.lus_scripts.specs.Forms.{each};
 ghost use Rattle.lus_scripts.specs.Scripts.{HaveNodes, call_of, calls_of, instance_names, node_on, request_of, scripts_of, scripts_of_form, with_table, within_limits};
 ghost use Rattle.lus_scripts.specs.View.{ask_seen, call_seen, caller_seen, calls_kept, form_seen, scope_seen, scripts_seen};
 
-use crate::document::Json;
 use crate::form::{Ask, CallForm, CallerForm, Form, read_form};
 use crate::known::{are_calls_known, instances_of, is_within_limits};
 use crate::names::{caller_names, copy_names, instance_names, name_table, place_of};
-use crate::parsing::parse;
 use crate::refusal::ScriptRefusal;
 use crate::scripts::{Instance, Scripts};
 use crate::value::{read_row, read_rows};
 use indexmap::IndexSet;
-use json::Scratch;
 use lus_program::{Node, Program};
 use lus_requests::{Call, Caller, Request};
 use lus_syntax::MOST_BYTES;
 use lus_values::Names;
+use serde_json::Value;
 use std::alloc::Global;
 
 /// What the calls of scripts are read by: the program, the names of its constructors, and the instances with the table of
@@ -34,6 +33,22 @@ pub(crate) struct Scope<'p> {
     pub names: &'p Names,
     pub table: &'p IndexSet<String>,
     pub instances: &'p [Instance],
+}
+
+/// The value that bytes of JSON are.
+pub(crate) fn parse(alloc: Global, bytes: &[u8]) -> Result<Value, ScriptRefusal>
+    ensures ok { IfOk result (λ v. IsUtf8 bytes.now × (read bytes.now ≡ Some (view v))) }
+    ensures refused { IfErr result (λ e. (e ≡ ScriptRefusal.Memory)
+        ⊎ ((e ≡ ScriptRefusal.Json) × (IsUtf8 bytes.now → read bytes.now ≡ None))) }
+{
+    match Value::from_slice(alloc, bytes) {
+        Ok(json) => Ok(json),
+        Err(error) => Err(if error.is_memory() {
+            ScriptRefusal::Memory
+        } else {
+            ScriptRefusal::Json
+        }),
+    }
 }
 
 /// The node of the instance at this place.
@@ -48,54 +63,50 @@ pub(crate) fn read_request(
     alloc: Global,
     scope: Scope<'_>,
     node: Option<&Node>,
-    ask: &Ask<'_, '_>,
+    ask: Ask<'_>,
 ) -> Result<Request, ScriptRefusal>
     ensures ok { IfOk result (λ r.
-        request_of (scope_seen scope.entry) (option_map (λ f. node_of f.now) node.entry) (ask_seen ask.now) ≡ Some r) }
+        request_of (scope_seen scope.entry) (option_map (λ f. node_of f.now) node.entry) (ask_seen ask.entry) ≡ Some r) }
     ensures form { result ≡ Err ScriptRefusal.Form
-        → request_of (scope_seen scope.entry) (option_map (λ f. node_of f.now) node.entry) (ask_seen ask.now) ≡ None }
+        → request_of (scope_seen scope.entry) (option_map (λ f. node_of f.now) node.entry) (ask_seen ask.entry) ≡ None }
     ensures errors { IfErr result (λ e. (e ≡ ScriptRefusal.Form) ⊎ (e ≡ ScriptRefusal.Memory)) }
 {
     match ask {
-        Ask::Step(list) => Ok(Request::Step(read_row(
+        Ask::Step(items) => Ok(Request::Step(read_row(
             alloc,
             scope.program,
             scope.names,
             node,
-            list,
+            items,
         )?)),
         Ask::Reset => Ok(Request::Reset),
-        Ask::Save(slot) => Ok(Request::Save(*slot)),
-        Ask::Restore(slot) => Ok(Request::Restore(*slot)),
-        Ask::Burst(list) => Ok(Request::Burst(read_rows(
+        Ask::Save(slot) => Ok(Request::Save(slot)),
+        Ask::Restore(slot) => Ok(Request::Restore(slot)),
+        Ask::Burst(lists) => Ok(Request::Burst(read_rows(
             alloc,
             scope.program,
             scope.names,
             node,
-            list,
+            lists,
         )?)),
     }
 }
 
-fn read_call(
-    alloc: Global,
-    scope: Scope<'_>,
-    form: &CallForm<'_, '_>,
-) -> Result<Call, ScriptRefusal>
+fn read_call(alloc: Global, scope: Scope<'_>, form: &CallForm<'_>) -> Result<Call, ScriptRefusal>
     ensures ok { IfOk result (λ call. call_of (scope_seen scope.entry) (call_seen form.now) ≡ Some call) }
     ensures form { result ≡ Err ScriptRefusal.Form → call_of (scope_seen scope.entry) (call_seen form.now) ≡ None }
     ensures errors { IfErr result (λ e. (e ≡ ScriptRefusal.Form) ⊎ (e ≡ ScriptRefusal.Memory)) }
 {
     let on = place_of(scope.table, form.on).ok_or(ScriptRefusal::Form)?;
     let node = node_on(scope, on);
-    let request = read_request(alloc, scope, node, &form.ask)?;
+    let request = read_request(alloc, scope, node, form.ask)?;
     Ok(Call { on, request })
 }
 
 fn read_calls(
     alloc: Global,
     scope: Scope<'_>,
-    forms: &[CallForm<'_, '_>],
+    forms: &[CallForm<'_>],
 ) -> Result<Vec<Call>, ScriptRefusal>
     ensures ok { IfOk result (λ calls. each (call_of (scope_seen scope.entry)) (map call_seen forms.now) ≡ Some calls.items) }
     ensures form { result ≡ Err ScriptRefusal.Form → each (call_of (scope_seen scope.entry)) (map call_seen forms.now) ≡ None }
@@ -112,7 +123,7 @@ fn read_calls(
 fn read_callers(
     alloc: Global,
     scope: Scope<'_>,
-    form: &Form<'_, '_>,
+    form: &Form<'_>,
 ) -> Result<Vec<Caller>, ScriptRefusal>
     ensures ok { IfOk result (λ callers. each (calls_of (scope_seen scope.entry)) (form_seen form.now).callers
         ≡ Some (map calls_kept callers.items)) }
@@ -132,7 +143,7 @@ fn with_table(
     alloc: Global,
     program: &Program,
     names: &Names,
-    form: &Form<'_, '_>,
+    form: &Form<'_>,
     table: &IndexSet<String>,
 ) -> Result<Scripts, ScriptRefusal>
     requires nodes { length program.now.nodes.items < 2 ^ 32 }
@@ -173,7 +184,7 @@ fn from_form(
     alloc: Global,
     program: &Program,
     names: &Names,
-    form: &Form<'_, '_>,
+    form: &Form<'_>,
 ) -> Result<Scripts, ScriptRefusal>
     requires { length program.now.nodes.items < 2 ^ 32 }
     ensures ok { IfOk result (λ s. scripts_of_form (program_seen program.now) names.now (form_seen form.now) ≡ Ok (scripts_seen s)) }
@@ -198,12 +209,12 @@ fn from_json(
     alloc: Global,
     program: &Program,
     names: &Names,
-    json: &Json<'_, '_>,
+    json: &Value,
 ) -> Result<Scripts, ScriptRefusal>
     requires { length program.now.nodes.items < 2 ^ 32 }
-    ensures ok { IfOk result (λ s. scripts_of (program_seen program.now) names.now json.now ≡ Ok (scripts_seen s)) }
+    ensures ok { IfOk result (λ s. scripts_of (program_seen program.now) names.now (view json.now) ≡ Ok (scripts_seen s)) }
     ensures refused { IfErr result (λ e. (e ≡ ScriptRefusal.Memory)
-        ⊎ (scripts_of (program_seen program.now) names.now json.now ≡ Err e)) }
+        ⊎ (scripts_of (program_seen program.now) names.now (view json.now) ≡ Err e)) }
 {
     let form = read_form(alloc, json)?;
     from_form(alloc, program, names, &form)
@@ -231,9 +242,8 @@ pub fn read_scripts(
     if bytes.len() > MOST_BYTES {
         return Err(ScriptRefusal::Limit);
     }
-    let mut scratch = Scratch::new(alloc);
-    match parse(alloc, bytes, &mut scratch) {
-        Ok(tape) => from_json(alloc, program, names, &Json::of(&tape)),
+    match parse(alloc, bytes) {
+        Ok(json) => from_json(alloc, program, names, &json),
         Err(refusal) => Err(refusal),
     }
 }

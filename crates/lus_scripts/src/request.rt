@@ -1,42 +1,45 @@
 //! Reading one request to a node.
 
-ghost use Rattle.std.specs.Prelude.{◌≡◌, ◌⊎◌, IfErr, IfOk, IsUtf8, Err, Some, None, map, option_map, string_bytes, slice_get, take};
-ghost use Rattle.std.specs.List.{list_any};
-ghost use Rattle.std.specs.Str.{bytes_eq};
+ghost use Rattle.std.specs.Prelude.{◌≡◌, ◌⊎◌, IfErr, IfOk, IsUtf8, Err, Some, None, map, option_map, slice_get, take};
+ghost use Rattle.std.specs.List.{count_by};
+ghost use Rattle.serde_json.specs.Read.{read};
+ghost use Rattle.serde_json.specs.View.{view};
 ghost use Rattle.lus_values.specs.View.{entry_of};
 ghost use Rattle.lus_program.specs.View.{node_of, program_seen, variable_of};
-ghost use Rattle.lus_scripts.specs.Documents.{has_keys};
 ghost use Rattle.lus_scripts.specs.Forms.{each};
-ghost use Rattle.lus_scripts.specs.Requests.{are_inputs, asked_alone, inputs_in, inputs_of, named_item, named_row, request_alone, request_in};
+ghost use Rattle.lus_scripts.specs.Requests.{asked_alone, inputs_in, inputs_of, is_given, named_item, named_row, names_inputs, request_alone, request_in};
 ghost use Rattle.lus_scripts.specs.View.{ask_seen};
 
-use crate::document::{Json, Keys};
-use crate::form::{Ask, alone_at, is_list, read_ask, read_step};
-use crate::parsing::parse;
-use crate::reading::{Scope, read_request as read_asked};
+use crate::form::{Ask, as_list, member_count, read_ask};
+use crate::reading::{Scope, parse, read_request as read_asked};
 use crate::refusal::ScriptRefusal;
 use crate::value::read_item;
 use indexmap::IndexSet;
-use json::Scratch;
 use lus_program::{Node, NodeId, Program, Variable};
 use lus_requests::Request;
 use lus_values::{Names, Row, Value as Item};
+use serde_json::Value;
 use std::alloc::Global;
 
-fn asked_alone<'t, 'v>(request: Json<'t, 'v>) -> Option<Ask<'t, 'v>>
-    ensures { option_map ask_seen result ≡ asked_alone request.entry }
+fn asked_alone(request: &Value) -> Option<Ask<'_>>
+    ensures { option_map ask_seen result ≡ asked_alone (view request.now) }
 {
-    if is_list(&request) {
-        read_step(request)
-    } else {
-        read_ask(&request, &[])
+    if let Some(items) = as_list(request) {
+        return Some(Ask::Step(items));
     }
+    if member_count(request) != 1 {
+        return None;
+    }
+    read_ask(request)
 }
 
-fn inputs_in<'t, 'v>(request: &Json<'t, 'v>) -> Option<Json<'t, 'v>>
-    ensures { result ≡ inputs_in request.now }
+fn inputs_in(request: &Value) -> Option<&Value>
+    ensures { option_map (λ v. view v.now) result ≡ inputs_in (view request.now) }
 {
-    alone_at(request, "inputs", &[])
+    if member_count(request) != 1 {
+        return None;
+    }
+    request.get("inputs")
 }
 
 /// The inputs of a node, in declared order.
@@ -56,39 +59,28 @@ fn inputs_of(node: Option<&Node>) -> &[Variable]
     }
 }
 
-fn has_name(inputs: &[Variable], name: &str) -> bool
-    ensures { result ≡ list_any (λ v. bytes_eq name.now (string_bytes v.name)) inputs.now }
+/// Whether an object has a member of this input's name.
+fn is_given(given: &Value, input: &Variable) -> bool
+    ensures { result ≡ is_given (view given.now) (variable_of input.now) }
 {
-    inputs.iter().any(|input| name == input.name.as_str())
+    given.get(input.name.as_str()).is_some()
 }
 
-fn is_input(inputs: &[Variable], key: &str) -> bool
-    ensures { result ≡ list_any (λ v. bytes_eq key.now v.name) (map variable_of inputs.now) }
+/// How many of the inputs an object has a member for.
+fn given_count(inputs: &[Variable], given: &Value) -> usize
+    ensures { result ≡ count_by (is_given (view given.now)) (map variable_of inputs.now) }
 {
-    has_name(inputs, key)
+    inputs
+        .iter()
+        .filter(|input| is_given(given, *input))
+        .count()
 }
 
-/// Whether each of these keys is an input's name.
-fn are_inputs(inputs: &[Variable], keys: Keys<'_, '_>) -> bool
-    ensures { result ≡ are_inputs (map variable_of inputs.now) keys.entry }
+/// Whether each key of an object is the name of an input.
+fn names_inputs(inputs: &[Variable], given: &Value) -> bool
+    ensures { result ≡ names_inputs (map variable_of inputs.now) (view given.now) }
 {
-    let mut left = keys;
-    while let Some(key) = left.next() {
-        if !is_input(inputs, key) {
-            return false;
-        }
-    }
-    true
-}
-
-/// Whether a value is an object each of whose keys is the name of an input.
-fn names_inputs(inputs: &[Variable], given: &Json<'_, '_>) -> bool
-    ensures { result ≡ has_keys (are_inputs (map variable_of inputs.now)) given.now }
-{
-    match given.keys() {
-        Some(keys) => are_inputs(inputs, keys),
-        None => false,
-    }
+    given.as_object().is_some() && member_count(given) == given_count(inputs, given)
 }
 
 /// The item that an object gives to an input.
@@ -96,16 +88,16 @@ fn named_item(
     alloc: Global,
     program: &Program,
     names: &Names,
-    given: &Json<'_, '_>,
+    given: &Value,
     input: &Variable,
 ) -> Result<Option<Item>, ScriptRefusal>
-    ensures ok { IfOk result (λ v. named_item (program_seen program.now) names.now given.now (variable_of input.now) ≡ Some (entry_of v)) }
+    ensures ok { IfOk result (λ v. named_item (program_seen program.now) names.now (view given.now) (variable_of input.now) ≡ Some (entry_of v)) }
     ensures form { result ≡ Err ScriptRefusal.Form
-        → named_item (program_seen program.now) names.now given.now (variable_of input.now) ≡ None }
+        → named_item (program_seen program.now) names.now (view given.now) (variable_of input.now) ≡ None }
     ensures errors { IfErr result (λ e. (e ≡ ScriptRefusal.Form) ⊎ (e ≡ ScriptRefusal.Memory)) }
 {
     match given.get(input.name.as_str()) {
-        Some(item) => read_item(alloc, program, names, Some(input.kind), &item),
+        Some(item) => read_item(alloc, program, names, Some(input.kind), item),
         None => Ok(None),
     }
 }
@@ -114,13 +106,13 @@ fn named_items(
     alloc: Global,
     program: &Program,
     names: &Names,
-    given: &Json<'_, '_>,
+    given: &Value,
     inputs: &[Variable],
 ) -> Result<Vec<Option<Item>>, ScriptRefusal>
-    ensures ok { IfOk result (λ v. each (named_item (program_seen program.now) names.now given.now) (map variable_of inputs.now)
+    ensures ok { IfOk result (λ v. each (named_item (program_seen program.now) names.now (view given.now)) (map variable_of inputs.now)
         ≡ Some (map entry_of v.items)) }
     ensures form { result ≡ Err ScriptRefusal.Form
-        → each (named_item (program_seen program.now) names.now given.now) (map variable_of inputs.now) ≡ None }
+        → each (named_item (program_seen program.now) names.now (view given.now)) (map variable_of inputs.now) ≡ None }
     ensures errors { IfErr result (λ e. (e ≡ ScriptRefusal.Form) ⊎ (e ≡ ScriptRefusal.Memory)) }
 {
     let mut items = Vec::new(alloc);
@@ -136,11 +128,11 @@ fn named_row(
     program: &Program,
     names: &Names,
     inputs: &[Variable],
-    given: &Json<'_, '_>,
+    given: &Value,
 ) -> Result<Row, ScriptRefusal>
-    ensures ok { IfOk result (λ row. named_row (program_seen program.now) names.now (map variable_of inputs.now) given.now ≡ Some row) }
+    ensures ok { IfOk result (λ row. named_row (program_seen program.now) names.now (map variable_of inputs.now) (view given.now) ≡ Some row) }
     ensures form { result ≡ Err ScriptRefusal.Form
-        → named_row (program_seen program.now) names.now (map variable_of inputs.now) given.now ≡ None }
+        → named_row (program_seen program.now) names.now (map variable_of inputs.now) (view given.now) ≡ None }
     ensures errors { IfErr result (λ e. (e ≡ ScriptRefusal.Form) ⊎ (e ≡ ScriptRefusal.Memory)) }
 {
     if !names_inputs(inputs, given) {
@@ -155,15 +147,15 @@ fn read_alone(
     program: &Program,
     names: &Names,
     node: Option<&Node>,
-    json: Json<'_, '_>,
+    json: &Value,
 ) -> Result<Request, ScriptRefusal>
     ensures ok { IfOk result (λ r.
-        request_alone (program_seen program.now) names.now (option_map (λ f. node_of f.now) node.entry) json.entry ≡ Some r) }
+        request_alone (program_seen program.now) names.now (option_map (λ f. node_of f.now) node.entry) (view json.now) ≡ Some r) }
     ensures refused { IfErr result (λ e. (e ≡ ScriptRefusal.Memory)
-        ⊎ (request_alone (program_seen program.now) names.now (option_map (λ f. node_of f.now) node.entry) json.entry ≡ None)) }
+        ⊎ (request_alone (program_seen program.now) names.now (option_map (λ f. node_of f.now) node.entry) (view json.now) ≡ None)) }
 {
-    if let Some(given) = inputs_in(&json) {
-        let row = named_row(alloc, program, names, inputs_of(node), &given)?;
+    if let Some(given) = inputs_in(json) {
+        let row = named_row(alloc, program, names, inputs_of(node), given)?;
         return Ok(Request::Step(row));
     }
     let ask = asked_alone(json).ok_or(ScriptRefusal::Form)?;
@@ -174,7 +166,7 @@ fn read_alone(
         table: &table,
         instances: &[],
     };
-    read_asked(alloc, scope, node, &ask)
+    read_asked(alloc, scope, node, ask)
 }
 
 fn node_at(program: &Program, node: NodeId) -> Option<&Node>
@@ -198,12 +190,8 @@ pub fn read_request(
     ensures refused { IfErr result (λ e. (e ≡ ScriptRefusal.Memory) ⊎ (IsUtf8 text.now
         → request_in (program_seen program.now) names.now (slice_get (program_seen program.now).nodes node.0) text.now ≡ None)) }
 {
-    let mut scratch = Scratch::new(alloc);
-    match parse(alloc, text, &mut scratch) {
-        Ok(tape) => {
-            let json = Json::of(&tape);
-            read_alone(alloc, program, names, node_at(program, node), json)
-        }
+    match parse(alloc, text) {
+        Ok(json) => read_alone(alloc, program, names, node_at(program, node), &json),
         Err(refusal) => Err(refusal),
     }
 }

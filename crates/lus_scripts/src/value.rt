@@ -1,35 +1,35 @@
 //! Values of steps, read by the types of the inputs where they stand.
 
-ghost use Rattle.std.specs.Prelude.{◌≡◌, ◌⊎◌, IfErr, IfOk, Err, Some, None, map, option_map, string_bytes, option_and_then};
-ghost use Rattle.std.specs.List.{list_any};
-ghost use Rattle.std.specs.Str.{bytes_eq};
-ghost use Rattle.json.specs.Find.{get};
+ghost use Rattle.std.specs.Prelude.{◌≡◌, ◌⊎◌, IfErr, IfOk, Err, Some, None, map, option_map, option_and_then};
+ghost use Rattle.serde_json.specs.Find.{get};
+ghost use Rattle.serde_json.specs.View.{view};
 ghost use Rattle.lus_values.specs.View.{entry_of, value_of};
 ghost use Rattle.lus_program.specs.View.{field_of, node_of, program_seen};
 ghost use Rattle.lus_scripts.specs.Forms.{each};
-ghost use Rattle.lus_scripts.specs.Documents.{items_in};
-ghost use Rattle.lus_scripts.specs.Scripts.{are_fields, fields_at, input_kind, item_of_json, listed_row, row_from, scalar, value_at, value_of_json};
+ghost use Rattle.lus_scripts.specs.Scripts.{fields_at, input_kind, item_of_json, listed_row, row_from, scalar, value_at, value_of_json};
 
-use crate::document::{Items, Json, Keys};
+use crate::form::{as_list, member_count};
 use crate::refusal::ScriptRefusal;
 use lus_program::{Declared, Field, Kind, Node, Program};
 use lus_requests::Rows;
 use lus_syntax::MOST_NESTING;
 use lus_values::{Names, Row, Value};
+use serde_json::Value as Json;
 use std::alloc::Global;
 
 /// A number, a truth value, or the name of a constructor.
-fn read_scalar(names: &Names, json: &Json<'_, '_>) -> Option<Value>
-    ensures { option_map value_of result ≡ scalar names.now json.now }
+fn read_scalar(names: &Names, json: &Json) -> Option<Value>
+    ensures { option_map value_of result ≡ scalar names.now (view json.now) }
 {
-    if let Some(number) = json.as_int() {
-        return Some(Value::Int(number));
+    match json {
+        Json::Bool(truth) => Some(Value::Bool(*truth)),
+        Json::Number(number) => Some(Value::Int(number.as_i64()?)),
+        Json::String(name) => {
+            let (enumeration, constructor) = names.find(name.as_str())?;
+            Some(Value::Enum(enumeration, constructor))
+        }
+        _ => None,
     }
-    if let Some(truth) = json.as_bool() {
-        return Some(Value::Bool(truth));
-    }
-    let (enumeration, constructor) = names.find(json.as_str()?)?;
-    Some(Value::Enum(enumeration, constructor))
 }
 
 /// The fields of a structure type.
@@ -45,31 +45,6 @@ fn fields_at(program: &Program, kind: Option<Kind>) -> Option<&[Field]>
     }
 }
 
-fn has_name(fields: &[Field], name: &str) -> bool
-    ensures { result ≡ list_any (λ f. bytes_eq name.now (string_bytes f.name)) fields.now }
-{
-    fields.iter().any(|field| name == field.name.as_str())
-}
-
-fn is_field(fields: &[Field], key: &str) -> bool
-    ensures { result ≡ list_any (λ f. bytes_eq key.now f.name) (map field_of fields.now) }
-{
-    has_name(fields, key)
-}
-
-/// Whether each of these keys is a field's name.
-fn are_fields(fields: &[Field], keys: Keys<'_, '_>) -> bool
-    ensures { result ≡ are_fields (map field_of fields.now) keys.entry }
-{
-    let mut left = keys;
-    while let Some(key) = left.next() {
-        if !is_field(fields, key) {
-            return false;
-        }
-    }
-    true
-}
-
 /// The value at the place of a type, in which objects nest at most this many levels.
 #[cycle(values)]
 fn read_value(
@@ -78,20 +53,20 @@ fn read_value(
     names: &Names,
     levels: usize,
     kind: Option<Kind>,
-    json: &Json<'_, '_>,
+    json: &Json,
 ) -> Result<Value, ScriptRefusal>
-    ensures ok { IfOk result (λ v. value_at levels (program_seen program.now) names.now kind json.now ≡ Some (value_of v)) }
-    ensures form { result ≡ Err ScriptRefusal.Form → value_at levels (program_seen program.now) names.now kind json.now ≡ None }
+    ensures ok { IfOk result (λ v. value_at levels (program_seen program.now) names.now kind (view json.now) ≡ Some (value_of v)) }
+    ensures form { result ≡ Err ScriptRefusal.Form → value_at levels (program_seen program.now) names.now kind (view json.now) ≡ None }
     ensures errors { IfErr result (λ e. (e ≡ ScriptRefusal.Form) ⊎ (e ≡ ScriptRefusal.Memory)) }
 {
-    let Some(keys) = json.keys() else {
+    let Some(_) = json.as_object() else {
         return read_scalar(names, json).ok_or(ScriptRefusal::Form);
     };
     if levels == 0 {
         return Err(ScriptRefusal::Form);
     }
     let fields = fields_at(program, kind).ok_or(ScriptRefusal::Form)?;
-    if !are_fields(fields, keys) {
+    if member_count(json) != fields.len() {
         return Err(ScriptRefusal::Form);
     }
     let values = read_fields(alloc, program, names, levels - 1, fields, json)?;
@@ -106,20 +81,20 @@ fn read_fields(
     names: &Names,
     levels: usize,
     fields: &[Field],
-    object: &Json<'_, '_>,
+    object: &Json,
 ) -> Result<Vec<Value>, ScriptRefusal>
     ensures ok { IfOk result (λ v.
-        each (λ f. option_and_then (value_at levels (program_seen program.now) names.now (Some f.kind)) (get f.name object.now))
+        each (λ f. option_and_then (value_at levels (program_seen program.now) names.now (Some f.kind)) (get f.name (view object.now)))
         (map field_of fields.now) ≡ Some (map value_of v.items)) }
     ensures form { result ≡ Err ScriptRefusal.Form
-        → each (λ f. option_and_then (value_at levels (program_seen program.now) names.now (Some f.kind)) (get f.name object.now))
+        → each (λ f. option_and_then (value_at levels (program_seen program.now) names.now (Some f.kind)) (get f.name (view object.now)))
         (map field_of fields.now) ≡ None }
     ensures errors { IfErr result (λ e. (e ≡ ScriptRefusal.Form) ⊎ (e ≡ ScriptRefusal.Memory)) }
 {
     let mut values = Vec::new(alloc);
     for field in fields {
         let json = object.get(field.name.as_str()).ok_or(ScriptRefusal::Form)?;
-        let value = read_value(alloc, program, names, levels, Some(field.kind), &json)?;
+        let value = read_value(alloc, program, names, levels, Some(field.kind), json)?;
         values.push(value)?;
     }
     Ok(values)
@@ -143,25 +118,25 @@ fn read_typed(
     program: &Program,
     names: &Names,
     kind: Option<Kind>,
-    json: &Json<'_, '_>,
+    json: &Json,
 ) -> Result<Value, ScriptRefusal>
-    ensures ok { IfOk result (λ v. value_of_json (program_seen program.now) names.now kind json.now ≡ Some (value_of v)) }
-    ensures form { result ≡ Err ScriptRefusal.Form → value_of_json (program_seen program.now) names.now kind json.now ≡ None }
+    ensures ok { IfOk result (λ v. value_of_json (program_seen program.now) names.now kind (view json.now) ≡ Some (value_of v)) }
+    ensures form { result ≡ Err ScriptRefusal.Form → value_of_json (program_seen program.now) names.now kind (view json.now) ≡ None }
     ensures errors { IfErr result (λ e. (e ≡ ScriptRefusal.Form) ⊎ (e ≡ ScriptRefusal.Memory)) }
 {
     read_value(alloc, program, names, MOST_NESTING, kind, json)
 }
 
-/// An item of a step: null is absent.
-pub(crate) fn read_item(
+/// Reads an item of a step at the place of an input of this type, or where there is no input: null is absent. A refusal is `Form`.
+pub fn read_item(
     alloc: Global,
     program: &Program,
     names: &Names,
     kind: Option<Kind>,
-    json: &Json<'_, '_>,
+    json: &Json,
 ) -> Result<Option<Value>, ScriptRefusal>
-    ensures ok { IfOk result (λ v. item_of_json (program_seen program.now) names.now kind json.now ≡ Some (entry_of v)) }
-    ensures form { result ≡ Err ScriptRefusal.Form → item_of_json (program_seen program.now) names.now kind json.now ≡ None }
+    ensures ok { IfOk result (λ v. item_of_json (program_seen program.now) names.now kind (view json.now) ≡ Some (entry_of v)) }
+    ensures form { result ≡ Err ScriptRefusal.Form → item_of_json (program_seen program.now) names.now kind (view json.now) ≡ None }
     ensures errors { IfErr result (λ e. (e ≡ ScriptRefusal.Form) ⊎ (e ≡ ScriptRefusal.Memory)) }
 {
     if json.is_null() {
@@ -172,106 +147,61 @@ pub(crate) fn read_item(
 }
 
 /// The inputs of a step of a node.
-fn read_items(
-    alloc: Global,
-    program: &Program,
-    names: &Names,
-    node: Option<&Node>,
-    items: Items<'_, '_>,
-) -> Result<Row, ScriptRefusal>
-    ensures ok { IfOk result (λ row.
-        row_from (program_seen program.now) names.now (option_map (λ f. node_of f.now) node.entry) 0 items.entry ≡ Some row) }
-    ensures form { result ≡ Err ScriptRefusal.Form
-        → row_from (program_seen program.now) names.now (option_map (λ f. node_of f.now) node.entry) 0 items.entry ≡ None }
-    ensures errors { IfErr result (λ e. (e ≡ ScriptRefusal.Form) ⊎ (e ≡ ScriptRefusal.Memory)) }
-{
-    let mut left = items;
-    let mut row = Vec::new(alloc);
-    while let Some(item) = left.next() {
-        let kind = input_kind(node, row.len());
-        let value = read_item(alloc, program, names, kind, &item)?;
-        row.push(value)?;
-    }
-    Ok(Row::new(row))
-}
-
-/// The inputs of a step of a node, which a list has.
 pub(crate) fn read_row(
     alloc: Global,
     program: &Program,
     names: &Names,
     node: Option<&Node>,
-    json: &Json<'_, '_>,
+    items: &[Json],
 ) -> Result<Row, ScriptRefusal>
     ensures ok { IfOk result (λ row.
-        row_from (program_seen program.now) names.now (option_map (λ f. node_of f.now) node.entry) 0 (items_in json.now) ≡ Some row) }
+        row_from (program_seen program.now) names.now (option_map (λ f. node_of f.now) node.entry) 0 (map view items.now) ≡ Some row) }
     ensures form { result ≡ Err ScriptRefusal.Form
-        → row_from (program_seen program.now) names.now (option_map (λ f. node_of f.now) node.entry) 0 (items_in json.now) ≡ None }
+        → row_from (program_seen program.now) names.now (option_map (λ f. node_of f.now) node.entry) 0 (map view items.now) ≡ None }
     ensures errors { IfErr result (λ e. (e ≡ ScriptRefusal.Form) ⊎ (e ≡ ScriptRefusal.Memory)) }
 {
-    match json.items() {
-        Some(items) => read_items(alloc, program, names, node, items),
-        None => Ok(Row::new(Vec::new(alloc))),
+    let mut row = Vec::new(alloc);
+    for (place, item) in items.iter().enumerate() {
+        row.push(read_item(alloc, program, names, input_kind(node, place), item)?)?;
     }
+    Ok(Row::new(row))
 }
 
-/// The row that a list is.
 fn read_listed_row(
     alloc: Global,
     program: &Program,
     names: &Names,
     node: Option<&Node>,
-    json: &Json<'_, '_>,
+    json: &Json,
 ) -> Result<Row, ScriptRefusal>
     ensures ok { IfOk result (λ row.
-        listed_row (program_seen program.now) names.now (option_map (λ f. node_of f.now) node.entry) json.now ≡ Some row) }
+        listed_row (program_seen program.now) names.now (option_map (λ f. node_of f.now) node.entry) (view json.now) ≡ Some row) }
     ensures form { result ≡ Err ScriptRefusal.Form
-        → listed_row (program_seen program.now) names.now (option_map (λ f. node_of f.now) node.entry) json.now ≡ None }
+        → listed_row (program_seen program.now) names.now (option_map (λ f. node_of f.now) node.entry) (view json.now) ≡ None }
     ensures errors { IfErr result (λ e. (e ≡ ScriptRefusal.Form) ⊎ (e ≡ ScriptRefusal.Memory)) }
 {
-    let items = json.items().ok_or(ScriptRefusal::Form)?;
-    read_items(alloc, program, names, node, items)
+    let items = as_list(json).ok_or(ScriptRefusal::Form)?;
+    read_row(alloc, program, names, node, items)
 }
 
 /// The rows of a burst of a node.
-fn read_lists(
-    alloc: Global,
-    program: &Program,
-    names: &Names,
-    node: Option<&Node>,
-    lists: Items<'_, '_>,
-) -> Result<Rows, ScriptRefusal>
-    ensures ok { IfOk result (λ rows.
-        each (listed_row (program_seen program.now) names.now (option_map (λ f. node_of f.now) node.entry)) lists.entry ≡ Some rows) }
-    ensures form { result ≡ Err ScriptRefusal.Form
-        → each (listed_row (program_seen program.now) names.now (option_map (λ f. node_of f.now) node.entry)) lists.entry ≡ None }
-    ensures errors { IfErr result (λ e. (e ≡ ScriptRefusal.Form) ⊎ (e ≡ ScriptRefusal.Memory)) }
-{
-    let mut left = lists;
-    let mut rows = Vec::new(alloc);
-    while let Some(list) = left.next() {
-        let row = read_listed_row(alloc, program, names, node, &list)?;
-        rows.push(row)?;
-    }
-    Ok(Rows::new(rows))
-}
-
-/// The rows of a burst of a node, which a list has.
 pub(crate) fn read_rows(
     alloc: Global,
     program: &Program,
     names: &Names,
     node: Option<&Node>,
-    json: &Json<'_, '_>,
+    lists: &[Json],
 ) -> Result<Rows, ScriptRefusal>
     ensures ok { IfOk result (λ rows.
-        each (listed_row (program_seen program.now) names.now (option_map (λ f. node_of f.now) node.entry)) (items_in json.now) ≡ Some rows) }
+        each (listed_row (program_seen program.now) names.now (option_map (λ f. node_of f.now) node.entry)) (map view lists.now) ≡ Some rows) }
     ensures form { result ≡ Err ScriptRefusal.Form
-        → each (listed_row (program_seen program.now) names.now (option_map (λ f. node_of f.now) node.entry)) (items_in json.now) ≡ None }
+        → each (listed_row (program_seen program.now) names.now (option_map (λ f. node_of f.now) node.entry)) (map view lists.now) ≡ None }
     ensures errors { IfErr result (λ e. (e ≡ ScriptRefusal.Form) ⊎ (e ≡ ScriptRefusal.Memory)) }
 {
-    match json.items() {
-        Some(lists) => read_lists(alloc, program, names, node, lists),
-        None => Ok(Rows::new(Vec::new(alloc))),
+    let mut rows = Vec::new(alloc);
+    for list in lists {
+        let row = read_listed_row(alloc, program, names, node, list)?;
+        rows.push(row)?;
     }
+    Ok(Rows::new(rows))
 }
