@@ -14,17 +14,17 @@ fn sentence_on(alloc: Global, source: &str, found: Misplaced<'_>) -> Result<Stri
     let text = slice_of(source, extent_of(source, found.expr));
     let has = found.has.told(alloc)?;
     let wanted = found.wanted.told(alloc)?;
-    format!(in alloc; "`{text}` is {has}, and this place is {wanted}")
+    format!(in alloc; "`{text}` is {has}, but this place is {wanted}")
 }
 
 /// What is said of clocks that no single test leads between.
 fn note_on(found: Misplaced<'_>) -> &'static str {
     match (found.has.newest, found.wanted.newest) {
-        (None, Some(_)) => "Sample the faster side by `when`.",
+        (None, Some(_)) => "Sample it with `when`.",
         (Some(_), None) =>
-            "Complete the slower side by `merge`, or declare the left side on its clock.",
+            "Give it a value at the other instants with `merge`, or declare the left side on its clock.",
         _ =>
-            "Bring both to one clock: sample the faster side by `when`, or complete the slower one by `merge`.",
+            "Both sides need the same clock: sample one with `when`, or give it a value at the other instants with `merge`.",
     }
 }
 
@@ -48,7 +48,7 @@ fn add_advice(
     let mut note = note_on(found);
     if let Some(tick) = clocks.leading(found.wanted, found.has) {
         note =
-            "Complete the slower side by `merge`, with a value for the other instants, or declare the left side on its clock.";
+            "Give it a value at the other instants with `merge`, or declare the left side on its clock.";
         finding.edit = completed(alloc, source, clocks, equation, found, tick)?;
     }
     finding.note = Some(String::from_str(alloc, note)?);

@@ -20,18 +20,18 @@ pub fn wrong_clock(
     let (what, note) = match variable.role {
         Role::Input => (
             "input",
-            "The clock of an input tests an input, and no clock leads back to its own variable.",
+            "The clock of an input is another input, and no variable is its own clock, directly or through others.",
         ),
         Role::Output => (
             "output",
-            "The clock of an output tests an input or an output, and no clock leads back to its own variable.",
+            "The clock of an output is an input or another output, and no variable is its own clock, directly or through others.",
         ),
-        Role::Local => ("local", "No clock leads back to its own variable."),
+        Role::Local => ("local", "No variable is its own clock, directly or through others."),
     };
     let text = variable.name.text.as_str();
     let tested = variable_of(test);
     let other = tested.text.as_str();
-    let sentence = format!(in alloc; "the clock of the {what} `{text}` can't test `{other}`")?;
+    let sentence = format!(in alloc; "the {what} `{text}` cannot have `{other}` as its clock")?;
     let mut finding = Finding::new(alloc, sentence, variable.name.span.length);
     complete(alloc, &mut finding, tested, note)?;
     Ok(Some(finding))
@@ -45,7 +45,7 @@ fn complete(
     note: &str,
 ) -> Result<(), AllocError> {
     let text = tested.text.as_str();
-    finding.relate(tested.span, format!(in alloc; "`{text}` is tested here")?)?;
+    finding.relate(tested.span, format!(in alloc; "`{text}` is its clock here")?)?;
     finding.note = Some(String::from_str(alloc, note)?);
     Ok(())
 }

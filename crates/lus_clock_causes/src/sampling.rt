@@ -80,7 +80,7 @@ fn note_on(
         "init -> "
     };
     format!(in alloc;
-        "`{text}` is taken on the clock of `{name}`, then sampled: `({first}{text}) when {test}`; with `{name} when {test}` inside, only the instants of `{test}` are remembered."
+        "`{text}` runs on the clock of `{name}` and is then sampled, as `({first}{text}) when {test}`. With `{name} when {test}` inside, it remembers only the instants of `{test}`."
     )
 }
 
@@ -94,7 +94,7 @@ pub fn add_sampled(
     finding: &mut Finding,
 ) -> Result<(), AllocError> {
     let Some(memory) = found.memory else {
-        finding.note = Some(String::from_str(alloc, "Sample the faster side by `when`.")?);
+        finding.note = Some(String::from_str(alloc, "Sample it with `when`.")?);
         finding.edit = Some(sampling(alloc, source, equation, found.expr, test)?);
         return Ok(());
     };

@@ -14,7 +14,7 @@ mod within;
 
 pub use edit::{Edit, edited, edited_lines};
 pub use extent::{extent_of, label_span, start_of};
-pub use finding::{Finding, Related};
+pub use finding::{Finding, Position, Related};
 pub use lines::{Lines, bytes_at, lines_of, offset_of, slice_of};
 pub use links::{Link, calls_of, uses_of};
 pub use report::{further_marks, push_finding, push_marked};

@@ -134,6 +134,9 @@ pub fn window_at(
 /// A finding of a part, for the source in which all stands so many bytes further on.
 pub fn further_on(finding: Finding, ahead: usize) -> Finding {
     let mut finding = finding;
+    if let Some(place) = &mut finding.place {
+        place.byte = place.byte.saturating_add(ahead);
+    }
     for related in &mut finding.related {
         related.span.start.byte = related.span.start.byte.saturating_add(ahead);
     }

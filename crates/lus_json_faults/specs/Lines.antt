@@ -15,15 +15,22 @@ quoted text = compact_text (string text)
 abbrev pub number_json : Text → Text
 number_json number = codes ",\"number\":\"" ++ number ++ codes "\",\"message\":"
 
--- where it begins
+-- the position that the refusal has
+abbrev pub position_json : ℕ → ℕ → Text
+position_json line column = codes ",\"position\":{\"line\":" ++ decimal line ++ codes ",\"column\":" ++ decimal column ++ codes "}"
+
+-- where what is shown begins
 abbrev pub start_json : ℕ → ℕ → Text
 start_json line column = codes ",\"start\":{\"line\":" ++ decimal line ++ codes ",\"column\":" ++ decimal column ++ codes "}"
 
--- an object on a line of its own: the file, the number, the message, where it begins, and what is told further, which other lines may be in
+-- an object on a line of its own: the file, the number, the message, the refusal's position, and further members, which other lines may
+-- follow
 abbrev pub fault_json : Text → Refusal → Text → Text → Text
 fault_json file r message more =
-    codes "{\"file\":" ++ quoted file ++ number_json (number_text r.number) ++ quoted message ++ start_json r.line r.column ++ (more ++ codes "}\n")
+    codes "{\"file\":" ++ quoted file ++ number_json (number_text r.number) ++ quoted message ++ position_json r.line r.column
+    ++ (more ++ codes "}\n")
 
--- a fault of this file is said first, with some message
+-- a refusal of this file comes first, with some message, its own position, and where what is shown begins
 abbrev pub SaysFault : Text → Refusal → Text → Type 0
-SaysFault file r text = (message : Text) × (more : Text) × (text ≡ fault_json file r message more)
+SaysFault file r text =
+    (message more : Text) × (line column : ℕ) × (text ≡ fault_json file r message (start_json line column ++ more))

@@ -1,10 +1,10 @@
 //! Faults as objects of JSON, each on a line of its own.
 
 ghost use Rattle.std.specs.Prelude.{◌≡◌, ◌++◌, IfOk, OnOk, string_bytes};
-ghost use Rattle.lus_json_faults.specs.Lines.{SaysFault, number_json, quoted, start_json};
+ghost use Rattle.lus_json_faults.specs.Lines.{SaysFault, number_json, position_json, quoted, start_json};
 
 use crate::members::further_members;
-use lus_faults::Finding;
+use lus_faults::{Finding, Position};
 use lus_further::Told;
 use lus_syntax::Refusal;
 use serde_json::Value;
@@ -32,13 +32,25 @@ pub fn push_number(line: &mut String, number: &str) -> Result<(), AllocError>
     write!(line, ",\"number\":\"{number}\",\"message\":")
 }
 
-/// Appends where the fault begins.
-fn push_start(text: &mut String, refusal: &Refusal) -> Result<(), AllocError>
+/// Appends the position that the refusal has.
+fn push_refused(text: &mut String, refusal: &Refusal) -> Result<(), AllocError>
     ensures { OnOk result (string_bytes text.new
-        ≡ string_bytes text.old ++ start_json refusal.now.line refusal.now.column) }
+        ≡ string_bytes text.old ++ position_json refusal.now.line refusal.now.column) }
 {
     let line = refusal.line;
     let column = refusal.column;
+    write!(
+        text,
+        ",\"position\":{{\"line\":{line},\"column\":{column}}}"
+    )
+}
+
+/// Appends where what is shown begins.
+fn push_start(text: &mut String, at: Position) -> Result<(), AllocError>
+    ensures { OnOk result (string_bytes text.new ≡ string_bytes text.old ++ start_json at.line at.column) }
+{
+    let line = at.line;
+    let column = at.column;
     write!(text, ",\"start\":{{\"line\":{line},\"column\":{column}}}")
 }
 
@@ -54,7 +66,8 @@ fn push_object(
     push_string(alloc, line, file)?;
     push_number(line, told.refusal.number.as_str())?;
     push_string(alloc, line, told.finding.sentence.as_str())?;
-    push_start(line, &told.refusal)?;
+    push_refused(line, &told.refusal)?;
+    push_start(line, told.finding.position(&told.refusal))?;
     let members = further_members(alloc, source, &told.refusal, &told.finding)?;
     line.push_str(members.as_str())
 }
@@ -93,7 +106,8 @@ pub fn fault_lines(
     push_string(alloc, &mut line, file)?;
     push_number(&mut line, refusal.number.as_str())?;
     push_string(alloc, &mut line, finding.sentence.as_str())?;
-    push_start(&mut line, refusal)?;
+    push_refused(&mut line, refusal)?;
+    push_start(&mut line, finding.position(refusal))?;
     let more = further_text(alloc, file, source, refusal, finding, others)?;
     write!(line, "{more}}}\n")?;
     Ok(line)

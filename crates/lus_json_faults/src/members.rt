@@ -1,23 +1,23 @@
 //! The members of a fault's object behind its start: its end, the cycle, further places, the note, and the change.
 
 use crate::line::quoted;
-use crate::ranges::{Range, Spot, range_of_bytes, range_of_refusal, range_of_span};
-use lus_faults::{Edit, Finding, Related};
+use crate::ranges::{Range, range_from, range_of_bytes, range_of_span};
+use lus_faults::{Edit, Finding, Position, Related};
 use lus_syntax::Refusal;
 use std::alloc::{AllocError, Global};
 
-/// Appends a place behind its name.
-fn push_spot(text: &mut String, name: &str, spot: Spot) -> Result<(), AllocError> {
-    let line = spot.line;
-    let column = spot.column;
+/// Appends a position behind its name.
+fn push_position(text: &mut String, name: &str, at: Position) -> Result<(), AllocError> {
+    let line = at.line;
+    let column = at.column;
     write!(text, "\"{name}\":{{\"line\":{line},\"column\":{column}}}")
 }
 
 /// Appends both ends of a range.
 fn push_range(text: &mut String, range: Range) -> Result<(), AllocError> {
-    push_spot(text, "start", range.start)?;
+    push_position(text, "start", range.start)?;
     text.push_str(",")?;
-    push_spot(text, "end", range.end)
+    push_position(text, "end", range.end)
 }
 
 /// Appends the variables of a cycle.
@@ -97,8 +97,8 @@ pub(crate) fn further_members(
 ) -> Result<String, AllocError> {
     let mut text = String::new(alloc);
     text.push_str(",")?;
-    let range = range_of_refusal(source, refusal, finding.length);
-    push_spot(&mut text, "end", range.end)?;
+    let range = range_from(source, finding.position(refusal), finding.length);
+    push_position(&mut text, "end", range.end)?;
     push_cycle(alloc, &mut text, refusal)?;
     push_places(alloc, &mut text, source, finding)?;
     push_note(alloc, &mut text, finding.note.as_deref())?;

@@ -13,7 +13,7 @@ use std::alloc::{AllocError, Global};
 /// What is said of too many of something.
 fn too_many(alloc: Global, excess: Excess<'_>) -> Result<Option<Finding>, AllocError> {
     let (count, what, most) = (excess.count, excess.what, excess.most);
-    let sentence = format!(in alloc; "{count} {what}, where at most {most} may be")?;
+    let sentence = format!(in alloc; "{count} {what}, at most {most} are allowed")?;
     Ok(Some(Finding::new(alloc, sentence, excess.name.span.length)))
 }
 
@@ -21,7 +21,7 @@ fn too_many(alloc: Global, excess: Excess<'_>) -> Result<Option<Finding>, AllocE
 fn large_type(alloc: Global, name: &Name) -> Result<Option<Finding>, AllocError> {
     let text = name.text.as_str();
     let sentence = format!(in alloc;
-        "`{text}` has more than {MOST_LEAVES} leaves, or structures nest in it deeper than {MOST_NESTING}"
+        "`{text}` has more than {MOST_LEAVES} leaves, or nests structures more than {MOST_NESTING} deep"
     )?;
     Ok(Some(Finding::new(alloc, sentence, name.span.length)))
 }
@@ -37,14 +37,14 @@ fn large_node(
     let most = MOST_CALLS_DEEP.saturating_add(1);
     let is_deep = depth_of(alloc, tree, place, most)? >= most;
     let note = if is_deep {
-        "A node without calls counts 1, each other one 1 more than the deepest that it calls."
+        "A node without calls has depth 1, any other node one more than the deepest node that it calls."
     } else {
-        "Each call keeps the cells of the node that it calls: call it less often, or keep less in it."
+        "Each call has a state of its own: use fewer calls, or remember less in the called node."
     };
     let sentence = if is_deep {
-        format!(in alloc; "calls nest in `{text}` deeper than {MOST_CALLS_DEEP}")?
+        format!(in alloc; "`{text}` nests calls more than {MOST_CALLS_DEEP} deep")?
     } else {
-        format!(in alloc; "`{text}` keeps more than {MOST_CELLS} state cells")?
+        format!(in alloc; "`{text}` has more than {MOST_CELLS} state cells")?
     };
     let finding = Finding::new(alloc, sentence, node.name.span.length);
     Ok(Some(finding.with_note(alloc, note)?))
@@ -99,8 +99,8 @@ pub fn depth_cause(alloc: Global, source: &str) -> Result<Option<Finding>, Alloc
     if !is_too_deep(alloc, source) {
         return Ok(None);
     }
-    let sentence = format!(in alloc; "the expression here is deeper than {MOST_DEPTH}")?;
+    let sentence = format!(in alloc; "this expression is nested more than {MOST_DEPTH} deep")?;
     let finding = Finding::new(alloc, sentence, 1);
-    let note = "Give its parts names: a local for each, with an equation. Parentheses count too.";
+    let note = "Move parts of it to locals with equations of their own. Parentheses count too.";
     Ok(Some(finding.with_note(alloc, note)?))
 }

@@ -1,13 +1,16 @@
 //! A fault, and the tokens round it.
 
-use crate::words::{is, is_any};
+use crate::words::is_any;
 use lus_faults::{bytes_at, slice_of};
-use lus_syntax::{Token, TokenKind, Word};
+use lus_syntax::{RefusalNumber, Token, TokenKind, Word};
 
 /// How many tokens of a declaration are looked at before a fault, and behind it.
 const MOST_BEFORE: usize = 4000;
 
 const MOST_BEHIND: usize = 400;
+
+/// Some tokens: the place of the first, and the one behind the last.
+pub type Range = (usize, usize);
 
 /// A fault of a source: all tokens, those of the declaration that it stands in, and the place among these of the token that isn't
 /// read; their count where they end too early.
@@ -17,6 +20,7 @@ pub struct Fault<'t> {
     pub all: &'t [Token<'t>],
     pub tokens: &'t [Token<'t>],
     pub place: usize,
+    pub number: RefusalNumber,
     pub line: usize,
     pub column: usize,
 }
@@ -48,39 +52,14 @@ impl<'t> Fault<'t> {
         self.text(self.place.saturating_add(count))
     }
 
-    /// Whether a text stands at a place.
-    pub fn is_at(&self, place: usize, text: &str) -> bool {
-        is(self.text(place), text)
-    }
-
-    /// Whether the token that isn't read is this text.
-    pub fn is_found(&self, text: &str) -> bool {
-        is(self.found(), text)
-    }
-
-    /// Whether the token so many before the one that isn't read is this text.
-    pub fn is_before(&self, count: usize, text: &str) -> bool {
-        is(self.before(count), text)
-    }
-
-    /// Whether the token so many behind the one that isn't read is this text.
-    pub fn is_behind(&self, count: usize, text: &str) -> bool {
-        is(self.behind(count), text)
-    }
-
     /// The token that isn't read, where there is one.
     pub fn token(&self) -> Option<&'t Token<'t>> {
         self.tokens.get(self.place)
     }
 
-    /// The token so many before the one that isn't read.
-    pub fn token_before(&self, count: usize) -> Option<&'t Token<'t>> {
-        self.tokens.get(self.place.checked_sub(count)?)
-    }
-
-    /// The token so many behind the one that isn't read.
-    pub fn token_behind(&self, count: usize) -> Option<&'t Token<'t>> {
-        self.tokens.get(self.place.saturating_add(count))
+    /// The token before the one that isn't read.
+    pub fn last(&self) -> Option<&'t Token<'t>> {
+        self.tokens.get(self.place.checked_sub(1)?)
     }
 
     /// The byte behind the token at a place.
@@ -91,18 +70,21 @@ impl<'t> Fault<'t> {
         }
     }
 
-    /// The bytes from the first token's first one up to the last token's last one.
-    pub fn bytes_of(&self, from: usize, last: usize) -> Option<(usize, usize)> {
-        match (self.tokens.get(from), self.byte_behind(last)) {
+    /// The bytes of some tokens, from the first one's first byte up to the last one's last.
+    pub fn bytes_of(&self, range: Range) -> Option<(usize, usize)> {
+        let (from, to) = range;
+        match (self.tokens.get(from), self.byte_behind(to.checked_sub(1)?)) {
             (Some(first), Some(end)) => Some((first.span.start.byte, end)),
             _ => None,
         }
     }
 
-    /// The text from a token up to the one before another.
-    pub fn text_of(&self, from: usize, to: usize) -> Option<&'t str> {
-        let (start, end) = self.bytes_of(from, to.checked_sub(1)?)?;
-        bytes_at(self.source, start, end)
+    /// The text of some tokens, with what stands between them.
+    pub fn text_of(&self, range: Range) -> &'t str {
+        match self.bytes_of(range) {
+            Some((start, end)) => bytes_at(self.source, start, end).unwrap_or(""),
+            None => "",
+        }
     }
 
     /// The first place from one on at which one of some texts stands.
@@ -113,14 +95,6 @@ impl<'t> Fault<'t> {
             }
         }
         None
-    }
-
-    /// How many bytes of the line are marked: those of the token that isn't read.
-    pub fn length(&self) -> usize {
-        match self.token() {
-            Some(token) => token.span.length,
-            None => 1,
-        }
     }
 
     /// Whether a text stands in the declaration between a place and the fault.
@@ -134,11 +108,6 @@ impl<'t> Fault<'t> {
     /// Whether a text stands in the declaration before the fault.
     pub fn follows(&self, text: &str) -> bool {
         self.follows_from(0, text)
-    }
-
-    /// Whether the declaration is that of a node or of a function.
-    pub fn is_of_node(&self) -> bool {
-        is_any(self.text(0), &["node", "function"])
     }
 }
 
@@ -158,11 +127,11 @@ pub fn is_number(token: Option<&Token>) -> bool {
     }
 }
 
-/// Whether a token stands right behind another, with no blank between.
-pub fn is_next(first: Option<&Token>, second: Option<&Token>) -> bool {
-    match (first, second) {
-        (Some(first), Some(second)) => first.span.end().byte == second.span.start.byte,
-        _ => false,
+/// Whether a token is a sign.
+pub fn is_sign(token: Option<&Token>) -> bool {
+    match token {
+        Some(token) => matches!(token.kind, TokenKind::Punctuation(_)),
+        None => false,
     }
 }
 
@@ -205,6 +174,7 @@ fn end_behind(tokens: &[Token], fault: usize) -> usize {
 pub fn fault_at<'t>(
     source: &'t str,
     all: &'t [Token<'t>],
+    number: RefusalNumber,
     line: usize,
     column: usize,
 ) -> Option<Fault<'t>> {
@@ -216,6 +186,7 @@ pub fn fault_at<'t>(
             all,
             tokens,
             place: before,
+            number,
             line,
             column,
         }),

@@ -1,10 +1,10 @@
 //! Mixes of operators that need parentheses.
 
-use crate::fault::Fault;
-use crate::phrase::Phrase;
-use crate::remark::{Remark, Text, Trust, replacing, sure, told, worded};
+use crate::edits::edit_at;
+use crate::fault::{Fault, Range};
 use crate::trial::token_of;
 use crate::words::{ORDERS, RECKONERS, compares, is_any, is_infix, leads};
+use lus_faults::Edit;
 use lus_syntax::{Symbol, Token, TokenKind};
 use std::alloc::{AllocError, Global};
 
@@ -13,8 +13,13 @@ const MOST_BEFORE: usize = 200;
 
 const MOST_PLACES: usize = 12;
 
-/// Some tokens: the place of the first, and the one behind the last.
-type Range = (usize, usize);
+/// What is said of a mix of operators, and the change that has more read.
+#[derive(Drop)]
+pub struct Mix {
+    pub sentence: String,
+    pub note: &'static str,
+    pub edit: Edit,
+}
 
 /// What a token is to the parentheses and braces round it, seen from the fault.
 #[derive(Clone, Copy)]
@@ -41,7 +46,7 @@ fn bounds(fault: &Fault<'_>, text: &str, is_before: bool) -> bool {
     if is_before {
         return leads(text);
     }
-    is_infix(text) || !fault.is_found("if") && is_any(text, &["then", "else"])
+    is_infix(text) || !is_any(fault.found(), &["if"]) && is_any(text, &["then", "else"])
 }
 
 /// The places before the fault behind which an operand begins, or those behind the fault before which one may end: the nearest
@@ -232,55 +237,61 @@ fn compared_from(fault: &Fault<'_>, openings: &[usize]) -> Option<usize> {
 }
 
 /// What is said of two comparisons of order in a row: what stands between them is compared twice.
-fn chained<'t>(fault: &Fault<'t>, openings: &[usize]) -> Option<Remark<'t>> {
+fn chained(
+    alloc: Global,
+    fault: &Fault<'_>,
+    openings: &[usize],
+) -> Result<Option<Mix>, AllocError> {
     let (Some(found), Some(from)) = (fault.token(), compared_from(fault, openings)) else {
-        return None;
+        return Ok(None);
     };
-    let byte = found.span.start.byte;
-    let note = "Each compares two values: `and` joins them.";
-    match fault.text_of(from, fault.place) {
-        Some(operand) if is_any(fault.found(), &ORDERS) => {
-            let written = sure(byte, byte, Phrase::new("and {} ", operand, "", ""));
-            Some(told(fault, "comparisons aren't chained", note).with(written))
-        }
-        _ => None,
+    let operand = fault.text_of((from, fault.place));
+    if operand.is_empty() || !is_any(fault.found(), &ORDERS) {
+        return Ok(None);
     }
+    let text = format!(in alloc; "and {operand} ")?;
+    Ok(Some(Mix {
+        sentence: String::from_str(alloc, "comparisons cannot be chained")?,
+        note: "Join two comparisons with `and`.",
+        edit: edit_at(found.span.start.byte, 0, text),
+    }))
 }
 
 /// What is said of operators that parentheses round some tokens part: of both, or of the one that needs them for itself.
-fn parted<'t>(fault: &Fault<'t>, openings: &[usize], range: Range) -> Option<Remark<'t>> {
-    let (from, to) = range;
-    let other = lead_of(fault, nearest(openings));
-    let sentence = if leads(other) {
-        Phrase::new(
-            "`{}` and `{}` aren't mixed without parentheses",
-            other,
-            fault.found(),
-            "",
-        )
-    } else {
-        Phrase::new("`{}` needs parentheses here", fault.found(), "", "")
+fn parted(
+    alloc: Global,
+    fault: &Fault<'_>,
+    openings: &[usize],
+    range: Range,
+) -> Result<Option<Mix>, AllocError> {
+    let Some((start, end)) = fault.bytes_of(range) else {
+        return Ok(None);
     };
-    let note = "Readers and tools guess differently how these group: parentheses say it.";
-    match fault.text_of(from, to) {
-        Some(inner) => {
-            let text = Text::Phrase(Phrase::new("({})", inner, "", ""));
-            let written = replacing(fault, from, to.saturating_sub(1), text, Trust::Sure);
-            Some(worded(fault, sentence, note).with(written))
-        }
-        None => None,
-    }
+    let other = lead_of(fault, nearest(openings));
+    let found = fault.found();
+    let sentence = if leads(other) {
+        format!(in alloc; "`{other}` and `{found}` cannot be mixed without parentheses")?
+    } else {
+        format!(in alloc; "`{found}` needs parentheses here")?
+    };
+    let inner = fault.text_of(range);
+    let text = format!(in alloc; "({inner})")?;
+    Ok(Some(Mix {
+        sentence,
+        note: "Add parentheses to say how the operators group.",
+        edit: edit_at(start, end.saturating_sub(start), text),
+    }))
 }
 
-/// What is said of the mix of operators at a fault, with the change that has more read.
-pub fn mix_at<'t>(alloc: Global, fault: &Fault<'t>) -> Result<Option<Remark<'t>>, AllocError> {
+/// What is said of the mix of operators at a fault.
+pub fn mix_at(alloc: Global, fault: &Fault<'_>) -> Result<Option<Mix>, AllocError> {
     let openings = bounds_of(alloc, fault, true)?;
-    let chain = chained(fault, &openings);
+    let chain = chained(alloc, fault, &openings)?;
     if chain.is_some() {
         return Ok(chain);
     }
     match grouping(alloc, fault, &openings)? {
-        Some(range) => Ok(parted(fault, &openings, range)),
+        Some(range) => parted(alloc, fault, &openings, range),
         None => Ok(None),
     }
 }

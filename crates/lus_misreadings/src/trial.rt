@@ -76,7 +76,8 @@ impl<'t> Fault<'t> {
 
     /// Where the token behind the fault begins, or the tokens end.
     pub fn next(&self) -> Reach {
-        match (self.token_behind(1), self.tokens.last()) {
+        let behind = self.place.saturating_add(1);
+        match (self.tokens.get(behind), self.tokens.last()) {
             (Some(token), _) => start_of(token),
             (None, Some(last)) => Reach {
                 line: last.span.end().line,

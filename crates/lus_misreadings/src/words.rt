@@ -2,12 +2,11 @@
 
 use crate::fault::{Fault, is_name};
 use lus_faults::slice_of;
-use lus_syntax::TokenKind;
 
 /// The comparisons of order, and the other ones.
 pub static ORDERS: [&str; 4] = ["<", "<=", ">", ">="];
 
-pub static EQUALITIES: [&str; 2] = ["=", "<>"];
+static EQUALITIES: [&str; 2] = ["=", "<>"];
 
 /// What reckons with integers.
 pub static RECKONERS: [&str; 6] = ["+", "-", "*", "/", "div", "mod"];
@@ -17,11 +16,6 @@ static OTHERS: [&str; 7] = ["->", "=>", "and", "or", "xor", "fby", "when"];
 
 /// What stands before an operand, and behind none.
 static OPENERS: [&str; 5] = ["not", "pre", "if", "then", "else"];
-
-/// Whether two texts are the same.
-pub fn is(text: &str, other: &str) -> bool {
-    text == other
-}
 
 /// Whether a text is one of some.
 pub fn is_any(text: &str, texts: &[&str]) -> bool {
@@ -33,14 +27,9 @@ pub fn compares(text: &str) -> bool {
     is_any(text, &ORDERS) || is_any(text, &EQUALITIES)
 }
 
-/// Whether a text that is no comparison stands between two operands, or behind one.
-pub fn joins(text: &str) -> bool {
-    is_any(text, &RECKONERS) || is_any(text, &OTHERS)
-}
-
 /// Whether a text stands between two operands, or behind one.
 pub fn is_infix(text: &str) -> bool {
-    compares(text) || joins(text)
+    compares(text) || is_any(text, &RECKONERS) || is_any(text, &OTHERS)
 }
 
 /// Whether an operand stands behind a text.
@@ -52,7 +41,7 @@ pub fn leads(text: &str) -> bool {
 pub fn is_variable(fault: &Fault<'_>, name: &str) -> bool {
     for place in 0..fault.tokens.len() {
         let text = fault.text(place);
-        if is(text, "let") {
+        if is_any(text, &["let"]) {
             return false;
         }
         if text == name && is_any(fault.text(place.saturating_add(1)), &[":", ","]) {
@@ -62,15 +51,32 @@ pub fn is_variable(fault: &Fault<'_>, name: &str) -> bool {
     false
 }
 
-/// Whether a type of this name is declared before the fault or behind.
-pub fn is_declared_type(fault: &Fault<'_>, name: &str) -> bool {
+/// Whether a text is a type: one that needs no declaration, or one that is declared.
+pub fn is_type(fault: &Fault<'_>, name: &str) -> bool {
+    if is_any(name, &["int", "bool"]) {
+        return true;
+    }
     let mut is_behind = false;
     for token in fault.all {
         let text = slice_of(fault.source, token.span);
         if is_behind && text == name && is_name(Some(token)) {
             return true;
         }
-        is_behind = is(text, "type");
+        is_behind = is_any(text, &["type"]);
     }
     false
+}
+
+/// Whether a text behind a number makes no number of the language: a power, a base, or a sign between digits.
+pub fn is_suffix(text: &str) -> bool {
+    match text.as_bytes() {
+        [b'e' | b'E', digit, ..] => digit.is_ascii_digit(),
+        [b'x' | b'X' | b'b' | b'_', _, ..] => true,
+        _ => false,
+    }
+}
+
+/// Whether a byte is one of a word.
+pub fn is_of_word(byte: u8) -> bool {
+    byte.is_ascii_alphanumeric() || byte == b'_'
 }

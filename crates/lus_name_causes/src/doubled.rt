@@ -27,7 +27,7 @@ fn name_at<'t>(sought: Sought, names: &[&'t Name]) -> Option<&'t Name> {
 /// What is said of the name at a place among others, where another one of them has its text.
 fn twice<'t>(sought: Sought, names: &[&'t Name], sentence: &'static str) -> Option<Said<'t>> {
     let second = name_at(sought, names)?;
-    let note = "A name is declared once in its space: give one of the two another name.";
+    let note = "Each name is declared once: rename one of the two.";
     for first in names {
         if first.text.as_str() == second.text.as_str() && !sought.is_at(first.span.start) {
             return Some(Said {

@@ -50,15 +50,15 @@ pub fn undeclared<'t>(node: &'t Node, found: Use<'t>) -> Option<Said<'t>> {
 fn needless<'t>(node: &'t Node, left: &'t Name) -> Option<Said<'t>> {
     let variable = variable_named(node, left.text.as_str())?;
     if variable.role == Role::Input {
-        let sentence = "`{}` is an input, and has no equation";
-        let note = "Inputs come from outside: write an equation for an output or a local.";
+        let sentence = "`{}` is an input and cannot have an equation";
+        let note = "An input gets its value from the caller. Equations define outputs and locals.";
         return Some(Said {
             beside: Some((variable.name.span, "`{}` is declared as an input")),
             ..told_of(left, sentence, note)
         });
     }
     let first = left_like(node, left)?;
-    let note = "An equation holds at each instant, so a variable has one: join the two by `if`.";
+    let note = "A variable has exactly one equation, which holds at every instant. Combine the two with `if`.";
     Some(Said {
         beside: Some((first.span, "`{}` has an equation here too")),
         ..told_of(left, "`{}` has two equations", note)
@@ -86,7 +86,7 @@ pub fn wrong_left<'t>(
 pub fn undefined(sought: Sought, node: &Node) -> Option<Said<'_>> {
     let variable = sought.variable(node)?;
     let note =
-        "Each output and each local stands on the left of one equation: write `{} = ..;` before `tel`.";
+        "Every output and local needs an equation: add `{} = ..;` before `tel`.";
     let sentence = match variable.role {
         Role::Input => return None,
         Role::Output => "the output `{}` has no equation",

@@ -41,7 +41,7 @@ pub struct Use<'t> {
 /// The type that is meant by what other languages call one, if there is one, and what is said of it.
 fn foreign_type(text: &str) -> Option<(Option<&'static str>, &'static str)> {
     match text {
-        "boolean" | "_Bool" => Some((Some("bool"), "It is called `bool`.")),
+        "boolean" | "_Bool" => Some((Some("bool"), "The Boolean type is `bool`.")),
         "integer"
         | "int8"
         | "int16"
@@ -56,15 +56,15 @@ fn foreign_type(text: &str) -> Option<(Option<&'static str>, &'static str)> {
         | "long"
         | "nat" => Some((
             Some("int"),
-            "All numbers have one type, `int`: whole numbers of 64 bits.",
+            "The only number type is `int`, an integer of 64 bits.",
         )),
         "float" | "double" | "float32" | "float64" => Some((
             None,
-            "Numbers with a point are left out: write `int`, and count in hundredths.",
+            "There are no floating-point numbers: use `int`, and count in hundredths.",
         )),
         "char" | "string" => Some((
             None,
-            "There are no texts: write an enumeration, as in `type state = enum { Off, On };`.",
+            "There are no strings: use an enumeration, as in `type state = enum { Off, On };`.",
         )),
         _ => None,
     }
@@ -73,22 +73,22 @@ fn foreign_type(text: &str) -> Option<(Option<&'static str>, &'static str)> {
 /// What is said of a node's name that other languages have, or of any.
 fn note_on_node(text: &str) -> &'static str {
     match text {
-        "int2real" | "real2int" => "Numbers with a point are left out, and so are conversions.",
+        "int2real" | "real2int" => "There are no floating-point numbers, so there is nothing to convert.",
         "max" | "min" | "abs" => {
-            "It isn't built in: write an `if`, as in `if a < b then b else a`, or a node of this name."
+            "It is not built in: write `if a < b then b else a`, or declare a node of this name."
         }
-        _ => "Declare a node of this name, anywhere in the source, or spell it as it was declared.",
+        _ => "Declare a node of this name anywhere in the file, or check the spelling.",
     }
 }
 
 /// What is said of a name that is spelled nearly as no other.
 fn note_on(found: Use<'_>) -> &'static str {
     match found.purpose {
-        Purpose::Value => "Declare it: as an input, as a local with an equation, or as a constant.",
+        Purpose::Value => "Declare it as an input, as a local with an equation, or as a constant.",
         Purpose::Variable =>
-            "A clock tests a variable: give a constant or an expression the name of one.",
+            "A clock is a variable. Declare a local of type `bool` for a constant or a condition.",
         Purpose::Constructor =>
-            "Name it in the enumeration, as in `type state = enum { Off, On };`.",
+            "List it in an enumeration, as in `type state = enum { Off, On };`.",
         Purpose::Type =>
             "Declare it, as in `type state = enum { Off, On };` or `type p = struct { x: int; y: bool };`.",
         Purpose::Node => note_on_node(found.name.text.as_str()),
@@ -120,7 +120,7 @@ pub fn unknown<'t>(
         return Ok(Some(said));
     }
     Ok(Some(Said {
-        note: "There is `{}`, which is spelled nearly alike.",
+        note: "Did you mean `{}`?",
         meant,
         ..said
     }))

@@ -53,7 +53,7 @@ impl<'t> Flags<'t> {
 
     /// What wants a value of its own operands at a place, where they may be nil.
     fn wanting(&self, sought: Sought, expr: &'t Expr) -> Option<Wanting<'t>> {
-        let behind = "what stands behind `";
+        let behind = "the value after `";
         match expr {
             Expr::Call(name, parts) => {
                 let sentence = ("this argument of `", name.text.as_str(), BEHIND);
@@ -78,11 +78,7 @@ impl<'t> Flags<'t> {
         let text = name.text.as_str();
         let sentence = match variable_named(self.node, text) {
             Some(variable) if variable.role == Role::Output => ("the output `", text, BEHIND),
-            _ => (
-                "`",
-                text,
-                "` is tested by a clock, and may have no value at the first instant",
-            ),
+            _ => ("the clock `", text, BEHIND),
         };
         Wanting {
             sentence,

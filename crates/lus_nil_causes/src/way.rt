@@ -64,7 +64,7 @@ fn add_step<'t>(
     let text = slice_of(given.source, span);
     finding.relate(
         span,
-        format!(in given.alloc; "`{text}` has none at the first instant")?,
+        format!(in given.alloc; "`{text}` has no value at the first instant")?,
     )?;
     finding.edit = edit_of(given, expr, span, text)?;
     Ok(None)
@@ -89,7 +89,7 @@ pub fn add_way<'t>(
         current = add_step(given, origin.expr, finding)?;
     }
     if is_computed {
-        let note = "Both branches of an `if` are computed at each instant, also at the first.";
+        let note = "Both branches of an `if` are computed at every instant, the first one included.";
         finding.note = Some(String::from_str(given.alloc, note)?);
     }
     Ok(())

@@ -10,7 +10,7 @@ use Rattle.lus_scripts.specs.declared.refusal.ScriptRefusal.TheVariants as refus
 use Rattle.lus_cli.specs.MachineSpecs.Acceptance.{Accepted}
 use Rattle.lus_cli.specs.HostSpecs.ScriptRefusals.{AreRefused, AreScripts}
 use Rattle.lus_reports.specs.Complaints.{SaysRefusal, counts_text}
-use Rattle.lus_reports.specs.Explanations.{IsExplained, Telling, report_text}
+use Rattle.lus_reports.specs.Explanations.{IsExplained, IsShown, Shown, Telling, report_text}
 use Rattle.lus_reports.specs.declared.verdict.File.{File}
 use Rattle.lus_reports.specs.declared.verdict.Verdict.{Verdict}
 
@@ -34,15 +34,17 @@ pub data AreJudged (p : Program) (scripts : Named) (said : Said) : Type 0 where
   are_refused : (e : ScriptRefusal) → e ≢ refusals.Memory → AreRefused p scripts.bytes e → said.status ≡ 2
       → SaysRefusal scripts.name e said.text → AreJudged p scripts said
 
--- a program is refused, which is said, with the line of the source that its refusal names
+-- a program is refused, which is said, with the line of the source that its refusal names or that the fault comes from
 pub record SaysRefused (program : Named) (said : Said) : Type 0 where
   pub refusal : Refusal
   pub line : Option Text
+  pub shown : Shown
   pub told : Telling
   pub other : refusal.number ≢ numbers.Memory
   pub explained : IsExplained program.bytes refusal line
+  pub at : IsShown program.bytes refusal line shown
   pub status : said.status ≡ 1
-  pub text : said.text ≡ report_text program.name refusal line told
+  pub text : said.text ≡ report_text program.name refusal shown told
 
 -- a program is refused, which is said; or it is accepted, and the scripts are judged, if there are any
 pub data IsVerdict (program : Named) (said : Said) : Option Named → Type 0 where

@@ -1,8 +1,13 @@
 //! What is told of the case of a refusal.
 
+ghost use Rattle.std.specs.Prelude.{IfOk, option_map};
+ghost use Rattle.lus_reports.specs.Details.{shown_seen};
+ghost use Rattle.lus_reports.specs.Explanations.{IsShown};
+
 use crate::explanation::Explanation;
 use crate::further::{further_faults, push_faults};
 use crate::sentences::{fault_of, sentence_of};
+use crate::shown::{Shown, shown_of};
 use lus_causes::lus_faults::{Edit, Finding, edited, further_marks, offset_of, push_finding};
 use lus_causes::{finding_of, spelling_finding};
 use lus_cli::lus_host::lus_machine::check;
@@ -11,9 +16,11 @@ use lus_further::{further_on, part_at, tried_part, window_at};
 use lus_syntax::{Refusal, RefusalNumber};
 use std::alloc::{AllocError, Global};
 
-/// What is told of the case of a refusal: a sentence, the carets behind the first, and what stands behind the line.
+/// What is told of the case of a refusal: where it is shown, a sentence, the carets behind the first, and what stands behind the
+/// line.
 #[derive(Drop)]
-pub struct Detail {
+pub struct Detail<'s> {
+    pub shown: Shown<'s>,
     pub sentence: String,
     pub marks: String,
     pub more: String,
@@ -177,23 +184,28 @@ pub fn known_finding(
 }
 
 /// What is told of the case of a refusal of a program's bytes, and of its further faults.
-pub fn detail_of(
+pub fn detail_of<'s>(
     alloc: Global,
     name: &str,
-    bytes: &[u8],
-    explanation: &Explanation<'_>,
-) -> Result<Detail, Refusal> {
+    bytes: &'s [u8],
+    explanation: &Explanation<'s>,
+) -> Result<Detail<'s>, Refusal>
+    ensures { let line = option_map (λ line. line.now) explanation.now.line in
+        IfOk result (λ d. IsShown bytes.now explanation.now.refusal line (shown_seen d.shown)) }
+{
     let source = text_of(bytes).unwrap_or("");
     let finding = known_finding(alloc, bytes, &explanation.refusal)?;
     let mut more = String::new(alloc);
     push_finding(alloc, &mut more, name, source, &finding)?;
     let others = further_faults(alloc, bytes, &explanation.refusal)?;
     push_faults(alloc, &mut more, name, source, &others)?;
-    let marks = match explanation.line {
-        Some(line) => further_marks(alloc, line, explanation.refusal.column, finding.length)?,
+    let shown = shown_of(bytes, explanation, finding.place);
+    let marks = match shown.text {
+        Some(line) => further_marks(alloc, line, shown.column, finding.length)?,
         None => String::new(alloc),
     };
     Ok(Detail {
+        shown,
         sentence: finding.sentence,
         marks,
         more,

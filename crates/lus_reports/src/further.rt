@@ -4,7 +4,7 @@ ghost use Rattle.std.specs.Prelude.{◌≤◌, length};
 
 use crate::detail::source_finding;
 use crate::lines::line_at;
-use lus_causes::lus_faults::{push_finding, push_marked};
+use lus_causes::lus_faults::{Position, push_finding, push_marked};
 use lus_cli::lus_host::lus_machine::check;
 use lus_cli::lus_host::text_of;
 use lus_further::{Told, without_declaration};
@@ -100,8 +100,7 @@ fn push_fault(
 ) -> Result<(), AllocError> {
     let refusal = &told.refusal;
     let number = refusal.number.as_str();
-    let line = refusal.line;
-    let column = refusal.column;
+    let Position { line, column } = told.finding.position(refusal);
     let sentence = &told.finding.sentence;
     write!(
         text,

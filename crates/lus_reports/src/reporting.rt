@@ -2,26 +2,26 @@
 
 ghost use Rattle.std.specs.Prelude.{◌≡◌, ◌++◌, IfOk, OnOk, option_map, string_bytes};
 ghost use Rattle.lus_reports.specs.Explanations.{cycle_line, error_text, line_text, place_text, report_text};
-ghost use Rattle.lus_reports.specs.Details.{detail_seen};
+ghost use Rattle.lus_reports.specs.Details.{detail_seen, shown_seen};
 
 use crate::detail::Detail;
-use crate::explanation::Explanation;
 use crate::lines::blanks;
+use crate::shown::Shown;
 use lus_syntax::Refusal;
 use std::alloc::{AllocError, Global};
 
 /// The file, the line and the column, as `meters.lus:4:13: `.
-fn push_place(report: &mut String, name: &str, refusal: &Refusal) -> Result<(), AllocError>
-    ensures { OnOk result (string_bytes report.new ≡ string_bytes report.old ++ place_text name.now refusal.now) }
+fn push_place(report: &mut String, name: &str, shown: Shown<'_>) -> Result<(), AllocError>
+    ensures { OnOk result (string_bytes report.new ≡ string_bytes report.old ++ place_text name.now (shown_seen shown.entry)) }
 {
-    let line = refusal.line;
-    let column = refusal.column;
+    let line = shown.line;
+    let column = shown.column;
     write!(report, "{name}:{line}:{column}: ")?;
     Ok(())
 }
 
 /// The number, and a sentence of the case, as `error E4: no node is named `g``.
-fn push_fault(report: &mut String, refusal: &Refusal, detail: &Detail) -> Result<(), AllocError>
+fn push_fault(report: &mut String, refusal: &Refusal, detail: &Detail<'_>) -> Result<(), AllocError>
     ensures { OnOk result (string_bytes report.new
         ≡ string_bytes report.old ++ error_text refusal.now.number (string_bytes detail.now.sentence)) }
 {
@@ -35,18 +35,16 @@ fn push_fault(report: &mut String, refusal: &Refusal, detail: &Detail) -> Result
 fn push_line(
     alloc: Global,
     report: &mut String,
-    line: Option<&str>,
-    refusal: &Refusal,
-    detail: &Detail,
+    shown: Shown<'_>,
+    marks: &str,
 ) -> Result<(), AllocError>
     ensures { OnOk result (string_bytes report.new
-        ≡ string_bytes report.old ++ line_text (option_map (λ l. l.now) line.entry) refusal.now (string_bytes detail.now.marks)) }
+        ≡ string_bytes report.old ++ line_text (option_map (λ l. l.now) shown.entry.text) shown.entry.column marks.now) }
 {
-    let Some(line) = line else {
+    let Some(line) = shown.text else {
         return Ok(());
     };
-    let blanks = blanks(alloc, line, refusal.column)?;
-    let marks = &detail.marks;
+    let blanks = blanks(alloc, line, shown.column)?;
     write!(report, "{line}\n{blanks}^{marks}\n")
 }
 
@@ -66,17 +64,16 @@ fn push_cycle(report: &mut String, refusal: &Refusal) -> Result<(), AllocError>
 pub fn report(
     alloc: Global,
     name: &str,
-    explanation: &Explanation<'_>,
-    detail: &Detail,
+    refusal: &Refusal,
+    detail: &Detail<'_>,
 ) -> Result<String, AllocError>
-    ensures { let line = option_map (λ line. line.now) explanation.now.line in
-        IfOk result (λ text. string_bytes text ≡ report_text name.now explanation.now.refusal line (detail_seen detail.now)) }
+    ensures { IfOk result (λ text. string_bytes text
+        ≡ report_text name.now refusal.now (shown_seen detail.now.shown) (detail_seen detail.now)) }
 {
-    let refusal = &explanation.refusal;
     let mut report = String::new(alloc);
-    push_place(&mut report, name, refusal)?;
+    push_place(&mut report, name, detail.shown)?;
     push_fault(&mut report, refusal, detail)?;
-    push_line(alloc, &mut report, explanation.line, refusal, detail)?;
+    push_line(alloc, &mut report, detail.shown, detail.marks.as_str())?;
     push_cycle(&mut report, refusal)?;
     let more = &detail.more;
     write!(report, "{more}")?;

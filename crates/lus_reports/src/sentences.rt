@@ -5,16 +5,16 @@ use lus_syntax::RefusalNumber;
 /// The fault in a few words.
 pub(crate) fn fault_of(number: RefusalNumber) -> &'static str {
     match number {
-        RefusalNumber::Lexical => "no token begins here",
-        RefusalNumber::Syntax => "this spells no program",
-        RefusalNumber::Unsupported => "this is kept for what the language leaves out",
-        RefusalNumber::Name => "a name is unknown, doubled or not defined",
-        RefusalNumber::Type => "types disagree",
-        RefusalNumber::Clock => "clocks disagree",
-        RefusalNumber::Cycle => "variables need each other at one instant",
-        RefusalNumber::Nil => "a value may be nil where none may",
-        RefusalNumber::Recursion => "a node or a type leads back to itself",
-        RefusalNumber::Limit => "a limit is passed",
+        RefusalNumber::Lexical => "invalid character",
+        RefusalNumber::Syntax => "syntax error",
+        RefusalNumber::Unsupported => "this word is reserved",
+        RefusalNumber::Name => "unknown, duplicate or undefined name",
+        RefusalNumber::Type => "mismatched types",
+        RefusalNumber::Clock => "mismatched clocks",
+        RefusalNumber::Cycle => "variables depend on each other within one instant",
+        RefusalNumber::Nil => "a value may be missing at its first instant",
+        RefusalNumber::Recursion => "recursive node or type",
+        RefusalNumber::Limit => "limit exceeded",
         RefusalNumber::Memory => "out of memory",
     }
 }
@@ -22,26 +22,21 @@ pub(crate) fn fault_of(number: RefusalNumber) -> &'static str {
 /// One sentence on what it means here and what to do.
 pub(crate) fn sentence_of(number: RefusalNumber) -> &'static str {
     match number {
-        RefusalNumber::Lexical =>
-            "Close the comment, write a token of the language, or save the bytes as UTF-8.",
-        RefusalNumber::Syntax =>
-            "What stands before it can't go on like this: something is missing or too much, or a mix of operators needs parentheses to say how it groups.",
-        RefusalNumber::Unsupported =>
-            "Write it with what the language has, or give what it names another name.",
+        RefusalNumber::Lexical => "Remove it or close the comment; the file must be UTF-8.",
+        RefusalNumber::Syntax => "Something is missing before it, or it does not belong here.",
+        RefusalNumber::Unsupported => "Express it with what is supported, or choose another name.",
         RefusalNumber::Name =>
-            "Declare each name once, spell it as it was declared, and define each output and local by one equation.",
-        RefusalNumber::Type =>
-            "Make the types, the count of arguments, the labels or the fields those that are declared.",
+            "Declare each name once, and give each output and local one equation.",
+        RefusalNumber::Type => "Change it, or its declaration, so that they agree.",
         RefusalNumber::Clock =>
-            "Bring both sides to one clock: sample the faster one by `when`, or complete the slower one by `merge`; the clock of an input tests an input.",
+            "Both sides need the same clock: sample one with `when`, or give it a value at the other instants with `merge`. The clock of an input is an input.",
         RefusalNumber::Cycle =>
-            "Each variable of the cycle needs the next one at the same instant, and the last needs the first: put a `pre` or a `fby` into the cycle.",
+            "Each variable of the cycle depends on the next one within one instant, and the last on the first: put a `pre` or `fby` into the cycle.",
         RefusalNumber::Nil =>
-            "It has no value yet at its first instant: give it one by `->` or `fby`, as in `0 -> pre x`.",
+            "It has no value at its first instant: give it one with `->` or `fby`, as in `0 -> pre x`.",
         RefusalNumber::Recursion =>
-            "Recursion is left out: unroll it, or keep what is past by `pre`.",
-        RefusalNumber::Limit =>
-            "There is more here than the language's limits allow: make it smaller, or divide it.",
+            "Recursion is not supported: write a node for each level, or keep earlier values with `pre`.",
+        RefusalNumber::Limit => "Make it smaller, or split it.",
         RefusalNumber::Memory =>
             "Memory ran out before the program was checked: try again with more.",
     }

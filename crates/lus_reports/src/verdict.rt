@@ -8,7 +8,7 @@ ghost use Rattle.lus_scripts.specs.View.{scripts_seen};
 ghost use Rattle.lus_cli.specs.declared.fault.Fault.TheVariants as faults;
 ghost use Rattle.lus_reports.specs.Complaints.{SaysRefusal, counts_text};
 ghost use Rattle.lus_reports.specs.Explanations.{IsExplained, report_text};
-ghost use Rattle.lus_reports.specs.Details.{detail_seen};
+ghost use Rattle.lus_reports.specs.Details.{detail_seen, shown_seen};
 ghost use Rattle.lus_reports.specs.Verdicts.{AreJudged, IsVerdict, SaysRefused, file_seen, verdict_seen};
 
 use crate::detail::{Detail, detail_of};
@@ -19,7 +19,7 @@ use crate::scripts::{Complaint, explain_scripts, report_scripts};
 use lus_cli::Fault;
 use lus_cli::lus_host::Program;
 use lus_scripts::{ScriptRefusal, Scripts};
-use lus_syntax::RefusalNumber;
+use lus_syntax::{Refusal, RefusalNumber};
 use std::alloc::Global;
 
 /// A file that was read, with its name.
@@ -41,19 +41,19 @@ pub struct Verdict {
 fn refused_program(
     alloc: Global,
     name: &str,
-    explanation: &Explanation<'_>,
-    detail: &Detail,
+    refusal: &Refusal,
+    detail: &Detail<'_>,
 ) -> Result<Verdict, Fault>
     ensures status { IfOk result (λ v. v.status ≡ 1) }
-    ensures text { let line = option_map (λ line. line.now) explanation.now.line in
-        IfOk result (λ v. string_bytes v.text ≡ report_text name.now explanation.now.refusal line (detail_seen detail.now)) }
-    ensures number { OnOk result (explanation.now.refusal.number ≢ numbers.Memory) }
+    ensures text { IfOk result (λ v. string_bytes v.text
+        ≡ report_text name.now refusal.now (shown_seen detail.now.shown) (detail_seen detail.now)) }
+    ensures number { OnOk result (refusal.now.number ≢ numbers.Memory) }
     ensures memory { IfErr result (λ f. f ≡ faults.Memory) }
 {
-    if explanation.refusal.number == RefusalNumber::Memory {
+    if refusal.number == RefusalNumber::Memory {
         return Err(Fault::Memory);
     }
-    match report(alloc, name, explanation, detail) {
+    match report(alloc, name, refusal, detail) {
         Ok(text) => Ok(Verdict { text, status: 1 }),
         Err(_) => Err(Fault::Memory),
     }
@@ -70,7 +70,7 @@ pub fn judge_refused(
     ensures memory { IfErr result (λ f. f ≡ faults.Memory) }
 {
     match detail_of(alloc, program.name, program.bytes, explanation) {
-        Ok(detail) => refused_program(alloc, program.name, explanation, &detail),
+        Ok(detail) => refused_program(alloc, program.name, &explanation.refusal, &detail),
         Err(_) => Err(Fault::Memory),
     }
 }

@@ -19,7 +19,7 @@ pub fn cycle_cause(
         return Ok(None);
     };
     let text = first.as_str();
-    let sentence = format!(in alloc; "`{text}` needs itself at the same instant")?;
+    let sentence = format!(in alloc; "`{text}` depends on itself within one instant")?;
     let length = first.len();
     let mut told = Finding::new(alloc, sentence, length);
     let mut is_argument = false;
@@ -32,13 +32,13 @@ pub fn cycle_cause(
         let to = next.as_str();
         if let Some(need) = need_of(node, from, to) {
             is_argument = is_argument || need.is_argument;
-            told.relate(need.span, format!(in alloc; "`{from}` needs `{to}` here")?)?;
+            told.relate(need.span, format!(in alloc; "`{from}` depends on `{to}` here")?)?;
         }
     }
     let note = if is_argument {
-        "The outputs of a call need all its arguments, whatever the node does with them: a `pre` or a `fby` that cuts the cycle stands outside the call."
+        "The outputs of a call depend on all its arguments, whatever the node does with them. A `pre` or `fby` outside the call breaks the cycle."
     } else {
-        "A `pre` or a `fby` before one of these uses cuts the cycle, as in `0 -> pre x`."
+        "A `pre` or `fby` before one of these uses breaks the cycle, as in `0 -> pre x`."
     };
     told.note = Some(String::from_str(alloc, note)?);
     Ok(Some(told))

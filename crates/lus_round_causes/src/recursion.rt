@@ -78,7 +78,7 @@ fn way_told(
     let next = ways_to(alloc, links, count, round.start)?;
     let what = round.what;
     let owner = round.owner.text.as_str();
-    let sentence = format!(in alloc; "the {what} `{owner}` leads back to itself")?;
+    let sentence = format!(in alloc; "the {what} `{owner}` is recursive")?;
     let mut told = Finding::new(alloc, sentence, round.length);
     add_way(alloc, &next, round.start, &mut told)?;
     told.note = Some(String::from_str(alloc, round.note)?);
@@ -96,7 +96,7 @@ fn calling<'t>(sought: Sought, tree: &'t Tree, links: &[Link<'t>]) -> Option<Rou
                 what: "node",
                 owner: &node.name,
                 length: link.name.span.length,
-                note: "Recursion is left out: write the nodes unrolled, each calling the next, or keep what is past by `pre`.",
+                note: "Recursion is not supported: write a node for each level, or keep earlier values with `pre`.",
             });
         }
     }
@@ -113,7 +113,7 @@ fn declared_at(sought: Sought, tree: &Tree) -> Option<Round<'_>> {
                 what: "type",
                 owner,
                 length: owner.span.length,
-                note: "A type has a size, so it isn't part of itself: there are no lists and no trees.",
+                note: "A type has a fixed size, so it cannot contain itself. There are no lists and no trees.",
             });
         }
     }

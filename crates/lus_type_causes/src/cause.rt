@@ -34,7 +34,7 @@ fn wrong_constant<'t>(scope: &Scope<'t>) -> Option<Clash<'t>> {
             let kind = scope.of_literal(&constant.value);
             if wanted.differs(kind) {
                 let sentence = Phrase::new(
-                    "the constant `{}` has type `{}`, and its value `{}`",
+                    "the constant `{}` has type `{}`, but its value has type `{}`",
                     constant.name.text.as_str(),
                     wanted.name(tree),
                     kind.name(tree),

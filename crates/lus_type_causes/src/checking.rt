@@ -86,7 +86,7 @@ fn check_argument<'t>(
 ) {
     let kind = given.kind(&part.value);
     if input.1.differs(kind) {
-        let text = "argument {} of `{}`, `{}`, has type `{}`, and is given `{}`";
+        let text = "argument {} of `{}`, `{}`, has type `{}`, found `{}`";
         let sentence = Phrase {
             first: Word::Number(number),
             fourth: Word::Text(given.name(input.1)),
@@ -108,9 +108,9 @@ pub fn check_arguments<'t>(
     let wanted = count_of(&node.inputs);
     if wanted != parts.len() {
         let text = if wanted == 1 {
-            "`{}` takes {} argument, and is given {}"
+            "`{}` takes {} argument, found {}"
         } else {
-            "`{}` takes {} arguments, and is given {}"
+            "`{}` takes {} arguments, found {}"
         };
         let sentence = Phrase {
             second: Word::Number(wanted),
@@ -135,11 +135,11 @@ fn check_call<'t>(given: Given<'_, 't>, name: &'t Name, parts: &'t [Part]) {
     let count = count_of(&node.outputs);
     if count != 1 {
         let note =
-            "A call with several results is a whole right side, with as many variables on the left: `(a, b) = f(x);`.";
+            "A call with several results is alone on the right of an equation, as in `(a, b) = f(x);`.";
         let sentence = Phrase {
             second: Word::Number(count),
             ..Phrase::of(
-                "`{}` gives {} values, where one is wanted",
+                "`{}` returns {} values, expected one",
                 name.text.as_str(),
             )
         };

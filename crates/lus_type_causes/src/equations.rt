@@ -24,7 +24,7 @@ fn check_value<'t>(given: Given<'_, 't>, left: &'t Name, right: &'t Expr, kind: 
         return;
     }
     let text = left.text.as_str();
-    let sentence = "`{}` has type `{}`, and its equation gives `{}`";
+    let sentence = "`{}` has type `{}`, but its equation has type `{}`";
     let told = told_at(
         extent_of(given.source, right),
         Phrase::new(sentence, text, given.name(wanted), given.name(kind)),
@@ -39,7 +39,7 @@ fn check_value<'t>(given: Given<'_, 't>, left: &'t Name, right: &'t Expr, kind: 
 fn check_count<'t>(given: Given<'_, 't>, equation: &'t Equation, found: usize) {
     if found != equation.left.len() {
         let note =
-            "Only a call gives several values, as many as its node has outputs: write an equation for each variable.";
+            "Only a call returns several values, one for each output. Write an equation for each variable.";
         let sentence = Phrase {
             first: Word::Number(equation.left.len()),
             second: Word::Number(found),

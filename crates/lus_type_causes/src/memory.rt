@@ -9,7 +9,7 @@ use std::alloc::{AllocError, Global};
 
 /// What is said of a call in a function, unless it is of another function.
 fn called_memory<'t>(given: Given<'_, 't>, name: &'t Name) -> Option<Clash<'t>> {
-    let sentence = "the function `{}` calls `{}`, which is a node";
+    let sentence = "the function `{}` calls the node `{}`";
     let owner = given.node.name.text.as_str();
     let told = told_at(
         name.span,
@@ -31,7 +31,7 @@ fn memory_of<'t>(given: Given<'_, 't>, expr: &'t Expr) -> Option<Clash<'t>> {
         Expr::Binary(Infix::Arrow, _, _) => ("->", extent_of(given.source, expr)),
         _ => return None,
     };
-    let sentence = "the function `{}` keeps no memory, as `{}` does";
+    let sentence = "the function `{}` cannot use `{}`";
     let owner = given.node.name.text.as_str();
     Some(told_at(span, Phrase::new(sentence, owner, text, "")))
 }
@@ -42,7 +42,7 @@ pub fn check_memory(alloc: Global, given: Given<'_, '_>) -> Result<(), AllocErro
         return Ok(());
     }
     let note =
-        "Write `node` in place of `function`: a function has no `pre`, `->` and `fby`, and calls functions alone.";
+        "A function has no memory: it cannot use `pre`, `->` or `fby`, nor call a node. Declare it as a `node`.";
     for equation in &given.node.equations {
         for expr in &expressions_in(alloc, &equation.right)? {
             if let Some(found) = memory_of(given, expr) {

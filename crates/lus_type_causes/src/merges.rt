@@ -50,7 +50,7 @@ fn check_labels<'t>(given: Given<'_, 't>, variable: &'t Name, kind: Kind, parts:
 /// A label that no branch has, or several have.
 fn miscounted<'t>(span: Span, label: &'t str, count: usize) -> Clash<'t> {
     let sentence = if count == 0 {
-        Phrase::of("no branch has the label `{}`", label)
+        Phrase::of("missing branch for `{}`", label)
     } else {
         Phrase {
             first: Word::Number(count),
@@ -79,7 +79,7 @@ fn check_types<'t>(given: Given<'_, 't>, span: Span, parts: &'t [Part]) {
     for part in parts {
         let other = given.kind(&part.value);
         if kind.differs(other) {
-            let sentence = "the branches are of two types, `{}` and `{}`";
+            let sentence = "the branches of the `merge` have different types, `{}` and `{}`";
             let told = Phrase::new(sentence, given.name(kind), given.name(other), "");
             given.tell(
                 told_at(span, told)
@@ -105,7 +105,7 @@ pub fn check_merge<'t>(given: Given<'_, 't>, span: Span, variable: &'t Name, par
         check_count(given, span, parts, "true");
         check_count(given, span, parts, "false");
     } else if constructors.is_empty() {
-        let sentence = "`merge` wants a `bool` or an enumeration, and `{}` has type `{}`";
+        let sentence = "`merge` takes a `bool` or an enumeration, but `{}` has type `{}`";
         let text = variable.text.as_str();
         given.tell(told_at(
             variable.span,
@@ -118,16 +118,16 @@ pub fn check_merge<'t>(given: Given<'_, 't>, span: Span, variable: &'t Name, par
 /// A test that doesn't fit its variable.
 fn wrong_test<'t>(given: Given<'_, 't>, name: &'t Name, kind: Kind) -> Clash<'t> {
     let text = name.text.as_str();
-    let sentence = "this test doesn't fit `{}`, which has type `{}`";
+    let sentence = "this clock does not fit `{}`, which has type `{}`";
     let note = match kind.constructors(given.scope.tree).first() {
         Some(label) => Phrase::new(
-            "Write the constructor and the variable, as `when {}({})`.",
+            "Write `when {}({})`.",
             label.text.as_str(),
             text,
             "",
         ),
         None => Phrase::of(
-            "A `bool` is tested by `when c` or `when not c`, an enumeration by `when A(k)`; no other type is.",
+            "A clock is a `bool`, as in `when c` and `when not c`, or an enumeration, as in `when A(k)`.",
             "",
         ),
     };

@@ -35,8 +35,8 @@ pub fn infix_form(op: Infix) -> (&'static str, Option<Kind>, Option<Kind>) {
 /// What is said where a number stands for a condition, or a condition for a number.
 fn advice(wanted: Kind, kind: Kind) -> &'static str {
     match (wanted, kind) {
-        (Kind::Bool, Kind::Int) => "A number is no condition: compare it, as in `x <> 0`.",
-        (Kind::Int, Kind::Bool) => "A `bool` becomes a number by `if c then 1 else 0`.",
+        (Kind::Bool, Kind::Int) => "A number is not a condition. Compare it, as in `x <> 0`.",
+        (Kind::Int, Kind::Bool) => "To get a number from a `bool`, write `if c then 1 else 0`.",
         _ => "",
     }
 }
@@ -51,7 +51,7 @@ pub fn check_operand<'t>(
 ) {
     let kind = given.kind(operand);
     if wanted.differs(kind) {
-        let sentence = "`{}` wants type `{}`, and is given `{}`";
+        let sentence = "`{}` expects `{}`, found `{}`";
         let told = Phrase::new(sentence, operator, given.name(wanted), given.name(kind));
         given.tell(
             told_at(main, told)
@@ -71,7 +71,7 @@ pub fn check_alike<'t>(
 ) {
     let (first, second) = (given.kind(left), given.kind(right));
     if first.differs(second) {
-        let sentence = "`{}` wants two values of one type, and is given `{}` and `{}`";
+        let sentence = "`{}` expects two values of the same type, found `{}` and `{}`";
         let told = Phrase::new(sentence, operator, given.name(first), given.name(second));
         given.tell(told_at(main, told).typed(given, left).typed(given, right));
     }

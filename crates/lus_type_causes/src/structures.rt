@@ -71,7 +71,7 @@ fn check_value<'t>(given: Given<'_, 't>, owner: &'t Name, part: &'t Part, field:
     }
     let text = field.0.text.as_str();
     let want = given.name(field.1);
-    let sentence = "the field `{}` has type `{}`, and is given `{}`";
+    let sentence = "the field `{}` has type `{}`, found `{}`";
     let told = told_at(
         owner.span,
         Phrase::new(sentence, text, want, given.name(kind)),
@@ -85,14 +85,14 @@ fn check_value<'t>(given: Given<'_, 't>, owner: &'t Name, part: &'t Part, field:
 fn miscounted<'t>(owner: &'t Name, field: &'t Name, count: usize) -> Clash<'t> {
     let name = field.text.as_str();
     let sentence = if count == 0 {
-        Phrase::of("the field `{}` is missing", name)
+        Phrase::of("missing field `{}`", name)
     } else {
         Phrase {
             second: Word::Number(count),
             ..Phrase::of("the field `{}` has {} values", name)
         }
     };
-    let note = "A structure's value has each field exactly once, in any order.";
+    let note = "A structure gives each field exactly once, in any order.";
     told_at(owner.span, sentence)
         .declared(field)
         .noted(Phrase::of(note, ""))

@@ -1,0 +1,227 @@
+//! Changes of a source that help: with each the parser gets further than the change goes. And further ones of the same kind that the
+//! equation needs.
+
+use crate::fault::{Fault, fault_at};
+use crate::grouping::mix_at;
+use crate::readable::{readable, tokens_in};
+use crate::rewriting::rewritten;
+use crate::rule::{NONE, rule_of};
+use crate::rules::RULES;
+use crate::trial::tokens_of;
+use lus_faults::{Edit, bytes_at, edited, offset_of};
+use lus_grammar::parse;
+use lus_syntax::{Refusal, RefusalNumber, Token, lex};
+use std::alloc::{AllocError, Global};
+
+/// The most further changes that are put together with a first one.
+const MOST_FURTHER: usize = 19;
+
+/// What tells a change: a rule of this sentence, or a mix of operators.
+#[derive(Clone, Copy)]
+pub enum Teller {
+    Rule(&'static str),
+    Mix,
+}
+
+/// Why some tokens spell no program.
+fn misspelt(alloc: Global, tokens: &[Token<'_>]) -> Option<Refusal> {
+    match parse(alloc, tokens) {
+        Ok(_) => None,
+        Err(refusal) => Some(refusal),
+    }
+}
+
+/// Whether a source is read with a change up to the change's end and further. Where no token is made of something, what stands before it
+/// may be misspelt too.
+fn helps(
+    alloc: Global,
+    source: &str,
+    edit: &Edit,
+    number: RefusalNumber,
+) -> Result<bool, AllocError> {
+    let Some(changed) = edited(alloc, source, edit)? else {
+        return Ok(false);
+    };
+    let text = readable(alloc, changed.as_str())?;
+    let tokens = tokens_of(alloc, text.as_str());
+    let end = edit.byte.saturating_add(edit.text.len());
+    match misspelt(alloc, &tokens) {
+        Some(found) => {
+            let fault = offset_of(text.as_str(), found.line, found.column);
+            let is_before = number != RefusalNumber::Syntax && fault < edit.byte;
+            Ok(fault > end || is_before)
+        }
+        None => Ok(true),
+    }
+}
+
+/// A change of a text that helps, and no other.
+pub fn helping(
+    alloc: Global,
+    source: &str,
+    edit: Option<Edit>,
+    number: RefusalNumber,
+) -> Result<Option<Edit>, AllocError> {
+    match edit {
+        Some(edit) if helps(alloc, source, &edit, number)? => Ok(Some(edit)),
+        _ => Ok(None),
+    }
+}
+
+/// A change of a text if it helps, as that of a mix was found to do.
+fn trusted(
+    alloc: Global,
+    source: &str,
+    edit: Option<Edit>,
+    number: RefusalNumber,
+    teller: Teller,
+) -> Result<Option<Edit>, AllocError> {
+    match teller {
+        Teller::Mix => Ok(edit),
+        Teller::Rule(_) => helping(alloc, source, edit, number),
+    }
+}
+
+/// The change of the first rule of a sentence that is about a fault.
+fn told_by_rule(
+    alloc: Global,
+    fault: &Fault<'_>,
+    sentence: &'static str,
+) -> Result<Option<Edit>, AllocError> {
+    let mut above = NONE;
+    for row in RULES.lines() {
+        let rule = rule_of(row, above);
+        if rule.sentence == sentence {
+            if let Some(found) = rule.fit(alloc, fault)? {
+                return rewritten(alloc, fault, &found, rule.rewrite);
+            }
+        }
+        above = rule;
+    }
+    Ok(None)
+}
+
+/// The change that is told of a fault.
+fn told_by(alloc: Global, fault: &Fault<'_>, teller: Teller) -> Result<Option<Edit>, AllocError> {
+    match teller {
+        Teller::Rule(sentence) => told_by_rule(alloc, fault, sentence),
+        Teller::Mix => match mix_at(alloc, fault)? {
+            Some(mix) => Ok(Some(mix.edit)),
+            None => Ok(None),
+        },
+    }
+}
+
+/// A change of a text, and one of what it makes, as one change.
+fn joined(
+    alloc: Global,
+    changed: &str,
+    first: &Edit,
+    second: &Edit,
+) -> Result<Option<Edit>, AllocError> {
+    let made = first.byte.saturating_add(first.text.len());
+    let start = first.byte.min(second.byte);
+    let taken = second.byte.saturating_add(second.length);
+    let end = made.max(taken);
+    let (Some(before), Some(behind)) = (
+        bytes_at(changed, start, second.byte),
+        bytes_at(changed, taken, end),
+    ) else {
+        return Ok(None);
+    };
+    let text = &second.text;
+    let length = end
+        .saturating_sub(made)
+        .saturating_add(first.byte)
+        .saturating_add(first.length)
+        .saturating_sub(start);
+    Ok(Some(Edit {
+        byte: start,
+        length,
+        text: format!(in alloc; "{before}{text}{behind}")?,
+    }))
+}
+
+/// Whether a line or an equation goes on from a change of a text up to a byte behind it.
+fn goes_on(changed: &str, edit: &Edit, byte: usize) -> bool {
+    let made = edit.byte.saturating_add(edit.text.len());
+    match bytes_at(changed, made, byte) {
+        Some(between) => !between.contains(";") || !between.contains("\n"),
+        None => true,
+    }
+}
+
+/// Why a text has no tokens, or its tokens spell no program.
+fn refusal_in(alloc: Global, text: &str) -> Option<Refusal> {
+    match lex(alloc, text) {
+        Ok(tokens) => misspelt(alloc, &tokens),
+        Err(refusal) => Some(refusal),
+    }
+}
+
+/// The change that is told of a source's refusal.
+fn next_of(
+    alloc: Global,
+    source: &str,
+    refusal: &Refusal,
+    teller: Teller,
+) -> Result<Option<Edit>, AllocError> {
+    let text = readable(alloc, source)?;
+    let tokens = tokens_in(alloc, text.as_str(), source, refusal)?;
+    match fault_at(
+        source,
+        &tokens,
+        refusal.number,
+        refusal.line,
+        refusal.column,
+    ) {
+        Some(fault) if fault.token().is_some() => told_by(alloc, &fault, teller),
+        _ => Ok(None),
+    }
+}
+
+/// A change of a text together with the next one of its kind, if the equation or the line needs it and it helps.
+fn with_next(
+    alloc: Global,
+    source: &str,
+    edit: &Edit,
+    teller: Teller,
+) -> Result<Option<Edit>, AllocError> {
+    let Some(changed) = edited(alloc, source, edit)? else {
+        return Ok(None);
+    };
+    let Some(refusal) = refusal_in(alloc, changed.as_str()) else {
+        return Ok(None);
+    };
+    let byte = offset_of(changed.as_str(), refusal.line, refusal.column);
+    if !goes_on(changed.as_str(), edit, byte) {
+        return Ok(None);
+    }
+    let next = next_of(alloc, changed.as_str(), &refusal, teller)?;
+    match trusted(alloc, changed.as_str(), next, refusal.number, teller)? {
+        Some(next) => joined(alloc, changed.as_str(), edit, &next),
+        None => Ok(None),
+    }
+}
+
+/// A change of a text, if it helps, with all further ones of its kind that the equation or the line needs.
+pub fn whole(
+    alloc: Global,
+    fault: &Fault<'_>,
+    first: Option<Edit>,
+    teller: Teller,
+) -> Result<Option<Edit>, AllocError> {
+    let source = fault.source;
+    let mut edit = trusted(alloc, source, first, fault.number, teller)?;
+    for _turn in 0..MOST_FURTHER {
+        let further = match &edit {
+            Some(edit) => with_next(alloc, source, edit, teller)?,
+            None => None,
+        };
+        if further.is_none() {
+            return Ok(edit);
+        }
+        edit = further;
+    }
+    Ok(edit)
+}
