@@ -1,11 +1,18 @@
 //! What programs say of their nodes and types.
+ghost use Rattle.std.specs.Prelude.{◌≡◌, None, MatchOption, slice_get};
+ghost use Rattle.lus_foreign.specs.Held.{IsOkay};
+ghost use Rattle.lus_foreign.specs.Queries.{FormalIsTold, FormalsAreTold, IsHandle, NameIsTold, NodeIsTold, NodesAreTold, OfHeldProgram};
+ghost use Rattle.lus_foreign.specs.Queries.{constructor_at, field_at, input_at, node_name_at, output_at};
 
 use lus_foreign::{FormalOut, Handle};
 use std::alloc::Global;
 
 /// How many nodes a program has.
 #[unsafe(no_mangle)]
-pub extern "C" fn lus_raw_nodes(alloc: Global, handle: &mut Handle, count: &mut u32) -> u32 {
+pub extern "C" fn lus_raw_nodes(alloc: Global, handle: &mut Handle, count: &mut u32) -> u32
+    ensures told { OfHeldProgram handle.old.kept.held result (λ p. NodesAreTold p result count.new) }
+    ensures same { handle.new.kept.held ≡ handle.old.kept.held }
+{
     lus_foreign::nodes(alloc, handle, count)
 }
 
@@ -16,7 +23,10 @@ pub extern "C" fn lus_raw_node(
     handle: &mut Handle,
     name: &[u8],
     node: &mut u32,
-) -> u32 {
+) -> u32
+    ensures told { OfHeldProgram handle.old.kept.held result (λ p. NodeIsTold p name.now result node.new) }
+    ensures same { handle.new.kept.held ≡ handle.old.kept.held }
+{
     lus_foreign::node(alloc, handle, name, node)
 }
 
@@ -28,7 +38,10 @@ pub extern "C" fn lus_raw_node_name(
     node: u32,
     bytes: &mut u64,
     name: &mut [u8],
-) -> u32 {
+) -> u32
+    ensures told { OfHeldProgram handle.old.kept.held result (λ p. NameIsTold (node_name_at p node) result bytes.new name.old name.new) }
+    ensures same { handle.new.kept.held ≡ handle.old.kept.held }
+{
     lus_foreign::node_name(alloc, handle, node, bytes, name)
 }
 
@@ -40,7 +53,10 @@ pub extern "C" fn lus_raw_formals(
     node: u32,
     inputs: &mut u32,
     outputs: &mut u32,
-) -> u32 {
+) -> u32
+    ensures told { OfHeldProgram handle.old.kept.held result (λ p. FormalsAreTold (slice_get p.nodes node) result inputs.new outputs.new) }
+    ensures same { handle.new.kept.held ≡ handle.old.kept.held }
+{
     lus_foreign::formals(alloc, handle, node, inputs, outputs)
 }
 
@@ -53,7 +69,10 @@ pub extern "C" fn lus_raw_input(
     place: u32,
     out: &mut FormalOut,
     name: &mut [u8],
-) -> u32 {
+) -> u32
+    ensures told { OfHeldProgram handle.old.kept.held result (λ p. FormalIsTold (input_at p node place) result out.new name.old name.new) }
+    ensures same { handle.new.kept.held ≡ handle.old.kept.held }
+{
     lus_foreign::input(alloc, handle, node, place, out, name)
 }
 
@@ -66,7 +85,10 @@ pub extern "C" fn lus_raw_output(
     place: u32,
     out: &mut FormalOut,
     name: &mut [u8],
-) -> u32 {
+) -> u32
+    ensures told { OfHeldProgram handle.old.kept.held result (λ p. FormalIsTold (output_at p node place) result out.new name.old name.new) }
+    ensures same { handle.new.kept.held ≡ handle.old.kept.held }
+{
     lus_foreign::output(alloc, handle, node, place, out, name)
 }
 
@@ -79,7 +101,11 @@ pub extern "C" fn lus_raw_field(
     place: u32,
     out: &mut FormalOut,
     name: &mut [u8],
-) -> u32 {
+) -> u32
+    ensures told { OfHeldProgram handle.old.kept.held result
+        (λ p. FormalIsTold (field_at p structure place) result out.new name.old name.new) }
+    ensures same { handle.new.kept.held ≡ handle.old.kept.held }
+{
     lus_foreign::field(alloc, handle, structure, place, out, name)
 }
 
@@ -92,12 +118,19 @@ pub extern "C" fn lus_raw_constructor(
     constructor: u32,
     bytes: &mut u64,
     name: &mut [u8],
-) -> u32 {
+) -> u32
+    ensures told { OfHeldProgram handle.old.kept.held result
+        (λ p. NameIsTold (constructor_at p of constructor) result bytes.new name.old name.new) }
+    ensures same { handle.new.kept.held ≡ handle.old.kept.held }
+{
     lus_foreign::constructor(alloc, handle, of, constructor, bytes, name)
 }
 
 /// Lets go what a handle holds.
 #[unsafe(no_mangle)]
-pub extern "C" fn lus_raw_free(alloc: Global, handle: &mut Handle) -> u32 {
+pub extern "C" fn lus_raw_free(alloc: Global, handle: &mut Handle) -> u32
+    ensures freed { MatchOption handle.old.kept.held (IsHandle result) (λ content. IsOkay result) }
+    ensures empty { handle.new.kept.held ≡ None }
+{
     lus_foreign::free(alloc, handle)
 }

@@ -1,4 +1,7 @@
 //! Texts of rows, of entries and of journals.
+ghost use Rattle.std.specs.Prelude.{◌≡◌, ◌⊎◌, IsUtf8};
+ghost use Rattle.lus_foreign.specs.Queries.{IsText, OfHeldProgram};
+ghost use Rattle.lus_foreign.specs.Texts.{FoundIsTold, IsMemory, OfHeldJournal, RowIsTold, closed_line, closed_text, names_behind};
 
 use lus_foreign::Handle;
 use lus_leaves::Leaf;
@@ -12,7 +15,11 @@ pub extern "C" fn lus_raw_row_text(
     leaves: &[Leaf],
     room: &mut [u8],
     bytes: &mut u64,
-) -> u32 {
+) -> u32
+    ensures told { OfHeldProgram handle.old.kept.held result
+        (λ p. IsMemory result ⊎ RowIsTold p leaves.now result bytes.new room.old room.new) }
+    ensures same { handle.new.kept.held ≡ handle.old.kept.held }
+{
     lus_foreign::row_text(alloc, handle, leaves, room, bytes)
 }
 
@@ -25,7 +32,12 @@ pub extern "C" fn lus_raw_journal_text(
     callers: &[u8],
     room: &mut [u8],
     bytes: &mut u64,
-) -> u32 {
+) -> u32
+    ensures told { IsUtf8 instance.now × IsUtf8 callers.now → OfHeldJournal journal.old.kept.held result (λ c. IsMemory result ⊎
+        FoundIsTold (closed_text instance.now (names_behind callers.now) c) result bytes.new room.old room.new) }
+    ensures text { ¬ (IsUtf8 instance.now × IsUtf8 callers.now) → IsText result }
+    ensures same { journal.new.kept.held ≡ journal.old.kept.held }
+{
     lus_foreign::journal_text(alloc, journal, instance, callers, room, bytes)
 }
 
@@ -38,6 +50,11 @@ pub extern "C" fn lus_raw_entry_text(
     callers: &[u8],
     room: &mut [u8],
     bytes: &mut u64,
-) -> u32 {
+) -> u32
+    ensures told { IsUtf8 callers.now → OfHeldJournal journal.old.kept.held result (λ c. IsMemory result ⊎
+        FoundIsTold (closed_line (names_behind callers.now) c place) result bytes.new room.old room.new) }
+    ensures text { ¬ (IsUtf8 callers.now) → IsText result }
+    ensures same { journal.new.kept.held ≡ journal.old.kept.held }
+{
     lus_foreign::entry_text(alloc, journal, place, callers, room, bytes)
 }

@@ -8,8 +8,8 @@ use Rattle.lus_shared.specs.MachineSpecs.Acceptance.{Accepted}
 use Rattle.lus_shared.specs.Knowledge.{Instance}
 use Rattle.lus_shared.specs.Views.{Sees}
 use Rattle.lus_shared.specs.Closing.{Closed}
-use Rattle.lus_requests.specs.declared.request.Entry.{Entry}
-use Rattle.lus_foreign.specs.Seated.{Seated, standings}
+use Rattle.lus_foreign.specs.Seated.{Seated, IsOf, standings}
+use Rattle.lus_foreign.specs.declared.seat_group.ClosedNode.{ClosedNode}
 use Rattle.lus_foreign.specs.declared.seat_group.Ended.{Ended as EndedType}
 use Rattle.lus_foreign.specs.declared.seat_group.Ended.TheVariants.{Closed as IsClosed}
 use Rattle.lus_foreign.specs.declared.content.Content.{Content as ContentType}
@@ -36,16 +36,18 @@ abbrev pub HeldSees : Option ContentType → Option ContentType → ℕ → Type
 HeldSees (Some a) (Some b) n = ContentSees a b n
 HeldSees _ _ n = ⊥
 
--- the history of the instance of these seats, with their calls and no others (the seats are told the last first)
-abbrev pub Ends : List Seated → List Entry → Type 0
-Ends ss h = (i : Instance) × (All (λ (s : Seated). s.standing.instance ≡ i) ss × Closed i (standings (reverse ss)) h)
+-- what was closed is the history of the instance of these seats, with their calls and no others, and its node (the seats are told
+-- the last first)
+abbrev pub Ends : List Seated → ClosedNode → Type 0
+Ends ss c = (i : Instance) × (All (λ (s : Seated). s.standing.instance ≡ i) ss × Closed i (standings (reverse ss)) c.entries.items
+    × IsOf i (program_of (arc_value c.program)) c.kind.0)
 
 abbrev pub EndLeaves : List Seated → EndedType → Type 0
-EndLeaves ss (IsClosed c) = Ends ss c.entries.items
+EndLeaves ss (IsClosed c) = Ends ss c
 EndLeaves ss _ = Unit {0}
 
 abbrev pub ContentEnds : ContentType → ContentType → Type 0
-ContentEnds (IsGroup ss) (IsJournal c) = Ends ss c.entries.items
+ContentEnds (IsGroup ss) (IsJournal c) = Ends ss c
 ContentEnds _ _ = ⊥
 
 -- the handle held seats, and holds what their instance left

@@ -7,3 +7,5 @@ pub mod Refusals
 pub mod Met
 pub mod Opened
 pub mod Kept
+pub mod Queries
+pub mod Texts

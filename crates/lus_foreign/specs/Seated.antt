@@ -1,6 +1,7 @@
 -- What C has of an instance: a seat with the number of its instance, and the reply to its last call.
 use Rattle.std.specs.Prelude.{◌≡◌, ℕ, List, [], ◌∷◌, map, reverse, Option}
 use Rattle.std.specs.List.{All}
+use Rattle.lus_program.specs.Programs.{Program}
 use Rattle.lus_requests.specs.declared.request.Reply.{Reply}
 use Rattle.lus_machine.specs.Machines.{Told}
 use Rattle.lus_shared.specs.Knowledge.{Instance, Standing, origin_with}
@@ -13,6 +14,11 @@ pub record Seated : Type 0 where
 
 abbrev pub standings : List Seated → List Standing
 standings ss = map (λ (s : Seated). s.standing) ss
+
+-- the instance was opened of this node of the program
+pub record IsOf (i : Instance) (program : Program) (node : ℕ) : Type 0 where
+  pub in_program : i.origin.program ≡ program
+  pub of_node : i.origin.node ≡ node
 
 -- both are seats of one node, and so they are told
 pub record AreMates (s t : Seated) : Type 0 where

@@ -8,7 +8,6 @@ ghost use Rattle.lus_foreign.specs.Refusals.{code, IsWritten, TellsRefusal};
 
 use crate::content::Content;
 use crate::handle::Handle;
-use crate::programs::put_bytes;
 use crate::status::{HANDLE, MEMORY, OK, REFUSED, TEXT};
 use lus_shared::lus_machine;
 use lus_syntax::{Refusal, RefusalNumber};
@@ -45,6 +44,18 @@ fn number_of(number: RefusalNumber) -> u32
         RefusalNumber::Limit => 10,
         RefusalNumber::Memory => 11,
     }
+}
+
+/// Writes bytes from a place on, as far as the array has room; answers the place behind them.
+fn put_bytes(room: &mut [u8], start: u64, bytes: &[u8]) -> u64 {
+    let mut at = start;
+    for byte in bytes {
+        if let Some(place) = room.get_mut(at as usize) {
+            *place = *byte;
+        }
+        at = at.saturating_add(1);
+    }
+    at
 }
 
 fn write_refusal(refused: &mut Refused, names: &mut [u8], refusal: &Refusal)

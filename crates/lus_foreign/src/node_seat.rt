@@ -1,8 +1,13 @@
 //! Seats with their node.
 ghost use Rattle.std.specs.Prelude.{◌≡◌, length, Some, None, IfOk, IfErr, MatchOption, MatchResult};
 ghost use Rattle.std.specs.Arc.{arc_value};
+ghost use Rattle.std.specs.Coded.{codes};
+ghost use Rattle.lus_values.specs.Coded.{coded_row};
+ghost use Rattle.lus_shared.specs.HistorySpecs.CodedPrograms.{coded_expression};
 ghost use Rattle.lus_shared.specs.Views.{Sees, Adds};
 ghost use Rattle.lus_shared.specs.Calls.{Counts};
+ghost use Rattle.lus_shared.specs.CodeSpecs.Codes.{program_of};
+ghost use Rattle.lus_foreign.specs.Seated.{IsOf};
 
 use lus_requests::{Reply, Request};
 use lus_shared::lus_machine::{NodeId, Program};
@@ -17,6 +22,7 @@ pub struct Opened {
     pub(crate) id: u64,
     pub(crate) program: Arc<Program>,
     pub(crate) kind: NodeId,
+    ghost opened: { IsOf node (program_of (arc_value program)) kind.0 } by { Prim.hlevel (codes, coded_row, coded_expression) },
 }
 
 /// A seat with its instance, and the reply to its last call.

@@ -1,5 +1,7 @@
 //! Seats of one instance that are together.
 ghost use Rattle.std.specs.Prelude.{◌≡◌, ◌++◌, ◌∷◌, [], IfOk, IfErr, IfSome, IsTrue, MatchOption};
+ghost use Rattle.std.specs.Arc.{arc_value};
+ghost use Rattle.lus_shared.specs.CodeSpecs.Codes.{program_of};
 ghost use Rattle.lus_shared.specs.Knowledge.{Instance};
 ghost use Rattle.lus_foreign.specs.Held.{EndLeaves};
 ghost use Rattle.lus_foreign.specs.Seated.{AreOpened, Belongs, IsMate};
@@ -98,7 +100,9 @@ impl SeatGroup {
         callers: u32,
         opening: Opening,
     ) -> Result<SeatGroup, Memory>
-        requires { machine.history ≡ [] }
+        requires new { machine.history ≡ [] }
+        requires program { machine.program ≡ program_of (arc_value opening.program) }
+        requires node { machine.node ≡ opening.kind.0 }
         ensures { IfOk result (λ ss. AreOpened machine callers opening.id ss) }
     {
         let Opening { id, program, kind } = opening;

@@ -1,21 +1,21 @@
 //! Texts of rows, of entries and of journals.
-ghost use Rattle.std.specs.Prelude.{◌≡◌, length, take};
-ghost use Rattle.lus_foreign.specs.Held.{IsOkay};
+ghost use Rattle.std.specs.Prelude.{◌≡◌, ◌⊎◌, IsUtf8, IfOk, map, string_bytes};
+ghost use Rattle.lus_foreign.specs.Queries.{IsText, OfHeldProgram, OfProgram};
+ghost use Rattle.lus_foreign.specs.Texts.{FoundIsTold, IsMemory, OfHeldJournal, OfJournal, RowIsTold, TextIsTold};
+ghost use Rattle.lus_foreign.specs.Texts.{closed_line, closed_text, names_behind};
 
 use crate::content::Content;
 use crate::handle::Handle;
-use crate::seat_group::ClosedNode;
 use crate::status::{HANDLE, MEMORY, NONE, OK, SHORT, TEXT, VALUE};
 use lus_devices::{Journal, push_line, push_row, write_journals};
 use lus_leaves::{Leaf, row_of};
-use lus_shared::lus_machine::Program;
 use lus_values::Memory;
-use std::alloc::Global;
+use std::alloc::{AllocError, Global};
 use std::str;
 
 /// Writes a text into an array that has room for it; says how long it is in any case.
 fn write_text(room: &mut [u8], bytes: &mut u64, text: &[u8]) -> u32
-    ensures { IsOkay result → (bytes.new ≡ length text.now) × (take (length text.now) room.new ≡ text.now) }
+    ensures { TextIsTold text.now result bytes.new room.old room.new }
 {
     *bytes = text.len() as u64;
     if text.len() > room.len() {
@@ -25,10 +25,19 @@ fn write_text(room: &mut [u8], bytes: &mut u64, text: &[u8]) -> u32
     OK
 }
 
+/// The parts of a text that has a 0 behind each.
+fn parts(alloc: Global, text: &str) -> Result<Vec<&str>, AllocError>
+    ensures { IfOk result (λ v. map (λ t. t.now) v.items ≡ names_behind text.now) }
+{
+    text.split('\0').collect(alloc)
+}
+
 /// The names in a text that has a 0 behind each.
-fn names_in(alloc: Global, text: &str) -> Result<Vec<String>, Memory> {
+fn names_in(alloc: Global, text: &str) -> Result<Vec<String>, Memory>
+    ensures { IfOk result (λ names. map string_bytes names.items ≡ names_behind text.now) }
+{
     let mut names = Vec::new(alloc);
-    for name in text.split('\0') {
+    for name in &parts(alloc, text)? {
         names.push(String::from_str(alloc, name)?)?;
     }
     Ok(names)
@@ -36,17 +45,26 @@ fn names_in(alloc: Global, text: &str) -> Result<Vec<String>, Memory> {
 
 fn row_text_in(
     alloc: Global,
-    program: &Program,
+    content: &Content,
     leaves: &[Leaf],
     room: &mut [u8],
     bytes: &mut u64,
-) -> Result<u32, Memory> {
-    let Some(row) = row_of(alloc, leaves)? else {
-        return Ok(VALUE);
+) -> u32
+    ensures { OfProgram content.now result (λ p. IsMemory result ⊎ RowIsTold p leaves.now result bytes.new room.old room.new) }
+{
+    let Content::Program(program) = content else {
+        return HANDLE;
+    };
+    let row = match row_of(alloc, leaves) {
+        Ok(Some(row)) => row,
+        Ok(None) => return VALUE,
+        Err(_) => return MEMORY,
     };
     let mut text = String::new(alloc);
-    push_row(&mut text, program.names(), &row)?;
-    Ok(write_text(room, bytes, text.as_bytes()))
+    match push_row(&mut text, program.names(), &row) {
+        Ok(()) => write_text(room, bytes, text.as_bytes()),
+        Err(_) => MEMORY,
+    }
 }
 
 /// The text of a row of values, as journals have it.
@@ -56,48 +74,49 @@ pub fn row_text(
     leaves: &[Leaf],
     room: &mut [u8],
     bytes: &mut u64,
-) -> u32 {
+) -> u32
+    ensures told { OfHeldProgram handle.old.kept.held result
+        (λ p. IsMemory result ⊎ RowIsTold p leaves.now result bytes.new room.old room.new) }
+    ensures same { handle.new.kept.held ≡ handle.old.kept.held }
+{
     let Some(content) = handle.take(alloc) else {
         return HANDLE;
     };
-    let status = match &*content {
-        Content::Program(program) => {
-            row_text_in(alloc, program, leaves, room, bytes).unwrap_or(MEMORY)
-        }
-        _ => HANDLE,
-    };
+    let status = row_text_in(alloc, &content, leaves, room, bytes);
     handle.put(content);
     status
 }
 
 fn journal_text_in(
     alloc: Global,
-    closed: &ClosedNode,
+    content: &Content,
     instance: &str,
     callers: &str,
     room: &mut [u8],
     bytes: &mut u64,
-) -> Result<u32, Memory> {
-    let program = closed.program.source();
-    let Some(node) = program.nodes.get(closed.kind.0 as usize) else {
-        return Ok(NONE);
+) -> u32
+    ensures { OfJournal content.now result (λ c. IsMemory result ⊎
+        FoundIsTold (closed_text instance.now (names_behind callers.now) c) result bytes.new room.old room.new) }
+{
+    let Content::Journal(closed) = content else {
+        return HANDLE;
     };
-    let callers = names_in(alloc, callers)?;
+    let Some(node) = closed.program.source().nodes.get(closed.kind.0 as usize) else {
+        return NONE;
+    };
+    let Ok(callers) = names_in(alloc, callers) else {
+        return MEMORY;
+    };
     let journal = Journal {
         instance,
         node: node.name.as_str(),
         entries: &closed.entries,
     };
+    let names = closed.program.names();
     let mut text = Vec::new(alloc);
-    match write_journals(
-        alloc,
-        &mut text,
-        closed.program.names(),
-        &callers,
-        &[journal],
-    ) {
-        Ok(()) => Ok(write_text(room, bytes, &text)),
-        Err(_) => Ok(MEMORY),
+    match write_journals(alloc, &mut text, names, &callers, &[journal]) {
+        Ok(()) => write_text(room, bytes, &text),
+        Err(_) => MEMORY,
     }
 }
 
@@ -109,39 +128,53 @@ pub fn journal_text(
     callers: &[u8],
     room: &mut [u8],
     bytes: &mut u64,
-) -> u32 {
-    let (Ok(instance), Ok(callers)) = (str::from_utf8(instance), str::from_utf8(callers)) else {
+) -> u32
+    ensures told { IsUtf8 instance.now × IsUtf8 callers.now → OfHeldJournal journal.old.kept.held result (λ c. IsMemory result ⊎
+        FoundIsTold (closed_text instance.now (names_behind callers.now) c) result bytes.new room.old room.new) }
+    ensures text { ¬ (IsUtf8 instance.now × IsUtf8 callers.now) → IsText result }
+    ensures same { journal.new.kept.held ≡ journal.old.kept.held }
+{
+    let Ok(instance) = str::from_utf8(instance) else {
+        return TEXT;
+    };
+    let Ok(callers) = str::from_utf8(callers) else {
         return TEXT;
     };
     let Some(content) = journal.take(alloc) else {
         return HANDLE;
     };
-    let status = match &*content {
-        Content::Journal(closed) => {
-            journal_text_in(alloc, closed, instance, callers, room, bytes).unwrap_or(MEMORY)
-        }
-        _ => HANDLE,
-    };
+    let status = journal_text_in(alloc, &content, instance, callers, room, bytes);
     journal.put(content);
     status
 }
 
 fn entry_text_in(
     alloc: Global,
-    closed: &ClosedNode,
+    content: &Content,
     place: u64,
     callers: &str,
     room: &mut [u8],
     bytes: &mut u64,
-) -> Result<u32, Memory> {
-    let Some(entry) = closed.entries.get(place as usize) else {
-        return Ok(NONE);
+) -> u32
+    ensures { OfJournal content.now result (λ c. IsMemory result ⊎
+        FoundIsTold (closed_line (names_behind callers.now) c place) result bytes.new room.old room.new) }
+{
+    let Content::Journal(closed) = content else {
+        return HANDLE;
     };
-    let callers = names_in(alloc, callers)?;
+    if place >= closed.entries.len() as u64 {
+        return NONE;
+    }
+    let Ok(callers) = names_in(alloc, callers) else {
+        return MEMORY;
+    };
+    let entry = &closed.entries[place as usize];
+    let names = closed.program.names();
     let mut line = String::new(alloc);
-    let number = place.saturating_add(1);
-    push_line(&mut line, closed.program.names(), &callers, number, entry)?;
-    Ok(write_text(room, bytes, line.as_bytes()))
+    match push_line(&mut line, names, &callers, place + 1, entry) {
+        Ok(()) => write_text(room, bytes, line.as_bytes()),
+        Err(_) => MEMORY,
+    }
 }
 
 /// The line of an entry in a journal's text, by its place from 0.
@@ -152,19 +185,19 @@ pub fn entry_text(
     callers: &[u8],
     room: &mut [u8],
     bytes: &mut u64,
-) -> u32 {
+) -> u32
+    ensures told { IsUtf8 callers.now → OfHeldJournal journal.old.kept.held result (λ c. IsMemory result ⊎
+        FoundIsTold (closed_line (names_behind callers.now) c place) result bytes.new room.old room.new) }
+    ensures text { ¬ (IsUtf8 callers.now) → IsText result }
+    ensures same { journal.new.kept.held ≡ journal.old.kept.held }
+{
     let Ok(callers) = str::from_utf8(callers) else {
         return TEXT;
     };
     let Some(content) = journal.take(alloc) else {
         return HANDLE;
     };
-    let status = match &*content {
-        Content::Journal(closed) => {
-            entry_text_in(alloc, closed, place, callers, room, bytes).unwrap_or(MEMORY)
-        }
-        _ => HANDLE,
-    };
+    let status = entry_text_in(alloc, &content, place, callers, room, bytes);
     journal.put(content);
     status
 }

@@ -6,8 +6,8 @@ use Rattle.lus_leaves.specs.declared.leaf.Leaf.{Leaf}
 abbrev pub most : ℕ
 most = 18446744073709551615
 
--- the new leaves, as far as there is room, and behind them what was there
-abbrev pub over : List Leaf → List Leaf → List Leaf
+-- the new items, as far as there is room, and behind them what was there
+abbrev pub over : {A : Type 0} → List A → List A → List A
 over olds news = take (length olds) news ++ drop (length news) olds
 
 -- the same from a place on
