@@ -1,5 +1,5 @@
 -- Rows that take over what an instant left, if it was made.
-use Rattle.std.proofs.Common.{◌≡◌, ◌∙◌, Bool, true, false, Result, Ok, Err, refl, sym, subst}
+use Rattle.std.proofs.Common.{◌≡◌, Bool, true, false, Result, Ok, Err, refl, sym, subst}
 use Rattle.std.specs.Prelude.{is_ok}
 use Rattle.lus_values.specs.Values.{Row}
 use Rattle.lus_running.specs.declared.error.Failure.{Failure}

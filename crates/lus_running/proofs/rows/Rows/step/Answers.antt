@@ -8,12 +8,11 @@ use Rattle.lus_instructions.specs.Followed.{cell_of}
 use Rattle.lus_values.specs.Values.{Row}
 use Rattle.lus_values.specs.View.{entry_of}
 use Rattle.lus_running.specs.Answering.{Reaches}
-use Rattle.lus_running.specs.Instances.{IsLong, KeepsSame, LeavesBehind, MakesStep, exchanged, rows_seen}
-use Rattle.lus_running.specs.Instants.{Parts, class_state, instant_in}
+use Rattle.lus_running.specs.Instances.{IsLong, KeepsSame, LeavesBehind, MakesStep, rows_seen}
+use Rattle.lus_running.specs.Instants.{class_state, instant_in}
 use Rattle.lus_running.specs.Keeping.{cells_of}
 use Rattle.lus_running.specs.OnClocks.{PresentOnClock}
 use Rattle.lus_running.specs.declared.error.Failure.{Failure}
-use Rattle.lus_running.specs.declared.rows.Rows.{Rows}
 use Rattle.lus_running.proofs.InstanceSteps.{fails_step, reaches_step}
 use Rattle.lus_running.proofs.ShortSteps.{fits_on_clocks, step_same}
 use Rattle.lus_running.proofs.TakenRows.{taken}
