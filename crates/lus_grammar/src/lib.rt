@@ -12,6 +12,7 @@ mod operators;
 mod parts;
 mod primaries;
 mod program;
+mod shape;
 mod trees;
 mod types;
 mod variables;

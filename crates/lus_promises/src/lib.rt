@@ -7,11 +7,9 @@ mod classes;
 mod counting;
 mod instances;
 mod orders;
-mod sources;
 
 pub use checks::{check_flags, check_on_clocks, order_variables};
 pub use classes::{choose_side, place_parts, turn_equations};
 pub use counting::{Counts, count_cells, counts_of};
 pub use instances::{new_instance, step_once};
 pub use orders::order_things;
-pub use sources::may_be_followed;
