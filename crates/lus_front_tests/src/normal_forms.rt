@@ -1,10 +1,11 @@
 //! What normal forms of small programs keep, and what is taken out of them.
 
-use lus_clocks::{check_clocks, check_nil};
+use lus_clocks::{check_clocks, check_nil, clocks_fit, flags_fit};
 use lus_grammar::parse;
 use lus_normal::{Normal, normalise};
+use lus_order::order;
 use lus_program::{Equation, Expr, Form, Node, NodeId, Program, Variable};
-use lus_promises::{check_flags, check_on_clocks, counts_of, order_variables};
+use lus_promises::counts_of;
 use lus_syntax::{Refusal, lex};
 use lus_types::check_types;
 use lus_values::{Op, Operator, Value};
@@ -16,11 +17,11 @@ fn normal_of(alloc: Global, text: &str) -> Result<Normal, Refusal> {
     let tokens = lex(alloc, text)?;
     let tree = parse(alloc, &tokens)?;
     let typed = check_types(alloc, tree)?;
-    check_on_clocks(typed.program())?;
+    clocks_fit(typed.program())?;
     let clocked = check_clocks(typed)?;
-    check_flags(alloc, clocked.program())?;
+    flags_fit(alloc, clocked.program())?;
     let initialised = check_nil(alloc, clocked)?;
-    normalise(alloc, order_variables(alloc, initialised)?)
+    normalise(alloc, order(alloc, initialised)?)
 }
 
 /// A node of a text, and how many memories and marks stand in it.
