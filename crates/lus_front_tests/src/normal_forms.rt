@@ -1,10 +1,11 @@
 //! What typed sources and normal forms of small programs keep, and what is taken out of them.
 
-use lus_clocks::{check_clocks, check_nil};
+use lus_clocks::{check_clocks, check_nil, clocks_fit, flags_fit};
 use lus_grammar::parse;
 use lus_normal::{Normal, has_few_parts, normalise};
+use lus_order::order;
 use lus_program::{Equation, Expr, Form, Node, NodeId, Program, Variable};
-use lus_promises::{check_flags, check_on_clocks, counts_of, order_variables};
+use lus_promises::counts_of;
 use lus_syntax::{Refusal, RefusalNumber, lex};
 use lus_types::{Typed, check_types};
 use lus_values::{Op, Operator, Value};
@@ -21,11 +22,11 @@ fn typed_of(alloc: Global, text: &str) -> Result<Typed, Refusal> {
 /// The normal form of a text.
 fn normal_of(alloc: Global, text: &str) -> Result<Normal, Refusal> {
     let typed = typed_of(alloc, text)?;
-    check_on_clocks(typed.sound().program())?;
+    clocks_fit(typed.sound().program())?;
     let clocked = check_clocks(typed)?;
-    check_flags(alloc, clocked.program())?;
+    flags_fit(alloc, clocked.program())?;
     let initialised = check_nil(alloc, clocked)?;
-    let ordered = order_variables(alloc, initialised)?;
+    let ordered = order(alloc, initialised)?;
     if !has_few_parts(ordered.program()) {
         return Err(Refusal::new(RefusalNumber::Limit, 1, 1));
     }

@@ -4,8 +4,6 @@ ghost use Rattle.std.specs.Prelude.{◌≡◌, IfOk, OnOk};
 ghost use Rattle.lus_program.specs.View.{node_of, program_seen};
 ghost use Rattle.lus_normal_form.specs.Ready.{IsDefined, IsReady};
 ghost use Rattle.lus_order.specs.Orders.{OrdersVariables};
-ghost use Rattle.lus_classes.specs.Steps.{chosen as chosen_entry};
-ghost use Rattle.lus_instructions.specs.Seeing.{entry_seen};
 ghost use Rattle.lus_flat_classes.specs.Turns.{AreReady};
 ghost use Rattle.lus_flat_classes.specs.View.{classes_of};
 ghost use Rattle.lus_places.specs.Few.{AreFew};
@@ -13,7 +11,6 @@ ghost use Rattle.lus_places.specs.Shaped.{AreNested, CanAllBePlaced};
 ghost use Rattle.lus_turns.specs.Turned.{IsTurned};
 
 use lus_flat_classes::Class;
-use lus_instructions::{Seen, chosen};
 use lus_places::place_classes;
 use lus_program::{Node, Program};
 use lus_turns::class_of;
@@ -44,11 +41,4 @@ pub fn place_parts(alloc: Global, classes: &mut [Class]) -> Result<(), Memory>
     ensures ready { OnOk result (AreReady classes.new) }
 {
     place_classes(alloc, classes)
-}
-
-/// What an arrow gives: its first side at the first instant and the later one after it, if both have a value.
-pub fn choose_side<'a>(first: Option<bool>, now: Seen<'a>, later: Seen<'a>) -> Seen<'a>
-    ensures { entry_seen result ≡ chosen_entry first (entry_seen now.entry) (entry_seen later.entry) }
-{
-    chosen(first, now, later)
 }
