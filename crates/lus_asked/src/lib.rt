@@ -8,5 +8,4 @@ mod request;
 mod value;
 
 pub use asked::read_asked;
-pub use number::{integer, natural};
 pub use value::read_word;

@@ -3,26 +3,17 @@
 use crate::check::Check;
 use crate::finding::Finding;
 use crate::spot::Spot;
-use lus_scripts::MOST_NAME_BYTES;
+use lus_scripts::{as_list, is_name, two_members};
 use serde_json::Value;
 
 /// The items of a list.
-pub(crate) fn items(value: Option<&Value>) -> Option<&[Value]> {
-    let items = value?.as_array()?;
-    Some(items.as_slice())
+fn items(value: Option<&Value>) -> Option<&[Value]> {
+    as_list(value?)
 }
 
 /// The items of the list at a key, and none where there is no list.
 pub(crate) fn items_at<'v>(value: &'v Value, key: &str) -> &'v [Value] {
     items(value.get(key)).unwrap_or(&[])
-}
-
-/// How many members an object has, and 0 of any other value.
-pub(crate) fn member_count(value: &Value) -> usize {
-    match value.as_object() {
-        Some(members) => members.len(),
-        None => 0,
-    }
 }
 
 /// The string at a key.
@@ -32,25 +23,14 @@ pub(crate) fn text_at<'v>(value: &'v Value, key: &str) -> Option<&'v str> {
 
 /// Whether a value is an object with exactly these two keys.
 fn has_keys(value: &Value, first: &str, second: &str) -> bool {
-    member_count(value) == 2 && value.get(first).is_some() && value.get(second).is_some()
+    two_members(value, first, second).is_some()
 }
 
-fn is_name_byte(byte: u8) -> bool {
-    byte.is_ascii_alphanumeric() || byte == b'_'
-}
-
-/// Whether the string at a key is a name.
+/// Whether the string at `name` is a name.
 fn has_name(value: &Value) -> bool {
-    let Some(name) = text_at(value, "name") else {
-        return false;
-    };
-    match name.as_bytes() {
-        [first, ..] => {
-            !first.is_ascii_digit()
-                && name.len() <= MOST_NAME_BYTES
-                && name.as_bytes().iter().all(|byte| is_name_byte(*byte))
-        }
-        [] => false,
+    match text_at(value, "name") {
+        Some(name) => is_name(name),
+        None => false,
     }
 }
 

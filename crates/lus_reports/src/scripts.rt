@@ -51,7 +51,7 @@ fn find(alloc: Global, program: &Program, bytes: &[u8], refusal: ScriptRefusal) 
         });
     }
     match Value::from_slice(alloc, bytes) {
-        Ok(json) => find_in(program, &json, refusal),
+        Ok(json) => find_in(alloc, program, &json, refusal),
         Err(error) if error.is_memory() => None,
         Err(error) => no_json(alloc, bytes, error.line(), error.column()),
     }
@@ -72,12 +72,17 @@ fn no_json(alloc: Global, bytes: &[u8], line: usize, column: usize) -> Option<Fi
     })
 }
 
-/// Where the JSON of scripts is refused so.
-fn find_in(program: &Program, scripts: &Value, refusal: ScriptRefusal) -> Option<Finding> {
+/// Where the JSON of scripts is refused so, if there is memory to look.
+fn find_in(
+    alloc: Global,
+    program: &Program,
+    scripts: &Value,
+    refusal: ScriptRefusal,
+) -> Option<Finding> {
     match refusal {
         ScriptRefusal::Form => match wrong_form(scripts) {
             Some(finding) => Some(finding),
-            None => wrong_value(program, scripts),
+            None => wrong_value(alloc, program, scripts).unwrap_or(None),
         },
         ScriptRefusal::Limit => too_many(scripts),
         ScriptRefusal::Double => doubled_name(scripts),

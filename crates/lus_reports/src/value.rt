@@ -2,59 +2,13 @@
 
 use crate::check::Check;
 use crate::finding::Finding;
-use crate::form::{items, items_at, member_count, text_at};
+use crate::form::{items_at, text_at};
 use crate::known::place_named;
 use crate::spot::Spot;
-use lus_cli::lus_host::{Field, Formal, Program};
-use lus_program::Kind;
-use lus_syntax::MOST_NESTING;
+use lus_cli::lus_host::{Formal, Program};
+use lus_scripts::{ScriptRefusal, as_list, read_item};
 use serde_json::Value;
-
-/// Whether a value is a number, a truth value, or the name of a constructor.
-fn is_scalar(program: &Program, json: &Value) -> bool {
-    match json {
-        Value::Bool(_) => true,
-        Value::Number(number) => number.as_i64().is_some(),
-        Value::String(name) => program.names().find(name.as_str()).is_some(),
-        _ => false,
-    }
-}
-
-/// The fields of a structure type.
-fn fields_at(program: &Program, kind: Option<Kind>) -> Option<&[Field]> {
-    match kind {
-        Some(Kind::Struct(structure)) => Some(program.fields(structure)),
-        _ => None,
-    }
-}
-
-/// Whether JSON is a value at the place of a type, in which objects nest at most this many levels.
-#[cycle(values)]
-fn is_value(program: &Program, levels: usize, kind: Option<Kind>, json: &Value) -> bool {
-    if !json.is_object() {
-        return is_scalar(program, json);
-    }
-    match fields_at(program, kind) {
-        Some(fields) if levels > 0 && member_count(json) == fields.len() => {
-            has_fields(program, levels - 1, fields, json)
-        }
-        _ => false,
-    }
-}
-
-/// Whether an object has these fields, each with a value.
-#[cycle(values)]
-fn has_fields(program: &Program, levels: usize, fields: &[Field], object: &Value) -> bool {
-    for field in fields {
-        let Some(json) = object.get(field.name.as_str()) else {
-            return false;
-        };
-        if !is_value(program, levels, Some(field.kind), json) {
-            return false;
-        }
-    }
-    true
-}
+use std::alloc::Global;
 
 /// The inputs of the node of the instance that has this name.
 fn inputs_of<'p>(program: &'p Program, instances: &[Value], on: Option<&str>) -> &'p [Formal] {
@@ -79,75 +33,96 @@ fn inputs_named<'p>(program: &'p Program, node: &str) -> &'p [Formal] {
 }
 
 /// The place of the first item of a row that is no value.
-fn wrong_item(program: &Program, inputs: &[Formal], items: &[Value]) -> Option<usize> {
+fn wrong_item(
+    alloc: Global,
+    program: &Program,
+    inputs: &[Formal],
+    items: &[Value],
+) -> Result<Option<usize>, ScriptRefusal> {
     for (place, item) in items.iter().enumerate() {
         let kind = match inputs.get(place) {
             Some(input) => Some(input.kind),
             None => None,
         };
-        if !item.is_null() && !is_value(program, MOST_NESTING, kind, item) {
-            return Some(place);
+        match read_item(alloc, program.source(), program.names(), kind, item) {
+            Ok(_) => {}
+            Err(ScriptRefusal::Form) => return Ok(Some(place)),
+            Err(refusal) => return Err(refusal),
         }
     }
-    None
+    Ok(None)
 }
 
 /// The first item of a row of a burst that is no value.
 fn wrong_rows(
+    alloc: Global,
     program: &Program,
     inputs: &[Formal],
     caller: usize,
     call: usize,
     rows: &[Value],
-) -> Option<Finding> {
+) -> Result<Option<Finding>, ScriptRefusal> {
     for (row, listed) in rows.iter().enumerate() {
-        let listed = items(Some(listed)).unwrap_or(&[]);
-        if let Some(item) = wrong_item(program, inputs, listed) {
+        let listed = as_list(listed).unwrap_or(&[]);
+        if let Some(item) = wrong_item(alloc, program, inputs, listed)? {
             let spot = Spot::ItemOfRow(caller, call, row, item);
-            return Some(Finding::at(spot, Check::Value));
+            return Ok(Some(Finding::at(spot, Check::Value)));
         }
     }
-    None
+    Ok(None)
 }
 
 /// The first item of what a call asks that is no value.
 fn wrong_call(
+    alloc: Global,
     program: &Program,
     instances: &[Value],
     caller: usize,
     place: usize,
     call: &Value,
-) -> Option<Finding> {
+) -> Result<Option<Finding>, ScriptRefusal> {
     let inputs = inputs_of(program, instances, text_at(call, "on"));
-    match wrong_item(program, inputs, items_at(call, "step")) {
-        Some(item) => Some(Finding::at(Spot::Item(caller, place, item), Check::Value)),
-        None => wrong_rows(program, inputs, caller, place, items_at(call, "burst")),
+    match wrong_item(alloc, program, inputs, items_at(call, "step"))? {
+        Some(item) => {
+            let spot = Spot::Item(caller, place, item);
+            Ok(Some(Finding::at(spot, Check::Value)))
+        }
+        None => {
+            let rows = items_at(call, "burst");
+            wrong_rows(alloc, program, inputs, caller, place, rows)
+        }
     }
 }
 
 fn wrong_calls(
+    alloc: Global,
     program: &Program,
     instances: &[Value],
     caller: usize,
     calls: &[Value],
-) -> Option<Finding> {
+) -> Result<Option<Finding>, ScriptRefusal> {
     for (place, call) in calls.iter().enumerate() {
-        let finding = wrong_call(program, instances, caller, place, call);
+        let finding = wrong_call(alloc, program, instances, caller, place, call)?;
         if finding.is_some() {
-            return finding;
+            return Ok(finding);
         }
     }
-    None
+    Ok(None)
 }
 
-/// The first item of a step or of a burst that is no value.
-pub(crate) fn wrong_value(program: &Program, scripts: &Value) -> Option<Finding> {
+/// The first item of a step or of a burst that is no value. A refusal is `Memory`.
+pub(crate) fn wrong_value(
+    alloc: Global,
+    program: &Program,
+    scripts: &Value,
+) -> Result<Option<Finding>, ScriptRefusal> {
     let instances = items_at(scripts, "instances");
     for (place, caller) in items_at(scripts, "callers").iter().enumerate() {
-        let finding = wrong_calls(program, instances, place, items_at(caller, "calls"));
+        let calls = items_at(caller, "calls");
+        let finding = wrong_calls(alloc, program, instances, place, calls)?;
         if finding.is_some() {
-            return finding;
+            return Ok(finding);
         }
     }
-    None
+    Ok(None)
 }
