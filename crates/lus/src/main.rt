@@ -65,7 +65,7 @@ fn main(rt: HostRuntime) -> ExitCode {
             )
         }
         "lus_bench" => lus_bench::command(&rt, words),
-        _ => command(&rt, &disk, words, &mut output, &mut faults),
+        _ => command(&rt, rt.alloc(), words, &mut output, &mut faults),
     };
     ExitCode::from(status)
 }

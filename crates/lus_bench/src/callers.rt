@@ -1,8 +1,8 @@
 //! Callers that share one instance, each on a thread of its own.
 
+use lus_host::lus_callers::{fit, run_callers};
 use lus_host::{
-    Call, Caller, LockedNode, Memory, NodeId, OpenGate, Program, Request, Row, fit, run_callers,
-    run_seated,
+    Call, Caller, LockedNode, Memory, NodeId, OpenGate, Program, Request, Row, SeatNode,
 };
 use std::alloc::Global;
 use std::sync::{Arc, Wait};
@@ -64,7 +64,14 @@ pub fn entries<R: AllocGlobal + Threads + Wait + Sync>(
             callers.as_slice(),
             &OpenGate,
         ),
-        Sharing::Seats => run_seated(rt, alloc, program, &nodes, callers.as_slice(), &OpenGate),
+        Sharing::Seats => run_callers::<SeatNode, OpenGate, R>(
+            rt,
+            alloc,
+            program,
+            &nodes,
+            callers.as_slice(),
+            &OpenGate,
+        ),
     };
     let done = ended.ok()?;
     let journal = done.journals.get(0)?;

@@ -8,7 +8,6 @@ mod gate;
 mod jobs;
 mod open;
 mod run;
-mod seated;
 mod shares;
 mod threads;
 
@@ -18,5 +17,4 @@ pub use lus_requests::{Call, Caller};
 pub use lus_shared;
 pub use lus_shared::lus_machine;
 pub use run::{Journals, run_callers};
-pub use seated::run_seated;
 pub use threads::HostError;

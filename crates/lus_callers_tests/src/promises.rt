@@ -12,7 +12,7 @@ ghost use Rattle.lus_callers.specs.SharedSpecs.Views.{Adds, Sees};
 
 use lus_callers::lus_machine::{CallError, Machine, Program};
 use lus_callers::lus_shared::{Journal, Seat, SeatNode, Shared, Strangers, TryError};
-use lus_callers::{Caller, Gate, HostError, Journals, run_seated};
+use lus_callers::{Caller, Gate, HostError, Journals, run_callers};
 use lus_program::NodeId;
 use lus_requests::{Reply, Request};
 use std::alloc::Global;
@@ -95,5 +95,5 @@ pub fn run_served<G: Gate + Sync, R: Threads + Wait + Sync>(
     ensures counted { IfOk result (λ r. AllCounted (length instances.now) (shares r) (histories r)) }
     ensures served { IfOk result (λ r. AllServed true (scripts callers.now) r.wants.items (shares r) (histories r)) }
 {
-    run_seated(rt, alloc, program, instances, callers, gate)
+    run_callers::<SeatNode, G, R>(rt, alloc, program, instances, callers, gate)
 }

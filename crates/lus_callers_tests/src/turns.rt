@@ -71,8 +71,7 @@ fn seats_take_turns(rt: HostRuntime) -> Result<(), Fail> {
     let (node, mut first, mut second) = a_counter(alloc)?;
     let step = a_step(alloc);
     assert!(&rt; gives(call_seat(&node, &mut first, &step), 0));
-    // (a seat that never called looks at the table)
-    assert!(&rt; count_entries(&node, &mut second) == 1);
+    assert!(&rt; count_entries(&node, &mut first) == 1);
     let Ok(held) = node.hold(first) else {
         panic!(&rt; "the machine is free")
     };
@@ -85,10 +84,27 @@ fn seats_take_turns(rt: HostRuntime) -> Result<(), Fail> {
     let (free, mut second) = found_taken(&node, second);
     assert!(&rt; taken == Some(1) && free == None);
     assert!(&rt; gives(node.try_call(&mut second, &step), 1));
-    let (first, second) = meet_seats(&node, first, second);
+    let (mut first, second) = meet_seats(&node, first, second);
     assert!(&rt; first.number() == 0 && second.number() == 1);
     assert!(&rt; first.share() == 1 && second.share() == 1);
-    assert!(&rt; is_closed(alloc, node, second, first, 2)?);
+    assert!(&rt; count_entries(&node, &mut first) == 2);
+    let Ok(Some((node, first))) = given_back(alloc, node, first) else {
+        panic!(&rt; "a seat is missing")
+    };
+    assert!(&rt; is_closed(alloc, node, first, second, 2)?);
+    Ok(())
+}
+
+#[test]
+fn a_seat_counts_what_others_did(rt: HostRuntime) -> Result<(), Fail> {
+    let alloc = rt.alloc();
+    let (node, mut first, mut second) = a_counter(alloc)?;
+    let step = a_step(alloc);
+    assert!(&rt; gives(node.try_call(&mut first, &step), 0));
+    assert!(&rt; gives(node.try_call(&mut first, &step), 1));
+    assert!(&rt; gives(node.try_call(&mut first, &step), 2));
+    assert!(&rt; count_entries(&node, &mut second) == 3);
+    assert!(&rt; is_closed(alloc, node, second, first, 3)?);
     Ok(())
 }
 

@@ -13,6 +13,6 @@ pub use fault::{Fault, script_text};
 pub use files::read_file;
 pub use lus_host;
 pub use program::read_program;
-pub use shell::{command, tell};
+pub use shell::{command, command_in, tell};
 pub use tool::{bare, is_set, value_of, with_flag, with_optional, with_required};
 pub use words::{Task, WordsError, matches, read_words};

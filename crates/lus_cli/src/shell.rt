@@ -1,6 +1,7 @@
-//! The command line over a folder.
+//! The command line, over a folder and over the files of the machine.
 
 ghost use Rattle.std.specs.Prelude.{◌≡◌, ◌⊎◌, Err, None, Some, map, string_bytes};
+ghost use Rattle.lus_devices.specs.declared.device.Input.{Input};
 ghost use Rattle.lus_cli.specs.Changes.{Writes, change};
 ghost use Rattle.lus_cli.specs.CommandLine.{asked};
 ghost use Rattle.lus_cli.specs.Ends.{AskedEnds, CheckEnds, Ends, ReadFails, RunEnds, TaskEnds};
@@ -9,9 +10,10 @@ ghost use Rattle.lus_cli.specs.Faults.{IsToldBy, fault_line, run_outcome};
 use crate::fault::Fault;
 use crate::line::write_fault;
 use crate::words::{Task, read_words};
-use lus_devices::{Failure, Folder, Sink, write_all};
+use lus_devices::{Disk, Failure, Folder, Sink, write_all};
 use lus_host::{OpenGate, RunError, check, run};
 use std::alloc::Global;
+use std::rt::Files;
 use std::sync::Wait;
 use std::thread::Threads;
 
@@ -32,7 +34,8 @@ pub fn tell<F: Sink>(faults: &mut F, fault: Fault) -> u8
     fault.status()
 }
 
-fn check_file<D: Folder, O: Sink>(
+fn check_file<D: Folder, O: Sink, R>(
+    rt: &R,
     alloc: Global,
     folder: &D,
     program: &str,
@@ -45,7 +48,7 @@ fn check_file<D: Folder, O: Sink>(
     let Ok(mut program) = folder.open(program) else {
         return Err(Fault::File);
     };
-    check(alloc, &mut program, output)?;
+    check(rt, alloc, &mut program, output)?;
     Ok(())
 }
 
@@ -61,8 +64,9 @@ fn ended(ran: Result<bool, RunError>) -> Result<(), Fault>
 }
 
 /// Both files are opened before either is read. Where a caller ran out of something, the journals are written all the same.
-fn run_files<D: Folder, O: Sink, R: AllocGlobal + Threads + Wait + Sync>(
+fn run_files<D: Folder, O: Sink, R: Threads + Wait + Sync>(
     rt: &R,
+    alloc: Global,
     folder: &D,
     program: &str,
     scripts: &str,
@@ -79,18 +83,12 @@ fn run_files<D: Folder, O: Sink, R: AllocGlobal + Threads + Wait + Sync>(
     let Ok(mut scripts) = folder.open(scripts) else {
         return Err(Fault::File);
     };
-    ended(run(
-        rt,
-        rt.alloc(),
-        &mut program,
-        &mut scripts,
-        output,
-        &OpenGate,
-    ))
+    ended(run(rt, alloc, &mut program, &mut scripts, output, &OpenGate))
 }
 
-fn perform<D: Folder, O: Sink, R: AllocGlobal + Threads + Wait + Sync>(
+fn perform<D: Folder, O: Sink, R: Threads + Wait + Sync>(
     rt: &R,
+    alloc: Global,
     folder: &D,
     words: &[String],
     output: &mut O,
@@ -99,16 +97,17 @@ fn perform<D: Folder, O: Sink, R: AllocGlobal + Threads + Wait + Sync>(
         (asked (map string_bytes words.now)) result
         (change (O.written output.old) (O.written output.new) (O.failures output.old) (O.failures output.new)) }
 {
-    match read_words(rt.alloc(), words)? {
-        Task::Check { program } => check_file(rt.alloc(), folder, program, output),
-        Task::Run { program, scripts } => run_files(rt, folder, program, scripts, output),
+    match read_words(alloc, words)? {
+        Task::Check { program } => check_file(rt, alloc, folder, program, output),
+        Task::Run { program, scripts } => run_files(rt, alloc, folder, program, scripts, output),
     }
 }
 
 /// Does what the words ask for over the files of a folder, with a device for the output and one for the line of a fault, and
 /// gives the status of the process: 0 where all is done, else that of the fault which ended it.
-pub fn command<D: Folder, O: Sink, F: Sink, R: AllocGlobal + Threads + Wait + Sync>(
+pub fn command_in<D: Folder, O: Sink, F: Sink, R: Threads + Wait + Sync>(
     rt: &R,
+    alloc: Global,
     folder: &D,
     words: &[String],
     output: &mut O,
@@ -121,8 +120,27 @@ pub fn command<D: Folder, O: Sink, F: Sink, R: AllocGlobal + Threads + Wait + Sy
     ensures kept { (result ≡ 1) ⊎ (result ≡ 2) → O.written output.new ≡ O.written output.old }
     ensures quiet { result ≡ 0 → (F.written faults.new ≡ F.written faults.old) × (O.failures output.new ≡ O.failures output.old) }
 {
-    match perform(rt, folder, words, output) {
+    match perform(rt, alloc, folder, words, output) {
         Ok(()) => 0,
         Err(fault) => tell(faults, fault),
     }
+}
+
+/// Does what the words ask for over the files of the machine, as `command_in` does over those of a folder. Of the machine's files
+/// nothing is known.
+pub fn command<O: Sink, F: Sink, R: Files + Threads + Wait + Sync>(
+    rt: &R,
+    alloc: Global,
+    words: &[String],
+    output: &mut O,
+    faults: &mut F,
+) -> u8
+    ensures ends { Ends (λ done. 0) (TaskEnds (ReadFails (Input R.File) (λ file. None) (λ file. None)) (λ name. None))
+        (asked (map string_bytes words.now))
+        (change (O.written output.old) (O.written output.new) (O.failures output.old) (O.failures output.new))
+        (change (F.written faults.old) (F.written faults.new) (F.failures faults.old) (F.failures faults.new)) result }
+    ensures kept { (result ≡ 1) ⊎ (result ≡ 2) → O.written output.new ≡ O.written output.old }
+    ensures quiet { result ≡ 0 → (F.written faults.new ≡ F.written faults.old) × (O.failures output.new ≡ O.failures output.old) }
+{
+    command_in(rt, alloc, &Disk(rt), words, output, faults)
 }

@@ -1,5 +1,5 @@
 //! Tests that hold whatever growth is refused, one of a run: what is asked for is answered, or memory is out, all is as before, and the
-//! same asked again is answered. `checks/slow/growths` refuses each growth in turn.
+//! same asked again is answered. `checks/growths` refuses each growth in turn.
 #![tactic(auto)]
 
 #[cfg(test)]
@@ -12,3 +12,5 @@ mod runs;
 mod seats;
 #[cfg(test)]
 mod sources;
+#[cfg(test)]
+mod without_memory;

@@ -1,7 +1,7 @@
 //! Machines.
 ghost use Rattle.std.specs.Prelude.{◌≡◌, [], IfOk};
 
-use crate::requests::{SUM, SUMS, burst, gives, gives_three, step};
+use crate::requests::{SUM, SUMS, again, burst, gives_three, is_done, is_sum, step};
 use lus_host::{CallError, Machine, Reply, Request, compile};
 use lus_values::Memory;
 use std::alloc::Global;
@@ -38,17 +38,6 @@ fn answered(machine: &mut Machine, request: &Request) -> Option<Reply> {
     }
 }
 
-fn is_done(reply: &Option<Reply>) -> bool {
-    matches!(reply, Some(Reply::Done))
-}
-
-fn is_sum(reply: &Option<Reply>, number: i64) -> bool {
-    match reply {
-        Some(reply) => gives(reply, number),
-        None => false,
-    }
-}
-
 /// Whether a step, a save, a step, a restore and a burst of three rows are answered as they always are, and are all entries that there are.
 fn are_answered(machine: &mut Machine, one: &Request, five: &Request, three: &Request) -> bool {
     let stepped = is_sum(&answered(machine, one), 1);
@@ -68,12 +57,13 @@ fn is_played(alloc: Global) -> Result<bool, Memory> {
     let one = step(alloc, 1)?;
     let five = step(alloc, 5)?;
     let three = burst(alloc, [2, 3, 4])?;
-    Ok(are_answered(&mut machine, &one, &five, &three))
+    let right = are_answered(&mut machine, &one, &five, &three);
+    Ok(right && machine.into_history().len() == 5)
 }
 
 #[test]
 fn calls_are_answered(rt: HostRuntime) -> Result<(), Fail> {
     let alloc = rt.alloc();
-    assert!(&rt; crate::requests::again(is_played(alloc), is_played(alloc)));
+    assert!(&rt; again(is_played(alloc), is_played(alloc)));
     Ok(())
 }

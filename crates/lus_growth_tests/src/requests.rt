@@ -18,7 +18,8 @@ pub(crate) fn again(first: Result<bool, Memory>, second: Result<bool, Memory>) -
     }
 }
 
-fn row(alloc: Global, number: i64) -> Result<Row, Memory> {
+/// A row of one number.
+pub(crate) fn row(alloc: Global, number: i64) -> Result<Row, Memory> {
     let mut items = Vec::new(alloc);
     items.push(Some(Value::Int(number)))?;
     Ok(Row::new(items))
@@ -47,7 +48,7 @@ fn is_number(row: &Row, number: i64) -> bool {
 }
 
 /// Whether a reply is this output.
-pub(crate) fn gives(reply: &Reply, number: i64) -> bool {
+fn gives(reply: &Reply, number: i64) -> bool {
     match reply {
         Reply::Outputs(row) => is_number(row, number),
         _ => false,
@@ -66,4 +67,17 @@ pub(crate) fn gives_three(reply: &Reply, numbers: [i64; 3]) -> bool {
         },
         _ => false,
     }
+}
+
+/// Whether a call was answered, by this output.
+pub(crate) fn is_sum(reply: &Option<Reply>, number: i64) -> bool {
+    match reply {
+        Some(reply) => gives(reply, number),
+        None => false,
+    }
+}
+
+/// Whether a call was answered, as done.
+pub(crate) fn is_done(reply: &Option<Reply>) -> bool {
+    matches!(reply, Some(Reply::Done))
 }

@@ -2,7 +2,7 @@
 ghost use Rattle.std.specs.Prelude.{◌≡◌, IfOk, IfSome};
 
 use crate::machines::a_machine;
-use crate::requests::{again, gives, step};
+use crate::requests::{again, is_done, is_sum, step};
 use lus_host::{CallError, Reply, Request, Seat, SeatNode, Strangers, TryError};
 use lus_values::Memory;
 use std::alloc::Global;
@@ -66,11 +66,24 @@ fn called<R: Wait>(
     }
 }
 
-fn is_sum(reply: &Option<Reply>, number: i64) -> bool {
-    match reply {
-        Some(reply) => gives(reply, number),
-        None => false,
-    }
+/// Whether a step, a save and a restore of each seat are answered as they always are.
+fn are_answered<R: Wait>(
+    rt: &R,
+    node: &SeatNode,
+    first: &mut Seat,
+    second: &mut Seat,
+    request: &Request,
+) -> bool
+    requires { (first.old.instance ≡ node.now) × (second.old.instance ≡ node.now) }
+    ensures { (first.new.instance ≡ node.now) × (second.new.instance ≡ node.now) }
+{
+    let one = is_sum(&tried(node, first, second, request), 2);
+    let two = is_sum(&called(rt, node, second, first, request), 4);
+    let saved = is_done(&tried(node, first, second, &Request::Save(0)));
+    let saved_too = is_done(&called(rt, node, second, first, &Request::Save(1)));
+    let restored = is_done(&tried(node, first, second, &Request::Restore(0)));
+    let restored_too = is_done(&called(rt, node, second, first, &Request::Restore(1)));
+    (one && two) && (saved && saved_too) && (restored && restored_too)
 }
 
 /// Whether what takes no memory goes well: to count, to meet, to hold and to give back.
@@ -90,20 +103,19 @@ fn is_held_and_met(node: &SeatNode, first: Seat, second: Seat) -> Option<(Seat, 
     Some((first, second))
 }
 
-/// Whether two steps are answered as they always are, and the node is closed with both.
+/// Whether calls are answered as they always are, and the node is closed with both seats.
 fn is_played<R: Wait>(rt: &R, alloc: Global) -> Result<bool, Memory> {
     let (node, mut first, mut second) = a_node(alloc)?;
     let request = step(alloc, 2)?;
     let mut seats = Vec::with_capacity(alloc, 2)?;
-    let one = is_sum(&tried(&node, &mut first, &mut second, &request), 2);
-    let two = is_sum(&called(rt, &node, &mut second, &mut first, &request), 4);
+    let right = are_answered(rt, &node, &mut first, &mut second, &request);
     let Some((first, second)) = is_held_and_met(&node, first, second) else {
         return Ok(false);
     };
     seats.push_reserved(first);
     seats.push_reserved(second);
     match node.close(seats) {
-        Ok(journal) => Ok(one && two && journal.entries.len() == 2),
+        Ok(journal) => Ok(right && journal.entries.len() == 6),
         Err(strangers) => {
             let Strangers { node: _, seats: _ } = strangers;
             Ok(false)

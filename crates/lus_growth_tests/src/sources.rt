@@ -1,7 +1,7 @@
 //! Sources that are compiled and scripts that are read.
 
 use crate::requests::{SUMS, again};
-use lus_host::{Program, ScriptRefusal, compile, read_scripts};
+use lus_host::{Fits, Program, ScriptRefusal, compile, read_scripts};
 use lus_syntax::{Refusal, RefusalNumber};
 use lus_values::Memory;
 use std::alloc::Global;
@@ -57,12 +57,11 @@ fn sources_are_compiled(rt: HostRuntime) -> Result<(), Fail> {
 
 /// Whether scripts of one caller are read.
 fn are_read(alloc: Global, program: &Program, bytes: &[u8]) -> Result<bool, Memory> {
-    let source = program.source();
-    if source.nodes.len() >= 0x1_0000_0000 {
-        return Ok(false);
-    }
-    match read_scripts(alloc, source, program.names(), bytes) {
-        Ok(scripts) => Ok(scripts.instances.len() == 1 && scripts.callers.len() == 1),
+    match read_scripts(alloc, program, bytes) {
+        Ok(scripts) => {
+            let counts = (scripts.instances.len(), scripts.callers.len());
+            Ok(counts == (1, 1) && scripts.fits(program))
+        }
         Err(ScriptRefusal::Memory) => Err(Memory),
         Err(_) => Ok(false),
     }

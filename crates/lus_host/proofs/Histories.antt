@@ -1,9 +1,9 @@
--- What a run over seats tells of journals and callers, in the words of scripts.
+-- What a run tells of journals and callers, in the words of scripts.
 use Rattle.std.proofs.Common.{◌≡◌, ◌∙◌, refl, sym, ℕ, ◌<◌, ◌≤◌, ◌^◌, List, [], ◌∷◌, length, map, Bool, true, not, nat_le, nat_lt, Option, Some, None, is_some, Result, Ok, Err, IfOk, arith}
 use Rattle.std.specs.List.{All, AllZip, list_all}
 use Rattle.std.proofs.lemmas.Grind.{common_steps}
 use Rattle.std.proofs.lemmas.List.{get_or-map, length-map}
-use Rattle.std.proofs.lemmas.List.Elements.{All-cons, All-nil}
+use Rattle.std.proofs.lemmas.List.Elements.{All-cons, All-nil, All-head, All-tail}
 use Rattle.std.proofs.lemmas.List.Folds.{list_all-map}
 use Rattle.lus_values.specs.Lists.{Each, item}
 use Rattle.lus_syntax.specs.declared.tree.NodeId.{NodeId}
@@ -26,7 +26,11 @@ pub all_ok : {X E : Type 0} (r : Result X E) {P Q R S : X → Type 0} → IfOk r
 all_ok (Ok x) p q r f = f x p q r
 all_ok (Err e) p q r f = tt
 
--- ---- what a run over seats requires
+pub ok_then : {X E : Type 0} (r : Result X E) {P Q : X → Type 0} → IfOk r P → ((x : X) → P x → Q x) → IfOk r Q
+ok_then (Ok x) p f = f x p
+ok_then (Err e) p f = tt
+
+-- ---- what a run requires
 
 tested_below : (m n : ℕ) → nat_lt m n ≡ true → m < n
 tested_below m n h = grind (arith, common_steps)
@@ -58,6 +62,14 @@ few_calls (v ∷ vs) h =
 pub known_nodes : (n : ℕ) (is : List Instance) → Each (λ i. i.place < n) (map instance_kept is) → All (λ f. f.0 < n) (map (λ i. i.id) is)
 known_nodes n [] h = All-nil (λ (f : NodeId). f.0 < n)
 known_nodes n (i ∷ is) h = All-cons (λ (f : NodeId). f.0 < n) i.id (map (λ x. x.id) is) h.0 (known_nodes n is h.1)
+
+pub kept_nodes : (n : ℕ) (is : List Instance) → All (λ i. i.id.0 < n) is → Each (λ i. i.place < n) (map instance_kept is)
+kept_nodes n [] h = tt
+kept_nodes n (i ∷ is) h = (All-head (λ (x : Instance). x.id.0 < n) i is h, kept_nodes n is (All-tail (λ (x : Instance). x.id.0 < n) i is h))
+
+pub stored_nodes : (n : ℕ) (is : List Instance) → Each (λ i. i.place < n) (map instance_kept is) → All (λ i. i.id.0 < n) is
+stored_nodes n [] h = All-nil (λ (x : Instance). x.id.0 < n)
+stored_nodes n (i ∷ is) h = All-cons (λ (x : Instance). x.id.0 < n) i is h.0 (stored_nodes n is h.1)
 
 -- ---- what it ensures
 

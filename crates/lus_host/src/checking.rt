@@ -33,7 +33,8 @@ fn write_accepted<O: Sink>(alloc: Global, nodes: usize, output: &mut O) -> Resul
 ///
 /// A refusal is that of the first pass that fails. Where the output fails, a beginning of the line is written, and else
 /// nothing.
-pub fn check<P: Source, O: Sink>(
+pub fn check<P: Source, O: Sink, R>(
+    _rt: &R,
     alloc: Global,
     program: &mut P,
     output: &mut O,

@@ -10,23 +10,24 @@ mod program;
 mod running;
 mod text;
 
+pub use answering::{Fits, run_callers};
 pub use checking::check;
 pub use error::RunError;
 pub use laws::headline;
+pub use lus_callers;
 pub use lus_callers::lus_machine::{CallError, Field, Formal, Machine, NodeId, Program, compile};
 pub use lus_callers::lus_shared::{
-    Busy, LockedNode, LockedSeat, Seat, SeatNode, Shared, Strangers, TryError,
+    Busy, Held, LockedNode, LockedSeat, Seat, SeatNode, Shared, Strangers, TryError,
 };
-pub use lus_callers::{
-    Call, Caller, Gate, HostError, Journals, OpenGate, fit, lus_machine, run_callers, run_seated,
-};
+pub use lus_callers::{Call, Caller, Gate, HostError, Journals, OpenGate, lus_machine};
 pub use lus_devices::{
     Failure, Input, Journal, Output, ReadError, Sink, Source, WriteError, read_at_most, write_all,
     write_journals,
 };
 pub use lus_requests::{Entry, Reply, Request, Rows, Why};
-pub use lus_scripts::{Instance, ScriptRefusal, Scripts, read_scripts};
+pub use lus_scripts::{Instance, ScriptRefusal, Scripts};
 pub use lus_syntax::MOST_BYTES;
 pub use lus_values::{Memory, Names, Row, Value, print};
+pub use preparing::read_scripts;
 pub use running::run;
 pub use text::text_of;

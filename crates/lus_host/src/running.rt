@@ -72,7 +72,7 @@ fn answered<S: Source, G: Gate + Sync, R: Threads + Wait + Sync>(
     ensures quiet { (result ≡ Err RunError.Read → ⊥) → S.failures scripts.new ≡ S.failures scripts.old }
     ensures failed { result ≡ Err RunError.Read → S.failures scripts.new ≡ one_more (S.failures scripts.old) }
 {
-    let scripts = match scripts_for(alloc, program.source(), program.names(), scripts) {
+    let scripts = match scripts_for(alloc, &program, scripts) {
         Ok(scripts) => scripts,
         Err(error) => return Err(error),
     };

@@ -5,14 +5,16 @@ ghost use Rattle.lus_cli.specs.Changes.{change};
 ghost use Rattle.lus_cli.specs.CommandLine.{asked};
 ghost use Rattle.lus_cli.specs.Ends.{Ends, ReadFails, TaskEnds};
 
-use lus_cli::command;
+use lus_cli::command_in;
 use lus_devices::{Folder, Sink};
+use std::alloc::Global;
 use std::sync::Wait;
 use std::thread::Threads;
 
 /// Does what the words ask for, and gives the status of the process.
-pub fn run_command<D: Folder, O: Sink, F: Sink, R: AllocGlobal + Threads + Wait + Sync>(
+pub fn run_command<D: Folder, O: Sink, F: Sink, R: Threads + Wait + Sync>(
     rt: &R,
+    alloc: Global,
     folder: &D,
     words: &[String],
     output: &mut O,
@@ -23,5 +25,5 @@ pub fn run_command<D: Folder, O: Sink, F: Sink, R: AllocGlobal + Threads + Wait 
         (change (O.written output.old) (O.written output.new) (O.failures output.old) (O.failures output.new))
         (change (F.written faults.old) (F.written faults.new) (F.failures faults.old) (F.failures faults.new)) result }
 {
-    command(rt, folder, words, output, faults)
+    command_in(rt, alloc, folder, words, output, faults)
 }

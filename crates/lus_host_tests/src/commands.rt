@@ -3,7 +3,7 @@
 
 ghost use Rattle.std.specs.Prelude.{None};
 
-use lus_cli::command;
+use lus_cli::command_in;
 use lus_devices::{Failure, Folder, Sink, Source};
 use std::sync::Wait;
 use std::test::Fail;
@@ -146,7 +146,7 @@ fn ends<R: AllocGlobal + Threads + Wait + Sync>(
         writes: setting.line,
         is_silent: setting.is_silent,
     };
-    let ended = command(rt, &setting, &owned, &mut written, &mut told);
+    let ended = command_in(rt, alloc, &setting, &owned, &mut written, &mut told);
     Ok(ended == status && written.bytes.as_slice() == output && told.bytes.as_slice() == line)
 }
 

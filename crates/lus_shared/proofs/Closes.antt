@@ -1,16 +1,15 @@
 -- When all seats are joined, the machine is at home, and the history is theirs.
 use Rattle.std.proofs.Common.{◌≡◌, ◌==◌, ℕ, suc, ◌+◌, ◌<◌, ◌≤◌, Bool, true, false, cond, List, [], ◌∷◌, ◌++◌, length, refl, ap, sym, subst, ◌∙◌, ◌⊎◌, ⊎_elim, inl, inr, arith, eq-eqb, ne_eqb}
-use Rattle.std.specs.List.{All, filter, sum_by, count_by}
-use Rattle.std.proofs.lemmas.List.Elements.{All-nil, All-cons}
-use Rattle.std.proofs.lemmas.List.Sums.{sum_by-cons, sum_by_push, length-filter}
+use Rattle.std.specs.List.{sum_by, count_by}
+use Rattle.std.proofs.lemmas.List.Sums.{sum_by-cons, sum_by_push}
 use mathlib.Core.Logic.{dite}
 use mathlib.Core.Option.{some, some-injective}
 use native.Mathlib.Decide.{ℕ_discrete}
-use lib.ListN.{get_elem?, length-map}
+use lib.ListN.{get_elem?}
 use Rattle.atomic_table.specs.Table.{State, Final, Seen}
 use Rattle.lus_requests.specs.declared.request.Entry.{Entry}
 use Rattle.lus_machine.specs.Machines.{Told}
-use Rattle.lus_shared.specs.Knowledge.{Origin, machine_at, Facts, Sight, Instance, Standing, Call, call_of, kept}
+use Rattle.lus_shared.specs.Knowledge.{Origin, machine_at, Facts, Sight, Instance, Standing, kept}
 use Rattle.lus_values.specs.Lists.{Each}
 use Rattle.lus_shared.specs.Rule.{takers, times, FitsOne, Sound}
 use Rattle.lus_shared.specs.Closing.{IsPartOf, Closed, facts_from, all_facts}
@@ -51,15 +50,6 @@ all_parts o h (s ∷ ss) p = let q = split (all_facts ss) (facts_from s) p in (r
     split : (xs : List Facts) (f : Facts) → Each (FitsOne o h) (xs ++ f ∷ []) → Each (FitsOne o h) xs × FitsOne o h f
     split [] f p = (tt, p.0)
     split (x ∷ xs) f p = let q = split xs f p.1 in ((p.0, q.0), q.1)
-
--- as many entries are a seat's as it made calls
-pub own_entries : (h : List Entry) (seats : List Standing) → Each (IsPartOf h) seats → All (λ (s : Standing). count_by (λ (e : Entry). e.caller == s.number) h ≡ length s.mine) seats
-own_entries h [] p = All-nil (λ (s : Standing). count_by (λ (e : Entry). e.caller == s.number) h ≡ length s.mine)
-own_entries h (s ∷ ss) p =
-    let its : Entry → Bool = λ e. e.caller == s.number in
-    All-cons (λ (t : Standing). count_by (λ (e : Entry). e.caller == t.number) h ≡ length t.mine) s ss
-    (omega (arith, length-map (filter its h) call_of, length-filter its h, ap (λ (l : List Call). length l) p.0.mine))
-    (own_entries h ss p.1)
 
 -- an entry is one of one seat
 one_more : (e : Entry) (es : List Entry) (seats : List Standing)

@@ -1,6 +1,7 @@
 -- The numbers of seats.
-use Rattle.std.proofs.Common.{◌++◌, ◌≡◌, ◌==◌, false, ℕ, zero, suc, ◌+◌, ◌<◌, ◌≤◌, List, [], ◌∷◌, map, length, cond, refl, ap, sym, ◌∙◌, arith, ne_eqb}
+use Rattle.std.proofs.Common.{◌++◌, ◌≡◌, ◌==◌, false, ℕ, zero, suc, ◌+◌, ◌<◌, ◌≤◌, List, [], ◌∷◌, map, length, cond, refl, ap, sym, ◌∙◌, ⊎_elim, arith, eq-eqb, ne_eqb}
 use Rattle.std.specs.List.{count_by, All, range_with_len}
+use Rattle.std.proofs.lemmas.Bool.{cases_lt}
 use Rattle.std.proofs.lemmas.List.Sums.{sum_by-cons}
 use Rattle.std.proofs.lemmas.List.FromFn.{map-range_with_len_more}
 use Rattle.std.proofs.lemmas.List.Elements.{All-nil, All-cons, All-head, All-tail}
@@ -16,6 +17,17 @@ none_of_others n k (s ∷ ss) a l =
     let apart : (s.number == k) ≡ false = ne_eqb s.number k (λ e. absurd (omega arith)) in
     let one : cond {A = ℕ} (s.number == k) 1 0 ≡ 0 = ap (λ b. cond {A = ℕ} b 1 0) apart in
     omega (arith, sum_by-cons (λ (t : LockedSeat). cond (t.number == k) 1 0) s ss)
+
+-- where no seat has a number from n on, each has one below
+pub all_below : (n : ℕ) (seats : List LockedSeat) → ((k : ℕ) → n ≤ k → count_by (λ (s : LockedSeat). s.number == k) seats ≡ 0) → All (λ (s : LockedSeat). s.number < n) seats
+all_below n [] none = All-nil (λ (s : LockedSeat). s.number < n)
+all_below n (s ∷ ss) none =
+    let counts : (k : ℕ) → count_by (λ (t : LockedSeat). t.number == k) (s ∷ ss) ≡ cond {A = ℕ} (s.number == k) 1 0 + count_by (λ (t : LockedSeat). t.number == k) ss =
+    λ k. sum_by-cons (λ (t : LockedSeat). cond (t.number == k) 1 0) s ss in
+    let rest : (k : ℕ) → n ≤ k → count_by (λ (t : LockedSeat). t.number == k) ss ≡ 0 = λ k l. let a = counts k in let b = none k l in omega arith in
+    let here : cond {A = ℕ} (s.number == s.number) 1 0 ≡ 1 = rw (eq-eqb s.number s.number refl) refl in
+    let below : s.number < n = ⊎_elim (λ (l : s.number < n). l) (λ (far : n ≤ s.number). let a = counts s.number in let b = none s.number far in absurd (omega (arith, a, b, here))) (cases_lt s.number n) in
+    All-cons (λ (t : LockedSeat). t.number < n) s ss below (all_below n ss rest)
 
 pub fresh_numbers : (i : Instance) (k n : ℕ) → map (λ (s : Standing). s.number) (fresh_seats i k n) ≡ range_with_len k n
 fresh_numbers i k zero = refl

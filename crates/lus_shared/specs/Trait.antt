@@ -1,6 +1,6 @@
 -- What every shared machine promises, also where its calls do not tell what they did.
 use Rattle.std.specs.Prelude.{◌≡◌, ◌==◌, ◌<◌, ◌≤◌, ℕ, List, [], ◌∷◌, ◌++◌, length}
-use Rattle.std.specs.List.{All, sum_by, count_by}
+use Rattle.std.specs.List.{sum_by, count_by}
 use Rattle.lus_program.specs.Programs.{Program}
 use Rattle.lus_requests.specs.declared.request.Entry.{Entry}
 use Rattle.lus_requests.specs.declared.request.Request.{Request}
@@ -21,15 +21,18 @@ pub record EachOnce {S : Type 0} (number : S → ℕ) (n : ℕ) (seats : List S)
   pub once : (k : ℕ) → k < n → count_by (λ s. number s == k) seats ≡ 1
   pub no_other : (k : ℕ) → n ≤ k → count_by (λ s. number s == k) seats ≡ 0
 
--- a history of some node of an accepted program, with as many entries of each seat's number as its share, and no others, where the seats are
--- all of the node's
+-- these seats, all of a node's, made as many calls as the history has entries
+pub record HaveMade {S : Type 0} (number made : S → ℕ) (callers : ℕ) (seats : List S) (h : List Entry) : Type 0 where
+  pub all : EachOnce number callers seats
+  pub counted : sum_by made seats ≡ length h
+
+-- a history of some node of an accepted program, with as many entries as the seats, which are all of the node's, made calls
 pub record Gathered {S : Type 0} (number made : S → ℕ) (callers : ℕ) (seats : List S) (h : List Entry) : Type 0 where
   pub program : Program
   pub node : ℕ
   pub legal : IsLegal record { program = program; node = node; history = h }
   pub all : EachOnce number callers seats
   pub counted : sum_by made seats ≡ length h
-  pub own : All (λ s. count_by (λ e. e.caller == number s) h ≡ made s) seats
 
 -- what stands in where a node or a seat does not tell
 abbrev pub untold : Standing

@@ -1,13 +1,14 @@
 //! A lock round a machine.
-ghost use Rattle.std.specs.Prelude.{◌≡◌, ◌+◌, ◌==◌, ◌<◌, ◌≤◌, ◌^◌, ℕ, true, false, length, map, IfOk, IfErr, IsTrue};
+ghost use Rattle.std.specs.Prelude.{◌≡◌, ◌+◌, ◌==◌, ◌<◌, ◌≤◌, ℕ, true, false, length, map, IfOk, IfErr, IsTrue};
 ghost use Rattle.std.specs.List.{All, sum_by, count_by};
 ghost use mathlib.Core.Logic.{◌↔◌};
+ghost use Rattle.lus_machine.specs.Machines.{IsLegal};
 ghost use Rattle.lus_shared.specs.Closing.{HaveEach, Closed};
-ghost use Rattle.lus_shared.specs.Trait.{EachOnce, Gathered, untold};
+ghost use Rattle.lus_shared.specs.Trait.{Gathered, HaveMade, untold};
 
 use crate::shared::{Journal, Shared, Strangers};
 use lus_machine::{CallError, Machine};
-use lus_requests::{Entry, Reply, Request};
+use lus_requests::{Reply, Request};
 use lus_values::Memory;
 use std::alloc::Global;
 use std::marker::Model;
@@ -53,58 +54,56 @@ fn has_all(seats: &[LockedSeat], callers: u32) -> bool
 }
 
 fn has_no_other(seats: &[LockedSeat], callers: u32) -> bool
-    ensures { IsTrue result → All (λ s. s.number < callers) seats.now }
+    ensures { IsTrue result ↔ All (λ s. s.number < callers) seats.now }
 {
     seats.iter().all(|seat| seat.number < callers)
 }
 
-// The sum of the shares, where a word holds it.
-fn shares(seats: &[LockedSeat]) -> u64
-    requires { length seats.now < 2 ^ 32 }
+// The sum of the shares, which so wide a word holds, however many seats there are.
+fn shares(seats: &[LockedSeat]) -> u128
     ensures { result ≡ sum_by (λ s. s.share) seats.now }
 {
     let mut sum = 0;
     for seat in seats {
-        sum += u64::from(seat.share);
+        sum += u128::from(seat.share);
     }
     sum
 }
 
-fn count_entries(entries: &[Entry], number: u32) -> usize
-    ensures { result ≡ count_by (λ e. e.caller == number) entries.now }
+// Whether these are all seats of a node with this machine, and made as many calls as the machine has entries.
+fn are_all(machine: &Machine, callers: u32, seats: &[LockedSeat]) -> bool
+    ensures made { IsTrue result ↔ HaveMade (λ s. s.number) (λ s. s.share) callers seats.now machine.now.history }
+    ensures legal { IsLegal machine.now }
 {
-    entries
-        .iter()
-        .filter(|entry| entry.caller == number)
-        .count()
-}
-
-// Whether each seat made as many calls as there are entries of its number.
-fn have_entries(seats: &[LockedSeat], entries: &[Entry]) -> bool
-    ensures { IsTrue result → All (λ s. count_by (λ e. e.caller == s.number) entries.now ≡ s.share) seats.now }
-{
-    seats.iter().all(|seat| count_entries(entries, seat.number) == seat.share as usize)
-}
-
-// Whether these are all seats of a node, and made its entries.
-fn are_all(seats: &[LockedSeat], callers: u32, entries: &[Entry]) -> bool
-    ensures all { IsTrue result → EachOnce (λ s. s.number) callers seats.now }
-    ensures counted { IsTrue result → sum_by (λ s. s.share) seats.now ≡ length entries.now }
-    ensures own { IsTrue result → All (λ s. count_by (λ e. e.caller == s.number) entries.now ≡ s.share) seats.now }
-{
+    let entries = machine.history().len() as u128;
     if !has_all(seats, callers) {
         return false;
     }
     if !has_no_other(seats, callers) {
         return false;
     }
-    if seats.len() >= 0x1_0000_0000 {
-        return false;
+    shares(seats) == entries
+}
+
+// The machine's entries, where these are all seats and made as many calls; else the machine and the seats, as they were given.
+fn journal_of(
+    machine: Machine,
+    callers: u32,
+    seats: Vec<LockedSeat>,
+) -> Result<Journal, (Machine, Vec<LockedSeat>)>
+    ensures same { IfOk result (λ j. j.entries.items ≡ machine.history) }
+    ensures legal { IsLegal machine }
+    ensures ok { IfOk result (λ j. HaveMade (λ s. s.number) (λ s. s.share) callers seats.items machine.history) }
+    ensures err { IfErr result (λ r. (r.0 ≡ machine) × (r.1.items ≡ seats.items)) }
+    ensures refused { IfErr result (λ r. ¬ (HaveMade (λ s. s.number) (λ s. s.share) callers seats.items machine.history)) }
+{
+    if are_all(&machine, callers, seats.as_slice()) {
+        Ok(Journal {
+            entries: machine.into_history(),
+        })
+    } else {
+        Err((machine, seats))
     }
-    if shares(seats) != entries.len() as u64 {
-        return false;
-    }
-    have_entries(seats, entries)
 }
 
 impl Shared for LockedNode {
@@ -162,17 +161,14 @@ impl Shared for LockedNode {
         ensures refused { false ≡ true → IfErr result (λ s. ¬ (HaveEach untold.instance.origin.callers (map (λ s. untold) seats.items))) }
     {
         let LockedNode { machine, callers } = self;
-        let machine = machine.into_inner();
-        if !are_all(seats.as_slice(), callers, machine.history()) {
-            let machine = Mutex::new(machine);
-            return Err(Strangers {
-                node: LockedNode { machine, callers },
-                seats,
-            });
+        match journal_of(machine.into_inner(), callers, seats) {
+            Ok(journal) => Ok(journal),
+            Err((machine, seats)) => {
+                let machine = Mutex::new(machine);
+                let node = LockedNode { machine, callers };
+                Err(Strangers { node, seats })
+            }
         }
-        Ok(Journal {
-            entries: machine.into_history(),
-        })
     }
 
     fn share(seat: &LockedSeat) -> u32 {

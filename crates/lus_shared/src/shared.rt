@@ -82,9 +82,9 @@ pub trait Shared {
         ensures sees { tells ≡ true → OnErr result (IsLater (standing seat.old) (standing seat.new)) }
         ensures full { tells ≡ true → IfErr result (λ e. e ≡ CallError.Full → length (standing seat.new).seen ≡ full) };
 
-    /// The entries, where the seats' numbers are those of the callers, each once, and each seat's share as many as the entries of
-    /// its number; else the seats as they were given, and the node. Of a node whose calls don't tell, contracts see how many callers it has and
-    /// nothing else: that the node which comes back holds the machine that was given, with its entries, isn't promised.
+    /// The entries, where the seats' numbers are those of the callers, each once, and the seats made as many calls as there are
+    /// entries; else the seats as they were given, and the node. Of a node whose calls don't tell, contracts see how many callers it
+    /// has and nothing else: that the node which comes back holds the machine that was given, with its entries, isn't promised here.
     fn close(self, seats: Vec<Self::Seat>) -> Result<Journal, Strangers<Self>>
     where
         Self: Sized,

@@ -1,6 +1,5 @@
 -- What closes seats gathers them.
 use Rattle.std.proofs.Common.{Result, Ok, Err, IfOk}
-use Rattle.lus_shared.proofs.Closes.{own_entries}
 use Rattle.lus_shared.proofs.seated.SeatNodeShared.close.Goals as goal
 
 on_ok : {T E : Type 0} (r : Result T E) (P Q : T → Type 0) → ((x : T) → P x → Q x) → IfOk r P → IfOk r Q
@@ -15,6 +14,5 @@ returns-clause-ok c = on_ok c.close.result _ _
       legal = closed.legal;
       all = record { once = closed.all.once; no_other = closed.all.no_other };
       counted = closed.shares;
-      own = own_entries _ _ closed.parts;
     })
     c.close.ensures.ok

@@ -1,0 +1,34 @@
+//! `lus_eval`.
+
+use lus_eval::lus_code::Code;
+use lus_eval::{Object, StepError};
+use lus_program::NodeId;
+use lus_values::{Memory, Row};
+use std::alloc::Global;
+
+/// An object of a node at its start, where the code has this node.
+pub fn fresh_object(alloc: Global, code: &Code, node: NodeId) -> Option<Result<Object, Memory>> {
+    if (node.0 as usize) < code.nodes() {
+        Some(Object::fresh(alloc, code, node))
+    } else {
+        None
+    }
+}
+
+/// What a copy of an object gives at one more instant, where the inputs fit its node. The object itself is then as it was made.
+pub fn step_object(
+    object: &mut Object,
+    code: &Code,
+    inputs: &Row,
+) -> Result<Option<Result<Row, StepError>>, Memory> {
+    let mut copied: Object = object.copy()?;
+    object.reset();
+    if !copied.shaped(code) {
+        return Ok(None);
+    }
+    if !copied.fits_shape(code, inputs) || !copied.fits_presence(code, inputs) {
+        return Ok(None);
+    }
+    let outputs: Result<Row, StepError> = copied.step(code, inputs);
+    Ok(Some(outputs))
+}
