@@ -14,14 +14,16 @@ mod values;
 
 pub use commands::{run_command, run_file};
 pub use hosts::{check_bytes, count_wants, read_and_fit, run_bytes, run_scripts};
-pub use machines::{call_machine, compile_text, formals, kind_of_reply, new_machine, requests};
-pub use objects::{fresh_object, step_object};
+pub use machines::{
+    call_machine, compile_text, formal_test, formals, kind_of_reply, new_machine, requests,
+};
+pub use objects::{fresh_object, state_cells, step_object};
 pub use sharing::{
     call_node, close_locked, close_node, hold_seat, meet_and_count, open_locked, open_node,
     open_seats, try_seat,
 };
 pub use sources::{
-    checked_clocks, checked_nil, checked_types, normal_of, ordered_of, places, refused_at,
+    checked_clocks, checked_nil, checked_types, counts, normal_of, ordered_of, places, refused_at,
     tokens_of, translated, tree_of,
 };
-pub use values::{applied, kind_of_value, value_and_text};
+pub use values::{applied, items_again, kind_of_value, value_and_text};

@@ -2,11 +2,11 @@
 
 ghost use Rattle.std.specs.Prelude.{◌<◌, length};
 
-use lus_cli::lus_host::{
-    CallError, Entry, Formal, Machine, Memory, NodeId, Program, Reply, Request, Row, Rows, Why,
-    compile,
+use lus_cli::lus_host::lus_machine::{
+    CallError, Entry, Formal, Machine, Program, Reply, Request, Test, Why, compile,
 };
-use lus_syntax::Refusal;
+use lus_cli::lus_host::{Memory, Row, Rows};
+use lus_syntax::{NodeId, Refusal};
 use lus_values::Names;
 use std::alloc::Global;
 use std::sync::Arc;
@@ -86,4 +86,9 @@ pub fn call_machine(
     let history: &[Entry] = machine.history();
     let entries = history.len();
     Ok((reply, entries, machine.into_history()))
+}
+
+/// The test of a formal, if it has one.
+pub fn formal_test(formal: &Formal) -> Option<Test> {
+    formal.test
 }

@@ -2,13 +2,14 @@
 
 use lus_eval::lus_code::Code;
 use lus_eval::{Object, StepError};
-use lus_program::NodeId;
+use lus_syntax::NodeId;
 use lus_values::{Memory, Row};
 use std::alloc::Global;
 
 /// An object of a node at its start, where the code has this node.
 pub fn fresh_object(alloc: Global, code: &Code, node: NodeId) -> Option<Result<Object, Memory>> {
-    if (node.0 as usize) < code.nodes() {
+    let nodes: u32 = code.nodes();
+    if node.0 < nodes {
         Some(Object::fresh(alloc, code, node))
     } else {
         None
@@ -31,4 +32,13 @@ pub fn step_object(
     }
     let outputs: Result<Row, StepError> = copied.step(code, inputs);
     Ok(Some(outputs))
+}
+
+/// The state cells of a node, where the code has it.
+pub fn state_cells(code: &Code, node: NodeId) -> Option<u32> {
+    if node.0 < code.nodes() {
+        Some(code.cells(node))
+    } else {
+        None
+    }
 }

@@ -5,7 +5,7 @@ use lus_eval::lus_code::{Code, translate};
 use lus_eval::lus_normal::{Normal, normalise};
 use lus_eval::lus_order::{Ordered, order};
 use lus_grammar::parse;
-use lus_syntax::{Refusal, RefusalNumber, Span, Token, Tree, lex};
+use lus_syntax::{NodeId, Refusal, RefusalNumber, Span, Token, Tree, lex};
 use lus_types::{Typed, check_types};
 use std::alloc::Global;
 
@@ -68,4 +68,14 @@ pub fn normal_of(alloc: Global, ordered: Ordered) -> Result<Normal, Refusal> {
 /// The code of a program.
 pub fn translated(alloc: Global, normal: Normal) -> Result<Code, Refusal> {
     translate(alloc, normal)
+}
+
+/// How many memories and marks of a first instant stand in a node, where the program has it.
+pub fn counts(normal: &Normal, node: NodeId) -> Option<(u32, u32)> {
+    let nodes: u32 = normal.nodes();
+    if node.0 < nodes {
+        Some((normal.memories(node), normal.firsts(node)))
+    } else {
+        None
+    }
 }

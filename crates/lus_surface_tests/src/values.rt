@@ -1,6 +1,6 @@
 //! `lus_values`.
 
-use lus_values::{Memory, Names, Op, Value, apply, copy, fits_op, print, same};
+use lus_values::{Memory, Names, Op, Row, Value, apply, copy, fits_op, print, same};
 use std::alloc::Global;
 
 /// What an operator gives, where the operands fit it.
@@ -40,4 +40,9 @@ pub fn kind_of_value(value: &Value) -> u32 {
         }
         Value::Nil => 4,
     }
+}
+
+/// What a row is made of, which it gives back.
+pub fn items_again(items: Vec<Option<Value>>) -> Vec<Option<Value>> {
+    Row::new(items).into_items()
 }
