@@ -4,11 +4,11 @@ use crate::requests::{SUM, SUMS, again, row};
 use lus_clocks::{check_clocks, check_nil};
 use lus_eval::Object;
 use lus_eval::lus_code::{Code, translate};
-use lus_eval::lus_normal::{Normal, normalise};
+use lus_eval::lus_normal::{Normal, has_few_parts, normalise};
 use lus_eval::lus_order::order;
 use lus_grammar::parse;
 use lus_host::{Program, compile};
-use lus_syntax::{Refusal, lex};
+use lus_syntax::{Refusal, RefusalNumber, lex};
 use lus_types::check_types;
 use lus_values::{Memory, Op, Row, Value, apply, fits_op, same};
 use std::alloc::Global;
@@ -38,7 +38,11 @@ fn normal_of(alloc: Global) -> Result<Normal, Refusal> {
     let tokens = lex(alloc, SUMS)?;
     let typed = check_types(alloc, parse(alloc, &tokens)?)?;
     let initialised = check_nil(alloc, check_clocks(typed)?)?;
-    normalise(alloc, order(alloc, initialised)?)
+    let ordered = order(alloc, initialised)?;
+    if !has_few_parts(ordered.program()) {
+        return Err(Refusal::new(RefusalNumber::Limit, 1, 1));
+    }
+    normalise(alloc, ordered)
 }
 
 /// Whether its counts are answered.

@@ -2,7 +2,7 @@
 
 use lus_clocks::{Clocked, Initialised, check_clocks, check_nil};
 use lus_eval::lus_code::{Code, translate};
-use lus_eval::lus_normal::{Normal, normalise};
+use lus_eval::lus_normal::{Normal, has_few_parts, normalise};
 use lus_eval::lus_order::{Ordered, order};
 use lus_grammar::parse;
 use lus_syntax::{NodeId, Refusal, RefusalNumber, Span, Token, Tree, lex};
@@ -15,7 +15,7 @@ pub fn tokens_of(alloc: Global, text: &str) -> Result<Vec<Token<'_>>, Refusal> {
 }
 
 /// Where a token begins and ends, with the line and the column of both.
-pub fn places(token: &Token<'_>) -> [(u32, u32, u32); 2] {
+pub fn places(token: &Token<'_>) -> [(usize, usize, usize); 2] {
     let span: Span = token.span;
     let (start, end) = (span.start, span.end());
     [
@@ -30,7 +30,7 @@ pub fn tree_of(alloc: Global, tokens: &[Token]) -> Result<Tree, Refusal> {
 }
 
 /// The number of a refusal, its place, and the variables of its cycle.
-pub fn refused_at(refusal: &Refusal) -> (RefusalNumber, u32, u32, &[String]) {
+pub fn refused_at(refusal: &Refusal) -> (RefusalNumber, usize, usize, &[String]) {
     let Refusal {
         number,
         line,
@@ -60,9 +60,13 @@ pub fn ordered_of(alloc: Global, initialised: Initialised) -> Result<Ordered, Re
     order(alloc, initialised)
 }
 
-/// The program, in normal form.
-pub fn normal_of(alloc: Global, ordered: Ordered) -> Result<Normal, Refusal> {
-    normalise(alloc, ordered)
+/// The program, in normal form, where its parts are few enough.
+pub fn normal_of(alloc: Global, ordered: Ordered) -> Option<Result<Normal, Refusal>> {
+    if has_few_parts(ordered.program()) {
+        Some(normalise(alloc, ordered))
+    } else {
+        None
+    }
 }
 
 /// The code of a program.

@@ -2,7 +2,7 @@
 use Rattle.std.proofs.Common.{◌≡◌, ◌∙◌, ◌<◌, sym, ap, subst, List, length, map}
 use Rattle.std.specs.Arc.{arc_value}
 use Rattle.std.specs.List.{All, AllZip}
-use Rattle.lus_program.specs.declared.node.NodeId.{NodeId}
+use Rattle.lus_syntax.specs.declared.tree.NodeId.{NodeId}
 use Rattle.lus_callers.specs.CodeSpecs.Codes.{program_of}
 use Rattle.lus_callers.specs.Served.{IsHistoryOf}
 use Rattle.lus_host.proofs.Histories.{ok_then, known_nodes, legal_of}
