@@ -1,4 +1,4 @@
--- The limits of scripts (own), each named once. Their bytes are as many at most as those of a source.
+-- The limits of scripts, which this program sets, each named once. Their bytes are as many at most as those of a source.
 use Rattle.std.specs.Prelude.{ℕ}
 
 -- the most instances

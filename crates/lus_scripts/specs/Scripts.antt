@@ -1,4 +1,4 @@
--- The scripts that a JSON value is, for a program (own): its names are looked up, and the values of its steps are read.
+-- The scripts that a JSON value is for a program, by rules of this program: its names are looked up, and the values of its steps are read.
 use Rattle.std.specs.Prelude.{◌==◌, ◌&&◌, ◌+◌, ◌<◌, ℕ, suc, Bool, true, false, not, List, [], ◌∷◌, map, length, take, nat_le, nat_lt, position, slice_get}
 use Rattle.std.specs.Prelude.{Option, Some, None, is_some, option_map, option_and_then, if◌then◌else◌, Result, Ok, Err}
 use Rattle.std.specs.List.{list_all, list_any}
