@@ -1,4 +1,5 @@
--- Programs of which a normal form can be made: their parts, of which each may get a variable of its own, can be numbered: a condition of this compiler.
+-- Programs of which a normal form can be made, a condition of this compiler: their parts, of which each may get a variable of its own,
+-- can be numbered.
 use Rattle.std.specs.Prelude.{◌≤◌}
 use Rattle.lus_syntax.specs.Limits.{most_parts}
 use Rattle.lus_program.specs.Programs.{Program}

@@ -1,5 +1,5 @@
--- The form of scripts, a format of this program: what a JSON value says before its names are looked up and the values of its steps are read. JSON is what
--- `serde_json` reads: an object has each key once, with the last value that the text gives it.
+-- The form of scripts, a format of this program: what a JSON value says before its names are looked up and the values of its steps
+-- are read. JSON is what `serde_json` reads: an object has each key once, with the last value that the text gives it.
 use Rattle.std.specs.Prelude.{◌==◌, ◌&&◌, ◌||◌, ℕ, Bool, false, List, [], ◌∷◌, length, nat_le, codes}
 use Rattle.std.specs.Prelude.{Option, Some, None, is_some, option_map, option_and_then, unwrap_or, if◌then◌else◌}
 use Rattle.std.specs.List.{list_all}

@@ -1,4 +1,5 @@
--- One request to a node, in a form of this program, as a JSON value says it by itself: `[18, 19, 22]`, `{"reset": true}`, `{"inputs": {"low": 19}}`.
+-- One request to a node, in a form of this program, as a JSON value says it by itself: `[18, 19, 22]`, `{"reset": true}`,
+-- `{"inputs": {"low": 19}}`.
 use Rattle.std.specs.Prelude.{◌==◌, ◌&&◌, Bool, List, [], take, Option, Some, None, is_some, option_map, option_and_then, codes, if◌then◌else◌}
 use Rattle.std.specs.List.{count_by}
 use Rattle.serde_json.specs.Data.{Data}
