@@ -26,7 +26,10 @@ pub fn wrong_clock(
             "output",
             "The clock of an output is an input or another output, and no variable is its own clock, directly or through others.",
         ),
-        Role::Local => ("local", "No variable is its own clock, directly or through others."),
+        Role::Local => (
+            "local",
+            "No variable is its own clock, directly or through others.",
+        ),
     };
     let text = variable.name.text.as_str();
     let tested = variable_of(test);
@@ -45,7 +48,10 @@ fn complete(
     note: &str,
 ) -> Result<(), AllocError> {
     let text = tested.text.as_str();
-    finding.relate(tested.span, format!(in alloc; "`{text}` is its clock here")?)?;
+    finding.relate(
+        tested.span,
+        format!(in alloc; "`{text}` is its clock here")?,
+    )?;
     finding.note = Some(String::from_str(alloc, note)?);
     Ok(())
 }

@@ -58,7 +58,8 @@ fn needless<'t>(node: &'t Node, left: &'t Name) -> Option<Said<'t>> {
         });
     }
     let first = left_like(node, left)?;
-    let note = "A variable has exactly one equation, which holds at every instant. Combine the two with `if`.";
+    let note =
+        "A variable has exactly one equation, which holds at every instant. Combine the two with `if`.";
     Some(Said {
         beside: Some((first.span, "`{}` has an equation here too")),
         ..told_of(left, "`{}` has two equations", note)
@@ -85,8 +86,7 @@ pub fn wrong_left<'t>(
 /// What is said of the variable at a place, an output or a local, which has no equation.
 pub fn undefined(sought: Sought, node: &Node) -> Option<Said<'_>> {
     let variable = sought.variable(node)?;
-    let note =
-        "Every output and local needs an equation: add `{} = ..;` before `tel`.";
+    let note = "Every output and local needs an equation: add `{} = ..;` before `tel`.";
     let sentence = match variable.role {
         Role::Input => return None,
         Role::Output => "the output `{}` has no equation",

@@ -73,7 +73,8 @@ fn foreign_type(text: &str) -> Option<(Option<&'static str>, &'static str)> {
 /// What is said of a node's name that other languages have, or of any.
 fn note_on_node(text: &str) -> &'static str {
     match text {
-        "int2real" | "real2int" => "There are no floating-point numbers, so there is nothing to convert.",
+        "int2real" | "real2int" =>
+            "There are no floating-point numbers, so there is nothing to convert.",
         "max" | "min" | "abs" => {
             "It is not built in: write `if a < b then b else a`, or declare a node of this name."
         }

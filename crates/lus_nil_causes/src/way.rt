@@ -89,7 +89,8 @@ pub fn add_way<'t>(
         current = add_step(given, origin.expr, finding)?;
     }
     if is_computed {
-        let note = "Both branches of an `if` are computed at every instant, the first one included.";
+        let note =
+            "Both branches of an `if` are computed at every instant, the first one included.";
         finding.note = Some(String::from_str(given.alloc, note)?);
     }
     Ok(())

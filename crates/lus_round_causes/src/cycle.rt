@@ -32,7 +32,10 @@ pub fn cycle_cause(
         let to = next.as_str();
         if let Some(need) = need_of(node, from, to) {
             is_argument = is_argument || need.is_argument;
-            told.relate(need.span, format!(in alloc; "`{from}` depends on `{to}` here")?)?;
+            told.relate(
+                need.span,
+                format!(in alloc; "`{from}` depends on `{to}` here")?,
+            )?;
         }
     }
     let note = if is_argument {

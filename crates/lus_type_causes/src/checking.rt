@@ -138,10 +138,7 @@ fn check_call<'t>(given: Given<'_, 't>, name: &'t Name, parts: &'t [Part]) {
             "A call with several results is alone on the right of an equation, as in `(a, b) = f(x);`.";
         let sentence = Phrase {
             second: Word::Number(count),
-            ..Phrase::of(
-                "`{}` returns {} values, expected one",
-                name.text.as_str(),
-            )
+            ..Phrase::of("`{}` returns {} values, expected one", name.text.as_str())
         };
         let told = told_at(name.span, sentence).declared(&node.name);
         given.tell(told.noted(Phrase::of(note, "")));

@@ -120,12 +120,7 @@ fn wrong_test<'t>(given: Given<'_, 't>, name: &'t Name, kind: Kind) -> Clash<'t>
     let text = name.text.as_str();
     let sentence = "this clock does not fit `{}`, which has type `{}`";
     let note = match kind.constructors(given.scope.tree).first() {
-        Some(label) => Phrase::new(
-            "Write `when {}({})`.",
-            label.text.as_str(),
-            text,
-            "",
-        ),
+        Some(label) => Phrase::new("Write `when {}({})`.", label.text.as_str(), text, ""),
         None => Phrase::of(
             "A clock is a `bool`, as in `when c` and `when not c`, or an enumeration, as in `when A(k)`.",
             "",
