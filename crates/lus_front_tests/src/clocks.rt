@@ -34,7 +34,7 @@ fn is_sampled(alloc: Global) -> Result<bool, Refusal> {
     let tokens = lex(alloc, SAMPLED)?;
     let tree = parse(alloc, &tokens)?;
     let typed = check_types(alloc, tree)?;
-    Ok(has_two_tests(typed.program()))
+    Ok(has_two_tests(typed.sound().program()))
 }
 
 #[test]

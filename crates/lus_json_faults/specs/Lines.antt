@@ -23,14 +23,14 @@ position_json line column = codes ",\"position\":{\"line\":" ++ decimal line ++ 
 abbrev pub start_json : ℕ → ℕ → Text
 start_json line column = codes ",\"start\":{\"line\":" ++ decimal line ++ codes ",\"column\":" ++ decimal column ++ codes "}"
 
--- an object on a line of its own: the file, the number, the message, the refusal's position, and further members, which other lines may
--- follow
-abbrev pub fault_json : Text → Refusal → Text → Text → Text
-fault_json file r message more =
+-- an object on a line of its own: the file, the number, the message, the refusal's position, where what is shown begins, and further
+-- members, which other lines may follow
+abbrev pub fault_json : Text → Refusal → Text → ℕ → ℕ → Text → Text
+fault_json file r message line column more =
     codes "{\"file\":" ++ quoted file ++ number_json (number_text r.number) ++ quoted message ++ position_json r.line r.column
-    ++ (more ++ codes "}\n")
+    ++ start_json line column ++ (more ++ codes "}\n")
 
 -- a refusal of this file comes first, with some message, its own position, and where what is shown begins
 abbrev pub SaysFault : Text → Refusal → Text → Type 0
 SaysFault file r text =
-    (message more : Text) × (line column : ℕ) × (text ≡ fault_json file r message (start_json line column ++ more))
+    (message more : Text) × (line column : ℕ) × (text ≡ fault_json file r message line column more)

@@ -40,12 +40,9 @@ where
 
 /// How many entries, shares and wants a run has left.
 pub fn count_wants(ran: &Journals) -> (usize, usize, usize) {
-    let Journals {
-        journals,
-        shares,
-        wants,
-    } = ran;
-    let _: (&Vec<Journal>, &Vec<Vec<u32>>, &Vec<Option<CallError>>) = (journals, shares, wants);
+    let journals: &Vec<Journal> = &ran.journals;
+    let shares: &Vec<Vec<u32>> = &ran.shares;
+    let wants: &Vec<Option<CallError>> = &ran.wants;
     (journals.len(), shares.len(), wants.len())
 }
 

@@ -1,5 +1,7 @@
 //! `lus_eval`.
 
+ghost use Rattle.lus_eval.specs.Objects.{IsObjectOf};
+
 use lus_eval::lus_code::Code;
 use lus_eval::{Object, StepError};
 use lus_syntax::NodeId;
@@ -16,6 +18,20 @@ pub fn fresh_object(alloc: Global, code: &Code, node: NodeId) -> Option<Result<O
     }
 }
 
+/// What an object gives at one more instant, where the inputs fit its node.
+fn step_fitting(object: &mut Object, code: &Code, inputs: &Row) -> Option<Result<Row, StepError>>
+    requires { IsObjectOf code.now object.old }
+{
+    if !object.fits_shape(code, inputs) {
+        return None;
+    }
+    if !object.fits_presence(code, inputs) {
+        return None;
+    }
+    let outputs: Result<Row, StepError> = object.step(code, inputs);
+    Some(outputs)
+}
+
 /// What a copy of an object gives at one more instant, where the inputs fit its node. The object itself is then as it was made.
 pub fn step_object(
     object: &mut Object,
@@ -24,14 +40,11 @@ pub fn step_object(
 ) -> Result<Option<Result<Row, StepError>>, Memory> {
     let mut copied: Object = object.copy()?;
     object.reset();
-    if !copied.shaped(code) {
-        return Ok(None);
+    if copied.shaped(code) {
+        Ok(step_fitting(&mut copied, code, inputs))
+    } else {
+        Ok(None)
     }
-    if !copied.fits_shape(code, inputs) || !copied.fits_presence(code, inputs) {
-        return Ok(None);
-    }
-    let outputs: Result<Row, StepError> = copied.step(code, inputs);
-    Ok(Some(outputs))
 }
 
 /// The state cells of a node, where the code has it.
