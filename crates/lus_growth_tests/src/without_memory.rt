@@ -1,5 +1,7 @@
 //! What takes no memory: it is answered whatever growth is refused.
 
+ghost use Rattle.lus_eval.specs.Objects.{IsObjectOf};
+
 use crate::requests::{SUM, SUMS, again, row};
 use lus_clocks::{check_clocks, check_nil};
 use lus_eval::Object;
@@ -50,14 +52,22 @@ fn is_normal_answered(normal: &Normal) -> bool {
     normal.nodes() == 1 && (normal.memories(SUM), normal.firsts(SUM)) == (1, 1)
 }
 
+/// Whether inputs are tested.
+fn are_inputs_answered(object: &Object, code: &Code, inputs: &Row) -> bool
+    requires { IsObjectOf code.now object.now }
+{
+    object.fits_shape(code, inputs) && object.fits_presence(code, inputs)
+}
+
 /// Whether an object of the one node is tested and made fresh.
 fn is_object_answered(object: &mut Object, code: &Code, inputs: &Row) -> bool {
-    if !object.shaped(code) {
-        return false;
+    if object.shaped(code) {
+        let fits = are_inputs_answered(object, code, inputs);
+        object.reset();
+        fits
+    } else {
+        false
     }
-    let fits = object.fits_shape(code, inputs) && object.fits_presence(code, inputs);
-    object.reset();
-    fits
 }
 
 /// Whether the calls of the passes behind the text, of its code and of an object are answered; memory may be out while they are made.
