@@ -1,5 +1,5 @@
 -- What is said of bytes that were read up to one more than there may be holds of those left.
-use Rattle.std.proofs.Common.{◌≡◌, subst, ℕ, ◌+◌, ◌<◌, ◌≤◌, length, take, arith, Bool, true, false, Option, Some, None}
+use Rattle.std.proofs.Common.{◌≡◌, subst, ℕ, ◌+◌, ◌<◌, ◌≤◌, length, take, arith, Bool, true, false, Option, Some, None, inl, inr}
 use Rattle.lus_syntax.specs.Limits.{most_bytes}
 use Rattle.lus_syntax.specs.declared.refusal.Refusal.{Refusal}
 use Rattle.lus_syntax.specs.Lexemes.{Text}
@@ -11,7 +11,7 @@ use Rattle.lus_reports.specs.CliSpecs.HostSpecs.Sources.{no_utf8, too_long}
 use Rattle.lus_reports.specs.CliSpecs.Ends.{WithFiles}
 use Rattle.lus_reports.proofs.CliProofs.HostProofs.Sources.{accepted_left, read_part, read_whole}
 use Rattle.lus_reports.proofs.CliProofs.HostProofs.ScriptErrors.{error_left, scripts_left}
-use Rattle.lus_reports.specs.Explanations.{IsExplained, is_no_text, is_refused}
+use Rattle.lus_reports.specs.Explanations.{IsExplained, IsShown, Shown, is_no_text, is_refused}
 use Rattle.lus_reports.specs.Verdicts as verdicts
 use Rattle.lus_reports.specs.Verdicts.{AreJudged, IsVerdict, Named, Said, SaysRefused, are_judged, are_refused, are_scripts, is_accepted, named}
 use Rattle.lus_explain.specs.Lines as lines
@@ -29,13 +29,19 @@ module _ (m n : ℕ) (is : m ≡ most_bytes) (next : n ≡ m + 1) (bytes left : 
   explained_left r (is_no_text (no_utf8 short wrong at)) = subst (λ bs. IsExplained bs r None) (whole short) (is_no_text (no_utf8 short wrong at))
   explained_left r {line = line} (is_refused short refused) = subst (λ bs. IsExplained bs r line) (whole short) (is_refused short refused)
 
+  shown_left : (r : Refusal) (own : Option Text) (s : Shown) → IsShown bytes r own s → IsShown left r own s
+  shown_left r own s (inl same) = inl same
+  shown_left r own s (inr other) = subst (λ bs. IsShown bs r own s) (whole other.0) (inr other)
+
   refused_left : (name : Text) (said : Said) → SaysRefused (named name bytes) said → SaysRefused (named name left) said
   refused_left name said r = record {
     refusal = r.refusal;
     line = r.line;
+    shown = r.shown;
     told = r.told;
     other = r.other;
     explained = explained_left r.refusal r.explained;
+    at = shown_left r.refusal r.line r.shown r.at;
     status = r.status;
     text = r.text;
   }

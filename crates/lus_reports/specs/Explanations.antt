@@ -23,9 +23,10 @@ pub record Shown : Type 0 where
   pub column : ℕ
   pub text : Option Text
 
--- the position of the refusal and its line, or another of the same bytes, which the fault comes from
+-- the position of the refusal and its line, or another of bytes that aren't too long, which the fault comes from
 abbrev pub IsShown : Text → Refusal → Option Text → Shown → Type 0
-IsShown bytes r own s = ((s.line ≡ r.line) × (s.column ≡ r.column) × (s.text ≡ own)) ⊎ (s.text ≡ line_at bytes s.line)
+IsShown bytes r own s =
+    ((s.line ≡ r.line) × (s.column ≡ r.column) × (s.text ≡ own)) ⊎ ((length bytes ≤ most_bytes) × (s.text ≡ line_at bytes s.line))
 
 -- where it is
 abbrev pub place_text : Text → Shown → Text
