@@ -6,6 +6,7 @@ mapping puts a request `lus.req.INSTANCE`, also one that came by MQTT, into its 
 """
 from __future__ import annotations
 
+import functools
 import json
 import time
 from collections.abc import Iterator, Sequence
@@ -24,13 +25,22 @@ def nanoseconds(seconds: float) -> int:
     return int(seconds * 1e9)
 
 
+@functools.lru_cache(1 << 16)
+def partition_of(instance: str, partitions: int) -> int:
+    """Where the server's mapping puts an instance: by FNV-1a, in 32 bits."""
+    number = 0x811C9DC5
+    for byte in instance.encode():
+        number = (number ^ byte) * 0x01000193 % 2**32
+    return number % partitions
+
+
 class NatsEngine:
     """A connection to NATS, as `engine.Engine` says."""
 
     def __init__(self, url: str) -> None:
         self.nats = Connection(url)
         self.longest = int(self.nats.info.get("max_payload", 1 << 20)) - 4096
-        self.partition, self.lease, self.lease_seconds, self.renewed = 0, 0, 0.0, 0.0
+        self.count, self.partition, self.lease, self.lease_seconds, self.renewed = 0, 0, 0, 0.0, 0.0
         self.pull, self.pull_left, self.pull_ends = "", 0, 0.0
 
     def close(self) -> None:
@@ -54,14 +64,14 @@ class NatsEngine:
 
     def check_mapping(self, partitions: int) -> None:
         """Looks where the server's mapping puts some names."""
+        names = [f"probe{k}" for k in range(50)]
         self.nats.subscribe("lus.queue.*.*")
-        for k in range(50 * partitions):
-            self.nats.send(frame(f"lus.req.probe{k}", b""))
+        self.nats.send(b"".join(frame("lus.req." + name, b"") for name in names))
         seen: set[str] = set()
         while messages := self.nats.poll(0.5):
-            seen |= {message.subject.split(".")[2] for message in messages if message.subject.startswith("lus.queue.")}
-        if seen != {str(p) for p in range(partitions)}:
-            raise EngineError(f"the server maps lus.req.* to {len(seen)} partitions, not to {partitions}: see `mappings` in nats.conf")
+            seen |= {message.subject for message in messages}
+        if not seen >= {f"lus.queue.{partition_of(name, partitions)}.{name}" for name in names}:
+            raise EngineError(f"the server doesn't map lus.req.* to {partitions} partitions: see `mappings` in nats.conf")
 
     def partitions(self) -> int:
         return int(self.info(QUEUE)["state"]["consumer_count"])
@@ -77,7 +87,8 @@ class NatsEngine:
         answer = self.info(LEASE, "lus.lease.*")
         self.lease_seconds = answer["config"]["max_age"] / 1e9
         leased = answer["state"].get("subjects") or {}
-        return [p for p in range(self.partitions()) if f"lus.lease.{p}" not in leased]
+        self.count = self.partitions()
+        return [p for p in range(self.count) if f"lus.lease.{p}" not in leased]
 
     def claim(self, partition: int) -> bool:
         return self.lease_behind(partition, 0)
@@ -113,7 +124,8 @@ class NatsEngine:
         for message in messages:
             if message.reply.startswith(f"$JS.ACK.{QUEUE}."):
                 instance = message.subject.rpartition(".")[2]
-                taken.append(Taken(message.reply, f"{instance} {message.data.decode(errors='replace')}"))
+                is_here = partition_of(instance, self.count) == self.partition  # who may ask by MQTT may also write to queues
+                taken.append(Taken(message.reply, f"{instance if is_here else '?'} {message.data.decode(errors='replace')}"))
             elif message.subject == self.pull:  # this pull has ended
                 self.pull_left = len(taken)
         self.pull_left -= len(taken)

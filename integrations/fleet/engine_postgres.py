@@ -22,13 +22,12 @@ MOST_ROWS = 512
 TABLES = """
 create table fleet (partitions int not null, lease interval not null);
 create table log (p int, position int, text text not null, primary key (p, position));
-create table request (id bigserial primary key, p int not null, line text not null);
-create index on request (p, id);
+create table request (p int, id bigserial, line text not null, primary key (p, id));
 create table lease (p int primary key, owner text not null default '', until timestamptz not null default '-infinity');
 create function partition_of(instance text) returns int language sql stable as
     $$ select mod(('x' || left(md5(instance), 8))::bit(32)::bigint, partitions)::int from fleet $$;
-create function ask(line text) returns void language sql as
-    $$ insert into request (p, line) values (partition_of(split_part(line, ' ', 1)), line) $$;
+create function ask(variadic lines text[]) returns void language sql as
+    $$ insert into request (p, line) select partition_of(split_part(line, ' ', 1)), line from unnest(lines) t(line) $$;
 """
 
 
@@ -110,14 +109,15 @@ class PostgresEngine:
         """(What a crash of the server undoes of this comes again as requests that are known.)"""
         channels = ["rep_" + asked_by(reply)[1] for reply in replies]
         notes = [reply if len(reply.encode()) <= LONGEST_NOTE else " ".join(reply.split(" ", 3)[:3]) for reply in replies]
-        self.rows("set local synchronous_commit = off; delete from request where id = any(%s); "
-                  "select pg_notify(channel, note) from unnest(%s::text[], %s::text[]) as t(channel, note)", list(handles), channels, notes)
+        self.rows("set local synchronous_commit = off; delete from request where p = %s and id = any(%s); "
+                  "select pg_notify(channel, note) from unnest(%s::text[], %s::text[]) as t(channel, note)",
+                  self.partition, list(handles), channels, notes)
 
     def listen(self, client: str) -> None:
         self.rows(f'listen "rep_{client}"')
 
     def ask(self, lines: Sequence[str]) -> None:
-        self.rows("select ask(line) from unnest(%s) as t(line)", list(lines))
+        self.rows("select ask(variadic %s)", list(lines))
 
     def hear(self, wait: float) -> list[str]:
         try:
