@@ -11,6 +11,7 @@ from pathlib import Path
 from typing import Protocol
 
 POSTGRES = Path("/usr/lib/postgresql/15/bin")
+NATS = shutil.which("nats-server", path=os.environ.get("PATH", "") + ":/usr/sbin")
 
 
 def free_port() -> int:
@@ -43,7 +44,7 @@ class NatsServer:
             f'listen: "127.0.0.1:{self.port}"\nserver_name: "check"\nmax_payload: 64KB\njetstream {{ store_dir: "{folder}" }}\n'
             f'mqtt {{ listen: "127.0.0.1:{self.mqtt}" }}\naccounts {{ {accounts} }}\n')
         with open(folder / "log", "w") as log:
-            self.process = subprocess.Popen(["nats-server", "-c", folder / "nats.conf"], stdout=log, stderr=log)
+            self.process = subprocess.Popen([NATS or "nats-server", "-c", folder / "nats.conf"], stdout=log, stderr=log)
         self.wait()
 
     def wait(self) -> None:
