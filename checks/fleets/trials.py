@@ -53,6 +53,7 @@ class Trial:
     modules: Path = FLEET
     workers: list[subprocess.Popen[bytes]] = field(default_factory=list)
     heard: list[str] = field(default_factory=list)
+    copies: int = 1
     strikes: int = 0
     failures: list[str] = field(default_factory=list)
 
@@ -61,7 +62,7 @@ class Trial:
         generator = random.Random(self.name)
         self.folder.mkdir()
         with closing(connect(self.url)) as link:
-            link.make(self.plan.partitions, LEASE, 1)
+            link.make(self.plan.partitions, LEASE, self.copies)
         end = time.monotonic() + self.plan.seconds
         try:
             for _ in range(WORKERS):
@@ -100,7 +101,11 @@ class Trial:
         due = (self.strikes + 1) * self.plan.requests * self.plan.clients // (self.plan.strikes + 1)
         if self.plan.moment == "killed" and self.strikes < self.plan.strikes and len(self.heard) >= due:
             self.strikes += 1
-            end_group(generator.choice(self.workers))
+            self.strike()
+
+    def strike(self) -> None:
+        """Kills a worker and its host."""
+        end_group(self.workers[self.strikes % len(self.workers)])
 
     def wake(self, worker: subprocess.Popen[bytes]) -> None:
         """Lets a worker go on once others have done its work."""
