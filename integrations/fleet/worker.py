@@ -175,6 +175,11 @@ def hold(engine: Engine, number: int, command: Sequence[str], is_stopped: Callab
     engine.release()
 
 
+def pause() -> None:
+    """Lets others come first, at times that differ from theirs."""
+    time.sleep(CLAIM_SECONDS * (0.5 + random.random()))
+
+
 def work(connect: Callable[[], Engine], command: Sequence[str], is_stopped: Callable[[], bool]) -> None:
     """Holds one partition after another. Each has a connection of its own, so nothing of one that was lost is in the way of the next."""
     while not is_stopped():
@@ -186,7 +191,8 @@ def work(connect: Callable[[], Engine], command: Sequence[str], is_stopped: Call
                     if number is not None and engine.claim(number):
                         hold(engine, number, command, is_stopped)
                         break
-                    time.sleep(CLAIM_SECONDS * (0.5 + random.random()))
+                    pause()
+            pause()
         except (EngineError, OSError) as error:
             log.warning("begins anew: %s", error)
             time.sleep(RETRY_SECONDS)
