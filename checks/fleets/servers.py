@@ -43,7 +43,7 @@ class Server(Protocol):
 
 
 class NatsServer:
-    """A server with an account for each trial. Messages have at most 64 KiB, so that an entry that is too long is soon made."""
+    """A server with an account for each trial. Messages have at most 24 KiB, so that an entry that is too long is soon made."""
 
     def __init__(self, folder: Path, partitions: dict[str, int], more: str = "") -> None:
         self.folder, self.port, self.mqtt = folder, free_port(), free_port()
@@ -53,7 +53,7 @@ class NatsServer:
             for trial, count in partitions.items())
         folder.mkdir()
         (folder / "nats.conf").write_text(
-            f'listen: "127.0.0.1:{self.port}"\nserver_name: "{folder.name}"\nmax_payload: 64KB\njetstream {{ store_dir: "{folder}" }}\n'
+            f'listen: "127.0.0.1:{self.port}"\nserver_name: "{folder.name}"\nmax_payload: 24KB\njetstream {{ store_dir: "{folder}" }}\n'
             f'mqtt {{ listen: "127.0.0.1:{self.mqtt}" }}\naccounts {{ {accounts} }}\n{more}\n')
         self.start()
 
