@@ -120,8 +120,7 @@ class NatsEngine:
             pull = json.dumps({"batch": most, "expires": nanoseconds(PULL_SECONDS)}).encode()
             self.nats.send(frame(f"$JS.API.CONSUMER.MSG.NEXT.{QUEUE}.p{self.partition}", pull, self.pull))
         taken: list[Taken] = []
-        messages = self.nats.poll(wait)
-        for message in messages:
+        for message in self.nats.poll(wait):
             if message.reply.startswith(f"$JS.ACK.{QUEUE}."):
                 instance = message.subject.rpartition(".")[2]
                 is_here = partition_of(instance, self.count) == self.partition  # who may ask by MQTT may also write to queues
