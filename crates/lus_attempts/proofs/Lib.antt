@@ -1,0 +1,3 @@
+pub mod Unique
+pub mod WithoutFault
+pub mod Examples
