@@ -1,0 +1,4 @@
+pub mod Drops
+pub mod Recalled
+pub mod Renewed
+pub mod Steps
