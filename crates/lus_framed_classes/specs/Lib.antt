@@ -1,0 +1,5 @@
+pub mod Binding
+pub mod Code
+pub mod Kept
+pub mod Made
+pub mod Emitting
