@@ -8,3 +8,4 @@ mod Frames
 mod Going
 mod Made
 mod Emitted
+mod RowsKept

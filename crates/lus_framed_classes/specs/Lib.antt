@@ -3,3 +3,4 @@ pub mod Code
 pub mod Kept
 pub mod Made
 pub mod Emitting
+pub mod InRows

@@ -3,4 +3,4 @@
 
 mod laws;
 
-pub use laws::{binding_binds, code_makes_instants, passing_passes};
+pub use laws::{binding_binds, code_makes_instants, passing_passes, rows_keep_states};
