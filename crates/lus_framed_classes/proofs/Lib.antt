@@ -9,3 +9,4 @@ mod Going
 mod Made
 mod Emitted
 mod RowsKept
+mod Added

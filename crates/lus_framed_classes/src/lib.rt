@@ -1,6 +1,10 @@
-//! Classes whose code calls: that such code makes their instants.
+//! Classes whose code calls: that such code makes their instants, and the instructions round a call.
 #![tactic(auto)]
 
+mod emitting;
 mod laws;
+mod unframed;
 
+pub use emitting::{add_arguments, add_binding};
 pub use laws::{binding_binds, code_makes_instants, passing_passes, rows_keep_states};
+pub use unframed::Unframed;
