@@ -10,3 +10,4 @@ mod Made
 mod Emitted
 mod RowsKept
 mod Added
+mod Examples
