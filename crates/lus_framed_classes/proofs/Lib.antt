@@ -10,4 +10,5 @@ mod Made
 mod Emitted
 mod RowsKept
 mod Added
+mod Called
 mod Examples

@@ -3,4 +3,5 @@ pub mod Code
 pub mod Kept
 pub mod Made
 pub mod Emitting
+pub mod Calling
 pub mod InRows
