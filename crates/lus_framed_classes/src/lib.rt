@@ -7,6 +7,5 @@ mod laws;
 mod unframed;
 
 pub use calling::add_call;
-pub use emitting::{add_arguments, add_binding};
 pub use laws::{binding_binds, code_makes_instants, passing_passes, rows_keep_states};
 pub use unframed::Unframed;
