@@ -30,6 +30,7 @@ pub use located::Located;
 pub use located_machine::run_located;
 pub use locating::{locate_all, reads_within, stays_within};
 pub use machine::run;
+pub use on_located::act_located;
 pub use operation::{chosen, compute_two, decide, operate, project};
 pub use place::{entry_at, fetch, found_at, read};
 pub use seen::{Seen, is_none, see, word_seen};

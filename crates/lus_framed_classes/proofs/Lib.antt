@@ -1,0 +1,14 @@
+mod Rows
+mod Steps
+mod Asked
+mod Segments
+mod Callee
+mod Call
+mod Frames
+mod Going
+mod Made
+mod Emitted
+mod RowsKept
+mod Added
+mod Called
+mod Examples
