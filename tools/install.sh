@@ -49,7 +49,7 @@ if [ -d "$here/bindings" ]; then
         cp -R "$here/bindings/examples" "$prefix/share/lus/bindings"
     fi
 fi
-put 644 share/lus "$here"/*.md "$here/LICENSE" "$here/VERSION"
+put 644 share/lus "$here"/*.md "$here/LICENSE" "$here/VERSION" "$here/BUILD"
 put 644 share/vim/vimfiles/syntax "$here/editors/lus.vim"
 for folder in docs examples editors; do
     rm -rf "$prefix/share/lus/$folder"
