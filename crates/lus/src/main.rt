@@ -2,15 +2,20 @@
 //! `lus_explain`, `lus_draw`, `lus_audit`, `lus_live`, and `lus_bench`, which `bench/run` measures.
 #![tactic(auto)]
 
+mod files;
 mod usage;
 
-use crate::usage::introduce;
+use crate::files::name_unopened;
+use crate::usage::{introduce, is_for_people};
 use lus_cli::{Fault, command, tell};
 use lus_devices::{Disk, Input, Output};
 use lus_lines::Buffered;
 use std::env;
 use std::io::ErrorKind;
 use std::process::ExitCode;
+
+/// The status of a file that couldn't be read, or an output that couldn't be written.
+const FILE_FAILED: u8 = 3;
 
 /// The name under which the program was called, and the words behind it. Words that are no text are unknown arguments.
 fn arguments(rt: &HostRuntime) -> Result<Vec<String>, Fault> {
@@ -67,5 +72,8 @@ fn main(rt: HostRuntime) -> ExitCode {
         "lus_bench" => lus_bench::command(&rt, words),
         _ => command(&rt, rt.alloc(), words, &mut output, &mut faults),
     };
+    if status == FILE_FAILED && is_for_people(tool) {
+        name_unopened(&disk, tool, words, &mut faults);
+    }
     ExitCode::from(status)
 }
