@@ -155,7 +155,7 @@ fn origin_of(finding: &Finding, fault: Fault) -> usize {
     }
 }
 
-/// The faults behind the first one of a source that follow from none before: each in an equation or a declaration of its own.
+/// The faults behind the first one of a source, each in an equation or a declaration of its own.
 fn faults_behind(alloc: Global, source: &str, first: &Refusal) -> Result<Vec<Told>, Refusal> {
     let mut search = Search {
         source,
@@ -176,8 +176,8 @@ fn faults_behind(alloc: Global, source: &str, first: &Refusal) -> Result<Vec<Tol
     Ok(search.told)
 }
 
-/// The faults of a program's bytes behind the first one, in the order of their places: at most one an equation, none that follows from
-/// another, and at most 19. They are looked for as long as no more than half a MiB is checked again.
+/// The faults of a program's bytes behind the first one, in the order of their places: at most one an equation, one of
+/// the same name a node, and 19 together. They are looked for as long as no more than half a MiB is checked again.
 pub fn further_faults(alloc: Global, bytes: &[u8], first: &Refusal) -> Result<Vec<Told>, Refusal> {
     match text_of(bytes) {
         Ok(source) if source.len() <= MOST_BYTES_AGAIN => faults_behind(alloc, source, first),
