@@ -30,14 +30,14 @@ fn unopened<'w, D: Folder>(folder: &D, tool: &str, words: &'w [String]) -> Optio
 }
 
 /// Says which file a tool for people couldn't open, behind the line of its fault.
-pub fn name_unopened<D: Folder, F: Sink>(
-    folder: &D,
-    tool: &str,
-    words: &[String],
-    faults: &mut F,
-) {
+pub fn name_unopened<D: Folder, F: Sink>(folder: &D, tool: &str, words: &[String], faults: &mut F) {
     if let Some(name) = unopened(folder, tool, words) {
-        for text in [tool, ": there is no file `", name, "`, or it can't be opened\n"] {
+        for text in [
+            tool,
+            ": there is no file `",
+            name,
+            "`, or it can't be opened\n",
+        ] {
             let _ = write_all(faults, text.as_bytes());
         }
     }

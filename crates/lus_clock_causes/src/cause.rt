@@ -29,11 +29,7 @@ fn note_on(found: Misplaced<'_>) -> &'static str {
 }
 
 /// How an expression comes to the clock of its place.
-fn advice_on(
-    alloc: Global,
-    on: Context<'_>,
-    found: Misplaced<'_>,
-) -> Result<String, AllocError> {
+fn advice_on(alloc: Global, on: Context<'_>, found: Misplaced<'_>) -> Result<String, AllocError> {
     if let Some(tick) = on.clocks.leading(found.has, found.wanted) {
         let test = tick.test(alloc)?;
         return match found.memory {

@@ -72,11 +72,7 @@ fn since<'s, 't>(search: &'s mut Search<'t>, count: usize) -> &'s mut [Misplaced
 
 /// Adds an expression, if it isn't on the clock that it should be on, and then those in it.
 #[cycle(placing)]
-fn add<'t>(
-    search: &mut Search<'t>,
-    expr: &'t Expr,
-    wanted: Clock<'t>,
-) -> Result<(), AllocError> {
+fn add<'t>(search: &mut Search<'t>, expr: &'t Expr, wanted: Clock<'t>) -> Result<(), AllocError> {
     if let Some(has) = own_clock(search.clocks, expr)
         && !has.is(wanted)
     {

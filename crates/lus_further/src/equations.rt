@@ -153,7 +153,10 @@ pub fn without_equation(
     let Some((node, equation)) = equation_at(source, tree, byte) else {
         return Ok(None);
     };
-    match (bytes_of(source, equation), values(alloc, tree, node, equation)?) {
+    match (
+        bytes_of(source, equation),
+        values(alloc, tree, node, equation)?,
+    ) {
         (Some(cut), Some(text)) => replaced(alloc, source, cut, &text),
         _ => Ok(None),
     }

@@ -52,9 +52,7 @@ struct Search<'s> {
 impl Search<'_> {
     /// Whether a fault was found before, so that it still is where it was taken out.
     fn has(&self, fault: Fault) -> bool {
-        self.found
-            .iter()
-            .any(|other| other.byte == fault.byte && other.number == fault.number)
+        self.found.iter().any(|other| other.byte == fault.byte && other.number == fault.number)
     }
 
     /// Whether a fault of grammar stands behind one of meaning, as none does in a source: all of it was read before.

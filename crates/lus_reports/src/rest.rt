@@ -69,11 +69,7 @@ fn word_at(source: &str, byte: usize) -> &str {
 }
 
 /// A source that spells a program, without the equation at a byte.
-fn without_meaning(
-    alloc: Global,
-    source: &str,
-    byte: usize,
-) -> Result<Option<String>, AllocError> {
+fn without_meaning(alloc: Global, source: &str, byte: usize) -> Result<Option<String>, AllocError> {
     let Ok(tokens) = lex(alloc, source) else {
         return Ok(None);
     };

@@ -154,7 +154,10 @@ fn miscounted<'t>(
     };
     let note = Phrase {
         first: Word::Number(place.saturating_add(1)),
-        ..Phrase::of("Arguments are in the order of the inputs: this one is number {}.", "")
+        ..Phrase::of(
+            "Arguments are in the order of the inputs: this one is number {}.",
+            "",
+        )
     };
     told_at(name.span, sentence).declared(input).noted(note)
 }

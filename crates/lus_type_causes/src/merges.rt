@@ -73,7 +73,12 @@ fn missing<'t>(given: Given<'_, 't>, merge: Merge<'t>, of: Kind, label: &'t str)
     };
     let sentence = match kind {
         Kind::Unknown => Phrase::of("missing branch `{}`", label),
-        _ => Phrase::new("missing branch `{}` of type `{}`", label, given.name(kind), ""),
+        _ => Phrase::new(
+            "missing branch `{}` of type `{}`",
+            label,
+            given.name(kind),
+            "",
+        ),
     };
     let told = told_at(merge.span, sentence);
     match kind.value(given.scope.tree) {
