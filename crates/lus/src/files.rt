@@ -1,37 +1,41 @@
 //! Which file a tool for people couldn't open.
 
-use lus_devices::{Folder, Sink, write_all};
+use lus_devices::{Sink, write_all};
+use std::fs;
+use std::io::ErrorKind;
+use std::rt::Files;
 
-/// Whether the word at a place names a file: no flag does, nor the name of a node, which stands behind `--script` or is the second word
-/// of `lus_live` that is no flag.
-fn is_file(tool: &str, words: &[String], place: usize) -> bool {
-    let (before, _) = words.split_at(place.min(words.len()));
-    let is_flag = match words.get(place) {
-        Some(word) => word.starts_with("--"),
-        None => true,
-    };
-    let is_of_script = match before.last() {
-        Some(last) => last.as_str() == "--script",
-        None => false,
-    };
-    let count = before.iter().filter(|word| !word.starts_with("--")).count();
-    !is_flag && !is_of_script && (tool != "lus_live" || count != 1)
+/// Whether there is no file of a name, or it can't be opened. Only plain files are opened: opening a pipe could wait for its other end.
+fn is_unopened<R: Files>(rt: &R, name: &str) -> bool {
+    match fs::metadata(rt, name) {
+        Ok(metadata) => metadata.is_file() && fs::open(rt, name).is_err(),
+        Err(error) => error.kind() != ErrorKind::OutOfMemory,
+    }
 }
 
-/// The last of the files that the words name which can't be opened. A file that can't be read is opened all the same.
-fn unopened<'w, D: Folder>(folder: &D, tool: &str, words: &'w [String]) -> Option<&'w str> {
+/// The last of the files that the words name which can't be opened. No flag names a file, nor does `-`, nor the name of a node, which
+/// stands behind `--script` or is the second word of `lus_live` that is no flag.
+fn unopened<'w, R: Files>(rt: &R, tool: &str, words: &'w [String]) -> Option<&'w str> {
     let mut found = None;
-    for (place, word) in words.iter().enumerate() {
-        if is_file(tool, words, place) && folder.open(word.as_str()).is_err() {
-            found = Some(word.as_str());
+    let mut count = 0usize;
+    let mut is_of_script = false;
+    for word in words {
+        let name = word.as_str();
+        let is_node = is_of_script || tool == "lus_live" && count == 1;
+        if !name.starts_with("-") {
+            count = count.saturating_add(1);
+            if !is_node && is_unopened(rt, name) {
+                found = Some(name);
+            }
         }
+        is_of_script = name == "--script";
     }
     found
 }
 
 /// Says which file a tool for people couldn't open, behind the line of its fault.
-pub fn name_unopened<D: Folder, F: Sink>(folder: &D, tool: &str, words: &[String], faults: &mut F) {
-    if let Some(name) = unopened(folder, tool, words) {
+pub fn name_unopened<R: Files, F: Sink>(rt: &R, tool: &str, words: &[String], faults: &mut F) {
+    if let Some(name) = unopened(rt, tool, words) {
         for text in [
             tool,
             ": there is no file `",

@@ -73,7 +73,7 @@ fn main(rt: HostRuntime) -> ExitCode {
         _ => command(&rt, rt.alloc(), words, &mut output, &mut faults),
     };
     if status == FILE_FAILED && is_for_people(tool) {
-        name_unopened(&disk, tool, words, &mut faults);
+        name_unopened(&rt, tool, words, &mut faults);
     }
     ExitCode::from(status)
 }

@@ -15,26 +15,24 @@ pub struct Misplaced<'t> {
     pub wanted: Clock<'t>,
 }
 
-/// Has expressions that were found be remembered by one on a clock, where none inside remembers them and no other clock stands between.
-fn remember<'t>(found: &mut [Misplaced<'t>], memory: &'t Expr, clock: Clock<'t>) {
-    for inside in found.iter_mut() {
-        if inside.memory.is_none() && inside.wanted.is(clock) {
-            inside.memory = Some(memory);
-        }
+/// Whether one expression is an operator before its operand, and another begins with it.
+fn begins_with(memory: &Expr, right: &Expr) -> bool {
+    match right {
+        Expr::Unary(_, span, _) => start_of(memory).byte == span.start.byte,
+        _ => false,
     }
 }
 
-/// Has expressions that are remembered by the `pre` on the right of a `->` be remembered by that.
-fn begin<'t>(found: &mut [Misplaced<'t>], arrow: &'t Expr, right: &'t Expr) {
-    let Expr::Unary(_, span, _) = right else {
-        return;
-    };
-    for inside in found.iter_mut() {
-        if let Some(memory) = inside.memory
-            && start_of(memory).byte == span.start.byte
-        {
-            inside.memory = Some(arrow);
+/// What an expression is remembered by that stands in another one on a clock: the innermost `pre` or `fby`, where no other clock stands
+/// between, with the `->` before a `pre`.
+fn memory_by<'t>(found: Misplaced<'t>, expr: &'t Expr, clock: Clock<'t>) -> Option<&'t Expr> {
+    match (expr, found.memory) {
+        (Expr::Unary(Prefix::Pre, _, _), None) if found.wanted.is(clock) => Some(expr),
+        (Expr::Binary(Infix::Fby, _, _), None) if found.wanted.is(clock) => Some(expr),
+        (Expr::Binary(Infix::Arrow, _, right), Some(memory)) if begins_with(memory, right) => {
+            Some(expr)
         }
+        _ => found.memory,
     }
 }
 
@@ -64,10 +62,13 @@ struct Search<'t> {
     found: Vec<Misplaced<'t>>,
 }
 
-/// What was found since there were so many.
-fn since<'s, 't>(search: &'s mut Search<'t>, count: usize) -> &'s mut [Misplaced<'t>] {
-    let start = count.min(search.found.len());
-    &mut search.found[start..]
+/// Has those found in an operand, behind so many, be remembered by the expression, if it delays that operand.
+fn remember<'t>(search: &mut Search<'t>, before: usize, expr: &'t Expr, clock: Clock<'t>) {
+    for place in before..search.found.len() {
+        if let Some(found) = search.found.get_mut(place) {
+            found.memory = memory_by(*found, expr, clock);
+        }
+    }
 }
 
 /// Adds an expression, if it isn't on the clock that it should be on, and then those in it.
@@ -107,23 +108,17 @@ fn add_operands<'t>(
                 None => Ok(()),
             }
         }
-        Expr::Unary(prefix, _, operand) => {
+        Expr::Unary(_, _, operand) => {
             let before = search.found.len();
             add(search, operand, wanted)?;
-            if *prefix == Prefix::Pre {
-                remember(since(search, before), expr, wanted);
-            }
+            remember(search, before, expr, wanted);
             Ok(())
         }
-        Expr::Binary(infix, left, right) => {
+        Expr::Binary(_, left, right) => {
             add(search, left, wanted)?;
             let before = search.found.len();
             add(search, right, wanted)?;
-            match infix {
-                Infix::Fby => remember(since(search, before), expr, wanted),
-                Infix::Arrow => begin(since(search, before), expr, right),
-                Infix::Compute(_) => {}
-            }
+            remember(search, before, expr, wanted);
             Ok(())
         }
         Expr::If(_, condition, left, right) => {

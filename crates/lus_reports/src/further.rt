@@ -60,11 +60,9 @@ impl Search<'_> {
         fault.is_of_grammar() && self.found.iter().any(|other| !other.is_of_grammar())
     }
 
-    /// Whether the grammar of a fault's declaration was found at fault.
+    /// Whether a fault may follow from one of grammar that was found before.
     fn is_spoiled(&self, fault: Fault) -> bool {
-        self.found
-            .iter()
-            .any(|other| other.is_of_grammar() && other.is_beside(fault))
+        self.found.iter().any(|other| fault.follows(*other))
     }
 
     /// Whether a fault is of a name that was found at fault in the same declaration.

@@ -6,10 +6,11 @@ use lus_grammar::parse;
 use lus_syntax::{Refusal, RefusalNumber, lex};
 use std::alloc::{AllocError, Global};
 
-/// A fault of a source: its number, the byte of its place, and the place of the declaration there.
+/// A fault of a source: its number, the line and the byte of its place, and the place of the declaration there.
 #[derive(Clone, Copy)]
 pub(crate) struct Fault {
     pub number: RefusalNumber,
+    pub line: usize,
     pub byte: usize,
     pub declaration: Option<usize>,
 }
@@ -23,6 +24,7 @@ pub(crate) fn fault_of(
     let byte = offset_of(source, refusal.line, refusal.column);
     Ok(Fault {
         number: refusal.number,
+        line: refusal.line,
         byte,
         declaration: place_of_declaration(alloc, source, byte)?,
     })
@@ -45,6 +47,13 @@ impl Fault {
     /// Whether two faults are in one declaration.
     pub fn is_beside(self, other: Fault) -> bool {
         self.declaration == other.declaration
+    }
+
+    /// Whether it follows from a fault of grammar: in the same declaration; or, itself one of grammar, on the same line, where the word
+    /// that it was taken to open another declaration with can stand in the one at fault.
+    pub fn follows(self, other: Fault) -> bool {
+        let is_on_line = self.is_of_grammar() && self.line == other.line;
+        other.is_of_grammar() && (self.is_beside(other) || is_on_line)
     }
 
     /// Whether it is of the name that another fault of the same declaration is of.
