@@ -33,8 +33,17 @@ fn unopened<'w, R: Files>(rt: &R, tool: &str, words: &'w [String]) -> Option<&'w
     found
 }
 
+/// Whether a tool's own line of a fault doesn't say which file can't be opened, and more may be said: `lus` has its specified line alone,
+/// and `lus_format` names the file itself.
+fn is_silent(tool: &str) -> bool {
+    matches!(tool, "lus_explain" | "lus_draw" | "lus_audit" | "lus_live")
+}
+
 /// Says which file a tool for people couldn't open, behind the line of its fault.
 pub fn name_unopened<R: Files, F: Sink>(rt: &R, tool: &str, words: &[String], faults: &mut F) {
+    if !is_silent(tool) {
+        return;
+    }
     if let Some(name) = unopened(rt, tool, words) {
         for text in [
             tool,

@@ -6,7 +6,7 @@ mod files;
 mod usage;
 
 use crate::files::name_unopened;
-use crate::usage::{introduce, is_for_people};
+use crate::usage::introduce;
 use lus_cli::{Fault, command, tell};
 use lus_devices::{Disk, Input, Output};
 use lus_lines::Buffered;
@@ -80,7 +80,7 @@ fn main(rt: HostRuntime) -> ExitCode {
         "lus_bench" => lus_bench::command(&rt, words),
         _ => command(&rt, rt.alloc(), words, &mut output, &mut faults),
     };
-    if status == FILE_FAILED && is_for_people(tool) {
+    if status == FILE_FAILED {
         name_unopened(&rt, tool, words, &mut faults);
     }
     ExitCode::from(status)

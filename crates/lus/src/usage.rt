@@ -82,11 +82,6 @@ fn usage_of(tool: &str) -> Option<&'static str> {
     }
 }
 
-/// Whether a tool is one for people, that says more than its specified line of a fault.
-pub fn is_for_people(tool: &str) -> bool {
-    usage_of(tool).is_some()
-}
-
 /// The status where an answer was written, or told as a fault.
 fn status_of<F: Sink>(written: Result<(), Failure>, faults: &mut F) -> u8 {
     match written {
