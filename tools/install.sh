@@ -49,7 +49,7 @@ if [ -d "$here/bindings" ]; then
         cp -R "$here/bindings/examples" "$prefix/share/lus/bindings"
     fi
 fi
-put 644 share/lus "$here"/*.md "$here/LICENSE" "$here/VERSION"
+put 644 share/lus "$here"/*.md "$here/LICENSE" "$here/VERSION" "$here/BUILD"
 for folder in ftdetect ftplugin indent syntax compiler lua; do
     put 644 "share/vim/vimfiles/$folder" "$here/editors/vim/$folder"/*
 done

@@ -2,8 +2,10 @@
 //! `lus_explain`, `lus_format`, `lus_draw`, `lus_audit`, `lus_live`, and `lus_bench`, which `bench/run` measures.
 #![tactic(auto)]
 
+mod files;
 mod usage;
 
+use crate::files::name_unopened;
 use crate::usage::introduce;
 use lus_cli::{Fault, command, tell};
 use lus_devices::{Disk, Input, Output};
@@ -11,6 +13,9 @@ use lus_lines::Buffered;
 use std::env;
 use std::io::ErrorKind;
 use std::process::ExitCode;
+
+/// The status of a file that couldn't be read, or an output that couldn't be written.
+const FILE_FAILED: u8 = 3;
 
 /// The name under which the program was called, and the words behind it. Words that are no text are unknown arguments.
 fn arguments(rt: &HostRuntime) -> Result<Vec<String>, Fault> {
@@ -75,5 +80,8 @@ fn main(rt: HostRuntime) -> ExitCode {
         "lus_bench" => lus_bench::command(&rt, words),
         _ => command(&rt, rt.alloc(), words, &mut output, &mut faults),
     };
+    if status == FILE_FAILED {
+        name_unopened(&rt, tool, words, &mut faults);
+    }
     ExitCode::from(status)
 }

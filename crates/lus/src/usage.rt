@@ -8,13 +8,13 @@ const VERSION: &str = " 0.1.0\n";
 const EXPLAIN: &str = "usage: lus_explain [--json] PROGRAM [SCRIPTS]
        lus_explain --script NODE PROGRAM
 
-Says why a program, or its scripts, are refused, and what to write; of an accepted program
+Says why a program, or its scripts, are rejected, and what to write; of an accepted program
 its types and nodes. It runs nothing.
 
-  --json         an object of JSON for each fault, on a line of its own
+  --json         an object of JSON for each error, on a line of its own
   --script NODE  scripts to begin from, for an instance of NODE
 
-Status: 0 accepted, 1 the program is refused, 2 the scripts, 3 a file or the output fails, 4 out of memory.
+Status: 0 accepted, 1 the program is rejected, 2 the scripts, 3 a file or the output fails, 4 out of memory.
 ";
 
 const FORMAT: &str = "usage: lus_format [--check | --write] FILE..
@@ -31,10 +31,10 @@ A refused file is left as it is. Status: 0 done, 1 a file is refused, or would c
 
 const DRAW: &str = "usage: lus_draw [--svg | --waves | --csv | --vcd] JOURNAL [PROGRAM]
 
-Draws journals that lus or lus_live wrote: as a table, or
+Draws journals that lus or lus_live wrote: as a chronogram, or
 
-  --svg    as a picture of that table
-  --waves  as a picture of lines over time, for long journals
+  --svg    as a picture of that chronogram
+  --waves  as a timing diagram, for long journals
   --csv    as tables for spreadsheets
   --vcd    as a value change dump, for viewers of waveforms
 
@@ -50,7 +50,7 @@ the right one.
   --why  why each request of a lawful journal that was refused is: which input, its type or
          clock; or which operation has no value, with its operands and its place
 
-Status: 0 lawful, 1 the program is refused, 2 a wrong line, or no journal,
+Status: 0 lawful, 1 the program is rejected, 2 a wrong line, or no journal,
 3 a file or the output fails, 4 out of memory.
 ";
 
@@ -66,7 +66,7 @@ JOURNAL, replayed first: `lus_live PROGRAM NODE log < calls >> log`, also after 
   {\"inputs\": {\"low\": 19, ..}}  a step with the inputs by their names
   {\"reset\": true}, {\"save\": 0}, {\"restore\": 0}, {\"burst\": [[..], ..]}
 
-Status: 0 all lines were calls, 1 the program is refused, 2 some were no calls, or a line of
+Status: 0 all lines were calls, 1 the program is rejected, 2 some were no calls, or a line of
 JOURNAL isn't right, 3 and 4 as lus.
 ";
 

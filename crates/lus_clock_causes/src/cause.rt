@@ -1,12 +1,12 @@
 //! What is said of a fault of clocks.
 
 use crate::clock::Clocks;
-use crate::completing::completed;
 use crate::declared::wrong_clock;
-use crate::placing::{Looking, Misplaced, in_equation};
-use crate::sampling::add_sampled;
-use lus_faults::{Finding, Sought, extent_of, slice_of};
-use lus_syntax::{Equation, Refusal, Tree};
+use crate::mending::{Context, mended};
+use crate::placing::{Misplaced, misplaced_in};
+use crate::sampling::note_on_memory;
+use lus_faults::{Finding, Sought, extent_of, slice_of, start_of};
+use lus_syntax::{Refusal, Tree};
 use std::alloc::{AllocError, Global};
 
 /// The sentence on an expression that is on another clock than its place.
@@ -28,46 +28,50 @@ fn note_on(found: Misplaced<'_>) -> &'static str {
     }
 }
 
-/// Adds the equation that an expression stands in, and how it comes to the clock of its place.
-fn add_advice(
+/// How an expression comes to the clock of its place.
+fn advice_on(alloc: Global, on: Context<'_>, found: Misplaced<'_>) -> Result<String, AllocError> {
+    if let Some(tick) = on.clocks.leading(found.has, found.wanted) {
+        let test = tick.test(alloc)?;
+        return match found.memory {
+            Some(memory) => note_on_memory(alloc, on.source, found, memory, &test),
+            None => String::from_str(alloc, "Sample it with `when`."),
+        };
+    }
+    let note = match on.clocks.leading(found.wanted, found.has) {
+        Some(_) =>
+            "Give it a value at the other instants with `merge`, or declare the left side on its clock.",
+        None => note_on(found),
+    };
+    String::from_str(alloc, note)
+}
+
+/// What is said of an expression that is on another clock than its place, among all of its equation that are.
+fn told(
     alloc: Global,
-    source: &str,
-    clocks: Clocks<'_>,
-    equation: &Equation,
+    on: Context<'_>,
     found: Misplaced<'_>,
-    finding: &mut Finding,
-) -> Result<(), AllocError> {
-    if let Some(left) = equation.left.first() {
+    all: &[Misplaced<'_>],
+) -> Result<Finding, AllocError> {
+    let span = extent_of(on.source, found.expr);
+    let sentence = sentence_on(alloc, on.source, found)?;
+    let mut finding = Finding::new(alloc, sentence, span.length);
+    if let Some(left) = on.equation.left.first() {
         let name = left.text.as_str();
         finding.relate(left.span, format!(in alloc; "the equation of `{name}`")?)?;
     }
-    if let Some(tick) = clocks.leading(found.has, found.wanted) {
-        let test = tick.test(alloc)?;
-        return add_sampled(alloc, source, equation, found, &test, finding);
-    }
-    let mut note = note_on(found);
-    if let Some(tick) = clocks.leading(found.wanted, found.has) {
-        note =
-            "Give it a value at the other instants with `merge`, or declare the left side on its clock.";
-        finding.edit = completed(alloc, source, clocks, equation, found, tick)?;
-    }
-    finding.note = Some(String::from_str(alloc, note)?);
-    Ok(())
+    finding.note = Some(advice_on(alloc, on, found)?);
+    finding.edit = mended(alloc, on, found, all)?;
+    Ok(finding)
 }
 
-/// What is said of an expression that is on another clock than its place.
-fn told(
-    alloc: Global,
-    source: &str,
-    clocks: Clocks<'_>,
-    equation: &Equation,
-    found: Misplaced<'_>,
-) -> Result<Option<Finding>, AllocError> {
-    let span = extent_of(source, found.expr);
-    let sentence = sentence_on(alloc, source, found)?;
-    let mut finding = Finding::new(alloc, sentence, span.length);
-    add_advice(alloc, source, clocks, equation, found, &mut finding)?;
-    Ok(Some(finding))
+/// The expression that stands at a place, among some of which each is before those in it.
+fn at_place<'t>(sought: Sought, all: &[Misplaced<'t>]) -> Option<Misplaced<'t>> {
+    for found in all {
+        if sought.is_at(start_of(found.expr)) {
+            return Some(*found);
+        }
+    }
+    None
 }
 
 /// What is said of a fault of clocks, where it is found again at its place.
@@ -86,8 +90,14 @@ pub fn clock_cause(
     }
     let clocks = Clocks { tree, node };
     for equation in &node.equations {
-        if let Some(found) = in_equation(Looking { clocks, sought }, equation) {
-            return told(alloc, source, clocks, equation, found);
+        let all = misplaced_in(alloc, clocks, equation)?;
+        if let Some(found) = at_place(sought, &all) {
+            let on = Context {
+                source,
+                clocks,
+                equation,
+            };
+            return Ok(Some(told(alloc, on, found, &all)?));
         }
     }
     Ok(None)

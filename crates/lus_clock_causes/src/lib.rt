@@ -5,6 +5,7 @@ mod cause;
 mod clock;
 mod completing;
 mod declared;
+mod mending;
 mod placing;
 mod sampling;
 

@@ -1,8 +1,9 @@
 //! Where an expression isn't on the clock of its place.
 
 use crate::clock::{Clock, Clocks, Tick, text_of_label, variable_of};
-use lus_faults::{Sought, start_of};
+use lus_faults::start_of;
 use lus_syntax::{Equation, Expr, Infix, Lead, Name, Part, Prefix};
+use std::alloc::{AllocError, Global};
 
 /// An expression that is on another clock than its place: of a variable, or by `when`; and the innermost `pre` or `fby` that it is
 /// remembered by, with the `->` before a `pre`.
@@ -14,63 +15,24 @@ pub struct Misplaced<'t> {
     pub wanted: Clock<'t>,
 }
 
-/// What was found, remembered by an expression on a clock, where none inside remembers it and no other clock stands between.
-fn remembered<'t>(
-    found: Option<Misplaced<'t>>,
-    memory: &'t Expr,
-    clock: Clock<'t>,
-) -> Option<Misplaced<'t>> {
-    match found {
-        Some(inside) if inside.memory.is_none() && inside.wanted.is(clock) => Some(Misplaced {
-            memory: Some(memory),
-            ..inside
-        }),
-        _ => found,
+/// Whether one expression is an operator before its operand, and another begins with it.
+fn begins_with(memory: &Expr, right: &Expr) -> bool {
+    match right {
+        Expr::Unary(_, span, _) => start_of(memory).byte == span.start.byte,
+        _ => false,
     }
 }
 
-/// What was found, by the `->` where the `pre` that remembers it is its right side.
-fn begun<'t>(
-    found: Option<Misplaced<'t>>,
-    arrow: &'t Expr,
-    right: &'t Expr,
-) -> Option<Misplaced<'t>> {
-    let Some(inside) = found else {
-        return None;
-    };
-    match (inside.memory, right) {
-        (Some(memory), Expr::Unary(_, span, _)) if start_of(memory).byte == span.start.byte => {
-            Some(Misplaced {
-                memory: Some(arrow),
-                ..inside
-            })
+/// What an expression is remembered by that stands in another one on a clock: the innermost `pre` or `fby`, where no other clock stands
+/// between, with the `->` before a `pre`.
+fn memory_by<'t>(found: Misplaced<'t>, expr: &'t Expr, clock: Clock<'t>) -> Option<&'t Expr> {
+    match (expr, found.memory) {
+        (Expr::Unary(Prefix::Pre, _, _), None) if found.wanted.is(clock) => Some(expr),
+        (Expr::Binary(Infix::Fby, _, _), None) if found.wanted.is(clock) => Some(expr),
+        (Expr::Binary(Infix::Arrow, _, right), Some(memory)) if begins_with(memory, right) => {
+            Some(expr)
         }
-        _ => found,
-    }
-}
-
-/// What is looked through: a node, and the place that is looked for.
-#[derive(Clone, Copy)]
-pub struct Looking<'t> {
-    pub clocks: Clocks<'t>,
-    pub sought: Sought,
-}
-
-impl<'t> Looking<'t> {
-    /// The expression, where it stands at the place and on another clock than it should.
-    fn compared(self, expr: &'t Expr, wanted: Clock<'t>) -> Option<Misplaced<'t>> {
-        if !self.sought.is_at(start_of(expr)) {
-            return None;
-        }
-        match own_clock(self.clocks, expr) {
-            Some(has) if !has.is(wanted) => Some(Misplaced {
-                expr,
-                memory: None,
-                has,
-                wanted,
-            }),
-            _ => None,
-        }
+        _ => found.memory,
     }
 }
 
@@ -93,104 +55,123 @@ fn own_clock<'t>(clocks: Clocks<'t>, expr: &'t Expr) -> Option<Clock<'t>> {
     }
 }
 
-/// The first part of an expression at the place that isn't on its clock, where the expression should be on this one.
+/// The expressions of one equation that aren't on the clock of their place.
+#[derive(Drop)]
+struct Search<'t> {
+    clocks: Clocks<'t>,
+    found: Vec<Misplaced<'t>>,
+}
+
+/// Has those found in an operand, behind so many, be remembered by the expression, if it delays that operand.
+fn remember<'t>(search: &mut Search<'t>, before: usize, expr: &'t Expr, clock: Clock<'t>) {
+    for place in before..search.found.len() {
+        if let Some(found) = search.found.get_mut(place) {
+            found.memory = memory_by(*found, expr, clock);
+        }
+    }
+}
+
+/// Adds an expression, if it isn't on the clock that it should be on, and then those in it.
 #[cycle(placing)]
-pub fn off_clock<'t>(
-    looking: Looking<'t>,
+fn add<'t>(search: &mut Search<'t>, expr: &'t Expr, wanted: Clock<'t>) -> Result<(), AllocError> {
+    if let Some(has) = own_clock(search.clocks, expr)
+        && !has.is(wanted)
+    {
+        search.found.push(Misplaced {
+            expr,
+            memory: None,
+            has,
+            wanted,
+        })?;
+    }
+    add_operands(search, expr, wanted)
+}
+
+/// Adds those in an expression that should be on a clock.
+#[cycle(placing)]
+fn add_operands<'t>(
+    search: &mut Search<'t>,
     expr: &'t Expr,
     wanted: Clock<'t>,
-) -> Option<Misplaced<'t>> {
-    let found = looking.compared(expr, wanted);
-    if found.is_some() {
-        return found;
-    }
+) -> Result<(), AllocError> {
     match expr {
-        Expr::Number(_, _) | Expr::Truth(_, _) | Expr::Name(_) => None,
-        Expr::Call(name, _) if !looking.clocks.is_plain(name.text.as_str()) => None,
+        Expr::Number(_, _) | Expr::Truth(_, _) | Expr::Name(_) => Ok(()),
+        Expr::Call(name, _) if !search.clocks.is_plain(name.text.as_str()) => Ok(()),
         Expr::Call(_, parts) | Expr::Structure(_, parts) | Expr::Variadic(_, _, parts) => {
-            in_parts(looking, parts, wanted)
+            add_parts(search, parts, wanted)
         }
-        Expr::Merge(_, variable, parts) => in_branches(looking, variable, parts),
-        Expr::Field(operand, _) | Expr::Parentheses(_, operand) => {
-            off_clock(looking, operand, wanted)
-        }
+        Expr::Merge(_, variable, parts) => add_branches(search, variable, parts),
+        Expr::Field(operand, _) | Expr::Parentheses(_, operand) => add(search, operand, wanted),
         Expr::When(operand, test) => {
-            match looking.clocks.clock(variable_of(test).text.as_str()) {
-                Some(inside) => off_clock(looking, operand, inside),
-                None => None,
+            match search.clocks.clock(variable_of(test).text.as_str()) {
+                Some(inside) => add(search, operand, inside),
+                None => Ok(()),
             }
         }
-        Expr::Unary(prefix, _, operand) => {
-            let found = off_clock(looking, operand, wanted);
-            if *prefix == Prefix::Pre {
-                remembered(found, expr, wanted)
-            } else {
-                found
-            }
+        Expr::Unary(_, _, operand) => {
+            let before = search.found.len();
+            add(search, operand, wanted)?;
+            remember(search, before, expr, wanted);
+            Ok(())
         }
-        Expr::Binary(infix, left, right) => {
-            let first = off_clock(looking, left, wanted);
-            let second = off_clock(looking, right, wanted);
-            first.or(match infix {
-                Infix::Fby => remembered(second, expr, wanted),
-                Infix::Arrow => begun(second, expr, right),
-                Infix::Compute(_) => second,
-            })
+        Expr::Binary(_, left, right) => {
+            add(search, left, wanted)?;
+            let before = search.found.len();
+            add(search, right, wanted)?;
+            remember(search, before, expr, wanted);
+            Ok(())
         }
         Expr::If(_, condition, left, right) => {
-            off_clock(looking, condition, wanted)
-                .or(off_clock(looking, left, wanted))
-                .or(off_clock(looking, right, wanted))
+            add(search, condition, wanted)?;
+            add(search, left, wanted)?;
+            add(search, right, wanted)
         }
     }
 }
 
 #[cycle(placing)]
-fn in_parts<'t>(
-    looking: Looking<'t>,
+fn add_parts<'t>(
+    search: &mut Search<'t>,
     parts: &'t [Part],
     wanted: Clock<'t>,
-) -> Option<Misplaced<'t>> {
+) -> Result<(), AllocError> {
     for part in parts {
-        let found = off_clock(looking, &part.value, wanted);
-        if found.is_some() {
-            return found;
-        }
+        add(search, &part.value, wanted)?;
     }
-    None
+    Ok(())
 }
 
 /// Each branch is on the clock of the merged variable with its own label.
 #[cycle(placing)]
-fn in_branches<'t>(
-    looking: Looking<'t>,
+fn add_branches<'t>(
+    search: &mut Search<'t>,
     variable: &'t Name,
     parts: &'t [Part],
-) -> Option<Misplaced<'t>> {
+) -> Result<(), AllocError> {
     for part in parts {
         if let Lead::Branch(_, label) = &part.lead {
-            let clock = Clock {
-                newest: Some(Tick {
-                    variable,
-                    label: text_of_label(label),
-                }),
-            };
-            let found = off_clock(looking, &part.value, clock);
-            if found.is_some() {
-                return found;
-            }
+            let label = text_of_label(label);
+            let newest = Some(Tick { variable, label });
+            add(search, &part.value, Clock { newest })?;
         }
     }
-    None
+    Ok(())
 }
 
-/// The first part of an equation at the place that isn't on its clock.
-pub fn in_equation<'t>(looking: Looking<'t>, equation: &'t Equation) -> Option<Misplaced<'t>> {
-    let Some(first) = equation.left.first() else {
-        return None;
+/// The expressions of an equation that aren't on the clock of their place, each before those in it.
+pub fn misplaced_in<'t>(
+    alloc: Global,
+    clocks: Clocks<'t>,
+    equation: &'t Equation,
+) -> Result<Vec<Misplaced<'t>>, AllocError> {
+    let mut search = Search {
+        clocks,
+        found: Vec::new(alloc),
     };
-    match looking.clocks.clock(first.text.as_str()) {
-        Some(wanted) => off_clock(looking, &equation.right, wanted),
-        None => None,
+    if let Some(first) = equation.left.first()
+        && let Some(wanted) = clocks.clock(first.text.as_str())
+    {
+        add(&mut search, &equation.right, wanted)?;
     }
+    Ok(search.found)
 }

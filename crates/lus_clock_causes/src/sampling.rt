@@ -1,7 +1,7 @@
 //! An expression that is on a faster clock than its place, and how it is sampled.
 
 use crate::placing::{Misplaced, bare};
-use lus_faults::{Edit, Finding, extent_of, slice_of, start_of};
+use lus_faults::{Edit, extent_of, slice_of, start_of};
 use lus_syntax::{Equation, Expr, Span};
 use std::alloc::{AllocError, Global};
 
@@ -65,7 +65,7 @@ fn sampling(
 }
 
 /// What is said of an expression that is remembered before it is sampled.
-fn note_on(
+pub fn note_on_memory(
     alloc: Global,
     source: &str,
     found: Misplaced<'_>,
@@ -84,23 +84,19 @@ fn note_on(
     )
 }
 
-/// Adds what is said of an expression that a test samples: where it is remembered, the memory is sampled, and not what it remembers.
-pub fn add_sampled(
+/// The change of a source that samples an expression by a test: where it is remembered, the memory is sampled, and not what it
+/// remembers; none where a `pre` has no first value.
+pub fn sampled(
     alloc: Global,
     source: &str,
     equation: &Equation,
     found: Misplaced<'_>,
     test: &str,
-    finding: &mut Finding,
-) -> Result<(), AllocError> {
-    let Some(memory) = found.memory else {
-        finding.note = Some(String::from_str(alloc, "Sample it with `when`.")?);
-        finding.edit = Some(sampling(alloc, source, equation, found.expr, test)?);
-        return Ok(());
+) -> Result<Option<Edit>, AllocError> {
+    let sampled = match found.memory {
+        None => found.expr,
+        Some(memory) if matches!(memory, Expr::Binary(_, _, _)) => memory,
+        Some(_) => return Ok(None),
     };
-    finding.note = Some(note_on(alloc, source, found, memory, test)?);
-    if matches!(memory, Expr::Binary(_, _, _)) {
-        finding.edit = Some(sampling(alloc, source, equation, memory, test)?);
-    }
-    Ok(())
+    Ok(Some(sampling(alloc, source, equation, sampled, test)?))
 }

@@ -168,15 +168,12 @@ pub(crate) fn keep_from(
     Ok(())
 }
 
-/// Keeps all declarations but one, those that name what it declares, and those that name what these declare.
+/// Keeps a declaration no more, nor those that name what it declares, nor those that name what these declare.
 pub(crate) fn cut_from(
     alloc: Global,
     pieces: &mut Pieces<'_>,
     place: usize,
 ) -> Result<(), AllocError> {
     let others = others_of(alloc, pieces, true)?;
-    for piece in &mut pieces.pieces {
-        piece.is_kept = true;
-    }
     change_from(alloc, pieces, place, &others, false)
 }

@@ -4,8 +4,7 @@ use crate::cutting::{Cut, blanked};
 use crate::naming::{cut_from, keep_from};
 use crate::pieces::{Piece, Pieces, pieces_of};
 use crate::window::window_round;
-use lus_faults::offset_of;
-use lus_syntax::{Refusal, RefusalNumber};
+use lus_syntax::RefusalNumber;
 use std::alloc::{AllocError, Global};
 
 /// The source without the declarations that aren't kept.
@@ -159,18 +158,37 @@ pub fn tried_part(
     }
 }
 
-/// The source without the declaration that a refusal is in, nor those that name what it declares, nor those that name what these
-/// declare: blanks stand in their places. Nothing where the refusal is in no declaration.
+/// The source without the declaration at a byte, nor those that name what it declares, nor those that name what these declare: blanks
+/// stand in their places. Where the byte is that of the word that opens the declaration, the one before it isn't closed, and goes too.
+/// Nothing where the byte is in no declaration.
 pub fn without_declaration(
     alloc: Global,
     source: &str,
-    refusal: &Refusal,
+    byte: usize,
 ) -> Result<Option<String>, AllocError> {
     let mut pieces = pieces_of(alloc, source)?;
-    let byte = offset_of(source, refusal.line, refusal.column);
     let Some(place) = pieces.place_at(byte) else {
         return Ok(None);
     };
+    for piece in &mut pieces.pieces {
+        piece.is_kept = true;
+    }
     cut_from(alloc, &mut pieces, place)?;
+    let is_opened = match pieces.pieces.get(place) {
+        Some(piece) => piece.start == byte,
+        None => false,
+    };
+    if is_opened && let Some(before) = place.checked_sub(1) {
+        cut_from(alloc, &mut pieces, before)?;
+    }
     kept(alloc, &pieces)
+}
+
+/// The place of the declaration at a byte among those of a source, if it is in one.
+pub fn place_of_declaration(
+    alloc: Global,
+    source: &str,
+    byte: usize,
+) -> Result<Option<usize>, AllocError> {
+    Ok(pieces_of(alloc, source)?.place_at(byte))
 }

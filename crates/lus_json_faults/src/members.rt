@@ -1,4 +1,4 @@
-//! The members of a fault's object behind its start: its end, the cycle, further places, the note, and the change.
+//! The members of a fault's object behind its start: its end, the cycle, further places, the note, the change, and the documents' section.
 
 use crate::line::quoted;
 use crate::ranges::{Range, range_from, range_of_bytes, range_of_span};
@@ -103,5 +103,7 @@ pub(crate) fn further_members(
     push_places(alloc, &mut text, source, finding)?;
     push_note(alloc, &mut text, finding.note.as_deref())?;
     push_edit(alloc, &mut text, source, finding.edit.as_ref())?;
+    let number = refusal.number.as_str();
+    write!(text, ",\"docs\":\"docs/ERRORS.md#{number}\"")?;
     Ok(text)
 }

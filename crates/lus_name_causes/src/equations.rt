@@ -79,6 +79,7 @@ pub fn wrong_left<'t>(
     let used = Use {
         name: left,
         purpose: Purpose::Left,
+        field: None,
     };
     unknown(alloc, tree, Some(node), used)
 }

@@ -17,8 +17,17 @@ pub struct Looking<'t> {
 impl<'t> Looking<'t> {
     /// Looks at a name.
     fn name(&mut self, name: &'t Name, purpose: Purpose) {
-        if self.sought.is_at(name.span.start) {
-            self.found = Some(Use { name, purpose });
+        self.name_before(name, purpose, None);
+    }
+
+    /// Looks at a name, behind which a field may be taken. Nothing is changed that was found before.
+    fn name_before(&mut self, name: &'t Name, purpose: Purpose, field: Option<&'t Name>) {
+        if self.found.is_none() && self.sought.is_at(name.span.start) {
+            self.found = Some(Use {
+                name,
+                purpose,
+                field,
+            });
         }
     }
 
@@ -72,6 +81,11 @@ impl<'t> Looking<'t> {
                 self.branches(parts);
             }
             Expr::When(_, test) => self.test(test),
+            Expr::Field(operand, field) => {
+                if let Expr::Name(name) = &**operand {
+                    self.name_before(name, Purpose::Value, Some(field));
+                }
+            }
             _ => {}
         }
     }

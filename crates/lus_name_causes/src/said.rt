@@ -5,7 +5,7 @@ use lus_syntax::{Name, Span};
 use std::alloc::{AllocError, Global};
 
 /// What is said of a name: a sentence, what is at a further place, and a note. A `{}` in them stands for the name, but in the note
-/// for the one that is meant, which then takes its place.
+/// for the one that is meant, which then takes the place of so many bytes from the name on.
 #[derive(Clone, Copy)]
 pub struct Said<'t> {
     pub name: &'t Name,
@@ -13,6 +13,7 @@ pub struct Said<'t> {
     pub beside: Option<(Span, &'static str)>,
     pub note: &'static str,
     pub meant: Option<&'t str>,
+    pub length: usize,
 }
 
 /// What is said of a name, with no further place.
@@ -23,6 +24,7 @@ pub fn told_of<'t>(name: &'t Name, sentence: &'static str, note: &'static str) -
         beside: None,
         note,
         meant: None,
+        length: name.span.length,
     }
 }
 
@@ -52,7 +54,7 @@ fn complete(
     if let Some(meant) = said.meant {
         finding.edit = Some(Edit {
             byte: said.name.span.start.byte,
-            length: said.name.span.length,
+            length: said.length,
             text: String::from_str(alloc, meant)?,
         });
     }
@@ -63,7 +65,7 @@ fn complete(
 pub fn finding_of(alloc: Global, said: &Said<'_>) -> Result<Finding, AllocError> {
     let text = said.name.text.as_str();
     let sentence = worded(alloc, said.sentence, text)?;
-    let mut finding = Finding::new(alloc, sentence, said.name.span.length);
+    let mut finding = Finding::new(alloc, sentence, said.length);
     complete(alloc, &mut finding, text, said)?;
     Ok(finding)
 }

@@ -2,7 +2,7 @@
 
 use crate::declared::candidates;
 use crate::said::{Said, told_of};
-use lus_faults::nearest;
+use lus_faults::{declared_type, nearest};
 use lus_syntax::{Name, Node, Tree};
 use std::alloc::{AllocError, Global};
 
@@ -31,11 +31,12 @@ impl Purpose {
     }
 }
 
-/// A name, and what it is used as.
+/// A name, what it is used as, and the field behind it, if one is taken.
 #[derive(Clone, Copy)]
 pub struct Use<'t> {
     pub name: &'t Name,
     pub purpose: Purpose,
+    pub field: Option<&'t Name>,
 }
 
 /// The type that is meant by what other languages call one, if there is one, and what is said of it.
@@ -82,14 +83,40 @@ fn note_on_node(text: &str) -> &'static str {
     }
 }
 
+/// What is said of a constructor's name, which in other languages may stand for all others.
+fn note_on_constructor(text: &str) -> &'static str {
+    match text {
+        "_" | "default" | "otherwise" | "others" =>
+            "A `merge` has no branch for all other constructors: write one for each.",
+        _ => "List it in an enumeration, as in `type state = enum { Off, On };`.",
+    }
+}
+
+/// What is said of a type's name before a constructor.
+fn qualifier<'t>(tree: &Tree, found: Use<'t>) -> Option<Said<'t>> {
+    let field = found.field?;
+    if declared_type(tree, found.name.text.as_str()).is_none() {
+        return None;
+    }
+    let start = found.name.span.start.byte;
+    Some(Said {
+        meant: Some(field.text.as_str()),
+        length: field.span.end().byte.saturating_sub(start),
+        ..told_of(
+            found.name,
+            "`{}` is a type and cannot stand in an expression",
+            "A constructor is written alone: `{}`.",
+        )
+    })
+}
+
 /// What is said of a name that is spelled nearly as no other.
 fn note_on(found: Use<'_>) -> &'static str {
     match found.purpose {
         Purpose::Value => "Declare it as an input, as a local with an equation, or as a constant.",
         Purpose::Variable =>
             "A clock is a variable. Declare a local of type `bool` for a constant or a condition.",
-        Purpose::Constructor =>
-            "List it in an enumeration, as in `type state = enum { Off, On };`.",
+        Purpose::Constructor => note_on_constructor(found.name.text.as_str()),
         Purpose::Type =>
             "Declare it, as in `type state = enum { Off, On };` or `type p = struct { x: int; y: bool };`.",
         Purpose::Node => note_on_node(found.name.text.as_str()),
@@ -114,6 +141,9 @@ pub fn unknown<'t>(
             meant,
             ..said
         }));
+    }
+    if let Some(said) = qualifier(tree, found) {
+        return Ok(Some(said));
     }
     let names = candidates(alloc, tree, node, found.purpose)?;
     let meant = nearest(alloc, text, &names)?;

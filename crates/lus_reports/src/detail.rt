@@ -5,7 +5,7 @@ ghost use Rattle.lus_reports.specs.Details.{shown_seen};
 ghost use Rattle.lus_reports.specs.Explanations.{IsShown};
 
 use crate::explanation::Explanation;
-use crate::further::{further_faults, push_faults};
+use crate::further::{further_faults, push_faults, push_sections};
 use crate::sentences::{fault_of, sentence_of};
 use crate::shown::{Shown, shown_of};
 use lus_causes::lus_faults::{Edit, Finding, edited, further_marks, offset_of, push_finding};
@@ -199,6 +199,7 @@ pub fn detail_of<'s>(
     push_finding(alloc, &mut more, name, source, &finding)?;
     let others = further_faults(alloc, bytes, &explanation.refusal)?;
     push_faults(alloc, &mut more, name, source, &others)?;
+    push_sections(&mut more, &explanation.refusal, &others)?;
     let shown = shown_of(bytes, explanation, finding.place);
     let marks = match shown.text {
         Some(line) => further_marks(alloc, line, shown.column, finding.length)?,

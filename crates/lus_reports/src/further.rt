@@ -4,7 +4,8 @@ ghost use Rattle.std.specs.Prelude.{◌≤◌, length};
 
 use crate::detail::source_finding;
 use crate::lines::line_at;
-use lus_causes::lus_faults::{Position, push_finding, push_marked};
+use crate::rest::{Fault, fault_of, rest_of_grammar, rest_of_meaning};
+use lus_causes::lus_faults::{Finding, Position, push_finding, push_marked};
 use lus_cli::lus_host::lus_machine::check;
 use lus_cli::lus_host::text_of;
 use lus_further::{Told, without_declaration};
@@ -16,26 +17,6 @@ const MOST_FURTHER: usize = 19;
 
 /// The most bytes that are checked again to find them.
 const MOST_BYTES_AGAIN: usize = 524288;
-
-/// Whether a pass refuses that looks at one declaration after the other, so that the others can still be checked.
-fn goes_on(number: RefusalNumber) -> bool {
-    match number {
-        RefusalNumber::Lexical => false,
-        RefusalNumber::Unsupported => false,
-        RefusalNumber::Syntax => false,
-        RefusalNumber::Limit => false,
-        RefusalNumber::Memory => false,
-        _ => true,
-    }
-}
-
-/// What is left of a source without the declaration that a refusal is in, where the others can still be checked.
-fn rest_of(alloc: Global, source: &str, refusal: &Refusal) -> Result<Option<String>, AllocError> {
-    if !goes_on(refusal.number) {
-        return Ok(None);
-    }
-    without_declaration(alloc, source, refusal)
-}
 
 /// The refusal of a source, if it is refused.
 fn refusal_of(alloc: Global, source: &str) -> Result<Option<Refusal>, Refusal> {
@@ -60,29 +41,139 @@ fn place_among(told: &[Told], refusal: &Refusal) -> usize
     told.len()
 }
 
-/// The faults behind the first one of a source, each in a declaration that is none of those before, and that names none of them
-/// directly or by others.
-fn faults_behind(alloc: Global, source: &str, first: &Refusal) -> Result<Vec<Told>, Refusal> {
-    let mut told = Vec::new(alloc);
-    let mut rest = rest_of(alloc, source, first)?;
-    for _turn in 0..MOST_FURTHER {
-        let Some(left) = &rest else {
-            return Ok(told);
-        };
-        let Some(refusal) = refusal_of(alloc, left)? else {
-            return Ok(told);
-        };
-        let later = rest_of(alloc, left, &refusal)?;
-        let finding = source_finding(alloc, left, &refusal)?;
-        let place = place_among(&told, &refusal);
-        told.insert(place, Told { refusal, finding })?;
-        rest = later;
-    }
-    Ok(told)
+/// Faults of a source: all that were found, and those that are told.
+#[derive(Drop)]
+struct Search<'s> {
+    source: &'s str,
+    found: Vec<Fault>,
+    told: Vec<Told>,
 }
 
-/// The faults of a program's bytes behind the first one, in the order of their places: at most one a declaration, none that follows
-/// from another, and at most 19. They are looked for as long as no more than half a MiB is checked again.
+impl Search<'_> {
+    /// Whether a fault was found before, so that it still is where it was taken out.
+    fn has(&self, fault: Fault) -> bool {
+        self.found.iter().any(|other| other.byte == fault.byte && other.number == fault.number)
+    }
+
+    /// Whether a fault of grammar stands behind one of meaning, as none does in a source: all of it was read before.
+    fn is_unread(&self, fault: Fault) -> bool {
+        fault.is_of_grammar() && self.found.iter().any(|other| !other.is_of_grammar())
+    }
+
+    /// Whether a fault may follow from one of grammar that was found before.
+    fn is_spoiled(&self, fault: Fault) -> bool {
+        self.found.iter().any(|other| fault.follows(*other))
+    }
+
+    /// Whether a fault is of a name that was found at fault in the same declaration.
+    fn repeats(&self, fault: Fault) -> bool {
+        self.found
+            .iter()
+            .any(|other| fault.is_of_same_name(self.source, *other))
+    }
+
+    /// Tells a fault in the order of places. Answers the byte that it comes from: of a value that may be nil, the last place on the way.
+    fn tell(
+        &mut self,
+        alloc: Global,
+        left: &str,
+        refusal: Refusal,
+        fault: Fault,
+    ) -> Result<usize, AllocError> {
+        let finding = source_finding(alloc, left, &refusal)?;
+        let origin = origin_of(&finding, fault);
+        let place = place_among(&self.told, &refusal);
+        self.told.insert(place, Told { refusal, finding })?;
+        Ok(origin)
+    }
+
+    /// Tells the refusal of what is left of the source, unless it follows from one before, and gives what is left without it.
+    fn pass(
+        &mut self,
+        alloc: Global,
+        left: &str,
+        refusal: Refusal,
+    ) -> Result<Option<String>, AllocError> {
+        let fault = fault_of(alloc, self.source, &refusal)?;
+        if self.has(fault) || fault.is_last() || self.is_unread(fault) {
+            return Ok(None);
+        }
+        let is_spoiled = self.is_spoiled(fault);
+        let rest = rest_of_grammar(alloc, left, fault)?;
+        let is_told = if is_spoiled {
+            rest.is_some()
+        } else {
+            !self.repeats(fault)
+        };
+        let mut origin = fault.byte;
+        if is_told {
+            origin = self.tell(alloc, left, refusal, fault)?;
+        }
+        self.found.push(fault)?;
+        if rest.is_some() {
+            return Ok(rest);
+        }
+        if is_spoiled || fault.is_of_grammar() {
+            return without_declaration(alloc, left, fault.byte);
+        }
+        rest_of_meaning(alloc, left, fault, origin)
+    }
+
+    /// What is left of the source without its first fault.
+    fn begin(&mut self, alloc: Global, first: &Refusal) -> Result<Option<String>, AllocError> {
+        let source = self.source;
+        let fault = fault_of(alloc, source, first)?;
+        self.found.push(fault)?;
+        if fault.is_last() {
+            return Ok(None);
+        }
+        if fault.is_of_grammar() {
+            let rest = rest_of_grammar(alloc, source, fault)?;
+            return if rest.is_some() {
+                Ok(rest)
+            } else {
+                without_declaration(alloc, source, fault.byte)
+            };
+        }
+        let origin = match fault.number {
+            RefusalNumber::Nil => origin_of(&source_finding(alloc, source, first)?, fault),
+            _ => fault.byte,
+        };
+        rest_of_meaning(alloc, source, fault, origin)
+    }
+}
+
+/// The byte that a fault comes from: of a value that may be nil, the last place on the way to what has no value.
+fn origin_of(finding: &Finding, fault: Fault) -> usize {
+    match finding.related.last() {
+        Some(related) if fault.number == RefusalNumber::Nil => related.span.start.byte,
+        _ => fault.byte,
+    }
+}
+
+/// The faults behind the first one of a source, each in an equation or a declaration of its own.
+fn faults_behind(alloc: Global, source: &str, first: &Refusal) -> Result<Vec<Told>, Refusal> {
+    let mut search = Search {
+        source,
+        found: Vec::new(alloc),
+        told: Vec::new(alloc),
+    };
+    let mut rest = search.begin(alloc, first)?;
+    for _turn in 0..MOST_FURTHER {
+        let Some(left) = &rest else {
+            return Ok(search.told);
+        };
+        let Some(refusal) = refusal_of(alloc, left)? else {
+            return Ok(search.told);
+        };
+        let later = search.pass(alloc, left, refusal)?;
+        rest = later;
+    }
+    Ok(search.told)
+}
+
+/// The faults of a program's bytes behind the first one, in the order of their places: at most one an equation, one of
+/// the same name a node, and 19 together. They are looked for as long as no more than half a MiB is checked again.
 pub fn further_faults(alloc: Global, bytes: &[u8], first: &Refusal) -> Result<Vec<Told>, Refusal> {
     match text_of(bytes) {
         Ok(source) if source.len() <= MOST_BYTES_AGAIN => faults_behind(alloc, source, first),
@@ -114,6 +205,27 @@ fn push_fault(
         write!(text, "{cycle}\n")?;
     }
     push_finding(alloc, text, name, source, &told.finding)
+}
+
+/// Appends which sections of the documents say more of the first fault and of others: each once, in the order of the faults.
+pub(crate) fn push_sections(
+    text: &mut String,
+    first: &Refusal,
+    others: &[Told],
+) -> Result<(), AllocError> {
+    let number = first.number.as_str();
+    write!(text, "\nSee docs/ERRORS.md#{number}")?;
+    for (place, told) in others.iter().enumerate() {
+        let number = told.refusal.number;
+        let before = others.get(..place).unwrap_or(&[]);
+        let is_new = number != first.number
+            && before.iter().all(|other| other.refusal.number != number);
+        if is_new {
+            let number = number.as_str();
+            write!(text, ", #{number}")?;
+        }
+    }
+    text.push_str(".\n")
 }
 
 /// Appends faults, each behind an empty line.

@@ -13,6 +13,7 @@ mod lines;
 mod nodes;
 mod outlining;
 mod reporting;
+mod rest;
 mod scripts;
 mod sentences;
 mod shown;

@@ -1,12 +1,13 @@
 //! Expressions, and calls with their arguments.
 
-use crate::clash::told_at;
+use crate::clash::{Clash, told_at};
 use crate::given::Given;
 use crate::kinds::{Kind, count_of};
-use crate::merges::{check_merge, check_test};
+use crate::merges::{Merge, check_merge, check_test};
 use crate::operators::{check_alike, check_binary, check_operand, check_unary, check_variadic};
 use crate::phrase::{Phrase, Word};
 use crate::structures::{check_field, check_structure};
+use lus_faults::extent_of;
 use lus_syntax::{Expr, Name, Node, Part};
 
 /// Tells where the types in an expression disagree: in its parts from left to right, then its own.
@@ -70,7 +71,15 @@ fn check_list<'t>(given: Given<'_, 't>, expr: &'t Expr) {
     match expr {
         Expr::Call(name, parts) => check_call(given, name, parts),
         Expr::Structure(name, parts) => check_structure(given, name, parts),
-        Expr::Merge(span, variable, parts) => check_merge(given, *span, variable, parts),
+        Expr::Merge(span, variable, parts) => {
+            let end = extent_of(given.source, expr).end().byte;
+            let merge = Merge {
+                span: *span,
+                end,
+                parts,
+            };
+            check_merge(given, merge, variable);
+        }
         Expr::Variadic(op, span, parts) => check_variadic(given, *op, *span, parts),
         _ => {}
     }
@@ -98,6 +107,61 @@ fn check_argument<'t>(
     }
 }
 
+/// The first input that has no argument, with its place: one whose argument has another type, else the one behind those that have
+/// arguments; nothing where there are enough.
+fn lacking<'t>(
+    given: Given<'_, 't>,
+    node: &'t Node,
+    parts: &[Part],
+) -> Option<(usize, (&'t Name, Kind))> {
+    let behind = given.scope.variable_at(&node.inputs, parts.len())?;
+    for (place, part) in parts.iter().enumerate() {
+        let input = given.scope.variable_at(&node.inputs, place)?;
+        if input.1.differs(given.kind(&part.value)) {
+            return Some((place, input));
+        }
+    }
+    Some((parts.len(), behind))
+}
+
+/// What is said of a call with another count of arguments than inputs.
+fn miscounted<'t>(
+    given: Given<'_, 't>,
+    name: &'t Name,
+    node: &'t Node,
+    parts: &'t [Part],
+) -> Clash<'t> {
+    let wanted = count_of(&node.inputs);
+    let called = Phrase {
+        second: Word::Number(wanted),
+        third: Word::Number(parts.len()),
+        ..Phrase::of("`{}` takes {} arguments, found {}", name.text.as_str())
+    };
+    let Some((place, (input, kind))) = lacking(given, node, parts) else {
+        let text = "`{}` takes {} argument, found {}";
+        let sentence = if wanted == 1 {
+            Phrase { text, ..called }
+        } else {
+            called
+        };
+        return told_at(name.span, sentence).declared(&node.name);
+    };
+    let sentence = Phrase {
+        text: "`{}` takes {} arguments, found {}: missing `{}: {}`",
+        fourth: Word::Text(input.text.as_str()),
+        fifth: Word::Text(given.name(kind)),
+        ..called
+    };
+    let note = Phrase {
+        first: Word::Number(place.saturating_add(1)),
+        ..Phrase::of(
+            "Arguments are in the order of the inputs: this one is number {}.",
+            "",
+        )
+    };
+    told_at(name.span, sentence).declared(input).noted(note)
+}
+
 /// Tells where the arguments of a call don't fit.
 pub fn check_arguments<'t>(
     given: Given<'_, 't>,
@@ -105,19 +169,8 @@ pub fn check_arguments<'t>(
     node: &'t Node,
     parts: &'t [Part],
 ) {
-    let wanted = count_of(&node.inputs);
-    if wanted != parts.len() {
-        let text = if wanted == 1 {
-            "`{}` takes {} argument, found {}"
-        } else {
-            "`{}` takes {} arguments, found {}"
-        };
-        let sentence = Phrase {
-            second: Word::Number(wanted),
-            third: Word::Number(parts.len()),
-            ..Phrase::of(text, name.text.as_str())
-        };
-        given.tell(told_at(name.span, sentence).declared(&node.name));
+    if count_of(&node.inputs) != parts.len() {
+        given.tell(miscounted(given, name, node, parts));
     }
     for (place, part) in parts.iter().enumerate() {
         if let Some(input) = given.scope.variable_at(&node.inputs, place) {

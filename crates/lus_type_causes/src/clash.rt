@@ -2,15 +2,15 @@
 
 use crate::given::Given;
 use crate::phrase::{Phrase, push_phrase, text_of};
-use lus_faults::{Edit, Finding, Sought, extent_of, nearest};
-use lus_syntax::{Expr, Fields, Name, Span};
+use crate::repair::{Repair, edit_of};
+use lus_faults::{Finding, Sought, extent_of};
+use lus_syntax::{Expr, Name, Span};
 use std::alloc::{AllocError, Global};
 
 /// A further place, and what is there.
 type Beside<'t> = Option<(Span, Phrase<'t>)>;
 
-/// A fault of types: a sentence on its place, up to two further places, a note, and the name in whose place the nearest of some
-/// fields is written.
+/// A fault of types: a sentence on its place, up to two further places, a note, and a change of the text.
 #[derive(Clone, Copy)]
 pub struct Clash<'t> {
     span: Span,
@@ -18,7 +18,7 @@ pub struct Clash<'t> {
     first: Beside<'t>,
     second: Beside<'t>,
     note: Option<Phrase<'t>>,
-    meant: Option<(&'t Name, &'t [Fields])>,
+    repair: Option<Repair<'t>>,
 }
 
 /// A fault at a place.
@@ -29,7 +29,7 @@ pub fn told_at<'t>(span: Span, sentence: Phrase<'t>) -> Clash<'t> {
         first: None,
         second: None,
         note: None,
-        meant: None,
+        repair: None,
     }
 }
 
@@ -75,10 +75,10 @@ impl<'t> Clash<'t> {
         }
     }
 
-    /// The fault with the nearest of some fields in the place of a name.
-    pub fn meaning(self, name: &'t Name, groups: &'t [Fields]) -> Clash<'t> {
+    /// The fault with a change of the text.
+    pub fn mended(self, repair: Repair<'t>) -> Clash<'t> {
         Clash {
-            meant: Some((name, groups)),
+            repair: Some(repair),
             ..self
         }
     }
@@ -92,30 +92,6 @@ fn relate(alloc: Global, finding: &mut Finding, beside: Beside<'_>) -> Result<()
     }
 }
 
-/// The names of fields.
-fn names_of(alloc: Global, groups: &[Fields]) -> Result<Vec<&str>, AllocError> {
-    let mut names = Vec::new(alloc);
-    for group in groups {
-        for field in &group.names {
-            names.push(field.text.as_str())?;
-        }
-    }
-    Ok(names)
-}
-
-/// The nearest of some fields in the place of a name.
-fn edit_of(alloc: Global, name: &Name, groups: &[Fields]) -> Result<Option<Edit>, AllocError> {
-    let names = names_of(alloc, groups)?;
-    match nearest(alloc, name.text.as_str(), &names)? {
-        Some(meant) => Ok(Some(Edit {
-            byte: name.span.start.byte,
-            length: name.span.length,
-            text: String::from_str(alloc, meant)?,
-        })),
-        None => Ok(None),
-    }
-}
-
 /// Adds what is said of a fault.
 fn complete(alloc: Global, finding: &mut Finding, clash: &Clash<'_>) -> Result<(), AllocError> {
     push_phrase(&mut finding.sentence, &clash.sentence)?;
@@ -124,8 +100,8 @@ fn complete(alloc: Global, finding: &mut Finding, clash: &Clash<'_>) -> Result<(
     if let Some(note) = clash.note {
         finding.note = Some(text_of(alloc, &note)?);
     }
-    if let Some((name, groups)) = clash.meant {
-        finding.edit = edit_of(alloc, name, groups)?;
+    if let Some(repair) = clash.repair {
+        finding.edit = edit_of(alloc, repair)?;
     }
     Ok(())
 }

@@ -45,6 +45,15 @@ impl Kind {
         }
     }
 
+    /// A value of the type: `false`, `0` or the first constructor; none of a structure.
+    pub fn value(self, tree: &Tree) -> Option<&str> {
+        match self {
+            Kind::Bool => Some("false"),
+            Kind::Int => Some("0"),
+            _ => Some(self.constructors(tree).first()?.text.as_str()),
+        }
+    }
+
     /// Whether this is a type of clocks that has a label.
     pub fn has_label(self, tree: &Tree, text: &str) -> bool {
         if self == Kind::Bool {

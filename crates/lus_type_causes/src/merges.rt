@@ -4,8 +4,17 @@ use crate::clash::{Clash, told_at};
 use crate::given::Given;
 use crate::kinds::Kind;
 use crate::phrase::{Phrase, Word};
+use crate::repair::{Lacking, Repair};
 use lus_faults::label_span;
 use lus_syntax::{Label, Lead, Name, Part, Span, Test};
+
+/// A `merge`: where its word stands, the byte behind it, and its branches.
+#[derive(Clone, Copy)]
+pub struct Merge<'t> {
+    pub span: Span,
+    pub end: usize,
+    pub parts: &'t [Part],
+}
 
 /// The text of a label.
 fn label_text(label: &Label) -> &str {
@@ -47,42 +56,67 @@ fn check_labels<'t>(given: Given<'_, 't>, variable: &'t Name, kind: Kind, parts:
     }
 }
 
-/// A label that no branch has, or several have.
-fn miscounted<'t>(span: Span, label: &'t str, count: usize) -> Clash<'t> {
-    let sentence = if count == 0 {
-        Phrase::of("missing branch for `{}`", label)
-    } else {
-        Phrase {
-            first: Word::Number(count),
-            ..Phrase::new("{} branches have the label `{}`", "", label, "")
-        }
+/// A label that several branches have.
+fn repeated<'t>(merge: Merge<'t>, label: &'t str, count: usize) -> Clash<'t> {
+    let sentence = Phrase {
+        first: Word::Number(count),
+        ..Phrase::new("{} branches have the label `{}`", "", label, "")
     };
-    let note =
-        "A `merge` has one branch for each constructor, or for `true` and `false`, in any order.";
-    told_at(span, sentence).noted(Phrase::of(note, ""))
+    told_at(merge.span, sentence)
 }
 
-/// Tells where a label has no branch, or several.
-fn check_count<'t>(given: Given<'_, 't>, span: Span, parts: &'t [Part], label: &'t str) {
-    let count = times(parts, label);
-    if count != 1 {
-        given.tell(miscounted(span, label, count));
+/// A label that no branch has: of what type the branch is, and a value of it in each branch that is missing.
+fn missing<'t>(given: Given<'_, 't>, merge: Merge<'t>, of: Kind, label: &'t str) -> Clash<'t> {
+    let kind = match merge.parts.first() {
+        Some(part) => given.kind(&part.value),
+        None => Kind::Unknown,
+    };
+    let sentence = match kind {
+        Kind::Unknown => Phrase::of("missing branch `{}`", label),
+        _ => Phrase::new(
+            "missing branch `{}` of type `{}`",
+            label,
+            given.name(kind),
+            "",
+        ),
+    };
+    let told = told_at(merge.span, sentence);
+    match kind.value(given.scope.tree) {
+        Some(value) => told.mended(Repair::Branches(Lacking {
+            end: merge.end,
+            parts: merge.parts,
+            constructors: of.constructors(given.scope.tree),
+            value,
+        })),
+        None => told,
     }
 }
 
+/// Tells where a label of the merged variable's type has no branch, or several.
+fn check_count<'t>(given: Given<'_, 't>, merge: Merge<'t>, of: Kind, label: &'t str) {
+    let note =
+        "A `merge` has one branch for each constructor, or for `true` and `false`, in any order.";
+    let told = match times(merge.parts, label) {
+        0 => missing(given, merge, of, label),
+        1 => return,
+        count => repeated(merge, label, count),
+    };
+    given.tell(told.noted(Phrase::of(note, "")));
+}
+
 /// Tells where branches have two types.
-fn check_types<'t>(given: Given<'_, 't>, span: Span, parts: &'t [Part]) {
-    let Some(first) = parts.first() else {
+fn check_types<'t>(given: Given<'_, 't>, merge: Merge<'t>) {
+    let Some(first) = merge.parts.first() else {
         return;
     };
     let kind = given.kind(&first.value);
-    for part in parts {
+    for part in merge.parts {
         let other = given.kind(&part.value);
         if kind.differs(other) {
             let sentence = "the branches of the `merge` have different types, `{}` and `{}`";
             let told = Phrase::new(sentence, given.name(kind), given.name(other), "");
             given.tell(
-                told_at(span, told)
+                told_at(merge.span, told)
                     .typed(given, &first.value)
                     .typed(given, &part.value),
             );
@@ -91,19 +125,19 @@ fn check_types<'t>(given: Given<'_, 't>, span: Span, parts: &'t [Part]) {
 }
 
 /// Tells where a merge over a variable doesn't have the branches of its type, or has them of two types.
-pub fn check_merge<'t>(given: Given<'_, 't>, span: Span, variable: &'t Name, parts: &'t [Part]) {
+pub fn check_merge<'t>(given: Given<'_, 't>, merge: Merge<'t>, variable: &'t Name) {
     let kind = given.scope.of_variable(variable);
     if kind == Kind::Unknown {
         return;
     }
-    check_labels(given, variable, kind, parts);
+    check_labels(given, variable, kind, merge.parts);
     let constructors = kind.constructors(given.scope.tree);
     for constructor in constructors {
-        check_count(given, span, parts, constructor.text.as_str());
+        check_count(given, merge, kind, constructor.text.as_str());
     }
     if kind == Kind::Bool {
-        check_count(given, span, parts, "true");
-        check_count(given, span, parts, "false");
+        check_count(given, merge, kind, "true");
+        check_count(given, merge, kind, "false");
     } else if constructors.is_empty() {
         let sentence = "`merge` takes a `bool` or an enumeration, but `{}` has type `{}`";
         let text = variable.text.as_str();
@@ -112,7 +146,7 @@ pub fn check_merge<'t>(given: Given<'_, 't>, span: Span, variable: &'t Name, par
             Phrase::new(sentence, text, given.name(kind), ""),
         ));
     }
-    check_types(given, span, parts);
+    check_types(given, merge);
 }
 
 /// A test that doesn't fit its variable.

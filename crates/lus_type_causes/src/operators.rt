@@ -32,12 +32,17 @@ pub fn infix_form(op: Infix) -> (&'static str, Option<Kind>, Option<Kind>) {
     }
 }
 
-/// What is said where a number stands for a condition, or a condition for a number.
-fn advice(wanted: Kind, kind: Kind) -> &'static str {
+/// How what an operator wants is made of an operand of another type.
+fn advice(given: Given<'_, '_>, wanted: Kind, kind: Kind) -> &'static str {
+    let is_enumeration = !kind.constructors(given.scope.tree).is_empty();
     match (wanted, kind) {
         (Kind::Bool, Kind::Int) => "A number is not a condition. Compare it, as in `x <> 0`.",
         (Kind::Int, Kind::Bool) => "To get a number from a `bool`, write `if c then 1 else 0`.",
-        _ => "",
+        (Kind::Bool, _) if is_enumeration =>
+            "A constructor is not a condition. Compare with it, as in `x = On`.",
+        _ if is_enumeration =>
+            "Constructors are not numbers, and have no order. Compare them with `=` or `<>`.",
+        _ => "A structure is not an operand. Use its fields, as in `p.x`.",
     }
 }
 
@@ -56,7 +61,7 @@ pub fn check_operand<'t>(
         given.tell(
             told_at(main, told)
                 .typed(given, operand)
-                .noted(Phrase::of(advice(wanted, kind), "")),
+                .noted(Phrase::of(advice(given, wanted, kind), "")),
         );
     }
 }

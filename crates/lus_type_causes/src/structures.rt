@@ -5,6 +5,7 @@ use crate::given::Given;
 use crate::kinds::Kind;
 use crate::merges::times;
 use crate::phrase::{Phrase, Word};
+use crate::repair::Repair;
 use crate::scope::Scope;
 use lus_syntax::{Definition, Expr, Fields, Lead, Name, Part, Span, Tree};
 
@@ -42,7 +43,13 @@ fn check_name<'t>(given: Given<'_, 't>, main: Span, kind: Kind, name: &'t Name) 
     let text = name.text.as_str();
     let Some((owner, groups)) = structure_of(given.scope.tree, kind) else {
         let sentence = "a value of type `{}` has no fields";
-        given.tell(told_at(main, Phrase::of(sentence, given.name(kind))));
+        let told = told_at(main, Phrase::of(sentence, given.name(kind)));
+        let note = "A constructor is written alone: `{}`. To test for it, compare, as in `x = {}`.";
+        given.tell(if kind.constructors(given.scope.tree).is_empty() {
+            told
+        } else {
+            told.noted(Phrase::new(note, text, text, ""))
+        });
         return;
     };
     if field_of(given.scope, kind, text).is_none() {
@@ -50,7 +57,7 @@ fn check_name<'t>(given: Given<'_, 't>, main: Span, kind: Kind, name: &'t Name) 
         given.tell(
             told_at(name.span, sentence)
                 .declared(owner)
-                .meaning(name, groups),
+                .mended(Repair::Field(name, groups)),
         );
     }
 }

@@ -1,0 +1,57 @@
+//! Which file a tool for people couldn't open.
+
+use lus_devices::{Sink, write_all};
+use std::fs;
+use std::io::ErrorKind;
+use std::rt::Files;
+
+/// Whether there is no file of a name, or it can't be opened. Only plain files are opened: opening a pipe could wait for its other end.
+fn is_unopened<R: Files>(rt: &R, name: &str) -> bool {
+    match fs::metadata(rt, name) {
+        Ok(metadata) => metadata.is_file() && fs::open(rt, name).is_err(),
+        Err(error) => error.kind() != ErrorKind::OutOfMemory,
+    }
+}
+
+/// The last of the files that the words name which can't be opened. No flag names a file, nor does `-`, nor the name of a node, which
+/// stands behind `--script` or is the second word of `lus_live` that is no flag.
+fn unopened<'w, R: Files>(rt: &R, tool: &str, words: &'w [String]) -> Option<&'w str> {
+    let mut found = None;
+    let mut count = 0usize;
+    let mut is_of_script = false;
+    for word in words {
+        let name = word.as_str();
+        let is_node = is_of_script || tool == "lus_live" && count == 1;
+        if !name.starts_with("-") {
+            count = count.saturating_add(1);
+            if !is_node && is_unopened(rt, name) {
+                found = Some(name);
+            }
+        }
+        is_of_script = name == "--script";
+    }
+    found
+}
+
+/// Whether a tool's own line of a fault doesn't say which file can't be opened, and more may be said: `lus` has its specified line alone,
+/// and `lus_format` names the file itself.
+fn is_silent(tool: &str) -> bool {
+    matches!(tool, "lus_explain" | "lus_draw" | "lus_audit" | "lus_live")
+}
+
+/// Says which file a tool for people couldn't open, behind the line of its fault.
+pub fn name_unopened<R: Files, F: Sink>(rt: &R, tool: &str, words: &[String], faults: &mut F) {
+    if !is_silent(tool) {
+        return;
+    }
+    if let Some(name) = unopened(rt, tool, words) {
+        for text in [
+            tool,
+            ": there is no file `",
+            name,
+            "`, or it can't be opened\n",
+        ] {
+            let _ = write_all(faults, text.as_bytes());
+        }
+    }
+}

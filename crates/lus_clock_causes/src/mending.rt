@@ -1,0 +1,109 @@
+//! Changes that bring the expressions of an equation to the clocks of their places, all at once.
+
+ghost use Rattle.std.specs.Prelude.{◌≤◌, length};
+
+use crate::clock::Clocks;
+use crate::completing::completed;
+use crate::placing::Misplaced;
+use crate::sampling::sampled;
+use lus_faults::{Edit, bytes_at};
+use lus_syntax::Equation;
+use std::alloc::{AllocError, Global};
+
+/// The most changes that are put together.
+const MOST_CHANGES: usize = 100;
+
+/// An equation of a source, and the clocks of its node.
+#[derive(Clone, Copy)]
+pub struct Context<'t> {
+    pub source: &'t str,
+    pub clocks: Clocks<'t>,
+    pub equation: &'t Equation,
+}
+
+/// The change that brings an expression to the clock of its place, where one test leads between the two.
+fn change_of(
+    alloc: Global,
+    on: Context<'_>,
+    found: Misplaced<'_>,
+) -> Result<Option<Edit>, AllocError> {
+    if let Some(tick) = on.clocks.leading(found.has, found.wanted) {
+        let test = tick.test(alloc)?;
+        return sampled(alloc, on.source, on.equation, found, &test);
+    }
+    match on.clocks.leading(found.wanted, found.has) {
+        Some(tick) => completed(alloc, on.source, on.clocks, on.equation, found, tick),
+        None => Ok(None),
+    }
+}
+
+/// The byte behind what a change replaces.
+fn end_of(edit: &Edit) -> usize {
+    edit.byte.saturating_add(edit.length)
+}
+
+/// Where a change belongs among others, in the order of their places.
+fn place_among(edits: &[Edit], edit: &Edit) -> usize
+    ensures { result ≤ length edits.now }
+{
+    for (place, other) in edits.iter().enumerate() {
+        if other.byte > edit.byte {
+            return place;
+        }
+    }
+    edits.len()
+}
+
+/// Puts a change among others, unless it is of the same bytes as one of them.
+fn insert(edits: &mut Vec<Edit>, edit: Edit) -> Result<(), AllocError> {
+    for other in edits.iter() {
+        if other.byte < end_of(&edit) && edit.byte < end_of(other) {
+            return Ok(());
+        }
+    }
+    let place = place_among(edits, &edit);
+    edits.insert(place, edit)?;
+    Ok(())
+}
+
+/// Changes in the order of their places, as one.
+fn joined(alloc: Global, source: &str, edits: &[Edit]) -> Result<Option<Edit>, AllocError> {
+    let Some(first) = edits.first() else {
+        return Ok(None);
+    };
+    let mut text = String::new(alloc);
+    let mut end = first.byte;
+    for edit in edits {
+        text.push_str(bytes_at(source, end, edit.byte).unwrap_or(""))?;
+        text.push_str(edit.text.as_str())?;
+        end = end_of(edit);
+    }
+    Ok(Some(Edit {
+        byte: first.byte,
+        length: end.saturating_sub(first.byte),
+        text,
+    }))
+}
+
+/// The change that brings an expression to the clock of its place, and the others of its equation to theirs; none where no change
+/// brings the expression there.
+pub fn mended(
+    alloc: Global,
+    on: Context<'_>,
+    found: Misplaced<'_>,
+    all: &[Misplaced<'_>],
+) -> Result<Option<Edit>, AllocError> {
+    let Some(first) = change_of(alloc, on, found)? else {
+        return Ok(None);
+    };
+    let mut edits = Vec::new(alloc);
+    edits.push(first)?;
+    for other in all {
+        if edits.len() < MOST_CHANGES
+            && let Some(edit) = change_of(alloc, on, *other)?
+        {
+            insert(&mut edits, edit)?;
+        }
+    }
+    joined(alloc, on.source, &edits)
+}

@@ -1,0 +1,83 @@
+//! Changes of the text that mend a fault of types.
+
+use crate::merges::times;
+use lus_faults::{Edit, nearest};
+use lus_syntax::{Fields, Name, Part};
+use std::alloc::{AllocError, Global};
+
+/// A change of the text.
+#[derive(Clone, Copy)]
+pub enum Repair<'t> {
+    /// The nearest of some fields in the place of a name.
+    Field(&'t Name, &'t [Fields]),
+    /// The branches that a `merge` lacks, at its end.
+    Branches(Lacking<'t>),
+}
+
+/// The branches of a `merge`, which ends before a byte; the constructors of its variable, none of a `bool`; and the value of the
+/// branches that are missing.
+#[derive(Clone, Copy)]
+pub struct Lacking<'t> {
+    pub end: usize,
+    pub parts: &'t [Part],
+    pub constructors: &'t [Name],
+    pub value: &'t str,
+}
+
+/// The names of fields.
+fn names_of(alloc: Global, groups: &[Fields]) -> Result<Vec<&str>, AllocError> {
+    let mut names = Vec::new(alloc);
+    for group in groups {
+        for field in &group.names {
+            names.push(field.text.as_str())?;
+        }
+    }
+    Ok(names)
+}
+
+/// The nearest of some fields in the place of a name.
+fn field_edit(alloc: Global, name: &Name, groups: &[Fields]) -> Result<Option<Edit>, AllocError> {
+    let names = names_of(alloc, groups)?;
+    match nearest(alloc, name.text.as_str(), &names)? {
+        Some(meant) => Ok(Some(Edit {
+            byte: name.span.start.byte,
+            length: name.span.length,
+            text: String::from_str(alloc, meant)?,
+        })),
+        None => Ok(None),
+    }
+}
+
+/// Appends the branch of a label, if there is none.
+fn push_branch(text: &mut String, lacking: Lacking<'_>, label: &str) -> Result<(), AllocError> {
+    let value = lacking.value;
+    if times(lacking.parts, label) == 0 {
+        write!(text, " ({label} -> {value})")?;
+    }
+    Ok(())
+}
+
+/// A branch for each label that has none.
+fn branches_edit(alloc: Global, lacking: Lacking<'_>) -> Result<Edit, AllocError> {
+    let mut text = String::new(alloc);
+    for constructor in lacking.constructors {
+        push_branch(&mut text, lacking, constructor.text.as_str())?;
+    }
+    if lacking.constructors.is_empty() {
+        push_branch(&mut text, lacking, "true")?;
+        push_branch(&mut text, lacking, "false")?;
+    }
+    Ok(Edit {
+        byte: lacking.end,
+        length: 0,
+        text,
+    })
+}
+
+/// The change of the text, if there is one.
+pub fn edit_of(alloc: Global, repair: Repair<'_>) -> Result<Option<Edit>, AllocError> {
+    match repair {
+        Repair::Field(name, groups) => field_edit(alloc, name, groups),
+        Repair::Branches(lacking) => Ok(Some(branches_edit(alloc, lacking)?)),
+    }
+}
