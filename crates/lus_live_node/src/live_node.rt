@@ -97,12 +97,15 @@ impl LiveNode {
         let Ok((verdict, reactor)) = self.try_line(alloc, line) else {
             return Err(CallError::Memory);
         };
-        if verdict == Verdict::Right {
-            self.reactor = reactor;
-            self.entries += 1;
-            self.last = None;
+        match verdict {
+            Verdict::Right => {
+                self.reactor = reactor;
+                self.entries += 1;
+                self.last = None;
+                Ok(Verdict::Right)
+            }
+            Verdict::Wrong | Verdict::NoEntry => Ok(verdict),
         }
-        Ok(verdict)
     }
 
     // The line is tried on a copy, so that a call whose reply is another one changes nothing.
