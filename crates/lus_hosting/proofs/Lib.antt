@@ -1,0 +1,4 @@
+pub mod HostLaws
+pub mod TurnLaws
+pub mod AnswerLaws
+pub mod AuditLaws
