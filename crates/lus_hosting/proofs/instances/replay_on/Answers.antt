@@ -10,4 +10,4 @@ use Rattle.lus_hosting.proofs.HostLaws.{replayed_so}
 use Rattle.lus_hosting.proofs.instances.replay_on.Goals as goal
 
 pub returns-in-Some : goal.returns-in-Some
-returns-in-Some c = ?
+returns-in-Some c = ?  -- replayed_so
