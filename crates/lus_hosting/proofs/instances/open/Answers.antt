@@ -12,9 +12,6 @@ absent : {X : Type 0} (o : Option X) → is_some o ≡ false → o ≡ None
 absent None none = refl
 absent (Some x) none = absurd (true≢false none)
 
-pub returns-then-contains_key : goal.returns-then-contains_key
-returns-then-contains_key c = λ log keeps. keeps
-
 pub returns : goal.returns
 returns c = λ log keeps.
     (let key_is = IfOk-at_ok (λ s. string_bytes s ≡ c.args.name.now) c.in_ok-key.was c.from_str.ensures.ok in

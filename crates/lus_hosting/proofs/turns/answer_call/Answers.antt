@@ -8,10 +8,6 @@ use Rattle.lus_live_instance.specs.MachineSpecs.Constructors.{names_of}
 use Rattle.lus_hosting.proofs.AnswerLaws.{answered_call, answered_denied, no_call_line}
 use Rattle.lus_hosting.proofs.turns.answer_call.Goals as goal
 
-pub returns-in-Some : goal.returns-in-Some
-returns-in-Some g c = λ log line utf8 words reads keeps.
-    answered_call _ _ _ log line _ _ _ _ _ _ utf8 words.0 words.1 words.2 words.3 c.in-Some.ensures (c.in_ok-call_on.ensures log keeps)
-
 pub returns-in-None : goal.returns-in-None
 returns-in-None g c = λ log line utf8 words reads keeps.
     IfOk-weaker c.deny.result _ _
