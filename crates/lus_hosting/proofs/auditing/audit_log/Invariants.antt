@@ -6,4 +6,4 @@ use Rattle.lus_hosting.proofs.auditing.audit_log.Given as goal
 
 abbrev pub invariant-loop-turn : goal.invariant-loop-turn
 invariant-loop-turn g l =
-    Audited (program_of (arc_value l.program)) l.node.0 (g.S.Source.left l.initial.source) (g.S.Source.left l.source) l.instances
+    Audited (program_of (arc_value l.host.program.now)) l.host.node.0 (g.S.Source.left l.initial.source) (g.S.Source.left l.source) l.instances

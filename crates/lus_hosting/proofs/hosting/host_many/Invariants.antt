@@ -6,5 +6,5 @@ use Rattle.lus_hosting.proofs.hosting.host_many.Given as goal
 
 abbrev pub invariant-loop-turn : goal.invariant-loop-turn
 invariant-loop-turn g l =
-    SoFar (program_of (arc_value l.program)) l.node.0 (g.T.Tells.spelling l.teller) (g.S.Source.left l.initial.input) (g.O.Sink.written l.initial.output)
+    SoFar (program_of (arc_value l.host.program.now)) l.host.node.0 (g.T.Tells.spelling l.teller) (g.S.Source.left l.initial.input) (g.O.Sink.written l.initial.output)
     (g.S.Source.left l.input) (g.O.Sink.written l.output) l.instances l.entered l.refused l.turn
