@@ -1,0 +1,12 @@
+//! Messages in frames, as editors and their servers exchange them: a head that says how many bytes follow, and these.
+#![tactic(auto)]
+
+mod error;
+mod laws;
+mod reading;
+mod writing;
+
+pub use error::FrameError;
+pub use laws::read_back;
+pub use reading::{MOST_MESSAGE_BYTES, read_frame};
+pub use writing::{push_frame, write_frame};
