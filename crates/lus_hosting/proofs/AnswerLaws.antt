@@ -1,6 +1,5 @@
 -- What becomes of a line is a turn, of which all is written, or a part.
-use Rattle.std.proofs.Common.{◌≡◌, ◌∙◌, ◌+◌, ◌++◌, ◌<◌, ℕ, zero, suc, refl, ap, sym, subst, inl, inr, List, [], ◌∷◌, length, take, Option, Some, None, append_assoc, append-nil, arith, codes, IsUtf8}
-use Rattle.std.specs.Prelude.{slice_get}
+use Rattle.std.proofs.Common.{◌≡◌, ◌∙◌, ◌++◌, ◌<◌, ℕ, zero, suc, refl, ap, sym, subst, inl, inr, List, [], ◌∷◌, length, take, Option, Some, None, append_assoc, append-nil, arith, codes, IsUtf8}
 use Rattle.indexmap.specs.IndexMap.{get_by_text}
 use Rattle.lus_values.specs.Names.{Text}
 use Rattle.lus_program.specs.Programs.{Program}
@@ -14,10 +13,10 @@ use Rattle.lus_replay.specs.Replays.{said_line}
 use Rattle.lus_replay.specs.declared.line.Verdict.{Verdict}
 use Rattle.lus_replay.specs.declared.line.Verdict.TheVariants as verdicts
 use Rattle.lus_live_instance.specs.MachineSpecs.Constructors.{names_of}
-use Rattle.lus_hosting.specs.Hosts.{Answers, HasCalledOn, HasDenied, HasReplayedOn, HasTurn, IsAnswered, IsKind, Keeps, ReadsTurn, TurnFails, WritesTurn, kind_of, logged}
+use Rattle.lus_hosting.specs.Hosts.{Answers, HasCalledOn, HasDenied, HasReplayedOn, HasTurn, IsAnswered, Keeps, ReadsTurn, TurnFails, WritesTurn, kind_of, logged}
 use Rattle.lus_hosting.specs.Logs.{IsWord, Logged, behind_of, next_of}
 use Rattle.lus_hosting.specs.Spellings.{Spelling}
-use Rattle.lus_hosting.specs.Turns.{AreCallWords, Called, Denial, Denied, IsCallLine, IsDenial, IsNoCall, IsNote, Noted, Replayed, Turn, added_by, answer_at}
+use Rattle.lus_hosting.specs.Turns.{Called, Denial, Denied, IsCallLine, IsNoCall, IsNote, Noted, Replayed, added_by, answer_at}
 use Rattle.lus_hosting.specs.declared.instances.Instances.{Instances}
 use Rattle.lus_hosting.specs.declared.turns.Kind.{Kind}
 use Rattle.lus_hosting.specs.declared.turns.Kind.TheVariants as kinds

@@ -5,13 +5,11 @@ use Rattle.lus_values.specs.Names.{Text}
 use Rattle.lus_program.specs.Programs.{Program}
 use Rattle.lus_devices.specs.Devices.{Bytes, with_front}
 use Rattle.lus_devices.proofs.Laws.{with_front-more}
-use Rattle.lus_lines.specs.Lines.{IsLast, IsWholeLine}
+use Rattle.lus_lines.specs.Lines.{IsLast}
 use Rattle.lus_play.specs.Plays.{ended}
-use Rattle.lus_live_instance.specs.MachineSpecs.Constructors.{names_of}
 use Rattle.lus_hosting.specs.Audits.{IsLawfulLog, IsOfLog, LogText, entry, note, nothing}
-use Rattle.lus_hosting.specs.Hosts.{HasTurn, IsKind, Keeps, ReadsTurn}
+use Rattle.lus_hosting.specs.Hosts.{IsKind, Keeps, TakesTurn}
 use Rattle.lus_hosting.specs.Logs.{Logged}
-use Rattle.lus_hosting.specs.Spellings.{Spelling}
 use Rattle.lus_hosting.specs.Turns.{Called, Denied, IsTurn, Noted, Replayed, Turn, added_by, line_at}
 use Rattle.lus_hosting.specs.declared.instances.Instances.{Instances}
 use Rattle.lus_hosting.specs.declared.turns.Kind.{Kind}
@@ -61,18 +59,18 @@ module _ (p : Program) (f : ℕ) (left : Option Bytes) where
         with_line audited.log (ended line) later new (note audited.log audited.text line audited.spelled is.so is.whole) read
         (subst (λ log. Keeps p f log new) (append-nil audited.log) keeps)
 
-    pub audited_more : (k : Kind) (s : Spelling) (text : Bytes) (later : Option Bytes) (new : Instances) → IsOfLog k
-        → ReadsTurn k p f s audited.log mid later text new → Audited later new
-    audited_more kinds.Replayed s text later new of has = with_turn kinds.Replayed has.turn later new of has.kind has.is has.read has.keeps
-    audited_more kinds.Noted s text later new of has = with_turn kinds.Noted has.turn later new of has.kind has.is has.read has.keeps
-    audited_more kinds.Called s text later new of has = absurd of
-    audited_more kinds.Denied s text later new of has = absurd of
-    audited_more kinds.Wrong s text later new of has = absurd of
-    audited_more kinds.NoEntry s text later new of has = absurd of
-    audited_more kinds.Unfinished s text later new of has = absurd of
-    audited_more kinds.Ended s text later new of has = absurd of
+    pub audited_more : (k : Kind) (W : Turn → Type 0) (Nothing : Type 0) (later : Option Bytes) (new : Instances) → IsOfLog k
+        → TakesTurn k p f audited.log mid later W Nothing new → Audited later new
+    audited_more kinds.Replayed W Nothing later new of has = with_turn kinds.Replayed has.turn later new of has.kind has.is has.read has.keeps
+    audited_more kinds.Noted W Nothing later new of has = with_turn kinds.Noted has.turn later new of has.kind has.is has.read has.keeps
+    audited_more kinds.Called W Nothing later new of has = absurd of
+    audited_more kinds.Denied W Nothing later new of has = absurd of
+    audited_more kinds.Wrong W Nothing later new of has = absurd of
+    audited_more kinds.NoEntry W Nothing later new of has = absurd of
+    audited_more kinds.Unfinished W Nothing later new of has = absurd of
+    audited_more kinds.Ended W Nothing later new of has = absurd of
 
-    pub audited_all : (end : Option Bytes) → IsLast [] mid end → IsLawfulLog p f left
+    audited_all : (end : Option Bytes) → IsLast [] mid end → IsLawfulLog p f left
     audited_all end last = record {
       log = audited.log;
       text = audited.text ++ [];
@@ -82,3 +80,7 @@ module _ (p : Program) (f : ℕ) (left : Option Bytes) where
       over = last.over;
       lawful = all_lawful p f audited.log (get_by_text instances.by_name) audited.keeps;
     }
+
+    pub audited_end : (k : Kind) (W : Turn → Type 0) (Nothing : Type 0) (later : Option Bytes) (new : Instances) → k ≡ kinds.Ended
+        → TakesTurn k p f audited.log mid later W Nothing new → IsLawfulLog p f left
+    audited_end k W Nothing later new is takes = audited_all later (subst (λ j. TakesTurn j p f audited.log mid later W Nothing new) is takes).0

@@ -1,8 +1,9 @@
 -- What the instances of a host keep, as one of them is made, called, or replayed.
-use Rattle.std.proofs.Common.{◌≡◌, ◌∙◌, ◌+◌, ◌++◌, ℕ, Bool, true, false, cond, refl, ap, sym, subst, List, [], ◌∷◌, length, map, filter, Option, Some, None, append-nil, length-append, arith}
+use Rattle.std.proofs.Common.{◌≡◌, ◌∙◌, ◌+◌, ◌++◌, ℕ, Bool, true, false, cond, refl, ap, sym, subst, List, [], ◌∷◌, length, map, filter, Option, Some, None, append-nil, length-append, string_bytes, arith}
+use Rattle.std.specs.Map.{lookup}
 use Rattle.std.specs.Str.{bytes_eq}
 use Rattle.std.proofs.lemmas.Slice.Eq.{bytes_eq-Decides}
-use Rattle.lus_values.specs.Names.{Names, Text}
+use Rattle.lus_values.specs.Names.{Text}
 use Rattle.lus_program.specs.Programs.{Program}
 use Rattle.lus_requests.specs.declared.request.Entry.{Entry}
 use Rattle.lus_requests.specs.declared.request.Reply.{Reply}
@@ -138,6 +139,10 @@ all_lawful p f log g keeps name = go (g name) (keeps name)
     go : (o : Option Hosted) → Stands p f (entries_of name log) o → History p f (entries_of name log)
     go None none = subst (History p f) (sym none) empty
     go (Some h) stands = subst (History p f) stands.1 (lawful_of p f h.instance.reactor stands.0)
+
+-- none is named where none is
+pub none_named : (new : Instances) → new.by_name.entries ≡ [] → (name : Text) → get_by_text new.by_name name ≡ None
+none_named new bare name = ap (lookup (λ k. bytes_eq name (string_bytes k))) bare
 
 -- no instance has been made
 pub none_kept : (p : Program) (f : ℕ) (g : Text → Option Hosted) → ((name : Text) → g name ≡ None) → KeepsIn p f [] g

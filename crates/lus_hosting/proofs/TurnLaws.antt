@@ -7,10 +7,10 @@ use Rattle.lus_devices.proofs.Laws.{reaches_began, reaches_stop, with_front-more
 use Rattle.lus_lines.specs.Lines.{IsLast}
 use Rattle.lus_play.specs.Plays.{with_tail}
 use Rattle.lus_play.specs.declared.playing.Score.{Score}
-use Rattle.lus_hosting.specs.Hosts.{HasTurn, HasTurnSome, IsKind, Keeps, KeepsIn, TurnFails, WritesTurn}
+use Rattle.lus_hosting.specs.Hosts.{HasTurn, HasTurnSome, IsKind, Keeps, TurnFails, WritesTurn}
 use Rattle.lus_hosting.specs.Logs.{Logged}
 use Rattle.lus_hosting.specs.Spellings.{Spelling}
-use Rattle.lus_hosting.specs.Turns.{Called, Denied, HasHosted, HasHostedSome, IsTurn, Noted, Replayed, Turn, Turns, added_by, answer_at, denied_by, line_at, none, more}
+use Rattle.lus_hosting.specs.Turns.{Called, Denied, HasHosted, HasHostedSome, Noted, Replayed, Turn, Turns, added_by, answer_at, denied_by, line_at, none, more}
 use Rattle.lus_hosting.specs.declared.instances.Instances.{Instances}
 use Rattle.lus_hosting.specs.declared.turns.Kind.{Kind}
 use Rattle.lus_hosting.specs.declared.turns.Kind.TheVariants as kinds
@@ -50,6 +50,10 @@ counts k (Replayed l) is = subst (λ j. Counts j (Replayed l)) (sym is) (refl, r
 counts k (Noted line) is = subst (λ j. Counts j (Noted line)) (sym is) (refl, refl)
 counts k (Denied line d) is = subst (λ j. Counts j (Denied line d)) (sym is) (refl, refl)
 
+tail_more : (tail : Bytes) (n : ℕ) → 0 < length tail → n + 1 ≡ with_tail tail n
+tail_more [] n some = absurd (omega (arith, some))
+tail_more (b ∷ bs) n some = refl
+
 module _ (p : Program) (f : ℕ) (s : Spelling) (left w : Option Bytes) where
   -- these lines were read so far and answered
   pub record SoFar (mid now : Option Bytes) (instances : Instances) (entered refused turn : ℕ) : Type 0 where
@@ -81,7 +85,7 @@ module _ (p : Program) (f : ℕ) (s : Spelling) (left w : Option Bytes) where
   }
 
   module _ (mid now : Option Bytes) (instances : Instances) (entered refused turn : ℕ) (so_far : SoFar mid now instances entered refused turn) where
-    pub so_far_more : (k : Kind) (later next : Option Bytes) (new : Instances) (entered' refused' : ℕ)
+    so_far_more : (k : Kind) (later next : Option Bytes) (new : Instances) (entered' refused' : ℕ)
         → HasTurn k p f so_far.log mid later (λ t. next ≡ with_text now (answer_at s so_far.log t)) new
         → entered' ≡ entered + entered_by k → refused' ≡ refused + refused_by k → entered_by k + refused_by k ≤ 1
         → SoFar later next new entered' refused' (turn + 1)
@@ -150,7 +154,7 @@ module _ (p : Program) (f : ℕ) (s : Spelling) (left w : Option Bytes) where
         ]
 
     -- the end was met behind these bytes
-    pub ended_with : (tail : Bytes) (end next : Option Bytes) (score : Score) → IsLast tail mid end → next ≡ now → score.entered ≡ entered
+    ended_with : (tail : Bytes) (end next : Option Bytes) (score : Score) → IsLast tail mid end → next ≡ now → score.entered ≡ entered
         → score.refused ≡ with_tail tail refused → HasHosted p f s left end w next score
     ended_with tail end next score last same e r = record {
       log = so_far.log;
@@ -168,6 +172,42 @@ module _ (p : Program) (f : ℕ) (s : Spelling) (left w : Option Bytes) where
       refused = r ∙ ap (with_tail tail) so_far.refused_is;
     }
 
-pub tail_more : (tail : Bytes) (n : ℕ) → 0 < length tail → n + 1 ≡ with_tail tail n
-tail_more [] n some = absurd (omega (arith, some))
-tail_more (b ∷ bs) n some = refl
+    -- ---- what a kind of turn comes to
+
+    module _ (k : Kind) (later next : Option Bytes) (new : Instances) (takes : WritesTurn k p f s so_far.log mid later now next new) where
+      takes_as : (j : Kind) → k ≡ j → WritesTurn j p f s so_far.log mid later now next new
+      takes_as j is = subst (λ i. WritesTurn i p f s so_far.log mid later now next new) is takes
+
+      module _ (entered' refused' : ℕ) where
+        pub turn_called : k ≡ kinds.Called → entered' ≡ entered + 1 → refused' ≡ refused → SoFar later next new entered' refused' (turn + 1)
+        turn_called is e r =
+            so_far_more kinds.Called later next new entered' refused' (takes_as kinds.Called is) e (omega (arith, r)) (omega arith)
+
+        pub turn_replayed : k ≡ kinds.Replayed → entered' ≡ entered + 1 → refused' ≡ refused → SoFar later next new entered' refused' (turn + 1)
+        turn_replayed is e r =
+            so_far_more kinds.Replayed later next new entered' refused' (takes_as kinds.Replayed is) e (omega (arith, r)) (omega arith)
+
+        pub turn_noted : k ≡ kinds.Noted → entered' ≡ entered → refused' ≡ refused → SoFar later next new entered' refused' (turn + 1)
+        turn_noted is e r =
+            so_far_more kinds.Noted later next new entered' refused' (takes_as kinds.Noted is) (omega (arith, e)) (omega (arith, r)) (omega arith)
+
+        pub turn_denied : k ≡ kinds.Denied → entered' ≡ entered → refused' ≡ refused + 1 → SoFar later next new entered' refused' (turn + 1)
+        turn_denied is e r =
+            so_far_more kinds.Denied later next new entered' refused' (takes_as kinds.Denied is) (omega (arith, e)) r (omega arith)
+
+      pub turn_wrong : k ≡ kinds.Wrong → HasHostedSome p f s left w next
+      turn_wrong is = stopped next (takes_as kinds.Wrong is)
+
+      pub turn_no_entry : k ≡ kinds.NoEntry → HasHostedSome p f s left w next
+      turn_no_entry is = stopped next (takes_as kinds.NoEntry is)
+
+      module _ (score : Score) (e : score.entered ≡ entered) where
+        pub turn_unfinished : k ≡ kinds.Unfinished → score.refused ≡ refused + 1 → HasHosted p f s left later w next score
+        turn_unfinished is r =
+            let last = takes_as kinds.Unfinished is in
+            ended_with last.0 later next score last.1 last.3 e (r ∙ tail_more last.0 refused last.2)
+
+        pub turn_ended : k ≡ kinds.Ended → score.refused ≡ refused → HasHosted p f s left later w next score
+        turn_ended is r =
+            let last = takes_as kinds.Ended is in
+            ended_with [] later next score last.0 last.1 e r

@@ -1,7 +1,7 @@
 -- Instances by their names, behind a log.
 use Rattle.std.specs.Prelude.{◌≡◌, ◌⊎◌, ◌+◌, ◌<◌, ◌++◌, ℕ, List, [], ◌∷◌, length, Option, Some, None, ⊤}
 use Rattle.indexmap.specs.IndexMap.{get_by_text}
-use Rattle.lus_values.specs.Names.{Names, Text}
+use Rattle.lus_values.specs.Names.{Text}
 use Rattle.lus_program.specs.Programs.{Program}
 use Rattle.lus_requests.specs.declared.request.Entry.{Entry}
 use Rattle.lus_requests.specs.declared.request.Reply.{Reply}

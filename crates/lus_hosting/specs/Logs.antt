@@ -1,5 +1,5 @@
 -- Logs: the entries of many instances, each with the name of its instance in front of its journal's line.
-use Rattle.std.specs.Prelude.{◌≡◌, ◌≢◌, ◌+◌, ◌<◌, ◌++◌, ◌==◌, ℕ, Bool, true, List, [], ◌∷◌, length, map, filter, get_or, codes, if◌then◌else◌}
+use Rattle.std.specs.Prelude.{◌≢◌, ◌+◌, ◌<◌, ◌++◌, ◌==◌, ℕ, Bool, List, [], ◌∷◌, length, map, filter, get_or, codes, if◌then◌else◌}
 use Rattle.std.specs.Char.{is_ascii_digit}
 use Rattle.std.specs.Str.{bytes_eq}
 use Rattle.lus_values.specs.Names.{Names, Text}

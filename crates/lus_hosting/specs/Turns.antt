@@ -1,14 +1,13 @@
 -- Lines that call many instances or replay their entries, and what is written of each before the next is read.
-use Rattle.std.specs.Prelude.{◌≡◌, ◌⊎◌, ◌+◌, ◌<◌, ◌++◌, ℕ, List, [], ◌∷◌, length, Option, Some, None, IsUtf8, ⊤}
+use Rattle.std.specs.Prelude.{◌≡◌, ◌⊎◌, ◌+◌, ◌<◌, ◌++◌, ℕ, List, [], ◌∷◌, length, Option, Some, IsUtf8, ⊤}
 use Rattle.lus_values.specs.Names.{Text}
 use Rattle.lus_program.specs.Programs.{Program}
-use Rattle.lus_requests.specs.declared.request.Entry.{Entry}
 use Rattle.lus_devices.specs.Devices.{Bytes, WritesBeginning, with_front, with_text}
 use Rattle.lus_lines.specs.Lines.{IsLast, IsPlain, IsWholeLine, most_line_bytes}
 use Rattle.lus_play.specs.Plays.{ended, with_tail}
 use Rattle.lus_play.specs.declared.playing.Score.{Score}
 use Rattle.lus_reactions.specs.Reactions.{IsCallTo}
-use Rattle.lus_replay.specs.Replays.{Said, entry_said}
+use Rattle.lus_replay.specs.Replays.{entry_said}
 use Rattle.lus_live_instance.specs.MachineSpecs.Constructors.{names_of}
 use Rattle.lus_live_instance.specs.MachineSpecs.HistorySpecs.Histories.{History}
 use Rattle.lus_hosting.specs.Spellings.{Spelling}

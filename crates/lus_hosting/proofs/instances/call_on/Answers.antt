@@ -1,5 +1,5 @@
 -- The instance of the name has an entry more.
-use Rattle.std.proofs.Common.{rules, ◌≡◌, Some, sym}
+use Rattle.std.proofs.Common.{rules, sym}
 use Rattle.std.specs.Arc.{arc_value}
 use Rattle.std.proofs.lemmas.Map.Text.{hash_map_updates_text}
 use Rattle.std.proofs.lemmas.Result.{on_ok_weaker}

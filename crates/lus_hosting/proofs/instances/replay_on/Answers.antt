@@ -1,5 +1,5 @@
 -- The instance of the name has an entry more, where that is right.
-use Rattle.std.proofs.Common.{rules, ◌≡◌, ◌++◌, ◌∷◌, [], Some, subst, sym}
+use Rattle.std.proofs.Common.{rules, ◌∙◌, ◌+◌, ◌++◌, ◌∷◌, [], ap, string_bytes, subst, sym}
 use Rattle.std.specs.Arc.{arc_value}
 use Rattle.std.proofs.lemmas.Map.Text.{hash_map_updates_text}
 use Rattle.std.proofs.Common.{Result, Ok, Err, IfOk, OnOk}
@@ -24,5 +24,7 @@ returns-in-Some c = λ log keeps.
     (λ v judged counted. replayed_so p c.args.host.node.0 log (get_by_text c.open.new.instances.by_name)
     (record { by_name = c.get_mut.follows.lender c.replay.new.hosted }) kept c.args.name.now c.in-Some.hosted.now c.replay.new.hosted
     (sym c.in-Some.ensures.value) updates (c.replay.ensures.live p c.args.host.node.0) (c.args.entry.now ++ 10 ∷ []) _ v counted
-    (subst (λ ns. IsJudged v ns _ _ _ _ _) c.names.ensures judged))
+    (subst (λ names. IsJudged v names (c.in-Some.hosted.now.entries + 1) (c.args.entry.now ++ 10 ∷ []) (string_bytes c.replay.new.right)
+    c.in-Some.hosted.now.instance.reactor.history c.replay.new.hosted.instance.reactor.history)
+    (c.names.ensures ∙ ap (λ q. names_of (program_of q)) c.deref.ensures) judged))
     c.replay.ensures.judged c.replay.ensures.counted)

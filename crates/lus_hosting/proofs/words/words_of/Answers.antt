@@ -1,5 +1,5 @@
 -- By what `split_once` says: a blank ends the first word, and another the second.
-use Rattle.std.proofs.Common.{◌≡◌, ◌∙◌, ap, sym, subst, ◌∷◌, ◌++◌, None, Some, arith}
+use Rattle.std.proofs.Common.{◌≡◌, ◌∙◌, ap, sym, ◌∷◌, ◌++◌, None, Some, arith}
 use Rattle.std.proofs.lemmas.Str.Pattern.{split_after, split_parts}
 use Rattle.lus_hosting.specs.Logs.{behind_of}
 use Rattle.lus_hosting.specs.declared.words.Behind.{Behind}
