@@ -112,7 +112,7 @@ module _ (p : Program) (f : ℕ) (log : List Logged) (g g' : Text → Option Hos
   is_live h has = (subst (Stands p f (entries_of instance log)) has (keeps instance)).0
 
   module _ (h h' : Hosted) (has : g instance ≡ Some h) (updates : (name : Text) → g' name ≡ cond (bytes_eq instance name) (Some h') (g name))
-    (live : IsLive p f h.instance.reactor → IsLive p f h'.instance.reactor) where
+      (live : IsLive p f h.instance.reactor → IsLive p f h'.instance.reactor) where
     -- a call was made on one, whose entry is told
     pub called_on : (s : Spelling) (caller : Text) (r : Request) (text : Text) → HasCalled s instance caller r h h' text
         → (a : Reply) × (text ≡ s.tells instance caller (next_of instance log) (entry_of r a)) × KeepsIn p f (log ++ logged instance caller r a ∷ []) g'

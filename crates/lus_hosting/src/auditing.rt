@@ -27,14 +27,16 @@ fn goes_on(kind: Kind, number: u64) -> Result<bool, HostError>
         Kind::Noted => Ok(true),
         Kind::Ended => Ok(false),
         Kind::Wrong => Err(HostError::Wrong(number)),
-        Kind::Called | Kind::Denied | Kind::NoEntry | Kind::Unfinished =>
-            Err(HostError::Line(number)),
+        Kind::Called | Kind::Denied | Kind::NoEntry | Kind::Unfinished => Err(HostError::Line(
+            number,
+        )),
     }
 }
 
 /// Audits a log: each of its entries is replayed on a new instance of its name, and notes are passed over. It is an error of a line
 /// where that is neither, or isn't the next entry of its instance, or has another reply than the right one: that line is in `line`, and
-/// where its reply is wrong the line that would be right is in `right`. `keys` are of the names' hash function.
+/// where its reply is wrong the line that would be right is in `right`. The contract speaks of logs that pass, and not of errors.
+/// `keys` are of the names' hash function.
 pub fn audit_log<S: Source>(
     alloc: Global,
     program: &Arc<Program>,
@@ -61,7 +63,15 @@ pub fn audit_log<S: Source>(
     };
     let mut text = String::new(alloc);
     for turn in 0..u64::MAX {
-        let kind = read_turn(host, &mut instances, &teller, source, line, &mut text, right)?;
+        let kind = read_turn(
+            host,
+            &mut instances,
+            &teller,
+            source,
+            line,
+            &mut text,
+            right,
+        )?;
         if !goes_on(kind, turn + 1)? {
             return Ok(());
         }

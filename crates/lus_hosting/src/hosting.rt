@@ -36,7 +36,7 @@ pub(crate) fn read_turn<T: Tells, S: Source>(
     requires { host.node.0 < length (program_of (arc_value host.program.now)).nodes }
     ensures { (log : List Logged) → Keeps (program_of (arc_value host.entry.program.now)) host.entry.node.0 log instances.old
         → IfOk result (λ kind. ReadsTurn kind (program_of (arc_value host.entry.program.now)) host.entry.node.0 (T.spelling teller.now) log
-            (S.left input.old) (S.left input.new) (string_bytes text.new) instances.new) }
+        (S.left input.old) (S.left input.new) (string_bytes text.new) instances.new) }
 {
     match read_line(input, line)? {
         Reading::Line => answer(host, instances, teller, line, text, right),
@@ -66,10 +66,10 @@ fn take_turn<T: Tells, S: Source, O: Sink>(
     requires { host.node.0 < length (program_of (arc_value host.program.now)).nodes }
     ensures ok { (log : List Logged) → Keeps (program_of (arc_value host.entry.program.now)) host.entry.node.0 log instances.old
         → IfOk result (λ kind. WritesTurn kind (program_of (arc_value host.entry.program.now)) host.entry.node.0 (T.spelling teller.now) log
-            (S.left input.old) (S.left input.new) (O.written output.old) (O.written output.new) instances.new) }
+        (S.left input.old) (S.left input.new) (O.written output.old) (O.written output.new) instances.new) }
     ensures err { (log : List Logged) → Keeps (program_of (arc_value host.entry.program.now)) host.entry.node.0 log instances.old
         → OnErr result (TurnFails (program_of (arc_value host.entry.program.now)) host.entry.node.0 (T.spelling teller.now) log
-            (S.left input.old) (O.written output.old) (O.written output.new)) }
+        (S.left input.old) (O.written output.old) (O.written output.new)) }
 {
     let kind = read_turn(host, instances, teller, input, line, text, right)?;
     match write_all(output, text.as_bytes()) {
@@ -82,7 +82,8 @@ fn take_turn<T: Tells, S: Source, O: Sink>(
 /// each line that has one, of which nothing is written; and passes over notes. An instance is made where a line first names it. A line
 /// that is none of these enters nothing, and is answered in its place with the reason. An entry that isn't the next of its instance, or
 /// has another reply than the right one, ends the run: it is in `line`, and where its reply is wrong the line that would be right is
-/// in `right`. What is kept is the instances, one line and its entry, however many there were. `keys` are of the names' hash function.
+/// in `right`: the contract says what was done before an error, and not which error it is. What is kept is the instances, one line and
+/// its entry, however many there were. `keys` are of the names' hash function.
 pub fn host_many<T: Tells, S: Source, O: Sink>(
     alloc: Global,
     program: &Arc<Program>,
@@ -112,7 +113,16 @@ pub fn host_many<T: Tells, S: Source, O: Sink>(
     let mut entered = 0u64;
     let mut refused = 0u64;
     for turn in 0..u64::MAX {
-        match take_turn(host, &mut instances, teller, input, output, line, &mut text, right)? {
+        match take_turn(
+            host,
+            &mut instances,
+            teller,
+            input,
+            output,
+            line,
+            &mut text,
+            right,
+        )? {
             Kind::Called => entered += 1,
             Kind::Replayed => entered += 1,
             Kind::Noted => {}
@@ -152,5 +162,7 @@ pub fn host_log<S: Source, O: Sink>(
         alloc,
         names: program.names(),
     };
-    host_many(alloc, program, node, keys, &teller, input, output, line, right)
+    host_many(
+        alloc, program, node, keys, &teller, input, output, line, right,
+    )
 }

@@ -57,7 +57,7 @@ pub(crate) fn call_on<T: Tells>(
     requires { host.node.0 < length (program_of (arc_value host.program.now)).nodes }
     ensures { (log : List Logged) → Keeps (program_of (arc_value host.entry.program.now)) host.entry.node.0 log instances.old
         → OnOk result (HasCalledOn (program_of (arc_value host.entry.program.now)) host.entry.node.0 (T.spelling teller.now) log
-            name.now caller.now request (string_bytes text.new) instances.new) }
+        name.now caller.now request (string_bytes text.new) instances.new) }
 {
     open(host, instances, name)?;
     match instances.by_name.get_mut(name) {
@@ -77,7 +77,7 @@ pub(crate) fn replay_on(
     requires { host.node.0 < length (program_of (arc_value host.program.now)).nodes }
     ensures { (log : List Logged) → Keeps (program_of (arc_value host.entry.program.now)) host.entry.node.0 log instances.old
         → IfOk result (λ v. HasReplayedOn (program_of (arc_value host.entry.program.now)) host.entry.node.0 log name.now (entry.now ++ 10 ∷ [])
-            v instances.new) }
+        v instances.new) }
 {
     open(host, instances, name)?;
     match instances.by_name.get_mut(name) {

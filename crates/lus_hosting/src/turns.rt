@@ -59,7 +59,13 @@ pub(crate) fn answer_long<T: Tells>(teller: &T, text: &mut String) -> Result<Kin
     ensures { IfOk result (λ kind. HasDenied kind (T.spelling teller.now) (codes "-") (codes "-") (codes "it has more bytes than a line may have")
         (string_bytes text.new)) }
 {
-    deny(teller, "-", "-", "it has more bytes than a line may have", text)
+    deny(
+        teller,
+        "-",
+        "-",
+        "it has more bytes than a line may have",
+        text,
+    )
 }
 
 /// Makes the call of a line with these words, or says why it is none.
@@ -75,7 +81,7 @@ fn answer_call<T: Tells>(
         → ReadsWords line (CallWords words.entry.0 words.entry.1 words.entry.2)
         → Keeps (program_of (arc_value host.entry.program.now)) host.entry.node.0 log instances.old
         → IfOk result (λ kind. Answers kind (program_of (arc_value host.entry.program.now)) host.entry.node.0 (T.spelling teller.now) log line
-            (string_bytes text.new) instances.new) }
+        (string_bytes text.new) instances.new) }
 {
     let (instance, caller, call) = words;
     match read_call(host, call)? {
@@ -110,7 +116,7 @@ fn answer_entry(
     ensures { (spelling : Spelling) (log : List Logged) (line : Bytes) → HasWords line (EntryWords instance.entry entry.entry)
         → Keeps (program_of (arc_value host.entry.program.now)) host.entry.node.0 log instances.old
         → IfOk result (λ kind. Answers kind (program_of (arc_value host.entry.program.now)) host.entry.node.0 spelling log line
-            (string_bytes text.new) instances.new) }
+        (string_bytes text.new) instances.new) }
 {
     text.clear();
     let verdict = replay_on(host, instances, instance, entry, right)?;
@@ -129,19 +135,39 @@ pub(crate) fn answer<T: Tells>(
     requires { host.node.0 < length (program_of (arc_value host.program.now)).nodes }
     ensures { (log : List Logged) → Keeps (program_of (arc_value host.entry.program.now)) host.entry.node.0 log instances.old
         → IfOk result (λ kind. Answers kind (program_of (arc_value host.entry.program.now)) host.entry.node.0 (T.spelling teller.now) log line.now
-            (string_bytes text.new) instances.new) }
+        (string_bytes text.new) instances.new) }
 {
     let Ok(line) = from_utf8(line) else {
         return deny(teller, "-", "-", "it is no text of UTF-8", text);
     };
     match words_of(line) {
-        Words::Call(instance, caller, call) => answer_call(host, instances, teller, (instance, caller, call), text),
-        Words::Entry(instance, entry) => answer_entry(host, instances, instance, entry, text, right),
+        Words::Call(instance, caller, call) => answer_call(
+            host,
+            instances,
+            teller,
+            (instance, caller, call),
+            text,
+        ),
+        Words::Entry(instance, entry) => answer_entry(
+            host, instances, instance, entry, text, right,
+        ),
         Words::Note => {
             text.clear();
             Ok(Kind::Noted)
         }
-        Words::Short(instance) => deny(teller, instance, "-", "a call has an instance, a caller, and what is asked", text),
-        Words::Word => deny(teller, "-", "-", "a call has an instance, a caller, and what is asked", text),
+        Words::Short(instance) => deny(
+            teller,
+            instance,
+            "-",
+            "a call has an instance, a caller, and what is asked",
+            text,
+        ),
+        Words::Word => deny(
+            teller,
+            "-",
+            "-",
+            "a call has an instance, a caller, and what is asked",
+            text,
+        ),
     }
 }
