@@ -1,5 +1,6 @@
 //! `lus --check PROGRAM` and `lus PROGRAM SCRIPTS`. By the name of another tool, through a link, the same program is that tool:
-//! `lus_explain`, `lus_format`, `lus_draw`, `lus_audit`, `lus_live`, and `lus_bench`, which `bench/run` measures.
+//! `lus_explain`, `lus_format`, `lus_draw`, `lus_audit`, `lus_live`, with `--many` its host of many instances, and `lus_bench`, which
+//! `bench/run` measures.
 #![tactic(auto)]
 
 mod files;
@@ -8,8 +9,10 @@ mod usage;
 use crate::files::name_unopened;
 use crate::usage::introduce;
 use lus_cli::{Fault, command, tell};
-use lus_devices::{Disk, Input, Output};
+use lus_devices::{Disk, Input, Output, Sink};
 use lus_lines::Buffered;
+use lus_many::is_many;
+use std::collections::hash_map::RandomState;
 use std::env;
 use std::io::ErrorKind;
 use std::process::ExitCode;
@@ -42,6 +45,21 @@ fn tool_and_words(arguments: &[String]) -> (&str, &[String]) {
     }
 }
 
+/// Hosts many instances. Keys for the hash function of their names come from the machine.
+fn host<O: Sink, F: Sink>(
+    rt: &HostRuntime,
+    words: &[String],
+    output: &mut O,
+    faults: &mut F,
+) -> u8 {
+    let disk = Disk(rt);
+    let mut lines = Buffered::new(Input(rt.stdin()));
+    match RandomState::new(rt) {
+        Ok(keys) => lus_many::command(rt.alloc(), &disk, words, keys, &mut lines, output, faults),
+        Err(_) => tell(faults, Fault::File),
+    }
+}
+
 fn main(rt: HostRuntime) -> ExitCode {
     let disk = Disk(&rt);
     let mut output = Output(rt.stdout());
@@ -66,6 +84,7 @@ fn main(rt: HostRuntime) -> ExitCode {
         ),
         "lus_draw" => lus_draw::command(rt.alloc(), &disk, words, &mut output, &mut faults),
         "lus_audit" => lus_audit::command(rt.alloc(), &disk, words, &mut output, &mut faults),
+        "lus_live" if is_many(words) => host(&rt, words, &mut output, &mut faults),
         "lus_live" => {
             let mut lines = Buffered::new(Input(rt.stdin()));
             lus_live::command(

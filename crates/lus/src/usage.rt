@@ -56,11 +56,14 @@ Status: 0 lawful, 1 the program is rejected, 2 a wrong line, or no journal,
 
 const LIVE: &str = "usage: lus_live [--json | --csv] PROGRAM NODE
        lus_live PROGRAM NODE JOURNAL
+       lus_live --many PROGRAM NODE
 
 Runs a node in a pipe: reads calls from standard input, a line of JSON each, and writes the
 journal's entry of each before it reads the next, or with --json its reply as JSON. With --csv
 it reads inputs as CSV below a line of their names, and writes outputs so. It goes on behind
 JOURNAL, replayed first: `lus_live PROGRAM NODE log < calls >> log`, also after any kill.
+With --many it hosts many instances: a line is INSTANCE CALLER CALL, and its answer the entry
+behind the instance's name; entries of such a log are replayed, and have to be right.
 
   [18, 19, 22]                 a step with the inputs in their order, null for an absent one
   {\"inputs\": {\"low\": 19, ..}}  a step with the inputs by their names

@@ -1,6 +1,7 @@
 //! Lines of JSON as calls of a node.
 
 ghost use Rattle.lus_program.specs.View.{program_seen};
+ghost use Rattle.lus_lines.specs.Lines.{IsPlain};
 ghost use Rattle.lus_reactions.specs.Reactions.{IsCallTo};
 
 use lus_devices::{Sink, write_all};
@@ -21,7 +22,9 @@ pub struct JsonCalls<'p> {
 }
 
 /// Why a value of JSON is no call, by how it begins.
-fn no_call(line: &[u8]) -> &'static str {
+fn no_call(line: &[u8]) -> &'static str
+    ensures { IsPlain result.now }
+{
     for byte in line {
         match *byte {
             b' ' | b'\t' | b'\r' => (),
@@ -33,6 +36,19 @@ fn no_call(line: &[u8]) -> &'static str {
         }
     }
     "a call is a list of inputs or an object"
+}
+
+impl JsonCalls<'_> {
+    /// What is wrong with a line that is no call, in a sentence without a line feed.
+    pub fn reason(&self, line: &[u8]) -> &'static str
+        ensures { IsPlain result.now }
+    {
+        match read_request(self.alloc, self.program, self.names, self.node, line) {
+            Err(ScriptRefusal::Json) => "it is no value of JSON",
+            Err(ScriptRefusal::Memory) => "out of memory",
+            _ => no_call(line),
+        }
+    }
 }
 
 impl Calls for JsonCalls<'_> {
@@ -47,11 +63,6 @@ impl Calls for JsonCalls<'_> {
     }
 
     fn explain<F: Sink>(&self, line: &[u8], faults: &mut F) {
-        let why = match read_request(self.alloc, self.program, self.names, self.node, line) {
-            Err(ScriptRefusal::Json) => "it is no value of JSON",
-            Err(ScriptRefusal::Memory) => "out of memory",
-            _ => no_call(line),
-        };
-        let _ = write_all(faults, why.as_bytes());
+        let _ = write_all(faults, self.reason(line).as_bytes());
     }
 }

@@ -1,0 +1,5 @@
+pub mod HostLaws
+pub mod TurnLaws
+pub mod AnswerLaws
+pub mod AuditLaws
+pub use Rattle.lus_live_instance.proofs as LiveProofs

@@ -1,0 +1,134 @@
+-- Instances by their names, behind a log.
+use Rattle.std.specs.Prelude.{◌≡◌, ◌⊎◌, ◌+◌, ◌<◌, ◌++◌, ℕ, List, [], ◌∷◌, length, Option, Some, None, ⊤}
+use Rattle.indexmap.specs.IndexMap.{get_by_text}
+use Rattle.lus_values.specs.Names.{Text}
+use Rattle.lus_program.specs.Programs.{Program}
+use Rattle.lus_requests.specs.declared.request.Entry.{Entry}
+use Rattle.lus_requests.specs.declared.request.Reply.{Reply}
+use Rattle.lus_requests.specs.declared.request.Request.{Request}
+use Rattle.lus_devices.specs.Devices.{Bytes, WritesBeginning, with_front, with_text}
+use Rattle.lus_lines.specs.Lines.{IsLast}
+use Rattle.lus_play.specs.Plays.{ended, entry_of}
+use Rattle.lus_replay.specs.Replays.{Said, said_line}
+use Rattle.lus_replay.specs.declared.line.Verdict.{Verdict}
+use Rattle.lus_replay.specs.declared.line.Verdict.TheVariants as verdicts
+use Rattle.lus_live_instance.specs.Lives.{IsLive}
+use Rattle.lus_live_instance.specs.MachineSpecs.Constructors.{names_of}
+use Rattle.lus_live_instance.specs.MachineSpecs.HistorySpecs.Histories.{History}
+use Rattle.lus_hosting.specs.Logs.{Logged, entries_of, next_of}
+use Rattle.lus_hosting.specs.Spellings.{Spelling}
+use Rattle.lus_hosting.specs.Turns.{IsSo, IsTurn, Turn, Called, Denied, Noted, Replayed, added_by, answer_at, line_at}
+use Rattle.lus_hosting.specs.declared.hosted.Hosted.{Hosted}
+use Rattle.lus_hosting.specs.declared.instances.Instances.{Instances}
+use Rattle.lus_hosting.specs.declared.turns.Kind.{Kind}
+use Rattle.lus_hosting.specs.declared.turns.Kind.TheVariants as kinds
+
+-- an instance has these entries, or there is none, which has no entries
+abbrev pub Stands : Program → ℕ → List Entry → Option Hosted → Type 0
+Stands p f es None = es ≡ []
+Stands p f es (Some h) = IsLive p f h.instance.reactor × (h.instance.reactor.history ≡ es) × (h.entries ≡ length es)
+
+-- each instance has its entries of the log
+abbrev pub KeepsIn : Program → ℕ → List Logged → (Text → Option Hosted) → Type 0
+KeepsIn p f log named = (name : Text) → Stands p f (entries_of name log) (named name)
+
+abbrev pub Keeps : Program → ℕ → List Logged → Instances → Type 0
+Keeps p f log instances = KeepsIn p f log (get_by_text instances.by_name)
+
+-- an entry by its parts
+abbrev pub logged : Text → Text → Request → Reply → Logged
+logged instance caller r a = record { instance = instance; said = record { caller = caller; request = r; reply = a } }
+
+-- a call was made, whose entry is told
+abbrev pub HasCalled : Spelling → Text → Text → Request → Hosted → Hosted → Text → Type 0
+HasCalled s instance caller r h h' text =
+    (a : Reply) × (h'.instance.reactor.history ≡ h.instance.reactor.history ++ entry_of r a ∷ []) × (h'.entries ≡ h.entries + 1)
+    × (text ≡ s.tells instance caller (h.entries + 1) (entry_of r a))
+
+-- the same behind a log
+abbrev pub HasCalledOn : Program → ℕ → Spelling → List Logged → Text → Text → Request → Text → Instances → Type 0
+HasCalledOn p f s log instance caller r text new =
+    (a : Reply) × (text ≡ s.tells instance caller (next_of instance log) (entry_of r a)) × Keeps p f (log ++ logged instance caller r a ∷ []) new
+
+-- an entry that is right was replayed
+abbrev pub HasReplayedOn : Program → ℕ → List Logged → Text → Text → Verdict → Instances → Type 0
+HasReplayedOn p f log instance line verdicts.Right new =
+    (s : Said) × (line ≡ said_line (names_of p) (next_of instance log) s) × Keeps p f (log ++ record { instance = instance; said = s } ∷ []) new
+HasReplayedOn p f log instance line verdicts.Wrong new = ⊤
+HasReplayedOn p f log instance line verdicts.NoEntry new = ⊤
+
+-- what becomes of a line
+abbrev pub IsKind : Kind → Turn → Type 0
+IsKind k (Called line l) = k ≡ kinds.Called
+IsKind k (Replayed l) = k ≡ kinds.Replayed
+IsKind k (Noted line) = k ≡ kinds.Noted
+IsKind k (Denied line d) = k ≡ kinds.Denied
+
+pub record IsAnswered (k : Kind) (p : Program) (f : ℕ) (s : Spelling) (log : List Logged) (line text : Bytes) (new : Instances) : Type 0 where
+  pub turn : Turn
+  pub kind : IsKind k turn
+  pub so : IsSo p f turn
+  pub line_is : ended line ≡ line_at p f log turn
+  pub text_is : text ≡ answer_at s log turn
+  pub keeps : Keeps p f (log ++ added_by turn) new
+
+-- a line is answered, unless its entry isn't right
+abbrev pub Answers : Kind → Program → ℕ → Spelling → List Logged → Bytes → Bytes → Instances → Type 0
+Answers kinds.Wrong p f s log line text new = text ≡ []
+Answers kinds.NoEntry p f s log line text new = text ≡ []
+Answers kinds.Unfinished p f s log line text new = ⊥
+Answers kinds.Ended p f s log line text new = ⊥
+Answers kinds.Called p f s log line text new = IsAnswered kinds.Called p f s log line text new
+Answers kinds.Replayed p f s log line text new = IsAnswered kinds.Replayed p f s log line text new
+Answers kinds.Noted p f s log line text new = IsAnswered kinds.Noted p f s log line text new
+Answers kinds.Denied p f s log line text new = IsAnswered kinds.Denied p f s log line text new
+
+-- a line is denied
+abbrev pub HasDenied : Kind → Spelling → Text → Text → Text → Text → Type 0
+HasDenied kind s instance caller reason text = (kind ≡ kinds.Denied) × (text ≡ s.denies instance caller reason)
+
+abbrev pub kind_of : Verdict → Kind
+kind_of verdicts.Right = kinds.Replayed
+kind_of verdicts.Wrong = kinds.Wrong
+kind_of verdicts.NoEntry = kinds.NoEntry
+
+-- ---- what was read where a line begins, and what is said of it
+
+pub record HasTurn (k : Kind) (p : Program) (f : ℕ) (log : List Logged) (left later : Option Bytes) (W : Turn → Type 0) (new : Instances) : Type 0 where
+  pub turn : Turn
+  pub kind : IsKind k turn
+  pub is : IsTurn p f log turn
+  pub read : left ≡ with_front (line_at p f log turn) later
+  pub said : W turn
+  pub keeps : Keeps p f (log ++ added_by turn) new
+
+-- a turn of which W holds, or an entry that isn't right, or the end, where nothing is said
+abbrev pub TakesTurn : Kind → Program → ℕ → List Logged → Option Bytes → Option Bytes → (Turn → Type 0) → Type 0 → Instances → Type 0
+TakesTurn kinds.Wrong p f log left later W Nothing new = Nothing
+TakesTurn kinds.NoEntry p f log left later W Nothing new = Nothing
+TakesTurn kinds.Unfinished p f log left later W Nothing new = (tail : Bytes) × IsLast tail left later × (0 < length tail) × Nothing × Keeps p f log new
+TakesTurn kinds.Ended p f log left later W Nothing new = IsLast [] left later × Nothing × Keeps p f log new
+TakesTurn kinds.Called p f log left later W Nothing new = HasTurn kinds.Called p f log left later W new
+TakesTurn kinds.Replayed p f log left later W Nothing new = HasTurn kinds.Replayed p f log left later W new
+TakesTurn kinds.Noted p f log left later W Nothing new = HasTurn kinds.Noted p f log left later W new
+TakesTurn kinds.Denied p f log left later W Nothing new = HasTurn kinds.Denied p f log left later W new
+
+abbrev pub ReadsTurn : Kind → Program → ℕ → Spelling → List Logged → Option Bytes → Option Bytes → Text → Instances → Type 0
+ReadsTurn k p f s log left later text new = TakesTurn k p f log left later (λ turn. text ≡ answer_at s log turn) (text ≡ []) new
+
+abbrev pub WritesTurn : Kind → Program → ℕ → Spelling → List Logged → Option Bytes → Option Bytes → Option Bytes → Option Bytes → Instances → Type 0
+WritesTurn k p f s log left later w w' new =
+    TakesTurn k p f log left later (λ turn. w' ≡ with_text w (answer_at s log turn)) (w' ≡ w) new
+
+-- a turn whose answer was written in part
+pub record HasTurnSome (p : Program) (f : ℕ) (s : Spelling) (log : List Logged) (left w w' : Option Bytes) : Type 0 where
+  pub turn : Turn
+  pub later : Option Bytes
+  pub is : IsTurn p f log turn
+  pub read : left ≡ with_front (line_at p f log turn) later
+  pub wrote : WritesBeginning w w' (answer_at s log turn)
+  pub lawful : (name : Text) → History p f (entries_of name (log ++ added_by turn))
+
+-- nothing was written, or a part of an answer
+abbrev pub TurnFails : Program → ℕ → Spelling → List Logged → Option Bytes → Option Bytes → Option Bytes → Type 0
+TurnFails p f s log left w w' = (w' ≡ w) ⊎ HasTurnSome p f s log left w w'

@@ -1,0 +1,6 @@
+pub mod Logs
+pub mod Spellings
+pub mod Turns
+pub mod Hosts
+pub mod Audits
+pub use Rattle.lus_live_instance.specs as LiveSpecs

@@ -1,0 +1,78 @@
+//! One of many instances.
+
+ghost use Rattle.std.specs.Prelude.{◌≡◌, ◌+◌, ◌++◌, ◌∷◌, [], ℕ, IfOk, OnOk, string_bytes};
+ghost use Rattle.lus_live_instance.specs.Lives.{IsLive};
+ghost use Rattle.lus_program.specs.Programs.{Program as PlainProgram};
+ghost use Rattle.lus_replay.specs.Replays.{IsJudged};
+ghost use Rattle.lus_hosting.specs.Hosts.{HasCalled};
+
+use crate::error::HostError;
+use crate::telling::Tells;
+use lus_live_instance::Instance;
+use lus_play::Reacts;
+use lus_replay::{Verdict, replay_line};
+use lus_requests::{Entry, Request};
+use lus_values::{Memory, Names};
+use std::alloc::Global;
+
+/// An instance, and how many entries it has.
+#[derive(Drop)]
+pub(crate) struct Hosted {
+    pub(crate) instance: Instance,
+    pub(crate) entries: u64,
+}
+
+/// A text with a line feed behind it.
+fn line_of(alloc: Global, text: &str) -> Result<Vec<u8>, Memory>
+    ensures { IfOk result (λ v. v.items ≡ text.now ++ 10 ∷ []) }
+{
+    let mut line = Vec::new(alloc);
+    line.extend_from_slice(text.as_bytes())?;
+    line.push(b'\n')?;
+    Ok(line)
+}
+
+/// Makes the call of a caller, and appends to a text what is told of its entry.
+pub(crate) fn call<T: Tells>(
+    hosted: &mut Hosted,
+    teller: &T,
+    instance: &str,
+    caller: &str,
+    request: Request,
+    text: &mut String,
+) -> Result<(), HostError>
+    ensures called { OnOk result (HasCalled (T.spelling teller.now) instance.now caller.now request hosted.old hosted.new (string_bytes text.new)) }
+    ensures live { (p : PlainProgram) (f : ℕ) → IsLive p f hosted.old.instance.reactor → IsLive p f hosted.new.instance.reactor }
+{
+    let number = hosted.entries.checked_add(1).ok_or(HostError::Full)?;
+    let reply = hosted.instance.call(&request)?;
+    hosted.entries = number;
+    let entry = Entry {
+        caller: 0,
+        request,
+        reply,
+    };
+    text.clear();
+    teller.tell(text, instance, caller, number, &entry)?;
+    Ok(())
+}
+
+/// Replays the next entry, which is counted even where it isn't right: nothing is asked of the instance behind that.
+pub(crate) fn replay(
+    hosted: &mut Hosted,
+    alloc: Global,
+    names: &Names,
+    text: &str,
+    right: &mut String,
+) -> Result<Verdict, HostError>
+    ensures judged { IfOk result (λ v. IsJudged v names.now (hosted.old.entries + 1) (text.now ++ 10 ∷ []) (string_bytes right.new)
+        hosted.old.instance.reactor.history hosted.new.instance.reactor.history) }
+    ensures counted { OnOk result (hosted.new.entries ≡ hosted.old.entries + 1) }
+    ensures live { (p : PlainProgram) (f : ℕ) → IsLive p f hosted.old.instance.reactor → IsLive p f hosted.new.instance.reactor }
+{
+    let number = hosted.entries.checked_add(1).ok_or(HostError::Full)?;
+    let line = line_of(alloc, text)?;
+    hosted.entries = number;
+    let verdict = replay_line(alloc, &mut hosted.instance, names, number, &line, right)?;
+    Ok(verdict)
+}

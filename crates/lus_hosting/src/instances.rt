@@ -1,0 +1,87 @@
+//! Instances by their names.
+
+ghost use Rattle.std.specs.Prelude.{◌≡◌, ◌++◌, ◌<◌, ◌∷◌, [], IfOk, List, OnOk, length, string_bytes};
+ghost use Rattle.std.specs.Arc.{arc_value};
+ghost use Rattle.indexmap.specs.IndexMap.{get_by_text};
+ghost use Rattle.lus_live_instance.specs.MachineSpecs.CodeSpecs.Codes.{program_of};
+ghost use Rattle.lus_live_instance.specs.MachineSpecs.Constructors.{names_of};
+ghost use Rattle.lus_hosting.specs.Hosts.{HasCalledOn, HasReplayedOn, Keeps};
+ghost use Rattle.lus_hosting.specs.Logs.{Logged};
+
+use crate::error::HostError;
+use crate::host::Host;
+use crate::hosted::{Hosted, call, replay};
+use crate::telling::Tells;
+use indexmap::IndexMap;
+use lus_live_instance::new_instance;
+use lus_replay::Verdict;
+use lus_requests::Request;
+use lus_values::Memory;
+use std::collections::hash_map::RandomState;
+
+/// Instances by their names, which strangers choose: the hash function has keys of its own.
+#[derive(Drop)]
+pub(crate) struct Instances {
+    pub(crate) by_name: IndexMap<String, Hosted, RandomState>,
+}
+
+/// Makes an instance of this name, where there is none.
+fn open(host: Host<'_>, instances: &mut Instances, name: &str) -> Result<(), Memory>
+    requires { host.node.0 < length (program_of (arc_value host.program.now)).nodes }
+    ensures { (log : List Logged) → Keeps (program_of (arc_value host.entry.program.now)) host.entry.node.0 log instances.old
+        → OnOk result (Keeps (program_of (arc_value host.entry.program.now)) host.entry.node.0 log instances.new) }
+{
+    if instances.by_name.contains_key(name) {
+        return Ok(());
+    }
+    let key = String::from_str(host.alloc, name)?;
+    let instance = new_instance(host.alloc, host.program, host.node)?;
+    let hosted = Hosted {
+        instance,
+        entries: 0,
+    };
+    instances.by_name.insert(key, hosted)?;
+    Ok(())
+}
+
+/// Makes a caller's call to the instance of a name, and puts into a text what is told of its entry.
+pub(crate) fn call_on<T: Tells>(
+    host: Host<'_>,
+    instances: &mut Instances,
+    teller: &T,
+    name: &str,
+    caller: &str,
+    request: Request,
+    text: &mut String,
+) -> Result<(), HostError>
+    requires { host.node.0 < length (program_of (arc_value host.program.now)).nodes }
+    ensures { (log : List Logged) → Keeps (program_of (arc_value host.entry.program.now)) host.entry.node.0 log instances.old
+        → OnOk result (HasCalledOn (program_of (arc_value host.entry.program.now)) host.entry.node.0 (T.spelling teller.now) log
+        name.now caller.now request (string_bytes text.new) instances.new) }
+{
+    open(host, instances, name)?;
+    match instances.by_name.get_mut(name) {
+        Some(hosted) => call(hosted, teller, name, caller, request, text),
+        None => Err(HostError::Memory),
+    }
+}
+
+/// Replays an entry on the instance of a name. Where its reply isn't the right one, the line that would be right is in `right`.
+pub(crate) fn replay_on(
+    host: Host<'_>,
+    instances: &mut Instances,
+    name: &str,
+    entry: &str,
+    right: &mut String,
+) -> Result<Verdict, HostError>
+    requires { host.node.0 < length (program_of (arc_value host.program.now)).nodes }
+    ensures { (log : List Logged) → Keeps (program_of (arc_value host.entry.program.now)) host.entry.node.0 log instances.old
+        → IfOk result (λ v. HasReplayedOn (program_of (arc_value host.entry.program.now)) host.entry.node.0 log name.now (entry.now ++ 10 ∷ [])
+        v instances.new) }
+{
+    open(host, instances, name)?;
+    match instances.by_name.get_mut(name) {
+        Some(hosted) => replay(hosted, host.alloc, host.program.names(), entry, right),
+        None => Err(HostError::Memory),
+    }
+}

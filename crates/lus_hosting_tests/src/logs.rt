@@ -1,0 +1,89 @@
+//! A log in memory: it is written, is audited, and is the input of another run.
+
+use lus_hosting::lus_live_instance::Score;
+use lus_hosting::lus_live_instance::lus_machine::compile;
+use lus_hosting::{HostError, audit_log, host_log};
+use std::collections::hash_map::RandomState;
+use std::sync::Arc;
+use std::test::Fail;
+
+const PROGRAM: &str = "node sum(a: int) returns (y: int); let y = a + (0 -> pre y); tel\n";
+
+const CALLS: &str = "k x [2]\nl x [3]\nk y [4]\nk y oops\n";
+
+const LOG: &str =
+    "k 1 x step(2) -> (2)\nl 1 x step(3) -> (3)\nk 2 y step(4) -> (6)\nk # y it is no value of JSON\n";
+
+const WRONG: &str = "k 1 x step(2) -> (2)\nl 1 x step(3) -> (5)\n";
+
+const RIGHT: &str = "1 x step(3) -> (3)\n";
+
+#[test]
+fn a_log_is_written_and_lawful(rt: HostRuntime) -> Result<(), Fail> {
+    let alloc = rt.alloc();
+    let Ok(program) = compile(alloc, PROGRAM) else {
+        panic!(&rt; "the program is right")
+    };
+    let program = Arc::new(alloc, program)?;
+    let Some(node) = program.node("sum") else {
+        panic!(&rt; "the node is there")
+    };
+    assert!(&rt; program.has(node));
+    let mut line = Vec::new(alloc);
+    let mut right = String::new(alloc);
+    let mut log = Vec::new(alloc);
+    let mut calls = CALLS.as_bytes();
+    let keys = RandomState::new(&rt)?;
+    let hosted = host_log(
+        alloc, &program, node, keys, &mut calls, &mut log, &mut line, &mut right,
+    );
+    let score = Score {
+        entered: 3,
+        refused: 1,
+    };
+    assert_eq!(rt; hosted, Ok(score));
+    assert_eq!(rt; log.as_slice(), LOG.as_bytes());
+
+    let mut entries = log.as_slice();
+    let keys = RandomState::new(&rt)?;
+    let mut nothing = Vec::new(alloc);
+    let again = host_log(
+        alloc,
+        &program,
+        node,
+        keys,
+        &mut entries,
+        &mut nothing,
+        &mut line,
+        &mut right,
+    );
+    assert!(&rt; again.is_ok() && nothing.is_empty());
+
+    let mut source = log.as_slice();
+    let keys = RandomState::new(&rt)?;
+    let audited = audit_log(
+        alloc,
+        &program,
+        node,
+        keys,
+        &mut source,
+        &mut line,
+        &mut right,
+    );
+    assert_eq!(rt; audited, Ok(()));
+
+    let mut source = WRONG.as_bytes();
+    let keys = RandomState::new(&rt)?;
+    let audited = audit_log(
+        alloc,
+        &program,
+        node,
+        keys,
+        &mut source,
+        &mut line,
+        &mut right,
+    );
+    assert_eq!(rt; audited, Err(HostError::Wrong(2)));
+    assert_eq!(rt; right.as_str(), RIGHT);
+    Ok(())
+}

@@ -1,0 +1,93 @@
+-- How a host of many instances ends: what became of its lines, or which fault came before the first.
+use Rattle.std.specs.Prelude.{◌≡◌, ◌==◌, ℕ, Option, Some, None, Result, Ok, Err, ⊤, if◌then◌else◌}
+use Rattle.lus_program.specs.Programs.{Program}
+use Rattle.lus_devices.specs.Devices.{Bytes}
+use Rattle.lus_devices.specs.Folders.{Known, WithFile}
+use Rattle.lus_scripts.specs.declared.refusal.ScriptRefusal.TheVariants as scripts
+use Rattle.lus_hosting.specs.LiveSpecs.MachineSpecs.Constructors.{names_of}
+use Rattle.lus_hosting.specs.LiveSpecs.PlaySpecs.declared.playing.Score.{Score}
+use Rattle.lus_hosting.specs.Spellings.{log_spelling}
+use Rattle.lus_hosting.specs.Turns.{HasHosted, HasHostedSome}
+use Rattle.lus_hosting.specs.declared.error.HostError.{HostError}
+use Rattle.lus_hosting.specs.declared.error.HostError.TheVariants as hosts
+use Rattle.lus_cli.specs.HostSpecs.Sources.{ProgramRefused}
+use Rattle.lus_cli.specs.MachineSpecs.Acceptance.{Accepted}
+use Rattle.lus_cli.specs.MachineSpecs.Formals.{node_named}
+use Rattle.lus_cli.specs.Changes.{Change, IsUntouched, change}
+use Rattle.lus_cli.specs.CommandLine.{Text}
+use Rattle.lus_cli.specs.Ends.{AskedEnds, IsLost}
+use Rattle.lus_cli.specs.Faults.{IsToldBy}
+use Rattle.lus_cli.specs.declared.fault.Fault.{Fault}
+use Rattle.lus_cli.specs.declared.fault.Fault.TheVariants as faults
+use Rattle.lus_many.specs.CommandLine.{Asked}
+
+-- what became of the lines: all were read, or an error came first
+abbrev pub Ran : Type 0
+Ran = Result Score HostError
+
+-- the program of the file is accepted, where its bytes are known
+abbrev pub IsOfFile : Known → Program → Type 0
+IsOfFile file p = WithFile file (λ text. Accepted text p)
+
+-- the entries of each instance are a lawful history, and their log is written, or after an error a beginning of it
+abbrev pub Hosted : Program → ℕ → Option Bytes → Option Bytes → Ran → Change → Type 0
+Hosted p f left end (Ok score) output = HasHosted p f (log_spelling (names_of p)) left end output.old output.new score
+Hosted p f left end (Err e) output = HasHostedSome p f (log_spelling (names_of p)) left output.old output.new
+
+-- instances of the node of this name of a file's program were hosted
+pub record HasRun (file : Known) (name : Text) (left end : Option Bytes) (ran : Ran) (output : Change) : Type 0 where
+  pub program : Program
+  pub accepted : IsOfFile file program
+  pub node : ℕ
+  pub named : node_named program name ≡ Some node
+  pub hosted : Hosted program node left end ran output
+
+-- a file's program has no node of this name
+abbrev pub LacksNode : Known → Text → Type 0
+LacksNode file name = (p : Program) × IsOfFile file p × (node_named p name ≡ None)
+
+-- why no line is read: the program's file is lost, it is refused, or it lacks the node; or memory was wanting
+abbrev pub HostFails : (Known → Type 0) → Known → Text → Fault → Type 0
+HostFails read_fails file name faults.File = IsLost read_fails file
+HostFails read_fails file name (faults.Program e) = WithFile file (λ text. ProgramRefused text e)
+HostFails read_fails file name (faults.Scripts e) = (e ≡ scripts.Unknown) × LacksNode file name
+HostFails read_fails file name faults.Memory = ⊤
+HostFails read_fails file name (faults.Journal n) = ⊥
+HostFails read_fails file name faults.Words = ⊥
+HostFails read_fails file name faults.Output = ⊥
+HostFails read_fails file name faults.Start = ⊥
+
+-- instances are hosted, or no line is read and nothing is written
+abbrev pub TaskEnds : (Known → Type 0) → (Text → Known) → Option Bytes → Option Bytes → Asked → Result Ran Fault → Change → Type 0
+TaskEnds read_fails known left end asked (Ok ran) output = HasRun (known asked.program) asked.node left end ran output
+TaskEnds read_fails known left end asked (Err f) output = HostFails read_fails (known asked.program) asked.node f × (end ≡ left) × IsUntouched output
+
+-- ---- what is told
+
+-- 0 where each line was a call, an entry, or a note
+abbrev pub score_status : Score → ℕ
+score_status score = if score.refused == 0 then 0 else 2
+
+abbrev pub host_fault : HostError → Fault
+host_fault (hosts.Line n) = faults.Journal n
+host_fault (hosts.Wrong n) = faults.Journal n
+host_fault hosts.Read = faults.File
+host_fault hosts.Write = faults.Output
+host_fault hosts.Memory = faults.Memory
+host_fault hosts.Full = faults.Scripts scripts.Limit
+
+-- the status and the line are the fault's, behind what was said before
+abbrev pub IsToldLast : ℕ → Fault → Change → Type 0
+IsToldLast status f faults = (said : Option Bytes) × (failed : Option ℕ) × IsToldBy status f (change said faults.new failed faults.after)
+
+abbrev pub IsTold : Result Ran Fault → ℕ → Change → Type 0
+IsTold (Ok (Ok score)) status faults = status ≡ score_status score
+IsTold (Ok (Err e)) status faults = IsToldLast status (host_fault e) faults
+IsTold (Err f) status faults = IsToldBy status f faults
+
+-- a host ends with an outcome of what was asked for, which is told
+pub record Ends (read_fails : Known → Type 0) (known : Text → Known) (asked : Option Asked) (left end : Option Bytes)
+    (output faults : Change) (status : ℕ) : Type 0 where
+  pub outcome : Result Ran Fault
+  pub ends : AskedEnds (TaskEnds read_fails known left end) asked outcome output
+  pub told : IsTold outcome status faults

@@ -1,0 +1,144 @@
+//! The command line over a folder and an input.
+
+ghost use Rattle.std.specs.Prelude.{◌≡◌, IfErr, Some, map, string_bytes};
+ghost use Rattle.std.specs.Arc.{arc_value};
+ghost use Rattle.lus_cli.specs.Changes.{change};
+ghost use Rattle.lus_cli.specs.Ends.{AskedEnds, ReadFails};
+ghost use Rattle.lus_many.specs.CommandLine.{asked, task_seen};
+ghost use Rattle.lus_many.specs.Ends.{Ends, TaskEnds, host_fault, score_status};
+
+use crate::words::{Task, read_words};
+use lus_cli::lus_host::ScriptRefusal;
+use lus_cli::{Fault, read_program, tell};
+use lus_devices::{Folder, Sink, Source, write_all};
+use lus_hosting::lus_live_instance::Score;
+use lus_hosting::{HostError, host_log};
+use std::alloc::Global;
+use std::collections::hash_map::RandomState;
+use std::sync::Arc;
+
+/// What is known of an entry that ended a host: it, and the line that would be right.
+#[derive(Drop)]
+struct Wrong {
+    line: Vec<u8>,
+    right: String,
+}
+
+/// Says what is written and what would be right. What can't be written changes nothing.
+fn tell_wrong<F: Sink>(error: HostError, wrong: &Wrong, faults: &mut F) {
+    match error {
+        HostError::Wrong(_) => {
+            let _ = write_all(faults, b"written ");
+            let _ = write_all(faults, &wrong.line);
+            let _ = write_all(faults, b"\nright   ");
+            let _ = write_all(faults, wrong.right.as_bytes());
+        }
+        HostError::Line(_) => {
+            let _ = write_all(faults, b"note: this isn't the next entry of its instance: ");
+            let _ = write_all(faults, &wrong.line);
+            let _ = write_all(faults, b"\n");
+        }
+        _ => {}
+    }
+}
+
+/// Hosts instances of a node. An error is of a fault before the first line, or of the host itself.
+fn perform<D: Folder, S: Source, O: Sink>(
+    alloc: Global,
+    folder: &D,
+    words: &[String],
+    keys: RandomState,
+    input: &mut S,
+    output: &mut O,
+    wrong: &mut Wrong,
+) -> Result<Result<Score, HostError>, Fault>
+    ensures { AskedEnds (TaskEnds (ReadFails D.File D.File.left D.File.failures) (D.known folder.now)
+        (S.left input.old) (S.left input.new)) (asked (map string_bytes words.now)) result
+        (change (O.written output.old) (O.written output.new) (O.failures output.old) (O.failures output.new)) }
+{
+    let task = read_words(alloc, words)?;
+    host_on(alloc, folder, task, keys, input, output, wrong)
+}
+
+/// Hosts instances of the node that a task names.
+fn host_on<D: Folder, S: Source, O: Sink>(
+    alloc: Global,
+    folder: &D,
+    task: Task<'_>,
+    keys: RandomState,
+    input: &mut S,
+    output: &mut O,
+    wrong: &mut Wrong,
+) -> Result<Result<Score, HostError>, Fault>
+    ensures { TaskEnds (ReadFails D.File D.File.left D.File.failures) (D.known folder.now) (S.left input.old) (S.left input.new)
+        (task_seen task.entry) result
+        (change (O.written output.old) (O.written output.new) (O.failures output.old) (O.failures output.new)) }
+{
+    let program = read_program(alloc, folder, task.program)?;
+    let Some(node) = program.node(task.node) else {
+        return Err(Fault::Scripts(ScriptRefusal::Unknown));
+    };
+    let Ok(program) = Arc::new(alloc, program) else {
+        return Err(Fault::Memory);
+    };
+    Ok(host_log(
+        alloc,
+        &program,
+        node,
+        keys,
+        input,
+        output,
+        &mut wrong.line,
+        &mut wrong.right,
+    ))
+}
+
+/// The status where all lines were read: 2 where one is no call.
+fn status_of(score: Score) -> u8
+    ensures { result ≡ score_status score }
+{
+    if score.refused == 0 { 0 } else { 2 }
+}
+
+fn fault_of(error: HostError) -> Fault
+    ensures { result ≡ host_fault error }
+{
+    match error {
+        HostError::Line(line) | HostError::Wrong(line) => Fault::Journal(line),
+        HostError::Read => Fault::File,
+        HostError::Write => Fault::Output,
+        HostError::Memory => Fault::Memory,
+        HostError::Full => Fault::Scripts(ScriptRefusal::Limit),
+    }
+}
+
+/// Hosts instances of the node that the words name: makes the call of each line of the input on the instance that it names, and writes
+/// its entry before the next line is read; a line that is an entry is replayed, and has to be right. Gives the status of the process:
+/// 0 where all lines were read and none was denied, 2 where one was, else that of the fault. `keys` are of the names' hash function.
+pub fn command<D: Folder, S: Source, O: Sink, F: Sink>(
+    alloc: Global,
+    folder: &D,
+    words: &[String],
+    keys: RandomState,
+    input: &mut S,
+    output: &mut O,
+    faults: &mut F,
+) -> u8
+    ensures { Ends (ReadFails D.File D.File.left D.File.failures) (D.known folder.now) (asked (map string_bytes words.now))
+        (S.left input.old) (S.left input.new)
+        (change (O.written output.old) (O.written output.new) (O.failures output.old) (O.failures output.new))
+        (change (F.written faults.old) (F.written faults.new) (F.failures faults.old) (F.failures faults.new)) result }
+{
+    let mut wrong = Wrong {
+        line: Vec::new(alloc),
+        right: String::new(alloc),
+    };
+    match perform(alloc, folder, words, keys, input, output, &mut wrong) {
+        Ok(Ok(score)) => status_of(score),
+        Ok(Err(error)) => {
+            tell_wrong(error, &wrong, faults);
+            tell(faults, fault_of(error))
+        }
+        Err(fault) => tell(faults, fault),
+    }
+}
