@@ -17,7 +17,8 @@ class Connection {
     this.process = spawn(command, words, { stdio: ["pipe", "pipe", "inherit"] });
     this.process.stdout.on("data", (bytes) => this.receive(bytes));
     this.process.stdin.on("error", () => {});
-    this.process.on("error", (problem) => this.close(`${command} can't be started: ${problem.message}`));
+    // (without a server the editor has colours alone, which is no fault)
+    this.process.on("error", (problem) => this.close(problem.code === "ENOENT" ? "" : `${command} can't be started: ${problem.message}`));
     this.process.on("exit", (code) => this.close(`${command} ended with status ${code}`));
   }
 

@@ -159,7 +159,7 @@ async function activate(context) {
   };
   const command = vscode.workspace.getConfiguration("lus").get("server");
   connection = new Connection(command, ["--stdio"], told, (reason) => {
-    if (!isEnding) vscode.window.showErrorMessage(`lus: ${reason}`);
+    if (reason && !isEnding) vscode.window.showErrorMessage(`lus: ${reason}`);
   });
   const answer = await connection.request("initialize", { processId: process.pid, rootUri: null, capabilities: {} }).catch(() => null);
   if (!answer) return;
