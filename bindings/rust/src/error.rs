@@ -32,14 +32,12 @@ pub enum Error {
     Refused(Refusal),
     /// There is none of this name or number.
     NoSuch,
-    /// The inputs are no row of values, or a line is none of the next entry.
+    /// The inputs are no row of values.
     Value,
     /// An instance with no seats, which there is not.
     Handle,
     /// These are not all seats of one instance.
     Seats,
-    /// The line tells another reply than the instance gives.
-    Wrong,
 }
 
 impl fmt::Display for Error {
@@ -50,10 +48,9 @@ impl fmt::Display for Error {
             Error::Full => f.write_str("the history is full"),
             Error::Refused(refusal) => write!(f, "refused {refusal}"),
             Error::NoSuch => f.write_str("there is none of this name or number"),
-            Error::Value => f.write_str("the inputs are no row of values, or the line is none of the next entry"),
+            Error::Value => f.write_str("the inputs are no row of values"),
             Error::Handle => f.write_str("wrong use of a handle"),
             Error::Seats => f.write_str("these are not all seats of one instance"),
-            Error::Wrong => f.write_str("the line tells another reply than the instance gives"),
         }
     }
 }
@@ -74,7 +71,6 @@ pub(crate) fn check(status: u32, count: u64) -> Result<(), Error> {
         5 => Err(Error::NoSuch),
         6 => Err(Error::Value),
         9 => Err(Error::Seats),
-        11 => Err(Error::Wrong),
         _ => Err(Error::Handle),
     }
 }

@@ -6,6 +6,5 @@ mod closing;
 mod compiling;
 mod holding;
 mod journals;
-mod live;
 mod programs;
 mod texts;

@@ -9,4 +9,3 @@ pub mod Opened
 pub mod Kept
 pub mod Queries
 pub mod Texts
-pub mod Lives

@@ -1,2 +1,0 @@
-pub mod LiveNodes
-pub use Rattle.lus_machine.specs as MachineSpecs
