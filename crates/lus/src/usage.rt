@@ -62,15 +62,14 @@ Runs a node in a pipe: reads calls from standard input, a line of JSON each, and
 journal's entry of each before it reads the next, or with --json its reply as JSON. With --csv
 it reads inputs as CSV below a line of their names, and writes outputs so. It goes on behind
 JOURNAL, replayed first: `lus_live PROGRAM NODE log < calls >> log`, also after any kill.
-With --many it hosts many instances: a line is INSTANCE CALLER CALL, and its answer the entry
-behind the instance's name; entries of such a log are replayed, and have to be right.
+With --many it hosts many instances: a line is INSTANCE CALLER CALL, or an entry to replay.
 
   [18, 19, 22]                 a step with the inputs in their order, null for an absent one
   {\"inputs\": {\"low\": 19, ..}}  a step with the inputs by their names
   {\"reset\": true}, {\"save\": 0}, {\"restore\": 0}, {\"burst\": [[..], ..]}
 
-Status: 0 all lines were calls, 1 the program is rejected, 2 some were no calls, or a line of
-JOURNAL isn't right, 3 and 4 as lus.
+Status: 0 all lines were calls, 1 the program is rejected, 2 a line is none, or an entry is wrong,
+3 and 4 as lus.
 ";
 
 /// The usage of a tool for people; `lus` is none.
