@@ -14,7 +14,7 @@ pub record Asked : Type 0 where
   pub node : Text
 
 abbrev pub chosen : Option Text → Option Text → Option Asked
-chosen None node = None
+chosen None _ = None
 chosen (Some program) None = None
 chosen (Some program) (Some node) = Some (record { program = program; node = node })
 
