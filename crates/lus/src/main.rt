@@ -1,5 +1,5 @@
 //! `lus --check PROGRAM` and `lus PROGRAM SCRIPTS`. By the name of another tool, through a link, the same program is that tool:
-//! `lus_explain`, `lus_draw`, `lus_audit`, `lus_live`, and `lus_bench`, which `bench/run` measures.
+//! `lus_explain`, `lus_draw`, `lus_audit`, `lus_live`, `lus_lsp`, and `lus_bench`, which `bench/run` measures.
 #![tactic(auto)]
 
 mod usage;
@@ -63,6 +63,10 @@ fn main(rt: HostRuntime) -> ExitCode {
                 &mut output,
                 &mut faults,
             )
+        }
+        "lus_lsp" => {
+            let mut input = Buffered::new(Input(rt.stdin()));
+            lus_lsp::command(rt.alloc(), words, &mut input, &mut output, &mut faults)
         }
         "lus_bench" => lus_bench::command(&rt, words),
         _ => command(&rt, rt.alloc(), words, &mut output, &mut faults),

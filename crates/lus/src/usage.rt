@@ -58,6 +58,15 @@ Status: 0 all lines were calls, 1 the program is refused, 2 some were no calls, 
 JOURNAL isn't right, 3 and 4 as lus.
 ";
 
+const LSP: &str = "usage: lus_lsp --stdio
+
+Serves an editor over standard input and output, by the Language Server Protocol: the faults
+of each open program as it is written, and what to write in their place.
+
+Status: 0 shut down and told to end, 1 told to end or the input ends without that,
+3 the input has no whole message or the output fails, 4 out of memory.
+";
+
 /// The usage of a tool for people; `lus` is none.
 fn usage_of(tool: &str) -> Option<&'static str> {
     match tool {
@@ -65,6 +74,7 @@ fn usage_of(tool: &str) -> Option<&'static str> {
         "lus_draw" => Some(DRAW),
         "lus_audit" => Some(AUDIT),
         "lus_live" => Some(LIVE),
+        "lus_lsp" => Some(LSP),
         _ => None,
     }
 }

@@ -1,0 +1,3 @@
+pub mod ConversationLaws
+pub mod DiagnosticLaws
+pub mod ServingLaws

@@ -1,0 +1,17 @@
+-- A text is heard, or nothing is owed.
+use Rattle.std.proofs.Common.{IfOk, Option, Some, option_map, string_bytes, subst}
+use Rattle.std.proofs.lemmas.Result.{IfOk-weaker}
+use Rattle.lus_editing.specs.Messages.{SentText}
+use Rattle.lus_editing.specs.Serving.{IsNotified}
+use Rattle.lus_editing.proofs.ServingLaws.{nothing_owed}
+use Rattle.lus_editing.proofs.serving.notify.Goals as goal
+
+pub returns-in-Some : goal.returns-in-Some
+returns-in-Some g c =
+    subst (λ (o : Option SentText). IsNotified g.C.Compiler.accepts g.C.Compiler.refuses o (Some (string_bytes c.in_ok-said.said)))
+    c.in-Some.ensures c.in_ok-said.ensures
+
+pub returns-in-None : goal.returns-in-None
+returns-in-None g c =
+    subst (λ (o : Option SentText). IfOk c.heed.result (λ s. IsNotified g.C.Compiler.accepts g.C.Compiler.refuses o (option_map string_bytes s)))
+    c.in-None.ensures (nothing_owed c.heed.result)
