@@ -26,13 +26,12 @@ abbrev pub answer_text : Text → Text
 answer_text id = codes "{\"jsonrpc\":\"2.0\",\"id\":" ++ id ++ codes ","
 
 -- why a request isn't done
-abbrev pub error_text : Problem → Text
-error_text problem =
-    codes "\"error\":{\"code\":-" ++ decimal (problem_code problem) ++ codes ",\"message\":\"" ++ problem_message problem ++ codes "\"}}"
+abbrev pub error_text : ℕ → Text → Text
+error_text code message = codes "\"error\":{\"code\":-" ++ decimal code ++ codes ",\"message\":\"" ++ message ++ codes "\"}}"
 
 -- the answer to the request of an id that it isn't done
 abbrev pub fault_text : Text → Problem → Text
-fault_text id problem = answer_text id ++ error_text problem
+fault_text id problem = answer_text id ++ error_text (problem_code problem) (problem_message problem)
 
 -- an answer to the request of an id, with a result or an error
 abbrev pub IsAnswerOf : Text → Text → Type 0

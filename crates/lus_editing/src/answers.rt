@@ -1,7 +1,7 @@
 //! Answers to requests.
 
-ghost use Rattle.std.specs.Prelude.{◌≡◌, IfOk, string_bytes};
-ghost use Rattle.lus_editing.specs.Answers.{IsAnswerOf, answer_text, fault_text, problem_code, problem_message};
+ghost use Rattle.std.specs.Prelude.{◌≡◌, ◌++◌, IfOk, OnOk, string_bytes};
+ghost use Rattle.lus_editing.specs.Answers.{IsAnswerOf, answer_text, error_text, fault_text, problem_code, problem_message};
 
 use std::alloc::{AllocError, Global};
 
@@ -55,6 +55,16 @@ fn begun(alloc: Global, id: &str) -> Result<String, AllocError>
     format!(in alloc; "{{\"jsonrpc\":\"2.0\",\"id\":{id},")
 }
 
+/// Appends why a request isn't done.
+fn push_error(text: &mut String, code: u32, message: &str) -> Result<(), AllocError>
+    ensures { OnOk result (string_bytes text.new ≡ string_bytes text.old ++ error_text code message.now) }
+{
+    write!(
+        text,
+        "\"error\":{{\"code\":-{code},\"message\":\"{message}\"}}}}"
+    )
+}
+
 /// The answer to the request of an id that it isn't done, and why.
 pub(crate) fn fault(alloc: Global, id: &str, problem: Problem) -> Result<String, AllocError>
     ensures { IfOk result (λ t. string_bytes t ≡ fault_text id.now problem) }
@@ -62,10 +72,7 @@ pub(crate) fn fault(alloc: Global, id: &str, problem: Problem) -> Result<String,
     let code = problem.code();
     let message = problem.message();
     let mut text = begun(alloc, id)?;
-    write!(
-        text,
-        "\"error\":{{\"code\":-{code},\"message\":\"{message}\"}}}}"
-    )?;
+    push_error(&mut text, code, message)?;
     Ok(text)
 }
 

@@ -5,8 +5,8 @@ ghost use Rattle.std.specs.Str.{IsUtf8, bytes_eq};
 ghost use Rattle.serde_json.specs.Read.{read};
 ghost use Rattle.serde_json.specs.View.{view};
 ghost use Rattle.lus_editing.specs.Answers.{IsAnswerOf};
-ghost use Rattle.lus_editing.specs.Messages.{id_of, sent_by, sent_seen};
-ghost use Rattle.lus_editing.specs.Serving.{IsAnswer, IsAnswered, IsNamelessAnswered, IsNotified, IsServed, heard, stage_problem};
+ghost use Rattle.lus_editing.specs.Messages.{id_of, parameters_of, sent_by, sent_seen};
+ghost use Rattle.lus_editing.specs.Serving.{IsAnswer, IsAnswered, IsNamedAnswered, IsNamelessAnswered, IsNotified, IsServed, heard, stage_problem};
 ghost use Rattle.lus_editing.specs.Diagnostics.{Publishes};
 
 use crate::actions::actions_of;
@@ -183,7 +183,32 @@ fn serve_nameless(alloc: Global, message: &Value) -> Result<Option<String>, Allo
 {
     match id_of(message) {
         Some(_) => Ok(None),
-        None => Ok(Some(fault(alloc, "null", Problem::Request)?)),
+        None => {
+            let said = fault(alloc, "null", Problem::Request)?;
+            Ok(Some(said))
+        }
+    }
+}
+
+/// Serves a message of a method.
+fn serve_named<C: Compiler>(
+    alloc: Global,
+    compiler: &C,
+    server: &mut Server,
+    method: &str,
+    message: &Value,
+) -> Result<Option<String>, AllocError>
+    ensures { IfOk result (λ o. IsNamedAnswered C.accepts C.refuses server.old.stage method.now (id_of (view message.now))
+        (parameters_of (view message.now)) (option_map string_bytes o)) }
+{
+    let parameters = parameters_of(message);
+    match id_of(message) {
+        Some(id) => {
+            let id = id.to_string(alloc)?;
+            let said = answer(alloc, compiler, server, id.as_str(), method, parameters)?;
+            Ok(Some(said))
+        }
+        None => notify(alloc, compiler, server, method, parameters),
     }
 }
 
@@ -196,17 +221,9 @@ fn serve_value<C: Compiler>(
 ) -> Result<Option<String>, AllocError>
     ensures { IfOk result (λ o. IsAnswered C.accepts C.refuses server.old.stage (view message.now) (option_map string_bytes o)) }
 {
-    let Some(method) = method_of(message) else {
-        return serve_nameless(alloc, message);
-    };
-    let parameters = parameters_of(message);
-    match id_of(message) {
-        Some(id) => {
-            let id = id.to_string(alloc)?;
-            let said = answer(alloc, compiler, server, id.as_str(), method, parameters)?;
-            Ok(Some(said))
-        }
-        None => notify(alloc, compiler, server, method, parameters),
+    match method_of(message) {
+        Some(method) => serve_named(alloc, compiler, server, method, message),
+        None => serve_nameless(alloc, message),
     }
 }
 
@@ -235,6 +252,9 @@ pub fn serve<C: Compiler>(
     let parsed = parse(alloc, message)?;
     match &parsed {
         Some(value) => serve_value(alloc, compiler, server, value),
-        None => Ok(Some(fault(alloc, "null", Problem::Parse)?)),
+        None => {
+            let said = fault(alloc, "null", Problem::Parse)?;
+            Ok(Some(said))
+        }
     }
 }

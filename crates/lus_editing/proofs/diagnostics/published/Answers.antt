@@ -7,5 +7,5 @@ use Rattle.lus_editing.proofs.diagnostics.published.Goals as goal
 
 pub returns-in-None : goal.returns-in-None
 returns-in-None c =
-    IfOk-weaker c.notification.result _ _ (λ t is. said_of_none (sent_seen c.args.sent) c.args.faults.now (string_bytes t) c.in-None.ensures.cases is)
-    c.notification.ensures
+    IfOk-weaker c.notification-in-None.result _ _ (λ t is. said_of_none (sent_seen c.args.sent) c.args.faults.now (string_bytes t) c.in-None.ensures.cases is)
+    c.notification-in-None.ensures

@@ -6,10 +6,10 @@ use Rattle.lus_editing.specs.Serving.{IsNotified}
 use Rattle.lus_editing.proofs.ServingLaws.{nothing_owed}
 use Rattle.lus_editing.proofs.serving.notify.Goals as goal
 
-pub returns-in-Some : goal.returns-in-Some
-returns-in-Some g c =
-    subst (λ (o : Option SentText). IsNotified g.C.Compiler.accepts g.C.Compiler.refuses o (Some (string_bytes c.in_ok-said.said)))
-    c.in-Some.ensures c.in_ok-said.ensures
+pub returns-in_ok-said-in-Some : goal.returns-in_ok-said-in-Some
+returns-in_ok-said-in-Some g c =
+    subst (λ (o : Option SentText). IsNotified g.C.Compiler.accepts g.C.Compiler.refuses o (Some (string_bytes c.in_ok-said-in-Some.said)))
+    c.in-Some.ensures c.in_ok-said-in-Some.ensures
 
 pub returns-in-None : goal.returns-in-None
 returns-in-None g c =
