@@ -27,7 +27,7 @@ answer_text id = codes "{\"jsonrpc\":\"2.0\",\"id\":" ++ id ++ codes ","
 
 -- why a request isn't done
 abbrev pub error_text : ℕ → Text → Text
-error_text code message = codes "\"error\":{\"code\":-" ++ decimal code ++ codes ",\"message\":\"" ++ message ++ codes "\"}}"
+error_text code message = codes "\"error\":{\"code\":-" ++ (decimal code ++ (codes ",\"message\":\"" ++ (message ++ codes "\"}}")))
 
 -- the answer to the request of an id that it isn't done
 abbrev pub fault_text : Text → Problem → Text

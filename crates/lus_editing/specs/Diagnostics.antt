@@ -16,7 +16,7 @@ AreFaults accepts refuses source (r ∷ rs) = refuses source r
 abbrev pub diagnostics_text : SentText → Text → Text
 diagnostics_text sent diagnostics =
     codes "{\"jsonrpc\":\"2.0\",\"method\":\"textDocument/publishDiagnostics\",\"params\":{\"uri\":" ++ quoted sent.uri
-    ++ (codes ",\"version\":" ++ signed_decimal sent.version ++ codes ",\"diagnostics\":[" ++ diagnostics ++ codes "]}}")
+    ++ (codes ",\"version\":" ++ (signed_decimal sent.version ++ (codes ",\"diagnostics\":[" ++ (diagnostics ++ codes "]}}"))))
 
 -- a diagnostic with the number and the position of a refusal; others may follow
 abbrev pub diagnostic_text : Refusal → Text → Text
