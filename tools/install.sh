@@ -50,7 +50,10 @@ if [ -d "$here/bindings" ]; then
     fi
 fi
 put 644 share/lus "$here"/*.md "$here/LICENSE" "$here/VERSION"
-put 644 share/vim/vimfiles/syntax "$here/editors/lus.vim"
+for folder in ftdetect ftplugin indent syntax compiler lua; do
+    put 644 "share/vim/vimfiles/$folder" "$here/editors/vim/$folder"/*
+done
+put 644 share/emacs/site-lisp "$here"/editors/emacs/*.el
 for folder in docs examples editors; do
     rm -rf "$prefix/share/lus/$folder"
     cp -R "$here/$folder" "$prefix/share/lus/$folder"

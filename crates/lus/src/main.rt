@@ -1,5 +1,5 @@
 //! `lus --check PROGRAM` and `lus PROGRAM SCRIPTS`. By the name of another tool, through a link, the same program is that tool:
-//! `lus_explain`, `lus_draw`, `lus_audit`, `lus_live`, `lus_lsp`, and `lus_bench`, which `bench/run` measures.
+//! `lus_explain`, `lus_format`, `lus_draw`, `lus_audit`, `lus_live`, `lus_lsp`, and `lus_bench`, which `bench/run` measures.
 #![tactic(auto)]
 
 mod usage;
@@ -51,6 +51,14 @@ fn main(rt: HostRuntime) -> ExitCode {
     }
     let status = match tool {
         "lus_explain" => lus_explain::command(rt.alloc(), &disk, words, &mut output, &mut faults),
+        "lus_format" => lus_formatter::command(
+            rt.alloc(),
+            &disk,
+            words,
+            &mut Input(rt.stdin()),
+            &mut output,
+            &mut faults,
+        ),
         "lus_draw" => lus_draw::command(rt.alloc(), &disk, words, &mut output, &mut faults),
         "lus_audit" => lus_audit::command(rt.alloc(), &disk, words, &mut output, &mut faults),
         "lus_live" => {

@@ -17,6 +17,18 @@ its types and nodes. It runs nothing.
 Status: 0 accepted, 1 the program is refused, 2 the scripts, 3 a file or the output fails, 4 out of memory.
 ";
 
+const FORMAT: &str = "usage: lus_format [--check | --write] FILE..
+
+Lays sources out: the same tokens and comments, with other blanks and new lines, on lines of
+at most 100 columns. Of FILE - it reads standard input. What is laid out is printed, or
+
+  --check  only the names of files that would change are
+  --write  it takes the place of each file that differs
+
+A refused file is left as it is. Status: 0 done, 1 a file is refused, or would change,
+3 a file or the output fails, 4 out of memory.
+";
+
 const DRAW: &str = "usage: lus_draw [--svg | --waves | --csv | --vcd] JOURNAL [PROGRAM]
 
 Draws journals that lus or lus_live wrote: as a table, or
@@ -71,6 +83,7 @@ Status: 0 shut down and told to end, 1 told to end or the input ends without tha
 fn usage_of(tool: &str) -> Option<&'static str> {
     match tool {
         "lus_explain" => Some(EXPLAIN),
+        "lus_format" => Some(FORMAT),
         "lus_draw" => Some(DRAW),
         "lus_audit" => Some(AUDIT),
         "lus_live" => Some(LIVE),

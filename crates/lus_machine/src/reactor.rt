@@ -54,6 +54,25 @@ fn empty_slots(alloc: Global) -> Result<Vec<Option<Object>>, Memory>
     Ok(slots)
 }
 
+fn copy_slots(alloc: Global, slots: &[Option<Object>]) -> Result<Vec<Option<Object>>, Memory>
+    ensures { IfOk result (λ copies. copies.items ≡ slots.now) }
+{
+    let mut copies = Vec::new(alloc);
+    for slot in slots {
+        copies.push(copy_slot(slot)?)?;
+    }
+    Ok(copies)
+}
+
+fn copy_slot(slot: &Option<Object>) -> Result<Option<Object>, Memory>
+    ensures { IfOk result (λ copy. copy ≡ slot.now) }
+{
+    match slot {
+        Some(object) => Ok(Some(object.copy()?)),
+        None => Ok(None),
+    }
+}
+
 impl Reactor {
     /// A reactor that was never called.
     pub fn new(alloc: Global, program: Arc<Program>, node: NodeId) -> Result<Reactor, Memory>
@@ -88,6 +107,23 @@ impl Reactor {
         )?;
         self.trace = self.trace.and(&caller, request, &reply);
         Ok(reply)
+    }
+
+    /// A reactor with the same history, which goes on by itself: what the one answers changes nothing of the other.
+    pub fn copy(&self) -> Result<Reactor, Memory>
+        ensures { IfOk result (λ r. r ≡ self.now) }
+    {
+        let program = self.program.clone()?;
+        let object = self.object.copy()?;
+        let slots = copy_slots(self.alloc, &self.slots)?;
+        Ok(Reactor {
+            alloc: self.alloc,
+            program,
+            node: self.node,
+            object,
+            slots,
+            trace: self.trace.copy(),
+        })
     }
 
     /// Answers a request and enters it with its reply, or makes no entry and leaves all as it was.

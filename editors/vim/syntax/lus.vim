@@ -1,5 +1,4 @@
 " Syntax of lus programs for Vim, made by editors/check --write from the compiler's tables of words and symbols.
-" Copy it to ~/.vim/syntax/lus.vim, and write in ~/.vim/filetype.vim:  autocmd BufRead,BufNewFile *.lus setfiletype lus
 if exists("b:current_syntax")
   finish
 endif

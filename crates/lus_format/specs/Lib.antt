@@ -1,0 +1,2 @@
+pub mod Formats
+pub use Rattle.lus_edits.specs.Kept as EditSpecs

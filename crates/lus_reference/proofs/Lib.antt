@@ -1,0 +1,5 @@
+pub mod Drops
+pub mod Recalled
+pub mod Renewed
+pub mod Steps
+pub mod Examples
