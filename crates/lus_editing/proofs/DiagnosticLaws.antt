@@ -1,14 +1,9 @@
 -- What is said of faults.
-use Rattle.std.proofs.Common.{◌≡◌, List, [], ◌∷◌, length, map, arith, sym, subst}
+use Rattle.std.proofs.Common.{◌≡◌, List, [], ◌∷◌, length, map, arith}
 use Rattle.lus_further.specs.declared.told.Told.{Told}
 use Rattle.lus_syntax.specs.Lexemes.{Text}
-use Rattle.lus_editing.specs.Diagnostics.{IsSaidOf, diagnostic_text, diagnostics_text}
+use Rattle.lus_editing.specs.Diagnostics.{IsSaidOf, diagnostics_text}
 use Rattle.lus_editing.specs.Messages.{SentText}
-
-pub said_of_first : (sent : SentText) (faults : List Told) (first : Told) (others : List Told) (more said : Text) → faults ≡ first ∷ others
-    → said ≡ diagnostics_text sent (diagnostic_text first.refusal more) → IsSaidOf sent (map (λ t. t.refusal) faults) said
-said_of_first sent faults first others more said is h =
-    subst (λ ts. IsSaidOf sent (map (λ t. t.refusal) ts) said) (sym is) (more, h)
 
 pub said_of_none : (sent : SentText) (faults : List Told) (said : Text) → length faults ≡ 0 → said ≡ diagnostics_text sent []
     → IsSaidOf sent (map (λ t. t.refusal) faults) said

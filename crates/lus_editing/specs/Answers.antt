@@ -29,6 +29,10 @@ answer_text id = codes "{\"jsonrpc\":\"2.0\",\"id\":" ++ id ++ codes ","
 abbrev pub error_text : ℕ → Text → Text
 error_text code message = codes "\"error\":{\"code\":-" ++ (decimal code ++ (codes ",\"message\":\"" ++ (message ++ codes "\"}}")))
 
+-- what a request gives
+abbrev pub result_text : Text → Text
+result_text given = codes "\"result\":" ++ (given ++ codes "}")
+
 -- the answer to the request of an id that it isn't done
 abbrev pub fault_text : Text → Problem → Text
 fault_text id problem = answer_text id ++ error_text (problem_code problem) (problem_message problem)

@@ -1,5 +1,5 @@
 -- What is said of the faults of a document (Language Server Protocol 3.17, "PublishDiagnostics Notification").
-use Rattle.std.specs.Prelude.{◌≡◌, List, [], ◌∷◌, ◌++◌, codes}
+use Rattle.std.specs.Prelude.{◌≡◌, ℕ, List, [], ◌∷◌, ◌++◌, codes}
 use Rattle.std.specs.Fmt.{decimal, signed_decimal}
 use Rattle.lus_syntax.specs.Lexemes.{Text}
 use Rattle.lus_syntax.specs.Refusals.{number_text}
@@ -18,16 +18,20 @@ diagnostics_text sent diagnostics =
     codes "{\"jsonrpc\":\"2.0\",\"method\":\"textDocument/publishDiagnostics\",\"params\":{\"uri\":" ++ quoted sent.uri
     ++ (codes ",\"version\":" ++ (signed_decimal sent.version ++ (codes ",\"diagnostics\":[" ++ (diagnostics ++ codes "]}}"))))
 
--- a diagnostic with the number and the position of a refusal; others may follow
-abbrev pub diagnostic_text : Refusal → Text → Text
-diagnostic_text r more =
-    codes "{\"source\":\"lus\",\"code\":\"" ++ number_text r.number ++ codes "\",\"data\":{\"line\":" ++ decimal r.line
-    ++ codes ",\"column\":" ++ decimal r.column ++ codes "}" ++ more
+-- a diagnostic with a number and a position; its other members follow, and so may others
+abbrev pub diagnostic_text : Text → ℕ → ℕ → Text → Text
+diagnostic_text number line column more =
+    codes "{\"source\":\"lus\",\"code\":\"" ++ (number ++ (codes "\",\"data\":{\"line\":" ++ (decimal line ++ (codes ",\"column\":"
+    ++ (decimal column ++ (codes "}" ++ more))))))
+
+-- that with the number and the position of a refusal
+abbrev pub refusal_text : Refusal → Text → Text
+refusal_text r more = diagnostic_text (number_text r.number) r.line r.column more
 
 -- what is said of a document whose text has faults: no diagnostics where there are none, or else first that of the first one
 abbrev pub IsSaidOf : SentText → List Refusal → Text → Type 0
 IsSaidOf sent [] said = said ≡ diagnostics_text sent []
-IsSaidOf sent (r ∷ rs) said = (more : Text) × (said ≡ diagnostics_text sent (diagnostic_text r more))
+IsSaidOf sent (r ∷ rs) said = (more : Text) × (said ≡ diagnostics_text sent (refusal_text r more))
 
 -- what is said of a document by the faults of its text
 abbrev pub Publishes : (Text → Type 0) → (Text → Refusal → Type 0) → SentText → Text → Type 0

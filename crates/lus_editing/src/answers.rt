@@ -1,7 +1,7 @@
 //! Answers to requests.
 
 ghost use Rattle.std.specs.Prelude.{◌≡◌, ◌++◌, IfOk, OnOk, string_bytes};
-ghost use Rattle.lus_editing.specs.Answers.{IsAnswerOf, answer_text, error_text, fault_text, problem_code, problem_message};
+ghost use Rattle.lus_editing.specs.Answers.{IsAnswerOf, answer_text, error_text, fault_text, problem_code, problem_message, result_text};
 
 use std::alloc::{AllocError, Global};
 
@@ -76,11 +76,18 @@ pub(crate) fn fault(alloc: Global, id: &str, problem: Problem) -> Result<String,
     Ok(text)
 }
 
+/// Appends what a request gives.
+fn push_result(text: &mut String, given: &str) -> Result<(), AllocError>
+    ensures { OnOk result (string_bytes text.new ≡ string_bytes text.old ++ result_text given.now) }
+{
+    write!(text, "\"result\":{given}}}")
+}
+
 /// The answer to the request of an id with what it gives.
 pub(crate) fn result(alloc: Global, id: &str, given: &str) -> Result<String, AllocError>
     ensures { IfOk result (λ t. IsAnswerOf id.now (string_bytes t)) }
 {
     let mut text = begun(alloc, id)?;
-    write!(text, "\"result\":{given}}}")?;
+    push_result(&mut text, given)?;
     Ok(text)
 }

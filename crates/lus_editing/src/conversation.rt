@@ -75,7 +75,8 @@ fn exchange<C: Compiler, O: Sink>(
     ensures whole { OnOk result (HasSaid (O.written output.old) (O.written output.new)) }
     ensures beginning { OnErr result (WritesFrames (O.written output.old) (O.written output.new)) }
 {
-    match serve(alloc, compiler, server, message)? {
+    let answer = serve(alloc, compiler, server, message)?;
+    match &answer {
         Some(said) => say(alloc, output, said.as_str()),
         None => Ok(()),
     }

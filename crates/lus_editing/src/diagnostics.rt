@@ -1,7 +1,7 @@
 //! What is said of the faults of a document.
 
-ghost use Rattle.std.specs.Prelude.{◌≡◌, IfOk, map, string_bytes};
-ghost use Rattle.lus_editing.specs.Diagnostics.{IsSaidOf, diagnostic_text, diagnostics_text};
+ghost use Rattle.std.specs.Prelude.{◌≡◌, ◌∷◌, IfOk, map, string_bytes};
+ghost use Rattle.lus_editing.specs.Diagnostics.{IsSaidOf, diagnostic_text, diagnostics_text, refusal_text};
 ghost use Rattle.lus_editing.specs.Messages.{sent_seen};
 
 use crate::messages::Sent;
@@ -118,14 +118,25 @@ fn further_text(
     Ok(text)
 }
 
+/// A diagnostic of this number and this position, with what stands behind the position.
+fn diagnostic(
+    alloc: Global,
+    number: &str,
+    line: usize,
+    column: usize,
+    more: &str,
+) -> Result<String, AllocError>
+    ensures { IfOk result (λ t. string_bytes t ≡ diagnostic_text number.now line column more.now) }
+{
+    format!(in alloc; "{{\"source\":\"lus\",\"code\":\"{number}\",\"data\":{{\"line\":{line},\"column\":{column}}}{more}")
+}
+
 /// The diagnostic of a refusal, with what stands behind its position.
-fn diagnostic(alloc: Global, refusal: &Refusal, more: &str) -> Result<String, AllocError>
-    ensures { IfOk result (λ t. string_bytes t ≡ diagnostic_text refusal.now more.now) }
+fn first_diagnostic(alloc: Global, refusal: &Refusal, more: &str) -> Result<String, AllocError>
+    ensures { IfOk result (λ t. string_bytes t ≡ refusal_text refusal.now more.now) }
 {
     let number = refusal.number.as_str();
-    let line = refusal.line;
-    let column = refusal.column;
-    format!(in alloc; "{{\"source\":\"lus\",\"code\":\"{number}\",\"data\":{{\"line\":{line},\"column\":{column}}}{more}")
+    diagnostic(alloc, number, refusal.line, refusal.column, more)
 }
 
 /// The notification of some diagnostics.
@@ -140,6 +151,20 @@ fn notification(alloc: Global, sent: Sent<'_>, diagnostics: &str) -> Result<Stri
     Ok(text)
 }
 
+/// What is said of a text with a first fault, and others.
+fn published_faults(
+    alloc: Global,
+    sent: Sent<'_>,
+    first: &Told,
+    others: &[Told],
+) -> Result<String, AllocError>
+    ensures { IfOk result (λ t. IsSaidOf (sent_seen sent.entry) (first.now.refusal ∷ map (λ t. t.refusal) others.now) (string_bytes t)) }
+{
+    let more = further_text(alloc, sent, first, others)?;
+    let diagnostics = first_diagnostic(alloc, &first.refusal, more.as_str())?;
+    notification(alloc, sent, diagnostics.as_str())
+}
+
 /// What is said of a text with these faults.
 pub(crate) fn published(
     alloc: Global,
@@ -149,11 +174,7 @@ pub(crate) fn published(
     ensures { IfOk result (λ t. IsSaidOf (sent_seen sent.entry) (map (λ t. t.refusal) faults.now) (string_bytes t)) }
 {
     match faults.split_first() {
-        Some((first, others)) => {
-            let more = further_text(alloc, sent, first, others)?;
-            let diagnostics = diagnostic(alloc, &first.refusal, more.as_str())?;
-            notification(alloc, sent, diagnostics.as_str())
-        }
+        Some((first, others)) => published_faults(alloc, sent, first, others),
         None => notification(alloc, sent, ""),
     }
 }

@@ -8,7 +8,6 @@ mod conversation;
 mod diagnostics;
 mod formatting;
 mod messages;
-mod outline;
 mod places;
 mod server;
 mod serving;

@@ -15,13 +15,12 @@ use crate::compiler::Compiler;
 use crate::diagnostics::{closed, published};
 use crate::formatting::formatted;
 use crate::messages::{Sent, id_of, method_of, parameters_of, sent_by, uri_of};
-use crate::outline::{Shape, outlined};
 use crate::server::{Document, Server, Stage};
 use serde_json::Value;
 use std::alloc::{AllocError, Global};
 
 /// What a server can do, as it says where it is initialised.
-const CAPABILITIES: &str = "{\"capabilities\":{\"positionEncoding\":\"utf-16\",\"textDocumentSync\":{\"openClose\":true,\"change\":1},\"documentFormattingProvider\":true,\"documentSymbolProvider\":true,\"foldingRangeProvider\":true,\"codeActionProvider\":{\"codeActionKinds\":[\"quickfix\"]}},\"serverInfo\":{\"name\":\"lus_lsp\",\"version\":\"0.1.0\"}}";
+const CAPABILITIES: &str = "{\"capabilities\":{\"positionEncoding\":\"utf-16\",\"textDocumentSync\":{\"openClose\":true,\"change\":1},\"documentFormattingProvider\":true,\"codeActionProvider\":{\"codeActionKinds\":[\"quickfix\"]}},\"serverInfo\":{\"name\":\"lus_lsp\",\"version\":\"0.1.0\"}}";
 
 /// Why a request isn't done at a stage, whatever it asks.
 fn stage_problem(stage: Stage, is_initialize: bool) -> Option<Problem>
@@ -54,8 +53,6 @@ fn outcome<C: Compiler>(
             Ok(Ok(String::from_str(alloc, "null")?))
         }
         "textDocument/formatting" => formatted(alloc, compiler, server, parameters),
-        "textDocument/documentSymbol" => outlined(alloc, server, parameters, Shape::Symbols),
-        "textDocument/foldingRange" => outlined(alloc, server, parameters, Shape::Folds),
         "textDocument/codeAction" => actions_of(alloc, server, parameters),
         _ => Ok(Err(Problem::Method)),
     }

@@ -1,60 +1,65 @@
 //! This compiler, as editors need it.
 
-ghost use Rattle.std.specs.Prelude.{IfOk, map};
+ghost use Rattle.std.specs.Prelude.{◌≡◌, ◌∷◌, IfOk, List, map};
+ghost use Rattle.lus_syntax.specs.declared.refusal.Refusal.{Refusal};
+ghost use Rattle.lus_editing.specs.Diagnostics.{AreFaults};
+ghost use Rattle.lus_lsp.specs.Verdicts.{IsAccepted, IsRefused};
 
 use lus_editing::Compiler;
+use lus_format::{FormatError, format};
 use lus_further::Told;
 use lus_reports::{accept, further_faults, known_finding};
 use lus_syntax::{Refusal, RefusalNumber};
 use std::alloc::{AllocError, Global};
 
 /// This compiler. It accepts and refuses what `lus --check` does.
+#[derive(Clone, Copy)]
 pub struct Front;
 
-/// What is told of a refusal of a source; only out of memory it fails.
-fn told(alloc: Global, bytes: &[u8], refusal: Refusal) -> Result<Told, AllocError>
-    ensures { IfOk result (λ t. t.refusal ≡ refusal) }
+/// The faults of a source that is refused: that of its refusal, and those behind it. Out of memory is no fault of a source.
+fn faults_with(alloc: Global, bytes: &[u8], refusal: Refusal) -> Result<Vec<Told>, AllocError>
+    ensures { IfOk result (λ told. (others : List Refusal) × (map (λ t. t.refusal) told.items ≡ refusal ∷ others)) }
 {
-    match known_finding(alloc, bytes, &refusal) {
-        Ok(finding) => Ok(Told { refusal, finding }),
-        Err(_) => Err(AllocError),
+    if refusal.number == RefusalNumber::Memory {
+        return Err(AllocError);
     }
-}
-
-/// The faults of a refused source.
-fn refused(alloc: Global, bytes: &[u8], refusal: Refusal) -> Result<Vec<Told>, AllocError>
-    ensures { IfOk result (λ told. (rest : List Refusal) × (map (λ t. t.refusal) told.items ≡ refusal ∷ rest)) }
-{
-    let Ok(others) = further_faults(alloc, bytes, &refusal) else {
+    let finding = known_finding(alloc, bytes, &refusal)?;
+    let Ok(mut faults) = further_faults(alloc, bytes, &refusal) else {
         return Err(AllocError);
     };
-    let mut all = others;
-    let first = told(alloc, bytes, refusal)?;
-    all.insert(0, first)?;
-    Ok(all)
+    let first = Told { refusal, finding };
+    faults.insert(0, first)?;
+    Ok(faults)
+}
+
+/// The faults of a source, the one that it is refused for first; none where it is accepted.
+fn faults_of(alloc: Global, bytes: &[u8]) -> Result<Vec<Told>, AllocError>
+    ensures { IfOk result (λ told. AreFaults IsAccepted IsRefused bytes.now (map (λ t. t.refusal) told.items)) }
+{
+    match accept(alloc, bytes) {
+        Ok(_nodes) => Ok(Vec::new(alloc)),
+        Err(explanation) => faults_with(alloc, bytes, explanation.refusal),
+    }
 }
 
 impl Compiler for Front {
-    ghost use Rattle.std.specs.Prelude.{ℕ, List, Option};
-    ghost use Rattle.lus_reports.specs.CliSpecs.MachineSpecs.Acceptance.{AcceptedWith};
-    ghost use Rattle.lus_reports.specs.Explanations.{IsExplained};
+    ghost use Rattle.lus_lsp.specs.Verdicts.{IsAccepted, IsRefused};
 
-    ghost accepts = { λ source. (nodes : ℕ) × AcceptedWith source nodes };
+    ghost accepts = { IsAccepted };
 
-    ghost refuses = { λ source refusal. (line : Option (List ℕ)) × IsExplained source refusal line };
+    ghost refuses = { IsRefused };
 
     fn faults(&self, alloc: Global, source: &str) -> Result<Vec<Told>, AllocError> {
-        let bytes = source.as_bytes();
-        match accept(alloc, bytes) {
-            Ok(_) => Ok(Vec::new(alloc)),
-            Err(explanation) if explanation.refusal.number == RefusalNumber::Memory => {
-                Err(AllocError)
-            }
-            Err(explanation) => refused(alloc, bytes, explanation.refusal),
-        }
+        faults_of(alloc, source.as_bytes())
     }
 
-    fn laid_out(&self, alloc: Global, _source: &str) -> Result<Option<String>, AllocError> {
-        Ok(None)
+    fn laid_out(&self, alloc: Global, source: &str) -> Result<Option<String>, AllocError> {
+        match format(alloc, source) {
+            Ok(made) => Ok(Some(made)),
+            Err(FormatError::Refused(refusal)) if refusal.number == RefusalNumber::Memory => {
+                Err(AllocError)
+            }
+            Err(_) => Ok(None),
+        }
     }
 }
