@@ -95,7 +95,8 @@ pub fn converse<C: Compiler, I: Source, O: Sink>(
     let mut server = Server::new(alloc);
     let mut line = Vec::new(alloc);
     for _turn in 0..u64::MAX {
-        let Some(message) = read_frame(alloc, input, &mut line)? else {
+        let read = read_frame(alloc, input, &mut line)?;
+        let Some(message) = read else {
             return Ok(1);
         };
         exchange(alloc, compiler, &mut server, &message, output)?;

@@ -69,7 +69,8 @@ fn perform<C: Compiler>(
 ) -> Result<String, AllocError>
     ensures { IfOk result (λ t. IsAnswerOf id.now (string_bytes t)) }
 {
-    match outcome(alloc, compiler, server, method, parameters)? {
+    let done = outcome(alloc, compiler, server, method, parameters)?;
+    match done {
         Ok(given) => result(alloc, id, given.as_str()),
         Err(problem) => fault(alloc, id, problem),
     }

@@ -3,6 +3,6 @@ use Rattle.std.proofs.lemmas.Result.{IfOk-weaker}
 use Rattle.lus_editing.specs.Answers.{error_text, problem_code, problem_message}
 use Rattle.lus_editing.proofs.serving.perform.Goals as goal
 
-pub returns-in-Ok-Err : goal.returns-in-Ok-Err
-returns-in-Ok-Err g c =
-    IfOk-weaker c.fault.result _ _ (λ t is. (error_text (problem_code c.in-Ok-Err.problem) (problem_message c.in-Ok-Err.problem), is)) c.fault.ensures
+pub returns-in-Err : goal.returns-in-Err
+returns-in-Err g c =
+    IfOk-weaker c.fault.result _ _ (λ t is. (error_text (problem_code c.in-Err.problem) (problem_message c.in-Err.problem), is)) c.fault.ensures
