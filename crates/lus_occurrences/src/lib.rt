@@ -9,4 +9,5 @@ mod names;
 mod occurrence;
 mod resolving;
 
+pub use lus_faults;
 pub use occurrence::{Declared, Occurrence, Use, declaration_at, occurrences};
