@@ -1,12 +1,14 @@
-//! Tests of what is below machines: values, orders, tokens, clocks, normal forms, the code of small programs, replies, and what C reads
-//! and writes. In one crate above them all, since a crate with tests is proved twice, and its start is as dear as ten tests. Which texts
-//! are read, and what operators give in programs, is tested by `rows/`, of which nothing is proved anew.
+//! Tests of what is below machines: values, orders, tokens, clocks, normal forms, values of expressions, the code of small programs,
+//! replies, and what C reads and writes. In one crate above them all, since a crate with tests is proved twice, and its start is as
+//! dear as ten tests. Which texts are read, and what operators give in programs, is tested by `rows/`, of which nothing is proved anew.
 #![tactic(auto)]
 
 #[cfg(test)]
 mod clocks;
 #[cfg(test)]
 mod codes;
+#[cfg(test)]
+mod evaluations;
 #[cfg(test)]
 mod leaves;
 #[cfg(test)]

@@ -2,3 +2,4 @@ pub mod Drops
 pub mod Recalled
 pub mod Renewed
 pub mod Steps
+pub mod Listed

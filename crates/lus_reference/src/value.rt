@@ -19,7 +19,7 @@ use lus_values::{Memory, Operator, Row, Value};
 use std::alloc::Global;
 
 /// The first output of a call of a node, from the rows of the calls from it on.
-fn output_at(
+pub fn output_at(
     alloc: Global,
     program: &Program,
     called: u32,
@@ -34,14 +34,14 @@ fn output_at(
 }
 
 /// Whether an entry is kept of the second of these parts, which is the operand of the first.
-fn has_begun(kept: &[Option<Value>]) -> bool
+pub fn has_begun(kept: &[Option<Value>]) -> bool
     ensures { result ≡ is_some (item None (map entry_of kept.now) 1) }
 {
     matches!(kept.get(1), Some(Some(_)))
 }
 
 /// What an operator gives for its operands, if all have values.
-fn operate_on(
+pub fn operate_on(
     alloc: Global,
     operator: Operator,
     values: Option<Vec<Value>>,
