@@ -1,3 +1,4 @@
 pub mod Unique
 pub mod WithoutFault
+pub mod Newest
 pub mod Examples

@@ -1,12 +1,13 @@
 -- What the equations give after a past is unique, faults or none: as the instants of streams are.
-use Rattle.std.proofs.Common.{◌≡◌, ℕ, zero, suc, ◌+◌, ◌<◌, ◌≤◌, nat_lt, Bool, true, false, ◌&&◌, List, [], ◌∷◌, length, take, drop, Option, Some, None, refl, sym, ap, ap₂, ◌∙◌, subst, MatchBool, is_some, ⊎_elim}
+use Rattle.std.proofs.Common.{◌≡◌, ℕ, suc, ◌+◌, ◌<◌, ◌≤◌, nat_lt, Bool, true, false, ◌&&◌, List, [], ◌∷◌, length, take, drop, Option, Some, None, refl, sym, ap, ap₂, ◌∙◌, subst, MatchBool, is_some, ⊎_elim}
 use Rattle.std.proofs.lemmas.Bool.{ltb-true, cases_lt}
 use Rattle.lus_program.specs.declared.expr.Test.{Test}
-use Rattle.lus_program.specs.Programs.{Expression, literal, variable, operate, pre, arrow, when, merge, call, Operands, none, more, Node, Program, node_at, empty_node}
+use Rattle.lus_program.specs.Programs.{Expression, literal, variable, operate, pre, arrow, when, merge, call, Operands, none, more, Node, Program, node_at}
 use Rattle.lus_values.specs.Lists.{item, Each}
 use Rattle.lus_values.specs.Operators.{apply}
-use Rattle.lus_streams.specs.Clocks.{Clock, clock_of, Part, operand, renamed_clock, renamed_test, formal_clock, base_of, branch_clock, parts, all_parts}
+use Rattle.lus_streams.specs.Clocks.{Clock, clock_of, Part, renamed_clock, formal_clock, base_of, branch_clock, parts, all_parts}
 use Rattle.lus_streams.specs.Streams.{Instant, instant, Called, nobody, also, World, is_present, row_of, entry, called_instant, called_world, is_constructor, is_on, at_last, with_operand, with_operands, where_on, value, values, branch, inputs_given, definition_value, Follows}
+use Rattle.lus_streams.proofs.Unique.{formal_variables, order_at, clocks_at}
 use Rattle.lus_attempts.specs.Attempts.{EquationsFollow, IsAttempt, EachAttempt}
 use Rattle.lus_streams.specs.Equations.{Definition, given_by, definition_of, node_parts, Site, sites}
 use Rattle.lus_streams.specs.OnClock.{actuals, DefinedOnClock, IsOnClocks, ProgramOnClocks}
@@ -14,29 +15,10 @@ use Rattle.lus_streams.specs.Order.{needs, needs_all, clock_variables, needs_rig
 use Rattle.lus_streams.proofs.Calls.{OfCall, OfSite, AtBase, equation_calls, sites_of_parts, parts_of_sites}
 use Rattle.lus_streams.proofs.Definitions.{RightParts, right_parts, defined_on_clock}
 use Rattle.lus_streams.proofs.Orders.{by_order}
-use Rattle.lus_streams.proofs.Lists.{each_left, each_right, each_all, each_item, each_map_append, each_map_right, each_map_drop, below_at, item_past, item_take, ext_item}
+use Rattle.lus_streams.proofs.Lists.{each_left, each_right, each_all, each_map_right, each_map_drop, below_at, item_past, item_take, ext_item}
 
 abbrev variable_of : Test → ℕ
 variable_of t = t.variable
-
--- an item of the operands needs what they all need
-operand_needs : (P : ℕ → Type 0) (es : Operands) → Each P (needs_all es) → (n : ℕ) → Each P (needs (operand es n))
-operand_needs P none h n = tt
-operand_needs P (more e es) h zero = each_left P (needs e) (needs_all es) h
-operand_needs P (more e es) h (suc n) = operand_needs P es (each_right P (needs e) (needs_all es) h) n
-
-renamed_test_variables : (P : ℕ → Type 0) (e : Expression) (c : ℕ) (k : Clock) → Each P (needs e) → Each P (clock_variables k) → Each P (clock_variables (renamed_test e c k))
-renamed_test_variables P (variable x) c k h hk = (h.0, hk)
-renamed_test_variables P _ c k h hk = hk
-
-renamed_variables : (P : ℕ → Type 0) (args : Operands) (k : Clock) → Each P (needs_all args) → Each P (clock_variables (renamed_clock args k))
-renamed_variables P args [] h = tt
-renamed_variables P args (t ∷ k) h =
-    renamed_test_variables P (operand args t.variable) t.constructor (renamed_clock args k) (operand_needs P args h t.variable) (renamed_variables P args k h)
-
-pub formal_variables : (P : ℕ → Type 0) (g : Node) (args : Operands) (base : Clock) (m : ℕ) → Each P (needs_all args) → Each P (clock_variables base) → Each P (clock_variables (formal_clock g args base m))
-formal_variables P g args base m h hb =
-    each_map_append P variable_of (renamed_clock args (clock_of g m)) base (renamed_variables P args (clock_of g m) h) hb
 
 -- two instants after one past
 module _ (p : Program) (now now' : Instant) (past : World) (same_base : is_present now ≡ is_present now') where
@@ -168,12 +150,6 @@ module _ (p : Program) (now now' : Instant) (past : World) (same_base : is_prese
       ap₂ also (sym h.0.numbered ∙ e.0 ∙ h'.0.numbered) (calls_same js js' ss h.2 h'.2 e.1)
 
 module _ (p : Program) (causal : IsCausal p) (clocks : ProgramOnClocks p) where
-  pub order_at : (f : ℕ) → HasOrder (node_at p f)
-  order_at = each_item HasOrder empty_node p.nodes ([], record { first = tt; all = tt }) causal
-
-  pub clocks_at : (f : ℕ) → IsOnClocks p (node_at p f)
-  clocks_at = each_item (IsOnClocks p) empty_node p.nodes (record { declared = tt; lefts = tt; rights = tt }) clocks
-
   mutual
     pub attempt_unique : (i i' : Instant) (f : ℕ) (past : World) → IsAttempt p i f past → IsAttempt p i' f past → is_present i ≡ is_present i'
         → take (node_at p f).inputs (row_of i) ≡ take (node_at p f).inputs (row_of i') → i ≡ i'
@@ -182,9 +158,9 @@ module _ (p : Program) (causal : IsCausal p) (clocks : ProgramOnClocks p) where
         let now' = instant b' row' js' in
         let node = node_at p f in
         let facts = parts_of_sites p (CallSame p now now' past eb) (node_parts p node) (calls_facts js js' (sites p node) now now' past eb h.1 h'.1) in
-        let o = order_at f in
-        let all = all_same p now now' past eb node h.0 h'.0 ei (clocks_at f) facts o in
-        let rows : row ≡ row' = row_same p now now' past eb node h.0 h'.0 ei (clocks_at f) facts o in
+        let o = order_at p causal clocks f in
+        let all = all_same p now now' past eb node h.0 h'.0 ei (clocks_at p causal clocks f) facts o in
+        let rows : row ≡ row' = row_same p now now' past eb node h.0 h'.0 ei (clocks_at p causal clocks f) facts o in
         let same = determined p now now' past eb all node facts in
         let calls : js ≡ js' = calls_same p now now' past eb js js' (sites p node) h.1 h'.1 same in
         λ i. instant (eb i) (rows i) (calls i)

@@ -1,11 +1,12 @@
 -- Laws of attempts.
 use Rattle.std.specs.Prelude.{◌≡◌, ℕ, List, ◌∷◌, take}
 use Rattle.lus_values.specs.Values.{Row}
+use Rattle.lus_program.specs.declared.expr.Test.{Test}
 use Rattle.lus_program.specs.Programs.{Program, node_at}
-use Rattle.lus_streams.specs.Clocks.{Part}
+use Rattle.lus_streams.specs.Clocks.{clock_of, Part}
 use Rattle.lus_streams.specs.OnClock.{ProgramOnClocks}
 use Rattle.lus_streams.specs.Order.{IsCausal}
-use Rattle.lus_streams.specs.Streams.{Instant, World, is_present, row_of, IsInstant, Streams}
+use Rattle.lus_streams.specs.Streams.{Instant, World, is_present, row_of, holds, is_on, IsInstant, Streams}
 use Rattle.lus_streams.specs.Throughout.{Throughout}
 use Rattle.lus_attempts.specs.Attempts.{IsAttempt, HasNoFault, Tries, FaultAt}
 
@@ -17,6 +18,15 @@ pub record AreWithoutFault (p : Program) : Type 0 where
 
 abbrev pub InstantsAreWithoutFault : Type 0
 InstantsAreWithoutFault = (p : Program) → AreWithoutFault p
+
+-- a clock is present exactly where its newest test holds, as a variable has an entry only where its clock is present
+abbrev pub NewestTestDecides : Program → Type 0
+NewestTestDecides p =
+    (now : Instant) (f : ℕ) (past : World) → IsAttempt p now f past
+    → (t : Test) → is_on (t ∷ clock_of (node_at p f) t.variable) now ≡ holds t.variable t.constructor now
+
+abbrev pub NewestTestsDecide : Type 0
+NewestTestsDecide = (p : Program) → NewestTestDecides p
 
 -- after a past there is at most one attempt with a base and inputs
 abbrev pub AttemptsAreUnique : Program → Type 0

@@ -1,7 +1,7 @@
 //! What equations give at an instant at which something in a program's text may be at fault, and the laws that this obeys.
 #![tactic(auto)]
 
-ghost use Rattle.lus_attempts.specs.Laws.{CausalAttemptsAreUnique, FaultsEndStreams, InstantsAreWithoutFault};
+ghost use Rattle.lus_attempts.specs.Laws.{CausalAttemptsAreUnique, FaultsEndStreams, InstantsAreWithoutFault, NewestTestsDecide};
 
 /// An instant of streams is what the equations give where nothing is at fault, in the called nodes either.
 pub fn instants_are_without_fault()
@@ -16,4 +16,9 @@ pub fn attempts_are_unique()
 /// Where something is at fault in what the equations give after streams, there are no streams for the inputs so far and these.
 pub fn faults_end_streams()
     ensures { FaultsEndStreams }
+{}
+
+/// Where equations hold, faults or none, a clock is present exactly where its newest test holds.
+pub fn newest_tests_decide()
+    ensures { NewestTestsDecide }
 {}

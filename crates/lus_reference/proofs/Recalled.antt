@@ -4,7 +4,7 @@ use Rattle.lus_values.specs.Lists.{item}
 use Rattle.lus_values.specs.Operators.{apply}
 use Rattle.lus_values.specs.Values.{Value, nil, Row}
 use Rattle.lus_program.specs.Parts.{parts as count, parts_all as all_count}
-use Rattle.lus_program.specs.Programs.{Expression, literal, variable, operate, pre, arrow, when, merge, call, Operands, none, more, calls, all_calls, numbered, all_numbered, Program, node_at}
+use Rattle.lus_program.specs.Programs.{Expression, literal, variable, operate, pre, arrow, when, merge, call, Operands, none, more, calls, numbered, all_numbered, Program, node_at}
 use Rattle.lus_streams.specs.Clocks.{Clock, Part, at, formal_clock, base_of, branch_clock, parts, all_parts}
 use Rattle.lus_streams.specs.Streams.{Instant, World, row_of, entry, called_instant, is_on, is_constructor, at_last, with_operand, with_operands, value, values, branch}
 use Rattle.lus_reference.specs.Kept.{before, latest, HadValue, Keeps, AreRowsFrom, recalled, all_recalled, branch_recalled}

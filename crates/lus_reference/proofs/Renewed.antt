@@ -1,7 +1,7 @@
 -- What is kept of parts from instant to instant.
-use Rattle.std.proofs.Common.{◌≡◌, Bool, true, false, List, [], ◌∷◌, drop, Option, refl, ap}
+use Rattle.std.proofs.Common.{true, false, List, [], ◌∷◌, drop, refl, ap}
 use Rattle.lus_values.specs.Lists.{Each}
-use Rattle.lus_values.specs.Values.{Value, Row}
+use Rattle.lus_values.specs.Values.{Row}
 use Rattle.lus_program.specs.Programs.{Program}
 use Rattle.lus_streams.specs.Clocks.{Part, at}
 use Rattle.lus_streams.specs.Streams.{Instant, World, is_on, value, HasValue}

@@ -1,5 +1,5 @@
 -- Operands and branches, one behind another; operations and merges, as contracts see their operands.
-use Rattle.std.proofs.Common.{◌≡◌, ◌∙◌, sym, ap, ap₂, subst, ℕ, suc, ◌+◌, [], ◌∷◌, ◌++◌, drop, drop-cons, map, Option, Some, None, is_some, true, false, IfOk, arith, rules}
+use Rattle.std.proofs.Common.{◌≡◌, ◌∙◌, sym, ap, ap₂, subst, suc, ◌+◌, [], ◌∷◌, ◌++◌, drop, drop-cons, map, Option, Some, None, is_some, true, false, IfOk, arith, rules}
 use Rattle.std.proofs.lemmas.Grind.{common_steps}
 use Rattle.std.specs.Option.{option_map}
 use Rattle.lus_values.specs.Lists.{item}
