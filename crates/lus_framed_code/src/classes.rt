@@ -1,6 +1,6 @@
 //! The code of all classes with calls.
 
-ghost use Rattle.std.specs.Prelude.{◌≡◌, IfOk, length};
+ghost use Rattle.std.specs.Prelude.{◌≡◌, ◌≢◌, ◌<◌, ℕ, IfOk, Some, length, slice_get};
 ghost use Rattle.lus_graph.specs.Ways.{IsOrder};
 ghost use Rattle.lus_frames.specs.Bounds.{AreBound};
 ghost use Rattle.lus_frames.specs.Classes.{AreFramed};
@@ -34,6 +34,16 @@ fn without_code(alloc: Global, count: usize) -> Result<Vec<Framed>, Unframed>
     Ok(framed)
 }
 
+/// The parts of a class, which are handed over.
+fn taken(alloc: Global, parts: &mut [Vec<Part>], place: usize) -> Vec<Part>
+    requires { place < length parts.old }
+    ensures taken { slice_get parts.old place ≡ Some result }
+    ensures others { (g : ℕ) → g ≢ place → slice_get parts.new g ≡ slice_get parts.old g }
+    ensures size { length parts.new ≡ length parts.old }
+{
+    mem::replace(&mut parts[place], Vec::new(alloc))
+}
+
 /// Gives classes the code of their parts, in which each call has a frame, in an order in which each class comes after those that it
 /// calls. The parts of a class are handed over.
 pub fn frame_classes(
@@ -45,13 +55,14 @@ pub fn frame_classes(
     requires ready { AreReady classes.now }
     requires order { IsOrder (class_uses classes.now) order.now }
     requires parts { HaveParts classes.now parts.old }
+    requires size { length parts.old ≡ length classes.now }
     ensures code { IfOk result (λ framed. HaveCode classes.now framed.items) }
     ensures framed { IfOk result (λ framed. AreFramed framed.items) }
     ensures bound { IfOk result (λ framed. AreBound framed.items) }
 {
     let mut framed = without_code(alloc, classes.len())?;
     for place in order {
-        let own = mem::replace(&mut parts[*place], Vec::new(alloc));
+        let own = taken(alloc, parts, *place);
         let code = frame_class(alloc, classes, &framed, &classes[*place], own)?;
         framed[*place] = code;
     }
