@@ -34,3 +34,8 @@ fault_json file r message line column more =
 abbrev pub SaysFault : Text → Refusal → Text → Type 0
 SaysFault file r text =
     (message more : Text) × (line column : ℕ) × (text ≡ fault_json file r message line column more)
+
+-- the warnings of this file, on a line of its own
+abbrev pub SaysWarnings : Text → Text → Type 0
+SaysWarnings file text =
+    (objects : Text) × (text ≡ codes "{\"file\":" ++ quoted file ++ (codes ",\"warnings\":[" ++ objects ++ codes "]}\n"))

@@ -1,8 +1,10 @@
-//! What there is to say of a refused source, as a line of JSON for editors.
+//! What there is to say of a refused source, or what an accepted one is warned of, as lines of JSON for editors.
 #![tactic(auto)]
 
 mod line;
 mod members;
 mod ranges;
+mod warnings;
 
 pub use line::{fault_lines, push_number, push_string};
+pub use warnings::warnings_line;

@@ -14,7 +14,7 @@ fn push_position(text: &mut String, name: &str, at: Position) -> Result<(), Allo
 }
 
 /// Appends both ends of a range.
-fn push_range(text: &mut String, range: Range) -> Result<(), AllocError> {
+pub(crate) fn push_range(text: &mut String, range: Range) -> Result<(), AllocError> {
     push_position(text, "start", range.start)?;
     text.push_str(",")?;
     push_position(text, "end", range.end)
@@ -45,7 +45,7 @@ fn push_related(
 }
 
 /// Appends the further places.
-fn push_places(
+pub(crate) fn push_places(
     alloc: Global,
     text: &mut String,
     source: &str,
@@ -62,7 +62,11 @@ fn push_places(
 }
 
 /// Appends the note, if there is one.
-fn push_note(alloc: Global, text: &mut String, note: Option<&str>) -> Result<(), AllocError> {
+pub(crate) fn push_note(
+    alloc: Global,
+    text: &mut String,
+    note: Option<&str>,
+) -> Result<(), AllocError> {
     match note {
         Some(note) => {
             let note = quoted(alloc, note)?;
@@ -72,18 +76,26 @@ fn push_note(alloc: Global, text: &mut String, note: Option<&str>) -> Result<(),
     }
 }
 
-/// Appends the change of the text, if there is one.
-fn push_edit(
+/// Where a change of the text begins and ends.
+fn range_of_edit(source: &str, edit: Option<&Edit>) -> Option<Range> {
+    match edit {
+        Some(edit) => Some(range_of_bytes(source, edit.byte, edit.length)),
+        None => None,
+    }
+}
+
+/// Appends the change of the text between two places, if there is one.
+pub(crate) fn push_edit(
     alloc: Global,
     text: &mut String,
-    source: &str,
+    range: Option<Range>,
     edit: Option<&Edit>,
 ) -> Result<(), AllocError> {
-    let Some(edit) = edit else {
+    let (Some(range), Some(edit)) = (range, edit) else {
         return text.push_str(",\"suggestion\":null");
     };
     text.push_str(",\"suggestion\":{")?;
-    push_range(text, range_of_bytes(source, edit.byte, edit.length))?;
+    push_range(text, range)?;
     let new = quoted(alloc, edit.text.as_str())?;
     write!(text, ",\"text\":{new}}}")
 }
@@ -102,7 +114,8 @@ pub(crate) fn further_members(
     push_cycle(alloc, &mut text, refusal)?;
     push_places(alloc, &mut text, source, finding)?;
     push_note(alloc, &mut text, finding.note.as_deref())?;
-    push_edit(alloc, &mut text, source, finding.edit.as_ref())?;
+    let edit = finding.edit.as_ref();
+    push_edit(alloc, &mut text, range_of_edit(source, edit), edit)?;
     let number = refusal.number.as_str();
     write!(text, ",\"docs\":\"docs/ERRORS.md#{number}\"")?;
     Ok(text)

@@ -43,6 +43,22 @@ pub(crate) fn range_of_span(source: &str, span: Span) -> Range {
     Range { start, end }
 }
 
+/// The places of so many bytes from one on that stands in a span or behind it.
+pub(crate) fn range_within(source: &str, span: Span, byte: usize, length: usize) -> Range {
+    let first = Position {
+        line: span.start.line,
+        column: span.start.column,
+    };
+    let start = behind(
+        source,
+        span.start.byte,
+        first,
+        byte.saturating_sub(span.start.byte),
+    );
+    let end = behind(source, byte, start, length);
+    Range { start, end }
+}
+
 /// The places of so many bytes from one on.
 pub(crate) fn range_of_bytes(source: &str, byte: usize, length: usize) -> Range {
     let first = Position { line: 1, column: 1 };

@@ -1,0 +1,4 @@
+pub mod ConversationLaws
+pub mod DiagnosticLaws
+pub mod MessageLaws
+pub mod ServingLaws

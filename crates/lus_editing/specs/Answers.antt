@@ -1,0 +1,42 @@
+-- Answers to requests (JSON-RPC 2.0, "Response object"; Language Server Protocol 3.17, "Response Message").
+use Rattle.std.specs.Prelude.{◌≡◌, ℕ, ◌++◌, codes}
+use Rattle.std.specs.Fmt.{decimal}
+use Rattle.lus_syntax.specs.Lexemes.{Text}
+use Rattle.lus_editing.specs.declared.answers.Problem.{Problem}
+use Rattle.lus_editing.specs.declared.answers.Problem.TheVariants as problems
+
+-- the codes of errors, which are negative, without their minus
+abbrev pub problem_code : Problem → ℕ
+problem_code problems.Parse = 32700
+problem_code problems.Request = 32600
+problem_code problems.Method = 32601
+problem_code problems.Parameters = 32602
+problem_code problems.Early = 32002
+
+-- the same in words
+abbrev pub problem_message : Problem → Text
+problem_message problems.Parse = codes "the message is no JSON"
+problem_message problems.Request = codes "the message is no request that can be done now"
+problem_message problems.Method = codes "this server has no such method"
+problem_message problems.Parameters = codes "the method can't take these parameters"
+problem_message problems.Early = codes "the request comes before `initialize`"
+
+-- what each answer to the request of an id begins with
+abbrev pub answer_text : Text → Text
+answer_text id = codes "{\"jsonrpc\":\"2.0\",\"id\":" ++ id ++ codes ","
+
+-- why a request isn't done
+abbrev pub error_text : ℕ → Text → Text
+error_text code message = codes "\"error\":{\"code\":-" ++ (decimal code ++ (codes ",\"message\":\"" ++ (message ++ codes "\"}}")))
+
+-- what a request gives
+abbrev pub result_text : Text → Text
+result_text given = codes "\"result\":" ++ (given ++ codes "}")
+
+-- the answer to the request of an id that it isn't done
+abbrev pub fault_text : Text → Problem → Text
+fault_text id problem = answer_text id ++ error_text (problem_code problem) (problem_message problem)
+
+-- an answer to the request of an id, with a result or an error
+abbrev pub IsAnswerOf : Text → Text → Type 0
+IsAnswerOf id said = (rest : Text) × (said ≡ answer_text id ++ rest)

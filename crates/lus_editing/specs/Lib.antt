@@ -1,0 +1,5 @@
+pub mod Answers
+pub mod Diagnostics
+pub mod Messages
+pub mod Serving
+pub mod Conversations

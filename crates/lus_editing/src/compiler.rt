@@ -1,0 +1,25 @@
+//! What a server asks of a compiler.
+
+ghost use Rattle.std.specs.Prelude.{IfOk, map};
+ghost use Rattle.lus_editing.specs.Diagnostics.{AreFaults};
+
+use lus_further::Told;
+use std::alloc::{AllocError, Global};
+
+/// A compiler, as far as an editor needs it.
+pub trait Compiler {
+    ghost use Rattle.std.specs.Prelude.{ℕ, List};
+    ghost use Rattle.lus_syntax.specs.declared.refusal.Refusal.{Refusal};
+
+    // That a source is accepted, and that a refusal is one of a source.
+    ghost accepts: { List ℕ → Type 0 };
+
+    ghost refuses: { List ℕ → Refusal → Type 0 };
+
+    /// The faults of a source, the one that it is refused for first; none where it is accepted.
+    fn faults(&self, alloc: Global, source: &str) -> Result<Vec<Told>, AllocError>
+        ensures { IfOk result (λ told. AreFaults accepts refuses source.now (map (λ t. t.refusal) told.items)) };
+
+    /// A source as it is laid out; nothing where it can't be read.
+    fn laid_out(&self, alloc: Global, source: &str) -> Result<Option<String>, AllocError>;
+}

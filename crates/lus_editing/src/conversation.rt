@@ -1,0 +1,108 @@
+//! A conversation with an editor, message by message.
+
+ghost use Rattle.std.specs.Prelude.{◌≡◌, IfOk, OnErr, OnOk, string_bytes};
+ghost use Rattle.lus_devices.specs.Devices.{WritesBeginning, with_text};
+ghost use Rattle.lus_framing.specs.Frames.{frame_text};
+ghost use Rattle.lus_editing.specs.Conversations.{HasSaid, WritesFrames};
+
+use crate::compiler::Compiler;
+use crate::server::Server;
+use crate::serving::serve;
+use lus_devices::{Failure, Sink, Source};
+use lus_framing::{FrameError, push_frame, read_frame, write_frame};
+use std::alloc::{AllocError, Global};
+use thiserror::Error;
+
+/// Why a conversation ended short.
+#[derive(Clone, Copy, Debug, PartialEq, Eq, Error)]
+pub enum ConversationError {
+    #[error("the input has no whole message: {0}")]
+    Input(FrameError),
+    #[error("a write failed")]
+    Output,
+    #[error("out of memory")]
+    Memory,
+}
+
+impl From<FrameError> for ConversationError {
+    fn from(error: FrameError) -> ConversationError {
+        match error {
+            FrameError::Memory => ConversationError::Memory,
+            _ => ConversationError::Input(error),
+        }
+    }
+}
+
+impl From<Failure> for ConversationError {
+    fn from(_failure: Failure) -> ConversationError {
+        ConversationError::Output
+    }
+}
+
+impl From<AllocError> for ConversationError {
+    fn from(_error: AllocError) -> ConversationError {
+        ConversationError::Memory
+    }
+}
+
+/// A message in its frame.
+fn framed(alloc: Global, said: &str) -> Result<String, AllocError>
+    ensures { IfOk result (λ frame. string_bytes frame ≡ frame_text said.now) }
+{
+    let mut frame = String::new(alloc);
+    push_frame(&mut frame, said)?;
+    Ok(frame)
+}
+
+/// Writes a message in its frame.
+fn say<O: Sink>(alloc: Global, output: &mut O, said: &str) -> Result<(), ConversationError>
+    ensures whole { OnOk result (O.written output.new ≡ with_text (O.written output.old) (frame_text said.now)) }
+    ensures beginning { OnErr result (WritesBeginning (O.written output.old) (O.written output.new) (frame_text said.now)) }
+{
+    let frame = framed(alloc, said)?;
+    write_frame(output, frame.as_str())?;
+    Ok(())
+}
+
+/// Serves a message, and writes what there is to say to it.
+fn exchange<C: Compiler, O: Sink>(
+    alloc: Global,
+    compiler: &C,
+    server: &mut Server,
+    message: &[u8],
+    output: &mut O,
+) -> Result<(), ConversationError>
+    ensures whole { OnOk result (HasSaid (O.written output.old) (O.written output.new)) }
+    ensures beginning { OnErr result (WritesFrames (O.written output.old) (O.written output.new)) }
+{
+    let answer = serve(alloc, compiler, server, message)?;
+    match &answer {
+        Some(said) => say(alloc, output, said.as_str()),
+        None => Ok(()),
+    }
+}
+
+/// Reads messages and serves each before the next is read, until the editor says that the process is to end, or the input ends.
+/// Gives the status to end with. All that is written is messages in their frames, each whole but for the last where a write failed.
+pub fn converse<C: Compiler, I: Source, O: Sink>(
+    alloc: Global,
+    compiler: &C,
+    input: &mut I,
+    output: &mut O,
+) -> Result<u8, ConversationError>
+    ensures { WritesFrames (O.written output.old) (O.written output.new) }
+{
+    let mut server = Server::new(alloc);
+    let mut line = Vec::new(alloc);
+    for _turn in 0..u64::MAX {
+        let read = read_frame(alloc, input, &mut line)?;
+        let Some(message) = read else {
+            return Ok(1);
+        };
+        exchange(alloc, compiler, &mut server, &message, output)?;
+        if let Some(status) = server.status() {
+            return Ok(status);
+        }
+    }
+    Ok(1)
+}

@@ -1,0 +1,18 @@
+//! What a server of a language answers to an editor, a message at a time (Language Server Protocol 3.17).
+#![tactic(auto)]
+
+mod actions;
+mod answers;
+mod compiler;
+mod conversation;
+mod diagnostics;
+mod formatting;
+mod messages;
+mod queries;
+mod server;
+mod serving;
+
+pub use compiler::Compiler;
+pub use conversation::{ConversationError, converse};
+pub use server::Server;
+pub use serving::serve;

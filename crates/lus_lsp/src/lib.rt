@@ -1,0 +1,7 @@
+//! `lus_lsp`: a language server, by which editors show the faults of a program as it is written, and mend and lay it out.
+#![tactic(auto)]
+
+mod front;
+mod shell;
+
+pub use shell::command;
