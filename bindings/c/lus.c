@@ -29,6 +29,12 @@ lus_status lus_raw_entries(H *, uint64_t *);
 lus_status lus_raw_entry(H *, uint64_t, lus_entry *, lus_value *, size_t, lus_value *, size_t);
 lus_status lus_raw_journal_text(H *, const uint8_t *, size_t, const uint8_t *, size_t, uint8_t *, size_t, uint64_t *);
 lus_status lus_raw_entry_text(H *, uint64_t, const uint8_t *, size_t, uint8_t *, size_t, uint64_t *);
+lus_status lus_raw_live_open(H *, uint32_t, H *);
+lus_status lus_raw_live_call(H *, uint32_t, uint64_t, const lus_value *, size_t, lus_answer *, lus_value *, size_t);
+lus_status lus_raw_live_replay(H *, const uint8_t *, size_t);
+lus_status lus_raw_live_entry(H *, lus_entry *, lus_value *, size_t, lus_value *, size_t);
+lus_status lus_raw_live_line(H *, const uint8_t *, size_t, uint8_t *, size_t, uint64_t *);
+lus_status lus_raw_live_count(H *, uint64_t *);
 lus_status lus_raw_free(H *);
 
 static uint64_t none[2];
@@ -124,5 +130,43 @@ lus_status lus_journal_text(H *j, const char *instance, size_t m, const char *ca
 lus_status lus_entry_text(H *j, uint64_t place, const char *callers, size_t n, char *text, size_t room, uint64_t *bytes) {
     NEED(j && (callers || !n) && (text || !room) && bytes);
     return lus_raw_entry_text(j, place, BYTES(callers, n), n, BYTES(text, room), room, bytes);
+}
+/* A call takes a live instance out of its handle, and puts it back: another call that comes meanwhile finds an empty handle. */
+static int take(H *live, H *own) {
+    uint64_t full = 1;
+    if (!live || !atomic_compare_exchange_strong((_Atomic uint64_t *)&live->live, &full, 0)) return 0;
+    *own = (H){1, live->kept};
+    return 1;
+}
+static lus_status put(H *live, const H *own, lus_status status) {
+    live->kept = own->kept;
+    atomic_store((_Atomic uint64_t *)&live->live, own->live);
+    return status;
+}
+lus_status lus_live_open(H *p, uint32_t node, H *live) { NEED(p && live && p != live); return lus_raw_live_open(p, node, live); }
+lus_status lus_live_call(H *live, uint32_t request, uint64_t slot, const lus_value *in, size_t n, lus_answer *a, lus_value *out, size_t room) {
+    H own;
+    NEED((in || !n) && a && (out || !room) && take(live, &own));
+    return put(live, &own, lus_raw_live_call(&own, request, slot, VALUES(in, n), n, a, VALUES(out, room), room));
+}
+lus_status lus_live_replay(H *live, const char *line, size_t n) {
+    H own;
+    NEED((line || !n) && take(live, &own));
+    return put(live, &own, lus_raw_live_replay(&own, BYTES(line, n), n));
+}
+lus_status lus_live_entry(H *live, lus_entry *e, lus_value *in, size_t n, lus_value *out, size_t room) {
+    H own;
+    NEED(e && (in || !n) && (out || !room) && take(live, &own));
+    return put(live, &own, lus_raw_live_entry(&own, e, VALUES(in, n), n, VALUES(out, room), room));
+}
+lus_status lus_live_line(H *live, const char *caller, size_t n, char *text, size_t room, uint64_t *bytes) {
+    H own;
+    NEED((caller || !n) && (text || !room) && bytes && take(live, &own));
+    return put(live, &own, lus_raw_live_line(&own, BYTES(caller, n), n, BYTES(text, room), room, bytes));
+}
+lus_status lus_live_count(H *live, uint64_t *count) {
+    H own;
+    NEED(count && take(live, &own));
+    return put(live, &own, lus_raw_live_count(&own, count));
 }
 lus_status lus_free(H *h) { NEED(h); return lus_raw_free(h); }

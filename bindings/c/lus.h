@@ -26,6 +26,7 @@ typedef struct { uint64_t live; void *kept; } lus_handle;
 typedef lus_handle lus_program; /* an accepted program */
 typedef lus_handle lus_seat;    /* a caller's place at an instance of a node */
 typedef lus_handle lus_journal; /* the entries of an instance that was closed */
+typedef lus_handle lus_live;    /* an instance whose entries are handed out, and not kept */
 
 #define LUS_NONE {0, 0}
 
@@ -36,11 +37,12 @@ typedef enum {
     LUS_FULL = 3,     /* no entry was made: the history has 4,294,967,295 entries */
     LUS_REFUSED = 4,  /* the text is refused: see lus_refusal */
     LUS_NO_SUCH = 5,  /* there is none of this name or number */
-    LUS_VALUE = 6,    /* no entry was made: the inputs are no row of values, or there is no such request */
+    LUS_VALUE = 6,    /* no entry was made: the inputs are no row of values, there is no such request, or a line is none of the next entry */
     LUS_SHORT = 7,    /* done, but an array is too short: answer->count, or the like, says how long it has to be */
     LUS_HANDLE = 8,   /* nothing was done: wrong use of a handle, or a null pointer */
     LUS_SEATS = 9,    /* nothing was done: these aren't all seats of one instance */
-    LUS_TEXT = 10     /* nothing was done: the bytes are not UTF-8 */
+    LUS_TEXT = 10,    /* nothing was done: the bytes are not UTF-8 */
+    LUS_WRONG = 11    /* no entry was made: the line tells another reply than the instance gives */
 } lus_status;
 
 /* Why a text is refused: E1 to E11 as 1 to 11, with the place. For a cycle, `cycle` variables, whose names take `bytes` bytes
@@ -139,6 +141,30 @@ lus_status lus_journal_text(lus_journal *, const char *instance, size_t instance
 
 /* The line of one entry in that text. */
 lus_status lus_entry_text(lus_journal *, uint64_t place, const char *callers, size_t length, char *text, size_t room, uint64_t *bytes);
+
+/* A live instance of a node. It keeps its last entry and no other, so what it takes doesn't grow with its calls. It has no seats:
+ * one call at a time has it, and any that comes meanwhile is LUS_HANDLE, as with an empty handle. */
+lus_status lus_live_open(lus_program *, uint32_t node, lus_live *);
+
+/* One call, as `lus_try_call`, of the caller 0. On LUS_SHORT the call was made, and `lus_live_entry` gives its reply again. */
+lus_status lus_live_call(lus_live *, uint32_t request, uint64_t slot, const lus_value *inputs, size_t n, lus_answer *, lus_value *outputs,
+                         size_t room);
+static inline lus_status lus_live_step(lus_live *live, const lus_value *inputs, size_t n, lus_answer *answer, lus_value *outputs,
+                                       size_t room) {
+    return lus_live_call(live, LUS_STEP, 0, inputs, n, answer, outputs, room);
+}
+
+/* The last call's entry, until the next call; LUS_NO_SUCH before the first call, and behind a line that was replayed. */
+lus_status lus_live_entry(lus_live *, lus_entry *, lus_value *inputs, size_t n, lus_value *outputs, size_t room);
+
+/* The same entry as its line in a journal, with the name of its caller and a line feed. A journal is the line `instance NAME NODE`,
+ * the lines of all entries, and where the instance ended the line `entries COUNT`. */
+lus_status lus_live_line(lus_live *, const char *caller, size_t length, char *text, size_t room, uint64_t *bytes);
+
+/* Makes the entry of a line, with its line feed, where it is the right next one: given each line of a journal, the instance is where
+ * that journal's was. LUS_WRONG where its reply is another, LUS_VALUE where it is no line of the next entry. */
+lus_status lus_live_replay(lus_live *, const char *line, size_t bytes);
+lus_status lus_live_count(lus_live *, uint64_t *entries);
 
 lus_status lus_free(lus_handle *);
 

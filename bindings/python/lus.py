@@ -3,6 +3,7 @@
     program = lus.Program(text)
     seat, = program.open("thermostat")
     seat.step(temperature=18, low=19, high=22)    # {'heat': True, 'minutes': 1}
+    live = program.open_live("thermostat")        # keeps no history
 
 Inputs and outputs are Python values by name: bool, int, the name of a constructor, a dict of a structure's fields, and None
 where a clock is absent. Each thread has a seat of its own; seats of one instance may be called at the same time. A seat takes
@@ -14,15 +15,15 @@ import os
 import threading
 import time
 
-OK, BUSY, MEMORY, FULL, REFUSED, NO_SUCH, VALUE, SHORT, HANDLE, SEATS, TEXT = range(11)
+OK, BUSY, MEMORY, FULL, REFUSED, NO_SUCH, VALUE, SHORT, HANDLE, SEATS, TEXT, WRONG = range(12)
 _ABSENT, _BOOL, _INT, _ENUM, _STRUCT = range(5)
 _STEP, _RESET, _SAVE, _RESTORE, _BURST = range(1, 6)
 _OUTPUTS, _DONE, _NOT_DONE, _ROWS = range(1, 5)
 _WHY = ["", "shape", "presence", "fault", "nosave"]
 _REQUESTS = ["", "step", "reset", "save", "restore", "burst"]
 _STATUS = ["done", "another seat has the machine", "out of memory", "the history is full", "the text is refused",
-           "there is none of this name or number", "these are no values", "an array is too short", "wrong use of a handle",
-           "these are not all seats of one instance", "the bytes are not UTF-8"]
+           "there is none of this name or number", "these are no values, or no line of the next entry", "an array is too short", "wrong use of a handle",
+           "these are not all seats of one instance", "the bytes are not UTF-8", "the line tells another reply than the instance gives"]
 
 
 class Handle(c.Structure):
@@ -110,6 +111,12 @@ _CALLS = {
     "entries": [_H, _U64],
     "entry_at": [_H, c.c_uint64, c.POINTER(_Entry), _VALUES, _N, _VALUES, _N],
     "journal_text": [_H, _S, _N, _S, _N, _S, _N, _U64],
+    "live_open": [_H, c.c_uint32, _H],
+    "live_call": [_H, c.c_uint32, c.c_uint64, _VALUES, _N, c.POINTER(_Answer), _VALUES, _N],
+    "live_replay": [_H, _S, _N],
+    "live_entry": [_H, c.POINTER(_Entry), _VALUES, _N, _VALUES, _N],
+    "live_line": [_H, _S, _N, _S, _N, _U64],
+    "live_count": [_H, _U64],
     "free": [_H],
 }
 
@@ -289,9 +296,18 @@ class Program(_Owner):
             _must(_lus.lus_open(self._handle, self.nodes[node].number, handles, seats))
         return [Seat(self, self.nodes[node], handles[k]) for k in range(seats)]
 
+    def open_live(self, node):
+        """A live instance of the node of this name, which keeps no history."""
+        if node not in self.nodes:
+            raise Error(NO_SUCH)
+        handle = Handle()
+        with self._lock:
+            _must(_lus.lus_live_open(self._handle, self.nodes[node].number, handle))
+        return Live(self, self.nodes[node], handle)
 
-class Seat(_Owner):
-    """A caller's place at an instance of a node."""
+
+class _Callable(_Owner):
+    """What answers requests to an instance of a node."""
 
     def __init__(self, program, node, handle):
         super().__init__()
@@ -305,11 +321,11 @@ class Seat(_Owner):
         inputs = (_Value * len(row))(*row)
         with self._lock:
             outputs = (_Value * self._room)()
-            status = _lus.lus_try_call(self._handle, request, slot, inputs, len(row), answer, outputs, self._room)
+            status = self._made(self._handle, request, slot, inputs, len(row), answer, outputs, self._room)
             while status == SHORT:
                 self._room = answer.count
                 outputs = (_Value * self._room)()
-                status = _lus.lus_outputs(self._handle, answer, outputs, self._room)
+                status = self._reply_again(inputs, answer, outputs)
         if status == BUSY:
             raise Busy(answer.count)
         _must(status)
@@ -330,20 +346,11 @@ class Seat(_Owner):
             self._program._types.write(row, inputs.get(name), kind)
         return row
 
-    def try_step(self, /, **inputs):
-        """The outputs at the next instant, by their names, or Busy; or NotDone, which is an entry too."""
-        return self._call(_STEP, 0, self._row(inputs))
-
     def _rows(self, rows):
         values = []
         for inputs in rows:
             values += self._row(inputs)
         return values
-
-    def try_burst(self, rows):
-        """The outputs at several instants, given the inputs of each as a dict by their names: all of them, or NotDone and none."""
-        rows = list(rows)
-        return self._call(_BURST, len(rows), self._rows(rows))
 
     def _again(self, request, slot, row):
         while True:
@@ -353,11 +360,11 @@ class Seat(_Owner):
                 time.sleep(0)
 
     def step(self, /, **inputs):
-        """As `try_step`, again while the machine is taken."""
+        """The outputs at the next instant, by their names; or NotDone, which is an entry too."""
         return self._again(_STEP, 0, self._row(inputs))
 
     def burst(self, rows):
-        """As `try_burst`, again while the machine is taken."""
+        """The outputs at several instants, given the inputs of each as a dict by their names: all of them, or NotDone and none."""
         rows = list(rows)
         return self._again(_BURST, len(rows), self._rows(rows))
 
@@ -369,6 +376,24 @@ class Seat(_Owner):
 
     def restore(self, slot):
         self._again(_RESTORE, slot, [])
+
+
+class Seat(_Callable):
+    """A caller's place at an instance of a node. `step`, `burst`, `reset`, `save` and `restore` call again while another seat has the
+    machine; `try_step` and `try_burst` give Busy."""
+
+    def _made(self, *arguments):
+        return _lus.lus_try_call(*arguments)
+
+    def _reply_again(self, _inputs, answer, outputs):
+        return _lus.lus_outputs(self._handle, answer, outputs, len(outputs))
+
+    def try_step(self, /, **inputs):
+        return self._call(_STEP, 0, self._row(inputs))
+
+    def try_burst(self, rows):
+        rows = list(rows)
+        return self._call(_BURST, len(rows), self._rows(rows))
 
     def count(self):
         """How many entries there are."""
@@ -406,6 +431,47 @@ class Seat(_Owner):
     def release(self):
         with self._lock:
             _must(_lus.lus_release(self._handle))
+
+
+class Live(_Callable):
+    """An instance that keeps its last entry and no other: what it takes doesn't grow with its calls. Threads may share it, since it
+    has a lock of its own; but a call and its `line` then want a lock of theirs. For calls at the same time, take more instances."""
+
+    def _made(self, *arguments):
+        return _lus.lus_live_call(*arguments)
+
+    def _reply_again(self, inputs, answer, outputs):
+        entry, room = _Entry(), len(inputs)
+        status = _lus.lus_live_entry(self._handle, entry, (_Value * room)(), room, outputs, len(outputs))
+        answer.count = entry.outputs
+        return status
+
+    def line(self, caller):
+        """The line of the last call's entry in a journal, with its line feed."""
+        caller = caller.encode()
+        count = c.c_uint64()
+        text = c.create_string_buffer(256)
+        with self._lock:
+            status = _lus.lus_live_line(self._handle, caller, len(caller), text, 256, count)
+            if status == SHORT:
+                text = c.create_string_buffer(count.value)
+                status = _lus.lus_live_line(self._handle, caller, len(caller), text, count.value, count)
+        _must(status)
+        return text.raw[: count.value].decode()
+
+    def replay(self, line):
+        """Makes the entry of a line of a journal, with its line feed, where it is the right next one. Otherwise it is an Error whose
+        status is WRONG, where the line tells another reply, or VALUE, where it is no line of the next entry."""
+        line = line.encode()
+        with self._lock:
+            _must(_lus.lus_live_replay(self._handle, line, len(line)))
+
+    def count(self):
+        """How many entries were made."""
+        count = c.c_uint64()
+        with self._lock:
+            _must(_lus.lus_live_count(self._handle, count))
+        return count.value
 
 
 def close(seats):

@@ -20,6 +20,8 @@ static lus_status run(void) {
     lus_program program = LUS_NONE;
     lus_seat seats[2] = {LUS_NONE, LUS_NONE};
     lus_journal journal = LUS_NONE;
+    lus_live live = LUS_NONE, twin = LUS_NONE;
+    char line[32];
     lus_value in = {LUS_INT, 0, 5}, out;
     lus_answer answer;
     uint64_t bytes;
@@ -32,6 +34,13 @@ static lus_status run(void) {
     if (!status) status = lus_meet(&seats[0], &seats[1]);
     if (!status) status = lus_close(seats, 2, &journal);
     if (!status) status = lus_journal_text(&journal, "i", 1, "a\0b", 4, lines, sizeof lines, &bytes);
+    if (!status) status = lus_live_open(&program, 0, &live);
+    if (!status) status = lus_live_open(&program, 0, &twin);
+    if (!status) status = lus_live_step(&live, &in, 1, &answer, &out, 1);
+    if (!status) status = lus_live_line(&live, "a", 1, line, sizeof line, &bytes);
+    if (!status) status = lus_live_replay(&twin, line, bytes);
+    lus_free(&live);
+    lus_free(&twin);
     lus_free(&program);
     lus_free(&seats[0]);
     lus_free(&seats[1]);

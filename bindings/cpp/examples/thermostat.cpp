@@ -25,8 +25,19 @@ struct Owner {
     ~Owner() { lus_free(&handle); }
 };
 
+// The line of the last entry.
+static std::string line_of(lus_live &live, const std::string &caller) {
+    std::string text(64, ' ');
+    uint64_t bytes;
+    lus_status status = lus_live_line(&live, caller.data(), caller.size(), text.data(), text.size(), &bytes);
+    text.resize(bytes);
+    if (status == LUS_SHORT) status = lus_live_line(&live, caller.data(), caller.size(), text.data(), text.size(), &bytes);
+    must(status);
+    return text;
+}
+
 int main() {
-    Owner program, seat, journal;
+    Owner program, seat, journal, live;
     uint32_t node;
     must(lus_compile(text.data(), text.size(), &program.handle, nullptr, nullptr, 0));
     must(lus_node(&program.handle, "thermostat", 10, &node));
@@ -41,4 +52,13 @@ int main() {
     must(lus_close(&seat.handle, 1, &journal.handle));
     must(lus_entries(&journal.handle, &entries));
     std::cout << entries << " entries\n";
+
+    // an instance that keeps no history: the host has each line, and writes it where it likes
+    must(lus_live_open(&program.handle, node, &live.handle));
+    for (int64_t temperature : {18, 23}) {
+        std::vector<lus_value> inputs{{LUS_INT, 0, temperature}, {LUS_INT, 0, 19}, {LUS_INT, 0, 22}}, outputs(2);
+        lus_answer answer;
+        must(lus_live_step(&live.handle, inputs.data(), inputs.size(), &answer, outputs.data(), outputs.size()));
+        std::cout << line_of(live.handle, "panel");
+    }
 }

@@ -32,12 +32,14 @@ pub enum Error {
     Refused(Refusal),
     /// There is none of this name or number.
     NoSuch,
-    /// The inputs are no row of values.
+    /// The inputs are no row of values, or a line is none of the next entry.
     Value,
     /// An instance with no seats, which there is not.
     Handle,
     /// These are not all seats of one instance.
     Seats,
+    /// The line tells another reply than the instance gives.
+    Wrong,
 }
 
 impl fmt::Display for Error {
@@ -48,9 +50,10 @@ impl fmt::Display for Error {
             Error::Full => f.write_str("the history is full"),
             Error::Refused(refusal) => write!(f, "refused {refusal}"),
             Error::NoSuch => f.write_str("there is none of this name or number"),
-            Error::Value => f.write_str("the inputs are no row of values"),
+            Error::Value => f.write_str("the inputs are no row of values, or the line is none of the next entry"),
             Error::Handle => f.write_str("wrong use of a handle"),
             Error::Seats => f.write_str("these are not all seats of one instance"),
+            Error::Wrong => f.write_str("the line tells another reply than the instance gives"),
         }
     }
 }
@@ -71,6 +74,7 @@ pub(crate) fn check(status: u32, count: u64) -> Result<(), Error> {
         5 => Err(Error::NoSuch),
         6 => Err(Error::Value),
         9 => Err(Error::Seats),
+        11 => Err(Error::Wrong),
         _ => Err(Error::Handle),
     }
 }

@@ -11,6 +11,7 @@
 //! history's: `close` gives that history, as a journal.
 mod error;
 mod journal;
+mod live;
 mod program;
 mod raw;
 mod seat;
@@ -18,6 +19,7 @@ mod value;
 
 pub use error::{Error, Refusal};
 pub use journal::{Entry, Journal};
+pub use live::Live;
 pub use program::{Formal, Kind, Node, Program};
 pub use seat::{HeldSeat, Seat, close};
 pub use value::{Reply, Request, Row, Value, Why};

@@ -1,5 +1,6 @@
 //! Programs, and what they say of their nodes.
 use crate::error::{Error, REFUSED, Refusal, SHORT, check};
+use crate::live::Live;
 use crate::raw::{self, Handle, Refused};
 use crate::seat::Seat;
 use crate::value::{Row, Value};
@@ -33,7 +34,7 @@ pub struct Program {
 }
 
 /// A text of the library's, for which a call says how long it is.
-fn text_of(mut call: impl FnMut(&mut u64, &mut [u8]) -> u32) -> Result<String, Error> {
+pub(crate) fn text_of(mut call: impl FnMut(&mut u64, &mut [u8]) -> u32) -> Result<String, Error> {
     let mut text = vec![0; 64];
     loop {
         let mut bytes = 0;
@@ -200,5 +201,12 @@ impl Program {
         let mut handles: Vec<Handle> = (0..seats).map(|_| Handle::NONE).collect();
         check(unsafe { raw::lus_open(&mut self.handle(), node.0, handles.as_mut_ptr(), seats) }, 0)?;
         Ok(handles.into_iter().map(Seat::new).collect())
+    }
+
+    /// A live instance of a node, which keeps no history.
+    pub fn open_live(&self, node: Node) -> Result<Live, Error> {
+        let mut handle = Handle::NONE;
+        check(unsafe { raw::lus_live_open(&mut self.handle(), node.0, &mut handle) }, 0)?;
+        Ok(Live::new(handle))
     }
 }

@@ -120,5 +120,34 @@ unsafe extern "C" {
         room: usize,
         bytes: &mut u64,
     ) -> u32;
+    pub(crate) fn lus_live_open(program: &mut Handle, node: u32, live: &mut Handle) -> u32;
+    pub(crate) fn lus_live_call(
+        live: &mut Handle,
+        request: u32,
+        slot: u64,
+        inputs: *const Leaf,
+        n: usize,
+        answer: &mut Answer,
+        outputs: *mut Leaf,
+        room: usize,
+    ) -> u32;
+    pub(crate) fn lus_live_replay(live: &mut Handle, line: *const u8, bytes: usize) -> u32;
+    pub(crate) fn lus_live_entry(
+        live: &mut Handle,
+        entry: &mut Entered,
+        inputs: *mut Leaf,
+        n: usize,
+        outputs: *mut Leaf,
+        room: usize,
+    ) -> u32;
+    pub(crate) fn lus_live_line(
+        live: &mut Handle,
+        caller: *const u8,
+        length: usize,
+        text: *mut u8,
+        room: usize,
+        bytes: &mut u64,
+    ) -> u32;
+    pub(crate) fn lus_live_count(live: &mut Handle, count: &mut u64) -> u32;
     pub(crate) fn lus_free(handle: &mut Handle) -> u32;
 }

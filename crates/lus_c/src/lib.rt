@@ -6,5 +6,6 @@ mod closing;
 mod compiling;
 mod holding;
 mod journals;
+mod live;
 mod programs;
 mod texts;

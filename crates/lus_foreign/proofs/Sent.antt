@@ -1,11 +1,12 @@
--- A seat as a handle holds it may go to another thread.
+-- A seat and a live instance as handles hold them may go to another thread.
 use denote.Param.Send.{IsSend, IsSync, sendable}
 use Rattle.std.proofs.Crossing.{crosses}
 use Rattle.atomic_table.proofs.owned.Table.TheSendSync as table
 use Rattle.lus_values.proofs.value.Value.TheLaws.TheKnot as value
-use Rattle.lus_machine.proofs.Sent.{program_send, program_sync, machine_send}
+use Rattle.lus_machine.proofs.Sent.{program_send, program_sync, machine_send, reactor_send, entry_send}
 use Rattle.lus_shared.proofs.Sent.{node_sync, seat_send}
 use Rattle.lus_requests.specs.contracts.request.Reply as Reply
+use Rattle.lus_live_node.specs.contracts.live_node.LiveNode as LiveNode
 use Rattle.lus_foreign.specs.contracts.node_seat.Opened as Opened
 use Rattle.lus_foreign.specs.contracts.node_seat.NodeSeat as NodeSeat
 
@@ -20,3 +21,6 @@ opened_sync = search (crosses, node_sync, program_send, program_sync, sendable) 
 
 pub seat_with_node_send : IsSend NodeSeat.the_row
 seat_with_node_send = search (crosses, seat_send, opened_send, opened_sync, reply_send, sendable) depth 20
+
+pub live_send : IsSend LiveNode.the_row
+live_send = search (crosses, reactor_send, program_send, program_sync, entry_send, sendable) depth 20

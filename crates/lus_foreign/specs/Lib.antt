@@ -9,3 +9,4 @@ pub mod Opened
 pub mod Kept
 pub mod Queries
 pub mod Texts
+pub mod Lives

@@ -110,7 +110,7 @@ fn fits(answer: &Answer, outputs: &[Leaf]) -> u32
 }
 
 /// Tells C a reply.
-fn tell(answer: &mut Answer, outputs: &mut [Leaf], reply: &Reply) -> u32
+pub(crate) fn tell(answer: &mut Answer, outputs: &mut [Leaf], reply: &Reply) -> u32
     ensures entered { IsEntered result }
     ensures told { IsTold reply.now answer.new outputs.old outputs.new }
     ensures room { IsOkay result → answer.new.count ≤ length outputs.new }

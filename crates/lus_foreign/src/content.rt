@@ -3,6 +3,7 @@ ghost use Rattle.std.specs.Prelude.{◌≡◌};
 
 use crate::node_seat::{HeldSeat, NodeSeat};
 use crate::seat_group::{ClosedNode, SeatGroup};
+use lus_live_node::LiveNode;
 use lus_shared::lus_machine::Program;
 use std::sync::Arc;
 
@@ -16,6 +17,8 @@ pub enum Content {
     /// Seats of one node, on their way to or from an array of C's.
     Group(SeatGroup),
     Journal(ClosedNode),
+    /// An instance whose entries are handed out.
+    Live(LiveNode),
 }
 
 /// Takes what may go to another thread.
@@ -30,4 +33,11 @@ pub fn sent(seat: NodeSeat) -> NodeSeat
     ensures { result ≡ seat }
 {
     send(seat)
+}
+
+/// The same of an instance whose entries are handed out.
+pub fn sent_live(live: LiveNode) -> LiveNode
+    ensures { result ≡ live }
+{
+    send(live)
 }

@@ -1,5 +1,6 @@
 //! The entries of instances that were closed.
 ghost use Rattle.std.specs.Prelude.{◌≡◌, ◌≤◌, length};
+ghost use Rattle.lus_leaves.specs.Requests.{EntryIsTold};
 ghost use Rattle.lus_foreign.specs.Held.{IsOkay};
 ghost use Rattle.lus_foreign.specs.Served.{IsEntered, IsNone};
 ghost use Rattle.lus_foreign.specs.Kept.{TellsEntry, ContentTellsEntry, HeldTellsEntry, ContentCounts, HeldCounts, ContentEndsBefore, HeldEndsBefore};
@@ -50,6 +51,20 @@ fn tell_entry(
     let Some(entry) = entries.get(place as usize) else {
         return NONE;
     };
+    tell(entry, out, inputs, outputs)
+}
+
+/// Tells C an entry, as far as its arrays have room.
+pub(crate) fn tell(
+    entry: &Entry,
+    out: &mut EntryOut,
+    inputs: &mut [Leaf],
+    outputs: &mut [Leaf],
+) -> u32
+    ensures entered { IsEntered result }
+    ensures told { EntryIsTold entry.now out.new inputs.old inputs.new outputs.old outputs.new }
+    ensures room { IsOkay result → (out.new.inputs ≤ length inputs.new) × (out.new.outputs ≤ length outputs.new) }
+{
     write_entry(out, inputs, outputs, entry);
     if out.inputs > inputs.len() as u64 || out.outputs > outputs.len() as u64 {
         SHORT

@@ -8,6 +8,7 @@ mod content;
 mod handle;
 mod holding;
 mod journals;
+mod live;
 mod node_seat;
 mod programs;
 mod seat_group;
@@ -20,6 +21,7 @@ pub use compiling::{Refused, compile};
 pub use handle::Handle;
 pub use holding::{hold, meet, release};
 pub use journals::{entries, entry_at};
+pub use live::{live_call, live_count, live_entry, live_line, live_open, live_replay};
 pub use programs::{
     FormalOut, constructor, field, formals, free, input, node, node_name, nodes, output,
 };

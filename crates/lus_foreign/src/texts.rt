@@ -14,7 +14,7 @@ use std::alloc::{AllocError, Global};
 use std::str;
 
 /// Writes a text into an array that has room for it; says how long it is in any case.
-fn write_text(room: &mut [u8], bytes: &mut u64, text: &[u8]) -> u32
+pub(crate) fn write_text(room: &mut [u8], bytes: &mut u64, text: &[u8]) -> u32
     ensures { TextIsTold text.now result bytes.new room.old room.new }
 {
     *bytes = text.len() as u64;

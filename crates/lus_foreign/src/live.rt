@@ -1,0 +1,279 @@
+//! Instances whose entries are handed out.
+ghost use Rattle.std.specs.Prelude.{◌≡◌, ◌⊎◌, ◌≤◌, length, Some, None, IfOk, IsUtf8, MatchOption};
+ghost use Rattle.std.specs.Arc.{arc_value};
+ghost use Rattle.lus_leaves.specs.Requests.{IsTold};
+ghost use Rattle.lus_live_node.specs.LiveNodes.{Enters, IsNext, IsNone as IsNoEntry, IsOther, last_line};
+ghost use Rattle.lus_machine.specs.Machines.{IsLawful};
+ghost use Rattle.lus_requests.specs.declared.request.Reply.{Reply as ReplyType};
+ghost use Rattle.lus_shared.specs.CodeSpecs.Codes.{program_of};
+ghost use Rattle.lus_foreign.specs.Held.{IsOkay};
+ghost use Rattle.lus_foreign.specs.Opened.{ContentLacks, HeldLacks};
+ghost use Rattle.lus_foreign.specs.Queries.{IsText};
+ghost use Rattle.lus_foreign.specs.Served.{IsEntered, IsNone, IsValue, NoneSpelled};
+ghost use Rattle.lus_foreign.specs.Texts.{FoundIsTold, IsMemory};
+ghost use Rattle.lus_foreign.specs.Lives.{ContentEntersLive, ContentOpenedLive, ContentReplays, HeldEntersLive, HeldOpensLive, HeldReplays};
+ghost use Rattle.lus_foreign.specs.Lives.{IsWrong, LastIsTold, LiveIsCounted, OfHeldLive, OfLive};
+
+use crate::content::Content;
+use crate::handle::Handle;
+use crate::status::{FULL, HANDLE, MEMORY, NONE, OK, TEXT, VALUE, WRONG};
+use crate::texts::write_text;
+use crate::{calls, journals};
+use lus_leaves::{Answer, EntryOut, Leaf, request_of};
+use lus_live_node::{LiveNode, Verdict};
+use lus_requests::Request;
+use lus_shared::lus_machine::{CallError, NodeId};
+use std::alloc::Global;
+use std::str;
+
+fn open_in(alloc: Global, content: &Content, node: u32, out: &mut Handle) -> u32
+    ensures opened { IsOkay result → ContentOpenedLive content.now node out.new.kept.held }
+    ensures none { IsNone result → ContentLacks content.now node }
+    ensures missed { IsOkay result ⊎ (out.new.kept.held ≡ out.old.kept.held) }
+{
+    if !out.is_free() {
+        return HANDLE;
+    }
+    let Content::Program(program) = content else {
+        return HANDLE;
+    };
+    let node = NodeId(node);
+    if !program.has(node) {
+        return NONE;
+    }
+    let Ok(live) = LiveNode::new(alloc, program, node) else {
+        return MEMORY;
+    };
+    match Box::new(alloc, Content::Live(live)) {
+        Ok(content) => {
+            out.put(content);
+            OK
+        }
+        Err(_) => MEMORY,
+    }
+}
+
+/// An instance of a node that was never called, in `out`. It keeps its last entry and no other.
+pub fn live_open(alloc: Global, program: &mut Handle, node: u32, out: &mut Handle) -> u32
+    ensures opened { IsOkay result → HeldOpensLive program.old.kept.held node out.new.kept.held }
+    ensures none { IsNone result → HeldLacks program.old.kept.held node }
+    ensures missed { IsOkay result ⊎ (out.new.kept.held ≡ out.old.kept.held) }
+    ensures same { program.new.kept.held ≡ program.old.kept.held }
+{
+    let Some(content) = program.take(alloc) else {
+        return HANDLE;
+    };
+    let status = open_in(alloc, &content, node, out);
+    program.put(content);
+    status
+}
+
+/// Tells C the reply of the last entry.
+fn tell_reply(live: &LiveNode, answer: &mut Answer, outputs: &mut [Leaf]) -> u32
+    ensures told { MatchOption live.now.last (IsNone result) (λ e. IsEntered result × IsTold e.reply answer.new outputs.old outputs.new) }
+    ensures room { IsOkay result → answer.new.count ≤ length outputs.new }
+{
+    match live.last() {
+        Some(entry) => calls::tell(answer, outputs, &entry.reply),
+        None => NONE,
+    }
+}
+
+fn call_at(live: &mut LiveNode, request: Request, answer: &mut Answer, outputs: &mut [Leaf]) -> u32
+    ensures entered { IsEntered result → (reply : ReplyType) × Enters live.old live.new request reply × IsTold reply answer.new outputs.old outputs.new }
+    ensures lawful { IsEntered result → IsLawful live.new.instance }
+    ensures room { IsOkay result → answer.new.count ≤ length outputs.new }
+    ensures missed { IsEntered result ⊎ (live.new ≡ live.old) }
+    ensures valued { IsValue result → ⊥ }
+{
+    match live.call(request) {
+        Ok(()) => tell_reply(live, answer, outputs),
+        Err(CallError::Memory) => MEMORY,
+        Err(CallError::Full) => FULL,
+    }
+}
+
+fn call_in(
+    content: &mut Content,
+    request: Request,
+    answer: &mut Answer,
+    outputs: &mut [Leaf],
+) -> u32
+    ensures entered { IsEntered result → (reply : ReplyType) × ContentEntersLive content.old content.new request reply
+        × IsTold reply answer.new outputs.old outputs.new }
+    ensures room { IsOkay result → answer.new.count ≤ length outputs.new }
+    ensures missed { IsEntered result ⊎ (content.new ≡ content.old) }
+    ensures valued { IsValue result → ⊥ }
+{
+    match content {
+        Content::Live(live) => call_at(live, request, answer, outputs),
+        _ => HANDLE,
+    }
+}
+
+/// One call, by the numbers of `try_call`.
+pub fn live_call(
+    alloc: Global,
+    live: &mut Handle,
+    kind: u32,
+    slot: u64,
+    inputs: &[Leaf],
+    answer: &mut Answer,
+    outputs: &mut [Leaf],
+) -> u32
+    ensures entered { IsEntered result → HeldEntersLive live.old.kept.held live.new.kept.held kind slot inputs.now answer.new outputs.old outputs.new }
+    ensures room { IsOkay result → answer.new.count ≤ length outputs.new }
+    ensures missed { IsEntered result ⊎ (live.new.kept.held ≡ live.old.kept.held) }
+    ensures valued { IsValue result → NoneSpelled kind slot inputs.now }
+{
+    answer.kind = 0;
+    answer.why = 0;
+    answer.count = 0;
+    let request = match request_of(alloc, kind, slot, inputs) {
+        Ok(Some(request)) => request,
+        Ok(None) => return VALUE,
+        Err(_) => return MEMORY,
+    };
+    let Some(mut content) = live.take(alloc) else {
+        return HANDLE;
+    };
+    let status = call_in(&mut content, request, answer, outputs);
+    live.put(content);
+    status
+}
+
+fn replay_at(alloc: Global, live: &mut LiveNode, line: &[u8]) -> u32
+    ensures right { IsOkay result → IsNext line.now live.old.instance live.new.instance × (live.new.last ≡ None) }
+    ensures other { IsWrong result → IsOther line.now live.old.instance }
+    ensures none { IsValue result → IsNoEntry line.now live.old.instance }
+    ensures missed { IsOkay result ⊎ (live.new ≡ live.old) }
+{
+    match live.replay(alloc, line) {
+        Ok(Verdict::Right) => OK,
+        Ok(Verdict::Wrong) => WRONG,
+        Ok(Verdict::NoEntry) => VALUE,
+        Err(CallError::Memory) => MEMORY,
+        Err(CallError::Full) => FULL,
+    }
+}
+
+fn replay_in(alloc: Global, content: &mut Content, line: &[u8]) -> u32
+    ensures right { IsOkay result → ContentReplays line.now content.old content.new }
+    ensures other { IsWrong result → OfLive content.old result (λ l. IsOther line.now l.instance) }
+    ensures none { IsValue result → OfLive content.old result (λ l. IsNoEntry line.now l.instance) }
+    ensures missed { IsOkay result ⊎ (content.new ≡ content.old) }
+{
+    match content {
+        Content::Live(live) => replay_at(alloc, live, line),
+        _ => HANDLE,
+    }
+}
+
+/// Makes the entry of a line of a journal, with its line feed, where that is the right next one.
+pub fn live_replay(alloc: Global, live: &mut Handle, line: &[u8]) -> u32
+    ensures right { IsOkay result → HeldReplays line.now live.old.kept.held live.new.kept.held }
+    ensures other { IsWrong result → OfHeldLive live.old.kept.held result (λ l. IsOther line.now l.instance) }
+    ensures none { IsValue result → OfHeldLive live.old.kept.held result (λ l. IsNoEntry line.now l.instance) }
+    ensures missed { IsOkay result ⊎ (live.new.kept.held ≡ live.old.kept.held) }
+{
+    let Some(mut content) = live.take(alloc) else {
+        return HANDLE;
+    };
+    let status = replay_in(alloc, &mut content, line);
+    live.put(content);
+    status
+}
+
+fn entry_in(content: &Content, out: &mut EntryOut, inputs: &mut [Leaf], outputs: &mut [Leaf]) -> u32
+    ensures told { OfLive content.now result (λ l. LastIsTold l.last result out.new inputs.old inputs.new outputs.old outputs.new) }
+    ensures room { IsOkay result → (out.new.inputs ≤ length inputs.new) × (out.new.outputs ≤ length outputs.new) }
+{
+    let Content::Live(live) = content else {
+        return HANDLE;
+    };
+    match live.last() {
+        Some(entry) => journals::tell(entry, out, inputs, outputs),
+        None => NONE,
+    }
+}
+
+/// The last entry, where a call made it.
+pub fn live_entry(
+    alloc: Global,
+    live: &mut Handle,
+    out: &mut EntryOut,
+    inputs: &mut [Leaf],
+    outputs: &mut [Leaf],
+) -> u32
+    ensures told { OfHeldLive live.old.kept.held result (λ l. LastIsTold l.last result out.new inputs.old inputs.new outputs.old outputs.new) }
+    ensures room { IsOkay result → (out.new.inputs ≤ length inputs.new) × (out.new.outputs ≤ length outputs.new) }
+    ensures same { live.new.kept.held ≡ live.old.kept.held }
+{
+    let Some(content) = live.take(alloc) else {
+        return HANDLE;
+    };
+    let status = entry_in(&content, out, inputs, outputs);
+    live.put(content);
+    status
+}
+
+fn line_in(alloc: Global, content: &Content, caller: &str, room: &mut [u8], bytes: &mut u64) -> u32
+    ensures { OfLive content.now result (λ l. IsMemory result ⊎
+        FoundIsTold (last_line caller.now l) result bytes.new room.old room.new) }
+{
+    let Content::Live(live) = content else {
+        return HANDLE;
+    };
+    match live.last_line(alloc, caller) {
+        Ok(Some(line)) => write_text(room, bytes, line.as_bytes()),
+        Ok(None) => NONE,
+        Err(_) => MEMORY,
+    }
+}
+
+/// The line of the last entry in the journal of the instance, where a call made it.
+pub fn live_line(
+    alloc: Global,
+    live: &mut Handle,
+    caller: &[u8],
+    room: &mut [u8],
+    bytes: &mut u64,
+) -> u32
+    ensures told { IsUtf8 caller.now → OfHeldLive live.old.kept.held result (λ l. IsMemory result ⊎
+        FoundIsTold (last_line caller.now l) result bytes.new room.old room.new) }
+    ensures text { ¬ (IsUtf8 caller.now) → IsText result }
+    ensures same { live.new.kept.held ≡ live.old.kept.held }
+{
+    let Ok(caller) = str::from_utf8(caller) else {
+        return TEXT;
+    };
+    let Some(content) = live.take(alloc) else {
+        return HANDLE;
+    };
+    let status = line_in(alloc, &content, caller, room, bytes);
+    live.put(content);
+    status
+}
+
+fn count_in(content: &Content, count: &mut u64) -> u32
+    ensures { OfLive content.now result (λ l. LiveIsCounted l result count.new) }
+{
+    let Content::Live(live) = content else {
+        return HANDLE;
+    };
+    *count = live.count();
+    OK
+}
+
+/// How many entries a live instance has made.
+pub fn live_count(alloc: Global, live: &mut Handle, count: &mut u64) -> u32
+    ensures counted { OfHeldLive live.old.kept.held result (λ l. LiveIsCounted l result count.new) }
+    ensures same { live.new.kept.held ≡ live.old.kept.held }
+{
+    let Some(content) = live.take(alloc) else {
+        return HANDLE;
+    };
+    let status = count_in(&content, count);
+    live.put(content);
+    status
+}

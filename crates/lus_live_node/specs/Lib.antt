@@ -1,0 +1,2 @@
+pub mod LiveNodes
+pub use Rattle.lus_machine.specs as MachineSpecs
