@@ -8,10 +8,12 @@ use Rattle.lus_cli.specs.Programs.{IsProgramFault}
 use Rattle.lus_cli.specs.declared.fault.Fault.{Fault}
 use Rattle.lus_cli.specs.declared.fault.Fault.TheVariants as faults
 use Rattle.lus_cli.proofs.ProgramLemmas.{file_then}
-use Rattle.lus_lawful.specs.Errors.{BlamesIf}
-use Rattle.lus_lawful.specs.Findings.{AreNone}
-use Rattle.lus_lawful.specs.declared.error.AuditError.{AuditError}
-use Rattle.lus_lawful.specs.declared.error.AuditError.TheVariants as errors
+use Rattle.lus_hosting.specs.LawfulSpecs.Errors.{BlamesIf}
+use Rattle.lus_hosting.specs.LawfulSpecs.Findings.{AreNone}
+use Rattle.lus_hosting.specs.LawfulSpecs.declared.error.AuditError.{AuditError}
+use Rattle.lus_hosting.specs.LawfulSpecs.declared.error.AuditError.TheVariants as errors
+use Rattle.lus_hosting.specs.Audits.{IsNoLog}
+use Rattle.lus_audit.specs.Logs.{LogAuditFails}
 use Rattle.lus_audit.specs.Ends.{AuditFails, HasReasons, IsFound, IsOfFile, audit_fault}
 
 -- what holds of the bytes that an opened file has left holds of the file's
@@ -45,3 +47,21 @@ module _ (read_fails : Known → Type 0) (file journal : Known) where
   audit_fails (errors.Line n) p left ahead accepted holds same blames = (p, accepted, file_so (AreNone p) journal left ahead holds same (blames n refl))
   audit_fails errors.Read p left ahead accepted holds same blames = inr (p, accepted)
   audit_fails errors.Memory p left ahead accepted holds same blames = tt
+
+  -- faults of a program whose log is audited
+  pub log_program_fails : (name : Text) (f : Fault) → IsProgramFault read_fails file f → LogAuditFails read_fails file journal name f
+  log_program_fails name faults.File lost = inl lost
+  log_program_fails name (faults.Program e) refused = refused
+  log_program_fails name faults.Memory memory = tt
+  log_program_fails name (faults.Journal n) never = absurd never
+  log_program_fails name (faults.Scripts e) never = absurd never
+  log_program_fails name faults.Words never = absurd never
+  log_program_fails name faults.Output never = absurd never
+  log_program_fails name faults.Start never = absurd never
+
+  -- and of the log
+  pub log_fails : (name : Text) (e : AuditError) (p : Program) (left ahead : Option Bytes) → IsOfFile file p → Holds journal left → ahead ≡ left
+      → BlamesIf (IsNoLog p ahead) e → LogAuditFails read_fails file journal name (audit_fault e)
+  log_fails name (errors.Line n) p left ahead accepted holds same blames = (p, accepted, file_so (IsNoLog p) journal left ahead holds same (blames n refl))
+  log_fails name errors.Read p left ahead accepted holds same blames = inr (p, accepted)
+  log_fails name errors.Memory p left ahead accepted holds same blames = tt

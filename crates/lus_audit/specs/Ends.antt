@@ -10,10 +10,10 @@ use Rattle.lus_cli.specs.CommandLine.{Text}
 use Rattle.lus_cli.specs.Ends.{IsLost, SaysEnds}
 use Rattle.lus_cli.specs.declared.fault.Fault.{Fault}
 use Rattle.lus_cli.specs.declared.fault.Fault.TheVariants as faults
-use Rattle.lus_lawful.specs.Audits.{HasAudited}
-use Rattle.lus_lawful.specs.Findings.{AreNone, FindsAll}
-use Rattle.lus_lawful.specs.declared.error.AuditError.{AuditError}
-use Rattle.lus_lawful.specs.declared.error.AuditError.TheVariants as errors
+use Rattle.lus_hosting.specs.LawfulSpecs.Audits.{HasAudited}
+use Rattle.lus_hosting.specs.LawfulSpecs.Findings.{AreNone, FindsAll}
+use Rattle.lus_hosting.specs.LawfulSpecs.declared.error.AuditError.{AuditError}
+use Rattle.lus_hosting.specs.LawfulSpecs.declared.error.AuditError.TheVariants as errors
 use Rattle.lus_audit.specs.CommandLine.{Asked}
 
 -- the program of the file is accepted, where its bytes are known

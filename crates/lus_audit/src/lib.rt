@@ -1,7 +1,11 @@
-//! `lus_audit PROGRAM JOURNAL` says whether the journals that `lus` printed are lawful, and else what is the first wrong line.
+//! `lus_audit PROGRAM JOURNAL` says whether the journals that `lus` printed are lawful, and else what is the first wrong line; with `--many`
+//! whether a log of many instances is.
 #![tactic(auto)]
 
+mod log_words;
+mod logs;
 mod shell;
 mod words;
 
+pub use logs::command_many;
 pub use shell::command;

@@ -10,11 +10,11 @@ ghost use Rattle.lus_audit.specs.Ends.{AuditFails, HasReasons, IsAudited, TaskEn
 use crate::words::{Task, read_words};
 use lus_cli::{Fault, read_program, tell};
 use lus_devices::{Folder, Sink, write_all};
-use lus_lawful::{AuditError, Buffered, Report, audit};
+use lus_hosting::lus_lawful::{AuditError, Buffered, Report, audit};
 use std::alloc::Global;
 use std::sync::Arc;
 
-fn fault_of(error: AuditError) -> Fault
+pub(crate) fn fault_of(error: AuditError) -> Fault
     ensures { result ≡ audit_fault error }
 {
     match error {

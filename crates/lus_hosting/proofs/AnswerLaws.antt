@@ -62,9 +62,9 @@ module _ (p : Program) (f : ℕ) (s : Spelling) (log : List Logged) (line text :
   answered_note note nothing keeps =
       record { turn = Noted line; kind = refl; so = note; line_is = refl; text_is = nothing; keeps = kept keeps }
 
-  pub answered_entry : (v : Verdict) (instance entry : Text) → line ≡ instance ++ 32 ∷ entry → IsWord instance
-      → HasReplayedOn p f log instance (entry ++ 10 ∷ []) v new → text ≡ [] → Answers (kind_of v) p f s log line text new
-  answered_entry verdicts.Right instance entry spelled one replayed nothing = record {
+  pub answered_entry : (v : Verdict) (instance entry right : Text) → line ≡ instance ++ 32 ∷ entry → IsWord instance
+      → HasReplayedOn p f log instance (entry ++ 10 ∷ []) right v new → text ≡ [] → Answers (kind_of v) p f s log line text new
+  answered_entry verdicts.Right instance entry right spelled one replayed nothing = record {
     turn = Replayed (record { instance = instance; said = replayed.0 });
     kind = refl;
     so = one;
@@ -73,8 +73,8 @@ module _ (p : Program) (f : ℕ) (s : Spelling) (log : List Logged) (line text :
     text_is = nothing;
     keeps = replayed.2;
   }
-  answered_entry verdicts.Wrong instance entry spelled one replayed nothing = nothing
-  answered_entry verdicts.NoEntry instance entry spelled one replayed nothing = nothing
+  answered_entry verdicts.Wrong instance entry right spelled one replayed nothing = nothing
+  answered_entry verdicts.NoEntry instance entry right spelled one replayed nothing = nothing
 
 -- the line of these words is no call where what it asks is none
 pub no_call_line : (p : Program) (f : ℕ) (line instance caller call : Text)

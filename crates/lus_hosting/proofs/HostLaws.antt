@@ -9,7 +9,7 @@ use Rattle.lus_requests.specs.declared.request.Entry.{Entry}
 use Rattle.lus_requests.specs.declared.request.Reply.{Reply}
 use Rattle.lus_requests.specs.declared.request.Request.{Request}
 use Rattle.lus_play.specs.Plays.{entry_of}
-use Rattle.lus_replay.specs.Replays.{IsJudged, IsRight, Said, entry_said, said_line}
+use Rattle.lus_replay.specs.Replays.{AsksNothing, AsksOnly, BeginsAsked, IsJudged, Said, entry_said, said_line}
 use Rattle.lus_replay.specs.declared.line.Verdict.{Verdict}
 use Rattle.lus_replay.specs.declared.line.Verdict.TheVariants as verdicts
 use Rattle.lus_live_instance.specs.MachineSpecs.Constructors.{names_of}
@@ -122,16 +122,6 @@ module _ (p : Program) (f : ℕ) (log : List Logged) (g g' : Text → Option Hos
       entered h h' (record { caller = caller; request = r; reply = called.0 }) has updates (live (is_live h has)) called.1 called.2,
     )
 
-    -- its next entry was replayed, and is right
-    pub replayed_on : (line : Text) → h'.entries ≡ h.entries + 1
-        → IsRight (names_of p) (h.entries + 1) line h.instance.reactor.history h'.instance.reactor.history
-        → (s : Said) × (line ≡ said_line (names_of p) (next_of instance log) s) × KeepsIn p f (log ++ record { instance = instance; said = s } ∷ []) g'
-    replayed_on line counted right = (
-      right.said,
-      right.spelled ∙ ap (λ n. said_line (names_of p) n right.said) (numbered h has),
-      entered h h' right.said has updates (live (is_live h has)) right.entered counted,
-    )
-
 -- each instance has a lawful history
 pub all_lawful : (p : Program) (f : ℕ) (log : List Logged) (g : Text → Option Hosted) → KeepsIn p f log g → (name : Text) → History p f (entries_of name log)
 all_lawful p f log g keeps name = go (g name) (keeps name)
@@ -154,8 +144,24 @@ pub replayed_so : (p : Program) (f : ℕ) (log : List Logged) (g : Text → Opti
     → ((name : Text) → get_by_text new.by_name name ≡ cond (bytes_eq instance name) (Some h') (g name))
     → (IsLive p f h.instance.reactor → IsLive p f h'.instance.reactor) → (line right : Text) (v : Verdict) → h'.entries ≡ h.entries + 1
     → IsJudged v (names_of p) (h.entries + 1) line right h.instance.reactor.history h'.instance.reactor.history
-    → HasReplayedOn p f log instance line v new
+    → HasReplayedOn p f log instance line right v new
 replayed_so p f log g new keeps instance h h' has updates live line right verdicts.Right counted judged =
-    replayed_on p f log g (get_by_text new.by_name) keeps instance h h' has updates live line counted judged
-replayed_so p f log g new keeps instance h h' has updates live line right verdicts.Wrong counted judged = tt
-replayed_so p f log g new keeps instance h h' has updates live line right verdicts.NoEntry counted judged = tt
+    let n = numbered p f log g (get_by_text new.by_name) keeps instance h has in (
+      judged.said,
+      judged.spelled ∙ ap (λ k. said_line (names_of p) k judged.said) n,
+      entered p f log g (get_by_text new.by_name) keeps instance h h' judged.said has updates
+          (live (is_live p f log g (get_by_text new.by_name) keeps instance h has)) judged.entered counted,
+      subst (λ k. AsksOnly (names_of p) k line judged.said.caller judged.said.request) n judged.only,
+    )
+replayed_so p f log g new keeps instance h h' has updates live line right verdicts.Wrong counted judged =
+    let n = numbered p f log g (get_by_text new.by_name) keeps instance h has in (
+      judged.said,
+      judged.spelled ∙ ap (λ k. said_line (names_of p) k judged.said) n,
+      entered p f log g (get_by_text new.by_name) keeps instance h h' judged.said has updates
+          (live (is_live p f log g (get_by_text new.by_name) keeps instance h has)) judged.entered counted,
+      subst (λ k. AsksOnly (names_of p) k line judged.said.caller judged.said.request) n judged.only,
+      subst (λ k. BeginsAsked (names_of p) judged.said.caller k judged.said.request line) n judged.asked,
+      judged.differs,
+    )
+replayed_so p f log g new keeps instance h h' has updates live line right verdicts.NoEntry counted judged =
+    subst (λ k. AsksNothing (names_of p) k line) (numbered p f log g (get_by_text new.by_name) keeps instance h has) judged

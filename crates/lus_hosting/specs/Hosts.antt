@@ -1,5 +1,5 @@
 -- Instances by their names, behind a log.
-use Rattle.std.specs.Prelude.{◌≡◌, ◌⊎◌, ◌+◌, ◌<◌, ◌++◌, ℕ, List, [], ◌∷◌, length, Option, Some, None, ⊤}
+use Rattle.std.specs.Prelude.{◌≡◌, ◌≢◌, ◌⊎◌, ◌+◌, ◌<◌, ◌++◌, ℕ, List, [], ◌∷◌, length, Option, Some, None}
 use Rattle.indexmap.specs.IndexMap.{get_by_text}
 use Rattle.lus_values.specs.Names.{Text}
 use Rattle.lus_program.specs.Programs.{Program}
@@ -9,7 +9,7 @@ use Rattle.lus_requests.specs.declared.request.Request.{Request}
 use Rattle.lus_devices.specs.Devices.{Bytes, WritesBeginning, with_front, with_text}
 use Rattle.lus_lines.specs.Lines.{IsLast}
 use Rattle.lus_play.specs.Plays.{ended, entry_of}
-use Rattle.lus_replay.specs.Replays.{Said, said_line}
+use Rattle.lus_replay.specs.Replays.{AsksNothing, AsksOnly, BeginsAsked, Said, said_line}
 use Rattle.lus_replay.specs.declared.line.Verdict.{Verdict}
 use Rattle.lus_replay.specs.declared.line.Verdict.TheVariants as verdicts
 use Rattle.lus_live_instance.specs.Lives.{IsLive}
@@ -50,12 +50,16 @@ abbrev pub HasCalledOn : Program → ℕ → Spelling → List Logged → Text �
 HasCalledOn p f s log instance caller r text new =
     (a : Reply) × (text ≡ s.tells instance caller (next_of instance log) (entry_of r a)) × Keeps p f (log ++ logged instance caller r a ∷ []) new
 
--- an entry that is right was replayed
-abbrev pub HasReplayedOn : Program → ℕ → List Logged → Text → Text → Verdict → Instances → Type 0
-HasReplayedOn p f log instance line verdicts.Right new =
+-- a line was replayed as an entry of an instance. The one that is right asks only what it spells
+abbrev pub HasReplayedOn : Program → ℕ → List Logged → Text → Text → Text → Verdict → Instances → Type 0
+HasReplayedOn p f log instance line right verdicts.Right new =
     (s : Said) × (line ≡ said_line (names_of p) (next_of instance log) s) × Keeps p f (log ++ record { instance = instance; said = s } ∷ []) new
-HasReplayedOn p f log instance line verdicts.Wrong new = ⊤
-HasReplayedOn p f log instance line verdicts.NoEntry new = ⊤
+    × AsksOnly (names_of p) (next_of instance log) line s.caller s.request
+HasReplayedOn p f log instance line right verdicts.Wrong new =
+    (s : Said) × (right ≡ said_line (names_of p) (next_of instance log) s) × Keeps p f (log ++ record { instance = instance; said = s } ∷ []) new
+    × AsksOnly (names_of p) (next_of instance log) line s.caller s.request
+    × BeginsAsked (names_of p) s.caller (next_of instance log) s.request line × (line ≢ right)
+HasReplayedOn p f log instance line right verdicts.NoEntry new = AsksNothing (names_of p) (next_of instance log) line
 
 -- what becomes of a line
 abbrev pub IsKind : Kind → Turn → Type 0

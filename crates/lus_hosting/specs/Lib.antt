@@ -4,3 +4,4 @@ pub mod Turns
 pub mod Hosts
 pub mod Audits
 pub use Rattle.lus_live_instance.specs as LiveSpecs
+pub use Rattle.lus_lawful.specs as LawfulSpecs

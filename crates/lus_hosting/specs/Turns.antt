@@ -159,3 +159,14 @@ abbrev pub ReadsWords : Bytes → Words → Type 0
 ReadsWords line w =
     (instance caller call : Text) → IsWord instance → IsWord caller → behind_of (caller ++ 32 ∷ call) ≡ behind.Call
     → line ≡ instance ++ 32 ∷ (caller ++ 32 ∷ call) → AreCallWords instance caller call w
+
+-- what stands behind the first word of a line
+abbrev pub StandsBehind : Text → Words → Type 0
+StandsBehind text (words.Call i c k) = behind_of text ≡ behind.Call
+StandsBehind text (words.Entry i t) = behind_of text ≡ behind.Entry
+StandsBehind text words.Note = behind_of text ≡ behind.Note
+StandsBehind text (words.Short i) = behind_of text ≡ behind.Call
+StandsBehind text words.Word = ⊥
+
+abbrev pub ReadsBehind : Bytes → Words → Type 0
+ReadsBehind line w = (instance text : Text) → IsWord instance → line ≡ instance ++ 32 ∷ text → StandsBehind text w

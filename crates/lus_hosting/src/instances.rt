@@ -77,7 +77,7 @@ pub(crate) fn replay_on(
     requires { host.node.0 < length (program_of (arc_value host.program.now)).nodes }
     ensures { (log : List Logged) → Keeps (program_of (arc_value host.entry.program.now)) host.entry.node.0 log instances.old
         → IfOk result (λ v. HasReplayedOn (program_of (arc_value host.entry.program.now)) host.entry.node.0 log name.now (entry.now ++ 10 ∷ [])
-        v instances.new) }
+        (string_bytes right.new) v instances.new) }
 {
     open(host, instances, name)?;
     match instances.by_name.get_mut(name) {

@@ -11,8 +11,9 @@ mod telling;
 mod turns;
 mod words;
 
-pub use auditing::audit_log;
+pub use auditing::{LogReport, audit_log};
 pub use error::HostError;
 pub use hosting::{host_log, host_many};
+pub use lus_lawful;
 pub use lus_live_instance;
 pub use telling::Tells;

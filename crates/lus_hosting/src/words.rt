@@ -2,7 +2,7 @@
 
 ghost use Rattle.std.specs.Prelude.{◌≡◌};
 ghost use Rattle.lus_hosting.specs.Logs.{behind_of};
-ghost use Rattle.lus_hosting.specs.Turns.{HasWords, ReadsWords};
+ghost use Rattle.lus_hosting.specs.Turns.{HasWords, ReadsBehind, ReadsWords};
 
 /// What stands behind the name of an instance.
 #[derive(Clone, Copy, PartialEq, Eq)]
@@ -48,6 +48,7 @@ fn behind_of(text: &[u8]) -> Behind
 pub(crate) fn words_of(line: &str) -> Words<'_>
     ensures read { HasWords line.now result }
     ensures complete { ReadsWords line.now result }
+    ensures behind { ReadsBehind line.now result }
 {
     let Some((instance, text)) = line.split_once(' ') else {
         return Words::Word;

@@ -2,7 +2,7 @@
 
 use lus_hosting::lus_live_instance::Score;
 use lus_hosting::lus_live_instance::lus_machine::compile;
-use lus_hosting::{HostError, audit_log, host_log};
+use lus_hosting::{audit_log, host_log};
 use std::collections::hash_map::RandomState;
 use std::sync::Arc;
 use std::test::Fail;
@@ -16,7 +16,9 @@ const LOG: &str =
 
 const WRONG: &str = "k 1 x step(2) -> (2)\nl 1 x step(3) -> (5)\n";
 
-const RIGHT: &str = "1 x step(3) -> (3)\n";
+const LAWFUL: &str = "entries 3 lawful\n";
+
+const REPORT: &str = "line 2\nwritten l 1 x step(3) -> (5)\nright   l 1 x step(3) -> (3)\n";
 
 #[test]
 fn a_log_is_written_and_lawful(rt: HostRuntime) -> Result<(), Fail> {
@@ -61,29 +63,20 @@ fn a_log_is_written_and_lawful(rt: HostRuntime) -> Result<(), Fail> {
 
     let mut source = log.as_slice();
     let keys = RandomState::new(&rt)?;
-    let audited = audit_log(
-        alloc,
-        &program,
-        node,
-        keys,
-        &mut source,
-        &mut line,
-        &mut right,
-    );
-    assert_eq!(rt; audited, Ok(()));
+    let audited = audit_log(alloc, &program, node, keys, &mut source, &mut line);
+    let Ok(report) = audited else {
+        panic!(&rt; "it is a log")
+    };
+    assert!(&rt; report.is_lawful);
+    assert_eq!(rt; report.text.as_slice(), LAWFUL.as_bytes());
 
     let mut source = WRONG.as_bytes();
     let keys = RandomState::new(&rt)?;
-    let audited = audit_log(
-        alloc,
-        &program,
-        node,
-        keys,
-        &mut source,
-        &mut line,
-        &mut right,
-    );
-    assert_eq!(rt; audited, Err(HostError::Wrong(2)));
-    assert_eq!(rt; right.as_str(), RIGHT);
+    let audited = audit_log(alloc, &program, node, keys, &mut source, &mut line);
+    let Ok(report) = audited else {
+        panic!(&rt; "it is a log")
+    };
+    assert!(&rt; !report.is_lawful);
+    assert_eq!(rt; report.text.as_slice(), REPORT.as_bytes());
     Ok(())
 }

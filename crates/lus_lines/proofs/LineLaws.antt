@@ -1,6 +1,5 @@
 -- Lines as their bytes are read.
-use Rattle.std.proofs.Common.{◌≡◌, ◌∙◌, ◌++◌, ◌<◌, ◌≤◌, ◌&&◌, ℕ, refl, ap, ap₂, sym, Bool, true, false, not, nat_eq, List, [], ◌∷◌, length, Option, Some, None, append_assoc, append-nil, arith, length-append, take, get_or, zero, suc}
-use Rattle.std.specs.List.{list_all}
+use Rattle.std.proofs.Common.{◌≡◌, ◌∙◌, ◌++◌, ◌<◌, ◌≤◌, ◌&&◌, ℕ, refl, ap, ap₂, sym, Bool, true, false, not, nat_eq, [], ◌∷◌, length, Option, Some, None, append_assoc, append-nil, arith, length-append, take, get_or, zero, suc}
 use Rattle.std.proofs.lemmas.List.Folds.{list_all-append}
 use Rattle.lus_devices.specs.Devices.{AtEnd, Bytes, with_front}
 use Rattle.lus_devices.proofs.Laws.{with_front-more}

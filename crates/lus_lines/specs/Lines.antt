@@ -1,5 +1,5 @@
 -- Lines: bytes up to a line feed.
-use Rattle.std.specs.Prelude.{◌≡◌, ◌==◌, ◌++◌, ◌<◌, ◌≤◌, ℕ, Bool, true, false, not, List, [], ◌∷◌, length, Option}
+use Rattle.std.specs.Prelude.{◌≡◌, ◌==◌, ◌++◌, ◌<◌, ◌≤◌, ℕ, Bool, true, false, not, [], ◌∷◌, length, Option}
 use Rattle.std.specs.List.{list_all}
 use Rattle.lus_devices.specs.Devices.{AtEnd, Bytes, with_front}
 use Rattle.lus_lines.specs.declared.line.Reading.{Reading}

@@ -1,5 +1,5 @@
 -- How a host of many instances ends, by how its parts do.
-use Rattle.std.proofs.Common.{◌≡◌, ℕ, Option, Result, Ok, Err, IfOk, OnErr}
+use Rattle.std.proofs.Common.{ℕ, Option, Ok, Err, IfOk, OnErr}
 use Rattle.lus_program.specs.Programs.{Program}
 use Rattle.lus_devices.specs.Devices.{Bytes}
 use Rattle.lus_devices.specs.Folders.{Known}

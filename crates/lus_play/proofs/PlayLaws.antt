@@ -1,12 +1,12 @@
 -- Lines that are played one by one.
-use Rattle.std.proofs.Common.{◌≡◌, ◌∙◌, ◌⊎◌, inl, inr, ◌+◌, ◌-◌, ◌<◌, ◌≤◌, ◌++◌, ℕ, refl, ap, sym, subst, Bool, true, false, List, [], ◌∷◌, length, map, flat_map, Option, Some, None, append_assoc, append-nil, arith, length-append}
+use Rattle.std.proofs.Common.{◌≡◌, ◌∙◌, inl, inr, ◌+◌, ◌-◌, ◌<◌, ◌≤◌, ◌++◌, ℕ, refl, ap, sym, subst, Bool, true, false, List, [], ◌∷◌, length, map, flat_map, Option, Some, None, append_assoc, append-nil, arith, length-append}
 use Rattle.std.specs.List.{AllZip}
-use Rattle.lus_devices.specs.Devices.{AtEnd, Bytes, WritesBeginning, with_front, with_text}
+use Rattle.lus_devices.specs.Devices.{Bytes, WritesBeginning, with_front, with_text}
 use Rattle.lus_devices.proofs.Laws.{reaches_began, reaches_stop, with_front-more, with_text-more, with_text-nothing}
 use Rattle.lus_requests.specs.declared.request.Request.{Request}
 use Rattle.lus_requests.specs.declared.request.Entry.{Entry}
-use Rattle.lus_lines.specs.Lines.{IsLast, IsNext}
-use Rattle.lus_play.specs.Plays.{AnswerFails, Answers, Asks, HasPlayed, HasPlayedAll, IsReadAs, Played, Reads, TurnFails, TurnIs, ended, requests, texts, turn_of, with_tail}
+use Rattle.lus_lines.specs.Lines.{IsNext}
+use Rattle.lus_play.specs.Plays.{AnswerFails, Answers, Asks, HasPlayed, HasPlayedAll, IsReadAs, Played, TurnFails, TurnIs, ended, requests, texts, turn_of, with_tail}
 use Rattle.lus_play.specs.declared.playing.Score.{Score}
 use Rattle.lus_play.specs.declared.playing.Turn.{Turn}
 use Rattle.lus_play.specs.declared.playing.Turn.TheVariants.{Entered, Refused, Unfinished, Ended}

@@ -10,7 +10,7 @@ use Rattle.csv.specs.declared.reader.Reader.{Reader}
 use Rattle.csv.proofs.ReadFacts.{rows-end, rows-more}
 use Rattle.lus_play.specs.Plays.{ended}
 use Rattle.lus_values.specs.Names.{Text}
-use Rattle.lus_records.specs.Records.{cells_by, cells_of, ends_there}
+use Rattle.lus_records.specs.Records.{cells_by, cells_of}
 
 -- a record is all that was reached
 reached_one : (s t : State) (xs ys : Text) (f : List Text) → Reached default_config s xs (f ∷ []) t ys

@@ -1,5 +1,5 @@
 -- The columns of a variable, by its type.
-use Rattle.std.proofs.Common.{◌≡◌, ◌∙◌, ◌-◌, ◌<◌, ℕ, zero, suc, refl, ap, sym, List, [], ◌∷◌, flat_map, Option, Some, None, arith}
+use Rattle.std.proofs.Common.{◌≡◌, ◌∙◌, ◌-◌, ◌<◌, ℕ, zero, suc, refl, ap, sym, List, [], ◌∷◌, flat_map, Some, None, arith}
 use Rattle.lus_syntax.specs.Limits.{most_nesting}
 use Rattle.lus_values.specs.Names.{Text}
 use Rattle.lus_program.specs.declared.types.Kind.{Kind}

@@ -1,9 +1,9 @@
 -- The values of inputs, by their types.
-use Rattle.std.proofs.Common.{◌≡◌, ◌∙◌, ◌-◌, ◌<◌, ℕ, zero, suc, refl, ap, sym, List, Option, Some, None, option_map, arith, if◌then◌else◌}
+use Rattle.std.proofs.Common.{◌≡◌, ◌∙◌, ◌-◌, ◌<◌, ℕ, zero, suc, ap, sym, List, Some, None, option_map, arith, if◌then◌else◌}
 use Rattle.std.specs.Prelude.{is_some}
 use Rattle.lus_syntax.specs.Limits.{most_nesting}
 use Rattle.lus_values.specs.Names.{Names, Text}
-use Rattle.lus_values.specs.Values.{Value, fields_of, struct}
+use Rattle.lus_values.specs.Values.{fields_of, struct}
 use Rattle.lus_program.specs.declared.types.Kind.{Kind}
 use Rattle.lus_program.specs.Programs.{Field, Program, Variable}
 use Rattle.lus_asked.specs.Reading.{word_value}

@@ -1,8 +1,8 @@
 -- The cells of values and of outputs.
-use Rattle.std.proofs.Common.{◌≡◌, ◌∙◌, ◌+◌, ◌<◌, ℕ, refl, ap, sym, List, [], ◌∷◌, ◌++◌, drop, get_or, map, flat_map, Option, Vec, Global}
+use Rattle.std.proofs.Common.{◌≡◌, ◌∙◌, ◌+◌, refl, ap, List, [], ◌∷◌, ◌++◌, map, flat_map, Vec, Global}
 use Rattle.lus_values.specs.declared.value.Value.{Value as StoredValue, Struct}
-use Rattle.lus_values.specs.Names.{Names, Text}
-use Rattle.lus_values.specs.Values.{Fields, Value, fields_of}
+use Rattle.lus_values.specs.Names.{Names}
+use Rattle.lus_values.specs.Values.{Value, fields_of}
 use Rattle.lus_values.specs.View.{value_of}
 use Rattle.lus_values.proofs.Views.{struct_fields}
 use Rattle.lus_records.specs.Outputs.{fields_cells, value_cells}

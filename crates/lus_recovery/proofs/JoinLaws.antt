@@ -1,5 +1,5 @@
 -- What is written behind a journal's items are its next items.
-use Rattle.std.proofs.Common.{◌≡◌, ◌∙◌, ◌+◌, ◌++◌, ℕ, refl, ap, sym, List, [], ◌∷◌, length, take, drop, append_assoc, append-nil, arith, length-append}
+use Rattle.std.proofs.Common.{◌≡◌, ◌∙◌, ◌+◌, ◌++◌, ℕ, ap, sym, List, [], ◌∷◌, length, take, drop, append_assoc, append-nil, arith, length-append}
 use Rattle.std.proofs.lemmas.List.{take-append-drop}
 use Rattle.lus_values.specs.Names.{Names, Text}
 use Rattle.lus_requests.specs.declared.request.Entry.{Entry}
@@ -7,7 +7,7 @@ use Rattle.lus_devices.specs.Devices.{Bytes}
 use Rattle.lus_devices.specs.Journals.{count_text, line_text, lines_text}
 use Rattle.lus_replay.specs.Replays.{CutShort, Item, cut_mark, item_text, items_text, said_in, saids_of}
 use Rattle.lus_recovery.specs.Journals.{more_text, user}
-use Rattle.lus_recovery.specs.Recoveries.{added, ended, entries_at, head_of, joined, so_far, told}
+use Rattle.lus_recovery.specs.Recoveries.{added, ended, entries_at, head_of, joined, so_far}
 use Rattle.lus_recovery.specs.declared.recovering.Start.{Start}
 use Rattle.lus_recovery.specs.declared.recovering.Start.TheVariants as starts
 

@@ -1,11 +1,10 @@
 -- Where a run goes on, by what was read of the journal.
-use Rattle.std.proofs.Common.{◌≡◌, ◌∙◌, ◌<◌, ℕ, refl, ap, sym, subst, List, [], length, take, Option}
+use Rattle.std.proofs.Common.{◌≡◌, ◌∙◌, ℕ, refl, ap, sym, subst, List, [], take, Option}
 use Rattle.lus_values.specs.Names.{Names, Text}
 use Rattle.lus_requests.specs.declared.request.Entry.{Entry}
 use Rattle.lus_devices.specs.Devices.{Bytes, with_front}
 use Rattle.lus_lines.specs.Lines.{IsLast}
-use Rattle.lus_replay.specs.Replays.{EndsSo, HasReplayed, Replays, saids_of}
-use Rattle.lus_replay.specs.declared.replaying.Ending.TheVariants as endings
+use Rattle.lus_replay.specs.Replays.{EndsSo, HasReplayed, Replays}
 use Rattle.lus_replay.specs.declared.replaying.Replayed.{Replayed}
 use Rattle.lus_recovery.specs.Recoveries.{BeginsHead, HasRecovered, IsRead, StartsAt, head_of}
 use Rattle.lus_recovery.specs.declared.recovering.Start.{Start}

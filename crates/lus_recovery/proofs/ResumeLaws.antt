@@ -1,12 +1,11 @@
 -- What is written in two parts: what is missing in the journal, and further entries.
-use Rattle.std.proofs.Common.{◌≡◌, ◌∙◌, ◌++◌, ℕ, refl, ap, sym, List, [], Option, Some, None, append-nil}
+use Rattle.std.proofs.Common.{◌≡◌, ◌++◌, ap, sym, List, [], Option, append-nil}
 use Rattle.lus_values.specs.Names.{Names, Text}
 use Rattle.lus_requests.specs.declared.request.Request.{Request}
 use Rattle.lus_requests.specs.declared.request.Entry.{Entry}
-use Rattle.lus_devices.specs.Devices.{Bytes, WritesBeginning, with_front, with_text}
+use Rattle.lus_devices.specs.Devices.{Bytes, WritesBeginning, with_text}
 use Rattle.lus_devices.proofs.Laws.{Reaches, reaches_began, reaches_end, reaches_start, reaches_step}
 use Rattle.lus_play.specs.declared.playing.Score.{Score}
-use Rattle.lus_play.specs.Plays.{AsksSome}
 use Rattle.lus_recovery.specs.Journals.{HasWritten, HasWrittenSome, more_text}
 use Rattle.lus_recovery.proofs.WriteLaws.{none_asked}
 use Rattle.lus_recovery.specs.Recoveries.{HasResumed, HasResumedSome, added, entries_at, start_text}

@@ -1,5 +1,5 @@
 -- Where a run goes on in a journal, and what comes of it.
-use Rattle.std.specs.Prelude.{◌≡◌, ◌<◌, ◌++◌, ℕ, List, [], ◌∷◌, length, map, take, drop, codes, Option}
+use Rattle.std.specs.Prelude.{◌≡◌, ◌<◌, ◌++◌, ℕ, List, [], ◌∷◌, length, map, take, drop, Option}
 use Rattle.lus_values.specs.Names.{Names, Text}
 use Rattle.lus_requests.specs.declared.request.Request.{Request}
 use Rattle.lus_requests.specs.declared.request.Entry.{Entry}
@@ -9,7 +9,6 @@ use Rattle.lus_lines.specs.Lines.{IsLast}
 use Rattle.lus_play.specs.Plays.{AsksAll, AsksSome}
 use Rattle.lus_play.specs.declared.playing.Score.{Score}
 use Rattle.lus_replay.specs.Replays.{Item, Told, Counted, CutShort, Replays, cut_mark, items_text, saids_of}
-use Rattle.lus_replay.specs.declared.replaying.Ending.{Ending}
 use Rattle.lus_replay.specs.declared.replaying.Ending.TheVariants as endings
 use Rattle.lus_replay.specs.declared.replaying.Replayed.{Replayed}
 use Rattle.lus_recovery.specs.Journals.{journal_of, more_text, user}

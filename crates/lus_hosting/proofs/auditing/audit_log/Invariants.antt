@@ -4,6 +4,6 @@ use Rattle.lus_live_instance.specs.MachineSpecs.CodeSpecs.Codes.{program_of}
 use Rattle.lus_hosting.proofs.AuditLaws.{Audited}
 use Rattle.lus_hosting.proofs.auditing.audit_log.Given as goal
 
-abbrev pub invariant-loop-turn : goal.invariant-loop-turn
-invariant-loop-turn g l =
-    Audited (program_of (arc_value l.host.program.now)) l.host.node.0 (g.S.Source.left l.initial.source) (g.S.Source.left l.source) l.instances
+abbrev pub invariant-loop-lines : goal.invariant-loop-lines
+invariant-loop-lines g l =
+    Audited (program_of (arc_value l.host.program.now)) l.host.node.0 (g.S.Source.left l.initial.source) (g.S.Source.left l.source) l.instances l.lines l.entries

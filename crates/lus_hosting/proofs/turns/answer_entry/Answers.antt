@@ -9,4 +9,4 @@ use Rattle.lus_hosting.proofs.turns.answer_entry.Goals as goal
 pub returns : goal.returns
 returns c = λ spelling log line words keeps.
     subst (λ k. Answers k (program_of (arc_value c.args.host.program.now)) c.args.host.node.0 spelling log line (string_bytes c.clear.new.self) c.replay_on.new.instances) (sym c.kind_of.ensures)
-    (answered_entry _ _ spelling log line (string_bytes c.clear.new.self) c.replay_on.new.instances c.in_ok-verdict.verdict c.args.instance.now c.args.entry.now words.0 words.1 (c.in_ok-verdict.ensures log keeps) c.clear.ensures.bytes)
+    (answered_entry _ _ spelling log line (string_bytes c.clear.new.self) c.replay_on.new.instances c.in_ok-verdict.verdict c.args.instance.now c.args.entry.now _ words.0 words.1 (c.in_ok-verdict.ensures log keeps) c.clear.ensures.bytes)

@@ -16,6 +16,30 @@ pub returns-in_default-clause-complete : goal.returns-in_default-clause-complete
 returns-in_default-clause-complete c = λ instance caller call a b kind is.
     absurd (split_after 32 c.args.line.now instance (caller ++ 32 ∷ call) None c.in_default.ensures.cases (omega arith) is a)
 
+pub returns-in_default-clause-behind : goal.returns-in_default-clause-behind
+returns-in_default-clause-behind c = λ instance text a is.
+    absurd (split_after 32 c.args.line.now instance text None c.in_default.ensures.cases (omega arith) is a)
+
+pub returns-in-Entry-clause-behind : goal.returns-in-Entry-clause-behind
+returns-in-Entry-clause-behind c = λ instance text a is.
+    (let parts = split_after 32 c.args.line.now instance text (Some (c.in-Some.instance, c.in-Some.text)) c.in-Some.ensures.cases (omega arith) is a in
+    ap behind_of (sym parts.1 ∙ sym c.as_bytes.ensures.value) ∙ sym c.behind_of.ensures ∙ c.in-Entry.is)
+
+pub returns-in-Note-clause-behind : goal.returns-in-Note-clause-behind
+returns-in-Note-clause-behind c = λ instance text a is.
+    (let parts = split_after 32 c.args.line.now instance text (Some (c.in-Some.instance, c.in-Some.text)) c.in-Some.ensures.cases (omega arith) is a in
+    ap behind_of (sym parts.1 ∙ sym c.as_bytes.ensures.value) ∙ sym c.behind_of.ensures ∙ c.in-Note.is)
+
+pub returns-in-Some-split_once-clause-behind : goal.returns-in-Some-split_once-clause-behind
+returns-in-Some-split_once-clause-behind c = λ instance text a is.
+    (let parts = split_after 32 c.args.line.now instance text (Some (c.in-Some.instance, c.in-Some.text)) c.in-Some.ensures.cases (omega arith) is a in
+    ap behind_of (sym parts.1 ∙ sym c.as_bytes.ensures.value) ∙ sym c.behind_of.ensures ∙ c.in-Call.is)
+
+pub returns-in-None-clause-behind : goal.returns-in-None-clause-behind
+returns-in-None-clause-behind c = λ instance text a is.
+    (let parts = split_after 32 c.args.line.now instance text (Some (c.in-Some.instance, c.in-Some.text)) c.in-Some.ensures.cases (omega arith) is a in
+    ap behind_of (sym parts.1 ∙ sym c.as_bytes.ensures.value) ∙ sym c.behind_of.ensures ∙ c.in-Call.is)
+
 pub returns-in-Entry-clause-read : goal.returns-in-Entry-clause-read
 returns-in-Entry-clause-read c = split_parts 32 c.args.line.now (Some (c.in-Some.instance, c.in-Some.text)) c.in-Some.ensures.cases (omega arith)
 

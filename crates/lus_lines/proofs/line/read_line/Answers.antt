@@ -1,6 +1,6 @@
 -- A line too long was begun, and then its rest was skipped.
 use Rattle.std.proofs.Common.{◌<◌, arith, length}
-use Rattle.lus_lines.specs.Lines.{HasRead, most_line_bytes}
+use Rattle.lus_lines.specs.Lines.{most_line_bytes}
 use Rattle.lus_lines.proofs.LineLaws.{long_reads}
 use Rattle.lus_lines.proofs.line.read_line.Goals as goal
 

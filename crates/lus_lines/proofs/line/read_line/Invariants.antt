@@ -1,7 +1,6 @@
 -- The line so far is what was read.
 use Rattle.std.proofs.Common.{◌≡◌, ◌-◌, ◌≤◌, length, vec_len}
 use Rattle.lus_lines.specs.Lines.{IsBegun}
-use Rattle.lus_lines.proofs.LineLaws as laws
 use Rattle.lus_lines.proofs.line.read_line.Given as goal
 
 abbrev pub invariant-loop-byte : goal.invariant-loop-byte

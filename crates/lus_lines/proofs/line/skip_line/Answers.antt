@@ -1,7 +1,6 @@
 -- The byte that was read is plain.
 use Rattle.std.proofs.Common.{rules, nat_eq, false, ◌≡◌, ◌∙◌, ◌++◌, ◌∷◌, [], ap, refl, get_or}
 use Rattle.lus_devices.specs.Devices.{with_front}
-use Rattle.lus_lines.specs.Lines.{HasRead, IsBegun}
 use Rattle.lus_lines.proofs.LineLaws.{begun_byte, one_byte}
 use Rattle.lus_lines.proofs.line.skip_line.Goals as goal
 

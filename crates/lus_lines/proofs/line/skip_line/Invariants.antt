@@ -2,7 +2,6 @@
 use Rattle.std.proofs.Common.{◌≡◌, length}
 use Rattle.lus_devices.specs.Devices.{Bytes}
 use Rattle.lus_lines.specs.Lines.{IsBegun}
-use Rattle.lus_lines.proofs.LineLaws as laws
 use Rattle.lus_lines.proofs.line.skip_line.Given as goal
 
 abbrev pub invariant-loop-skipped : goal.invariant-loop-skipped

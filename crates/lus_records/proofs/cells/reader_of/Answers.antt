@@ -1,5 +1,5 @@
 -- The reader is as the builder was set.
-use Rattle.std.proofs.Common.{◌≡◌, ◌∙◌, inr}
+use Rattle.std.proofs.Common.{◌∙◌, inr}
 use Rattle.lus_records.proofs.cells.reader_of.Goals as goal
 
 pub returns : goal.returns

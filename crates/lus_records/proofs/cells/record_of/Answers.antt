@@ -1,5 +1,5 @@
 -- The cells are those of the one record that two reads found.
-use Rattle.std.proofs.Common.{rules, ◌≡◌, ◌∙◌, Bor, List, ℕ, [], ap, inl, sym, Some, None, true, false}
+use Rattle.std.proofs.Common.{rules, ◌≡◌, ◌∙◌, Bor, List, ℕ, [], ap, inl, sym, Some, true, false}
 use Rattle.csv.specs.Reading.{source_of, strip_bom}
 use Rattle.lus_play.specs.Plays.{ended}
 use Rattle.lus_records.specs.Records.{cells_of}

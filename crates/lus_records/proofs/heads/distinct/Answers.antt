@@ -1,5 +1,5 @@
 -- A name that stands in the table so far stands twice among the names.
-use Rattle.std.proofs.Common.{rules, ◌≡◌, ◌∙◌, refl, ap, sym, map, string_bytes, true, false, Bool, not}
+use Rattle.std.proofs.Common.{rules, ◌≡◌, ◌∙◌, refl, ap, map, string_bytes, true, false, Bool, not}
 use Rattle.lus_scripts.specs.Scripts.{all_distinct}
 use Rattle.lus_scripts.proofs.DistinctNames.{distinct-item, distinct-more, names-item}
 use Rattle.lus_records.proofs.HeadLaws.{distinct_none}

@@ -1,5 +1,5 @@
 -- Structures nest as deep as they may.
-use Rattle.std.proofs.Common.{◌≡◌, ◌∙◌, ap, refl, sym}
+use Rattle.std.proofs.Common.{◌∙◌, ap, refl, sym}
 use Rattle.std.proofs.lemmas.Result.{IfOk-weaker}
 use Rattle.lus_syntax.specs.Limits.{most_nesting}
 use Rattle.lus_program.specs.View.{program_seen, variable_of}

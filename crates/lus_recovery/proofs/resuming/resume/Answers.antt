@@ -1,6 +1,6 @@
 -- What is missing is written, and then further entries.
 use Rattle.std.proofs.lemmas.Result.{IfOk-weaker, on_err_weaker}
-use Rattle.std.proofs.Common.{◌≡◌, ap, sym, subst}
+use Rattle.std.proofs.Common.{subst}
 use Rattle.lus_devices.proofs.Lines.{on_err}
 use Rattle.lus_recovery.specs.Journals.{HasWritten, HasWrittenSome}
 use Rattle.lus_recovery.proofs.ResumeLaws.{resumed_all, resumed_some, start_begun}
