@@ -25,7 +25,7 @@ fn of_tree(alloc: Global, source: &str, refusal: &Refusal) -> Result<Option<Find
         RefusalNumber::Type => type_cause(alloc, source, &tree, refusal),
         RefusalNumber::Clock => clock_cause(alloc, source, &tree, refusal),
         RefusalNumber::Nil => nil_cause(alloc, source, &tree, refusal),
-        RefusalNumber::Cycle => cycle_cause(alloc, &tree, refusal),
+        RefusalNumber::Cycle => cycle_cause(alloc, source, &tree, refusal),
         RefusalNumber::Recursion => recursion_cause(alloc, &tree, refusal),
         _ => Ok(None),
     }

@@ -4,6 +4,7 @@ use crate::clock::Clocks;
 use crate::declared::wrong_clock;
 use crate::mending::{Context, mended};
 use crate::placing::{Misplaced, misplaced_in};
+use crate::redeclaring::{Redeclared, declaration_at_fault};
 use crate::sampling::note_on_memory;
 use lus_faults::{Finding, Sought, extent_of, slice_of, start_of};
 use lus_syntax::{Refusal, Tree};
@@ -59,9 +60,27 @@ fn told(
         let name = left.text.as_str();
         finding.relate(left.span, format!(in alloc; "the equation of `{name}`")?)?;
     }
+    if let Some(other) = declaration_at_fault(alloc, on, found)? {
+        return told_of(alloc, finding, other);
+    }
     finding.note = Some(advice_on(alloc, on, found)?);
     finding.edit = mended(alloc, on, found, all)?;
     Ok(finding)
+}
+
+/// A finding with the declaration that it comes from, and how that would read.
+fn told_of(alloc: Global, finding: Finding, other: Redeclared<'_>) -> Result<Finding, AllocError> {
+    let mut finding = finding;
+    let name = other.name.text.as_str();
+    let clock = other.clock.told(alloc)?;
+    finding.relate(
+        other.name.span,
+        format!(in alloc; "`{name}` is declared here")?,
+    )?;
+    finding.note = Some(format!(in alloc;
+        "The equations that define and use `{name}` agree if it is declared {clock}."
+    )?);
+    Ok(finding.with_edit(other.edit))
 }
 
 /// The expression that stands at a place, among some of which each is before those in it.
@@ -88,7 +107,11 @@ pub fn clock_cause(
     if let Some(found) = wrong_clock(alloc, sought, node)? {
         return Ok(Some(found));
     }
-    let clocks = Clocks { tree, node };
+    let clocks = Clocks {
+        tree,
+        node,
+        assumed: None,
+    };
     for equation in &node.equations {
         let all = misplaced_in(alloc, clocks, equation)?;
         if let Some(found) = at_place(sought, &all) {

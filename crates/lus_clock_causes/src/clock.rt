@@ -17,11 +17,19 @@ pub struct Clock<'t> {
     pub newest: Option<Tick<'t>>,
 }
 
-/// A node, whose variables have clocks and types, and the tree that it stands in.
+/// Some variables, and a clock that they are taken to have in place of the one that is declared of them.
+#[derive(Clone, Copy)]
+pub struct Assumed<'t> {
+    pub names: &'t [Name],
+    pub clock: Clock<'t>,
+}
+
+/// A node, whose variables have clocks and types, the tree that it stands in, and clocks that are not as they are declared.
 #[derive(Clone, Copy)]
 pub struct Clocks<'t> {
     pub tree: &'t Tree,
     pub node: &'t Node,
+    pub assumed: Option<Assumed<'t>>,
 }
 
 impl<'t> Clock<'t> {
@@ -102,9 +110,26 @@ fn are_plain(groups: &[Group]) -> bool {
     true
 }
 
+impl<'t> Assumed<'t> {
+    /// The clock, of a variable that is taken to have it.
+    fn clock(self, name: &str) -> Option<Clock<'t>> {
+        for assumed in self.names {
+            if assumed.text.as_str() == name {
+                return Some(self.clock);
+            }
+        }
+        None
+    }
+}
+
 impl<'t> Clocks<'t> {
     /// The clock of a variable.
     pub fn clock(self, name: &str) -> Option<Clock<'t>> {
+        if let Some(assumed) = self.assumed
+            && let Some(clock) = assumed.clock(name)
+        {
+            return Some(clock);
+        }
         match variable_named(self.node, name) {
             Some(variable) => Some(match &variable.group.test {
                 Some(test) => Clock::on(test),

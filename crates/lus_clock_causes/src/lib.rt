@@ -7,6 +7,7 @@ mod completing;
 mod declared;
 mod mending;
 mod placing;
+mod redeclaring;
 mod sampling;
 
 pub use cause::clock_cause;

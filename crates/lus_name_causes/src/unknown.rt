@@ -2,7 +2,7 @@
 
 use crate::declared::candidates;
 use crate::said::{Said, told_of};
-use lus_faults::{declared_type, nearest};
+use lus_faults::{declared_type, nearest, variable_named};
 use lus_syntax::{Name, Node, Tree};
 use std::alloc::{AllocError, Global};
 
@@ -63,6 +63,10 @@ fn foreign_type(text: &str) -> Option<(Option<&'static str>, &'static str)> {
             None,
             "There are no floating-point numbers: use `int`, and count in hundredths.",
         )),
+        "clock" => Some((
+            Some("bool"),
+            "A clock is a `bool` or an enumeration: a variable that other streams are sampled by.",
+        )),
         "char" | "string" => Some((
             None,
             "There are no strings: use an enumeration, as in `type state = enum { Off, On };`.",
@@ -110,6 +114,20 @@ fn qualifier<'t>(tree: &Tree, found: Use<'t>) -> Option<Said<'t>> {
     })
 }
 
+/// What is said of a call that names a variable of the node that it stands in.
+fn called_variable<'t>(node: Option<&'t Node>, found: Use<'t>) -> Option<Said<'t>> {
+    if found.purpose != Purpose::Node {
+        return None;
+    }
+    let node = node?;
+    let _variable = variable_named(node, found.name.text.as_str())?;
+    Some(told_of(
+        found.name,
+        "`{}` is a variable and cannot be called",
+        "A product is written with `*`, as in `k * (x + 1)`.",
+    ))
+}
+
 /// What is said of a name that is spelled nearly as no other.
 fn note_on(found: Use<'_>) -> &'static str {
     match found.purpose {
@@ -143,6 +161,9 @@ pub fn unknown<'t>(
         }));
     }
     if let Some(said) = qualifier(tree, found) {
+        return Ok(Some(said));
+    }
+    if let Some(said) = called_variable(node, found) {
         return Ok(Some(said));
     }
     let names = candidates(alloc, tree, node, found.purpose)?;

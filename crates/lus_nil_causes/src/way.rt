@@ -2,8 +2,8 @@
 
 use crate::first::first_value;
 use crate::flags::Flags;
-use lus_faults::{Edit, Finding, extent_of, slice_of};
-use lus_syntax::{Expr, Span, Tree};
+use lus_faults::{Edit, Finding, expressions_in, extent_of, slice_of};
+use lus_syntax::{Expr, Infix, Span, Tree};
 use std::alloc::{AllocError, Global};
 
 /// How many variables a way is followed through.
@@ -48,6 +48,37 @@ fn edit_of(
     }))
 }
 
+/// Whether an expression is written before `->` as it stands: a name or a value.
+fn is_plain(expr: &Expr) -> bool {
+    matches!(expr, Expr::Name(_) | Expr::Number(_, _) | Expr::Truth(_, _))
+}
+
+/// Whether two spans are one.
+fn is_same(one: Span, other: Span) -> bool {
+    one.start.byte == other.start.byte && one.length == other.length
+}
+
+/// How `pre x -> 0` is written with its first value on the left, where the `pre` at a span is the left side of such an arrow.
+fn turned(given: Given<'_, '_>, span: Span) -> Result<Option<Edit>, AllocError> {
+    for equation in &given.flags.node.equations {
+        for expr in &expressions_in(given.alloc, &equation.right)? {
+            if let Expr::Binary(Infix::Arrow, left, right) = expr
+                && is_same(extent_of(given.source, left), span)
+                && is_plain(right)
+            {
+                let before = slice_of(given.source, span);
+                let first = slice_of(given.source, extent_of(given.source, right));
+                return Ok(Some(Edit {
+                    byte: span.start.byte,
+                    length: extent_of(given.source, expr).length,
+                    text: format!(in given.alloc; "{first} -> {before}")?,
+                }));
+            }
+        }
+    }
+    Ok(None)
+}
+
 /// Adds a step of a way: a variable, whose right side the way goes on with, or the `pre` at the end, with how it would be written.
 fn add_step<'t>(
     given: Given<'_, 't>,
@@ -66,6 +97,12 @@ fn add_step<'t>(
         span,
         format!(in given.alloc; "`{text}` has no value at the first instant")?,
     )?;
+    if let Some(edit) = turned(given, span)? {
+        finding.edit = Some(edit);
+        let note = "The first value stands on the left of `->`.";
+        finding.note = Some(String::from_str(given.alloc, note)?);
+        return Ok(None);
+    }
     finding.edit = edit_of(given, expr, span, text)?;
     Ok(None)
 }

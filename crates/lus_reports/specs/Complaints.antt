@@ -35,11 +35,11 @@ found_text None = codes ": "
 
 -- what a refusal of scripts means
 abbrev pub meaning_of : ScriptRefusal → Text
-meaning_of refusals.Json = codes "no JSON"
-meaning_of refusals.Form = codes "not the form of scripts"
-meaning_of refusals.Unknown = codes "an unknown name"
-meaning_of refusals.Double = codes "a doubled name"
-meaning_of refusals.Limit = codes "a limit is passed"
+meaning_of refusals.Json = codes "invalid JSON"
+meaning_of refusals.Form = codes "invalid scripts"
+meaning_of refusals.Unknown = codes "unknown name"
+meaning_of refusals.Double = codes "duplicate name"
+meaning_of refusals.Limit = codes "limit exceeded"
 meaning_of refusals.Memory = codes "out of memory"
 
 -- what is wanted there, where a place was found

@@ -44,34 +44,33 @@ pub enum Check {
 }
 
 impl Check {
-    /// What the check wants, in a sentence.
+    /// What was expected, in a sentence.
     pub fn sentence(self) -> &'static str {
         match self {
-            Check::Size => "scripts have at most 1048576 bytes",
-            Check::Json => "here the bytes are no JSON, or no text",
-            Check::End => "the bytes end before the JSON does",
-            Check::Scripts =>
-                "scripts are an object with exactly the keys `instances` and `callers`",
-            Check::List => "a list belongs here",
-            Check::Instance => "an instance is an object with exactly the keys `name` and `node`",
-            Check::Caller => "a caller is an object with exactly the keys `name` and `calls`",
+            Check::Size => "at most 1048576 bytes are allowed",
+            Check::Json => "unexpected character, or bytes that are not UTF-8",
+            Check::End => "unexpected end of the file",
+            Check::Scripts => "expected an object with exactly the keys `instances` and `callers`",
+            Check::List => "expected a list",
+            Check::Instance => "expected an object with exactly the keys `name` and `node`",
+            Check::Caller => "expected an object with exactly the keys `name` and `calls`",
             Check::Call => {
-                "a call is an object with the key `on` and exactly one of `step`, `burst`, `reset`, `save` and `restore`"
+                "expected an object with the key `on` and exactly one of `step`, `burst`, `reset`, `save` and `restore`"
             }
             Check::Name => {
-                "a name is a string of 1 to 64 bytes: a letter or `_`, then letters, digits and `_`"
+                "expected a name: a string of 1 to 64 bytes, a letter or `_`, then letters, digits and `_`"
             }
-            Check::Text => "a string belongs here",
-            Check::Reset => "`reset` is `true`",
-            Check::Slot => "a slot is a whole number, from 0 to 7",
-            Check::Instances => "there are at most 256 instances",
-            Check::Callers => "there are at most 64 callers",
-            Check::Calls => "a caller has at most 10000 calls",
-            Check::Double => "another one before it has this name",
+            Check::Text => "expected a string",
+            Check::Reset => "expected `true`",
+            Check::Slot => "expected a slot, a whole number from 0 to 7",
+            Check::Instances => "at most 256 instances are allowed",
+            Check::Callers => "at most 64 callers are allowed",
+            Check::Calls => "at most 10000 calls of one caller are allowed",
+            Check::Double => "an earlier one has this name",
             Check::Node => "the program has no node of this name",
             Check::On => "the scripts have no instance of this name",
             Check::Value => {
-                "an item is a whole number in range, `true`, `false`, a constructor's name, `null`, or a structure's fields"
+                "expected a whole number in range, `true`, `false`, a constructor's name, `null`, or an object with a structure's fields"
             }
         }
     }

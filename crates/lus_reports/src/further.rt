@@ -2,10 +2,13 @@
 
 ghost use Rattle.std.specs.Prelude.{◌≤◌, length};
 
+use crate::changes::Changes;
 use crate::detail::source_finding;
 use crate::lines::line_at;
-use crate::rest::{Fault, fault_of, rest_of_grammar, rest_of_meaning};
-use lus_causes::lus_faults::{Finding, Position, push_finding, push_marked};
+use crate::rest::{Fault, declared_change, fault_at, rest_of_grammar, rest_of_meaning};
+use lus_causes::lus_faults::{
+    Edit, Finding, Position, edited, offset_of, push_finding, push_marked,
+};
 use lus_cli::lus_host::lus_machine::check;
 use lus_cli::lus_host::text_of;
 use lus_further::{Told, without_declaration};
@@ -41,12 +44,14 @@ fn place_among(told: &[Told], refusal: &Refusal) -> usize
     told.len()
 }
 
-/// Faults of a source: all that were found, and those that are told.
+/// Faults of a source: all that were found, those that are told, and the changes of declarations that some of these come from. What is
+/// left of the source is of the text that the changes make.
 #[derive(Drop)]
 struct Search<'s> {
     source: &'s str,
     found: Vec<Fault>,
     told: Vec<Told>,
+    changes: Changes<'s>,
 }
 
 impl Search<'_> {
@@ -62,7 +67,9 @@ impl Search<'_> {
 
     /// Whether a fault may follow from one of grammar that was found before.
     fn is_spoiled(&self, fault: Fault) -> bool {
-        self.found.iter().any(|other| fault.follows(*other))
+        self.found
+            .iter()
+            .any(|other| fault.follows(self.source, *other))
     }
 
     /// Whether a fault is of a name that was found at fault in the same declaration.
@@ -72,19 +79,30 @@ impl Search<'_> {
             .any(|other| fault.is_of_same_name(self.source, *other))
     }
 
-    /// Tells a fault in the order of places. Answers the byte that it comes from: of a value that may be nil, the last place on the way.
+    /// Keeps the change of a declaration, of the text that is left.
+    fn keep(&mut self, change: Option<Edit>) -> Result<(), AllocError> {
+        match change {
+            Some(edit) => self.changes.add(edit),
+            None => Ok(()),
+        }
+    }
+
+    /// Tells a fault of what is left, in the order of places, and gives what is left without it.
     fn tell(
         &mut self,
         alloc: Global,
         left: &str,
         refusal: Refusal,
-        fault: Fault,
-    ) -> Result<usize, AllocError> {
+    ) -> Result<Option<String>, AllocError> {
         let finding = source_finding(alloc, left, &refusal)?;
-        let origin = origin_of(&finding, fault);
+        let change = declared_change(alloc, left, &refusal, &finding)?;
+        let rest = rest_without(alloc, left, &refusal, &finding, &change)?;
+        let refusal = self.changes.refusal(left, refusal);
+        let finding = self.changes.finding(alloc, finding)?;
         let place = place_among(&self.told, &refusal);
         self.told.insert(place, Told { refusal, finding })?;
-        Ok(origin)
+        self.keep(change)?;
+        Ok(rest)
     }
 
     /// Tells the refusal of what is left of the source, unless it follows from one before, and gives what is left without it.
@@ -94,35 +112,39 @@ impl Search<'_> {
         left: &str,
         refusal: Refusal,
     ) -> Result<Option<String>, AllocError> {
-        let fault = fault_of(alloc, self.source, &refusal)?;
+        let byte = offset_of(left, refusal.line, refusal.column);
+        let at = self.changes.original(byte).unwrap_or(byte);
+        let fault = fault_at(alloc, self.source, &refusal, at)?;
         if self.has(fault) || fault.is_last() || self.is_unread(fault) {
             return Ok(None);
         }
         let is_spoiled = self.is_spoiled(fault);
-        let rest = rest_of_grammar(alloc, left, fault)?;
+        let of_grammar = rest_of_grammar(alloc, left, fault)?;
         let is_told = if is_spoiled {
-            rest.is_some()
+            of_grammar.is_some()
         } else {
             !self.repeats(fault)
         };
-        let mut origin = fault.byte;
-        if is_told {
-            origin = self.tell(alloc, left, refusal, fault)?;
-        }
         self.found.push(fault)?;
-        if rest.is_some() {
-            return Ok(rest);
+        let of_meaning = if is_told {
+            self.tell(alloc, left, refusal)?
+        } else {
+            rest_of_meaning(alloc, left, byte, byte)?
+        };
+        if of_grammar.is_some() {
+            return Ok(of_grammar);
         }
         if is_spoiled || fault.is_of_grammar() {
-            return without_declaration(alloc, left, fault.byte);
+            return without_declaration(alloc, left, byte);
         }
-        rest_of_meaning(alloc, left, fault, origin)
+        Ok(of_meaning)
     }
 
     /// What is left of the source without its first fault.
     fn begin(&mut self, alloc: Global, first: &Refusal) -> Result<Option<String>, AllocError> {
         let source = self.source;
-        let fault = fault_of(alloc, source, first)?;
+        let byte = offset_of(source, first.line, first.column);
+        let fault = fault_at(alloc, source, first, byte)?;
         self.found.push(fault)?;
         if fault.is_last() {
             return Ok(None);
@@ -132,23 +154,51 @@ impl Search<'_> {
             return if rest.is_some() {
                 Ok(rest)
             } else {
-                without_declaration(alloc, source, fault.byte)
+                without_declaration(alloc, source, byte)
             };
         }
-        let origin = match fault.number {
-            RefusalNumber::Nil => origin_of(&source_finding(alloc, source, first)?, fault),
-            _ => fault.byte,
-        };
-        rest_of_meaning(alloc, source, fault, origin)
+        if !may_come_from_elsewhere(first.number) {
+            return rest_of_meaning(alloc, source, byte, byte);
+        }
+        let finding = source_finding(alloc, source, first)?;
+        let change = declared_change(alloc, source, first, &finding)?;
+        let rest = rest_without(alloc, source, first, &finding, &change)?;
+        self.keep(change)?;
+        Ok(rest)
     }
 }
 
-/// The byte that a fault comes from: of a value that may be nil, the last place on the way to what has no value.
-fn origin_of(finding: &Finding, fault: Fault) -> usize {
+/// Whether a refusal with a number may come from another place than its own: from a declaration, from the name that an equation defines,
+/// or from what has no value.
+fn may_come_from_elsewhere(number: RefusalNumber) -> bool {
+    matches!(
+        number,
+        RefusalNumber::Name | RefusalNumber::Type | RefusalNumber::Clock | RefusalNumber::Nil
+    )
+}
+
+/// The byte that a refusal comes from: of a value that may be nil, the last place on the way to what has no value.
+fn origin_of(finding: &Finding, refusal: &Refusal, byte: usize) -> usize {
     match finding.related.last() {
-        Some(related) if fault.number == RefusalNumber::Nil => related.span.start.byte,
-        _ => fault.byte,
+        Some(related) if refusal.number == RefusalNumber::Nil => related.span.start.byte,
+        _ => byte,
     }
+}
+
+/// What is left of a source without a fault of meaning: with the declaration changed that it comes from, if there is such a change, else
+/// without its equation or its declaration.
+fn rest_without(
+    alloc: Global,
+    left: &str,
+    refusal: &Refusal,
+    finding: &Finding,
+    change: &Option<Edit>,
+) -> Result<Option<String>, AllocError> {
+    if let Some(edit) = change {
+        return edited(alloc, left, edit);
+    }
+    let byte = offset_of(left, refusal.line, refusal.column);
+    rest_of_meaning(alloc, left, byte, origin_of(finding, refusal, byte))
 }
 
 /// The faults behind the first one of a source, each in an equation or a declaration of its own.
@@ -157,6 +207,7 @@ fn faults_behind(alloc: Global, source: &str, first: &Refusal) -> Result<Vec<Tol
         source,
         found: Vec::new(alloc),
         told: Vec::new(alloc),
+        changes: Changes::new(alloc, source),
     };
     let mut rest = search.begin(alloc, first)?;
     for _turn in 0..MOST_FURTHER {

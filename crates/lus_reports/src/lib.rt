@@ -1,6 +1,7 @@
 //! What is said to people of programs and their scripts: why and where they are refused, and which nodes an accepted program has.
 #![tactic(auto)]
 
+mod changes;
 mod check;
 mod detail;
 mod explanation;

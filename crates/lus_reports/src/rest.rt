@@ -1,9 +1,9 @@
 //! What is left of a source without a fault, in which others are looked for.
 
-use lus_causes::lus_faults::{bytes_at, offset_of};
+use lus_causes::lus_faults::{Edit, Finding, Sought, bytes_at};
 use lus_further::{place_of_declaration, without_declaration, without_equation, without_statement};
 use lus_grammar::parse;
-use lus_syntax::{Refusal, RefusalNumber, lex};
+use lus_syntax::{Node, Refusal, RefusalNumber, Tree, lex};
 use std::alloc::{AllocError, Global};
 
 /// A fault of a source: its number, the line and the byte of its place, and the place of the declaration there.
@@ -15,13 +15,13 @@ pub(crate) struct Fault {
     pub declaration: Option<usize>,
 }
 
-/// The fault that a refusal is of.
-pub(crate) fn fault_of(
+/// The fault that a refusal is of, at a byte of the source.
+pub(crate) fn fault_at(
     alloc: Global,
     source: &str,
     refusal: &Refusal,
+    byte: usize,
 ) -> Result<Fault, AllocError> {
-    let byte = offset_of(source, refusal.line, refusal.column);
     Ok(Fault {
         number: refusal.number,
         line: refusal.line,
@@ -49,11 +49,15 @@ impl Fault {
         self.declaration == other.declaration
     }
 
-    /// Whether it follows from a fault of grammar: in the same declaration; or, itself one of grammar, on the same line, where the word
-    /// that it was taken to open another declaration with can stand in the one at fault.
-    pub fn follows(self, other: Fault) -> bool {
-        let is_on_line = self.is_of_grammar() && self.line == other.line;
-        other.is_of_grammar() && (self.is_beside(other) || is_on_line)
+    /// Whether it follows from a fault of grammar: in the same declaration; or, itself one of grammar, on the same line or right behind the
+    /// same word, where the word that it was taken to open another declaration with can stand in the one at fault.
+    pub fn follows(self, source: &str, other: Fault) -> bool {
+        if !other.is_of_grammar() {
+            return false;
+        }
+        let is_on_line = self.line == other.line;
+        let is_of_word = is_behind_word(source, self.byte, word_at(source, other.byte));
+        self.is_beside(other) || self.is_of_grammar() && (is_on_line || is_of_word)
     }
 
     /// Whether it is of the name that another fault of the same declaration is of.
@@ -63,6 +67,14 @@ impl Fault {
             && self.is_beside(other)
             && word_at(source, self.byte) == word_at(source, other.byte)
     }
+}
+
+/// Whether a word that opens a declaration stands before a byte of a source, with one blank between.
+fn is_behind_word(source: &str, byte: usize, word: &str) -> bool {
+    let end = byte.saturating_sub(1);
+    let start = end.saturating_sub(word.len());
+    matches!(word, "node" | "function" | "type" | "const")
+        && bytes_at(source, start, end) == Some(word)
 }
 
 /// The word at a byte of a source.
@@ -77,29 +89,89 @@ fn word_at(source: &str, byte: usize) -> &str {
     bytes_at(source, byte, end).unwrap_or("")
 }
 
-/// A source that spells a program, without the equation at a byte.
-fn without_meaning(alloc: Global, source: &str, byte: usize) -> Result<Option<String>, AllocError> {
+/// The tree of a source, if it spells a program.
+fn tree_of(alloc: Global, source: &str) -> Option<Tree> {
     let Ok(tokens) = lex(alloc, source) else {
-        return Ok(None);
+        return None;
     };
-    let Ok(tree) = parse(alloc, &tokens) else {
-        return Ok(None);
-    };
-    without_equation(alloc, source, &tree, byte)
+    parse(alloc, &tokens).ok()
 }
 
-/// What is left without the equation that a fault of meaning comes from, at a byte, else without the fault's declaration.
+/// A source that spells a program, without the equation at a byte.
+fn without_meaning(alloc: Global, source: &str, byte: usize) -> Result<Option<String>, AllocError> {
+    match tree_of(alloc, source) {
+        Some(tree) => without_equation(alloc, source, &tree, byte),
+        None => Ok(None),
+    }
+}
+
+/// The first byte of a node's equations, if it has any.
+fn start_of_equations(node: &Node) -> Option<usize> {
+    let equation = node.equations.first()?;
+    Some(equation.left.first()?.span.start.byte)
+}
+
+/// Whether a byte is the first one of a name that an equation of a node defines.
+fn is_on_left(node: &Node, byte: usize) -> bool {
+    for equation in &node.equations {
+        for name in &equation.left {
+            if name.span.start.byte == byte {
+                return true;
+            }
+        }
+    }
+    false
+}
+
+/// Whether a change at a byte leaves the equations as they are that a refusal is in: it is of a declaration that gives another type or
+/// clock, or of a name that is defined under a wrong spelling.
+fn leaves_equations(alloc: Global, source: &str, refusal: &Refusal, byte: usize) -> bool {
+    let Some(tree) = tree_of(alloc, source) else {
+        return false;
+    };
+    let Some(node) = Sought::of(refusal).node(&tree) else {
+        return false;
+    };
+    match refusal.number {
+        RefusalNumber::Type | RefusalNumber::Clock => match start_of_equations(node) {
+            Some(start) => byte < start,
+            None => false,
+        },
+        RefusalNumber::Name => is_on_left(node, byte),
+        _ => false,
+    }
+}
+
+/// The change with which the rest of a source is checked, where a refusal comes from a declaration or from the name that an equation
+/// defines.
+pub(crate) fn declared_change(
+    alloc: Global,
+    source: &str,
+    refusal: &Refusal,
+    finding: &Finding,
+) -> Result<Option<Edit>, AllocError> {
+    match &finding.edit {
+        Some(edit) if leaves_equations(alloc, source, refusal, edit.byte) => Ok(Some(Edit {
+            byte: edit.byte,
+            length: edit.length,
+            text: String::from_str(alloc, edit.text.as_str())?,
+        })),
+        _ => Ok(None),
+    }
+}
+
+/// What is left without the equation that a fault of meaning comes from, at a byte, else without the declaration at the fault's own byte.
 pub(crate) fn rest_of_meaning(
     alloc: Global,
     left: &str,
-    fault: Fault,
+    byte: usize,
     origin: usize,
 ) -> Result<Option<String>, AllocError> {
     let rest = without_meaning(alloc, left, origin)?;
     if rest.is_some() {
         return Ok(rest);
     }
-    without_declaration(alloc, left, fault.byte)
+    without_declaration(alloc, left, byte)
 }
 
 /// What is left without the equation that a fault of grammar is in; nothing where it is in none.

@@ -96,11 +96,11 @@ pub fn meaning_of(refusal: ScriptRefusal) -> &'static str
     ensures { result.now ≡ meaning_of refusal }
 {
     match refusal {
-        ScriptRefusal::Json => "no JSON",
-        ScriptRefusal::Form => "not the form of scripts",
-        ScriptRefusal::Unknown => "an unknown name",
-        ScriptRefusal::Double => "a doubled name",
-        ScriptRefusal::Limit => "a limit is passed",
+        ScriptRefusal::Json => "invalid JSON",
+        ScriptRefusal::Form => "invalid scripts",
+        ScriptRefusal::Unknown => "unknown name",
+        ScriptRefusal::Double => "duplicate name",
+        ScriptRefusal::Limit => "limit exceeded",
         ScriptRefusal::Memory => "out of memory",
     }
 }

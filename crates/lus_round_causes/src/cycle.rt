@@ -1,5 +1,6 @@
 //! What is said of a causal cycle.
 
+use crate::delaying::delayed;
 use crate::needs::need_of;
 use lus_faults::{Finding, Sought};
 use lus_syntax::{Refusal, Tree};
@@ -8,9 +9,11 @@ use std::alloc::{AllocError, Global};
 /// How many variables of a cycle are told.
 const MOST_TOLD: usize = 20;
 
-/// What is said of a cycle: each variable, with the place at which it needs the next.
+/// What is said of a cycle: each variable, with the place at which it needs the next; of one variable how it is written with the value of
+/// the instant before.
 pub fn cycle_cause(
     alloc: Global,
+    source: &str,
     tree: &Tree,
     refusal: &Refusal,
 ) -> Result<Option<Finding>, AllocError> {
@@ -40,6 +43,9 @@ pub fn cycle_cause(
     }
     let note = if is_argument {
         "The outputs of a call depend on all its arguments, whatever the node does with them. A `pre` or `fby` outside the call breaks the cycle."
+    } else if names.len() == 1 {
+        told.edit = delayed(alloc, source, tree, node, text)?;
+        "An equation cannot use the value that it defines: `pre x` is the value of `x` one instant before."
     } else {
         "A `pre` or `fby` before one of these uses breaks the cycle, as in `0 -> pre x`."
     };

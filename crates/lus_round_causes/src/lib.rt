@@ -2,6 +2,7 @@
 #![tactic(auto)]
 
 mod cycle;
+mod delaying;
 mod needs;
 mod recursion;
 

@@ -6,6 +6,7 @@ use crate::given::Given;
 use crate::memory::check_memory;
 use crate::merges::check_test;
 use crate::phrase::Phrase;
+use crate::redeclaring::{Redeclared, declaration_at_fault, told_of};
 use crate::scope::Scope;
 use lus_faults::{Finding, Sought};
 use lus_syntax::{Group, Literal, Node, Refusal, Span, Tree};
@@ -79,17 +80,27 @@ fn first_fault<'t>(
     Ok(told.get())
 }
 
-/// What is said of the first fault of types in a source: of the constants, else of the node at a place.
+/// What is said of the first fault of types in a source: of the constants, else of the node at a place; and the variables that it comes
+/// from, where their declared type is wrong.
 fn first_clash<'t>(
     alloc: Global,
     source: &'t str,
     scope: &mut Scope<'t>,
     node: Option<&'t Node>,
-) -> Result<Option<Clash<'t>>, AllocError> {
+) -> Result<Option<(Clash<'t>, Option<Redeclared<'t>>)>, AllocError> {
     scope.fill(node)?;
-    match (wrong_constant(scope), node) {
-        (None, Some(node)) => first_fault(alloc, source, scope, node),
-        (found, _) => Ok(found),
+    if let Some(clash) = wrong_constant(scope) {
+        return Ok(Some((clash, None)));
+    }
+    let Some(node) = node else {
+        return Ok(None);
+    };
+    match first_fault(alloc, source, scope, node)? {
+        Some(clash) => Ok(Some((
+            clash,
+            declaration_at_fault(alloc, source, scope, node, &clash)?,
+        ))),
+        None => Ok(None),
     }
 }
 
@@ -103,7 +114,13 @@ pub fn type_cause(
     let sought = Sought::of(refusal);
     let mut scope = Scope::new(alloc, tree);
     match first_clash(alloc, source, &mut scope, sought.node(tree)) {
-        Ok(Some(clash)) if clash.is_at(sought) => Ok(Some(finding_of(alloc, &clash)?)),
+        Ok(Some((clash, other))) if clash.is_at(sought) => {
+            let finding = finding_of(alloc, &clash)?;
+            Ok(Some(match other {
+                Some(other) => told_of(alloc, source, tree, finding, other)?,
+                None => finding,
+            }))
+        }
         Ok(_) => Ok(None),
         Err(error) => Err(error),
     }

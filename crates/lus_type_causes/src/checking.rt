@@ -102,7 +102,9 @@ fn check_argument<'t>(
             fifth: Word::Text(given.name(kind)),
             ..Phrase::new(text, "", name.text.as_str(), input.0.text.as_str())
         };
-        let told = told_at(name.span, sentence).typed(given, &part.value);
+        let told = told_at(name.span, sentence)
+            .typed(given, &part.value)
+            .suspecting(&part.value, input.1);
         given.tell(told.declared(input.0));
     }
 }

@@ -1,18 +1,21 @@
 //! What is said of a fault of types, before texts are made of it.
 
 use crate::given::Given;
+use crate::kinds::Kind;
 use crate::phrase::{Phrase, push_phrase, text_of};
 use crate::repair::{Repair, edit_of};
 use lus_faults::{Finding, Sought, extent_of};
-use lus_syntax::{Expr, Name, Span};
+use lus_syntax::{Expr, Name, Prefix, Span};
 use std::alloc::{AllocError, Global};
 
 /// A further place, and what is there.
 type Beside<'t> = Option<(Span, Phrase<'t>)>;
 
-/// A fault of types: a sentence on its place, up to two further places, a note, and a change of the text.
+/// A fault of types: a sentence on its place, up to two further places, a note, a change of the text, and the variable whose declared
+/// type may be wrong, with the type that it would have then.
 #[derive(Clone, Copy)]
 pub struct Clash<'t> {
+    pub suspect: Option<(&'t Name, Kind)>,
     span: Span,
     sentence: Phrase<'t>,
     first: Beside<'t>,
@@ -24,12 +27,25 @@ pub struct Clash<'t> {
 /// A fault at a place.
 pub fn told_at<'t>(span: Span, sentence: Phrase<'t>) -> Clash<'t> {
     Clash {
+        suspect: None,
         span,
         sentence,
         first: None,
         second: None,
         note: None,
         repair: None,
+    }
+}
+
+/// The name whose type an expression has, where it is a name that may be delayed or sampled.
+#[cycle(typing)]
+fn typing_name(expr: &Expr) -> Option<&Name> {
+    match expr {
+        Expr::Name(name) => Some(name),
+        Expr::Parentheses(_, operand)
+        | Expr::When(operand, _)
+        | Expr::Unary(Prefix::Pre, _, operand) => typing_name(operand),
+        _ => None,
     }
 }
 
@@ -65,6 +81,22 @@ impl<'t> Clash<'t> {
     pub fn typed(self, given: Given<'_, 't>, expr: &'t Expr) -> Clash<'t> {
         let label = Phrase::of("this has type `{}`", given.name(given.kind(expr)));
         self.beside(extent_of(given.source, expr), label)
+    }
+
+    /// The fault, which may come from the declared type of the variable whose type an expression has.
+    pub fn suspecting(self, expr: &'t Expr, kind: Kind) -> Clash<'t> {
+        match typing_name(expr) {
+            Some(name) if self.suspect.is_none() => self.suspecting_name(name, kind),
+            _ => self,
+        }
+    }
+
+    /// The fault, which may come from the declared type of a variable.
+    pub fn suspecting_name(self, name: &'t Name, kind: Kind) -> Clash<'t> {
+        Clash {
+            suspect: Some((name, kind)),
+            ..self
+        }
     }
 
     /// The fault with a note.

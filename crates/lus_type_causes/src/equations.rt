@@ -28,7 +28,8 @@ fn check_value<'t>(given: Given<'_, 't>, left: &'t Name, right: &'t Expr, kind: 
     let told = told_at(
         extent_of(given.source, right),
         Phrase::new(sentence, text, given.name(wanted), given.name(kind)),
-    );
+    )
+    .suspecting_name(left, kind);
     given.tell(match variable_named(given.node, text) {
         Some(variable) => told.declared(variable.name),
         None => told,

@@ -11,6 +11,7 @@ mod memory;
 mod merges;
 mod operators;
 mod phrase;
+mod redeclaring;
 mod repair;
 mod scope;
 mod structures;

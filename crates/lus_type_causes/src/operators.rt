@@ -3,7 +3,7 @@
 use crate::clash::told_at;
 use crate::given::Given;
 use crate::kinds::Kind;
-use crate::phrase::Phrase;
+use crate::phrase::{Phrase, Word};
 use lus_faults::{extent_of, start_of};
 use lus_syntax::{Expr, Infix, ListOperator, Part, Prefix, Span};
 use lus_values::Shape;
@@ -61,9 +61,37 @@ pub fn check_operand<'t>(
         given.tell(
             told_at(main, told)
                 .typed(given, operand)
+                .suspecting(operand, wanted)
                 .noted(Phrase::of(advice(given, wanted, kind), "")),
         );
     }
+}
+
+/// What is said of a constructor beside a value of another enumeration.
+fn foreign_constructor<'t>(
+    given: Given<'_, 't>,
+    operand: &'t Expr,
+    other: Kind,
+) -> Option<Phrase<'t>> {
+    let Expr::Name(name) = operand else {
+        return None;
+    };
+    let tree = given.scope.tree;
+    let kind = given.kind(operand);
+    let text = name.text.as_str();
+    if !kind.has_label(tree, text) {
+        return None;
+    }
+    let meant = other.constructors(tree).first()?.text.as_str();
+    Some(Phrase {
+        fourth: Word::Text(meant),
+        ..Phrase::new(
+            "`{}` is a constructor of `{}`. Those of `{}` are `{}` and the others of its declaration.",
+            text,
+            given.name(kind),
+            given.name(other),
+        )
+    })
 }
 
 /// Tells where two operands that have to have one type have two.
@@ -78,7 +106,18 @@ pub fn check_alike<'t>(
     if first.differs(second) {
         let sentence = "`{}` expects two values of the same type, found `{}` and `{}`";
         let told = Phrase::new(sentence, operator, given.name(first), given.name(second));
-        given.tell(told_at(main, told).typed(given, left).typed(given, right));
+        let clash = told_at(main, told)
+            .typed(given, left)
+            .typed(given, right)
+            .suspecting(right, first)
+            .suspecting(left, second);
+        let note = foreign_constructor(given, left, second).or(foreign_constructor(
+            given, right, first,
+        ));
+        given.tell(match note {
+            Some(note) => clash.noted(note),
+            None => clash,
+        });
     }
 }
 

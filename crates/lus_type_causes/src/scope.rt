@@ -108,6 +108,14 @@ impl<'t> Scope<'t> {
         }
     }
 
+    /// Takes variables to have a type, whatever is declared of them.
+    pub fn assume(&mut self, names: &'t [Name], kind: Kind) -> Result<(), AllocError> {
+        for name in names {
+            let _before = self.variables.insert(name.text.as_str(), kind)?;
+        }
+        Ok(())
+    }
+
     /// The type that a type's name stands for, through aliases.
     pub fn of_type(&self, type_name: &TypeName) -> Kind {
         let mut current = type_name;
