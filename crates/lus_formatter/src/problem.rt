@@ -1,6 +1,6 @@
 //! Why a file isn't laid out.
 
-use lus_devices::{Failure, ReadError};
+use lus_devices::ReadError;
 use lus_format::FormatError;
 use lus_syntax::{Refusal, RefusalNumber};
 use thiserror::Error;

@@ -3,6 +3,7 @@
 use crate::problem::Problem;
 use crate::replacing::Replace;
 use crate::words::{Mode, read_words};
+use lus_cli::{Fault, tell};
 use lus_devices::{Folder, Sink, Source, read_at_most, write_all};
 use lus_format::format;
 use lus_syntax::{MOST_BYTES, Refusal, RefusalNumber, place_behind};
@@ -24,7 +25,7 @@ fn bytes_of<D: Folder, I: Source>(
     Ok(read_at_most(alloc, &mut file, MOST_BYTES + 1)?)
 }
 
-/// The text of these bytes, refused as `lus` refuses what is too long or is no text.
+/// The text of these bytes, unless `lus` rejects them as too long or as no text.
 fn source_of(bytes: &[u8]) -> Result<&str, Refusal> {
     if bytes.len() > MOST_BYTES {
         return Err(Refusal::new(RefusalNumber::Limit, 1, 1));
@@ -67,16 +68,16 @@ fn perform<D: Replace, I: Source, O: Sink>(
 }
 
 /// Says why a file isn't laid out, and gives the status. A line that can't be written changes no status.
-fn tell<F: Sink>(alloc: Global, faults: &mut F, name: &str, problem: &Problem) -> u8 {
+fn explain<F: Sink>(alloc: Global, faults: &mut F, name: &str, problem: &Problem) -> u8 {
     if let Ok(line) = format!(in alloc; "{name}: {problem}\n") {
         let _ = write_all(faults, line.as_bytes());
     }
     problem.status()
 }
 
-/// Lays out the files that the words name, and gives the status of the process: 1 where one is refused, or would be changed and is
-/// only checked, 2 where the words are mistaken, 3 where a file or the output fails, and 4 where memory is out; of several the
-/// greatest. A file that is refused, or that doesn't change, is left as it is.
+/// Lays out the files that the words name, and gives the status of the process: 1 where a file is rejected, or is only checked and would
+/// change, 2 where the words are unknown or missing, 3 where a file or the output fails, and 4 where memory is out; of several files the
+/// greatest. A file that is rejected, or that doesn't change, stays as it is.
 pub fn command<D: Replace, I: Source, O: Sink, F: Sink>(
     alloc: Global,
     folder: &D,
@@ -85,16 +86,15 @@ pub fn command<D: Replace, I: Source, O: Sink, F: Sink>(
     output: &mut O,
     faults: &mut F,
 ) -> u8 {
-    let Some(task) = read_words(words) else {
-        let _ = write_all(faults, b"error words\n");
-        return 2;
+    let task = match read_words(alloc, words) {
+        Ok(task) => task,
+        Err(error) => return tell(faults, Fault::from(error)),
     };
     let mut status = 0;
-    for name in task.files {
-        let name = name.as_str();
+    for &name in task.files().unwrap_or(&[]) {
         let own = match perform(alloc, folder, task.mode, name, input, output) {
             Ok(is_changed) => u8::from(is_changed && task.mode == Mode::Check),
-            Err(problem) => tell(alloc, faults, name, &problem),
+            Err(problem) => explain(alloc, faults, name, &problem),
         };
         status = status.max(own);
     }
