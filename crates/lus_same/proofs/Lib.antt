@@ -1,0 +1,3 @@
+mod Counting
+mod Examples
+mod Numbering

@@ -1,0 +1,2 @@
+pub mod Nameless
+pub mod Stored
