@@ -1,0 +1,7 @@
+pub mod Located
+pub mod Frames
+pub mod Emission
+pub mod Made
+pub mod Marking
+pub mod Laws
+pub mod Answering

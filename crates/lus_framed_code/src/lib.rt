@@ -1,0 +1,16 @@
+//! Gives classes code with calls: the parts in which their steps are made, one behind another, and a frame for each call; and what
+//! instants answer by such code.
+#![tactic(auto)]
+
+mod class;
+mod classes;
+mod counts;
+mod emission;
+mod frames;
+mod items;
+mod laws;
+mod locating;
+mod once;
+
+pub use classes::frame_classes;
+pub use laws::{instants_answer, made_code_belongs};

@@ -1,0 +1,3 @@
+mod Having
+mod InPlace
+mod Walking
