@@ -42,6 +42,25 @@ called_tenth = search rules
 called_tenth_faults : FaultAt both (0 ∷ []) (at [] (tenth 0)) 1 divided_by_call_at []
 called_tenth_faults = (record { node = 0; number = 0; args = one (variable 0); base = [] }, (0, omega arith, refl), refl, ((0, omega arith, refl), (refl, refl)))
 
+-- z = copied(10 div x) of a node that copies, at x = 0: the argument is at fault, and the called node's input is absent
+abbrev copied : Node
+copied = node 1 1 (plain ∷ plain ∷ []) (equation 1 (variable 0) ∷ [])
+
+abbrev divided_argument : Node
+divided_argument = node 1 1 (plain ∷ plain ∷ []) (equation 1 (call 0 0 (one (tenth 0))) ∷ [])
+
+abbrev with_argument : Program
+with_argument = program (copied ∷ divided_argument ∷ [])
+
+abbrev divided_argument_at : Instant
+divided_argument_at = instant true (some 0 ∷ None ∷ []) (also (at_base (None ∷ None ∷ [])) nobody)
+
+argument_tenth : Tries with_argument 1 (some 0 ∷ []) divided_argument_at []
+argument_tenth = search rules
+
+argument_tenth_faults : FaultAt with_argument [] (at [] (tenth 0)) 1 divided_argument_at []
+argument_tenth_faults = ((1, omega arith, refl), (refl, refl))
+
 -- y = 1 -> 10 div pre x, after x = 0: no streams go on
 abbrev divided_by_past_fault : Instant
 divided_by_past_fault = at_base (some 0 ∷ None ∷ [])

@@ -1,4 +1,5 @@
 pub mod Unique
 pub mod WithoutFault
 pub mod Newest
+pub mod Formals
 pub mod Examples

@@ -5,17 +5,17 @@ use Rattle.lus_values.specs.Values.{Value}
 use Rattle.lus_program.specs.Programs.{Node, Program, node_at}
 use Rattle.lus_streams.specs.Clocks.{clock_of}
 use Rattle.lus_streams.specs.Equations.{definition_of}
-use Rattle.lus_streams.specs.Streams.{Instant, instant, World, row_of, entry, is_constructor, holds, is_on, where_on, definition_value, Follows}
+use Rattle.lus_streams.specs.Streams.{Instant, instant, World, row_of, entry, is_constructor, holds, is_on, where_on, definition_value}
 use Rattle.lus_streams.proofs.Lists.{below_at, item_past}
-use Rattle.lus_attempts.specs.Attempts.{EquationsFollow}
+use Rattle.lus_attempts.specs.Attempts.{FollowsFaults, EquationsFollow}
 use Rattle.lus_attempts.specs.Laws.{NewestTestDecides}
 
 has_entry : (c : ℕ) (o : Option Value) → is_constructor c o ≡ true → is_some o ≡ true
 has_entry c None h = elim (true≢false (sym h)) [ ]
 has_entry c (Some v) h = refl
 
-has_clock : (b : Bool) (o d : Option Value) (on : Bool) → MatchBool b (is_some o ≡ on) (o ≡ where_on on d) → is_some o ≡ true → on ≡ true
-has_clock true o d on h s = sym h ∙ s
+has_clock : (b : Bool) (o d : Option Value) (on : Bool) → MatchBool b (is_some o ≡ true → on ≡ true) (o ≡ where_on on d) → is_some o ≡ true → on ≡ true
+has_clock true o d on h s = h s
 has_clock false o d true h s = refl
 has_clock false o d false h s = elim (true≢false (sym s ∙ ap is_some h)) [ ]
 
@@ -29,7 +29,7 @@ module _ (p : Program) where
       let some = has_entry c (entry now x) held in
       let within = λ (lt : x < length f.variables).
       has_clock (nat_lt x f.inputs) (entry now x) (definition_value p (definition_of f x) now past) (is_on (clock_of f x) now)
-      (below_at (Follows p f now past) (length f.variables) h.variables x lt) some in
+      (below_at (FollowsFaults p f now past) (length f.variables) h.variables x lt) some in
       let past_end = λ (ge : length f.variables ≤ x).
       let none : entry now x ≡ None = item_past None (row_of now) x (subst (λ n. n ≤ x) (sym h.width) ge) in
       absurd (true≢false (sym some ∙ ap is_some none)) in

@@ -6,9 +6,9 @@ use Rattle.lus_program.specs.Programs.{Expression, literal, variable, operate, p
 use Rattle.lus_values.specs.Lists.{item, Each}
 use Rattle.lus_values.specs.Operators.{apply}
 use Rattle.lus_streams.specs.Clocks.{Clock, clock_of, Part, renamed_clock, formal_clock, base_of, branch_clock, parts, all_parts}
-use Rattle.lus_streams.specs.Streams.{Instant, instant, Called, nobody, also, World, is_present, row_of, entry, called_instant, called_world, is_constructor, is_on, at_last, with_operand, with_operands, where_on, value, values, branch, inputs_given, definition_value, Follows}
+use Rattle.lus_streams.specs.Streams.{Instant, instant, Called, nobody, also, World, is_present, row_of, entry, called_instant, called_world, is_constructor, is_on, at_last, with_operand, with_operands, where_on, value, values, branch, inputs_given, definition_value}
 use Rattle.lus_streams.proofs.Unique.{formal_variables, order_at, clocks_at}
-use Rattle.lus_attempts.specs.Attempts.{EquationsFollow, IsAttempt, EachAttempt}
+use Rattle.lus_attempts.specs.Attempts.{FollowsFaults, EquationsFollow, IsAttempt, EachAttempt}
 use Rattle.lus_streams.specs.Equations.{Definition, given_by, definition_of, node_parts, Site, sites}
 use Rattle.lus_streams.specs.OnClock.{actuals, DefinedOnClock, IsOnClocks, ProgramOnClocks}
 use Rattle.lus_streams.specs.Order.{needs, needs_all, clock_variables, needs_right, needed, HasOrder, IsCausal}
@@ -97,8 +97,8 @@ module _ (p : Program) (now now' : Instant) (past : World) (same_base : is_prese
   module _ (f : Node) (l : EquationsFollow p f now past) (l' : EquationsFollow p f now' past) (same_inputs : take f.inputs (row_of now) ≡ take f.inputs (row_of now'))
       (clocks : IsOnClocks p f) (facts : Each CallFact (node_parts p f)) where
     follows_same : (x : ℕ) → x < length f.variables → (b : Bool) → nat_lt x f.inputs ≡ b → Each Agree (clock_variables (clock_of f x)) → Each Agree (needs_right (definition_of f x))
-        → MatchBool b (is_some (entry now x) ≡ is_on (clock_of f x) now) (entry now x ≡ where_on (is_on (clock_of f x) now) (definition_value p (definition_of f x) now past))
-        → MatchBool b (is_some (entry now' x) ≡ is_on (clock_of f x) now') (entry now' x ≡ where_on (is_on (clock_of f x) now') (definition_value p (definition_of f x) now' past))
+        → MatchBool b (is_some (entry now x) ≡ true → is_on (clock_of f x) now ≡ true) (entry now x ≡ where_on (is_on (clock_of f x) now) (definition_value p (definition_of f x) now past))
+        → MatchBool b (is_some (entry now' x) ≡ true → is_on (clock_of f x) now' ≡ true) (entry now' x ≡ where_on (is_on (clock_of f x) now') (definition_value p (definition_of f x) now' past))
         → Agree x
     follows_same x within true e hk hn h h' =
         let lt = ltb-true x f.inputs e in
@@ -113,8 +113,8 @@ module _ (p : Program) (now now' : Instant) (past : World) (same_base : is_prese
         follows_same x lt (nat_lt x f.inputs) refl
         (each_left Agree (clock_variables (clock_of f x)) (needs_right (definition_of f x)) h)
         (each_right Agree (clock_variables (clock_of f x)) (needs_right (definition_of f x)) h)
-        (below_at (Follows p f now past) (length f.variables) l.variables x lt)
-        (below_at (Follows p f now' past) (length f.variables) l'.variables x lt))
+        (below_at (FollowsFaults p f now past) (length f.variables) l.variables x lt)
+        (below_at (FollowsFaults p f now' past) (length f.variables) l'.variables x lt))
         (λ ge. item_past None (row_of now) x (subst (λ n. n ≤ x) (sym l.width) ge) ∙ sym (item_past None (row_of now') x (subst (λ n. n ≤ x) (sym l'.width) ge)))
         (cases_lt x (length f.variables))
 

@@ -1,20 +1,22 @@
 -- Laws of attempts.
-use Rattle.std.specs.Prelude.{◌≡◌, ℕ, List, ◌∷◌, take}
+use Rattle.std.specs.Prelude.{◌≡◌, ℕ, ◌<◌, true, List, ◌∷◌, length, take, is_some}
+use Rattle.lus_values.specs.Lists.{Below}
 use Rattle.lus_values.specs.Values.{Row}
 use Rattle.lus_program.specs.declared.expr.Test.{Test}
-use Rattle.lus_program.specs.Programs.{Program, node_at}
-use Rattle.lus_streams.specs.Clocks.{clock_of, Part}
-use Rattle.lus_streams.specs.OnClock.{ProgramOnClocks}
+use Rattle.lus_program.specs.Programs.{Node, Operands, Program, node_at}
+use Rattle.lus_streams.specs.Clocks.{Clock, clock_of, Part}
+use Rattle.lus_streams.specs.OnClock.{IsDeclared, NamesFormals, ProgramOnClocks, test_of}
 use Rattle.lus_streams.specs.Order.{IsCausal}
-use Rattle.lus_streams.specs.Streams.{Instant, World, is_present, row_of, holds, is_on, IsInstant, Streams}
+use Rattle.lus_streams.specs.Streams.{Instant, World, entry, is_present, row_of, holds, is_on, inputs_given, IsInstant, Streams}
 use Rattle.lus_streams.specs.Throughout.{Throughout}
-use Rattle.lus_attempts.specs.Attempts.{IsAttempt, HasNoFault, Tries, FaultAt}
+use Rattle.lus_attempts.specs.Attempts.{IsAttempt, HasNoFault, HasInputs, Tries, FaultAt}
 
--- an instant is an attempt at which nothing is at fault, in the called nodes either
+-- an instant is an attempt at which no input is missing and nothing is at fault, in the called nodes either
 pub record AreWithoutFault (p : Program) : Type 0 where
   pub attempts : (now : Instant) (f : ℕ) (past : World) → IsInstant p now f past → IsAttempt p now f past
   pub no_fault : (now : Instant) (f : ℕ) (past : World) → IsInstant p now f past → Throughout p (HasNoFault p) now f past
-  pub instants : (now : Instant) (f : ℕ) (past : World) → IsAttempt p now f past → Throughout p (HasNoFault p) now f past → IsInstant p now f past
+  pub has_inputs : (now : Instant) (f : ℕ) (past : World) → IsInstant p now f past → Throughout p (HasInputs p) now f past
+  pub instants : (now : Instant) (f : ℕ) (past : World) → IsAttempt p now f past → Throughout p (HasNoFault p) now f past → Throughout p (HasInputs p) now f past → IsInstant p now f past
 
 abbrev pub InstantsAreWithoutFault : Type 0
 InstantsAreWithoutFault = (p : Program) → AreWithoutFault p
@@ -46,3 +48,11 @@ FaultsEnd p =
 
 abbrev pub FaultsEndStreams : Type 0
 FaultsEndStreams = (p : Program) → IsCausal p → ProgramOnClocks p → FaultsEnd p
+
+-- an instant of a node that is on clocks has an input only where its clock is present, where what a call passes is its base and its
+-- inputs: a clock of the formals is present exactly where the same tests on the arguments are, after the call's base
+abbrev pub ArgumentsFitFormals : Type 0
+ArgumentsFitFormals =
+    (p : Program) (g : Node) (args : Operands) (base : Clock) (now : Instant) (past : World) (j : Instant) → is_present j ≡ is_on base now → take g.inputs (row_of j) ≡ inputs_given p args g args base 0 now past
+    → Below (length g.variables) (λ x. IsDeclared g x (test_of g x)) → ((x : ℕ) → x < g.inputs → x < length g.variables) → NamesFormals g args
+    → (x : ℕ) → x < g.inputs → is_some (entry j x) ≡ true → is_on (clock_of g x) j ≡ true

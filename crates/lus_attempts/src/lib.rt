@@ -1,9 +1,9 @@
 //! What equations give at an instant at which something in a program's text may be at fault, and the laws that this obeys.
 #![tactic(auto)]
 
-ghost use Rattle.lus_attempts.specs.Laws.{CausalAttemptsAreUnique, FaultsEndStreams, InstantsAreWithoutFault, NewestTestsDecide};
+ghost use Rattle.lus_attempts.specs.Laws.{ArgumentsFitFormals, CausalAttemptsAreUnique, FaultsEndStreams, InstantsAreWithoutFault, NewestTestsDecide};
 
-/// An instant of streams is what the equations give where nothing is at fault, in the called nodes either.
+/// An instant of streams is what the equations give where no input is missing and nothing is at fault, in the called nodes either.
 pub fn instants_are_without_fault()
     ensures { InstantsAreWithoutFault }
 {}
@@ -21,4 +21,9 @@ pub fn faults_end_streams()
 /// Where equations hold, faults or none, a clock is present exactly where its newest test holds.
 pub fn newest_tests_decide()
     ensures { NewestTestsDecide }
+{}
+
+/// What a call passes for an input of the called node is there only where the input's clock is present.
+pub fn arguments_fit_formals()
+    ensures { ArgumentsFitFormals }
 {}

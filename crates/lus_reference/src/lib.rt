@@ -2,15 +2,24 @@
 #![tactic(auto)]
 
 ghost use Rattle.lus_reference.specs.Laws.{ValuesAreKept};
+ghost use Rattle.lus_reference.specs.Needed.{NeedsSuffice};
 
 mod entries;
 mod evaluation;
+mod renewal;
 mod skipping;
 mod value;
 
 pub use evaluation::evaluate;
+pub use renewal::{fault_in, renew};
 
 /// Nothing is kept before the first instant; after an instant without a fault the values of the parts on present clocks are.
 pub fn values_are_kept()
     ensures { ValuesAreKept }
+{}
+
+/// Instants that agree on what is needed have the same clocks, the same values of expressions and the same inputs of calls: beside the
+/// past these rest on the base, on the entries of the variables that are needed, and on the calls outside of `pre`.
+pub fn needs_suffice()
+    ensures { NeedsSuffice }
 {}

@@ -1,0 +1,10 @@
+//! The expressions in the text of a node, each with its own clock, as data.
+#![tactic(auto)]
+
+mod clocks;
+mod listing;
+mod part;
+mod under;
+
+pub use listing::parts_of;
+pub use part::Part;

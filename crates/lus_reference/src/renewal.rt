@@ -1,0 +1,156 @@
+//! What is kept of the parts of a node's text behind an instant, or which of them is at fault.
+
+ghost use Rattle.std.specs.Prelude.{◌≡◌, IfOk, drop, map};
+ghost use Rattle.lus_program.specs.View.{program_seen};
+ghost use Rattle.lus_streams.specs.Streams.{instant, is_on, nobody};
+ghost use Rattle.lus_values.specs.View.{entry_of};
+ghost use Rattle.lus_parts.specs.Nested.{AreNested};
+ghost use Rattle.lus_parts.specs.Parts.{part_of};
+ghost use Rattle.lus_reference.specs.Parts.{DoesRenew, IsFaultOf, has_value, kept_next, part_recalled};
+
+use crate::entries::{entry_at, holds};
+use crate::value::value_at;
+use lus_parts::Part;
+use lus_program::{Program, Test};
+use lus_values::{Memory, Row, Value};
+use std::alloc::Global;
+
+/// Whether a clock is present at an instant with these entries, at which the base is present or not.
+fn is_on(clock: &[Test], present: bool, row: &[Option<Value>]) -> bool
+    ensures { result ≡ is_on clock.now (instant present (map entry_of row.now) nobody) }
+{
+    for test in clock {
+        if !holds(row, test.variable as usize, test.constructor as usize) {
+            return false;
+        }
+    }
+    present
+}
+
+/// What is kept from a place on.
+fn kept_from(kept: &[Option<Value>], place: usize) -> &[Option<Value>]
+    ensures { result.now ≡ drop place kept.now }
+{
+    if place < kept.len() {
+        &kept[place..]
+    } else {
+        &[]
+    }
+}
+
+/// The rows of the calls from a number on.
+fn rows_from(rows: &[Row], number: usize) -> &[Row]
+    ensures { result.now ≡ drop number rows.now }
+{
+    if number < rows.len() {
+        &rows[number..]
+    } else {
+        &[]
+    }
+}
+
+/// The value of a part, if it has one, from what is kept of it and of those behind it.
+fn value_of(
+    alloc: Global,
+    program: &Program,
+    row: &[Option<Value>],
+    rows: &[Row],
+    part: &Part<'_>,
+    kept: &[Option<Value>],
+) -> Result<Option<Value>, Memory>
+    ensures { IfOk result (λ v. entry_of v ≡ part_recalled (program_seen program.now) (map entry_of row.now) rows.now part.now (map entry_of kept.now)) }
+{
+    value_at(
+        alloc,
+        program,
+        row,
+        part.expr,
+        kept,
+        rows_from(rows, part.number),
+    )
+}
+
+/// What is kept of a part behind an instant: its value where its clock is present, elsewhere what was kept.
+fn kept_of(
+    alloc: Global,
+    program: &Program,
+    present: bool,
+    row: &[Option<Value>],
+    rows: &[Row],
+    part: &Part<'_>,
+    kept: &[Option<Value>],
+) -> Result<Option<Value>, Memory>
+    ensures { IfOk result (λ v. entry_of v ≡ kept_next (program_seen program.now) present (map entry_of row.now) rows.now part.now (map entry_of kept.now)) }
+{
+    if is_on(&part.clock, present, row) {
+        value_of(alloc, program, row, rows, part, kept)
+    } else {
+        entry_at(alloc, kept, 0)
+    }
+}
+
+/// Whether a part has a value, or its clock isn't present.
+fn is_whole(
+    alloc: Global,
+    program: &Program,
+    present: bool,
+    row: &[Option<Value>],
+    rows: &[Row],
+    part: &Part<'_>,
+    kept: &[Option<Value>],
+) -> Result<bool, Memory>
+    ensures { IfOk result (λ b. b ≡ has_value (program_seen program.now) present (map entry_of row.now) rows.now part.now (map entry_of kept.now)) }
+{
+    if is_on(&part.clock, present, row) {
+        let value = value_of(alloc, program, row, rows, part, kept)?;
+        Ok(value.is_some())
+    } else {
+        Ok(true)
+    }
+}
+
+/// What is kept of the parts of a node behind an instant, from what was kept of them, if none is at fault: from the presence of the
+/// node's base, the entries of its variables, and the rows of the called nodes.
+pub fn renew(
+    alloc: Global,
+    program: &Program,
+    present: bool,
+    row: &[Option<Value>],
+    rows: &[Row],
+    parts: &[Part<'_>],
+    kept: &[Option<Value>],
+) -> Result<Vec<Option<Value>>, Memory>
+    requires { AreNested (program_seen program.now) (map part_of parts.now) }
+    ensures { IfOk result (λ next. DoesRenew (program_seen program.now) present (map entry_of row.now) rows.now (map part_of parts.now) (map entry_of kept.now) (map entry_of next.items)) }
+{
+    let mut next = Vec::new(alloc);
+    for (place, part) in parts.iter().enumerate() {
+        let earlier = kept_from(kept, place);
+        let renewed = kept_of(alloc, program, present, row, rows, part, earlier)?;
+        next.push(renewed)?;
+    }
+    Ok(next)
+}
+
+/// The place of the first part at fault, if one is.
+pub fn fault_in(
+    alloc: Global,
+    program: &Program,
+    present: bool,
+    row: &[Option<Value>],
+    rows: &[Row],
+    parts: &[Part<'_>],
+    kept: &[Option<Value>],
+) -> Result<Option<usize>, Memory>
+    requires { AreNested (program_seen program.now) (map part_of parts.now) }
+    ensures { IfOk result (IsFaultOf (program_seen program.now) present (map entry_of row.now) rows.now (map part_of parts.now) (map entry_of kept.now)) }
+{
+    for (place, part) in parts.iter().enumerate() {
+        let earlier = kept_from(kept, place);
+        let whole = is_whole(alloc, program, present, row, rows, part, earlier)?;
+        if !whole {
+            return Ok(Some(place));
+        }
+    }
+    Ok(None)
+}
