@@ -1,6 +1,7 @@
 //! Which file a tool for people couldn't open.
 
 use lus_devices::{Sink, write_all};
+use lus_many::is_many;
 use std::fs;
 use std::io::ErrorKind;
 use std::rt::Files;
@@ -14,14 +15,15 @@ fn is_unopened<R: Files>(rt: &R, name: &str) -> bool {
 }
 
 /// The last of the files that the words name which can't be opened. No flag names a file, nor does `-`, nor the name of a node, which
-/// stands behind `--script` or is the second word of `lus_live` that is no flag.
+/// stands behind `--script` or is the second word of `lus_live`, or of `lus_audit --many`, that is no flag.
 fn unopened<'w, R: Files>(rt: &R, tool: &str, words: &'w [String]) -> Option<&'w str> {
     let mut found = None;
     let mut count = 0usize;
     let mut is_of_script = false;
+    let has_node = tool == "lus_live" || is_many(words);
     for word in words {
         let name = word.as_str();
-        let is_node = is_of_script || tool == "lus_live" && count == 1;
+        let is_node = is_of_script || has_node && count == 1;
         if !name.starts_with("-") {
             count = count.saturating_add(1);
             if !is_node && is_unopened(rt, name) {

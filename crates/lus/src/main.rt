@@ -1,6 +1,6 @@
 //! `lus --check PROGRAM` and `lus PROGRAM SCRIPTS`. By the name of another tool, through a link, the same program is that tool:
-//! `lus_explain`, `lus_format`, `lus_draw`, `lus_audit`, `lus_live`, with `--many` its host of many instances, and `lus_bench`, which
-//! `bench/run` measures.
+//! `lus_explain`, `lus_format`, `lus_draw`, `lus_audit`, `lus_live`, with `--many` the host of many instances and the audit of their log,
+//! `lus_lsp`, and `lus_bench`, which `bench/run` measures.
 #![tactic(auto)]
 
 mod files;
@@ -45,19 +45,23 @@ fn tool_and_words(arguments: &[String]) -> (&str, &[String]) {
     }
 }
 
-/// Hosts many instances. Keys for the hash function of their names come from the machine.
-fn host<O: Sink, F: Sink>(
+/// Hosts many instances, or audits their log. Keys for the hash function of their names come from the machine.
+fn many<O: Sink, F: Sink>(
     rt: &HostRuntime,
+    tool: &str,
     words: &[String],
     output: &mut O,
     faults: &mut F,
 ) -> u8 {
     let disk = Disk(rt);
-    let mut lines = Buffered::new(Input(rt.stdin()));
-    match RandomState::new(rt) {
-        Ok(keys) => lus_many::command(rt.alloc(), &disk, words, keys, &mut lines, output, faults),
-        Err(_) => tell(faults, Fault::File),
+    let Ok(keys) = RandomState::new(rt) else {
+        return tell(faults, Fault::File);
+    };
+    if tool == "lus_audit" {
+        return lus_audit::command_many(rt.alloc(), &disk, words, keys, output, faults);
     }
+    let mut lines = Buffered::new(Input(rt.stdin()));
+    lus_many::command(rt.alloc(), &disk, words, keys, &mut lines, output, faults)
 }
 
 fn main(rt: HostRuntime) -> ExitCode {
@@ -83,8 +87,14 @@ fn main(rt: HostRuntime) -> ExitCode {
             &mut faults,
         ),
         "lus_draw" => lus_draw::command(rt.alloc(), &disk, words, &mut output, &mut faults),
+        "lus_audit" | "lus_live" if is_many(words) => many(
+            &rt,
+            tool,
+            words,
+            &mut output,
+            &mut faults,
+        ),
         "lus_audit" => lus_audit::command(rt.alloc(), &disk, words, &mut output, &mut faults),
-        "lus_live" if is_many(words) => host(&rt, words, &mut output, &mut faults),
         "lus_live" => {
             let mut lines = Buffered::new(Input(rt.stdin()));
             lus_live::command(
@@ -95,6 +105,10 @@ fn main(rt: HostRuntime) -> ExitCode {
                 &mut output,
                 &mut faults,
             )
+        }
+        "lus_lsp" => {
+            let mut input = Buffered::new(Input(rt.stdin()));
+            lus_lsp::command(rt.alloc(), words, &mut input, &mut output, &mut faults)
         }
         "lus_bench" => lus_bench::command(&rt, words),
         _ => command(&rt, rt.alloc(), words, &mut output, &mut faults),

@@ -19,13 +19,13 @@ Status: 0 accepted, 1 the program is rejected, 2 the scripts, 3 a file or the ou
 
 const FORMAT: &str = "usage: lus_format [--check | --write] FILE..
 
-Lays sources out: the same tokens and comments, with other blanks and new lines, on lines of
-at most 100 columns. Of FILE - it reads standard input. What is laid out is printed, or
+Formats sources and prints them: tokens and comments stay, blanks and line breaks change, lines
+have at most 100 columns. A FILE named - is standard input.
 
-  --check  only the names of files that would change are
-  --write  it takes the place of each file that differs
+  --check  print only the names of files that would change
+  --write  replace each file that differs, and print nothing
 
-A refused file is left as it is. Status: 0 done, 1 a file is refused, or would change,
+A rejected file stays as it is. Status: 0 done, 1 a file is rejected, or would change,
 3 a file or the output fails, 4 out of memory.
 ";
 
@@ -42,6 +42,7 @@ PROGRAM gives the inputs and outputs their names. Status: 0 drawn, 1 to 4 as lus
 ";
 
 const AUDIT: &str = "usage: lus_audit [--why] PROGRAM JOURNAL
+       lus_audit --many PROGRAM NODE LOG
 
 Says whether each reply of a journal is the right one to its request, after those before it,
 by a new run of the program: `NAME lawful` for each instance, or the first wrong line with
@@ -49,6 +50,7 @@ the right one.
 
   --why  why each request of a lawful journal that was refused is: which input, its type or
          clock; or which operation has no value, with its operands and its place
+  --many a log of instances of NODE, which `lus_live --many` wrote
 
 Status: 0 lawful, 1 the program is rejected, 2 a wrong line, or no journal,
 3 a file or the output fails, 4 out of memory.
@@ -72,6 +74,17 @@ Status: 0 all lines were calls, 1 the program is rejected, 2 a line is none, or 
 3 and 4 as lus.
 ";
 
+const LSP: &str = "usage: lus_lsp --stdio
+
+A language server, which an editor starts: it reads messages of the Language Server Protocol
+from standard input and writes its own to standard output, until the editor says `exit`.
+
+  --stdio  serve over standard input and output
+
+Status: 0 shut down before `exit`, 1 not shut down before `exit` or the end of the input,
+3 the input has no whole message, or a read or a write fails, 4 out of memory.
+";
+
 /// The usage of a tool for people; `lus` is none.
 fn usage_of(tool: &str) -> Option<&'static str> {
     match tool {
@@ -80,6 +93,7 @@ fn usage_of(tool: &str) -> Option<&'static str> {
         "lus_draw" => Some(DRAW),
         "lus_audit" => Some(AUDIT),
         "lus_live" => Some(LIVE),
+        "lus_lsp" => Some(LSP),
         _ => None,
     }
 }

@@ -8,9 +8,9 @@ use Rattle.lus_values.specs.Values.{Value, Row}
 use Rattle.lus_values.proofs.Lists.{below_all, each_found}
 use Rattle.lus_program.specs.Programs.{Expression, literal, call, Operands, none, more, Equation, Node, Program, node_at}
 use Rattle.lus_streams.specs.Clocks.{Clock, clock_of, Part, formal_clock, base_of, parts, all_parts}
-use Rattle.lus_streams.specs.Equations.{Definition, given_by, place_in, equation_clock, definition_in, definition_of, equation_parts}
+use Rattle.lus_streams.specs.Equations.{Definition, given_by, equation_clock, definition_of, equation_parts}
 use Rattle.lus_streams.specs.Streams.{Instant, instant, Called, World, row_of, entry, called_at, is_on, where_on, value, definition_value, HasValue, Follows, EquationsHold}
-use Rattle.lus_streams.proofs.Lists.{each_left, each_right, each_append, each_both, below_at}
+use Rattle.lus_streams.proofs.Lists.{each_append, each_both, below_at}
 use Rattle.lus_streams.proofs.Definitions.{RightParts, right_parts}
 use Rattle.lus_classes.specs.Classes.{Code, Step, Argument, Call, Class, clock_in}
 use Rattle.lus_classes.specs.States.{State}

@@ -16,7 +16,7 @@ use Rattle.lus_streams.specs.Order.{is_in, clock_variables}
 use Rattle.lus_streams.specs.Flags.{flag, greatest, Required, DefinedFlag, AreFlagsOf}
 use Rattle.lus_streams.proofs.Lists.{each_left, each_right, each_append, below_at, item_past, item_take}
 use Rattle.lus_streams.proofs.NilFree.{and_left, and_right, and_true}
-use Rattle.lus_clocks.specs.Raising.{flags_in, meets, all_meet, raised, raised_local, rights_meet, tests_meet, none_raised, all_required, AreGiven, AreLeast, HasFlags}
+use Rattle.lus_clocks.specs.Raising.{flags_in, meets, all_meet, raised, rights_meet, tests_meet, none_raised, all_required, AreGiven, AreLeast, HasFlags}
 use Rattle.lus_streams.proofs.Clocks.{chain_some}
 use Rattle.lus_clocks.proofs.Whole.{one_less}
 use Rattle.lus_clocks.proofs.Rising.{flag_more, greatest_more, raised_more}

@@ -1,5 +1,5 @@
 -- Flags that are raised round by round come to the least ones.
-use Rattle.std.proofs.Common.{◌≡◌, ℕ, zero, suc, ◌+◌, ◌<◌, ◌≤◌, nat_eq, nat_lt, Bool, true, false, not, ◌&&◌, ◌||◌, List, [], ◌∷◌, length, slice_set, refl, sym, ap, ap₂, ◌∙◌, subst, true≢false, suc-ne-zero, not-suc-le-zero, le_of_suc-le-suc, arith, if◌then◌else◌, ⊎_elim}
+use Rattle.std.proofs.Common.{◌≡◌, ℕ, zero, suc, ◌+◌, ◌<◌, ◌≤◌, nat_eq, nat_lt, Bool, true, false, not, ◌||◌, List, [], ◌∷◌, length, slice_set, refl, sym, ap, ap₂, ◌∙◌, subst, true≢false, suc-ne-zero, not-suc-le-zero, le_of_suc-le-suc, arith, if◌then◌else◌, ⊎_elim}
 use Rattle.std.proofs.lemmas.Bool.{cases_lt}
 use Rattle.std.proofs.lemmas.Bool.Decides.{nat_tests}
 use Rattle.lus_program.specs.declared.node.Equation.{Equation as StoredEquation}
@@ -9,7 +9,7 @@ use Rattle.lus_streams.specs.Order.{is_in}
 use Rattle.lus_streams.specs.Flags.{flag, greatest}
 use Rattle.lus_streams.proofs.Lists.{item_past}
 use Rattle.lus_streams.proofs.NilFree.{and_left, and_right, and_true, or_more}
-use Rattle.lus_clocks.specs.Raising.{flags_in, given, all_given, raised, raised_local, raised_count, AreFalse, AreGiven, AreLowered, IsNext, AreLeast}
+use Rattle.lus_clocks.specs.Raising.{flags_in, given, all_given, raised, raised_local, raised_count, AreFalse, AreGiven, IsNext, AreLeast}
 
 -- one flag set
 pub set_at : (bs : List Bool) (y x : ℕ) (b : Bool) → x < length bs → flags_in (slice_set bs y b) x ≡ (if nat_eq x y then b else flags_in bs x)

@@ -1,5 +1,5 @@
 -- The text of small journals, worked by computation: each request and reply, and each refusal with a text that isn't its own.
-use Rattle.std.proofs.Common.{◌≡◌, ℕ, Bool, true, false, pos, negsuc, List, [], ◌∷◌, ◌++◌, Some, None, codes, refl, true≢false, ap}
+use Rattle.std.proofs.Common.{◌≡◌, ℕ, true, false, pos, negsuc, List, [], ◌∷◌, Some, None, codes, refl, true≢false, ap}
 use Rattle.std.specs.Fmt.{digits}
 use Rattle.std.specs.Str.{bytes_eq}
 use Rattle.lus_values.specs.Names.{Text, Names}
@@ -10,7 +10,7 @@ use Rattle.lus_requests.specs.declared.request.Reply.{Reply}
 use Rattle.lus_requests.specs.declared.request.Reply.TheVariants.{Outputs, Rows, Done, Refused}
 use Rattle.lus_requests.specs.declared.request.Why.TheVariants.{Shape, Presence, Fault, NoSave}
 use Rattle.lus_requests.specs.declared.request.Entry.{Entry}
-use Rattle.lus_devices.specs.Journals.{Journal, journals_text, line_text, why_text}
+use Rattle.lus_devices.specs.Journals.{journals_text, line_text, why_text}
 
 -- type e = enum { A, B }
 abbrev names : Names

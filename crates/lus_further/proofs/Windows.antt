@@ -3,7 +3,7 @@ use Rattle.std.proofs.Common.{◌≡◌, ℕ, ◌+◌, ◌-◌, ◌≤◌, Bool,
 use Rattle.std.proofs.lemmas.List.{length-take-le, take-append-drop}
 use Rattle.lus_syntax.specs.declared.token.Place.{Place}
 use Rattle.lus_syntax.specs.Places.{is_feed, is_first, past_one, past, start, place_behind}
-use Rattle.lus_syntax.proofs.Places.{past_append, past_byte}
+use Rattle.lus_syntax.proofs.Places.{past_append}
 use Rattle.lus_syntax.proofs.Spans.{past_is}
 use Rattle.lus_further.specs.Windows.{IsPart, ahead_by, behind_blanks}
 

@@ -1,22 +1,18 @@
 -- Small histories, worked by computation: which replies are right, and of each refusal a reply in its place that is wrong.
-use Rattle.std.proofs.Common.{take, drop, is_some, Option, Some, None, ◌≡◌, ℕ, true, false, pos, List, [], ◌∷◌, refl, sym, ap, ◌∙◌, rules, true≢false, suc-ne-zero, length, subst, arith}
+use Rattle.std.proofs.Common.{take, drop, is_some, Option, Some, None, ◌≡◌, ℕ, true, false, pos, List, [], ◌∷◌, refl, sym, ap, rules, true≢false, suc-ne-zero, length, subst}
 use Rattle.lus_values.specs.declared.operator.Op.TheVariants.{Divide}
 use Rattle.lus_values.specs.declared.operator.Operator.TheVariants.{Compute}
-use Rattle.lus_values.specs.Lists.{item}
-use Rattle.lus_values.specs.Operators.{apply}
 use Rattle.lus_values.specs.Values.{Value, enum, Row}
-use Rattle.lus_program.specs.Programs.{arrow, enumeration, merge, operate, pre, variable, Program}
+use Rattle.lus_program.specs.Programs.{enumeration, merge, operate, pre, variable, Program}
 use Rattle.lus_requests.specs.declared.request.Request.{Request}
 use Rattle.lus_requests.specs.declared.request.Request.TheVariants.{Step, Reset, Save, Restore, Burst}
 use Rattle.lus_requests.specs.declared.request.Reply.{Reply}
 use Rattle.lus_requests.specs.declared.request.Reply.TheVariants.{Outputs, Rows, Done, Refused}
 use Rattle.lus_requests.specs.declared.request.Why.TheVariants.{Shape, Presence, Fault, NoSave}
 use Rattle.lus_requests.specs.declared.request.Entry.{Entry}
-use Rattle.lus_streams.specs.Streams.{instant, World, Streams, with_operand, with_operands, value}
+use Rattle.lus_streams.specs.Streams.{instant, World, Streams, value}
 use Rattle.lus_program.specs.declared.types.Kind.TheVariants.{Bool as BoolKind, Enum as EnumKind}
-use Rattle.lus_program.specs.Programs.{Variable}
 use Rattle.lus_streams.proofs.Examples.{at_base, plain, tested, node, equation, program, two, number, some, truth, summed, summed_at, divided_by_past, divided_by_past_at, nil_divides_without_fault}
-use Rattle.lus_streams.proofs.Lists.{item_take}
 use Rattle.lus_streams.proofs.Unique.{streams_unique}
 use Rattle.lus_simulation.specs.Lineages.{Gives}
 use Rattle.lus_history.specs.Replies.{AnswersStep, misshapen, misplaced, answered, faulted}

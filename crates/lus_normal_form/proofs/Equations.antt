@@ -7,7 +7,7 @@ use Rattle.lus_program.specs.Programs.{Expression, call, Equation, Node, Program
 use Rattle.lus_values.specs.Lists.{item, Each}
 use Rattle.lus_values.proofs.Lists.{below_all}
 use Rattle.lus_streams.specs.Clocks.{Clock, clock_of, Part, at, base_of, parts}
-use Rattle.lus_streams.specs.Equations.{Definition, given_by, place_in, equation_clock, definition_in, definition_of, equation_parts, node_parts}
+use Rattle.lus_streams.specs.Equations.{Definition, given_by, equation_clock, definition_of, equation_parts, node_parts}
 use Rattle.lus_streams.specs.Streams.{Instant, World, is_present, row_of, entry, is_on, where_on, value, definition_value, HasValue, Follows, EquationsHold}
 use Rattle.lus_streams.specs.Order.{clock_variables}
 use Rattle.lus_normal_form.specs.NormalNodes.{IsDefinition, IsWithin, DefinesNew, IsNormalOf}

@@ -1,5 +1,5 @@
 -- The normal form of an expression has a value wherever it has, part by part, both ways.
-use Rattle.std.proofs.Common.{◌≡◌, ℕ, suc, ◌<◌, ◌∷◌, ◌++◌, drop, IsSome, refl, sym, ◌∙◌, subst, IsTrue, Bool, true, false}
+use Rattle.std.proofs.Common.{◌≡◌, ℕ, suc, ◌<◌, drop, IsSome, refl, sym, ◌∙◌, subst, IsTrue, Bool, true, false}
 use Rattle.lus_program.specs.Programs.{Expression, literal, variable, operate, pre, arrow, when, merge, call, Operands, none, more, Program, node_at}
 use Rattle.lus_values.specs.Lists.{Each}
 use Rattle.lus_streams.specs.Clocks.{Clock, clock_of, Part, at, formal_clock, base_of, branch_clock, parts, all_parts}

@@ -1,7 +1,6 @@
 -- Where no variable is defined twice, an equation is what defines its first variable.
-use Rattle.std.proofs.Common.{◌≡◌, refl, ap, ◌∙◌, ℕ, suc, ◌+◌, ◌<◌, ◌≤◌, nat_eq, nat_lt, Bool, true, false, cond, List, [], ◌∷◌, ◌++◌, length, Some, None, if◌then◌else◌, suc-ne-zero, arith}
+use Rattle.std.proofs.Common.{◌≡◌, refl, ap, ◌∙◌, ℕ, suc, ◌<◌, ◌≤◌, nat_eq, nat_lt, Bool, true, false, cond, List, [], ◌∷◌, length, Some, None, if◌then◌else◌, suc-ne-zero, arith}
 use Rattle.std.proofs.lemmas.Bool.{eq-eqb}
-use Rattle.std.specs.Prelude.{flat_map}
 use Rattle.lus_values.specs.Lists.{item, Each, Below}
 use Rattle.lus_program.specs.Programs.{Equation, Node}
 use Rattle.lus_streams.specs.Equations.{given_by, place_in, equation_clock, definition_in}

@@ -1,7 +1,7 @@
 -- The nodes that are made from those of a resolved program on clocks are ready, and define their variables.
-use Rattle.std.proofs.Common.{◌≡◌, ◌∙◌, ap, sym, subst, ℕ, zero, suc, ◌+◌, ◌<◌, ◌≤◌, nat_lt, Bool, true, false, List, [], ◌∷◌, length, arith}
+use Rattle.std.proofs.Common.{◌≡◌, ◌∙◌, ap, sym, subst, ℕ, zero, ◌+◌, ◌<◌, ◌≤◌, nat_lt, Bool, true, false, List, [], ◌∷◌, length, arith}
 use Rattle.std.proofs.lemmas.Bool.{le-ltb, lt-ltb}
-use Rattle.lus_values.specs.Lists.{item, Each}
+use Rattle.lus_values.specs.Lists.{Each}
 use Rattle.lus_program.specs.Programs.{Expression, literal, call, Equation, Node, Program, empty_node, node_at}
 use Rattle.lus_streams.specs.Clocks.{Clock, Part, at, parts}
 use Rattle.lus_streams.specs.Equations.{equation_clock, equation_parts, node_parts}

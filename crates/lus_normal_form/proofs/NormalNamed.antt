@@ -1,20 +1,20 @@
 -- In the normal form of a resolved program on clocks, all names are known, and calls have arguments for all inputs.
-use Rattle.std.proofs.Common.{◌≡◌, subst, ℕ, ◌+◌, ◌<◌, ◌≤◌, List, [], ◌∷◌, length, Option, Some, None, arith, ⊎_elim}
+use Rattle.std.proofs.Common.{◌≡◌, ℕ, ◌+◌, ◌<◌, ◌≤◌, List, [], ◌∷◌, length, Option, Some, None, arith, ⊎_elim}
 use Rattle.std.proofs.lemmas.Bool.{cases_lt}
-use Rattle.lus_values.specs.Lists.{item, Each}
+use Rattle.lus_values.specs.Lists.{Each}
 use Rattle.lus_values.proofs.Lists.{below_all}
-use Rattle.lus_program.specs.Programs.{Expression, literal, variable, when, merge, call, Equation, Node, Program, node_at}
-use Rattle.lus_streams.specs.Clocks.{Clock, clock_of, Part, at, parts}
-use Rattle.lus_streams.specs.Equations.{Definition, given_by, equation_clock, definition_of, equation_parts, node_parts, sites}
+use Rattle.lus_program.specs.Programs.{Expression, literal, variable, when, merge, call, Node, Program, node_at}
+use Rattle.lus_streams.specs.Clocks.{Clock, clock_of, Part, at}
+use Rattle.lus_streams.specs.Equations.{Definition, given_by, definition_of, node_parts, sites}
 use Rattle.lus_streams.specs.Flags.{OutputIs}
 use Rattle.lus_streams.specs.OnClock.{DefinedOnClock, IsOnClocks}
 use Rattle.lus_streams.specs.Order.{clock_variables, needs_right}
 use Rattle.lus_streams.proofs.Calls.{AtBase, OfCall}
 use Rattle.lus_streams.proofs.Definitions.{RightParts, right_parts, defined_on_clock}
-use Rattle.lus_streams.proofs.Lists.{below_at, each_append, each_both, each_implies, each_left}
+use Rattle.lus_streams.proofs.Lists.{below_at, each_both, each_implies, each_left}
 use Rattle.lus_normal_form.specs.NormalForm.{StandsFor}
 use Rattle.lus_normal_form.specs.NormalNodes.{DefinesNew, IsDefinition, IsNormalNode, IsWithin}
-use Rattle.lus_normal_form.specs.Named.{DefinesFirst, DefinitionFits, GivesOutput, IsCalled, IsNamed, Known, OutputKnown, Uses}
+use Rattle.lus_normal_form.specs.Named.{DefinitionFits, GivesOutput, IsCalled, IsNamed, Known, OutputKnown, Uses}
 use Rattle.lus_normal_form.proofs.Equations.{each_within, equation_parts_hold}
 use Rattle.lus_normal_form.proofs.NewParts.{new_at, new_fact, new_part, stands_before}
 use Rattle.lus_normal_form.proofs.OneCall.{numbered_same}

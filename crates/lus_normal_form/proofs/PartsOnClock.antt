@@ -1,5 +1,5 @@
 -- Where the parts of a right side are on clocks, those of its normal form are.
-use Rattle.std.proofs.Common.{◌≡◌, sym, ap, ◌∙◌, subst, ℕ, suc, ◌⊎◌, List, [], ◌∷◌, ◌++◌, length, drop, Some}
+use Rattle.std.proofs.Common.{◌≡◌, sym, ap, ◌∙◌, subst, ℕ, suc, ◌⊎◌, List, [], ◌∷◌, length, drop, Some}
 use Rattle.std.proofs.Math.Logic.{inl, inr}
 use Rattle.lus_values.specs.Lists.{item, Each}
 use Rattle.lus_program.specs.Programs.{Expression, literal, variable, operate, pre, arrow, when, merge, call, Operands, none, more, Equation, Node, Program, node_at}

@@ -1,5 +1,5 @@
 -- Which variables an expression needs and the clocks of its parts test, where each part uses such variables alone.
-use Rattle.std.proofs.Common.{ℕ, suc, ◌∷◌, drop}
+use Rattle.std.proofs.Common.{ℕ, suc, drop}
 use Rattle.lus_values.specs.Lists.{Each}
 use Rattle.lus_program.specs.Programs.{Expression, literal, variable, operate, pre, arrow, when, merge, call, Operands, none, more, Program, node_at}
 use Rattle.lus_streams.specs.Clocks.{Clock, Part, formal_clock, base_of, branch_clock, parts, all_parts}

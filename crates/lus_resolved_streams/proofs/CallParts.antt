@@ -1,5 +1,5 @@
 -- Where each call in an expression is of a node with an output, so is each part of it.
-use Rattle.std.proofs.Common.{ℕ, suc, ◌<◌, ◌∷◌, drop}
+use Rattle.std.proofs.Common.{ℕ, suc, ◌<◌, drop}
 use Rattle.lus_values.specs.Lists.{Each}
 use Rattle.lus_values.proofs.Lists.{each_append}
 use Rattle.lus_program.specs.Programs.{Expression, literal, variable, operate, pre, arrow, when, merge, call, Operands, none, more, Program, node_at}

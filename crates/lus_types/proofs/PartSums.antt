@@ -1,5 +1,5 @@
 -- Operands put in order have the parts that they had.
-use Rattle.std.proofs.Common.{arith, refl, ◌≡◌, ◌∙◌, sym, ℕ, ◌+◌, true, List, length}
+use Rattle.std.proofs.Common.{arith, refl, ◌≡◌, ◌∙◌, sym, ℕ, true, List, length}
 use Rattle.lus_program.specs.Programs.{Operands, none, more}
 use Rattle.lus_program.specs.Parts.{parts, parts_all}
 use Rattle.lus_source.specs.Labels.{each_once}

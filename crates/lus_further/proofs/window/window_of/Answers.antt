@@ -1,8 +1,7 @@
 -- The slice of the source is a part of it, behind blanks that are no more than the bytes before it.
-use Rattle.std.proofs.Common.{◌≡◌, ◌≤◌, ◌∙◌, ◌++◌, ◌-◌, ap, subst, take, drop, length, string_bytes, arith}
+use Rattle.std.proofs.Common.{◌≡◌, ◌≤◌, ◌∙◌, ◌++◌, ◌-◌, ap, subst, take, length, string_bytes, arith}
 use Rattle.std.proofs.lemmas.List.{length-take-le}
 use Rattle.lus_syntax.specs.declared.token.Place.{Place}
-use Rattle.lus_syntax.specs.Places.{place_behind}
 use Rattle.lus_further.specs.Windows.{IsPart, behind_blanks}
 use Rattle.lus_further.proofs.Windows.{blanks_fit, is_part}
 use Rattle.lus_further.proofs.window.window_of.Goals as goal

@@ -8,7 +8,6 @@ use Rattle.lus_syntax.specs.declared.refusal.RefusalNumber.{RefusalNumber}
 use Rattle.lus_syntax.specs.declared.refusal.RefusalNumber.TheVariants as numbers
 use Rattle.lus_syntax.specs.Trees.{Tree}
 use Rattle.lus_syntax.specs.View.{tree_seen}
-use Rattle.lus_program.specs.Programs.{Program}
 use Rattle.lus_program.specs.View.{program_seen}
 use Rattle.lus_source.specs.Refusals.{FirstFails, WellFormed}
 use Rattle.lus_typing.specs.Refusals.{RefusesFor}
