@@ -24,7 +24,7 @@ exec "{lus}" "$@"
 
 
 def look(lus: Path, folder: Path, expect: Expect) -> None:
-    """Looks at each kind of file for which there is a program. Says what is left out."""
+    """Checks each kind of file for which a program is installed, and says what is skipped."""
     if shutil.which("systemd-analyze"):
         unit(expect)
     else:

@@ -72,7 +72,7 @@ class Trial:
                 client.start()
             while any(client.is_alive() for client in clients):
                 self.disturb(generator)
-                time.sleep(0.05)
+                time.sleep(0.01)
         finally:
             self.stop()
         return self.judge()
