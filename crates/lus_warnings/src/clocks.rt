@@ -2,7 +2,6 @@
 
 use crate::kind::Kind;
 use crate::known::{Known, Scope};
-use crate::mention::clock_of;
 use crate::warning::Warning;
 use indexmap::IndexMap;
 use lus_syntax::{Expr, Label, Name, Test};
@@ -10,16 +9,19 @@ use std::alloc::{AllocError, Global};
 
 /// A variable that is always the same: where its equation defines it, and its value.
 #[derive(Clone, Copy)]
-pub struct Fixed<'t> {
+pub(crate) struct Fixed<'t> {
     name: &'t Name,
     value: Known<'t>,
 }
 
 /// The variables of a node that are always the same, by their names.
-pub type AllFixed<'t> = IndexMap<&'t str, Fixed<'t>>;
+pub(crate) type AllFixed<'t> = IndexMap<&'t str, Fixed<'t>>;
 
 /// The variables of a node whose equations give them a constant.
-pub fn fixed_in<'t>(alloc: Global, scope: &Scope<'_, 't>) -> Result<AllFixed<'t>, AllocError> {
+pub(crate) fn fixed_in<'t>(
+    alloc: Global,
+    scope: &Scope<'_, 't>,
+) -> Result<AllFixed<'t>, AllocError> {
     let mut all = IndexMap::new(alloc);
     for equation in &scope.node.equations {
         if let ([name], Some(value)) = (equation.left.as_slice(), scope.value(&equation.right)) {
@@ -27,6 +29,15 @@ pub fn fixed_in<'t>(alloc: Global, scope: &Scope<'_, 't>) -> Result<AllFixed<'t>
         }
     }
     Ok(all)
+}
+
+/// The variable that a test tests.
+fn clock_of(test: &Test) -> &Name {
+    match test {
+        Test::Holds(name) => name,
+        Test::Fails(_, name) => name,
+        Test::Is(_, name) => name,
+    }
 }
 
 /// Whether a test holds of a value.
@@ -42,12 +53,9 @@ fn holds(test: &Test, value: Known<'_>) -> bool {
     }
 }
 
-/// The warning of a test of a variable that is always the same.
-fn fixed_test(alloc: Global, test: &Test, fixed: Fixed<'_>) -> Result<Warning, AllocError> {
-    let name = clock_of(test);
-    let text = name.text.as_str();
-    let value = fixed.value;
-    let (word, note) = if holds(test, value) {
+/// What is said of a clock that is always there, or never: when, and a note.
+fn words_of(holds: bool) -> (&'static str, &'static str) {
+    if holds {
         (
             "at every instant",
             "Leave out the `when`, or test what changes.",
@@ -57,7 +65,15 @@ fn fixed_test(alloc: Global, test: &Test, fixed: Fixed<'_>) -> Result<Warning, A
             "at no instant",
             "Leave out what is on this clock, or test what changes.",
         )
-    };
+    }
+}
+
+/// The warning of a test of a variable that is always the same.
+fn fixed_test(alloc: Global, test: &Test, fixed: Fixed<'_>) -> Result<Warning, AllocError> {
+    let name = clock_of(test);
+    let text = name.text.as_str();
+    let value = fixed.value;
+    let (word, note) = words_of(holds(test, value));
     let sentence = format!(in alloc;
         "the clock `{text}` is always `{value}`, so this is there {word}"
     )?;
@@ -70,7 +86,7 @@ fn fixed_test(alloc: Global, test: &Test, fixed: Fixed<'_>) -> Result<Warning, A
 }
 
 /// The warning of a test, where it tests a variable that is always the same.
-pub fn test_of_fixed(
+pub(crate) fn test_of_fixed(
     alloc: Global,
     all: &AllFixed<'_>,
     test: &Test,
@@ -82,7 +98,7 @@ pub fn test_of_fixed(
 }
 
 /// The warning of an expression, where it is a `when` on a clock that is always the same.
-pub fn sampling(
+pub(crate) fn sampling(
     alloc: Global,
     all: &AllFixed<'_>,
     expr: &Expr,

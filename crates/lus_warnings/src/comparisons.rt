@@ -2,9 +2,10 @@
 
 use crate::kind::Kind;
 use crate::known::{Known, Scope};
-use crate::same::are_same;
+use crate::numbers::of_numbers;
+use crate::same::{are_same, text_of};
 use crate::warning::Warning;
-use lus_faults::{extent_of, slice_of};
+use lus_faults::extent_of;
 use lus_syntax::{Expr, Infix};
 use lus_values::Op;
 use std::alloc::{AllocError, Global};
@@ -14,19 +15,6 @@ fn of_alike(op: Op) -> Option<bool> {
     match op {
         Op::Equal | Op::AtMost | Op::AtLeast => Some(true),
         Op::NotEqual | Op::Less | Op::Greater => Some(false),
-        _ => None,
-    }
-}
-
-/// What a comparison of numbers gives.
-fn of_numbers(op: Op, left: i64, right: i64) -> Option<bool> {
-    match op {
-        Op::Equal => Some(left == right),
-        Op::NotEqual => Some(left != right),
-        Op::Less => Some(left < right),
-        Op::AtMost => Some(left <= right),
-        Op::Greater => Some(left > right),
-        Op::AtLeast => Some(left >= right),
         _ => None,
     }
 }
@@ -50,19 +38,46 @@ fn of_known(op: Op, left: Known<'_>, right: Known<'_>) -> Option<bool> {
     }
 }
 
+/// A comparison that is always so, and what it gives: of sides that are written alike, or of values that are known.
+#[derive(Clone, Copy)]
+enum Always {
+    Alike(bool),
+    Known(bool),
+}
+
 /// What a comparison always gives, if that is known.
-fn always<'t>(scope: &Scope<'_, 't>, op: Op, left: &'t Expr, right: &'t Expr) -> Option<bool> {
-    if let (Some(left), Some(right)) = (scope.value(left), scope.value(right)) {
-        return of_known(op, left, right);
+fn result_of<'t>(
+    source: &str,
+    scope: &Scope<'_, 't>,
+    op: Op,
+    left: &'t Expr,
+    right: &'t Expr,
+) -> Option<Always> {
+    if let Some(holds) = of_alike(op)
+        && are_same(source, left, right)
+    {
+        return Some(Always::Alike(holds));
     }
-    if are_same(left, right) {
-        return of_alike(op);
+    let holds = of_known(op, scope.value(left)?, scope.value(right)?)?;
+    Some(Always::Known(holds))
+}
+
+/// What is said of a comparison that is always so: what it gives, and a note.
+fn words_of(always: Always) -> (bool, &'static str) {
+    match always {
+        Always::Alike(holds) => (
+            holds,
+            "Both sides are the same: compare with what was meant, or leave the comparison out.",
+        ),
+        Always::Known(holds) => (
+            holds,
+            "Both sides are constants: compare with what was meant, or leave the comparison out.",
+        ),
     }
-    None
 }
 
 /// The warning of an expression, where it is a comparison that is always so.
-pub fn comparison<'t>(
+pub(crate) fn comparison<'t>(
     alloc: Global,
     source: &str,
     scope: &Scope<'_, 't>,
@@ -71,17 +86,12 @@ pub fn comparison<'t>(
     let Expr::Binary(Infix::Compute(op), left, right) = expr else {
         return Ok(None);
     };
-    let Some(holds) = always(scope, *op, left, right) else {
+    let Some(always) = result_of(source, scope, *op, left, right) else {
         return Ok(None);
     };
+    let (holds, note) = words_of(always);
+    let text = text_of(source, expr);
+    let sentence = format!(in alloc; "`{text}` is always {holds}")?;
     let span = extent_of(source, expr);
-    let text = slice_of(source, span);
-    let word = if holds { "true" } else { "false" };
-    let sentence = format!(in alloc; "`{text}` is always {word}")?;
-    let note = if are_same(left, right) {
-        "Both sides are the same: compare with what was meant, or leave the comparison out."
-    } else {
-        "Both sides are constants: compare with what was meant, or leave the comparison out."
-    };
     Ok(Some(Warning::new(alloc, Kind::ConstantComparison, span, sentence, note)?))
 }

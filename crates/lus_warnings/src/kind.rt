@@ -3,7 +3,7 @@
 use std::fmt;
 
 /// What a warning is of. Printed as `unused_input` and the like.
-#[derive(Clone, Copy, PartialEq, Eq, Debug)]
+#[derive(Clone, Copy)]
 pub enum Kind {
     /// A type that nothing names.
     UnusedType,

@@ -1,15 +1,14 @@
 //! Expressions whose value is known.
 
 use crate::same::bare;
-use crate::used::variables_of;
 use indexmap::{IndexMap, IndexSet};
-use lus_syntax::{Definition, Expr, Literal, Node, Prefix, Tree};
+use lus_syntax::{Definition, Expr, Group, Literal, Name, Node, Prefix, Tree};
 use std::alloc::{AllocError, Global};
 use std::fmt;
 
 /// A value that is known without running.
 #[derive(Clone, Copy)]
-pub enum Known<'t> {
+pub(crate) enum Known<'t> {
     Number(i64),
     Truth(bool),
     Constructor(&'t str),
@@ -26,8 +25,16 @@ impl fmt::Display for Known<'_> {
     }
 }
 
+/// What a minus before an expression makes of it, where that is a literal.
+fn negative<'t>(operand: &Expr) -> Option<Known<'t>> {
+    match bare(operand) {
+        Expr::Number(number, _) => Some(Known::Number(number.saturating_neg())),
+        _ => None,
+    }
+}
+
 /// The constants and the constructors of a source, by their names, with their values.
-pub type Values<'t> = IndexMap<&'t str, Known<'t>>;
+pub(crate) type Values<'t> = IndexMap<&'t str, Known<'t>>;
 
 /// What a literal is worth.
 fn literal_value(literal: &Literal) -> Known<'_> {
@@ -39,15 +46,21 @@ fn literal_value(literal: &Literal) -> Known<'_> {
     }
 }
 
+/// Adds constructors.
+fn add_constructors<'t>(values: &mut Values<'t>, names: &'t [Name]) -> Result<(), AllocError> {
+    for name in names {
+        let text = name.text.as_str();
+        let _before = values.insert(text, Known::Constructor(text))?;
+    }
+    Ok(())
+}
+
 /// The constants and the constructors of a source.
-pub fn values_by_name(alloc: Global, tree: &Tree) -> Result<Values<'_>, AllocError> {
+pub(crate) fn values_by_name(alloc: Global, tree: &Tree) -> Result<Values<'_>, AllocError> {
     let mut values = IndexMap::new(alloc);
     for declaration in &tree.types {
         if let Definition::Enumeration(names) = &declaration.definition {
-            for name in names {
-                let text = name.text.as_str();
-                let _before = values.insert(text, Known::Constructor(text))?;
-            }
+            add_constructors(&mut values, names)?;
         }
     }
     for constant in &tree.constants {
@@ -56,8 +69,36 @@ pub fn values_by_name(alloc: Global, tree: &Tree) -> Result<Values<'_>, AllocErr
     Ok(values)
 }
 
+/// Adds the names of variables.
+fn add_names<'t>(variables: &mut IndexSet<&'t str>, names: &'t [Name]) -> Result<(), AllocError> {
+    for name in names {
+        let _is_new = variables.insert(name.text.as_str())?;
+    }
+    Ok(())
+}
+
+/// Adds the names of the variables of some groups.
+fn add_groups<'t>(
+    variables: &mut IndexSet<&'t str>,
+    groups: &'t [Group],
+) -> Result<(), AllocError> {
+    for group in groups {
+        add_names(variables, &group.names)?;
+    }
+    Ok(())
+}
+
+/// The names of a node's variables.
+fn variables_of(alloc: Global, node: &Node) -> Result<IndexSet<&str>, AllocError> {
+    let mut variables = IndexSet::new(alloc);
+    add_groups(&mut variables, &node.inputs)?;
+    add_groups(&mut variables, &node.outputs)?;
+    add_groups(&mut variables, &node.locals)?;
+    Ok(variables)
+}
+
 /// A node with what its names stand for, where that is a value.
-pub struct Scope<'s, 't> {
+pub(crate) struct Scope<'s, 't> {
     pub node: &'t Node,
     values: &'s Values<'t>,
     variables: IndexSet<&'t str>,
@@ -80,33 +121,28 @@ impl<'s, 't> Scope<'s, 't> {
         values: &'s Values<'t>,
         node: &'t Node,
     ) -> Result<Scope<'s, 't>, AllocError> {
-        let mut variables = IndexSet::new(alloc);
-        for name in &variables_of(alloc, node)? {
-            let _is_new = variables.insert(name.text.as_str())?;
-        }
         Ok(Scope {
             node,
             values,
-            variables,
+            variables: variables_of(alloc, node)?,
         })
     }
 
+    /// The value of a name, if it is that of a constant or of a constructor.
+    fn named(&self, name: &str) -> Option<Known<'t>> {
+        if self.variables.contains(&name) {
+            return None;
+        }
+        self.values.get(&name).copied()
+    }
+
     /// The value of a literal, of a constant or of a constructor.
-    pub fn value(&self, expr: &'t Expr) -> Option<Known<'t>> {
+    pub fn value(&self, expr: &Expr) -> Option<Known<'t>> {
         match bare(expr) {
             Expr::Number(number, _) => Some(Known::Number(*number)),
             Expr::Truth(holds, _) => Some(Known::Truth(*holds)),
-            Expr::Unary(Prefix::Negate, _, operand) => match bare(operand) {
-                Expr::Number(number, _) => Some(Known::Number(number.saturating_neg())),
-                _ => None,
-            },
-            Expr::Name(name) => {
-                let text = name.text.as_str();
-                if self.variables.contains(&text) {
-                    return None;
-                }
-                self.values.get(&text).copied()
-            }
+            Expr::Name(name) => self.named(name.text.as_str()),
+            Expr::Unary(Prefix::Negate, _, operand) => negative(operand),
             _ => None,
         }
     }

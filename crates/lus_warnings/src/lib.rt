@@ -4,20 +4,17 @@
 mod branches;
 mod clocks;
 mod comparisons;
+mod guards;
 mod kind;
 mod known;
-mod mention;
-mod named;
+mod numbers;
 mod same;
+mod scope;
 mod table;
 mod telling;
-#[cfg(test)]
-mod tests;
 mod unused;
-mod used;
 mod warning;
 
 pub use kind::Kind;
 pub use telling::push_warnings;
-pub use unused::{Unused, unused_in};
-pub use warning::{Warning, warnings, warnings_of};
+pub use warning::{Warning, warnings_of};
