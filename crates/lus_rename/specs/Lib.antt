@@ -1,0 +1,2 @@
+pub mod Renaming
+pub use Rattle.lus_edits.specs as EditSpecs

@@ -1,0 +1,11 @@
+//! A declared name replaced throughout a source.
+#![tactic(auto)]
+
+mod error;
+mod keeping;
+mod naming;
+mod proposing;
+mod renaming;
+
+pub use error::RenameError;
+pub use renaming::renamed;
