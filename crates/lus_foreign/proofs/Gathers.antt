@@ -5,7 +5,7 @@ use Rattle.std.proofs.lemmas.List.Elements.{All-nil}
 use Rattle.std.specs.List.{All}
 use Rattle.lus_shared.specs.Knowledge.{Instance, Standing, origin_with}
 use Rattle.lus_shared.specs.Views.{fresh_seats}
-use Rattle.lus_machine.specs.Machines.{Told}
+use Rattle.lus_shared.specs.MachineSpecs.Machines.{Told}
 use Rattle.lus_shared.specs.Trait.{untold}
 use Rattle.lus_foreign.specs.Seated.{Seated, standings, AreOpened, AreMates, Together, Belongs, IsMate, NumbersTell, IsAt}
 

@@ -3,7 +3,7 @@ use denote.Param.Send.{IsSend, IsSync, sendable}
 use Rattle.std.proofs.Crossing.{crosses}
 use Rattle.atomic_table.proofs.owned.Table.TheSendSync as table
 use Rattle.lus_values.proofs.value.Value.TheLaws.TheKnot as value
-use Rattle.lus_machine.proofs.Sent.{program_send, program_sync, machine_send, reactor_send, entry_send}
+use Rattle.lus_live_node.proofs.MachineProofs.Sent.{program_send, program_sync, machine_send, reactor_send, entry_send}
 use Rattle.lus_shared.proofs.Sent.{node_sync, seat_send}
 use Rattle.lus_requests.specs.contracts.request.Reply as Reply
 use Rattle.lus_live_node.specs.contracts.live_node.LiveNode as LiveNode

@@ -10,3 +10,4 @@ pub mod Kept
 pub mod Queries
 pub mod Texts
 pub mod Lives
+pub use Rattle.lus_live_node.specs as LiveNodeSpecs

@@ -5,12 +5,12 @@ use Rattle.lus_syntax.specs.Lexemes.{Text}
 use Rattle.lus_requests.specs.declared.request.Entry.{Entry}
 use Rattle.lus_requests.specs.declared.request.Request.{Request}
 use Rattle.lus_requests.specs.declared.request.Reply.{Reply}
-use Rattle.lus_machine.specs.Machines.{IsLawful}
+use Rattle.lus_shared.specs.MachineSpecs.Machines.{IsLawful}
 use Rattle.lus_leaves.specs.declared.leaf.Leaf.{Leaf}
 use Rattle.lus_leaves.specs.declared.requests.Answer.{Answer}
 use Rattle.lus_leaves.specs.declared.requests.EntryOut.{EntryOut}
 use Rattle.lus_leaves.specs.Requests.{Spells, IsTold, EntryIsTold}
-use Rattle.lus_live_node.specs.LiveNodes.{Live, Enters, IsNext}
+use Rattle.lus_live_node.specs.LiveNodes.{Live, Enters, IsNext, most_counted}
 use Rattle.lus_shared.specs.CodeSpecs.Codes.{program_of}
 use Rattle.lus_foreign.specs.Held.{IsOkay}
 use Rattle.lus_foreign.specs.Queries.{IsHandle}
@@ -45,15 +45,23 @@ abbrev pub HeldOpensLive : Option ContentType → (node : ℕ) → Option Conten
 HeldOpensLive (Some a) node b = ContentOpenedLive a node b
 HeldOpensLive None node b = ⊥
 
--- the instance has one more entry, with which its history is lawful, and keeps that
-abbrev pub ContentEntersLive : ContentType → ContentType → Request → Reply → Type 0
-ContentEntersLive (IsLive l) (IsLive l') request reply = Enters l l' request reply × IsLawful l'.instance
-ContentEntersLive _ _ request reply = ⊥
+-- no number is left for a further entry
+abbrev pub HasNoNumber : Live → Type 0
+HasNoNumber l = length l.instance.history ≡ most_counted
 
--- its request is what C's numbers spell, and C is told the reply
+-- the instance has one more entry, with which its history is lawful, and keeps that: its request is what C's numbers spell, and C is
+-- told the reply
+abbrev pub EntersLive : Live → Live → (kind slot : ℕ) → List Leaf → Answer → (olds news : List Leaf) → Type 0
+EntersLive l l' kind slot inputs answer olds news =
+    (request : Request) × ((reply : Reply) × Spells kind slot inputs request × Enters l l' request reply × IsLawful l'.instance
+    × IsTold reply answer olds news)
+
+abbrev pub ContentEntersLive : ContentType → ContentType → (kind slot : ℕ) → List Leaf → Answer → (olds news : List Leaf) → Type 0
+ContentEntersLive (IsLive l) (IsLive l') kind slot inputs answer olds news = EntersLive l l' kind slot inputs answer olds news
+ContentEntersLive _ _ kind slot inputs answer olds news = ⊥
+
 abbrev pub HeldEntersLive : Option ContentType → Option ContentType → (kind slot : ℕ) → List Leaf → Answer → (olds news : List Leaf) → Type 0
-HeldEntersLive (Some a) (Some b) kind slot inputs answer olds news =
-    (request : Request) × ((reply : Reply) × Spells kind slot inputs request × ContentEntersLive a b request reply × IsTold reply answer olds news)
+HeldEntersLive (Some a) (Some b) kind slot inputs answer olds news = ContentEntersLive a b kind slot inputs answer olds news
 HeldEntersLive _ _ kind slot inputs answer olds news = ⊥
 
 -- the line was the right next one of the instance's journal, and its entry is new in the history, which is lawful

@@ -3,7 +3,7 @@ use Rattle.std.specs.Prelude.{◌≡◌, ℕ, List, [], ◌∷◌, map, reverse,
 use Rattle.std.specs.List.{All}
 use Rattle.lus_program.specs.Programs.{Program}
 use Rattle.lus_requests.specs.declared.request.Reply.{Reply}
-use Rattle.lus_machine.specs.Machines.{Told}
+use Rattle.lus_shared.specs.MachineSpecs.Machines.{Told}
 use Rattle.lus_shared.specs.Knowledge.{Instance, Standing, origin_with}
 use Rattle.lus_shared.specs.Views.{fresh_seats}
 

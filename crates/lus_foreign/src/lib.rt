@@ -25,4 +25,5 @@ pub use live::{live_call, live_count, live_entry, live_line, live_open, live_rep
 pub use programs::{
     FormalOut, constructor, field, formals, free, input, node, node_name, nodes, output,
 };
-pub use texts::{entry_text, journal_text, row_text};
+pub use status::{MEMORY, NONE, TEXT};
+pub use texts::{entry_text, journal_text, row_text, write_text};

@@ -3,16 +3,16 @@ ghost use Rattle.std.specs.Prelude.{◌≡◌, ◌⊎◌, ◌≤◌, length, Som
 ghost use Rattle.std.specs.Arc.{arc_value};
 ghost use Rattle.lus_leaves.specs.Requests.{IsTold};
 ghost use Rattle.lus_live_node.specs.LiveNodes.{Enters, IsNext, IsNone as IsNoEntry, IsOther, last_line};
-ghost use Rattle.lus_machine.specs.Machines.{IsLawful};
+ghost use Rattle.lus_shared.specs.MachineSpecs.Machines.{IsLawful};
 ghost use Rattle.lus_requests.specs.declared.request.Reply.{Reply as ReplyType};
 ghost use Rattle.lus_shared.specs.CodeSpecs.Codes.{program_of};
 ghost use Rattle.lus_foreign.specs.Held.{IsOkay};
 ghost use Rattle.lus_foreign.specs.Opened.{ContentLacks, HeldLacks};
-ghost use Rattle.lus_foreign.specs.Queries.{IsText};
-ghost use Rattle.lus_foreign.specs.Served.{IsEntered, IsNone, IsValue, NoneSpelled};
+ghost use Rattle.lus_foreign.specs.Queries.{IsHandle, IsText};
+ghost use Rattle.lus_foreign.specs.Served.{IsEntered, IsFull, IsNone, IsValue, NoneSpelled};
 ghost use Rattle.lus_foreign.specs.Texts.{FoundIsTold, IsMemory};
 ghost use Rattle.lus_foreign.specs.Lives.{ContentEntersLive, ContentOpenedLive, ContentReplays, HeldEntersLive, HeldOpensLive, HeldReplays};
-ghost use Rattle.lus_foreign.specs.Lives.{IsWrong, LastIsTold, LiveIsCounted, OfHeldLive, OfLive};
+ghost use Rattle.lus_foreign.specs.Lives.{EntersLive, HasNoNumber, IsWrong, LastIsTold, LiveIsCounted, OfHeldLive, OfLive};
 
 use crate::content::Content;
 use crate::handle::Handle;
@@ -85,6 +85,8 @@ fn call_at(live: &mut LiveNode, request: Request, answer: &mut Answer, outputs: 
     ensures room { IsOkay result → answer.new.count ≤ length outputs.new }
     ensures missed { IsEntered result ⊎ (live.new ≡ live.old) }
     ensures valued { IsValue result → ⊥ }
+    ensures full { IsFull result → HasNoNumber live.old }
+    ensures handle { IsHandle result → ⊥ }
 {
     match live.call(request) {
         Ok(()) => tell_reply(live, answer, outputs),
@@ -93,20 +95,48 @@ fn call_at(live: &mut LiveNode, request: Request, answer: &mut Answer, outputs: 
     }
 }
 
-fn call_in(
-    content: &mut Content,
-    request: Request,
+/// The call that C's numbers spell.
+fn call_spelled(
+    alloc: Global,
+    live: &mut LiveNode,
+    kind: u32,
+    slot: u64,
+    inputs: &[Leaf],
     answer: &mut Answer,
     outputs: &mut [Leaf],
 ) -> u32
-    ensures entered { IsEntered result → (reply : ReplyType) × ContentEntersLive content.old content.new request reply
-        × IsTold reply answer.new outputs.old outputs.new }
+    ensures entered { IsEntered result → EntersLive live.old live.new kind slot inputs.now answer.new outputs.old outputs.new }
+    ensures room { IsOkay result → answer.new.count ≤ length outputs.new }
+    ensures missed { IsEntered result ⊎ (live.new ≡ live.old) }
+    ensures valued { IsValue result → NoneSpelled kind slot inputs.now }
+    ensures full { IsFull result → HasNoNumber live.old }
+    ensures handle { IsHandle result → ⊥ }
+{
+    match request_of(alloc, kind, slot, inputs) {
+        Ok(Some(request)) => call_at(live, request, answer, outputs),
+        Ok(None) => VALUE,
+        Err(_) => MEMORY,
+    }
+}
+
+fn call_in(
+    alloc: Global,
+    content: &mut Content,
+    kind: u32,
+    slot: u64,
+    inputs: &[Leaf],
+    answer: &mut Answer,
+    outputs: &mut [Leaf],
+) -> u32
+    ensures entered { IsEntered result → ContentEntersLive content.old content.new kind slot inputs.now answer.new outputs.old outputs.new }
     ensures room { IsOkay result → answer.new.count ≤ length outputs.new }
     ensures missed { IsEntered result ⊎ (content.new ≡ content.old) }
-    ensures valued { IsValue result → ⊥ }
+    ensures valued { IsValue result → NoneSpelled kind slot inputs.now }
+    ensures full { IsFull result → OfLive content.old result HasNoNumber }
+    ensures handle { OfLive content.old result (λ l. IsHandle result → ⊥) }
 {
     match content {
-        Content::Live(live) => call_at(live, request, answer, outputs),
+        Content::Live(live) => call_spelled(alloc, live, kind, slot, inputs, answer, outputs),
         _ => HANDLE,
     }
 }
@@ -125,19 +155,16 @@ pub fn live_call(
     ensures room { IsOkay result → answer.new.count ≤ length outputs.new }
     ensures missed { IsEntered result ⊎ (live.new.kept.held ≡ live.old.kept.held) }
     ensures valued { IsValue result → NoneSpelled kind slot inputs.now }
+    ensures full { IsFull result → OfHeldLive live.old.kept.held result HasNoNumber }
+    ensures handle { OfHeldLive live.old.kept.held result (λ l. IsHandle result → ⊥) }
 {
     answer.kind = 0;
     answer.why = 0;
     answer.count = 0;
-    let request = match request_of(alloc, kind, slot, inputs) {
-        Ok(Some(request)) => request,
-        Ok(None) => return VALUE,
-        Err(_) => return MEMORY,
-    };
     let Some(mut content) = live.take(alloc) else {
         return HANDLE;
     };
-    let status = call_in(&mut content, request, answer, outputs);
+    let status = call_in(alloc, &mut content, kind, slot, inputs, answer, outputs);
     live.put(content);
     status
 }
@@ -147,6 +174,8 @@ fn replay_at(alloc: Global, live: &mut LiveNode, line: &[u8]) -> u32
     ensures other { IsWrong result → IsOther line.now live.old.instance }
     ensures none { IsValue result → IsNoEntry line.now live.old.instance }
     ensures missed { IsOkay result ⊎ (live.new ≡ live.old) }
+    ensures full { IsFull result → HasNoNumber live.old }
+    ensures handle { IsHandle result → ⊥ }
 {
     match live.replay(alloc, line) {
         Ok(Verdict::Right) => OK,
@@ -162,6 +191,8 @@ fn replay_in(alloc: Global, content: &mut Content, line: &[u8]) -> u32
     ensures other { IsWrong result → OfLive content.old result (λ l. IsOther line.now l.instance) }
     ensures none { IsValue result → OfLive content.old result (λ l. IsNoEntry line.now l.instance) }
     ensures missed { IsOkay result ⊎ (content.new ≡ content.old) }
+    ensures full { IsFull result → OfLive content.old result HasNoNumber }
+    ensures handle { OfLive content.old result (λ l. IsHandle result → ⊥) }
 {
     match content {
         Content::Live(live) => replay_at(alloc, live, line),
@@ -175,6 +206,8 @@ pub fn live_replay(alloc: Global, live: &mut Handle, line: &[u8]) -> u32
     ensures other { IsWrong result → OfHeldLive live.old.kept.held result (λ l. IsOther line.now l.instance) }
     ensures none { IsValue result → OfHeldLive live.old.kept.held result (λ l. IsNoEntry line.now l.instance) }
     ensures missed { IsOkay result ⊎ (live.new.kept.held ≡ live.old.kept.held) }
+    ensures full { IsFull result → OfHeldLive live.old.kept.held result HasNoNumber }
+    ensures handle { OfHeldLive live.old.kept.held result (λ l. IsHandle result → ⊥) }
 {
     let Some(mut content) = live.take(alloc) else {
         return HANDLE;

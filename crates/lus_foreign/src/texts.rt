@@ -1,5 +1,6 @@
 //! Texts of rows, of entries and of journals.
 ghost use Rattle.std.specs.Prelude.{◌≡◌, ◌⊎◌, IsUtf8, IfOk, map, string_bytes};
+ghost use Rattle.lus_foreign.specs.Held.{IsOkay};
 ghost use Rattle.lus_foreign.specs.Queries.{IsText, OfHeldProgram, OfProgram};
 ghost use Rattle.lus_foreign.specs.Texts.{FoundIsTold, IsMemory, OfHeldJournal, OfJournal, RowIsTold, TextIsTold};
 ghost use Rattle.lus_foreign.specs.Texts.{closed_line, closed_text, names_behind};
@@ -14,8 +15,9 @@ use std::alloc::{AllocError, Global};
 use std::str;
 
 /// Writes a text into an array that has room for it; says how long it is in any case.
-pub(crate) fn write_text(room: &mut [u8], bytes: &mut u64, text: &[u8]) -> u32
-    ensures { TextIsTold text.now result bytes.new room.old room.new }
+pub fn write_text(room: &mut [u8], bytes: &mut u64, text: &[u8]) -> u32
+    ensures told { TextIsTold text.now result bytes.new room.old room.new }
+    ensures missed { IsOkay result ⊎ (room.new ≡ room.old) }
 {
     *bytes = text.len() as u64;
     if text.len() > room.len() {

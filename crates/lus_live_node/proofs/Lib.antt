@@ -1,1 +1,2 @@
 pub mod LiveLaws
+pub use Rattle.lus_machine.proofs as MachineProofs

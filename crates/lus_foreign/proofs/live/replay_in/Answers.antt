@@ -1,9 +1,14 @@
--- What isn't the next entry of the live instance isn't that of the content.
+-- What isn't the next entry of the live instance isn't that of the content, and where it is live it isn't answered as if it weren't.
 use Rattle.std.proofs.Common.{sym, subst}
 use Rattle.lus_live_node.specs.LiveNodes.{IsNone as IsNoEntry}
 use Rattle.lus_foreign.specs.Lives.{OfLive}
+use Rattle.lus_foreign.specs.Queries.{IsHandle}
 use Rattle.lus_foreign.proofs.live.replay_in.Goals as goal
 
 pub returns-in-Live-clause-none : goal.returns-in-Live-clause-none
 returns-in-Live-clause-none c = λ yes.
     subst (λ a. OfLive a c.replay_at.result (λ l. IsNoEntry c.args.line.now l.instance)) (sym c.in-Live.is) (c.replay_at.ensures.none yes)
+
+pub returns-in-Live-clause-handle : goal.returns-in-Live-clause-handle
+returns-in-Live-clause-handle c =
+    subst (λ a. OfLive a c.replay_at.result (λ l. IsHandle c.replay_at.result → ⊥)) (sym c.in-Live.is) c.replay_at.ensures.handle
