@@ -1,5 +1,5 @@
 -- The line of JSON that a fault of a source is.
-use Rattle.std.specs.Prelude.{◌≡◌, ℕ, ◌++◌, codes}
+use Rattle.std.specs.Prelude.{◌≡◌, ℕ, zero, suc, [], ◌++◌, codes}
 use Rattle.std.specs.Fmt.{decimal}
 use Rattle.serde_json.specs.Data.{string}
 use Rattle.serde_json.specs.Written.{compact_text}
@@ -35,7 +35,11 @@ abbrev pub SaysFault : Text → Refusal → Text → Type 0
 SaysFault file r text =
     (message more : Text) × (line column : ℕ) × (text ≡ fault_json file r message line column more)
 
--- the warnings of this file, on a line of its own
-abbrev pub SaysWarnings : Text → Text → Type 0
-SaysWarnings file text =
-    (objects : Text) × (text ≡ codes "{\"file\":" ++ quoted file ++ (codes ",\"warnings\":[" ++ objects ++ codes "]}\n"))
+-- an object of this file with further members, on a line of its own, behind others
+abbrev pub AddsWarning : Text → Text → Text → Type 0
+AddsWarning file old new = (more : Text) × (new ≡ old ++ (codes "{\"file\":" ++ quoted file ++ (more ++ codes "}\n")))
+
+-- so many objects of this file, each on a line of its own
+abbrev pub SayWarnings : Text → ℕ → Text → Type 0
+SayWarnings file zero text = text ≡ []
+SayWarnings file (suc n) text = (before : Text) × SayWarnings file n before × AddsWarning file before text

@@ -7,4 +7,5 @@ mod ranges;
 mod warnings;
 
 pub use line::{fault_lines, push_number, push_string};
-pub use warnings::warnings_line;
+pub use lus_warnings;
+pub use warnings::warning_lines;

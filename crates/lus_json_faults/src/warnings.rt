@@ -1,7 +1,7 @@
-//! Warnings as one object of JSON.
+//! Warnings as objects of JSON, each on a line of its own.
 
-ghost use Rattle.std.specs.Prelude.{◌≡◌, IfOk, string_bytes};
-ghost use Rattle.lus_json_faults.specs.Lines.{SaysWarnings};
+ghost use Rattle.std.specs.Prelude.{IfOk, OnOk, length, string_bytes};
+ghost use Rattle.lus_json_faults.specs.Lines.{AddsWarning, SayWarnings};
 
 use crate::line::push_string;
 use crate::members::{push_edit, push_note, push_places, push_range};
@@ -19,53 +19,63 @@ fn range_of_edit(source: &str, span: Span, finding: &Finding) -> Option<Range> {
     }
 }
 
+/// The members of a warning's object behind its message: where it begins and ends, no cycle, further places, a note, and how the text
+/// would be changed.
+fn members(alloc: Global, source: &str, warning: &Warning) -> Result<String, AllocError> {
+    let start = warning.span.start;
+    let line = start.line;
+    let column = start.column;
+    let mut text = format!(in alloc; ",\"position\":{{\"line\":{line},\"column\":{column}}},")?;
+    push_range(&mut text, range_of_span(source, warning.span))?;
+    text.push_str(",\"cycle\":[]")?;
+    push_places(alloc, &mut text, source, &warning.finding)?;
+    push_note(alloc, &mut text, warning.finding.note.as_deref())?;
+    let range = range_of_edit(source, warning.span, &warning.finding);
+    push_edit(alloc, &mut text, range, warning.finding.edit.as_ref())?;
+    Ok(text)
+}
+
+/// What a warning's object has behind its file.
+fn behind_file(alloc: Global, source: &str, warning: &Warning) -> Result<String, AllocError> {
+    let kind = warning.kind;
+    let mut text = format!(in alloc;
+        ",\"number\":\"{kind}\",\"severity\":\"warning\",\"message\":"
+    )?;
+    push_string(alloc, &mut text, warning.finding.sentence.as_str())?;
+    let members = members(alloc, source, warning)?;
+    write!(text, "{members},\"docs\":\"docs/ERRORS.md#warnings\"")?;
+    Ok(text)
+}
+
 /// Appends the object of a warning.
 fn push_warning(
     alloc: Global,
     text: &mut String,
+    file: &str,
     source: &str,
     warning: &Warning,
-) -> Result<(), AllocError> {
-    let kind = warning.kind;
-    let length = warning.span.length;
-    write!(text, "{{\"name\":\"{kind}\",\"message\":")?;
-    push_string(alloc, text, warning.finding.sentence.as_str())?;
-    text.push_str(",")?;
-    push_range(text, range_of_span(source, warning.span))?;
-    write!(text, ",\"length\":{length}")?;
-    push_places(alloc, text, source, &warning.finding)?;
-    push_note(alloc, text, warning.finding.note.as_deref())?;
-    let range = range_of_edit(source, warning.span, &warning.finding);
-    push_edit(alloc, text, range, warning.finding.edit.as_ref())?;
-    write!(text, ",\"docs\":\"docs/ERRORS.md#{kind}\"}}")
+) -> Result<(), AllocError>
+    ensures { OnOk result (AddsWarning file.now (string_bytes text.old) (string_bytes text.new)) }
+{
+    let more = behind_file(alloc, source, warning)?;
+    text.push_str("{\"file\":")?;
+    push_string(alloc, text, file)?;
+    write!(text, "{more}}}\n")
 }
 
-/// The objects of warnings, with commas between them.
-fn objects(alloc: Global, source: &str, warnings: &[Warning]) -> Result<String, AllocError> {
-    let mut text = String::new(alloc);
-    for (place, warning) in warnings.iter().enumerate() {
-        if place > 0 {
-            text.push_str(",")?;
-        }
-        push_warning(alloc, &mut text, source, warning)?;
-    }
-    Ok(text)
-}
-
-/// The warnings of an accepted source in the file of this name, on a line: of each its name, what is said of it, where it begins and
-/// ends, how many bytes that is, further places, a note, and how the text would be changed.
-pub fn warnings_line(
+/// The warnings of an accepted source in the file of this name, each on a line: its kind as its number, that it is a warning, what is
+/// said of it, where it begins and ends, further places, a note, and how the text would be changed.
+pub fn warning_lines(
     alloc: Global,
     file: &str,
     source: &str,
     warnings: &[Warning],
 ) -> Result<String, AllocError>
-    ensures { IfOk result (λ line. SaysWarnings file.now (string_bytes line)) }
+    ensures { IfOk result (λ lines. SayWarnings file.now (length warnings.now) (string_bytes lines)) }
 {
-    let objects = objects(alloc, source, warnings)?;
-    let mut line = String::new(alloc);
-    line.push_str("{\"file\":")?;
-    push_string(alloc, &mut line, file)?;
-    write!(line, ",\"warnings\":[{objects}]}}\n")?;
-    Ok(line)
+    let mut text = String::new(alloc);
+    for warning in warnings {
+        push_warning(alloc, &mut text, file, source, warning)?;
+    }
+    Ok(text)
 }
