@@ -1,25 +1,23 @@
 -- How a host of many instances ends, by how its parts do.
-use Rattle.std.proofs.Common.{ℕ, Option, Ok, Err, IfOk, OnErr}
+use Rattle.std.proofs.Common.{ℕ, Bool, Option, Ok, Err, IfOk, OnErr}
 use Rattle.lus_program.specs.Programs.{Program}
 use Rattle.lus_devices.specs.Devices.{Bytes}
 use Rattle.lus_devices.specs.Folders.{Known}
-use Rattle.lus_hosting.specs.LiveSpecs.MachineSpecs.Constructors.{names_of}
-use Rattle.lus_hosting.specs.Spellings.{log_spelling}
 use Rattle.lus_hosting.specs.Turns.{HasHosted, HasHostedSome}
 use Rattle.lus_cli.specs.Changes.{Change}
 use Rattle.lus_cli.specs.CommandLine.{Text}
 use Rattle.lus_cli.specs.Programs.{IsProgramFault}
 use Rattle.lus_cli.specs.declared.fault.Fault.{Fault}
 use Rattle.lus_cli.specs.declared.fault.Fault.TheVariants as faults
-use Rattle.lus_many.specs.Ends.{HostFails, Hosted, Ran}
+use Rattle.lus_many.specs.Ends.{HostFails, Hosted, Ran, spelling_of}
 
 -- what was hosted, whether to the end or not
-pub hosted : (p : Program) (f : ℕ) (left end : Option Bytes) (ran : Ran) (output : Change)
-    → IfOk ran (λ score. HasHosted p f (log_spelling (names_of p)) left end output.old output.new score)
-    → OnErr ran (HasHostedSome p f (log_spelling (names_of p)) left output.old output.new)
-    → Hosted p f left end ran output
-hosted p f left end (Ok score) output all begun = all
-hosted p f left end (Err e) output all begun = begun
+pub hosted : (is_json : Bool) (p : Program) (f : ℕ) (left end : Option Bytes) (ran : Ran) (output : Change)
+    → IfOk ran (λ score. HasHosted p f (spelling_of is_json p f) left end output.old output.new score)
+    → OnErr ran (HasHostedSome p f (spelling_of is_json p f) left output.old output.new)
+    → Hosted is_json p f left end ran output
+hosted is_json p f left end (Ok score) output all begun = all
+hosted is_json p f left end (Err e) output all begun = begun
 
 -- a fault of the program
 pub program_fails : (read_fails : Known → Type 0) (file : Known) (name : Text) (f : Fault) → IsProgramFault read_fails file f → HostFails read_fails file name f

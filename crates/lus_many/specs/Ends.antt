@@ -1,12 +1,12 @@
 -- How a host of many instances ends: what became of its lines, or which fault came before the first.
-use Rattle.std.specs.Prelude.{◌≡◌, ◌==◌, ℕ, Option, Some, None, Result, Ok, Err, ⊤, if◌then◌else◌}
+use Rattle.std.specs.Prelude.{◌≡◌, ◌==◌, ℕ, Bool, true, false, Option, Some, None, Result, Ok, Err, ⊤, if◌then◌else◌}
 use Rattle.lus_program.specs.Programs.{Program}
 use Rattle.lus_devices.specs.Devices.{Bytes}
 use Rattle.lus_devices.specs.Folders.{Known, WithFile}
 use Rattle.lus_scripts.specs.declared.refusal.ScriptRefusal.TheVariants as scripts
 use Rattle.lus_hosting.specs.LiveSpecs.MachineSpecs.Constructors.{names_of}
 use Rattle.lus_hosting.specs.LiveSpecs.PlaySpecs.declared.playing.Score.{Score}
-use Rattle.lus_hosting.specs.Spellings.{log_spelling}
+use Rattle.lus_hosting.specs.Spellings.{Spelling, log_spelling}
 use Rattle.lus_hosting.specs.Turns.{HasHosted, HasHostedSome}
 use Rattle.lus_hosting.specs.declared.error.HostError.{HostError}
 use Rattle.lus_hosting.specs.declared.error.HostError.TheVariants as hosts
@@ -20,6 +20,7 @@ use Rattle.lus_cli.specs.Faults.{IsToldBy}
 use Rattle.lus_cli.specs.declared.fault.Fault.{Fault}
 use Rattle.lus_cli.specs.declared.fault.Fault.TheVariants as faults
 use Rattle.lus_many.specs.CommandLine.{Asked}
+use Rattle.lus_many.specs.Objects.{node_spelling}
 
 -- what became of the lines: all were read, or an error came first
 abbrev pub Ran : Type 0
@@ -29,18 +30,23 @@ Ran = Result Score HostError
 abbrev pub IsOfFile : Known → Program → Type 0
 IsOfFile file p = WithFile file (λ text. Accepted text p)
 
--- the entries of each instance are a lawful history, and their log is written, or after an error a beginning of it
-abbrev pub Hosted : Program → ℕ → Option Bytes → Option Bytes → Ran → Change → Type 0
-Hosted p f left end (Ok score) output = HasHosted p f (log_spelling (names_of p)) left end output.old output.new score
-Hosted p f left end (Err e) output = HasHostedSome p f (log_spelling (names_of p)) left output.old output.new
+-- how it is spelled what becomes of lines: as objects of JSON, or as a log
+abbrev pub spelling_of : Bool → Program → ℕ → Spelling
+spelling_of true p f = node_spelling p f
+spelling_of false p f = log_spelling (names_of p)
+
+-- the entries of each instance are a lawful history, and they are told, or after an error a beginning of that
+abbrev pub Hosted : Bool → Program → ℕ → Option Bytes → Option Bytes → Ran → Change → Type 0
+Hosted is_json p f left end (Ok score) output = HasHosted p f (spelling_of is_json p f) left end output.old output.new score
+Hosted is_json p f left end (Err e) output = HasHostedSome p f (spelling_of is_json p f) left output.old output.new
 
 -- instances of the node of this name of a file's program were hosted
-pub record HasRun (file : Known) (name : Text) (left end : Option Bytes) (ran : Ran) (output : Change) : Type 0 where
+pub record HasRun (is_json : Bool) (file : Known) (name : Text) (left end : Option Bytes) (ran : Ran) (output : Change) : Type 0 where
   pub program : Program
   pub accepted : IsOfFile file program
   pub node : ℕ
   pub named : node_named program name ≡ Some node
-  pub hosted : Hosted program node left end ran output
+  pub hosted : Hosted is_json program node left end ran output
 
 -- a file's program has no node of this name
 abbrev pub LacksNode : Known → Text → Type 0
@@ -59,7 +65,7 @@ HostFails read_fails file name faults.Start = ⊥
 
 -- instances are hosted, or no line is read and nothing is written
 abbrev pub TaskEnds : (Known → Type 0) → (Text → Known) → Option Bytes → Option Bytes → Asked → Result Ran Fault → Change → Type 0
-TaskEnds read_fails known left end asked (Ok ran) output = HasRun (known asked.program) asked.node left end ran output
+TaskEnds read_fails known left end asked (Ok ran) output = HasRun asked.is_json (known asked.program) asked.node left end ran output
 TaskEnds read_fails known left end asked (Err f) output = HostFails read_fails (known asked.program) asked.node f × (end ≡ left) × IsUntouched output
 
 -- ---- what is told

@@ -1,17 +1,21 @@
 //! The command line over a folder and an input.
 
-ghost use Rattle.std.specs.Prelude.{◌≡◌, IfErr, Some, map, string_bytes};
+ghost use Rattle.std.specs.Prelude.{◌≡◌, ◌<◌, IfErr, IfOk, OnErr, Some, length, map, string_bytes};
 ghost use Rattle.std.specs.Arc.{arc_value};
 ghost use Rattle.lus_cli.specs.Changes.{change};
+ghost use Rattle.lus_cli.specs.CodeSpecs.Codes.{program_of};
 ghost use Rattle.lus_cli.specs.Ends.{AskedEnds, ReadFails};
+ghost use Rattle.lus_hosting.specs.Turns.{HasHosted, HasHostedSome};
 ghost use Rattle.lus_many.specs.CommandLine.{asked, task_seen};
-ghost use Rattle.lus_many.specs.Ends.{Ends, TaskEnds, host_fault, score_status};
+ghost use Rattle.lus_many.specs.Ends.{Ends, TaskEnds, host_fault, score_status, spelling_of};
 
+use crate::objects::host_json;
 use crate::words::{Task, read_words};
 use lus_cli::lus_host::ScriptRefusal;
 use lus_cli::{Fault, read_program, tell};
 use lus_devices::{Folder, Sink, Source, write_all};
 use lus_hosting::lus_live_instance::Score;
+use lus_hosting::lus_live_instance::lus_machine::{NodeId, Program};
 use lus_hosting::{HostError, host_log};
 use std::alloc::Global;
 use std::collections::hash_map::RandomState;
@@ -81,16 +85,44 @@ fn host_on<D: Folder, S: Source, O: Sink>(
     let Ok(program) = Arc::new(alloc, program) else {
         return Err(Fault::Memory);
     };
-    Ok(host_log(
+    Ok(host_in(
         alloc,
         &program,
         node,
+        task.is_json,
         keys,
         input,
         output,
-        &mut wrong.line,
-        &mut wrong.right,
+        wrong,
     ))
+}
+
+/// Hosts instances, of whose lines it is told in the form that is asked for.
+fn host_in<S: Source, O: Sink>(
+    alloc: Global,
+    program: &Arc<Program>,
+    node: NodeId,
+    is_json: bool,
+    keys: RandomState,
+    input: &mut S,
+    output: &mut O,
+    wrong: &mut Wrong,
+) -> Result<Score, HostError>
+    requires { node.0 < length (program_of (arc_value program.now)).nodes }
+    ensures all { IfOk result (λ score. HasHosted (program_of (arc_value program.now)) node.0
+        (spelling_of is_json (program_of (arc_value program.now)) node.0)
+        (S.left input.old) (S.left input.new) (O.written output.old) (O.written output.new) score) }
+    ensures begun { OnErr result (HasHostedSome (program_of (arc_value program.now)) node.0
+        (spelling_of is_json (program_of (arc_value program.now)) node.0)
+        (S.left input.old) (O.written output.old) (O.written output.new)) }
+{
+    let line = &mut wrong.line;
+    let right = &mut wrong.right;
+    if is_json {
+        host_json(alloc, program, node, keys, input, output, line, right)
+    } else {
+        host_log(alloc, program, node, keys, input, output, line, right)
+    }
 }
 
 /// The status where all lines were read: 2 where one is no call.
@@ -113,8 +145,9 @@ fn fault_of(error: HostError) -> Fault
 }
 
 /// Hosts instances of the node that the words name: makes the call of each line of the input on the instance that it names, and writes
-/// its entry before the next line is read; a line that is an entry is replayed, and has to be right. Gives the status of the process:
-/// 0 where all lines were read and none was denied, 2 where one was, else that of the fault. `keys` are of the names' hash function.
+/// its entry before the next line is read, as a line of a log, or with `--json` as an object; a line that is an entry of a log is replayed,
+/// and has to be right. Gives the status of the process: 0 where all lines were read and none was denied, 2 where one was, else that of
+/// the fault. `keys` are of the names' hash function.
 pub fn command<D: Folder, S: Source, O: Sink, F: Sink>(
     alloc: Global,
     folder: &D,

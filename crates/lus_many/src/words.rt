@@ -6,14 +6,16 @@ ghost use Rattle.lus_cli.specs.declared.words.WordsError.TheVariants.{Mistaken};
 ghost use Rattle.lus_many.specs.CommandLine.{asked, said, task_seen, the_command};
 
 use clap::{ArgMatches, Command};
-use lus_cli::{WordsError, bare, matches, value_of, with_flag, with_required};
+use lus_cli::{WordsError, bare, is_set, matches, value_of, with_flag, with_required};
 use std::alloc::{AllocError, Global};
 
-/// What the words ask for: instances of a node of a program, which is named by its file.
+/// What the words ask for: instances of a node of a program, which is named by its file, and how it is answered.
 #[derive(Clone, Copy)]
 pub struct Task<'a> {
     pub program: &'a str,
     pub node: &'a str,
+    /// Whether answers are objects of JSON, in place of a log's lines.
+    pub is_json: bool,
 }
 
 /// Whether many instances are asked for.
@@ -25,7 +27,8 @@ fn command<'a>(alloc: Global) -> Result<Command<'a>, AllocError>
     ensures { IfOk result (λ c. app_of c ≡ the_command) }
 {
     let many = with_flag(alloc, bare(alloc, "lus_live"), "many")?;
-    let program = with_required(alloc, many, "PROGRAM")?;
+    let json = with_flag(alloc, many, "json")?;
+    let program = with_required(alloc, json, "PROGRAM")?;
     with_required(alloc, program, "NODE")
 }
 
@@ -44,5 +47,10 @@ fn choose<'a>(matches: &ArgMatches<'a>) -> Option<Task<'a>>
 {
     let program = value_of(matches, "PROGRAM")?;
     let node = value_of(matches, "NODE")?;
-    Some(Task { program, node })
+    let is_json = is_set(matches, "json");
+    Some(Task {
+        program,
+        node,
+        is_json,
+    })
 }

@@ -15,8 +15,8 @@ returns-in_default g c =
     let none : node_named (program_of c.in_ok-program.program) c.args.task.node.now ≡ None = sym c.node.ensures ∙ ap (option_map _) c.in_default.is in
     ((refl, (program_of c.in_ok-program.program, c.in_ok-program.ensures.accepted, none)), refl, (refl, refl))
 
-pub host_log-requires : goal.host_log-requires
-host_log-requires g c =
+pub host_in-requires : goal.host_in-requires
+host_in-requires g c =
     let same : program_of c.in_ok-program.program ≡ program_of (arc_value c.in-Ok.program) = ap program_of (sym c.in-Ok.ensures.ok) in
     let named : node_named (program_of c.in_ok-program.program) c.args.task.node.now ≡ Some c.in-Some.node.0 =
     sym c.node.ensures ∙ ap (option_map _) c.in-Some.is in
@@ -33,7 +33,7 @@ returns g c =
       accepted = subst (IsOfFile (g.D.Folder.known c.args.folder.now c.args.task.program.now)) same c.in_ok-program.ensures.accepted;
       node = c.in-Some.node.0;
       named = subst (λ p. node_named p c.args.task.node.now ≡ Some c.in-Some.node.0) same named;
-      hosted = hosted (program_of (arc_value c.in-Ok.program)) c.in-Some.node.0 (g.S.Source.left c.args.input.now) (g.S.Source.left c.host_log.new.input) c.host_log.result
-          (change (g.O.Sink.written c.args.output.now) (g.O.Sink.written c.host_log.new.output) (g.O.Sink.failures c.args.output.now) (g.O.Sink.failures c.host_log.new.output))
-          c.host_log.ensures.all c.host_log.ensures.begun;
+      hosted = hosted c.args.task.is_json (program_of (arc_value c.in-Ok.program)) c.in-Some.node.0 (g.S.Source.left c.args.input.now) (g.S.Source.left c.host_in.new.input) c.host_in.result
+          (change (g.O.Sink.written c.args.output.now) (g.O.Sink.written c.host_in.new.output) (g.O.Sink.failures c.args.output.now) (g.O.Sink.failures c.host_in.new.output))
+          c.host_in.ensures.all c.host_in.ensures.begun;
     }
