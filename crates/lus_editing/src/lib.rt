@@ -3,6 +3,7 @@
 
 mod actions;
 mod answers;
+mod capabilities;
 mod compiler;
 mod conversation;
 mod diagnostics;

@@ -11,6 +11,7 @@ ghost use Rattle.lus_editing.specs.Diagnostics.{Publishes};
 
 use crate::actions::actions_of;
 use crate::answers::{Problem, fault, result};
+use crate::capabilities::CAPABILITIES;
 use crate::compiler::Compiler;
 use crate::diagnostics::{closed, published};
 use crate::formatting::formatted;
@@ -19,10 +20,6 @@ use crate::queries::{queried, query_of};
 use crate::server::{Document, Server, Stage};
 use serde_json::Value;
 use std::alloc::{AllocError, Global};
-
-/// What a server can do, as it says where it is initialised.
-const CAPABILITIES: &str =
-    "{\"capabilities\":{\"positionEncoding\":\"utf-16\",\"textDocumentSync\":{\"openClose\":true,\"change\":1},\"documentFormattingProvider\":true,\"codeActionProvider\":{\"codeActionKinds\":[\"quickfix\"]},\"documentSymbolProvider\":true,\"foldingRangeProvider\":true,\"completionProvider\":{\"triggerCharacters\":[\".\"]},\"signatureHelpProvider\":{\"triggerCharacters\":[\"(\",\",\"]}},\"serverInfo\":{\"name\":\"lus_lsp\",\"version\":\"0.1.0\"}}";
 
 /// Why a request isn't done at a stage, whatever it asks.
 fn stage_problem(stage: Stage, is_initialize: bool) -> Option<Problem>
