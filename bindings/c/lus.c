@@ -4,6 +4,7 @@
 
 typedef lus_handle H;
 lus_status lus_raw_compile(const uint8_t *, size_t, H *, lus_refusal *, uint8_t *, size_t);
+lus_status lus_raw_explain(const uint8_t *, size_t, const uint8_t *, size_t, uint8_t *, size_t, uint64_t *);
 lus_status lus_raw_nodes(H *, uint32_t *);
 lus_status lus_raw_node(H *, const uint8_t *, size_t, uint32_t *);
 lus_status lus_raw_node_name(H *, uint32_t, uint64_t *, uint8_t *, size_t);
@@ -46,6 +47,10 @@ lus_status lus_compile(const char *text, size_t n, H *out, lus_refusal *refusal,
     lus_refusal own;
     NEED((text || !n) && out && (names || !room));
     return lus_raw_compile(BYTES(text, n), n, out, refusal ? refusal : &own, BYTES(names, room), room);
+}
+lus_status lus_explain(const char *text, size_t n, const char *name, size_t m, char *explanation, size_t room, uint64_t *bytes) {
+    NEED((text || !n) && (name || !m) && (explanation || !room) && bytes);
+    return lus_raw_explain(BYTES(text, n), n, BYTES(name, m), m, BYTES(explanation, room), room, bytes);
 }
 lus_status lus_nodes(H *p, uint32_t *count) { NEED(p && count); return lus_raw_nodes(p, count); }
 lus_status lus_node(H *p, const char *name, size_t n, uint32_t *node) {

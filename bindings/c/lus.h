@@ -35,7 +35,7 @@ typedef enum {
     LUS_BUSY = 1,     /* no entry was made: another seat has the machine */
     LUS_MEMORY = 2,   /* no entry was made: out of memory */
     LUS_FULL = 3,     /* no entry was made: the history has 4,294,967,295 entries */
-    LUS_REFUSED = 4,  /* the text is refused: see lus_refusal */
+    LUS_REFUSED = 4,  /* the text is refused: see lus_refusal and lus_explain */
     LUS_NO_SUCH = 5,  /* there is none of this name or number */
     LUS_VALUE = 6,    /* no entry was made: the inputs are no row of values, there is no such request, or a line is none of the next entry */
     LUS_SHORT = 7,    /* done, but an array is too short: answer->count, or the like, says how long it has to be */
@@ -83,6 +83,11 @@ typedef struct {
 
 /* The program of a text of `bytes` bytes. `refusal` may be null, and `names` where `room` is 0. */
 lus_status lus_compile(const char *text, size_t bytes, lus_program *program, lus_refusal *refusal, char *names, size_t room);
+
+/* Why a text is refused, as the program `lus_explain` says it of a file of this name, without a 0 behind it: the place, what is wrong,
+ * the line, and notes. `bytes` is how long it is. LUS_NO_SUCH where the text is accepted. */
+lus_status lus_explain(const char *text, size_t text_bytes, const char *name, size_t name_bytes, char *explanation, size_t room,
+                       uint64_t *bytes);
 
 /* Nodes have numbers from 0. Names are written without a 0 behind them, as far as `room` goes; `bytes` is how long they are. */
 lus_status lus_nodes(lus_program *, uint32_t *count);

@@ -68,11 +68,11 @@ class Busy(Error):
 
 
 class Refused(Error):
-    """The text is refused: its number, the place, and for a cycle the variables."""
+    """The text is refused: its number, the place, for a cycle the variables, and the explanation that `lus_explain` prints."""
 
-    def __init__(self, number, line, column, cycle):
+    def __init__(self, number, line, column, cycle, explanation):
         super().__init__(REFUSED)
-        self.number, self.line, self.column, self.cycle = number, line, column, cycle
+        self.number, self.line, self.column, self.cycle, self.explanation = number, line, column, cycle, explanation
 
     def __str__(self):
         cycle = ", a cycle of " + ", ".join(self.cycle) if self.cycle else ""
@@ -91,6 +91,7 @@ _H, _N, _U32, _U64, _S = c.POINTER(Handle), c.c_size_t, c.POINTER(c.c_uint32), c
 _VALUES = c.POINTER(_Value)
 _CALLS = {
     "compile": [_S, _N, _H, c.POINTER(_Refusal), _S, _N],
+    "explain": [_S, _N, _S, _N, _S, _N, _U64],
     "nodes": [_H, _U32],
     "node": [_H, _S, _N, _U32],
     "node_name": [_H, c.c_uint32, _U64, _S, _N],
@@ -136,6 +137,18 @@ _lus = _load()
 def _must(status):
     if status != OK:
         raise Error(status)
+
+
+def _text_of(call, *arguments):
+    """A text of the library's, for which a call says how long it is."""
+    count, room = c.c_uint64(), 256
+    while True:
+        text = c.create_string_buffer(room)
+        status = call(*arguments, text, room, count)
+        if status != SHORT:
+            _must(status)
+            return text.raw[: count.value].decode()
+        room = count.value
 
 
 class _Owner:
@@ -262,9 +275,9 @@ class Node:
 
 
 class Program(_Owner):
-    """The program of a text, or Refused."""
+    """The program of a text, or Refused, whose explanation says `name` before the place."""
 
-    def __init__(self, text):
+    def __init__(self, text, name="text"):
         super().__init__()
         text = text.encode() if isinstance(text, str) else bytes(text)
         why, room = _Refusal(), 1024
@@ -277,7 +290,9 @@ class Program(_Owner):
             break
         if status == REFUSED:
             cycle = names.raw[: why.bytes].decode().split("\0")[:-1]
-            raise Refused(why.number, why.line, why.column, cycle)
+            name = name.encode()
+            explanation = _text_of(_lus.lus_explain, text, len(text), name, len(name))
+            raise Refused(why.number, why.line, why.column, cycle, explanation)
         _must(status)
         self._types = _Types(self._handle)
         count = c.c_uint32()
@@ -449,15 +464,8 @@ class Live(_Callable):
     def line(self, caller):
         """The line of the last call's entry in a journal, with its line feed."""
         caller = caller.encode()
-        count = c.c_uint64()
-        text = c.create_string_buffer(256)
         with self._lock:
-            status = _lus.lus_live_line(self._handle, caller, len(caller), text, 256, count)
-            if status == SHORT:
-                text = c.create_string_buffer(count.value)
-                status = _lus.lus_live_line(self._handle, caller, len(caller), text, count.value, count)
-        _must(status)
-        return text.raw[: count.value].decode()
+            return _text_of(_lus.lus_live_line, self._handle, caller, len(caller))
 
     def replay(self, line):
         """Makes the entry of a line of a journal, with its line feed, where it is the right next one. Otherwise it is an Error whose
@@ -557,11 +565,5 @@ class Journal(_Owner):
         """The journal as `lus` prints it and `lus_draw` reads it."""
         instance = instance.encode()
         names = b"".join(name.encode() + b"\0" for name in callers)
-        count = c.c_uint64()
         with self._lock:
-            status = _lus.lus_journal_text(self._handle, instance, len(instance), names, len(names), None, 0, count)
-            if status != SHORT:
-                _must(status)
-            text = c.create_string_buffer(count.value)
-            _must(_lus.lus_journal_text(self._handle, instance, len(instance), names, len(names), text, count.value, count))
-        return text.raw[: count.value].decode()
+            return _text_of(_lus.lus_journal_text, self._handle, instance, len(instance), names, len(names))

@@ -14,7 +14,9 @@ void *__wrap_realloc(void *p, size_t n) { return left > 0 && --left == 0 ? 0 : _
 
 static const char text[] = "node t(x: int) returns (n: int); let n = x -> pre n + x; tel\n";
 
-static char lines[128];
+static const char wrong[] = "node t(x: int) returns (n: int); let n = pre x; tel\n";
+
+static char lines[128], why[1024];
 
 static lus_status run(void) {
     lus_program program = LUS_NONE;
@@ -25,7 +27,8 @@ static lus_status run(void) {
     lus_value in = {LUS_INT, 0, 5}, out;
     lus_answer answer;
     uint64_t bytes;
-    lus_status status = lus_compile(text, strlen(text), &program, 0, 0, 0);
+    lus_status status = lus_explain(wrong, strlen(wrong), "t", 1, why, sizeof why, &bytes);
+    if (!status) status = lus_compile(text, strlen(text), &program, 0, 0, 0);
     if (!status) status = lus_open(&program, 0, seats, 2);
     if (!status) status = lus_try_step(&seats[0], &in, 1, &answer, &out, 1);
     if (!status) status = lus_try_step(&seats[1], &in, 1, &answer, &out, 1);

@@ -11,6 +11,8 @@ static const char text[] =
     "  minutes = if heat then (0 -> pre minutes) + 1 else 0;\n"
     "tel\n";
 
+static const char wrong[] = "node n(x: int) returns (y: int); let y = z; tel";
+
 static void must(lus_status status) {
     if (status != LUS_OK) { printf("status %d\n", status); exit(1); }
 }
@@ -21,7 +23,9 @@ int main(void) {
     lus_journal journal = LUS_NONE;
     uint32_t node;
     uint64_t bytes;
-    char lines[256];
+    char lines[1024];
+    must(lus_explain(wrong, strlen(wrong), "wrong.lus", 9, lines, sizeof lines, &bytes));
+    fwrite(lines, 1, bytes, stdout);
     must(lus_compile(text, strlen(text), &program, 0, 0, 0));
     must(lus_node(&program, "thermostat", 10, &node));
     must(lus_open(&program, node, &seat, 1));

@@ -53,6 +53,14 @@ static void wrong_uses(lus_program *program, lus_seat *one) {
     printf("refused E%u line %u column %u, a cycle of %u:", refusal.number, refusal.line, refusal.column, refusal.cycle);
     for (char *name = names; name < names + refusal.bytes; name += strlen(name) + 1) printf(" %s", name);
     printf("\n");
+    GIVES(lus_explain(cyclic, sizeof cyclic - 1, "cyclic", 6, names, sizeof names, &bytes), LUS_SHORT);
+    char *explanation = malloc(bytes);
+    MUST(lus_explain(cyclic, sizeof cyclic - 1, "cyclic", 6, explanation, bytes, &bytes));
+    printf("%.*s", (int)bytes, explanation);
+    free(explanation);
+    GIVES(lus_explain(text, sizeof text - 1, "text", 4, names, sizeof names, &bytes), LUS_NO_SUCH);
+    GIVES(lus_explain(cyclic, sizeof cyclic - 1, "\xff", 1, names, sizeof names, &bytes), LUS_TEXT);
+    GIVES(lus_explain(cyclic, sizeof cyclic - 1, 0, 4, names, sizeof names, &bytes), LUS_HANDLE);
     GIVES(lus_compile("\xff", 1, &other, 0, 0, 0), LUS_TEXT);
     GIVES(lus_compile(0, 5, &other, 0, 0, 0), LUS_HANDLE);
     GIVES(lus_compile(text, sizeof text - 1, program, 0, 0, 0), LUS_HANDLE);

@@ -25,21 +25,43 @@ struct Owner {
     ~Owner() { lus_free(&handle); }
 };
 
-// The line of the last entry.
-static std::string line_of(lus_live &live, const std::string &caller) {
+// A text of the library's, for which a call says how long it is.
+template <typename Call> static std::string text_of(Call call) {
     std::string text(64, ' ');
     uint64_t bytes;
-    lus_status status = lus_live_line(&live, caller.data(), caller.size(), text.data(), text.size(), &bytes);
-    text.resize(bytes);
-    if (status == LUS_SHORT) status = lus_live_line(&live, caller.data(), caller.size(), text.data(), text.size(), &bytes);
+    lus_status status;
+    while ((status = call(text.data(), text.size(), &bytes)) == LUS_SHORT) text.resize(bytes);
     must(status);
+    text.resize(bytes);
     return text;
+}
+
+// The line of the last entry.
+static std::string line_of(lus_live &live, const std::string &caller) {
+    return text_of([&](char *text, size_t room, uint64_t *bytes) {
+        return lus_live_line(&live, caller.data(), caller.size(), text, room, bytes);
+    });
+}
+
+// The program of a text, or why it is refused.
+static void compile(const std::string &name, const std::string &text, lus_program &program) {
+    lus_status status = lus_compile(text.data(), text.size(), &program, nullptr, nullptr, 0);
+    if (status == LUS_REFUSED)
+        throw std::invalid_argument(text_of([&](char *explanation, size_t room, uint64_t *bytes) {
+            return lus_explain(text.data(), text.size(), name.data(), name.size(), explanation, room, bytes);
+        }));
+    must(status);
 }
 
 int main() {
     Owner program, seat, journal, live;
     uint32_t node;
-    must(lus_compile(text.data(), text.size(), &program.handle, nullptr, nullptr, 0));
+    try {
+        compile("wrong.lus", "node n(x: int) returns (y: int); let y = z; tel", program.handle);
+    } catch (const std::invalid_argument &refusal) {
+        std::cout << refusal.what();
+    }
+    compile("thermostat.lus", text, program.handle);
     must(lus_node(&program.handle, "thermostat", 10, &node));
     must(lus_open(&program.handle, node, &seat.handle, 1));
     for (int64_t temperature : {18, 20, 23}) {

@@ -10,9 +10,9 @@ tel
 """
 
 try:
-    lus.Program("node n(x: int) returns (y: int); let y = pre x; tel")
+    lus.Program("node n(x: int) returns (y: int); let y = z; tel")
 except lus.Refused as refusal:
-    print(refusal)
+    print(refusal.explanation, end="")
 
 program = lus.Program(TEXT)
 seat, = program.open("thermostat")

@@ -14,8 +14,8 @@ fn step(seat: &mut Seat, temperature: i64) -> Result<Reply, lus::Error> {
 }
 
 fn main() -> Result<(), Box<dyn Error>> {
-    if let Err(refusal) = Program::new("node n(x: int) returns (y: int); let y = pre x; tel") {
-        println!("{refusal}");
+    if let Err(lus::Error::Refused(refusal)) = Program::new("node n(x: int) returns (y: int); let y = z; tel") {
+        print!("{}", refusal.explanation);
     }
     let program = Program::new(TEXT)?;
     let mut seats = program.open(program.node("thermostat")?, 2)?;

@@ -1,13 +1,15 @@
 //! Why a call gave nothing.
 use std::fmt;
 
-/// Why a text is refused: the number of the rule (E1 to E11), the place, and for a cycle its variables.
+/// Why a text is refused: the number of the rule (E1 to E11), the place, for a cycle its variables, and the explanation, which
+/// `lus_explain` prints: several lines, each with its line feed.
 #[derive(Clone, Debug, PartialEq, Eq)]
 pub struct Refusal {
     pub number: u32,
     pub line: u32,
     pub column: u32,
     pub cycle: Vec<String>,
+    pub explanation: String,
 }
 
 impl fmt::Display for Refusal {

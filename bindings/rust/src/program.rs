@@ -50,6 +50,14 @@ pub(crate) fn text_of(mut call: impl FnMut(&mut u64, &mut [u8]) -> u32) -> Resul
     }
 }
 
+/// What is said of a text that is refused.
+fn explanation_of(name: &str, text: &str) -> Result<String, Error> {
+    text_of(|bytes, room| unsafe {
+        let (name, m) = (name.as_ptr(), name.len());
+        raw::lus_explain(text.as_ptr(), text.len(), name, m, room.as_mut_ptr(), room.len(), bytes)
+    })
+}
+
 fn kind_of(formal: &raw::Formal) -> Kind {
     match formal.kind {
         1 => Kind::Bool,
@@ -85,6 +93,11 @@ fn formals_of(mut call: impl FnMut(u32, &mut raw::Formal, &mut [u8]) -> u32) -> 
 impl Program {
     /// The program of a text.
     pub fn new(text: &str) -> Result<Program, Error> {
+        Program::with_name("text", text)
+    }
+
+    /// The program of a text; where it is refused, the explanation says this name before the place.
+    pub fn with_name(name: &str, text: &str) -> Result<Program, Error> {
         let (mut handle, mut why) = (Handle::NONE, Refused::default());
         let mut names = vec![0; 1024];
         loop {
@@ -98,7 +111,8 @@ impl Program {
                 let cycle = names[..why.bytes as usize].split(|byte| *byte == 0);
                 let cycle = cycle.take(why.cycle as usize).map(|name| String::from_utf8_lossy(name).into_owned());
                 let Refused { number, line, column, .. } = why;
-                return Err(Error::Refused(Refusal { number, line, column, cycle: cycle.collect() }));
+                let (cycle, explanation) = (cycle.collect(), explanation_of(name, text)?);
+                return Err(Error::Refused(Refusal { number, line, column, cycle, explanation }));
             }
             check(status, 0)?;
             return Ok(Program { handle: Mutex::new(handle) });

@@ -75,6 +75,15 @@ pub(crate) struct Entered {
 
 unsafe extern "C" {
     pub(crate) fn lus_compile(text: *const u8, n: usize, out: &mut Handle, why: &mut Refused, names: *mut u8, room: usize) -> u32;
+    pub(crate) fn lus_explain(
+        text: *const u8,
+        n: usize,
+        name: *const u8,
+        length: usize,
+        explanation: *mut u8,
+        room: usize,
+        bytes: &mut u64,
+    ) -> u32;
     pub(crate) fn lus_nodes(program: &mut Handle, count: &mut u32) -> u32;
     pub(crate) fn lus_node_name(program: &mut Handle, node: u32, bytes: &mut u64, name: *mut u8, room: usize) -> u32;
     pub(crate) fn lus_formals(program: &mut Handle, node: u32, inputs: &mut u32, outputs: &mut u32) -> u32;

@@ -1,10 +1,10 @@
 //! Instances that are opened, and calls at them.
 ghost use Rattle.std.specs.Prelude.{◌≡◌, ◌⊎◌, ◌≤◌, ◌<◌, length};
-ghost use Rattle.lus_foreign.specs.Held.{IsOkay, HeldSees};
-ghost use Rattle.lus_foreign.specs.Opened.{HeldOpens, HeldLacks};
-ghost use Rattle.lus_foreign.specs.Served.{IsEntered, IsBusy, IsFull, IsNone, IsShort, IsValue, NoneSpelled, HeldEnters, HeldWaits, HeldMisses, HeldTold, HeldUntold, HeldNumbered};
+ghost use Rattle.lus_foreign_reports.specs.ForeignSpecs.Held.{IsOkay, HeldSees};
+ghost use Rattle.lus_foreign_reports.specs.ForeignSpecs.Opened.{HeldOpens, HeldLacks};
+ghost use Rattle.lus_foreign_reports.specs.ForeignSpecs.Served.{IsEntered, IsBusy, IsFull, IsNone, IsShort, IsValue, NoneSpelled, HeldEnters, HeldWaits, HeldMisses, HeldTold, HeldUntold, HeldNumbered};
 
-use lus_foreign::Handle;
+use lus_foreign_reports::lus_foreign::{self, Handle};
 use lus_leaves::{Answer, Leaf};
 use std::alloc::Global;
 

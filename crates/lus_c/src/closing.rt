@@ -1,10 +1,10 @@
 //! Seats that are gathered, and the end of their instance.
 ghost use Rattle.std.specs.Prelude.{◌≡◌, ◌⊎◌, None};
-ghost use Rattle.lus_foreign.specs.Held.{IsOkay, HeldEnds, HeldGathers, HeldIsEmpty};
-ghost use Rattle.lus_foreign.specs.Opened.{HeldPops};
-ghost use Rattle.lus_foreign.specs.Owed.{BothTell};
+ghost use Rattle.lus_foreign_reports.specs.ForeignSpecs.Held.{IsOkay, HeldEnds, HeldGathers, HeldIsEmpty};
+ghost use Rattle.lus_foreign_reports.specs.ForeignSpecs.Opened.{HeldPops};
+ghost use Rattle.lus_foreign_reports.specs.ForeignSpecs.Owed.{BothTell};
 
-use lus_foreign::Handle;
+use lus_foreign_reports::lus_foreign::{self, Handle};
 use std::alloc::Global;
 
 /// The last of the seats that are together, in `seat`.

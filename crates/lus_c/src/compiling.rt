@@ -1,8 +1,8 @@
 //! Texts become programs, or are refused.
-ghost use Rattle.lus_foreign.specs.Held.{IsOkay, IsRefusal, HeldAccepted};
-ghost use Rattle.lus_foreign.specs.Refusals.{IsRefused, TellsRefusal};
+ghost use Rattle.lus_foreign_reports.specs.ForeignSpecs.Held.{IsOkay, IsRefusal, HeldAccepted};
+ghost use Rattle.lus_foreign_reports.specs.ForeignSpecs.Refusals.{IsRefused, TellsRefusal};
 
-use lus_foreign::{Handle, Refused};
+use lus_foreign_reports::lus_foreign::{self, Handle, Refused};
 use std::alloc::Global;
 
 /// The program of a text, in `out`; or why it is refused, with the names of a cycle's variables.

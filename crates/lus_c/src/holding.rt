@@ -1,9 +1,9 @@
 //! Seats that meet, and seats that have the machine to themselves.
-ghost use Rattle.lus_foreign.specs.Held.{IsOkay};
-ghost use Rattle.lus_foreign.specs.Owed.{HeldSeatsTell};
-ghost use Rattle.lus_foreign.specs.Met.{HeldMeet, HeldHolds, HeldReleases};
+ghost use Rattle.lus_foreign_reports.specs.ForeignSpecs.Held.{IsOkay};
+ghost use Rattle.lus_foreign_reports.specs.ForeignSpecs.Owed.{HeldSeatsTell};
+ghost use Rattle.lus_foreign_reports.specs.ForeignSpecs.Met.{HeldMeet, HeldHolds, HeldReleases};
 
-use lus_foreign::Handle;
+use lus_foreign_reports::lus_foreign::{self, Handle};
 use std::alloc::Global;
 
 /// Lets two seats of one instance have seen the same.

@@ -1,10 +1,10 @@
 //! The entries of instances that were closed.
 ghost use Rattle.std.specs.Prelude.{◌≡◌, ◌≤◌, length};
-ghost use Rattle.lus_foreign.specs.Held.{IsOkay};
-ghost use Rattle.lus_foreign.specs.Served.{IsEntered, IsNone};
-ghost use Rattle.lus_foreign.specs.Kept.{HeldTellsEntry, HeldCounts, HeldEndsBefore};
+ghost use Rattle.lus_foreign_reports.specs.ForeignSpecs.Held.{IsOkay};
+ghost use Rattle.lus_foreign_reports.specs.ForeignSpecs.Served.{IsEntered, IsNone};
+ghost use Rattle.lus_foreign_reports.specs.ForeignSpecs.Kept.{HeldTellsEntry, HeldCounts, HeldEndsBefore};
 
-use lus_foreign::Handle;
+use lus_foreign_reports::lus_foreign::{self, Handle};
 use lus_leaves::{EntryOut, Leaf};
 use std::alloc::Global;
 

@@ -4,6 +4,7 @@
 mod calls;
 mod closing;
 mod compiling;
+mod explaining;
 mod holding;
 mod journals;
 mod live;

@@ -1,14 +1,14 @@
 //! Instances whose entries are handed out.
 ghost use Rattle.std.specs.Prelude.{◌≡◌, ◌⊎◌, ◌≤◌, length, IsUtf8};
-ghost use Rattle.lus_live_node.specs.LiveNodes.{IsNone as IsNoEntry, IsOther, last_line};
-ghost use Rattle.lus_foreign.specs.Held.{IsOkay};
-ghost use Rattle.lus_foreign.specs.Opened.{HeldLacks};
-ghost use Rattle.lus_foreign.specs.Queries.{IsText};
-ghost use Rattle.lus_foreign.specs.Served.{IsEntered, IsNone, IsValue, NoneSpelled};
-ghost use Rattle.lus_foreign.specs.Texts.{FoundIsTold, IsMemory};
-ghost use Rattle.lus_foreign.specs.Lives.{HeldEntersLive, HeldOpensLive, HeldReplays, IsWrong, LastIsTold, LiveIsCounted, OfHeldLive};
+ghost use Rattle.lus_foreign_reports.specs.LiveNodeSpecs.LiveNodes.{IsNone as IsNoEntry, IsOther, last_line};
+ghost use Rattle.lus_foreign_reports.specs.ForeignSpecs.Held.{IsOkay};
+ghost use Rattle.lus_foreign_reports.specs.ForeignSpecs.Opened.{HeldLacks};
+ghost use Rattle.lus_foreign_reports.specs.ForeignSpecs.Queries.{IsHandle, IsText};
+ghost use Rattle.lus_foreign_reports.specs.ForeignSpecs.Served.{IsEntered, IsFull, IsNone, IsValue, NoneSpelled};
+ghost use Rattle.lus_foreign_reports.specs.ForeignSpecs.Texts.{FoundIsTold, IsMemory};
+ghost use Rattle.lus_foreign_reports.specs.ForeignSpecs.Lives.{HasNoNumber, HeldEntersLive, HeldOpensLive, HeldReplays, IsWrong, LastIsTold, LiveIsCounted, OfHeldLive};
 
-use lus_foreign::Handle;
+use lus_foreign_reports::lus_foreign::{self, Handle};
 use lus_leaves::{Answer, EntryOut, Leaf};
 use std::alloc::Global;
 
@@ -43,6 +43,8 @@ pub extern "C" fn lus_raw_live_call(
     ensures room { IsOkay result → answer.new.count ≤ length outputs.new }
     ensures missed { IsEntered result ⊎ (live.new.kept.held ≡ live.old.kept.held) }
     ensures valued { IsValue result → NoneSpelled kind slot inputs.now }
+    ensures full { IsFull result → OfHeldLive live.old.kept.held result HasNoNumber }
+    ensures handle { OfHeldLive live.old.kept.held result (λ l. IsHandle result → ⊥) }
 {
     lus_foreign::live_call(alloc, live, kind, slot, inputs, answer, outputs)
 }
@@ -54,6 +56,8 @@ pub extern "C" fn lus_raw_live_replay(alloc: Global, live: &mut Handle, line: &[
     ensures other { IsWrong result → OfHeldLive live.old.kept.held result (λ l. IsOther line.now l.instance) }
     ensures none { IsValue result → OfHeldLive live.old.kept.held result (λ l. IsNoEntry line.now l.instance) }
     ensures missed { IsOkay result ⊎ (live.new.kept.held ≡ live.old.kept.held) }
+    ensures full { IsFull result → OfHeldLive live.old.kept.held result HasNoNumber }
+    ensures handle { OfHeldLive live.old.kept.held result (λ l. IsHandle result → ⊥) }
 {
     lus_foreign::live_replay(alloc, live, line)
 }

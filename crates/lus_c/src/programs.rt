@@ -1,10 +1,10 @@
 //! What programs say of their nodes and types.
 ghost use Rattle.std.specs.Prelude.{◌≡◌, None, MatchOption, slice_get};
-ghost use Rattle.lus_foreign.specs.Held.{IsOkay};
-ghost use Rattle.lus_foreign.specs.Queries.{FormalIsTold, FormalsAreTold, IsHandle, NameIsTold, NodeIsTold, NodesAreTold, OfHeldProgram};
-ghost use Rattle.lus_foreign.specs.Queries.{constructor_at, field_at, input_at, node_name_at, output_at};
+ghost use Rattle.lus_foreign_reports.specs.ForeignSpecs.Held.{IsOkay};
+ghost use Rattle.lus_foreign_reports.specs.ForeignSpecs.Queries.{FormalIsTold, FormalsAreTold, IsHandle, NameIsTold, NodeIsTold, NodesAreTold, OfHeldProgram};
+ghost use Rattle.lus_foreign_reports.specs.ForeignSpecs.Queries.{constructor_at, field_at, input_at, node_name_at, output_at};
 
-use lus_foreign::{FormalOut, Handle};
+use lus_foreign_reports::lus_foreign::{self, FormalOut, Handle};
 use std::alloc::Global;
 
 /// How many nodes a program has.

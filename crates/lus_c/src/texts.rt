@@ -1,9 +1,9 @@
 //! Texts of rows, of entries and of journals.
 ghost use Rattle.std.specs.Prelude.{◌≡◌, ◌⊎◌, IsUtf8};
-ghost use Rattle.lus_foreign.specs.Queries.{IsText, OfHeldProgram};
-ghost use Rattle.lus_foreign.specs.Texts.{FoundIsTold, IsMemory, OfHeldJournal, RowIsTold, closed_line, closed_text, names_behind};
+ghost use Rattle.lus_foreign_reports.specs.ForeignSpecs.Queries.{IsText, OfHeldProgram};
+ghost use Rattle.lus_foreign_reports.specs.ForeignSpecs.Texts.{FoundIsTold, IsMemory, OfHeldJournal, RowIsTold, closed_line, closed_text, names_behind};
 
-use lus_foreign::Handle;
+use lus_foreign_reports::lus_foreign::{self, Handle};
 use lus_leaves::Leaf;
 use std::alloc::Global;
 
