@@ -17,7 +17,7 @@ pub words_end : (read_fails : Known → Type 0) (known : Text → Known) (output
 words_end read_fails known output told status words.Mistaken None nothing untouched line = (untouched, inl line)
 words_end read_fails known output told status words.Memory None nothing untouched line = (untouched, inr line)
 words_end read_fails known output told status words.Mistaken (Some asked) nothing untouched line = let no : Some asked ≡ None = nothing refl in cc
-words_end read_fails known output told status words.Memory (Some (explain is_json program scripts)) nothing untouched line = record {
+words_end read_fails known output told status words.Memory (Some (explain form program scripts)) nothing untouched line = record {
   outcome = Err faults.Memory;
   ends = (tt, untouched);
   told = line;

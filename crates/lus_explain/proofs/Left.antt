@@ -16,9 +16,16 @@ use Rattle.lus_reports.specs.Verdicts as verdicts
 use Rattle.lus_reports.specs.Verdicts.{AreJudged, IsVerdict, Named, Said, SaysRefused, are_judged, are_refused, are_scripts, is_accepted, named}
 use Rattle.lus_explain.specs.Lines as lines
 use Rattle.lus_explain.specs.Lines.{AreJudgedInLines, IsVerdictAs, IsVerdictInLines}
+use Rattle.lus_explain.specs.Warned.{IsToldAs, IsWarned}
+use Rattle.lus_explain.specs.declared.words.Form.{Form}
 use Rattle.lus_explain.specs.Skeletons as skeletons
 use Rattle.lus_explain.specs.Skeletons.{IsAnswer, is_of}
 use Rattle.lus_explain.specs.declared.script.Script.{Script}
+
+-- what is said before the warnings may be said otherwise
+warned_then : (warns : Bool) (P Q : Said → Type 0) → ((before : Said) → P before → Q before) → (said : Said) → IsWarned warns P said → IsWarned warns Q said
+warned_then false P Q f said p = f said p
+warned_then true P Q f said (before, p, adds) = (before, f before p, adds)
 
 module _ (m n : ℕ) (is : m ≡ most_bytes) (next : n ≡ m + 1) (bytes left : Bytes) (read : bytes ≡ take n left) where
   whole : length bytes ≤ most_bytes → bytes ≡ left
@@ -78,15 +85,27 @@ module _ (m n : ℕ) (is : m ≡ most_bytes) (next : n ≡ m + 1) (bytes left : 
   lines_scripts_so program name said (lines.is_refused r line other explained status text) = lines.is_refused r line other explained status text
   lines_scripts_so program name said (lines.are_judged p a judged) = lines.are_judged p a (lines_judged_left p name said judged)
 
-  pub said_left : (is_json : Bool) (name : Text) (said : Said) (scripts : Option Named) → IsVerdictAs is_json (named name bytes) said scripts
+  said_left : (is_json : Bool) (name : Text) (said : Said) (scripts : Option Named) → IsVerdictAs is_json (named name bytes) said scripts
       → IsVerdictAs is_json (named name left) said scripts
   said_left true name said scripts verdict = lines_left name said verdict
   said_left false name said scripts verdict = verdict_left name said verdict
 
-  pub scripts_said_left : (is_json : Bool) (program : Named) (name : Text) (said : Said) → IsVerdictAs is_json program said (Some (named name bytes))
+  scripts_said_left : (is_json : Bool) (program : Named) (name : Text) (said : Said) → IsVerdictAs is_json program said (Some (named name bytes))
       → IsVerdictAs is_json program said (Some (named name left))
   scripts_said_left true program name said verdict = lines_scripts_so program name said verdict
   scripts_said_left false program name said verdict = scripts_so program name said verdict
+
+  pub told_left : (form : Form) (name : Text) (said : Said) (scripts : Option Named) → IsToldAs form (named name bytes) said scripts
+      → IsToldAs form (named name left) said scripts
+  told_left form name said scripts =
+      warned_then form.warns (λ before. IsVerdictAs form.is_json (named name bytes) before scripts)
+      (λ before. IsVerdictAs form.is_json (named name left) before scripts) (λ before. said_left form.is_json name before scripts) said
+
+  pub scripts_told_left : (form : Form) (program : Named) (name : Text) (said : Said) → IsToldAs form program said (Some (named name bytes))
+      → IsToldAs form program said (Some (named name left))
+  scripts_told_left form program name said =
+      warned_then form.warns (λ before. IsVerdictAs form.is_json program before (Some (named name bytes)))
+      (λ before. IsVerdictAs form.is_json program before (Some (named name left))) (λ before. scripts_said_left form.is_json program name before) said
 
   pub answer_left : (name node : Text) {s : Script} → IsAnswer (named name bytes) node s → IsAnswer (named name left) node s
   answer_left name node (is_of p a script) = is_of p (accepted_so p a) script

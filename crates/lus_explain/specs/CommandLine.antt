@@ -3,6 +3,7 @@ use Rattle.std.specs.Prelude.{Bool, List, Option, Some, None, option_map, codes,
 use Rattle.clap.specs.Words.{App, Row, new_rule, with_rule, first_of}
 use Rattle.lus_syntax.specs.Lexemes.{Text}
 use Rattle.lus_reports.specs.CliSpecs.CommandLine.{asked_of, bare, is_set, with_flag, with_optional, with_required}
+use Rattle.lus_explain.specs.declared.words.Form.{Form}
 use Rattle.lus_explain.specs.declared.words.Task.{Task}
 use Rattle.lus_explain.specs.declared.words.Task.TheVariants as tasks
 
@@ -10,27 +11,31 @@ use Rattle.lus_explain.specs.declared.words.Task.TheVariants as tasks
 abbrev pub with_value : Text → App → App
 with_value name app = with_rule app (record (new_rule name) { long = Some name })
 
--- a flag `--json`, an option `--script NODE`, a required PROGRAM and an optional SCRIPTS
+-- flags `--json` and `--warnings`, an option `--script NODE`, a required PROGRAM and an optional SCRIPTS
 abbrev pub the_command : App
-the_command = with_optional (codes "SCRIPTS") (with_required (codes "PROGRAM") (with_value (codes "script") (with_flag (codes "json") (bare (codes "lus_explain")))))
+the_command =
+    with_optional (codes "SCRIPTS") (with_required (codes "PROGRAM")
+    (with_value (codes "script") (with_flag (codes "warnings") (with_flag (codes "json") (bare (codes "lus_explain"))))))
 
--- a well formed line asks what there is to say of a program, and perhaps of scripts for it, as JSON or not; or for scripts to begin
--- from, for the node of this name of a program
+-- a well formed line asks what there is to say of a program, and perhaps of scripts for it, in this form; or for scripts to begin from,
+-- for the node of this name of a program
 pub data Asked : Type 0 where
-  explain : (is_json : Bool) → (program : Text) → (scripts : Option Text) → Asked
+  explain : (form : Form) → (program : Text) → (scripts : Option Text) → Asked
   script : (node program : Text) → Asked
 
--- where scripts to begin from are asked for there are no others, and no JSON is asked for
-abbrev pub chosen : Bool → Option Text → Option Text → Option Text → Option Asked
-chosen is_json None (Some program) scripts = Some (explain is_json program scripts)
-chosen false (Some node) (Some program) None = Some (script node program)
-chosen false (Some node) (Some program) (Some scripts) = None
-chosen true (Some node) (Some program) scripts = None
-chosen is_json None None scripts = None
-chosen is_json (Some node) None scripts = None
+-- where scripts to begin from are asked for there are no others, and neither JSON nor warnings are asked for
+abbrev pub chosen : Bool → Bool → Option Text → Option Text → Option Text → Option Asked
+chosen is_json warns None (Some program) scripts = Some (explain (record { is_json = is_json; warns = warns }) program scripts)
+chosen false false (Some node) (Some program) None = Some (script node program)
+chosen false false (Some node) (Some program) (Some scripts) = None
+chosen false true (Some node) (Some program) scripts = None
+chosen true warns (Some node) (Some program) scripts = None
+chosen is_json warns None None scripts = None
+chosen is_json warns (Some node) None scripts = None
 
 abbrev pub said : List Row → Option Asked
-said m = chosen (is_set (codes "json") m) (first_of (codes "script") m) (first_of (codes "PROGRAM") m) (first_of (codes "SCRIPTS") m)
+said m =
+    chosen (is_set (codes "json") m) (is_set (codes "warnings") m) (first_of (codes "script") m) (first_of (codes "PROGRAM") m) (first_of (codes "SCRIPTS") m)
 
 -- what the words after the program's own name ask for, where they are well formed
 unfoldable pub asked : List Text → Option Asked
@@ -38,5 +43,5 @@ asked = asked_of the_command said
 
 -- a task as plain data
 abbrev pub task_seen : Task → Asked
-task_seen (tasks.Explain is_json program scripts) = explain is_json program.now (option_map (λ s. s.now) scripts)
+task_seen (tasks.Explain form program scripts) = explain form program.now (option_map (λ s. s.now) scripts)
 task_seen (tasks.Script node program) = script node.now program.now

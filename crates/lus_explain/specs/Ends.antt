@@ -1,5 +1,5 @@
 -- How the command ends: what is said of the files or written for them, or which fault ended it.
-use Rattle.std.specs.Prelude.{◌≡◌, ◌⊎◌, ℕ, Bool, Option, Some, None, Result, string_bytes}
+use Rattle.std.specs.Prelude.{◌≡◌, ◌⊎◌, ℕ, Option, Some, None, Result, string_bytes}
 use Rattle.lus_syntax.specs.Lexemes.{Text}
 use Rattle.lus_devices.specs.Devices.{WritesBeginning, with_text}
 use Rattle.lus_devices.specs.Folders.{Known, WithFile}
@@ -11,16 +11,17 @@ use Rattle.lus_reports.specs.CliSpecs.declared.fault.Fault.TheVariants as faults
 use Rattle.lus_reports.specs.Verdicts.{Said, named}
 use Rattle.lus_reports.specs.declared.verdict.Verdict.{Verdict}
 use Rattle.lus_explain.specs.CommandLine.{Asked, explain, script}
-use Rattle.lus_explain.specs.Lines.{IsVerdictAs}
 use Rattle.lus_explain.specs.Skeletons.{IsAnswer}
+use Rattle.lus_explain.specs.Warned.{IsToldAs}
+use Rattle.lus_explain.specs.declared.words.Form.{Form}
 use Rattle.lus_explain.specs.declared.script.Script.{Script}
 use Rattle.lus_explain.specs.declared.script.Script.TheVariants as answers
 
--- the verdict on the files of these names, where their bytes are known
-abbrev pub IsSaidOf : (Text → Known) → Bool → Text → Option Text → Said → Type 0
-IsSaidOf known is_json program None said = WithFile (known program) (λ text. IsVerdictAs is_json (named program text) said None)
-IsSaidOf known is_json program (Some scripts) said =
-    WithFiles (known program) (known scripts) (λ text bytes. IsVerdictAs is_json (named program text) said (Some (named scripts bytes)))
+-- what is said of the files of these names, where their bytes are known
+abbrev pub IsSaidOf : (Text → Known) → Form → Text → Option Text → Said → Type 0
+IsSaidOf known form program None said = WithFile (known program) (λ text. IsToldAs form (named program text) said None)
+IsSaidOf known form program (Some scripts) said =
+    WithFiles (known program) (known scripts) (λ text bytes. IsToldAs form (named program text) said (Some (named scripts bytes)))
 
 -- one of them can't be opened, or a read of it failed
 abbrev pub AreLost : (Known → Type 0) → (Text → Known) → Text → Option Text → Type 0
@@ -30,10 +31,10 @@ AreLost read_fails known program (Some scripts) = IsLost read_fails (known progr
 abbrev pub with_status : ℕ → Text → Said
 with_status status text = record { text = text; status = status }
 
--- the verdict is written, and its status is that of the command; where a file is lost or memory is out, nothing is
-abbrev pub ExplainEnds : (Known → Type 0) → (Text → Known) → Bool → Text → Option Text → Result ℕ Fault → Change → Type 0
-ExplainEnds read_fails known is_json program scripts =
-    SaysEnds (λ status text. IsSaidOf known is_json program scripts (with_status status text)) (IsReadingFault (AreLost read_fails known program scripts))
+-- what is said is written, and its status is that of the command; where a file is lost or memory is out, nothing is
+abbrev pub ExplainEnds : (Known → Type 0) → (Text → Known) → Form → Text → Option Text → Result ℕ Fault → Change → Type 0
+ExplainEnds read_fails known form program scripts =
+    SaysEnds (λ status text. IsSaidOf known form program scripts (with_status status text)) (IsReadingFault (AreLost read_fails known program scripts))
 
 -- scripts for a node of the program of this name, or why there are none, where its bytes are known
 abbrev pub IsAnswerFor : (Text → Known) → Text → Text → Script → Type 0
@@ -55,8 +56,8 @@ pub data ScriptEnds (read_fails : Known → Type 0) (known : Text → Known) (no
 
 -- how the command ends, by what the words ask for; where they ask for nothing, that is told, or that memory is out
 abbrev pub CommandEnds : (Known → Type 0) → (Text → Known) → Change → Change → ℕ → Option Asked → Type 0
-CommandEnds read_fails known output told status (Some (explain is_json program scripts)) =
-    Ends (λ s. s) (ExplainEnds read_fails known is_json program) (Some scripts) output told status
+CommandEnds read_fails known output told status (Some (explain form program scripts)) =
+    Ends (λ s. s) (ExplainEnds read_fails known form program) (Some scripts) output told status
 CommandEnds read_fails known output told status (Some (script node program)) = ScriptEnds read_fails known node program output told status
 CommandEnds read_fails known output told status None =
     IsUntouched output × (IsToldBy status faults.Words told ⊎ IsToldBy status faults.Memory told)

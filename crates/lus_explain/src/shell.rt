@@ -8,9 +8,9 @@ ghost use Rattle.lus_reports.specs.Verdicts.{verdict_seen};
 ghost use Rattle.lus_explain.specs.CommandLine.{asked};
 ghost use Rattle.lus_explain.specs.Ends.{AreLost, CommandEnds, EndsWriting, ExplainEnds, IsAnswerFor, IsSaidOf, ScriptEnds};
 
-use crate::lines::judge_as;
 use crate::script::{Script, script_for};
-use crate::words::{Task, read_words};
+use crate::warned::judge_told;
+use crate::words::{Form, Task, read_words};
 use lus_devices::{Folder, Sink, write_all};
 use lus_reports::lus_cli::{Fault, read_file, tell};
 use lus_reports::{File, Verdict};
@@ -21,17 +21,17 @@ use std::alloc::Global;
 fn judge_program<D: Folder>(
     alloc: Global,
     folder: &D,
-    is_json: bool,
+    form: Form,
     name: &str,
 ) -> Result<Verdict, Fault>
-    ensures said { IfOk result (λ v. IsSaidOf (D.known folder.now) is_json name.now None (verdict_seen v)) }
+    ensures said { IfOk result (λ v. IsSaidOf (D.known folder.now) form name.now None (verdict_seen v)) }
     ensures fault { IfErr result (λ f. IsReadingFault
         (AreLost (ReadFails D.File D.File.left D.File.failures) (D.known folder.now) name.now None) f) }
 {
     let program = read_file(alloc, folder, name, MOST_BYTES + 1)?;
-    judge_as(
+    judge_told(
         alloc,
-        is_json,
+        form,
         File {
             name,
             bytes: &program,
@@ -44,19 +44,19 @@ fn judge_program<D: Folder>(
 fn judge_both<D: Folder>(
     alloc: Global,
     folder: &D,
-    is_json: bool,
+    form: Form,
     program_name: &str,
     scripts_name: &str,
 ) -> Result<Verdict, Fault>
-    ensures said { IfOk result (λ v. IsSaidOf (D.known folder.now) is_json program_name.now (Some scripts_name.now) (verdict_seen v)) }
+    ensures said { IfOk result (λ v. IsSaidOf (D.known folder.now) form program_name.now (Some scripts_name.now) (verdict_seen v)) }
     ensures fault { IfErr result (λ f. IsReadingFault
         (AreLost (ReadFails D.File D.File.left D.File.failures) (D.known folder.now) program_name.now (Some scripts_name.now)) f) }
 {
     let program = read_file(alloc, folder, program_name, MOST_BYTES + 1)?;
     let scripts = read_file(alloc, folder, scripts_name, MOST_BYTES + 1)?;
-    judge_as(
+    judge_told(
         alloc,
-        is_json,
+        form,
         File {
             name: program_name,
             bytes: &program,
@@ -72,17 +72,17 @@ fn judge_both<D: Folder>(
 fn judge_files<D: Folder>(
     alloc: Global,
     folder: &D,
-    is_json: bool,
+    form: Form,
     program: &str,
     scripts: Option<&str>,
 ) -> Result<Verdict, Fault>
-    ensures said { IfOk result (λ v. IsSaidOf (D.known folder.now) is_json program.now (option_map (λ s. s.now) scripts.entry) (verdict_seen v)) }
+    ensures said { IfOk result (λ v. IsSaidOf (D.known folder.now) form program.now (option_map (λ s. s.now) scripts.entry) (verdict_seen v)) }
     ensures fault { IfErr result (λ f. IsReadingFault (AreLost (ReadFails D.File D.File.left D.File.failures)
         (D.known folder.now) program.now (option_map (λ s. s.now) scripts.entry)) f) }
 {
     match scripts {
-        Some(scripts) => judge_both(alloc, folder, is_json, program, scripts),
-        None => judge_program(alloc, folder, is_json, program),
+        Some(scripts) => judge_both(alloc, folder, form, program, scripts),
+        None => judge_program(alloc, folder, form, program),
     }
 }
 
@@ -99,16 +99,16 @@ fn write_verdict<O: Sink>(output: &mut O, verdict: &Verdict) -> Result<u8, Fault
 fn perform<D: Folder, O: Sink>(
     alloc: Global,
     folder: &D,
-    is_json: bool,
+    form: Form,
     program: &str,
     scripts: Option<&str>,
     output: &mut O,
 ) -> Result<u8, Fault>
-    ensures { ExplainEnds (ReadFails D.File D.File.left D.File.failures) (D.known folder.now) is_json program.now
+    ensures { ExplainEnds (ReadFails D.File D.File.left D.File.failures) (D.known folder.now) form program.now
         (option_map (λ s. s.now) scripts.entry) result
         (change (O.written output.old) (O.written output.new) (O.failures output.old) (O.failures output.new)) }
 {
-    let verdict = judge_files(alloc, folder, is_json, program, scripts)?;
+    let verdict = judge_files(alloc, folder, form, program, scripts)?;
     write_verdict(output, &verdict)
 }
 
@@ -116,18 +116,18 @@ fn perform<D: Folder, O: Sink>(
 fn explain_files<D: Folder, O: Sink, F: Sink>(
     alloc: Global,
     folder: &D,
-    is_json: bool,
+    form: Form,
     program: &str,
     scripts: Option<&str>,
     output: &mut O,
     faults: &mut F,
 ) -> u8
-    ensures { Ends (λ s. s) (ExplainEnds (ReadFails D.File D.File.left D.File.failures) (D.known folder.now) is_json program.now)
+    ensures { Ends (λ s. s) (ExplainEnds (ReadFails D.File D.File.left D.File.failures) (D.known folder.now) form program.now)
         (Some (option_map (λ s. s.now) scripts.entry))
         (change (O.written output.old) (O.written output.new) (O.failures output.old) (O.failures output.new))
         (change (F.written faults.old) (F.written faults.new) (F.failures faults.old) (F.failures faults.new)) result }
 {
-    match perform(alloc, folder, is_json, program, scripts, output) {
+    match perform(alloc, folder, form, program, scripts, output) {
         Ok(status) => status,
         Err(fault) => tell(faults, fault),
     }
@@ -214,11 +214,11 @@ pub fn command<D: Folder, O: Sink, F: Sink>(
     match read_words(alloc, words) {
         Ok(
             Task::Explain {
-                is_json,
+                form,
                 program,
                 scripts,
             },
-        ) => explain_files(alloc, folder, is_json, program, scripts, output, faults),
+        ) => explain_files(alloc, folder, form, program, scripts, output, faults),
         Ok(Task::Script { node, program }) => {
             write_script(alloc, folder, node, program, output, faults)
         }

@@ -11,12 +11,19 @@ use lus_reports::lus_cli::{
 };
 use std::alloc::{AllocError, Global};
 
+/// How things are said: as JSON or as a text for people, and with warnings or without.
+#[derive(Clone, Copy)]
+pub struct Form {
+    pub is_json: bool,
+    pub warns: bool,
+}
+
 /// What the words ask for, over files that are named.
 #[derive(Clone, Copy)]
 pub enum Task<'a> {
-    /// What is said of a program, and perhaps of scripts for it, as text or as JSON.
+    /// What is said of a program, and perhaps of scripts for it.
     Explain {
-        is_json: bool,
+        form: Form,
         program: &'a str,
         scripts: Option<&'a str>,
     },
@@ -42,7 +49,8 @@ fn command<'a>(alloc: Global) -> Result<Command<'a>, AllocError>
     ensures { IfOk result (λ c. app_of c ≡ the_command) }
 {
     let json = with_flag(alloc, bare(alloc, "lus_explain"), "json")?;
-    let script = with_value(alloc, json, "script")?;
+    let warnings = with_flag(alloc, json, "warnings")?;
+    let script = with_value(alloc, warnings, "script")?;
     let program = with_required(alloc, script, "PROGRAM")?;
     with_optional(alloc, program, "SCRIPTS")
 }
@@ -56,22 +64,23 @@ pub fn read_words<'a>(alloc: Global, words: &'a [String]) -> Result<Task<'a>, Wo
     choose(&matches).ok_or(WordsError::Mistaken)
 }
 
-/// Where a script is asked for there are no scripts, and no JSON is asked for.
+/// Where a script is asked for there are no scripts, and neither JSON nor warnings are asked for.
 fn choose<'a>(matches: &ArgMatches<'a>) -> Option<Task<'a>>
     ensures { option_map task_seen result ≡ said (rows_of (found_of matches.now)) }
 {
     let program = value_of(matches, "PROGRAM")?;
     match (
         is_set(matches, "json"),
+        is_set(matches, "warnings"),
         value_of(matches, "script"),
         value_of(matches, "SCRIPTS"),
     ) {
-        (is_json, None, scripts) => Some(Task::Explain {
-            is_json,
+        (is_json, warns, None, scripts) => Some(Task::Explain {
+            form: Form { is_json, warns },
             program,
             scripts,
         }),
-        (false, Some(node), None) => Some(Task::Script { node, program }),
+        (false, false, Some(node), None) => Some(Task::Script { node, program }),
         _ => None,
     }
 }
