@@ -5,13 +5,14 @@ use lus_devices::{Failure, Sink, write_all};
 
 const VERSION: &str = " 0.1.0\n";
 
-const EXPLAIN: &str = "usage: lus_explain [--json] PROGRAM [SCRIPTS]
+const EXPLAIN: &str = "usage: lus_explain [--json] [--warnings] PROGRAM [SCRIPTS]
        lus_explain --script NODE PROGRAM
 
 Says why a program, or its scripts, are rejected, and what to write; of an accepted program
 its types and nodes. It runs nothing.
 
   --json         an object of JSON for each error, on a line of its own
+  --warnings     also what an accepted program's author can hardly have meant
   --script NODE  scripts to begin from, for an instance of NODE
 
 Status: 0 accepted, 1 the program is rejected, 2 the scripts, 3 a file or the output fails, 4 out of memory.
@@ -58,7 +59,7 @@ Status: 0 lawful, 1 the program is rejected, 2 a wrong line, or no journal,
 
 const LIVE: &str = "usage: lus_live [--json | --csv] PROGRAM NODE
        lus_live PROGRAM NODE JOURNAL
-       lus_live --many PROGRAM NODE
+       lus_live --many [--json] PROGRAM NODE
 
 Runs a node in a pipe: reads calls from standard input, a line of JSON each, and writes the
 journal's entry of each before it reads the next, or with --json its reply as JSON. With --csv
