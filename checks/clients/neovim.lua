@@ -95,6 +95,12 @@ local function main()
   symbols(ask("textDocument/documentSymbol", { textDocument = vim.lsp.util.make_text_document_params() }), "  ")
   local help = ask("textDocument/signatureHelp", at(8, "tick"))
   say("signature", help.signatures[1].label, help.activeParameter)
+  local call = at(8, "counter")
+  local found = ask("textDocument/definition", call)
+  say("definition", found.range.start.line + 1, found.range.start.character)
+  say("hover", (ask("textDocument/hover", call).contents.value:gsub("\n", " ")))
+  call.context = { includeDeclaration = true }
+  say("references", #ask("textDocument/references", call))
   for _, line in ipairs(vim.api.nvim_buf_get_lines(0, 0, -1, false)) do
     say("|" .. line)
   end

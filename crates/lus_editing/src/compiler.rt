@@ -4,6 +4,7 @@ ghost use Rattle.std.specs.Prelude.{IfOk, map};
 ghost use Rattle.lus_editing.specs.Diagnostics.{AreFaults};
 
 use lus_further::Told;
+use lus_warnings::Warning;
 use std::alloc::{AllocError, Global};
 
 /// A compiler, as far as an editor needs it.
@@ -19,6 +20,9 @@ pub trait Compiler {
     /// The faults of a source, the one that it is refused for first; none where it is accepted.
     fn faults(&self, alloc: Global, source: &str) -> Result<Vec<Told>, AllocError>
         ensures { IfOk result (λ told. AreFaults accepts refuses source.now (map (λ t. t.refusal) told.items)) };
+
+    /// What an accepted source is warned of, in the order of its text.
+    fn warnings(&self, alloc: Global, source: &str) -> Result<Vec<Warning>, AllocError>;
 
     /// A source as it is laid out; nothing where it can't be read.
     fn laid_out(&self, alloc: Global, source: &str) -> Result<Option<String>, AllocError>;

@@ -3,6 +3,7 @@
 
 mod actions;
 mod answers;
+mod capabilities;
 mod compiler;
 mod conversation;
 mod diagnostics;
@@ -11,6 +12,7 @@ mod messages;
 mod queries;
 mod server;
 mod serving;
+mod warned;
 
 pub use compiler::Compiler;
 pub use conversation::{ConversationError, converse};

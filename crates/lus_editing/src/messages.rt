@@ -164,3 +164,11 @@ pub(crate) fn range_of(parameters: &Value) -> Option<(Spot, Spot)> {
     let end = spot(range.get("end")?)?;
     Some((start, end))
 }
+
+/// Whether references are asked for with the declaration, if the parameters say so.
+pub(crate) fn has_declaration(parameters: &Value) -> Option<bool> {
+    parameters
+        .get("context")?
+        .get("includeDeclaration")?
+        .as_bool()
+}

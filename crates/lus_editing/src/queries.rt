@@ -1,29 +1,85 @@
 //! What is asked of a document besides its errors.
 
 use crate::answers::Problem;
-use crate::messages::{position_of, uri_of};
+use crate::messages::{has_declaration, position_of, uri_of};
 use crate::server::Server;
-use lus_queries::{completions, folds, signature_help, symbols};
+use lus_queries::{
+    Spot, completions, definition, folds, highlights, hover, references, semantic_tokens,
+    signature_help, symbols,
+};
 use serde_json::Value;
 use std::alloc::{AllocError, Global};
+
+/// What is asked of a whole document.
+#[derive(Clone, Copy)]
+pub(crate) enum Survey {
+    Symbols,
+    Folds,
+    Colours,
+}
+
+/// What is asked of a position of a document.
+#[derive(Clone, Copy)]
+pub(crate) enum Lookup {
+    Completions,
+    Signature,
+    Hover,
+    Definition,
+    References,
+    Highlights,
+}
 
 /// What is asked.
 #[derive(Clone, Copy)]
 pub(crate) enum Query {
-    Symbols,
-    Folds,
-    Completions,
-    Signature,
+    Survey(Survey),
+    Lookup(Lookup),
 }
 
 /// What a method asks, if it asks something of a document.
 pub(crate) fn query_of(method: &str) -> Option<Query> {
     match method {
-        "textDocument/documentSymbol" => Some(Query::Symbols),
-        "textDocument/foldingRange" => Some(Query::Folds),
-        "textDocument/completion" => Some(Query::Completions),
-        "textDocument/signatureHelp" => Some(Query::Signature),
+        "textDocument/documentSymbol" => Some(Query::Survey(Survey::Symbols)),
+        "textDocument/foldingRange" => Some(Query::Survey(Survey::Folds)),
+        "textDocument/semanticTokens/full" => Some(Query::Survey(Survey::Colours)),
+        "textDocument/completion" => Some(Query::Lookup(Lookup::Completions)),
+        "textDocument/signatureHelp" => Some(Query::Lookup(Lookup::Signature)),
+        "textDocument/hover" => Some(Query::Lookup(Lookup::Hover)),
+        "textDocument/definition" => Some(Query::Lookup(Lookup::Definition)),
+        "textDocument/references" => Some(Query::Lookup(Lookup::References)),
+        "textDocument/documentHighlight" => Some(Query::Lookup(Lookup::Highlights)),
         _ => None,
+    }
+}
+
+/// What there is to say of a whole text.
+fn surveyed(alloc: Global, source: &str, survey: Survey) -> Result<String, AllocError> {
+    match survey {
+        Survey::Symbols => symbols(alloc, source),
+        Survey::Folds => folds(alloc, source),
+        Survey::Colours => semantic_tokens(alloc, source),
+    }
+}
+
+/// What there is to say of a spot of a document, to which these parameters belong.
+fn looked_up(
+    alloc: Global,
+    source: &str,
+    uri: &str,
+    at: Spot,
+    lookup: Lookup,
+    parameters: &Value,
+) -> Result<String, AllocError> {
+    match lookup {
+        Lookup::Completions => completions(alloc, source, at),
+        Lookup::Signature => signature_help(alloc, source, at),
+        Lookup::Hover => hover(alloc, source, at),
+        Lookup::Definition => definition(alloc, source, uri, at),
+        Lookup::References => {
+            let has_declaration = has_declaration(parameters).unwrap_or(false);
+            references(alloc, source, uri, at, has_declaration)
+        }
+        Lookup::Highlights => highlights(alloc, source, at),
     }
 }
 
@@ -34,19 +90,21 @@ pub(crate) fn queried(
     query: Query,
     parameters: Option<&Value>,
 ) -> Result<Result<String, Problem>, AllocError> {
-    let Some(uri) = parameters.and_then(uri_of) else {
+    let Some(parameters) = parameters else {
+        return Ok(Err(Problem::Parameters));
+    };
+    let Some(uri) = uri_of(parameters) else {
         return Ok(Err(Problem::Parameters));
     };
     let Some(document) = server.document(uri) else {
         return Ok(Err(Problem::Parameters));
     };
     let source = document.text.as_str();
-    let given = match (query, parameters.and_then(position_of)) {
-        (Query::Symbols, _) => symbols(alloc, source)?,
-        (Query::Folds, _) => folds(alloc, source)?,
-        (Query::Completions, Some(at)) => completions(alloc, source, at)?,
-        (Query::Signature, Some(at)) => signature_help(alloc, source, at)?,
-        (Query::Completions | Query::Signature, None) => return Ok(Err(Problem::Parameters)),
-    };
-    Ok(Ok(given))
+    match query {
+        Query::Survey(survey) => Ok(Ok(surveyed(alloc, source, survey)?)),
+        Query::Lookup(lookup) => match position_of(parameters) {
+            Some(at) => Ok(Ok(looked_up(alloc, source, uri, at, lookup, parameters)?)),
+            None => Ok(Err(Problem::Parameters)),
+        },
+    }
 }

@@ -11,18 +11,17 @@ ghost use Rattle.lus_editing.specs.Diagnostics.{Publishes};
 
 use crate::actions::actions_of;
 use crate::answers::{Problem, fault, result};
+use crate::capabilities::CAPABILITIES;
 use crate::compiler::Compiler;
 use crate::diagnostics::{closed, published};
 use crate::formatting::formatted;
 use crate::messages::{Sent, id_of, method_of, parameters_of, sent_by, uri_of};
 use crate::queries::{queried, query_of};
 use crate::server::{Document, Server, Stage};
+use lus_further::Told;
+use lus_warnings::Warning;
 use serde_json::Value;
 use std::alloc::{AllocError, Global};
-
-/// What a server can do, as it says where it is initialised.
-const CAPABILITIES: &str =
-    "{\"capabilities\":{\"positionEncoding\":\"utf-16\",\"textDocumentSync\":{\"openClose\":true,\"change\":1},\"documentFormattingProvider\":true,\"codeActionProvider\":{\"codeActionKinds\":[\"quickfix\"]},\"documentSymbolProvider\":true,\"foldingRangeProvider\":true,\"completionProvider\":{\"triggerCharacters\":[\".\"]},\"signatureHelpProvider\":{\"triggerCharacters\":[\"(\",\",\"]}},\"serverInfo\":{\"name\":\"lus_lsp\",\"version\":\"0.1.0\"}}";
 
 /// Why a request isn't done at a stage, whatever it asks.
 fn stage_problem(stage: Stage, is_initialize: bool) -> Option<Problem>
@@ -98,7 +97,21 @@ fn answer<C: Compiler>(
     }
 }
 
-/// Keeps a text that was sent, and says what its faults are.
+/// What a text is warned of that has these faults: nothing where there are some.
+fn warnings_beside<C: Compiler>(
+    alloc: Global,
+    compiler: &C,
+    source: &str,
+    faults: &[Told],
+) -> Result<Vec<Warning>, AllocError> {
+    if faults.is_empty() {
+        compiler.warnings(alloc, source)
+    } else {
+        Ok(Vec::new(alloc))
+    }
+}
+
+/// Keeps a text that was sent, and says what its faults are, or its warnings.
 fn take<C: Compiler>(
     alloc: Global,
     compiler: &C,
@@ -108,9 +121,14 @@ fn take<C: Compiler>(
     ensures { IfOk result (λ t. Publishes C.accepts C.refuses (sent_seen sent.entry) (string_bytes t)) }
 {
     let faults = compiler.faults(alloc, sent.text)?;
-    let said = published(alloc, sent, &faults)?;
+    let warnings = warnings_beside(alloc, compiler, sent.text, &faults)?;
+    let said = published(alloc, sent, &faults, &warnings)?;
     let text = String::from_str(alloc, sent.text)?;
-    let document = Document { text, faults };
+    let document = Document {
+        text,
+        faults,
+        warnings,
+    };
     server.keep(alloc, sent.uri, document)?;
     Ok(said)
 }

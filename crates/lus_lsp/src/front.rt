@@ -10,6 +10,7 @@ use lus_format::{FormatError, format};
 use lus_further::Told;
 use lus_reports::{accept, further_faults, known_finding};
 use lus_syntax::{Refusal, RefusalNumber};
+use lus_warnings::{Warning, warnings_of};
 use std::alloc::{AllocError, Global};
 
 /// This compiler. It accepts and refuses what `lus --check` does.
@@ -51,6 +52,14 @@ impl Compiler for Front {
 
     fn faults(&self, alloc: Global, source: &str) -> Result<Vec<Told>, AllocError> {
         faults_of(alloc, source.as_bytes())
+    }
+
+    fn warnings(&self, alloc: Global, source: &str) -> Result<Vec<Warning>, AllocError> {
+        match warnings_of(alloc, source, None) {
+            Ok(warnings) => Ok(warnings),
+            Err(refusal) if refusal.number == RefusalNumber::Memory => Err(AllocError),
+            Err(_) => Ok(Vec::new(alloc)),
+        }
     }
 
     fn laid_out(&self, alloc: Global, source: &str) -> Result<Option<String>, AllocError> {

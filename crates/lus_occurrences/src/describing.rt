@@ -4,7 +4,7 @@ use crate::names::{Declaration, Names};
 use crate::role::Declared;
 use crate::scopes::name_at;
 use lus_faults::bytes_at;
-use lus_syntax::{Symbol, Token, TokenKind, Word};
+use lus_syntax::{MOST_VARIABLES, Symbol, Token, TokenKind, Word};
 use std::alloc::{AllocError, Global};
 
 /// How many brackets are open behind a token, of which so many are open before it.
@@ -33,26 +33,35 @@ fn is_end(token: &Token<'_>) -> bool {
     }
 }
 
-/// The bytes from the first token to the last one before the end of a declaration.
-fn extent(tokens: &[Token<'_>]) -> Option<(usize, usize)> {
-    let from = tokens.first()?.span.start.byte;
-    let mut to = from;
+/// How many tokens stand before the end of the declaration that they are in.
+fn count_told(tokens: &[Token<'_>]) -> usize {
     let mut depth = 0usize;
-    for token in tokens {
+    for (place, token) in tokens.iter().enumerate() {
         if depth == 0 && is_end(token) {
-            return Some((from, to));
+            return place;
         }
         depth = depth_behind(depth, token);
-        to = token.span.end().byte;
     }
-    Some((from, to))
+    tokens.len()
 }
 
-/// The token behind the first colon that isn't before a token.
-fn behind_colon(tokens: &[Token<'_>], first: usize) -> usize {
-    for (place, token) in tokens.iter().enumerate() {
-        if place >= first && matches!(token.kind, TokenKind::Punctuation(Symbol::Colon)) {
-            return place.saturating_add(1);
+/// The token behind those that are told from one on: the first at or behind the end of the declaration.
+fn end_from(tokens: &[Token<'_>], first: usize) -> usize {
+    let rest = tokens.get(first..).unwrap_or(&[]);
+    first.saturating_add(count_told(rest))
+}
+
+/// The most tokens from a name to the colon behind its group: each name of as many as a node may have, and a comma behind it.
+const MOST_BEFORE_COLON: usize = 2 * MOST_VARIABLES;
+
+/// The token behind the first symbol of a kind that isn't before a token.
+fn behind_symbol(tokens: &[Token<'_>], first: usize, symbol: Symbol) -> usize {
+    let rest = tokens.get(first..).unwrap_or(&[]);
+    for (place, token) in rest.iter().take(MOST_BEFORE_COLON).enumerate() {
+        if let TokenKind::Punctuation(found) = token.kind
+            && found == symbol
+        {
+            return first.saturating_add(place).saturating_add(1);
         }
     }
     tokens.len()
@@ -60,9 +69,13 @@ fn behind_colon(tokens: &[Token<'_>], first: usize) -> usize {
 
 /// The text from a token to the last one before the end of the declaration.
 fn text_of<'s>(source: &'s str, tokens: &[Token<'_>], first: usize) -> &'s str {
-    match extent(tokens.get(first..).unwrap_or(&[])) {
-        Some((from, to)) => bytes_at(source, from, to).unwrap_or(""),
-        None => "",
+    let end = end_from(tokens, first);
+    let told = tokens.get(first..end).unwrap_or(&[]);
+    match (told.first(), told.last()) {
+        (Some(first), Some(last)) => {
+            bytes_at(source, first.span.start.byte, last.span.end().byte).unwrap_or("")
+        }
+        _ => "",
     }
 }
 
@@ -107,11 +120,27 @@ impl<'t> Names<'t> {
     pub fn type_text<'s>(&self, source: &'s str, declaration: usize) -> &'s str {
         match self.declarations.get(declaration) {
             Some(declared) => {
-                let first = behind_colon(&self.tokens, declared.token);
+                let first = behind_symbol(&self.tokens, declared.token, Symbol::Colon);
                 text_of(source, &self.tokens, first)
             }
             None => "",
         }
+    }
+
+    /// The tokens that tell what a declaration's name stands for, by the first one and the one behind the last: of a variable or a field
+    /// its type, and of a variable its clock; of a node its inputs and outputs; of a type what it is; of a constant its type and its
+    /// value. A constructor has none.
+    pub fn told(&self, declaration: usize) -> (usize, usize) {
+        let Some(declared) = self.declarations.get(declaration).copied() else {
+            return (0, 0);
+        };
+        let first = match declared.declared {
+            Declared::Constructor => return (0, 0),
+            Declared::Node | Declared::Constant => declared.token.saturating_add(1),
+            Declared::Type => behind_symbol(&self.tokens, declared.token, Symbol::Equal),
+            _ => behind_symbol(&self.tokens, declared.token, Symbol::Colon),
+        };
+        (first, end_from(&self.tokens, first))
     }
 
     /// What a declaration says on one line or more: `input x: int when c`, `field x: int of p`, `type p = struct { x: int }`,

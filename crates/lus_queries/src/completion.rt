@@ -1,22 +1,21 @@
 //! Names that can be written at a place.
 
-use crate::declared::{Declaration, Kind, declarations_in};
 use crate::outline::detail_of;
 use crate::places::{Spot, lines_of};
-use crate::tokens::tokens_of;
 use lus_json_faults::push_string;
+use lus_occurrences::{Declared, Names, names_of};
 use lus_syntax::{Symbol, Token, TokenKind, WORDS};
 use std::alloc::{AllocError, Global};
 
 /// The protocol's number of a kind of name.
-fn item_kind(kind: Kind) -> u8 {
-    match kind {
-        Kind::Node => 3,
-        Kind::Type => 22,
-        Kind::Constant => 21,
-        Kind::Constructor => 20,
-        Kind::Field => 5,
-        Kind::Input | Kind::Output | Kind::Local => 6,
+fn item_kind(declared: Declared) -> u8 {
+    match declared {
+        Declared::Node => 3,
+        Declared::Type => 22,
+        Declared::Constant => 21,
+        Declared::Constructor => 20,
+        Declared::Field => 5,
+        Declared::Input | Declared::Output | Declared::Local => 6,
     }
 }
 
@@ -41,31 +40,15 @@ fn is_field_at(tokens: &[Token<'_>], byte: usize) -> bool {
     is_behind_dot
 }
 
-/// The node whose variables are in scope at a byte: the last declaration that begins before it, if it is a node.
-pub(crate) fn node_at(found: &[Declaration<'_>], byte: usize) -> Option<usize> {
-    let mut last = None;
-    for (place, declaration) in found.iter().enumerate() {
-        if declaration.start.byte >= byte {
-            return last;
-        }
-        match declaration.kind {
-            Kind::Node => last = Some(place),
-            Kind::Type | Kind::Constant => last = None,
-            _ => {}
+/// The fields that a text declares.
+fn fields_of(alloc: Global, names: &Names<'_>) -> Result<Vec<usize>, AllocError> {
+    let mut fields = Vec::new(alloc);
+    for (place, declaration) in names.declarations.iter().enumerate() {
+        if declaration.declared == Declared::Field {
+            fields.push(place)?;
         }
     }
-    last
-}
-
-/// Whether the name of a declaration can be written in a node, or outside of all, where fields are wanted or not.
-fn is_offered(declaration: Declaration<'_>, node: Option<usize>, is_field: bool) -> bool {
-    match declaration.kind {
-        Kind::Field => is_field,
-        Kind::Node | Kind::Type | Kind::Constant | Kind::Constructor => !is_field,
-        Kind::Input | Kind::Output | Kind::Local => {
-            !is_field && node.is_some() && declaration.owner == node
-        }
-    }
+    Ok(fields)
 }
 
 /// Appends a name that can be written, and what tells it.
@@ -83,9 +66,33 @@ fn push_item(
     text.push_str("}")
 }
 
-/// Appends the words of the language, behind names or not.
-fn push_words(alloc: Global, text: &mut String, is_behind: bool) -> Result<(), AllocError> {
-    let mut is_first = !is_behind;
+/// Appends the names of some declarations, and whether there are none.
+fn push_names(
+    alloc: Global,
+    text: &mut String,
+    source: &str,
+    names: &Names<'_>,
+    found: &[usize],
+) -> Result<bool, AllocError> {
+    let mut is_first = true;
+    for place in found {
+        let Some(declaration) = names.declarations.get(*place) else {
+            continue;
+        };
+        if !is_first {
+            text.push_str(",")?;
+        }
+        let detail = detail_of(alloc, source, names, *place)?;
+        let kind = item_kind(declaration.declared);
+        push_item(alloc, text, names.name(*place), kind, detail.as_str())?;
+        is_first = false;
+    }
+    Ok(is_first)
+}
+
+/// Appends the words of the language, the first of all items or not.
+fn push_words(alloc: Global, text: &mut String, are_first: bool) -> Result<(), AllocError> {
+    let mut is_first = are_first;
     for (word, meaning) in WORDS {
         if meaning.is_some() {
             if !is_first {
@@ -102,25 +109,15 @@ fn push_words(alloc: Global, text: &mut String, is_behind: bool) -> Result<(), A
 /// types, constants and constructors of the text, the variables of the node that the spot is in, and the words of the language.
 pub fn completions(alloc: Global, source: &str, at: Spot) -> Result<String, AllocError> {
     let byte = lines_of(alloc, source)?.byte_at(at);
-    let tokens = tokens_of(alloc, source)?;
-    let found = declarations_in(alloc, &tokens)?;
-    let is_field = is_field_at(&tokens, byte);
-    let node = node_at(&found, byte);
+    let names = names_of(alloc, source)?;
     let mut text = String::from_str(alloc, "[")?;
-    let mut is_first = true;
-    for declaration in &found {
-        if is_offered(*declaration, node, is_field) {
-            if !is_first {
-                text.push_str(",")?;
-            }
-            let detail = detail_of(alloc, source, &tokens, *declaration)?;
-            let kind = item_kind(declaration.kind);
-            push_item(alloc, &mut text, declaration.name, kind, detail.as_str())?;
-            is_first = false;
-        }
-    }
-    if !is_field {
-        push_words(alloc, &mut text, !is_first)?;
+    if is_field_at(&names.tokens, byte) {
+        let found = fields_of(alloc, &names)?;
+        let _is_empty = push_names(alloc, &mut text, source, &names, &found)?;
+    } else {
+        let found = names.in_scope(alloc, byte)?;
+        let is_empty = push_names(alloc, &mut text, source, &names, &found)?;
+        push_words(alloc, &mut text, is_empty)?;
     }
     text.push_str("]")?;
     Ok(text)

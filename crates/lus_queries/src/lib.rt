@@ -1,15 +1,20 @@
-//! What an editor asks of a text besides its errors: its outline, names in scope, and the call that is being written. It is found by
-//! tokens, so that texts with errors are answered too, and given as values of the Language Server Protocol 3.17, in JSON.
+//! What an editor asks of a text besides its errors: what it declares, what can be written at a place, what a name stands for and
+//! where else it stands, and its colours. They are found by tokens, so that texts with errors are answered too, and given as values of
+//! the Language Server Protocol 3.17, in JSON.
 #![tactic(auto)]
 
+mod colours;
 mod completion;
-mod declared;
+mod hovering;
+mod occurrences;
 mod outline;
 mod places;
 mod signature;
-mod tokens;
 
+pub use colours::semantic_tokens;
 pub use completion::completions;
+pub use hovering::hover;
+pub use occurrences::{definition, highlights, references};
 pub use outline::{folds, symbols};
-pub use places::{Spot, spot_at};
+pub use places::{Lines, Spot, lines_of, spot_at};
 pub use signature::signature_help;

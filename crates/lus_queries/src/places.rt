@@ -1,6 +1,6 @@
 //! Positions in a text as editors count them.
 
-use lus_syntax::Place;
+use lus_syntax::{Place, Span};
 use std::alloc::{AllocError, Global};
 
 /// A line and a character on it. Both count from 0, characters in units of UTF-16.
@@ -19,7 +19,7 @@ pub struct Lines<'t> {
 }
 
 /// How many units of UTF-16 the character takes that begins with a byte of UTF-8; none where no character begins.
-fn units_at(byte: u8) -> usize {
+pub(crate) fn units_at(byte: u8) -> usize {
     if byte < 128 {
         1
     } else if byte < 192 {
@@ -103,4 +103,29 @@ impl Lines<'_> {
         }
         self.text.len()
     }
+}
+
+/// Appends the range between two places.
+pub(crate) fn push_range(
+    text: &mut String,
+    lines: &Lines<'_>,
+    from: Place,
+    to: Place,
+) -> Result<(), AllocError> {
+    let start = lines.spot(from);
+    let end = lines.spot(to);
+    write!(
+        text,
+        "{{\"start\":{{\"line\":{},\"character\":{}}},\"end\":{{\"line\":{},\"character\":{}}}}}",
+        start.line, start.character, end.line, end.character
+    )
+}
+
+/// Appends the range of a token.
+pub(crate) fn push_span(
+    text: &mut String,
+    lines: &Lines<'_>,
+    span: Span,
+) -> Result<(), AllocError> {
+    push_range(text, lines, span.start, span.end())
 }

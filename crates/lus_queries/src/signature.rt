@@ -1,9 +1,9 @@
 //! The call that is being written at a place.
 
-use crate::declared::{Declaration, Kind, declarations_in};
+use crate::outline::push_token;
 use crate::places::{Spot, lines_of};
-use crate::tokens::{push_token, tokens_of};
 use lus_json_faults::push_string;
+use lus_occurrences::{Declared, Names, names_of};
 use lus_syntax::{Span, Symbol, Token, TokenKind, Word};
 use std::alloc::{AllocError, Global};
 
@@ -67,15 +67,14 @@ fn bracket_at<'t>(
 }
 
 /// The names of the inputs of a node.
-fn inputs_of(
-    alloc: Global,
-    found: &[Declaration<'_>],
-    node: usize,
-) -> Result<Vec<Span>, AllocError> {
+fn inputs_of(alloc: Global, names: &Names<'_>, node: usize) -> Result<Vec<Span>, AllocError> {
     let mut inputs = Vec::new(alloc);
-    for declaration in found {
-        if declaration.kind == Kind::Input && declaration.owner == Some(node) {
-            inputs.push(declaration.span)?;
+    for declaration in &names.declarations {
+        if declaration.declared == Declared::Input
+            && declaration.owner == Some(node)
+            && let Some(span) = names.span_of(declaration.token)
+        {
+            inputs.push(span)?;
         }
     }
     Ok(inputs)
@@ -112,26 +111,27 @@ fn push_head(
 fn signature(
     alloc: Global,
     source: &str,
-    tokens: &[Token<'_>],
-    node: Declaration<'_>,
-    inputs: &[Span],
+    names: &Names<'_>,
+    node: usize,
+    name: Span,
 ) -> Result<String, AllocError> {
-    let mut label = String::from_str(alloc, node.name)?;
+    let inputs = inputs_of(alloc, names, node)?;
+    let (first, end) = names.told(node);
+    let head = names.tokens.get(first..end).unwrap_or(&[]);
+    let mut label = String::from_str(alloc, names.name(node))?;
     let mut parameters = String::new(alloc);
-    if let Some(head) = tokens.get(node.from..node.behind) {
-        push_head(&mut label, &mut parameters, source, node.span, head, inputs)?;
-    }
+    push_head(&mut label, &mut parameters, source, name, head, &inputs)?;
     let mut text = String::from_str(alloc, "{\"label\":")?;
     push_string(alloc, &mut text, label.as_str())?;
     write!(text, ",\"parameters\":[{parameters}]}}")?;
     Ok(text)
 }
 
-/// The place of the node of a name.
-fn node_named(found: &[Declaration<'_>], name: &str) -> Option<usize> {
-    for (place, declaration) in found.iter().enumerate() {
-        if declaration.kind == Kind::Node && declaration.name == name {
-            return Some(place);
+/// The node of a name, and where it is declared.
+fn node_named(names: &Names<'_>, name: &str) -> Option<(usize, Span)> {
+    for (place, declaration) in names.declarations.iter().enumerate() {
+        if declaration.declared == Declared::Node && names.name(place) == name {
+            return Some((place, names.span_of(declaration.token)?));
         }
     }
     None
@@ -140,23 +140,18 @@ fn node_named(found: &[Declaration<'_>], name: &str) -> Option<usize> {
 /// The head of the node whose call is being written at a spot, and which of its inputs (`SignatureHelp`); null where there is none.
 pub fn signature_help(alloc: Global, source: &str, at: Spot) -> Result<String, AllocError> {
     let byte = lines_of(alloc, source)?.byte_at(at);
-    let tokens = tokens_of(alloc, source)?;
-    let found = declarations_in(alloc, &tokens)?;
-    let Some(bracket) = bracket_at(alloc, &tokens, byte)? else {
+    let names = names_of(alloc, source)?;
+    let Some(bracket) = bracket_at(alloc, &names.tokens, byte)? else {
         return String::from_str(alloc, "null");
     };
     let called = match bracket.callee {
-        Some(name) => node_named(&found, name),
+        Some(name) => node_named(&names, name),
         None => None,
     };
-    let Some(place) = called else {
+    let Some((node, span)) = called else {
         return String::from_str(alloc, "null");
     };
-    let Some(node) = found.get(place).copied() else {
-        return String::from_str(alloc, "null");
-    };
-    let inputs = inputs_of(alloc, &found, place)?;
-    let made = signature(alloc, source, &tokens, node, &inputs)?;
+    let made = signature(alloc, source, &names, node, span)?;
     let active = bracket.commas;
     format!(in alloc;
         "{{\"signatures\":[{made}],\"activeSignature\":0,\"activeParameter\":{active}}}"
