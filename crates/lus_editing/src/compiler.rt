@@ -7,6 +7,17 @@ use lus_further::Told;
 use lus_warnings::Warning;
 use std::alloc::{AllocError, Global};
 
+/// Why a name isn't replaced.
+#[derive(Clone, Copy, PartialEq, Eq)]
+pub enum RenameProblem {
+    /// No name stands there that is declared.
+    NoName,
+    /// The new name is none.
+    NotAName,
+    /// The program would not be the same.
+    OtherProgram,
+}
+
 /// A compiler, as far as an editor needs it.
 pub trait Compiler {
     ghost use Rattle.std.specs.Prelude.{ℕ, List};
@@ -23,6 +34,15 @@ pub trait Compiler {
 
     /// What an accepted source is warned of, in the order of its text.
     fn warnings(&self, alloc: Global, source: &str) -> Result<Vec<Warning>, AllocError>;
+
+    /// Why the declared name that stands at a byte of a source, or ends there, can't be replaced by another one; nothing where it can.
+    fn rename_problem(
+        &self,
+        alloc: Global,
+        source: &str,
+        byte: usize,
+        name: &str,
+    ) -> Result<Option<RenameProblem>, AllocError>;
 
     /// A source as it is laid out; nothing where it can't be read.
     fn laid_out(&self, alloc: Global, source: &str) -> Result<Option<String>, AllocError>;

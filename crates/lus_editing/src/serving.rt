@@ -17,6 +17,7 @@ use crate::diagnostics::{closed, published};
 use crate::formatting::formatted;
 use crate::messages::{Sent, id_of, method_of, parameters_of, sent_by, uri_of};
 use crate::queries::{queried, query_of};
+use crate::renames::renamed;
 use crate::server::{Document, Server, Stage};
 use lus_further::Told;
 use lus_warnings::Warning;
@@ -55,6 +56,7 @@ fn outcome<C: Compiler>(
         }
         "textDocument/formatting" => formatted(alloc, compiler, server, parameters),
         "textDocument/codeAction" => actions_of(alloc, server, parameters),
+        "textDocument/rename" => renamed(alloc, compiler, server, parameters),
         _ => match query_of(method) {
             Some(query) => queried(alloc, server, query, parameters),
             None => Ok(Err(Problem::Method)),

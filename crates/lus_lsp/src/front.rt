@@ -5,9 +5,10 @@ ghost use Rattle.lus_syntax.specs.declared.refusal.Refusal.{Refusal};
 ghost use Rattle.lus_editing.specs.Diagnostics.{AreFaults};
 ghost use Rattle.lus_lsp.specs.Verdicts.{IsAccepted, IsRefused};
 
-use lus_editing::Compiler;
+use lus_editing::{Compiler, RenameProblem};
 use lus_format::{FormatError, format};
 use lus_further::Told;
+use lus_rename::{RenameError, renamed};
 use lus_reports::{accept, further_faults, known_finding};
 use lus_syntax::{Refusal, RefusalNumber};
 use lus_warnings::{Warning, warnings_of};
@@ -59,6 +60,24 @@ impl Compiler for Front {
             Ok(warnings) => Ok(warnings),
             Err(refusal) if refusal.number == RefusalNumber::Memory => Err(AllocError),
             Err(_) => Ok(Vec::new(alloc)),
+        }
+    }
+
+    fn rename_problem(
+        &self,
+        alloc: Global,
+        source: &str,
+        byte: usize,
+        name: &str,
+    ) -> Result<Option<RenameProblem>, AllocError> {
+        match renamed(alloc, source, byte, name) {
+            Ok(_made) => Ok(None),
+            Err(RenameError::NoName) => Ok(Some(RenameProblem::NoName)),
+            Err(RenameError::NotAName) => Ok(Some(RenameProblem::NotAName)),
+            Err(RenameError::Refused(refusal)) if refusal.number == RefusalNumber::Memory => {
+                Err(AllocError)
+            }
+            Err(_) => Ok(Some(RenameProblem::OtherProgram)),
         }
     }
 
