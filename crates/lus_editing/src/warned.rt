@@ -38,7 +38,8 @@ fn push_warned(
     push_spot(text, to)?;
     text.push_str("},\"message\":")?;
     push_string(alloc, text, message)?;
-    text.push_str("}")
+    text.push_str("}")?;
+    Ok(())
 }
 
 /// What is said of a warning in words: its sentence, and the note on a line of its own.
