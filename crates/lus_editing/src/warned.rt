@@ -9,6 +9,13 @@ use lus_queries::{Lines, Spot, lines_of};
 use lus_warnings::Warning;
 use std::alloc::{AllocError, Global};
 
+/// Appends a text.
+fn push_part(text: &mut String, part: &str) -> Result<(), AllocError>
+    ensures { OnOk result (string_bytes text.new ≡ string_bytes text.old ++ part.now) }
+{
+    text.push_str(part)
+}
+
 /// Appends where something begins or ends.
 fn push_spot(text: &mut String, spot: Spot) -> Result<(), AllocError>
     ensures { OnOk result (string_bytes text.new ≡ string_bytes text.old ++ spot_text spot) }
@@ -29,16 +36,15 @@ fn push_warned(
 ) -> Result<(), AllocError>
     ensures { OnOk result (string_bytes text.new ≡ string_bytes text.old ++ warned_text name.now from to message.now) }
 {
-    write!(
-        text,
-        "{{\"source\":\"lus\",\"severity\":2,\"code\":\"{name}\",\"range\":{{\"start\":"
-    )?;
+    push_part(text, "{\"source\":\"lus\",\"severity\":2,\"code\":\"")?;
+    push_part(text, name)?;
+    push_part(text, "\",\"range\":{\"start\":")?;
     push_spot(text, from)?;
-    text.push_str(",\"end\":")?;
+    push_part(text, ",\"end\":")?;
     push_spot(text, to)?;
-    text.push_str("},\"message\":")?;
+    push_part(text, "},\"message\":")?;
     push_string(alloc, text, message)?;
-    text.push_str("}")?;
+    push_part(text, "}")?;
     Ok(())
 }
 
@@ -76,8 +82,9 @@ fn push_other(
 ) -> Result<(), AllocError>
     ensures { OnOk result ((w : Warned) × (string_bytes text.new ≡ string_bytes text.old ++ other_warning_text w)) }
 {
-    text.push_str(",")?;
-    push_warning(alloc, text, lines, warning)
+    push_part(text, ",")?;
+    push_warning(alloc, text, lines, warning)?;
+    Ok(())
 }
 
 /// Appends the diagnostics of some warnings behind another one.

@@ -9,7 +9,7 @@ mod hovering;
 mod occurrences;
 mod outline;
 mod places;
-mod renaming;
+mod renames;
 mod signature;
 
 pub use colours::semantic_tokens;
@@ -18,5 +18,5 @@ pub use hovering::hover;
 pub use occurrences::{definition, highlights, references};
 pub use outline::{folds, symbols};
 pub use places::{Lines, Spot, lines_of, spot_at};
-pub use renaming::{renamable, renaming};
+pub use renames::{renamable, renaming};
 pub use signature::signature_help;
