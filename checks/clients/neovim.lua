@@ -101,6 +101,9 @@ local function main()
   say("hover", (ask("textDocument/hover", call).contents.value:gsub("\n", " ")))
   call.context = { includeDeclaration = true }
   say("references", #ask("textDocument/references", call))
+  local rename = at(3, "count")
+  rename.newName = "steps"
+  vim.lsp.util.apply_workspace_edit(ask("textDocument/rename", rename), "utf-16")
   for _, line in ipairs(vim.api.nvim_buf_get_lines(0, 0, -1, false)) do
     say("|" .. line)
   end

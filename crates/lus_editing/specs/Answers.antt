@@ -12,6 +12,9 @@ problem_code problems.Request = 32600
 problem_code problems.Method = 32601
 problem_code problems.Parameters = 32602
 problem_code problems.Early = 32002
+problem_code problems.NoName = 32803
+problem_code problems.NotAName = 32803
+problem_code problems.OtherProgram = 32803
 
 -- the same in words
 abbrev pub problem_message : Problem → Text
@@ -20,6 +23,9 @@ problem_message problems.Request = codes "the message is no request that can be 
 problem_message problems.Method = codes "this server has no such method"
 problem_message problems.Parameters = codes "the method can't take these parameters"
 problem_message problems.Early = codes "the request comes before `initialize`"
+problem_message problems.NoName = codes "no declared name stands here"
+problem_message problems.NotAName = codes "this is no name, or a word of the language"
+problem_message problems.OtherProgram = codes "under this name the program would not be the same"
 
 -- what each answer to the request of an id begins with
 abbrev pub answer_text : Text → Text

@@ -1,10 +1,12 @@
 -- What is said of the faults of a document (Language Server Protocol 3.17, "PublishDiagnostics Notification").
 use Rattle.std.specs.Prelude.{◌≡◌, ℕ, List, [], ◌∷◌, ◌++◌, codes}
 use Rattle.std.specs.Fmt.{decimal, signed_decimal}
+use Rattle.std.specs.List.{flat_map}
 use Rattle.lus_syntax.specs.Lexemes.{Text}
 use Rattle.lus_syntax.specs.Refusals.{number_text}
 use Rattle.lus_syntax.specs.declared.refusal.Refusal.{Refusal}
 use Rattle.lus_json_faults.specs.Lines.{quoted}
+use Rattle.lus_queries.specs.declared.places.Spot.{Spot}
 use Rattle.lus_editing.specs.Messages.{SentText}
 
 -- a source is accepted where it has no faults, and refused for the first one where it has some
@@ -28,9 +30,38 @@ diagnostic_text number line column more =
 abbrev pub refusal_text : Refusal → Text → Text
 refusal_text r more = diagnostic_text (number_text r.number) r.line r.column more
 
--- what is said of a document whose text has faults: no diagnostics where there are none, or else first that of the first one
+-- a warning: its name, where it begins and ends, and what is said of it
+pub record Warned : Type 0 where
+  pub name : Text
+  pub from : Spot
+  pub to : Spot
+  pub message : Text
+
+-- where something begins or ends
+abbrev pub spot_text : Spot → Text
+spot_text s = codes "{\"line\":" ++ (decimal s.line ++ (codes ",\"character\":" ++ (decimal s.character ++ codes "}")))
+
+-- a diagnostic of severity 2 with a name, between two places, and with a message
+abbrev pub warned_text : Text → Spot → Spot → Text → Text
+warned_text name from to message =
+    codes "{\"source\":\"lus\",\"severity\":2,\"code\":\"" ++ (name ++ (codes "\",\"range\":{\"start\":" ++ (spot_text from ++ (codes ",\"end\":"
+    ++ (spot_text to ++ (codes "},\"message\":" ++ (quoted message ++ codes "}")))))))
+
+abbrev pub warning_text : Warned → Text
+warning_text w = warned_text w.name w.from w.to w.message
+
+-- that behind another one
+abbrev pub other_warning_text : Warned → Text
+other_warning_text w = codes "," ++ warning_text w
+
+-- the diagnostics of some warnings
+abbrev pub warnings_text : List Warned → Text
+warnings_text [] = []
+warnings_text (w ∷ ws) = warning_text w ++ flat_map other_warning_text ws
+
+-- what is said of a document whose text has faults: warnings alone where there are none, or else first the diagnostic of the first one
 abbrev pub IsSaidOf : SentText → List Refusal → Text → Type 0
-IsSaidOf sent [] said = said ≡ diagnostics_text sent []
+IsSaidOf sent [] said = (warnings : List Warned) × (said ≡ diagnostics_text sent (warnings_text warnings))
 IsSaidOf sent (r ∷ rs) said = (more : Text) × (said ≡ diagnostics_text sent (refusal_text r more))
 
 -- what is said of a document by the faults of its text

@@ -1,13 +1,12 @@
-//! Changes that mend faults.
+//! Changes that mend faults, and what a text is warned of.
 
 use crate::answers::Problem;
 use crate::diagnostics::push_range;
 use crate::messages::{range_of, uri_of};
 use crate::server::{Document, Server};
-use lus_faults::{Edit, edited, edited_lines, offset_of};
-use lus_further::Told;
+use lus_faults::{Edit, Finding, edited, edited_lines, offset_of};
 use lus_json_faults::push_string;
-use lus_queries::{Spot, spot_at};
+use lus_queries::{Spot, lines_of};
 use serde_json::Value;
 use std::alloc::{AllocError, Global};
 
@@ -44,18 +43,54 @@ fn push_action(
     text.push_str("}]}}}")
 }
 
-/// Whether a fault is on a line of a range, or its change is.
-fn is_near(source: &str, told: &Told, edit: &Edit, range: (Spot, Spot)) -> bool {
-    let position = told.finding.position(&told.refusal);
-    let start = offset_of(source, position.line, position.column);
-    let first = spot_at(source, start).line;
-    let last = spot_at(source, start.saturating_add(told.finding.length)).line;
-    let changed = spot_at(source, edit.byte).line;
+/// The bytes from the first line of a range to the end of its last one.
+fn bytes_of(
+    alloc: Global,
+    source: &str,
+    range: (Spot, Spot),
+) -> Result<(usize, usize), AllocError> {
+    let lines = lines_of(alloc, source)?;
     let (from, to) = range;
-    (first <= to.line && from.line <= last) || (from.line <= changed && changed <= to.line)
+    let start = Spot {
+        line: from.line,
+        character: 0,
+    };
+    let end = Spot {
+        line: to.line,
+        character: usize::MAX,
+    };
+    Ok((lines.byte_at(start), lines.byte_at(end)))
 }
 
-/// The actions that mend the faults of a document in a range.
+/// Whether so many bytes from one on reach between two bytes, or a change begins there.
+fn is_near(byte: usize, length: usize, edit: &Edit, between: (usize, usize)) -> bool {
+    let (from, to) = between;
+    let end = byte.saturating_add(length);
+    (byte <= to && from <= end) || (from <= edit.byte && edit.byte <= to)
+}
+
+/// Appends the action that mends what was found at a byte, if there is one and it is near.
+fn push_near(
+    alloc: Global,
+    text: &mut String,
+    uri: &str,
+    source: &str,
+    byte: usize,
+    finding: &Finding,
+    between: (usize, usize),
+) -> Result<(), AllocError> {
+    if let Some(edit) = &finding.edit
+        && is_near(byte, finding.length, edit, between)
+    {
+        if text.len() > 1 {
+            text.push_str(",")?;
+        }
+        push_action(alloc, text, uri, source, edit)?;
+    }
+    Ok(())
+}
+
+/// The actions that mend the faults of a document in a range, or what it is warned of.
 fn actions_in(
     alloc: Global,
     uri: &str,
@@ -63,24 +98,30 @@ fn actions_in(
     range: (Spot, Spot),
 ) -> Result<String, AllocError> {
     let source = document.text.as_str();
+    let between = bytes_of(alloc, source, range)?;
     let mut text = String::from_str(alloc, "[")?;
-    let mut is_first = true;
     for told in &document.faults {
-        if let Some(edit) = &told.finding.edit
-            && is_near(source, told, edit, range)
-        {
-            if !is_first {
-                text.push_str(",")?;
-            }
-            push_action(alloc, &mut text, uri, source, edit)?;
-            is_first = false;
-        }
+        let at = told.finding.position(&told.refusal);
+        let byte = offset_of(source, at.line, at.column);
+        push_near(alloc, &mut text, uri, source, byte, &told.finding, between)?;
+    }
+    for warning in &document.warnings {
+        let byte = warning.span.start.byte;
+        push_near(
+            alloc,
+            &mut text,
+            uri,
+            source,
+            byte,
+            &warning.finding,
+            between,
+        )?;
     }
     text.push_str("]")?;
     Ok(text)
 }
 
-/// The actions that mend the faults of the document and in the range that parameters name.
+/// The actions that mend what was found in the document and in the range that parameters name.
 pub(crate) fn actions_of(
     alloc: Global,
     server: &Server,

@@ -18,6 +18,12 @@ pub(crate) enum Problem {
     Parameters,
     /// The request comes before `initialize`.
     Early,
+    /// There is no name to replace.
+    NoName,
+    /// The new name is none.
+    NotAName,
+    /// Under the new name the program would be another one.
+    OtherProgram,
 }
 
 impl Problem {
@@ -31,6 +37,7 @@ impl Problem {
             Problem::Method => 32601,
             Problem::Parameters => 32602,
             Problem::Early => 32002,
+            Problem::NoName | Problem::NotAName | Problem::OtherProgram => 32803,
         }
     }
 
@@ -44,6 +51,9 @@ impl Problem {
             Problem::Method => "this server has no such method",
             Problem::Parameters => "the method can't take these parameters",
             Problem::Early => "the request comes before `initialize`",
+            Problem::NoName => "no declared name stands here",
+            Problem::NotAName => "this is no name, or a word of the language",
+            Problem::OtherProgram => "under this name the program would not be the same",
         }
     }
 }

@@ -4,7 +4,19 @@ ghost use Rattle.std.specs.Prelude.{IfOk, map};
 ghost use Rattle.lus_editing.specs.Diagnostics.{AreFaults};
 
 use lus_further::Told;
+use lus_warnings::Warning;
 use std::alloc::{AllocError, Global};
+
+/// Why a name isn't replaced.
+#[derive(Clone, Copy, PartialEq, Eq)]
+pub enum RenameProblem {
+    /// No name stands there that is declared.
+    NoName,
+    /// The new name is none.
+    NotAName,
+    /// The program would not be the same.
+    OtherProgram,
+}
 
 /// A compiler, as far as an editor needs it.
 pub trait Compiler {
@@ -19,6 +31,18 @@ pub trait Compiler {
     /// The faults of a source, the one that it is refused for first; none where it is accepted.
     fn faults(&self, alloc: Global, source: &str) -> Result<Vec<Told>, AllocError>
         ensures { IfOk result (λ told. AreFaults accepts refuses source.now (map (λ t. t.refusal) told.items)) };
+
+    /// What an accepted source is warned of, in the order of its text.
+    fn warnings(&self, alloc: Global, source: &str) -> Result<Vec<Warning>, AllocError>;
+
+    /// Why the declared name that stands at a byte of a source, or ends there, can't be replaced by another one; nothing where it can.
+    fn rename_problem(
+        &self,
+        alloc: Global,
+        source: &str,
+        byte: usize,
+        name: &str,
+    ) -> Result<Option<RenameProblem>, AllocError>;
 
     /// A source as it is laid out; nothing where it can't be read.
     fn laid_out(&self, alloc: Global, source: &str) -> Result<Option<String>, AllocError>;

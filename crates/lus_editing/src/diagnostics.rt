@@ -1,15 +1,17 @@
 //! What is said of the faults of a document.
 
-ghost use Rattle.std.specs.Prelude.{◌≡◌, ◌∷◌, IfOk, map, string_bytes};
+ghost use Rattle.std.specs.Prelude.{◌≡◌, [], ◌∷◌, IfOk, map, string_bytes};
 ghost use Rattle.lus_editing.specs.Diagnostics.{IsSaidOf, diagnostic_text, diagnostics_text, refusal_text};
 ghost use Rattle.lus_editing.specs.Messages.{sent_seen};
 
 use crate::messages::Sent;
+use crate::warned::warning_diagnostics;
 use lus_faults::{Related, offset_of};
 use lus_further::Told;
 use lus_json_faults::push_string;
 use lus_queries::spot_at;
 use lus_syntax::Refusal;
+use lus_warnings::Warning;
 use std::alloc::{AllocError, Global};
 
 /// Appends the range of so many bytes of a text from one on.
@@ -169,17 +171,30 @@ fn published_faults(
     notification(alloc, sent, diagnostics.as_str())
 }
 
-/// What is said of a text with these faults.
+/// What is said of a text that has no faults.
+fn published_warnings(
+    alloc: Global,
+    sent: Sent<'_>,
+    warnings: &[Warning],
+) -> Result<String, AllocError>
+    ensures { IfOk result (λ t. IsSaidOf (sent_seen sent.entry) [] (string_bytes t)) }
+{
+    let said = warning_diagnostics(alloc, sent.text, warnings)?;
+    notification(alloc, sent, said.as_str())
+}
+
+/// What is said of a text with these faults, or with these warnings where it has no faults.
 pub(crate) fn published(
     alloc: Global,
     sent: Sent<'_>,
     faults: &[Told],
+    warnings: &[Warning],
 ) -> Result<String, AllocError>
     ensures { IfOk result (λ t. IsSaidOf (sent_seen sent.entry) (map (λ t. t.refusal) faults.now) (string_bytes t)) }
 {
     match faults.split_first() {
         Some((first, others)) => published_faults(alloc, sent, first, others),
-        None => notification(alloc, sent, ""),
+        None => published_warnings(alloc, sent, warnings),
     }
 }
 

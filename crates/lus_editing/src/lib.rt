@@ -10,10 +10,12 @@ mod diagnostics;
 mod formatting;
 mod messages;
 mod queries;
+mod renames;
 mod server;
 mod serving;
+mod warned;
 
-pub use compiler::Compiler;
+pub use compiler::{Compiler, RenameProblem};
 pub use conversation::{ConversationError, converse};
 pub use server::Server;
 pub use serving::serve;

@@ -165,6 +165,11 @@ pub(crate) fn range_of(parameters: &Value) -> Option<(Spot, Spot)> {
     Some((start, end))
 }
 
+/// The name that parameters give in place of another one.
+pub(crate) fn new_name_of(parameters: &Value) -> Option<&str> {
+    parameters.get("newName")?.as_str()
+}
+
 /// Whether references are asked for with the declaration, if the parameters say so.
 pub(crate) fn has_declaration(parameters: &Value) -> Option<bool> {
     parameters

@@ -4,8 +4,8 @@ use crate::answers::Problem;
 use crate::messages::{has_declaration, position_of, uri_of};
 use crate::server::Server;
 use lus_queries::{
-    Spot, completions, definition, folds, highlights, hover, references, semantic_tokens,
-    signature_help, symbols,
+    Spot, completions, definition, folds, highlights, hover, references, renamable,
+    semantic_tokens, signature_help, symbols,
 };
 use serde_json::Value;
 use std::alloc::{AllocError, Global};
@@ -27,6 +27,7 @@ pub(crate) enum Lookup {
     Definition,
     References,
     Highlights,
+    Renamable,
 }
 
 /// What is asked.
@@ -48,6 +49,7 @@ pub(crate) fn query_of(method: &str) -> Option<Query> {
         "textDocument/definition" => Some(Query::Lookup(Lookup::Definition)),
         "textDocument/references" => Some(Query::Lookup(Lookup::References)),
         "textDocument/documentHighlight" => Some(Query::Lookup(Lookup::Highlights)),
+        "textDocument/prepareRename" => Some(Query::Lookup(Lookup::Renamable)),
         _ => None,
     }
 }
@@ -80,6 +82,7 @@ fn looked_up(
             references(alloc, source, uri, at, has_declaration)
         }
         Lookup::Highlights => highlights(alloc, source, at),
+        Lookup::Renamable => renamable(alloc, source, at),
     }
 }
 

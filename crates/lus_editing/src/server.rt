@@ -2,6 +2,7 @@
 
 use indexmap::IndexMap;
 use lus_further::Told;
+use lus_warnings::Warning;
 use std::alloc::{AllocError, Global};
 
 /// How far a server has come.
@@ -16,11 +17,12 @@ pub(crate) enum Stage {
     Over { is_in_order: bool },
 }
 
-/// A document that is open, with the faults of its text.
+/// A document that is open, with the faults of its text, or the warnings where it has no faults.
 #[derive(Drop)]
 pub(crate) struct Document {
     pub text: String,
     pub faults: Vec<Told>,
+    pub warnings: Vec<Warning>,
 }
 
 /// The state of a server.

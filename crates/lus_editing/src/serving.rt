@@ -17,7 +17,10 @@ use crate::diagnostics::{closed, published};
 use crate::formatting::formatted;
 use crate::messages::{Sent, id_of, method_of, parameters_of, sent_by, uri_of};
 use crate::queries::{queried, query_of};
+use crate::renames::renamed;
 use crate::server::{Document, Server, Stage};
+use lus_further::Told;
+use lus_warnings::Warning;
 use serde_json::Value;
 use std::alloc::{AllocError, Global};
 
@@ -53,6 +56,7 @@ fn outcome<C: Compiler>(
         }
         "textDocument/formatting" => formatted(alloc, compiler, server, parameters),
         "textDocument/codeAction" => actions_of(alloc, server, parameters),
+        "textDocument/rename" => renamed(alloc, compiler, server, parameters),
         _ => match query_of(method) {
             Some(query) => queried(alloc, server, query, parameters),
             None => Ok(Err(Problem::Method)),
@@ -95,7 +99,21 @@ fn answer<C: Compiler>(
     }
 }
 
-/// Keeps a text that was sent, and says what its faults are.
+/// What a text is warned of that has these faults: nothing where there are some.
+fn warnings_beside<C: Compiler>(
+    alloc: Global,
+    compiler: &C,
+    source: &str,
+    faults: &[Told],
+) -> Result<Vec<Warning>, AllocError> {
+    if faults.is_empty() {
+        compiler.warnings(alloc, source)
+    } else {
+        Ok(Vec::new(alloc))
+    }
+}
+
+/// Keeps a text that was sent, and says what its faults are, or its warnings.
 fn take<C: Compiler>(
     alloc: Global,
     compiler: &C,
@@ -105,9 +123,14 @@ fn take<C: Compiler>(
     ensures { IfOk result (λ t. Publishes C.accepts C.refuses (sent_seen sent.entry) (string_bytes t)) }
 {
     let faults = compiler.faults(alloc, sent.text)?;
-    let said = published(alloc, sent, &faults)?;
+    let warnings = warnings_beside(alloc, compiler, sent.text, &faults)?;
+    let said = published(alloc, sent, &faults, &warnings)?;
     let text = String::from_str(alloc, sent.text)?;
-    let document = Document { text, faults };
+    let document = Document {
+        text,
+        faults,
+        warnings,
+    };
     server.keep(alloc, sent.uri, document)?;
     Ok(said)
 }

@@ -5,11 +5,13 @@ ghost use Rattle.lus_syntax.specs.declared.refusal.Refusal.{Refusal};
 ghost use Rattle.lus_editing.specs.Diagnostics.{AreFaults};
 ghost use Rattle.lus_lsp.specs.Verdicts.{IsAccepted, IsRefused};
 
-use lus_editing::Compiler;
+use lus_editing::{Compiler, RenameProblem};
 use lus_format::{FormatError, format};
 use lus_further::Told;
+use lus_rename::{RenameError, renamed};
 use lus_reports::{accept, further_faults, known_finding};
 use lus_syntax::{Refusal, RefusalNumber};
+use lus_warnings::{Warning, warnings_of};
 use std::alloc::{AllocError, Global};
 
 /// This compiler. It accepts and refuses what `lus --check` does.
@@ -51,6 +53,32 @@ impl Compiler for Front {
 
     fn faults(&self, alloc: Global, source: &str) -> Result<Vec<Told>, AllocError> {
         faults_of(alloc, source.as_bytes())
+    }
+
+    fn warnings(&self, alloc: Global, source: &str) -> Result<Vec<Warning>, AllocError> {
+        match warnings_of(alloc, source, None) {
+            Ok(warnings) => Ok(warnings),
+            Err(refusal) if refusal.number == RefusalNumber::Memory => Err(AllocError),
+            Err(_) => Ok(Vec::new(alloc)),
+        }
+    }
+
+    fn rename_problem(
+        &self,
+        alloc: Global,
+        source: &str,
+        byte: usize,
+        name: &str,
+    ) -> Result<Option<RenameProblem>, AllocError> {
+        match renamed(alloc, source, byte, name) {
+            Ok(_made) => Ok(None),
+            Err(RenameError::NoName) => Ok(Some(RenameProblem::NoName)),
+            Err(RenameError::NotAName) => Ok(Some(RenameProblem::NotAName)),
+            Err(RenameError::Refused(refusal)) if refusal.number == RefusalNumber::Memory => {
+                Err(AllocError)
+            }
+            Err(_) => Ok(Some(RenameProblem::OtherProgram)),
+        }
     }
 
     fn laid_out(&self, alloc: Global, source: &str) -> Result<Option<String>, AllocError> {

@@ -9,6 +9,7 @@ mod hovering;
 mod occurrences;
 mod outline;
 mod places;
+mod renames;
 mod signature;
 
 pub use colours::semantic_tokens;
@@ -17,4 +18,5 @@ pub use hovering::hover;
 pub use occurrences::{definition, highlights, references};
 pub use outline::{folds, symbols};
 pub use places::{Lines, Spot, lines_of, spot_at};
+pub use renames::{renamable, renaming};
 pub use signature::signature_help;

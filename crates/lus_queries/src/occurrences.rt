@@ -7,7 +7,7 @@ use lus_syntax::Span;
 use std::alloc::{AllocError, Global};
 
 /// Where the name of a declaration stands, and the names that stand for it, if the name at a spot does.
-fn spans_at(
+pub(crate) fn spans_at(
     alloc: Global,
     lines: &Lines<'_>,
     names: &Names<'_>,

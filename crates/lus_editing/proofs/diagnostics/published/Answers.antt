@@ -14,5 +14,5 @@ returns-in-Some c =
 
 pub returns-in-None : goal.returns-in-None
 returns-in-None c =
-    IfOk-weaker c.notification.result _ _ (λ t is. said_of_none (sent_seen c.args.sent) c.args.faults.now (string_bytes t) c.in-None.ensures.cases is)
-    c.notification.ensures
+    IfOk-weaker c.published_warnings.result _ _
+    (λ t is. said_of_none (sent_seen c.args.sent) c.args.faults.now (string_bytes t) c.in-None.ensures.cases is) c.published_warnings.ensures

@@ -9,6 +9,6 @@ pub returns : goal.returns
 returns g c = (
   map (λ t. t.refusal) c.in_ok-faults.faults.items,
   c.in_ok-faults.ensures,
-  subst (λ (ts : List Told). IsSaidOf (sent_seen c.args.sent) (map (λ t. t.refusal) ts) (string_bytes c.in_ok-said.said)) c.deref.ensures.value
+  subst (λ (ts : List Told). IsSaidOf (sent_seen c.args.sent) (map (λ t. t.refusal) ts) (string_bytes c.in_ok-said.said)) c.deref-2.ensures.value
       c.in_ok-said.ensures,
 )
