@@ -4,7 +4,6 @@
 
 mod class;
 mod classes;
-mod counts;
 mod emission;
 mod frames;
 mod items;
