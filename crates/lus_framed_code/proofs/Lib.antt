@@ -1,8 +1,11 @@
 mod Answered
 mod Belonging
 mod Growing
+mod InPlace
 mod Marked
 mod Segments
 mod ShortTurns
+mod Skipping
 mod Standing
 mod Underway
+mod Unfolding

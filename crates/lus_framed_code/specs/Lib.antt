@@ -5,3 +5,4 @@ pub mod Made
 pub mod Marking
 pub mod Laws
 pub mod Answering
+pub mod Unfolding
