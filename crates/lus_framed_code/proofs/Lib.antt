@@ -4,7 +4,6 @@ mod Growing
 mod InPlace
 mod Marked
 mod Segments
-mod ShortTurns
 mod Skipping
 mod Standing
 mod Underway

@@ -61,7 +61,6 @@ fn place_in_order(alloc: Global, order: &[usize], classes: &mut [Class]) -> Resu
     let none = Extent {
         cells: 0,
         firsts: 0,
-        variables: 0,
     };
     let mut rooms = vec![in alloc; none; classes.len()]?;
     for place in order {

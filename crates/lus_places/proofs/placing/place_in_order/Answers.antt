@@ -1,4 +1,4 @@
-use Rattle.std.proofs.Common.{◌≡◌, ◌+◌, ◌<◌, ◌≤◌, ℕ, List, length, set, take, take_all, get_or, sym, subst, arith, rules}
+use Rattle.std.proofs.Common.{◌≡◌, ◌<◌, ◌≤◌, ℕ, List, length, set, take, take_all, get_or, sym, subst, arith, rules}
 use Rattle.std.proofs.lemmas.List.{get_or_default, length-map}
 use Rattle.std.proofs.lemmas.Option.{slice_get-get_or}
 use Rattle.lus_graph.specs.Ways.{IsOrder}
@@ -6,7 +6,7 @@ use Rattle.lus_flat_classes.specs.declared.class.Class.{Class}
 use Rattle.lus_places.specs.Shaped.{class_uses, nodes_of}
 use Rattle.lus_places.proofs.Underway.{IsUnderway, underway_step}
 use Rattle.lus_places.proofs.Ready.{all_ready}
-use Rattle.lus_places.proofs.Rooms.{all_as_long, next_here, next_stored, order_short, rooms_next, whole_room, AreRoomsSoFar}
+use Rattle.lus_places.proofs.Rooms.{all_as_long, next_here, next_stored, rooms_next, whole_room, AreRoomsSoFar}
 use Rattle.lus_places.specs.Few.{CanBeStored}
 use Rattle.lus_places.specs.Placing.{IsPlaced}
 use Rattle.lus_places.proofs.placing.place_in_order.Goals as goal
@@ -52,8 +52,7 @@ place_class-room-requires c =
     let here = slice_get-get_or c.loop-place.classes (get_or order i 0) one within in
     let rooms = c.loop-place.rooms.items in
     let same = next_here old c.loop-place.classes rooms order i class c.requires.order c.loop-place-test.true c.loop-place.invariant.underway here in
-    let short = order_short old order i c.requires.order c.loop-place-test.true in
-    subst (λ rs. CanBeStored (whole_room rs class)) (sym c.deref.ensures.value) (next_stored old c.requires.few i short rooms (c.loop-place.invariant.rooms c.requires.few) (get_or order i 0) class same)
+    subst (λ rs. CanBeStored (whole_room rs class)) (sym c.deref.ensures.value) (next_stored old rooms c.loop-place.invariant.rooms (get_or order i 0) class same c.requires.few)
 
 pub loop-place-preserved : goal.loop-place-preserved
 loop-place-preserved c =
@@ -70,12 +69,11 @@ loop-place-preserved c =
     let room = c.place_class-room.result in
     let placed : IsPlaced rooms class c.place_class-room.new.class room = rw c.deref.ensures.value at c.place_class-room.ensures in
     let same = next_here old c.loop-place.classes rooms order i class c.requires.order c.loop-place-test.true c.loop-place.invariant.underway here in
-    let short = order_short old order i c.requires.order c.loop-place-test.true in
     let width = c.loop-place.invariant.underway.width in
     let wide : get_or order i 0 < length rooms = omega (arith, low, width) in
     record {
       underway = underway_step old c.loop-place.classes rooms order i class c.place_class-room.new.class room c.requires.order c.requires.shaped c.loop-place-test.true c.loop-place.invariant.underway here placed;
-      rooms = λ few. subst (λ r. AreRoomsSoFar old few.variables (i + 1) (set rooms (get_or order i 0) r)) (sym placed.extent) (rooms_next old few i short rooms (c.loop-place.invariant.rooms few) (get_or order i 0) class same wide);
+      rooms = subst (λ r. AreRoomsSoFar old (set rooms (get_or order i 0) r)) (sym placed.extent) (rooms_next old rooms c.loop-place.invariant.rooms (get_or order i 0) class same wide);
     }
 
 pub returns-clause-ready : goal.returns-clause-ready
@@ -95,4 +93,4 @@ returns-clause-long c =
     let end : length order ≤ c.loop-place.place-index = omega arith in
     let whole : take c.loop-place.place-index order ≡ order = take_all c.loop-place.place-index order end in
     λ counts kept. all_as_long old c.loop-place.classes rooms order (subst (IsUnderway old c.loop-place.classes rooms) whole c.loop-place.invariant.underway)
-    (λ g lt. c.requires.order.whole g (let long = length-map old nodes_of in omega (arith, lt, long))) counts ((c.loop-place.invariant.rooms c.requires.few).keep counts kept)
+    (λ g lt. c.requires.order.whole g (let long = length-map old nodes_of in omega (arith, lt, long))) counts (c.loop-place.invariant.rooms counts kept)

@@ -1,5 +1,4 @@
 use Rattle.std.proofs.Common.{take}
-use Rattle.lus_places.specs.Few.{AreFew}
 use Rattle.lus_places.proofs.Rooms.{AreRoomsSoFar}
 use Rattle.lus_places.proofs.Underway.{IsUnderway}
 use Rattle.lus_places.proofs.placing.place_in_order.Given as goal
@@ -7,5 +6,5 @@ use Rattle.lus_places.proofs.placing.place_in_order.Given as goal
 abbrev pub invariant-loop-place : goal.invariant-loop-place
 invariant-loop-place l = record {
   underway : IsUnderway l.initial.classes l.classes l.rooms.items (take l.place-index l.order);
-  rooms : (few : AreFew l.initial.classes) → AreRoomsSoFar l.initial.classes few.variables l.place-index l.rooms.items;
+  rooms : AreRoomsSoFar l.initial.classes l.rooms.items;
 }
