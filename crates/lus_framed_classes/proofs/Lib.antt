@@ -1,6 +1,6 @@
 mod Rows
 mod Steps
-mod Asked
+pub mod Asked
 pub mod Segments
 mod Callee
 mod Call

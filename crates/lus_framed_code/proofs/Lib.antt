@@ -1,3 +1,4 @@
+mod Alike
 mod Answered
 mod Belonging
 mod Growing

@@ -13,5 +13,5 @@ mod once;
 mod unfolding;
 
 pub use classes::frame_classes;
-pub use laws::{instants_answer, made_code_belongs};
+pub use laws::{instants_answer, likes_answer, made_code_belongs};
 pub use unfolding::unfold_classes;
