@@ -1,3 +1,4 @@
 mod Having
 mod InPlace
 mod Walking
+mod LikeFrames

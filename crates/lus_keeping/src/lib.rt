@@ -6,5 +6,5 @@ mod own;
 mod presence;
 mod rows;
 
-pub use laws::code_has_frames;
+pub use laws::{code_has_frames, likes_have_frames};
 pub use rows::keep_class;
