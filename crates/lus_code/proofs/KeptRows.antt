@@ -190,11 +190,4 @@ classes_few p classes are small =
       counts = small.counts;
       counted = classes_keep p classes are small.lefts small.counts small.kept;
       small = λ g. let few = small.few g in omega (arith, few);
-      variables = 1049576;
-      narrow = λ g c here.
-          let width = (are.each g c here).belongs.width in
-          let long = length-map c.tests.items (clock_from c.tests.items) in
-          let few = small.variables g in
-          omega (arith, width, long, few);
-      total = (let size = are.size in let nodes = small.nodes in omega (arith, size, nodes));
     }

@@ -1,6 +1,5 @@
 pub mod MadeClasses
 pub mod KeptRows
 pub mod NormalForms
-pub mod Linked
 pub use Rattle.lus_order.proofs as OrderProofs
 pub use Rattle.lus_simulation.proofs as SimulationProofs

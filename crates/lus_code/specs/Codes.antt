@@ -1,20 +1,23 @@
--- How contracts see the code of a program: the ordered program that it is made of, a class for each node, and the state cells
--- of each.
+-- How contracts see the code of a program: the ordered program that it is made of, a class for each node with its code, and the
+-- state cells of each.
 use Rattle.std.specs.Prelude.{◌≡◌, ℕ, List, length}
 use Rattle.lus_program.specs.Programs.{Program}
 use Rattle.lus_program.specs.View.{program_seen}
 use Rattle.lus_classes.specs.Classes.{Class}
 use Rattle.lus_order.specs.OrderedPrograms.{OrderedProgram}
 use Rattle.lus_simulation.specs.Codes.{AreCodeOf}
+use Rattle.lus_frames.specs.declared.class.Class.{Class as Framed}
 use Rattle.lus_flat_classes.specs.declared.class.Class.{Class as StoredClass}
 use Rattle.lus_flat_classes.specs.Turns.{AreReady}
 use Rattle.lus_flat_classes.specs.View.{classes_of}
 use Rattle.lus_places.specs.Few.{AreAsLong}
 use Rattle.lus_cells.specs.Cells.{AreStateCells}
+use Rattle.lus_running.specs.Settings.{RunsClasses}
 
 pub record ProgramCode : Type 0 where
   pub source : OrderedProgram
   pub classes : List StoredClass
+  pub framed : List Framed
   pub cells : List ℕ
 
 -- the plain program and the plain classes of a code
@@ -28,10 +31,13 @@ plain_classes c = classes_of c.classes
 abbrev pub IsCodeOf : Program → List Class → Type 0
 IsCodeOf p classes = (q : Program) × AreCodeOf p q classes
 
--- a class for each node of p, that can be run, and the state cells of the nodes: the part of each is no longer than these
-pub record IsTranslated (p : Program) (classes : List StoredClass) (cells : List ℕ) : Type 0 where
+-- a class for each node of p, that can be run by its code, and the state cells of the nodes: the part of each is no longer than
+-- these
+pub record IsTranslated (p : Program) (classes : List StoredClass) (framed : List Framed) (cells : List ℕ) : Type 0 where
   pub code : IsCodeOf p (classes_of classes)
   pub size : length classes ≡ length p.nodes
   pub ready : AreReady classes
+  pub many : length framed ≡ length classes
+  pub runs : RunsClasses classes framed
   pub counted : AreStateCells p cells
   pub rows : AreAsLong cells classes

@@ -12,11 +12,13 @@ ghost use Rattle.lus_flat_classes.specs.View.{classes_of};
 ghost use Rattle.lus_simulation.specs.Checked.{IsChecked};
 ghost use Rattle.lus_places.specs.Few.{AreAsLong};
 ghost use Rattle.lus_cells.specs.Cells.{AreStateCells, FitsCells, NamesTooMany};
+ghost use Rattle.lus_running.specs.Settings.{RunsClasses};
 ghost use Rattle.lus_code.specs.Codes.{IsCodeOf, program_of};
 
 use crate::classes::classes_of_nodes;
 use lus_cells::cells_of_nodes;
 use lus_flat_classes::Class;
+use lus_frames::Class as Framed;
 use lus_normal::Normal;
 use lus_order::Ordered;
 use lus_program::{NodeId, Program};
@@ -25,10 +27,11 @@ use lus_typing::Sound;
 use std::alloc::Global;
 use std::marker::Model;
 
-/// The code of a program: a class for each of its nodes.
+/// The code of a program: a class for each of its nodes, with the code that makes its instants.
 pub struct Code {
     source: Ordered,
     classes: Vec<Class>,
+    framed: Vec<Framed>,
     cells: Vec<u32>,
 }
 
@@ -44,9 +47,9 @@ impl Model for Code {
 
     ghost coded = { Prim.hlevel (codes, program_expr.the_row.coded, formula.the_row.coded, value.the_row.coded) };
 
-    ghost view = { λ c. record { source = c.source; classes = c.classes.items; cells = c.cells.items } };
+    ghost view = { λ c. record { source = c.source; classes = c.classes.items; framed = c.framed.items; cells = c.cells.items } };
 
-    ghost invariant = { λ c. IsTranslated (program_seen c.source.program) c.classes.items c.cells.items };
+    ghost invariant = { λ c. IsTranslated (program_seen c.source.program) c.classes.items c.framed.items c.cells.items };
 }
 
 impl Code {
@@ -74,6 +77,15 @@ impl Code {
         ensures rows { AreAsLong self.now.cells result.now }
     {
         &self.classes
+    }
+
+    /// The code of each class, by the node's place.
+    pub fn framed(&self) -> &[Framed]
+        ensures same { result.now ≡ self.now.framed }
+        ensures size { length result.now ≡ length self.now.classes }
+        ensures runs { RunsClasses self.now.classes result.now }
+    {
+        &self.framed
     }
 
     /// How many nodes there are.
@@ -117,11 +129,12 @@ pub fn translate(alloc: Global, normal: Normal) -> Result<Code, Refusal>
     ensures placed { IfErr result (λ e. e.number ≢ numbers.Memory → NamesTooMany normal.source.program e.line e.column) }
 {
     let cells = cells_of_nodes(alloc, sound_of(&normal))?;
-    let classes = classes_of_nodes(alloc, normal.program(), normal.orders())?;
+    let coded = classes_of_nodes(alloc, normal.program(), normal.orders())?;
     let source = normal.into_source();
     Ok(Code {
         source,
-        classes,
+        classes: coded.classes,
+        framed: coded.framed,
         cells,
     })
 }
@@ -132,6 +145,7 @@ impl Drop for Code {
         let Code {
             source: _,
             classes: _,
+            framed: _,
             cells: _,
         } = self;
     }

@@ -29,7 +29,8 @@ pub fn turn_equations(
     requires order { OrdersVariables (node_of node.now) order.now }
     ensures { IfOk result (λ c. IsTurned (program_seen program.now) (node_of node.now) c) }
 {
-    class_of(alloc, program, node, order)
+    let made = class_of(alloc, program, node, order)?;
+    Ok(made.0)
 }
 
 /// Gives the parts of calls their places, after which classes can be run.
