@@ -134,7 +134,7 @@ module _ (status : ℕ) (old mid new : Option Bytes) (before between after : Opt
       → IsToldAlone status f (change old new before after)
   told_alone (faults.Journal n) quiet told = (mid, between, told)
   told_alone (faults.Program e) quiet told = same_told (faults.Program e) quiet told
-  told_alone (faults.Scripts e) quiet told = same_told (faults.Scripts e) quiet told
+  told_alone (faults.Scripts e) quiet told = (mid, between, told)
   told_alone faults.Words quiet told = same_told faults.Words quiet told
   told_alone faults.File quiet told = same_told faults.File quiet told
   told_alone faults.Output quiet told = same_told faults.Output quiet told
@@ -144,7 +144,7 @@ module _ (status : ℕ) (old mid new : Option Bytes) (before between after : Opt
 pub quiet_nothing : (f : Fault) (w : Option Bytes) (n : Option ℕ) → IsQuiet f (change w w n n)
 quiet_nothing (faults.Journal k) w n = tt
 quiet_nothing (faults.Program e) w n = (refl, refl)
-quiet_nothing (faults.Scripts e) w n = (refl, refl)
+quiet_nothing (faults.Scripts e) w n = tt
 quiet_nothing faults.Words w n = (refl, refl)
 quiet_nothing faults.File w n = (refl, refl)
 quiet_nothing faults.Output w n = (refl, refl)

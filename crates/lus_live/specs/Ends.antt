@@ -130,11 +130,11 @@ abbrev pub GoesOn : Known → Program → ℕ → Text → Option Bytes → Opti
 GoesOn had p node name left end (Ok ran) output = HasGoneOn had p node name left end ran output
 GoesOn had p node name left end (Err f) output = IsRecoveryFault f × (end ≡ left) × IsUntouched output
 
--- before a fault is told nothing was said, unless it is a journal's
+-- before a fault is told nothing was said, unless it is a journal's, or the program lacks the node
 abbrev pub IsQuiet : Fault → Change → Type 0
 IsQuiet (faults.Journal n) c = ⊤
 IsQuiet (faults.Program e) c = IsUntouched c
-IsQuiet (faults.Scripts e) c = IsUntouched c
+IsQuiet (faults.Scripts e) c = ⊤
 IsQuiet faults.Words c = IsUntouched c
 IsQuiet faults.File c = IsUntouched c
 IsQuiet faults.Output c = IsUntouched c
@@ -157,11 +157,11 @@ play_fault plays.Full = faults.Scripts scripts.Limit
 abbrev pub IsToldLast : ℕ → Fault → Change → Type 0
 IsToldLast status f faults = (said : Option Bytes) × (failed : Option ℕ) × IsToldBy status f (change said faults.new failed faults.after)
 
--- a journal's fault is told behind a reply that isn't the right one, and any other alone
+-- a journal's fault is told behind the line that isn't right, that of a node behind the names of those that there are, and any other alone
 abbrev pub IsToldAlone : ℕ → Fault → Change → Type 0
 IsToldAlone status (faults.Journal n) c = IsToldLast status (faults.Journal n) c
 IsToldAlone status (faults.Program e) c = IsToldBy status (faults.Program e) c
-IsToldAlone status (faults.Scripts e) c = IsToldBy status (faults.Scripts e) c
+IsToldAlone status (faults.Scripts e) c = IsToldLast status (faults.Scripts e) c
 IsToldAlone status faults.Words c = IsToldBy status faults.Words c
 IsToldAlone status faults.File c = IsToldBy status faults.File c
 IsToldAlone status faults.Output c = IsToldBy status faults.Output c

@@ -2,7 +2,9 @@
 //! grows, or with `--json` each reply as an object of JSON, or with `--csv` the outputs of steps as records.
 #![tactic(auto)]
 
+mod notes;
 mod shell;
 mod words;
 
+pub use notes::tell_nodes;
 pub use shell::command;

@@ -9,45 +9,36 @@ ghost use Rattle.lus_cli.specs.MachineSpecs.Formals.{node_named};
 ghost use Rattle.lus_live.specs.CommandLine.{asked, task_seen};
 ghost use Rattle.lus_live.specs.Ends.{Ends, GoesOn, IsQuiet, TaskEnds, play_fault, recovery_fault, score_status};
 
+use crate::notes::{tell_no_entry, tell_nodes, tell_start, tell_wrong};
 use crate::words::{Form, Task, read_words};
-use itoa::Buffer;
 use lus_cli::lus_host::ScriptRefusal;
 use lus_cli::{Fault, read_program, tell};
-use lus_devices::{Folder, Sink, Source, write_all};
+use lus_devices::{Folder, Sink, Source};
 use lus_lines::Buffered;
 use lus_told::lus_live_instance::lus_machine::{NodeId, Program};
 use lus_told::lus_live_instance::{
-    PlayError, RecoveryError, Score, Start, recover_live, resume_live, run_live,
+    PlayError, RecoveryError, Score, recover_live, resume_live, run_live,
 };
 use lus_told::{run_csv, run_json};
 use std::alloc::Global;
 use std::sync::Arc;
 
-/// Says what is written and what would be right. What can't be written changes nothing.
-fn tell_wrong<F: Sink>(faults: &mut F, line: &[u8], right: &[u8]) {
-    let _ = write_all(faults, b"written ");
-    let _ = write_all(faults, line);
-    let _ = write_all(faults, b"right   ");
-    let _ = write_all(faults, right);
-}
-
-/// Says that the line of this number was cut short, where it was.
-fn tell_start<F: Sink>(faults: &mut F, start: Start) {
-    if let Start::Cut(_, number) = start {
-        let mut digits = Buffer::new();
-        let _ = write_all(faults, b"note: line ");
-        let _ = write_all(faults, digits.format(number).as_bytes());
-        let _ = write_all(faults, b" of the journal was cut short, and is no entry\n");
-    }
-}
-
-/// Why a journal isn't gone on from. A reply that isn't right is shown beside the right one.
-fn refuse<F: Sink>(error: RecoveryError, line: &[u8], right: &[u8], faults: &mut F) -> Fault
+/// Why the journal of a node isn't gone on from. The line that isn't right is shown, a wrong reply beside the right one.
+fn refuse<F: Sink>(
+    error: RecoveryError,
+    name: &str,
+    line: &[u8],
+    right: &[u8],
+    faults: &mut F,
+) -> Fault
     ensures fault { result ≡ recovery_fault error }
     ensures quiet { IsQuiet result (change (F.written faults.old) (F.written faults.new) (F.failures faults.old) (F.failures faults.new)) }
 {
     match error {
-        RecoveryError::Line(number) => Fault::Journal(number),
+        RecoveryError::Line(number) => {
+            tell_no_entry(faults, name, number, line);
+            Fault::Journal(number)
+        }
         RecoveryError::Wrong(number) => {
             tell_wrong(faults, line, right);
             Fault::Journal(number)
@@ -92,7 +83,7 @@ fn go_on<D: Folder, S: Source, O: Sink, F: Sink>(
         &mut right,
     ) {
         Ok(recovered) => recovered,
-        Err(error) => return Err(refuse(error, &line, right.as_bytes(), faults)),
+        Err(error) => return Err(refuse(error, name, &line, right.as_bytes(), faults)),
     };
     tell_start(faults, recovered.start);
     Ok(resume_live(alloc, program, node, name, recovered, input, output, faults))
@@ -115,6 +106,7 @@ fn play_on<D: Folder, S: Source, O: Sink, F: Sink>(
 {
     let program = read_program(alloc, folder, task.program)?;
     let Some(node) = program.node(task.node) else {
+        tell_nodes(&program, faults);
         return Err(Fault::Scripts(ScriptRefusal::Unknown));
     };
     let Ok(program) = Arc::new(alloc, program) else {
