@@ -47,7 +47,8 @@ pub fn tell<C: Calls, T: Speaks, S: Source, O: Sink, F: Sink>(
 }
 
 /// Makes the call of each line of JSON on a new instance of a node, and writes its reply as an object of JSON, on a line of its own,
-/// before the next line is read. A line that is no call is answered nothing, and `faults` is given its number and what is wrong.
+/// before the next line is read. A line that is no call is answered nothing, and `faults` is given its number and what is wrong, and
+/// likewise of a call that is refused which input or slot, where the call alone shows it.
 pub fn run_json<S: Source, O: Sink, F: Sink>(
     alloc: Global,
     program: &Arc<Program>,
@@ -72,8 +73,10 @@ pub fn run_json<S: Source, O: Sink, F: Sink>(
         node,
     };
     let replies = JsonReplies {
+        alloc,
         program: source,
         names,
+        node,
         outputs,
     };
     tell(
