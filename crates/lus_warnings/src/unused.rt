@@ -4,6 +4,9 @@
 //! a node those of the source, of a variable those from its node's name to the next node's. So none is told that has a use; what has
 //! the name of something else in the same tokens may not be told.
 
+ghost use Rattle.std.specs.Prelude.{All, IfOk, OnOk};
+ghost use Rattle.lus_warnings.specs.Uses.{IsIdle, IsUnused};
+
 use crate::kind::Kind;
 use crate::scope::{Without, node_from, tokens_without};
 use crate::table::{Names, has_repeated, is_idle, is_repeated, names_among};
@@ -15,6 +18,21 @@ use std::alloc::{AllocError, Global};
 pub(crate) struct Unused<'t> {
     pub kind: Kind,
     pub name: &'t Name,
+}
+
+/// Appends a declaration, if it needs a use and has none.
+fn push_idle<'t>(
+    names: &Names<'_>,
+    kind: Kind,
+    name: &'t Name,
+    found: &mut Vec<Unused<'t>>,
+) -> Result<(), AllocError>
+    ensures { OnOk result (All (IsIdle names.now) found.old.items → All (IsIdle names.now) found.new.items) }
+{
+    if is_idle(names, name) {
+        found.push(Unused { kind, name })?;
+    }
+    Ok(())
 }
 
 /// Whether a type declares a constructor that has a use.
@@ -31,14 +49,12 @@ fn push_types<'t>(
     names: &Names<'_>,
     types: &'t [TypeDeclaration],
     found: &mut Vec<Unused<'t>>,
-) -> Result<(), AllocError> {
+) -> Result<(), AllocError>
+    ensures { OnOk result (All (IsIdle names.now) found.old.items → All (IsIdle names.now) found.new.items) }
+{
     for declaration in types {
-        let name = &declaration.name;
-        if is_idle(names, name) && !has_use(names, &declaration.definition) {
-            found.push(Unused {
-                kind: Kind::UnusedType,
-                name,
-            })?;
+        if !has_use(names, &declaration.definition) {
+            push_idle(names, Kind::UnusedType, &declaration.name, found)?;
         }
     }
     Ok(())
@@ -49,15 +65,11 @@ fn push_constants<'t>(
     names: &Names<'_>,
     constants: &'t [Constant],
     found: &mut Vec<Unused<'t>>,
-) -> Result<(), AllocError> {
+) -> Result<(), AllocError>
+    ensures { OnOk result (All (IsIdle names.now) found.old.items → All (IsIdle names.now) found.new.items) }
+{
     for constant in constants {
-        let name = &constant.name;
-        if is_idle(names, name) {
-            found.push(Unused {
-                kind: Kind::UnusedConstant,
-                name,
-            })?;
-        }
+        push_idle(names, Kind::UnusedConstant, &constant.name, found)?;
     }
     Ok(())
 }
@@ -78,121 +90,80 @@ fn push_nodes<'t>(
     run: &[&str],
     nodes: &'t [Node],
     found: &mut Vec<Unused<'t>>,
-) -> Result<(), AllocError> {
+) -> Result<(), AllocError>
+    ensures { OnOk result (All (IsIdle names.now) found.old.items → All (IsIdle names.now) found.new.items) }
+{
     for node in nodes {
-        let name = &node.name;
-        if is_idle(names, name) && !is_among(run, name.text.as_str()) {
-            found.push(Unused {
-                kind: Kind::UnusedNode,
-                name,
-            })?;
+        if !is_among(run, node.name.text.as_str()) {
+            push_idle(names, Kind::UnusedNode, &node.name, found)?;
         }
     }
     Ok(())
 }
 
-/// Appends those of some inputs that need a use and have none.
-fn push_idle_names<'t>(
+/// Appends those of some variables that need a use and have none.
+fn push_names<'t>(
     names: &Names<'_>,
+    kind: Kind,
     declared: &'t [Name],
     found: &mut Vec<Unused<'t>>,
-) -> Result<(), AllocError> {
+) -> Result<(), AllocError>
+    ensures { OnOk result (All (IsIdle names.now) found.old.items → All (IsIdle names.now) found.new.items) }
+{
     for name in declared {
-        if is_idle(names, name) {
-            found.push(Unused {
-                kind: Kind::UnusedInput,
-                name,
-            })?;
-        }
+        push_idle(names, kind, name, found)?;
     }
     Ok(())
 }
 
-/// Appends the inputs among some groups that need a use and have none.
-fn push_idle_groups<'t>(
-    names: &Names<'_>,
-    groups: &'t [Group],
-    found: &mut Vec<Unused<'t>>,
-) -> Result<(), AllocError> {
-    for group in groups {
-        push_idle_names(names, &group.names, found)?;
-    }
-    Ok(())
-}
-
-/// Appends the inputs of a node that nothing uses.
-fn push_inputs<'t>(
+/// The variables of some groups whose names stand once among tokens.
+fn unused_among<'t>(
     alloc: Global,
     tokens: &[Token<'_>],
-    node: &'t Node,
-    found: &mut Vec<Unused<'t>>,
-) -> Result<(), AllocError> {
+    kind: Kind,
+    groups: &'t [Group],
+) -> Result<Vec<Unused<'t>>, AllocError>
+    ensures { IfOk result (λ found. All (IsUnused tokens.now) found.items) }
+{
     let names = names_among(alloc, tokens)?;
-    push_idle_groups(&names, &node.inputs, found)
+    let mut found = Vec::new(alloc);
+    for group in groups {
+        push_names(&names, kind, &group.names, &mut found)?;
+    }
+    Ok(found)
 }
 
-/// What is told of a local variable that is used by its own equation alone, or by none.
-fn unread(read: &Names<'_>, name: &str) -> Kind {
-    if is_repeated(read, name) {
+/// The types and the constants that nothing in the source uses, and the nodes that no node calls and that aren't run. Of nodes it is
+/// asked which are run; where that isn't known, none is unused.
+fn unused_outside<'t>(
+    alloc: Global,
+    tokens: &[Token<'_>],
+    tree: &'t Tree,
+    run: Option<&[&str]>,
+) -> Result<Vec<Unused<'t>>, AllocError>
+    ensures { IfOk result (λ found. All (IsUnused tokens.now) found.items) }
+{
+    let names = names_among(alloc, tokens)?;
+    let mut found = Vec::new(alloc);
+    push_types(&names, &tree.types, &mut found)?;
+    push_constants(&names, &tree.constants, &mut found)?;
+    if let Some(run) = run {
+        push_nodes(&names, run, &tree.nodes, &mut found)?;
+    }
+    Ok(found)
+}
+
+/// A local variable that only its own equation uses, as a memory, if its name stands twice among what is read.
+fn as_memory<'t>(read: &Names<'_>, found: Unused<'t>) -> Unused<'t> {
+    let kind = if is_repeated(read, found.name.text.as_str()) {
         Kind::UnreadMemory
     } else {
-        Kind::UnusedLocal
+        found.kind
+    };
+    Unused {
+        kind,
+        name: found.name,
     }
-}
-
-/// Appends those of some local variables that need a use and have none, by the names outside of their own equations, and by those that
-/// are read.
-fn push_unread_names<'t>(
-    names: &Names<'_>,
-    read: &Names<'_>,
-    declared: &'t [Name],
-    found: &mut Vec<Unused<'t>>,
-) -> Result<(), AllocError> {
-    for name in declared {
-        if is_idle(names, name) {
-            found.push(Unused {
-                kind: unread(read, name.text.as_str()),
-                name,
-            })?;
-        }
-    }
-    Ok(())
-}
-
-/// Appends the local variables among some groups that need a use and have none.
-fn push_unread_groups<'t>(
-    names: &Names<'_>,
-    read: &Names<'_>,
-    groups: &'t [Group],
-    found: &mut Vec<Unused<'t>>,
-) -> Result<(), AllocError> {
-    for group in groups {
-        push_unread_names(names, read, &group.names, found)?;
-    }
-    Ok(())
-}
-
-/// The names among the tokens of a node, without some in its equations.
-fn names_without<'t>(
-    alloc: Global,
-    without: Without,
-    tokens: &[Token<'t>],
-    node: &Node,
-) -> Result<Names<'t>, AllocError> {
-    let kept = tokens_without(alloc, without, tokens, &node.equations)?;
-    names_among(alloc, &kept)
-}
-
-/// Appends the local variables of a node that have no use, by the names outside of their own equations.
-fn push_unread<'t>(
-    alloc: Global,
-    names: &Names<'_>,
-    tokens: &[Token<'_>],
-    node: &'t Node,
-    found: &mut Vec<Unused<'t>>,
-) -> Result<(), AllocError> {
-    let read = names_without(alloc, Without::Left, tokens, node)?;
-    push_unread_groups(names, &read, &node.locals, found)
 }
 
 /// Appends the local variables of a node that nothing but their own equations uses.
@@ -202,8 +173,13 @@ fn push_locals<'t>(
     node: &'t Node,
     found: &mut Vec<Unused<'t>>,
 ) -> Result<(), AllocError> {
-    let names = names_without(alloc, Without::Own, tokens, node)?;
-    push_unread(alloc, &names, tokens, node, found)
+    let others = tokens_without(alloc, Without::Own, tokens, &node.equations)?;
+    let rest = tokens_without(alloc, Without::Left, tokens, &node.equations)?;
+    let read = names_among(alloc, &rest)?;
+    for local in &unused_among(alloc, &others, Kind::UnusedLocal, &node.locals)? {
+        found.push(as_memory(&read, *local))?;
+    }
+    Ok(())
 }
 
 /// Appends the variables of a node that nothing uses.
@@ -213,53 +189,9 @@ fn push_variables<'t>(
     node: &'t Node,
     found: &mut Vec<Unused<'t>>,
 ) -> Result<(), AllocError> {
-    push_inputs(alloc, tokens, node, found)?;
+    let inputs = unused_among(alloc, tokens, Kind::UnusedInput, &node.inputs)?;
+    found.extend_from_slice(&inputs)?;
     push_locals(alloc, tokens, node, found)
-}
-
-/// Appends the variables of nodes that nothing uses.
-fn push_all_variables<'t>(
-    alloc: Global,
-    tokens: &[Token<'_>],
-    nodes: &'t [Node],
-    found: &mut Vec<Unused<'t>>,
-) -> Result<(), AllocError> {
-    let mut from = node_from(tokens, 0, nodes.first());
-    for (place, node) in nodes.iter().enumerate() {
-        let to = node_from(tokens, from, nodes.get(place.saturating_add(1)));
-        let own = tokens.get(from..to).unwrap_or(&[]);
-        push_variables(alloc, own, node, found)?;
-        from = to;
-    }
-    Ok(())
-}
-
-/// Appends the types, the constants and the nodes that nothing uses. Of nodes it is asked which are run; where that isn't known, none is
-/// unused.
-fn push_outside<'t>(
-    names: &Names<'_>,
-    tree: &'t Tree,
-    run: Option<&[&str]>,
-    found: &mut Vec<Unused<'t>>,
-) -> Result<(), AllocError> {
-    push_types(names, &tree.types, found)?;
-    push_constants(names, &tree.constants, found)?;
-    match run {
-        Some(run) => push_nodes(names, run, &tree.nodes, found),
-        None => Ok(()),
-    }
-}
-
-/// Appends what nothing in the source uses.
-fn push_unused<'t>(
-    alloc: Global,
-    tokens: &[Token<'_>],
-    tree: &'t Tree,
-    run: Option<&[&str]>,
-    found: &mut Vec<Unused<'t>>,
-) -> Result<(), AllocError> {
-    let names = names_among(alloc, tokens)?;
-    push_outside(&names, tree, run, found)
 }
 
 /// The declarations of a source that nothing uses: types, constants and nodes, and then inputs and locals.
@@ -269,8 +201,13 @@ pub(crate) fn unused_in<'t>(
     tree: &'t Tree,
     run: Option<&[&str]>,
 ) -> Result<Vec<Unused<'t>>, AllocError> {
-    let mut found = Vec::new(alloc);
-    push_unused(alloc, tokens, tree, run, &mut found)?;
-    push_all_variables(alloc, tokens, &tree.nodes, &mut found)?;
+    let mut found = unused_outside(alloc, tokens, tree, run)?;
+    let mut from = node_from(tokens, 0, tree.nodes.first());
+    for (place, node) in tree.nodes.iter().enumerate() {
+        let to = node_from(tokens, from, tree.nodes.get(place.saturating_add(1)));
+        let own = tokens.get(from..to).unwrap_or(&[]);
+        push_variables(alloc, own, node, &mut found)?;
+        from = to;
+    }
     Ok(found)
 }

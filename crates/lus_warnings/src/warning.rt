@@ -117,49 +117,6 @@ fn push_clocks(
     Ok(())
 }
 
-/// Appends warnings of the expressions in one.
-fn push_expressions<'t>(
-    alloc: Global,
-    source: &str,
-    scope: &Scope<'_, 't>,
-    fixed: &AllFixed<'t>,
-    expr: &'t Expr,
-    found: &mut Vec<Warning>,
-) -> Result<(), AllocError> {
-    for inner in &expressions_in(alloc, expr)? {
-        push_one(alloc, source, scope, fixed, inner, found)?;
-    }
-    Ok(())
-}
-
-/// Appends warnings of a node's clocks and of what its equations compute, by the variables that are always the same.
-fn push_by_fixed<'t>(
-    alloc: Global,
-    source: &str,
-    scope: &Scope<'_, 't>,
-    fixed: &AllFixed<'t>,
-    found: &mut Vec<Warning>,
-) -> Result<(), AllocError> {
-    push_clocks(alloc, fixed, &scope.node.outputs, found)?;
-    push_clocks(alloc, fixed, &scope.node.locals, found)?;
-    for equation in &scope.node.equations {
-        push_expressions(alloc, source, scope, fixed, &equation.right, found)?;
-    }
-    Ok(())
-}
-
-/// Appends warnings of what a node computes, by what its names stand for.
-fn push_scope(
-    alloc: Global,
-    source: &str,
-    scope: &Scope<'_, '_>,
-    found: &mut Vec<Warning>,
-) -> Result<(), AllocError> {
-    push_divisions(alloc, source, scope, found)?;
-    let fixed = fixed_in(alloc, scope)?;
-    push_by_fixed(alloc, source, scope, &fixed, found)
-}
-
 /// Appends warnings of what a node computes.
 fn push_node(
     alloc: Global,
@@ -169,70 +126,35 @@ fn push_node(
     found: &mut Vec<Warning>,
 ) -> Result<(), AllocError> {
     let scope = Scope::of(alloc, values, node)?;
-    push_scope(alloc, source, &scope, found)
-}
-
-/// Appends warnings of what nodes compute, by the values of constants.
-fn push_nodes(
-    alloc: Global,
-    source: &str,
-    values: &Values<'_>,
-    nodes: &[Node],
-    found: &mut Vec<Warning>,
-) -> Result<(), AllocError> {
-    for node in nodes {
-        push_node(alloc, source, values, node, found)?;
+    let fixed = fixed_in(alloc, &scope)?;
+    push_clocks(alloc, &fixed, &node.outputs, found)?;
+    push_clocks(alloc, &fixed, &node.locals, found)?;
+    for equation in &node.equations {
+        for expr in &expressions_in(alloc, &equation.right)? {
+            push_one(alloc, source, &scope, &fixed, expr, found)?;
+        }
     }
-    Ok(())
-}
-
-/// Appends warnings of what a source computes.
-fn push_computed(
-    alloc: Global,
-    source: &str,
-    tree: &Tree,
-    found: &mut Vec<Warning>,
-) -> Result<(), AllocError> {
-    let values = values_by_name(alloc, tree)?;
-    push_nodes(alloc, source, &values, &tree.nodes, found)
-}
-
-/// Appends warnings of declarations that nothing uses.
-fn push_unused(
-    alloc: Global,
-    unused: &[Unused<'_>],
-    found: &mut Vec<Warning>,
-) -> Result<(), AllocError> {
-    for idle in unused {
-        found.push(of_unused(alloc, *idle)?)?;
-    }
-    Ok(())
+    push_divisions(alloc, source, &scope, found)
 }
 
 /// What is warned of in a tree, in the order of the text.
 fn warnings_in(
     alloc: Global,
     source: &str,
-    tree: &Tree,
-    unused: &[Unused<'_>],
-) -> Result<Vec<Warning>, AllocError> {
-    let mut found = Vec::new(alloc);
-    push_unused(alloc, unused, &mut found)?;
-    push_computed(alloc, source, tree, &mut found)?;
-    found.sort_by_key(|warning| warning.span.start.byte)?;
-    Ok(found)
-}
-
-/// What is warned of in the tree of these tokens.
-fn warnings_by(
-    alloc: Global,
-    source: &str,
     tokens: &[Token<'_>],
     tree: &Tree,
     run: Option<&[&str]>,
 ) -> Result<Vec<Warning>, AllocError> {
-    let unused = unused_in(alloc, tokens, tree, run)?;
-    warnings_in(alloc, source, tree, &unused)
+    let mut found = Vec::new(alloc);
+    for idle in &unused_in(alloc, tokens, tree, run)? {
+        found.push(of_unused(alloc, *idle)?)?;
+    }
+    let values = values_by_name(alloc, tree)?;
+    for node in &tree.nodes {
+        push_node(alloc, source, &values, node, &mut found)?;
+    }
+    found.sort_by_key(|warning| warning.span.start.byte)?;
+    Ok(found)
 }
 
 /// What is warned of in an accepted source, in the order of the text. `run` has the names of the nodes that instances run, where these
@@ -244,5 +166,5 @@ pub fn warnings_of(
 ) -> Result<Vec<Warning>, Refusal> {
     let tokens = lex(alloc, source)?;
     let tree = parse(alloc, &tokens)?;
-    Ok(warnings_by(alloc, source, &tokens, &tree, run)?)
+    Ok(warnings_in(alloc, source, &tokens, &tree, run)?)
 }
