@@ -6,6 +6,8 @@ mod keeping;
 mod naming;
 mod proposing;
 mod renaming;
+#[cfg(test)]
+mod tests;
 
 pub use error::RenameError;
 pub use renaming::renamed;
