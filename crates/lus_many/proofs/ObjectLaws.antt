@@ -1,5 +1,5 @@
 -- What an object has behind its first brace, and the spelling of a node.
-use Rattle.std.proofs.Common.{◌≡◌, ◌≢◌, ◌==◌, ◌∙◌, ◌++◌, ℕ, Bool, true, false, cond, ap, refl, sym, subst, List, [], ◌∷◌, drop, codes, true-eqb}
+use Rattle.std.proofs.Common.{◌≡◌, ◌≢◌, ◌==◌, ◌∙◌, ◌++◌, ℕ, Bool, true, false, cond, ap, refl, sym, List, [], ◌∷◌, drop, codes, true-eqb}
 use Rattle.lus_values.specs.Names.{Names, Text}
 use Rattle.lus_program.specs.Programs.{Program, Variable, node_at}
 use Rattle.lus_hosting.specs.LiveSpecs.MachineSpecs.Constructors.{names_of}
