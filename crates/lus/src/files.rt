@@ -14,23 +14,23 @@ fn is_unopened<R: Files>(rt: &R, name: &str) -> bool {
     }
 }
 
-/// The last of the files that the words name which can't be opened. No flag names a file, nor does `-`, nor the name of a node, which
-/// stands behind `--script` or is the second word of `lus_live`, or of `lus_audit --many`, that is no flag.
+/// The last of the files that the words name which can't be opened. No flag names a file, nor does `-`, nor a name, which stands behind
+/// `--script` or `--caller`, or is the second word of `lus_live`, or of `lus_audit --many`, that is no flag: a node's.
 fn unopened<'w, R: Files>(rt: &R, tool: &str, words: &'w [String]) -> Option<&'w str> {
     let mut found = None;
     let mut count = 0usize;
-    let mut is_of_script = false;
+    let mut is_name = false;
     let has_node = tool == "lus_live" || is_many(words);
     for word in words {
         let name = word.as_str();
-        let is_node = is_of_script || has_node && count == 1;
-        if !name.starts_with("-") {
+        if !is_name && !name.starts_with("-") {
+            let is_node = has_node && count == 1;
             count = count.saturating_add(1);
             if !is_node && is_unopened(rt, name) {
                 found = Some(name);
             }
         }
-        is_of_script = name == "--script";
+        is_name = matches!(name, "--script" | "--caller");
     }
     found
 }

@@ -4,9 +4,11 @@
 #![tactic(auto)]
 
 mod files;
+mod journal;
 mod usage;
 
 use crate::files::name_unopened;
+use crate::journal::JournalFile;
 use crate::usage::introduce;
 use lus_cli::{Fault, command, tell};
 use lus_devices::{Disk, Input, Output, Sink};
@@ -64,6 +66,26 @@ fn many<O: Sink, F: Sink>(
     lus_many::command(rt.alloc(), &disk, words, keys, &mut lines, output, faults)
 }
 
+/// Plays calls on an instance, and perhaps goes on in the file of its journal.
+fn live<O: Sink, F: Sink>(
+    rt: &HostRuntime,
+    words: &[String],
+    output: &mut O,
+    faults: &mut F,
+) -> u8 {
+    let mut lines = Buffered::new(Input(rt.stdin()));
+    let mut log = JournalFile::new(rt);
+    lus_live::command(
+        rt.alloc(),
+        &Disk(rt),
+        words,
+        &mut lines,
+        &mut log,
+        output,
+        faults,
+    )
+}
+
 fn main(rt: HostRuntime) -> ExitCode {
     let disk = Disk(&rt);
     let mut output = Output(rt.stdout());
@@ -95,17 +117,7 @@ fn main(rt: HostRuntime) -> ExitCode {
             &mut faults,
         ),
         "lus_audit" => lus_audit::command(rt.alloc(), &disk, words, &mut output, &mut faults),
-        "lus_live" => {
-            let mut lines = Buffered::new(Input(rt.stdin()));
-            lus_live::command(
-                rt.alloc(),
-                &disk,
-                words,
-                &mut lines,
-                &mut output,
-                &mut faults,
-            )
-        }
+        "lus_live" => live(&rt, words, &mut output, &mut faults),
         "lus_lsp" => {
             let mut input = Buffered::new(Input(rt.stdin()));
             lus_lsp::command(rt.alloc(), words, &mut input, &mut output, &mut faults)

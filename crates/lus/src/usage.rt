@@ -30,15 +30,17 @@ A rejected file stays as it is. Status: 0 done, 1 a file is rejected, or would c
 3 a file or the output fails, 4 out of memory.
 ";
 
-const DRAW: &str = "usage: lus_draw [--svg | --waves | --csv | --vcd] JOURNAL [PROGRAM]
+const DRAW: &str =
+    "usage: lus_draw [--html | --waves | --csv | --vcd] [--from N] [--to N] JOURNAL [PROGRAM]
 
 Draws journals that lus or lus_live wrote: as a chronogram, or
 
-  --svg    as a picture of that chronogram
-  --waves  as a timing diagram, for long journals
+  --html   as a page for a browser, with signals over time, a cursor and a zoom
+  --waves  as a timing diagram (SVG)
   --csv    as tables for spreadsheets
   --vcd    as a value change dump, for viewers of waveforms
 
+--from and --to draw the instants from the N-th to the N-th alone, not with --html or --vcd.
 PROGRAM gives the inputs and outputs their names. Status: 0 drawn, 1 to 4 as lus.
 ";
 
@@ -57,15 +59,15 @@ Status: 0 lawful, 1 the program is rejected, 2 a wrong line, or no journal,
 3 a file or the output fails, 4 out of memory.
 ";
 
-const LIVE: &str = "usage: lus_live [--json | --csv] PROGRAM NODE
-       lus_live PROGRAM NODE JOURNAL
+const LIVE: &str = "usage: lus_live [--json | --csv] [--caller NAME] PROGRAM NODE [JOURNAL]
        lus_live --many [--json] PROGRAM NODE
 
 Runs a node in a pipe: reads calls from standard input, a line of JSON each, and writes the
-journal's entry of each before it reads the next, or with --json its reply as JSON. With --csv
-it reads inputs as CSV below a line of their names, and writes outputs so. It goes on behind
-JOURNAL, replayed first: `lus_live PROGRAM NODE log < calls >> log`, also after any kill.
-With --many it hosts many instances: a line is INSTANCE CALLER CALL, or an entry to replay.
+journal's entry of each, by the caller NAME or `user`, before it reads the next; with --json its
+reply as JSON. With --csv it reads inputs as CSV below a line of their names, and writes outputs
+so. It goes on behind JOURNAL, replayed first: `lus_live PROGRAM NODE log < calls >> log`, also
+after any kill; with --json it writes each entry to JOURNAL itself, and then the reply. With
+--many it hosts many instances: a line is INSTANCE CALLER CALL, or an entry to replay.
 
   [18, 19, 22]                 a step with the inputs in their order, null for an absent one
   {\"inputs\": {\"low\": 19, ..}}  a step with the inputs by their names

@@ -19,9 +19,12 @@ bare name = record (new_app name) {
   };
 }
 
--- a command with a flag, with an argument that has to stand, or with one that may
+-- a command with a flag, with an option that has a value, with an argument that has to stand, or with one that may
 abbrev pub with_flag : Text → App → App
 with_flag name app = with_rule app (record (new_rule name) { long = Some name; action = Some SetTrue })
+
+abbrev pub with_value : Text → App → App
+with_value name app = with_rule app (record (new_rule name) { long = Some name })
 
 abbrev pub with_required : Text → App → App
 with_required name app = with_rule app (record (new_rule name) { required = true })

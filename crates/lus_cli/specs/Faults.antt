@@ -1,7 +1,7 @@
 -- How a command ends short: the status of the process, and the line on standard error.
-use Rattle.std.specs.Prelude.{◌≡◌, ◌⊎◌, ℕ, ◌++◌, codes, Bool, true, false, Result, Ok, Err}
+use Rattle.std.specs.Prelude.{◌≡◌, ◌⊎◌, ℕ, ◌++◌, codes, Bool, true, false, Option, Result, Ok, Err, ⊤}
 use Rattle.std.specs.Fmt.{decimal}
-use Rattle.lus_devices.specs.Devices.{WritesBeginning, with_text}
+use Rattle.lus_devices.specs.Devices.{Bytes, WritesBeginning, with_text}
 use Rattle.lus_host.specs.CallersSpecs.declared.threads.HostError.{HostError}
 use Rattle.lus_host.specs.CallersSpecs.declared.threads.HostError.TheVariants as hosts
 use Rattle.lus_host.specs.declared.error.RunError.{RunError}
@@ -12,7 +12,7 @@ use Rattle.lus_syntax.specs.Refusals.{refusal_text}
 use Rattle.lus_syntax.specs.declared.refusal.Refusal.{Refusal}
 use Rattle.lus_syntax.specs.declared.refusal.RefusalNumber.{RefusalNumber}
 use Rattle.lus_syntax.specs.declared.refusal.RefusalNumber.TheVariants as numbers
-use Rattle.lus_cli.specs.Changes.{Change, HasFailed, IsSound}
+use Rattle.lus_cli.specs.Changes.{Change, HasFailed, IsSound, IsUntouched, change}
 use Rattle.lus_cli.specs.CommandLine.{Text}
 use Rattle.lus_cli.specs.declared.words.WordsError.{WordsError}
 use Rattle.lus_cli.specs.declared.words.WordsError.TheVariants as words
@@ -94,3 +94,31 @@ abbrev pub run_outcome : Result Bool RunError → Outcome
 run_outcome (Ok true) = Ok tt
 run_outcome (Ok false) = Err faults.Memory
 run_outcome (Err e) = Err (run_fault e)
+
+-- ---- of a command that says more than the line of a fault
+
+-- before a fault is told nothing was said, unless it is a journal's, or the program lacks the node
+abbrev pub IsQuiet : Fault → Change → Type 0
+IsQuiet (faults.Journal n) c = ⊤
+IsQuiet (faults.Program e) c = IsUntouched c
+IsQuiet (faults.Scripts e) c = ⊤
+IsQuiet faults.Words c = IsUntouched c
+IsQuiet faults.File c = IsUntouched c
+IsQuiet faults.Output c = IsUntouched c
+IsQuiet faults.Memory c = IsUntouched c
+IsQuiet faults.Start c = IsUntouched c
+
+-- the status and the line are the fault's, behind what was said before
+abbrev pub IsToldLast : ℕ → Fault → Change → Type 0
+IsToldLast status f faults = (said : Option Bytes) × (failed : Option ℕ) × IsToldBy status f (change said faults.new failed faults.after)
+
+-- a journal's fault is told behind the line that isn't right, that of a node behind the names of those that there are, and any other alone
+abbrev pub IsToldAlone : ℕ → Fault → Change → Type 0
+IsToldAlone status (faults.Journal n) c = IsToldLast status (faults.Journal n) c
+IsToldAlone status (faults.Program e) c = IsToldBy status (faults.Program e) c
+IsToldAlone status (faults.Scripts e) c = IsToldLast status (faults.Scripts e) c
+IsToldAlone status faults.Words c = IsToldBy status faults.Words c
+IsToldAlone status faults.File c = IsToldBy status faults.File c
+IsToldAlone status faults.Output c = IsToldBy status faults.Output c
+IsToldAlone status faults.Memory c = IsToldBy status faults.Memory c
+IsToldAlone status faults.Start c = IsToldBy status faults.Start c

@@ -2,7 +2,7 @@
 
 ghost use Rattle.std.specs.Prelude.{◌≡◌, IfOk, option_map};
 ghost use Rattle.clap.specs.Words.{app_of, first_of, found_of, rows_of};
-ghost use Rattle.lus_cli.specs.CommandLine.{bare, is_set, with_flag, with_optional, with_required};
+ghost use Rattle.lus_cli.specs.CommandLine.{bare, is_set, with_flag, with_optional, with_required, with_value};
 
 use clap::{Arg, ArgAction, ArgMatches, Command};
 use std::alloc::{AllocError, Global};
@@ -49,6 +49,17 @@ pub fn with_optional<'a>(
     ensures { IfOk result (λ c. app_of c ≡ with_optional name.entry.now (app_of command.entry)) }
 {
     command.arg(Arg::new(alloc, name))
+}
+
+/// A command with one more option that has a value.
+pub fn with_value<'a>(
+    alloc: Global,
+    command: Command<'a>,
+    name: &'a str,
+) -> Result<Command<'a>, AllocError>
+    ensures { IfOk result (λ c. app_of c ≡ with_value name.entry.now (app_of command.entry)) }
+{
+    command.arg(Arg::new(alloc, name).long(name))
 }
 
 /// What the words give an argument, if they do.

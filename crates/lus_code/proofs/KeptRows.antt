@@ -1,7 +1,7 @@
 -- What a node of the source wants to keep is within its count of state cells, and so is what the class of its normal form keeps.
 use Rattle.std.proofs.Common.{◌≡◌, ℕ, suc, ◌+◌, ◌<◌, ◌≤◌, List, [], ◌∷◌, ◌++◌, length, map, sum_by, Option, Some, refl, sym, ap, subst, arith, ⊎_elim}
 use Rattle.std.proofs.lemmas.Bool.{cases_lt}
-use Rattle.std.proofs.lemmas.List.{get_or_past, length-map}
+use Rattle.std.proofs.lemmas.List.{get_or_past}
 use Rattle.std.proofs.lemmas.List.Sums.{sum_by-cons}
 use Rattle.lus_values.specs.Lists.{item, Each}
 use Rattle.lus_values.proofs.Lists.{below_at, each_at}
@@ -18,7 +18,7 @@ use Rattle.lus_normal_form.specs.NormalForm.{StandsFor}
 use Rattle.lus_normal_form.specs.NormalNodes.{AreSites, IsNormalOf, memories, all_memories, firsts, all_firsts, count_rights, node_memories, node_firsts}
 use Rattle.lus_flat_classes.specs.declared.class.Call.{Call}
 use Rattle.lus_flat_classes.specs.declared.class.Class.{Class}
-use Rattle.lus_flat_classes.specs.View.{call_of, class_of, clock_from}
+use Rattle.lus_flat_classes.specs.View.{call_of, class_of}
 use Rattle.lus_cells.specs.Cells.{AreStateCells, HaveLeaves, expression_cells, operand_cells, kind_leaves, leaves_given, node_cells}
 use Rattle.lus_places.specs.Few.{AreFew, KeepTo}
 use Rattle.lus_turns.specs.Turned.{HaveOneLeft}
@@ -190,11 +190,4 @@ classes_few p classes are small =
       counts = small.counts;
       counted = classes_keep p classes are small.lefts small.counts small.kept;
       small = λ g. let few = small.few g in omega (arith, few);
-      variables = 1049576;
-      narrow = λ g c here.
-          let width = (are.each g c here).belongs.width in
-          let long = length-map c.tests.items (clock_from c.tests.items) in
-          let few = small.variables g in
-          omega (arith, width, long, few);
-      total = (let size = are.size in let nodes = small.nodes in omega (arith, size, nodes));
     }

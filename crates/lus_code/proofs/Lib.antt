@@ -1,6 +1,6 @@
 pub mod MadeClasses
 pub mod KeptRows
 pub mod NormalForms
-pub mod Linked
+pub mod Parted
 pub use Rattle.lus_order.proofs as OrderProofs
 pub use Rattle.lus_simulation.proofs as SimulationProofs

@@ -125,7 +125,6 @@ module _ (p : Program) (classes : List Class) (are : AreTurned p classes) where
         outputs = omega (arith, inputs, outputs, width, long, within);
         turns = turned.turns;
         calls = calls_classes c.calls.items turned.calls;
-        whole = turned.whole;
       }
 
   -- their calls are nested

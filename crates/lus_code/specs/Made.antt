@@ -1,7 +1,7 @@
 -- The classes of a program in normal form, as they are made.
 use Rattle.std.specs.Prelude.{◌≡◌, ℕ, ◌+◌, ◌≤◌, List, length, sum_by, Some, slice_get}
 use Rattle.lus_values.specs.Lists.{item}
-use Rattle.lus_syntax.specs.Limits.{most_cells, most_declarations, most_parts, most_variables}
+use Rattle.lus_syntax.specs.Limits.{most_cells}
 use Rattle.lus_program.specs.Programs.{Program, node_at}
 use Rattle.lus_streams.specs.Clocks.{Part}
 use Rattle.lus_streams.specs.Equations.{sites}
@@ -31,12 +31,9 @@ abbrev pub NodesKeepTo : List ℕ → Program → Type 0
 NodesKeepTo counts p =
     (g : ℕ) → node_memories (node_at p g) + node_firsts (node_at p g) + sum_by (λ s. item 0 counts s.node) (sites p (node_at p g)) ≤ item 0 counts g
 
--- the nodes keep to counts within the limit of state cells, right sides that are no calls give one variable, and there are no
--- more nodes and variables than a program and its normal form may have
+-- the nodes keep to counts within the limit of state cells, and right sides that are no calls give one variable
 pub record AreSmall (p : Program) : Type 0 where
   pub counts : List ℕ
   pub kept : NodesKeepTo counts p
   pub few : (g : ℕ) → item 0 counts g ≤ most_cells
   pub lefts : (g : ℕ) → HaveOneLeft (node_at p g)
-  pub nodes : length p.nodes ≤ most_declarations
-  pub variables : (g : ℕ) → length (node_at p g).variables ≤ most_variables + most_parts

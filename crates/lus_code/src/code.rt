@@ -5,18 +5,22 @@ ghost use Rattle.lus_values.specs.Lists.{item};
 ghost use Rattle.lus_syntax.specs.declared.refusal.RefusalNumber.TheVariants as numbers;
 ghost use Rattle.lus_program.specs.View.{program_seen};
 ghost use Rattle.lus_typing.specs.Refusals.{RefusesFor};
-ghost use Rattle.lus_typing.specs.Sound.{IsLimited};
-ghost use Rattle.lus_normal.specs.Parts.{HasFewParts};
 ghost use Rattle.lus_flat_classes.specs.Turns.{AreReady};
 ghost use Rattle.lus_flat_classes.specs.View.{classes_of};
 ghost use Rattle.lus_simulation.specs.Checked.{IsChecked};
 ghost use Rattle.lus_places.specs.Few.{AreAsLong};
 ghost use Rattle.lus_cells.specs.Cells.{AreStateCells, FitsCells, NamesTooMany};
+ghost use Rattle.lus_frames.specs.Classes.{AreFramed};
+ghost use Rattle.lus_framed_code.specs.Alike.{MakeInstants};
+ghost use Rattle.lus_keeping.specs.Keeping.{HaveFrames};
+ghost use Rattle.lus_keeping.specs.Plans.{ArePlans};
 ghost use Rattle.lus_code.specs.Codes.{IsCodeOf, program_of};
 
 use crate::classes::classes_of_nodes;
 use lus_cells::cells_of_nodes;
 use lus_flat_classes::Class;
+use lus_frames::Class as Framed;
+use lus_keeping::Plan;
 use lus_normal::Normal;
 use lus_order::Ordered;
 use lus_program::{NodeId, Program};
@@ -25,10 +29,12 @@ use lus_typing::Sound;
 use std::alloc::Global;
 use std::marker::Model;
 
-/// The code of a program: a class for each of its nodes.
+/// The code of a program: a class for each of its nodes, with the code that makes its instants.
 pub struct Code {
     source: Ordered,
     classes: Vec<Class>,
+    framed: Vec<Framed>,
+    plans: Vec<Plan>,
     cells: Vec<u32>,
 }
 
@@ -44,9 +50,9 @@ impl Model for Code {
 
     ghost coded = { Prim.hlevel (codes, program_expr.the_row.coded, formula.the_row.coded, value.the_row.coded) };
 
-    ghost view = { λ c. record { source = c.source; classes = c.classes.items; cells = c.cells.items } };
+    ghost view = { λ c. record { source = c.source; classes = c.classes.items; framed = c.framed.items; plans = c.plans.items; cells = c.cells.items } };
 
-    ghost invariant = { λ c. IsTranslated (program_seen c.source.program) c.classes.items c.cells.items };
+    ghost invariant = { λ c. IsTranslated (program_seen c.source.program) c.classes.items c.framed.items c.plans.items c.cells.items };
 }
 
 impl Code {
@@ -76,6 +82,23 @@ impl Code {
         &self.classes
     }
 
+    /// The code of each class, by the node's place: it makes the class's instants.
+    pub fn framed(&self) -> &[Framed]
+        ensures same { result.now ≡ self.now.framed }
+        ensures framed { AreFramed result.now }
+        ensures frames { HaveFrames self.now.classes result.now }
+        ensures instants { MakeInstants self.now.classes result.now }
+    {
+        &self.framed
+    }
+
+    /// The plan of what the calls of each class keep, by the node's place.
+    pub fn plans(&self) -> &[Plan]
+        ensures planned { ArePlans self.now.classes self.now.framed result.now }
+    {
+        &self.plans
+    }
+
     /// How many nodes there are.
     pub fn nodes(&self) -> u32
         ensures { result ≡ length (program_of self.now).nodes }
@@ -98,8 +121,6 @@ impl Code {
 fn sound_of(normal: &Normal) -> &Sound
     ensures same { result.now ≡ normal.now.source.program }
     ensures checked { IsChecked (program_seen normal.now.source.program) }
-    ensures limited { IsLimited (program_seen normal.now.source.program) }
-    ensures few { HasFewParts (program_seen normal.now.source.program) }
 {
     let source = normal.source();
     let _program = source.program();
@@ -117,11 +138,13 @@ pub fn translate(alloc: Global, normal: Normal) -> Result<Code, Refusal>
     ensures placed { IfErr result (λ e. e.number ≢ numbers.Memory → NamesTooMany normal.source.program e.line e.column) }
 {
     let cells = cells_of_nodes(alloc, sound_of(&normal))?;
-    let classes = classes_of_nodes(alloc, normal.program(), normal.orders())?;
+    let coded = classes_of_nodes(alloc, normal.program(), normal.orders())?;
     let source = normal.into_source();
     Ok(Code {
         source,
-        classes,
+        classes: coded.classes,
+        framed: coded.framed,
+        plans: coded.plans,
         cells,
     })
 }
@@ -132,6 +155,8 @@ impl Drop for Code {
         let Code {
             source: _,
             classes: _,
+            framed: _,
+            plans: _,
             cells: _,
         } = self;
     }

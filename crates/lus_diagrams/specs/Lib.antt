@@ -10,8 +10,4 @@ pub mod Accepted
 pub mod Columns
 pub mod ColumnView
 pub mod Plain
-pub mod Shapes
-pub mod ShapeView
-pub mod Pictures
-pub mod Documents
 pub mod Printed

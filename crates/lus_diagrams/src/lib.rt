@@ -1,4 +1,4 @@
-//! Diagrams of journals: for each instance a table with a column for each accepted instant, as text or as an SVG picture.
+//! Diagrams of journals: for each instance a table with a column for each accepted instant, as text.
 #![tactic(auto)]
 
 mod accepted;
@@ -11,11 +11,8 @@ mod journal;
 mod laws;
 mod lineage;
 mod names;
-mod picture;
 mod plain;
 mod rows;
-mod shape;
-mod svg;
 mod table;
 
 pub use diagram::Diagram;
@@ -24,8 +21,5 @@ pub use error::JournalError;
 pub use journal::{Arity, Journal, read_journals};
 pub use laws::journals_read_back;
 pub use lineage::Head;
-pub use picture::{Picture, draw};
 pub use plain::push_text;
-pub use shape::{Ink, Shape};
-pub use svg::push_svg;
 pub use table::{Column, columns};

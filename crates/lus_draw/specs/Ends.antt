@@ -10,6 +10,7 @@ use Rattle.lus_cli.specs.CommandLine.{Text}
 use Rattle.lus_cli.specs.Ends.{IsLost, SaysEnds}
 use Rattle.lus_cli.specs.declared.fault.Fault.{Fault}
 use Rattle.lus_cli.specs.declared.fault.Fault.TheVariants as faults
+use Rattle.lus_traces.specs.declared.parts.Part.{Part}
 use Rattle.lus_draw.specs.CommandLine.{Asked}
 use Rattle.lus_draw.specs.Drawings.{Draws, IsDrawingFault}
 use Rattle.lus_draw.specs.declared.words.Format.{Format}
@@ -41,12 +42,12 @@ DrawFails read_fails known journal program faults.Words = ⊥
 DrawFails read_fails known journal program faults.Output = ⊥
 DrawFails read_fails known journal program faults.Start = ⊥
 
--- the drawing of the journals of this name
-abbrev pub IsDrawn : (Text → Known) → Format → Text → Option Text → Text → Type 0
-IsDrawn known format journal program drawn = WithFile (known journal) (λ bytes. Draws format bytes drawn) × IsNamed known program
+-- the drawing of a part of the journals of this name
+abbrev pub IsDrawn : (Text → Known) → Format → Part → Text → Option Text → Text → Type 0
+IsDrawn known format part journal program drawn = WithFile (known journal) (λ bytes. Draws format part bytes drawn) × IsNamed known program
 
 -- the drawing is written; where there is none, nothing is
 abbrev pub TaskEnds : (Known → Type 0) → (Text → Known) → Asked → Result (Unit {0}) Fault → Change → Type 0
 TaskEnds read_fails known asked =
-    SaysEnds (λ done drawn. IsDrawn known asked.format asked.journal asked.program drawn)
+    SaysEnds (λ done drawn. IsDrawn known asked.format asked.part asked.journal asked.program drawn)
     (DrawFails read_fails known asked.journal asked.program)

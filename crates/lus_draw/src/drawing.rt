@@ -1,19 +1,21 @@
 //! What is drawn of a text of journals.
 
-ghost use Rattle.std.specs.Prelude.{◌≡◌, IfErr, IfOk, IsUtf8, OnOk, Ok, flat_map, is_some, map, string_bytes, true};
+ghost use Rattle.std.specs.Prelude.{◌≡◌, IfErr, IfOk, IsUtf8, OnOk, Ok, is_some, map, string_bytes, true};
 ghost use Rattle.lus_diagrams.specs.Journals.{IsFaultOf, journals_of};
 ghost use Rattle.lus_diagrams.specs.JournalView.{journal_seen};
-ghost use Rattle.lus_diagrams.specs.Pictures.{diagram_words};
-ghost use Rattle.lus_draw.specs.Drawings.{AreTablesOf, Draws, IsDiagramFault, IsDrawingFault, IsPictureOf, IsShown, journal_words};
+ghost use Rattle.lus_diagrams.specs.Columns.{columns_of};
+ghost use Rattle.lus_traces.specs.Parts.{part_of};
+ghost use Rattle.lus_draw.specs.Drawings.{AreTablesOf, Draws, IsDiagramFault, IsDrawingFault, IsShown, diagram_columns, journal_columns};
 
 use crate::labels::labels;
 use crate::nodes::node_of;
+use crate::page::page;
 use crate::tracing::traces;
 use crate::words::Format;
 use lus_cli::Fault;
 use lus_cli::lus_host::Program;
-use lus_diagrams::{Diagram, Journal, JournalError, draw, push_svg, push_text, read_journals};
-use lus_traces::{csv, vcd, waves};
+use lus_diagrams::{Diagram, Journal, JournalError, push_text, read_journals};
+use lus_traces::{Part, csv, part_of, refusals_of, vcd, waves};
 use std::alloc::{AllocError, Global};
 use std::str;
 
@@ -23,7 +25,7 @@ fn named_diagram<'a>(
     program: &Program,
     journal: &Journal<'a>,
 ) -> Result<Diagram<'a>, Fault>
-    ensures words { IfOk result (λ d. diagram_words d ≡ journal_words (journal_seen journal.now)) }
+    ensures columns { IfOk result (λ d. diagram_columns d ≡ columns_of (journal_seen journal.now).entries) }
     ensures fault { IfErr result (λ f. IsDiagramFault true f) }
 {
     let node = node_of(program, journal)?;
@@ -37,12 +39,12 @@ fn named_diagram<'a>(
 }
 
 /// The diagram of a journal, with the names of a program's node if there is one.
-fn diagram<'a>(
+fn whole_diagram<'a>(
     alloc: Global,
     program: Option<&Program>,
     journal: &Journal<'a>,
 ) -> Result<Diagram<'a>, Fault>
-    ensures words { IfOk result (λ d. diagram_words d ≡ journal_words (journal_seen journal.now)) }
+    ensures columns { IfOk result (λ d. diagram_columns d ≡ columns_of (journal_seen journal.now).entries) }
     ensures fault { IfErr result (λ f. IsDiagramFault (is_some program.entry) f) }
 {
     let Some(program) = program else {
@@ -54,17 +56,58 @@ fn diagram<'a>(
     named_diagram(alloc, program, journal)
 }
 
+/// A diagram's part.
+fn part_diagram<'a>(
+    alloc: Global,
+    part: Part,
+    journal: &Journal<'a>,
+    whole: Diagram<'a>,
+) -> Result<Diagram<'a>, AllocError>
+    ensures columns { IfOk result (λ d. diagram_columns d ≡ part_of part (diagram_columns whole.entry)) }
+{
+    let mut refused = Vec::new(alloc);
+    for refusal in &refusals_of(alloc, part, &journal.entries)? {
+        refused.push(refusal.line)?;
+    }
+    Ok(Diagram {
+        instance: whole.instance,
+        node: whole.node,
+        inputs: whole.inputs,
+        labels: whole.labels,
+        columns: part_of(alloc, part, whole.columns)?,
+        refused,
+    })
+}
+
+/// The diagram of a part of a journal, with the names of a program's node if there is one.
+fn diagram<'a>(
+    alloc: Global,
+    program: Option<&Program>,
+    part: Part,
+    journal: &Journal<'a>,
+) -> Result<Diagram<'a>, Fault>
+    ensures columns { IfOk result (λ d. diagram_columns d ≡ journal_columns part (journal_seen journal.now)) }
+    ensures fault { IfErr result (λ f. IsDiagramFault (is_some program.entry) f) }
+{
+    let whole = whole_diagram(alloc, program, journal)?;
+    match part_diagram(alloc, part, journal, whole) {
+        Ok(diagram) => Ok(diagram),
+        Err(_) => Err(Fault::Memory),
+    }
+}
+
 fn diagrams<'a>(
     alloc: Global,
     program: Option<&Program>,
+    part: Part,
     journals: &[Journal<'a>],
 ) -> Result<Vec<Diagram<'a>>, Fault>
-    ensures words { IfOk result (λ v. flat_map diagram_words v.items ≡ flat_map journal_words (map journal_seen journals.now)) }
+    ensures columns { IfOk result (λ v. map diagram_columns v.items ≡ map (journal_columns part) (map journal_seen journals.now)) }
     ensures fault { IfErr result (λ f. IsDiagramFault (is_some program.entry) f) }
 {
     let mut diagrams = Vec::new(alloc);
     for journal in journals {
-        let diagram = diagram(alloc, program, journal)?;
+        let diagram = diagram(alloc, program, part, journal)?;
         if diagrams.push(diagram).is_err() {
             return Err(Fault::Memory);
         }
@@ -80,15 +123,6 @@ fn text_of(alloc: Global, diagrams: &[Diagram<'_>]) -> Result<String, AllocError
         }
         push_text(&mut out, diagram)?;
     }
-    Ok(out)
-}
-
-fn picture_of(alloc: Global, diagrams: &[Diagram<'_>]) -> Result<String, AllocError>
-    ensures { IfOk result (λ s. IsPictureOf (flat_map diagram_words diagrams.now) (string_bytes s)) }
-{
-    let picture = draw(alloc, diagrams)?;
-    let mut out = String::new(alloc);
-    push_svg(&mut out, &picture)?;
     Ok(out)
 }
 
@@ -120,28 +154,17 @@ fn journals_in(alloc: Global, bytes: &[u8]) -> Result<Vec<Journal<'_>>, JournalE
 }
 
 /// The diagrams of journals as text.
-fn text(alloc: Global, program: Option<&Program>, journals: &[Journal<'_>]) -> Result<String, Fault>
-    ensures { IfErr result (λ f. IsDiagramFault (is_some program.entry) f) }
-{
-    let diagrams = diagrams(alloc, program, journals)?;
-    match text_of(alloc, &diagrams) {
-        Ok(text) => Ok(text),
-        Err(_) => Err(Fault::Memory),
-    }
-}
-
-/// A picture of the diagrams of journals.
-fn picture(
+fn text(
     alloc: Global,
     program: Option<&Program>,
+    part: Part,
     journals: &[Journal<'_>],
 ) -> Result<String, Fault>
-    ensures words { IfOk result (λ s. IsPictureOf (flat_map journal_words (map journal_seen journals.now)) (string_bytes s)) }
-    ensures fault { IfErr result (λ f. IsDiagramFault (is_some program.entry) f) }
+    ensures { IfErr result (λ f. IsDiagramFault (is_some program.entry) f) }
 {
-    let diagrams = diagrams(alloc, program, journals)?;
-    match picture_of(alloc, &diagrams) {
-        Ok(picture) => Ok(picture),
+    let diagrams = diagrams(alloc, program, part, journals)?;
+    match text_of(alloc, &diagrams) {
+        Ok(text) => Ok(text),
         Err(_) => Err(Fault::Memory),
     }
 }
@@ -150,11 +173,12 @@ fn picture(
 fn wave_picture(
     alloc: Global,
     program: Option<&Program>,
+    part: Part,
     journals: &[Journal<'_>],
 ) -> Result<String, Fault>
     ensures { IfErr result (λ f. IsDiagramFault (is_some program.entry) f) }
 {
-    let traces = traces(alloc, program, journals)?;
+    let traces = traces(alloc, program, part, journals)?;
     match waves(alloc, &traces) {
         Ok(waves) => Ok(waves),
         Err(_) => Err(Fault::Memory),
@@ -165,12 +189,13 @@ fn wave_picture(
 fn tables(
     alloc: Global,
     program: Option<&Program>,
+    part: Part,
     journals: &[Journal<'_>],
 ) -> Result<String, Fault>
-    ensures tables { IfOk result (λ s. AreTablesOf (map journal_seen journals.now) (string_bytes s)) }
+    ensures tables { IfOk result (λ s. AreTablesOf part (map journal_seen journals.now) (string_bytes s)) }
     ensures fault { IfErr result (λ f. IsDiagramFault (is_some program.entry) f) }
 {
-    let traces = traces(alloc, program, journals)?;
+    let traces = traces(alloc, program, part, journals)?;
     match csv(alloc, &traces) {
         Ok(tables) => Ok(tables),
         Err(_) => Err(Fault::Memory),
@@ -178,10 +203,15 @@ fn tables(
 }
 
 /// A value change dump of journals.
-fn dump(alloc: Global, program: Option<&Program>, journals: &[Journal<'_>]) -> Result<String, Fault>
+fn dump(
+    alloc: Global,
+    program: Option<&Program>,
+    part: Part,
+    journals: &[Journal<'_>],
+) -> Result<String, Fault>
     ensures { IfErr result (λ f. IsDiagramFault (is_some program.entry) f) }
 {
-    let traces = traces(alloc, program, journals)?;
+    let traces = traces(alloc, program, part, journals)?;
     match vcd(alloc, &traces) {
         Ok(dump) => Ok(dump),
         Err(_) => Err(Fault::Memory),
@@ -193,17 +223,18 @@ fn written(
     alloc: Global,
     format: Format,
     program: Option<&Program>,
+    part: Part,
     journals: &[Journal<'_>],
 ) -> Result<String, Fault>
-    ensures shown { IfOk result (λ s. IsShown format (map journal_seen journals.now) (string_bytes s)) }
+    ensures shown { IfOk result (λ s. IsShown format part (map journal_seen journals.now) (string_bytes s)) }
     ensures fault { IfErr result (λ f. IsDiagramFault (is_some program.entry) f) }
 {
     match format {
-        Format::Text => text(alloc, program, journals),
-        Format::Svg => picture(alloc, program, journals),
-        Format::Waves => wave_picture(alloc, program, journals),
-        Format::Csv => tables(alloc, program, journals),
-        Format::Vcd => dump(alloc, program, journals),
+        Format::Text => text(alloc, program, part, journals),
+        Format::Waves => wave_picture(alloc, program, part, journals),
+        Format::Html => page(alloc, program, journals),
+        Format::Csv => tables(alloc, program, part, journals),
+        Format::Vcd => dump(alloc, program, part, journals),
     }
 }
 
@@ -211,10 +242,11 @@ fn written(
 pub fn drawing(
     alloc: Global,
     format: Format,
+    part: Part,
     program: Option<&Program>,
     bytes: &[u8],
 ) -> Result<String, Fault>
-    ensures drawn { IfOk result (λ s. Draws format bytes.now (string_bytes s)) }
+    ensures drawn { IfOk result (λ s. Draws format part bytes.now (string_bytes s)) }
     ensures fault { IfErr result (λ f. IsDrawingFault (is_some program.entry) bytes.now f) }
 {
     let journals = match journals_in(alloc, bytes) {
@@ -222,5 +254,5 @@ pub fn drawing(
         Err(JournalError::Line(line)) => return Err(Fault::Journal(line)),
         Err(JournalError::Memory) => return Err(Fault::Memory),
     };
-    written(alloc, format, program, &journals)
+    written(alloc, format, program, part, &journals)
 }

@@ -10,6 +10,7 @@ use crate::drawing::drawing;
 use crate::words::{Format, Task, read_words};
 use lus_cli::{Fault, read_file, read_program, tell};
 use lus_devices::{Folder, Sink, write_all};
+use lus_traces::Part;
 use std::alloc::Global;
 
 /// Draws journals with the names of a program.
@@ -17,16 +18,17 @@ fn draw_named<D: Folder>(
     alloc: Global,
     folder: &D,
     format: Format,
+    part: Part,
     journal: &str,
     program: &str,
 ) -> Result<String, Fault>
-    ensures drawn { IfOk result (λ s. IsDrawn (D.known folder.now) format journal.now (Some program.now) (string_bytes s)) }
+    ensures drawn { IfOk result (λ s. IsDrawn (D.known folder.now) format part journal.now (Some program.now) (string_bytes s)) }
     ensures fault { IfErr result (λ f. DrawFails (ReadFails D.File D.File.left D.File.failures) (D.known folder.now)
         journal.now (Some program.now) f) }
 {
     let bytes = read_file(alloc, folder, journal, usize::MAX)?;
     let program = read_program(alloc, folder, program)?;
-    drawing(alloc, format, Some(&program), &bytes)
+    drawing(alloc, format, part, Some(&program), &bytes)
 }
 
 /// Draws journals by themselves.
@@ -34,25 +36,26 @@ fn draw_numbered<D: Folder>(
     alloc: Global,
     folder: &D,
     format: Format,
+    part: Part,
     journal: &str,
 ) -> Result<String, Fault>
-    ensures drawn { IfOk result (λ s. IsDrawn (D.known folder.now) format journal.now None (string_bytes s)) }
+    ensures drawn { IfOk result (λ s. IsDrawn (D.known folder.now) format part journal.now None (string_bytes s)) }
     ensures fault { IfErr result (λ f. DrawFails (ReadFails D.File D.File.left D.File.failures) (D.known folder.now)
         journal.now None f) }
 {
     let bytes = read_file(alloc, folder, journal, usize::MAX)?;
-    drawing(alloc, format, None, &bytes)
+    drawing(alloc, format, part, None, &bytes)
 }
 
 fn draw<D: Folder>(alloc: Global, folder: &D, task: Task<'_>) -> Result<String, Fault>
-    ensures drawn { IfOk result (λ s. IsDrawn (D.known folder.now) task.entry.format task.entry.journal.now
+    ensures drawn { IfOk result (λ s. IsDrawn (D.known folder.now) task.entry.format task.entry.part task.entry.journal.now
         (option_map (λ p. p.now) task.entry.program) (string_bytes s)) }
     ensures fault { IfErr result (λ f. DrawFails (ReadFails D.File D.File.left D.File.failures) (D.known folder.now)
         task.entry.journal.now (option_map (λ p. p.now) task.entry.program) f) }
 {
     match task.program {
-        Some(program) => draw_named(alloc, folder, task.format, task.journal, program),
-        None => draw_numbered(alloc, folder, task.format, task.journal),
+        Some(program) => draw_named(alloc, folder, task.format, task.part, task.journal, program),
+        None => draw_numbered(alloc, folder, task.format, task.part, task.journal),
     }
 }
 

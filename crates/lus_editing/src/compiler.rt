@@ -4,6 +4,8 @@ ghost use Rattle.std.specs.Prelude.{IfOk, map};
 ghost use Rattle.lus_editing.specs.Diagnostics.{AreFaults};
 
 use lus_further::Told;
+use lus_queries::Fact;
+use lus_syntax::Place;
 use lus_warnings::Warning;
 use std::alloc::{AllocError, Global};
 
@@ -43,6 +45,15 @@ pub trait Compiler {
         byte: usize,
         name: &str,
     ) -> Result<Option<RenameProblem>, AllocError>;
+
+    /// What the declaration of the name at a place of a source doesn't say of it: of a variable whether it may be nil, of a node its state
+    /// size; nothing of other names, and where the source is refused before that is known.
+    fn fact(
+        &self,
+        alloc: Global,
+        source: &str,
+        declared: Place,
+    ) -> Result<Option<Fact>, AllocError>;
 
     /// A source as it is laid out; nothing where it can't be read.
     fn laid_out(&self, alloc: Global, source: &str) -> Result<Option<String>, AllocError>;

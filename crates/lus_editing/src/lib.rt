@@ -17,5 +17,6 @@ mod warned;
 
 pub use compiler::{Compiler, RenameProblem};
 pub use conversation::{ConversationError, converse};
+pub use lus_queries::Fact;
 pub use server::Server;
 pub use serving::serve;

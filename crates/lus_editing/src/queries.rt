@@ -1,11 +1,12 @@
 //! What is asked of a document besides its errors.
 
 use crate::answers::Problem;
+use crate::compiler::Compiler;
 use crate::messages::{has_declaration, position_of, uri_of};
 use crate::server::Server;
 use lus_queries::{
-    Spot, completions, definition, folds, highlights, hover, references, renamable,
-    semantic_tokens, signature_help, symbols,
+    Fact, Spot, completions, declared_at, definition, folds, highlights, hover, references,
+    renamable, semantic_tokens, signature_help, symbols,
 };
 use serde_json::Value;
 use std::alloc::{AllocError, Global};
@@ -63,9 +64,23 @@ fn surveyed(alloc: Global, source: &str, survey: Survey) -> Result<String, Alloc
     }
 }
 
-/// What there is to say of a spot of a document, to which these parameters belong.
-fn looked_up(
+/// What a compiler says besides of the name at a spot of a document.
+fn fact_at<C: Compiler>(
     alloc: Global,
+    compiler: &C,
+    source: &str,
+    at: Spot,
+) -> Result<Option<Fact>, AllocError> {
+    match declared_at(alloc, source, at)? {
+        Some(declared) => compiler.fact(alloc, source, declared),
+        None => Ok(None),
+    }
+}
+
+/// What there is to say of a spot of a document, to which these parameters belong.
+fn looked_up<C: Compiler>(
+    alloc: Global,
+    compiler: &C,
     source: &str,
     uri: &str,
     at: Spot,
@@ -75,7 +90,7 @@ fn looked_up(
     match lookup {
         Lookup::Completions => completions(alloc, source, at),
         Lookup::Signature => signature_help(alloc, source, at),
-        Lookup::Hover => hover(alloc, source, at),
+        Lookup::Hover => hover(alloc, source, at, fact_at(alloc, compiler, source, at)?),
         Lookup::Definition => definition(alloc, source, uri, at),
         Lookup::References => {
             let has_declaration = has_declaration(parameters).unwrap_or(false);
@@ -87,8 +102,9 @@ fn looked_up(
 }
 
 /// What a query gives, of the document that parameters name, and at their position where it asks for one.
-pub(crate) fn queried(
+pub(crate) fn queried<C: Compiler>(
     alloc: Global,
+    compiler: &C,
     server: &Server,
     query: Query,
     parameters: Option<&Value>,
@@ -106,7 +122,10 @@ pub(crate) fn queried(
     match query {
         Query::Survey(survey) => Ok(Ok(surveyed(alloc, source, survey)?)),
         Query::Lookup(lookup) => match position_of(parameters) {
-            Some(at) => Ok(Ok(looked_up(alloc, source, uri, at, lookup, parameters)?)),
+            Some(at) => {
+                let found = looked_up(alloc, compiler, source, uri, at, lookup, parameters)?;
+                Ok(Ok(found))
+            },
             None => Ok(Err(Problem::Parameters)),
         },
     }

@@ -58,7 +58,7 @@ fn outcome<C: Compiler>(
         "textDocument/codeAction" => actions_of(alloc, server, parameters),
         "textDocument/rename" => renamed(alloc, compiler, server, parameters),
         _ => match query_of(method) {
-            Some(query) => queried(alloc, server, query, parameters),
+            Some(query) => queried(alloc, compiler, server, query, parameters),
             None => Ok(Err(Problem::Method)),
         },
     }

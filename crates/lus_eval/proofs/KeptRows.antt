@@ -10,6 +10,7 @@ use Rattle.lus_program.specs.declared.node.Program.{Program as StoredProgram}
 use Rattle.lus_program.specs.Programs.{node_at}
 use Rattle.lus_program.specs.View.{node_of, program_seen}
 use Rattle.lus_code.proofs.OrderProofs.Nodes.{node_here}
+use Rattle.lus_frames.specs.declared.class.Class.{Class as Framed}
 use Rattle.lus_flat_classes.specs.declared.class.Class.{Class}
 use Rattle.lus_flat_classes.specs.Places.{state_in}
 use Rattle.lus_code.specs.SimulationSpecs.Checked.{IsChecked}
@@ -24,14 +25,17 @@ use Rattle.lus_running.specs.Instances.{seen}
 use Rattle.lus_running.proofs.Placed.{resets_state}
 use Rattle.lus_eval.specs.Objects.{Kept, kept_by, IsEven, IsObjectOf, IsReset, MakesStep, ObjectLived, state_of}
 
-module _ (c : ProgramCode) (classes : List Class) (same : classes ≡ c.classes) (o : Instance) where
-  pub shaped_in_code : ((g : ℕ) (k : Class) → slice_get classes g ≡ Some k → k.extent.cells + k.extent.firsts ≤ item 0 c.cells g) → instances.HasRowsOfClass classes (seen o) → IsObjectOf c (kept_by o)
+module _ (c : ProgramCode) (classes : List Class) (framed : List Framed) (same : classes ≡ c.classes) (coded : framed ≡ c.framed) (o : Instance) where
+  pub shaped_in_code : ((g : ℕ) (k : Class) → slice_get classes g ≡ Some k → k.extent.cells + k.extent.firsts ≤ item 0 c.cells g)
+      → instances.HasRowsOfClass classes framed (seen o) → IsObjectOf c (kept_by o)
   shaped_in_code rows s = record {
     class = s.class;
+    code = s.code;
     found = ap (λ l. slice_get l o.node) (sym same) ∙ s.found;
+    coded = ap (λ l. slice_get l o.node) (sym coded) ∙ s.coded;
     cells = s.long.cells;
     firsts = s.long.firsts;
-    variables = s.long.variables;
+    row = s.long.row;
     few = (
         let cells = s.long.cells in
         let firsts = s.long.firsts in
@@ -39,11 +43,13 @@ module _ (c : ProgramCode) (classes : List Class) (same : classes ≡ c.classes)
         omega (arith, cells, firsts, row));
   }
 
-  pub instance_shaped : IsEven o → IsObjectOf c (kept_by o) → instances.HasRowsOfClass classes (seen o)
+  pub instance_shaped : IsEven o → IsObjectOf c (kept_by o) → instances.HasRowsOfClass classes framed (seen o)
   instance_shaped even s = record {
     class = s.class;
+    code = s.code;
     found = ap (λ l. slice_get l o.node) same ∙ s.found;
-    long = record { cells = s.cells; firsts = s.firsts; next_cells = even.cells ∙ s.cells; next_firsts = even.firsts ∙ s.firsts; variables = s.variables };
+    coded = ap (λ l. slice_get l o.node) coded ∙ s.coded;
+    long = record { cells = s.cells; firsts = s.firsts; next_cells = even.cells ∙ s.cells; next_firsts = even.firsts ∙ s.firsts; row = s.row };
   }
 
 pub node_within : (c : ProgramCode) (o : Kept) → IsObjectOf c o → o.node < length c.classes
@@ -65,7 +71,7 @@ source_node c o shaped classes kept size s same n is =
 pub reset_kept : (o o' : Instance) → instances.IsReset (seen o) (seen o') → IsReset (kept_by o) (kept_by o')
 reset_kept o o' h = record {
   node = h.node;
-  room = h.variables;
+  room = h.row;
   cells = ap length h.cells ∙ length-map (seen o).cells (λ v. nil);
   firsts = ap length h.firsts ∙ length-map (seen o).firsts (λ b. true);
   state = λ c.
@@ -77,10 +83,12 @@ reset_kept o o' h = record {
 pub reset_shaped : (c : ProgramCode) (o o' : Kept) → IsReset o o' → IsObjectOf c o → IsObjectOf c o'
 reset_shaped c o o' is shaped = record {
   class = shaped.class;
+  code = shaped.code;
   found = subst (λ f. slice_get c.classes f ≡ Some shaped.class) (sym is.node) shaped.found;
+  coded = subst (λ f. slice_get c.framed f ≡ Some shaped.code) (sym is.node) shaped.coded;
   cells = is.cells ∙ shaped.cells;
   firsts = is.firsts ∙ shaped.firsts;
-  variables = is.room ∙ shaped.variables;
+  row = is.room ∙ shaped.row;
   few = (
       let cells = is.cells in
       let firsts = is.firsts in
@@ -97,11 +105,11 @@ reset_lived c f o o' lineage is lived = record {
   lived = subst (λ (s : State). HasLived (program_of c) (plain_classes c) s f []) (sym (is.state c)) (resets_lived (program_of c) (plain_classes c) (state_of c o) f lineage lived.lived);
 }
 
--- objects of a node have as much room
+-- objects of a node have rows as long
 pub same_room : (c : ProgramCode) (o o' : Kept) → IsObjectOf c o → IsObjectOf c o' → o'.node ≡ o.node → o'.room ≡ o.room
 same_room c o o' s s' node =
-    let found : slice_get c.classes o'.node ≡ Some s.class = ap (slice_get c.classes) node ∙ s.found in
-    s'.variables ∙ ap (λ (k : Class). k.extent.variables) (same_Some s'.class s.class (sym s'.found ∙ found)) ∙ sym s.variables
+    let coded : slice_get c.framed o'.node ≡ Some s.code = ap (slice_get c.framed) node ∙ s.coded in
+    s'.row ∙ ap (λ (k : Framed). k.row) (same_Some s'.code s.code (sym s'.coded ∙ coded)) ∙ sym s.row
 
 module _ (s o' : Instance) (back : instances.IsBack (seen s) (seen o')) where
   -- an instance that goes back behind a step is as it was before it
@@ -111,7 +119,7 @@ module _ (s o' : Instance) (back : instances.IsBack (seen s) (seen o')) where
       let node : o'.node ≡ o.node = back.node ∙ is.node in
       let cells : (seen o').cells ≡ (seen o).cells = back.cells ∙ behind.cells in
       let firsts : (seen o').firsts ≡ (seen o).firsts = back.firsts ∙ behind.firsts in
-      let room : (seen o').variables ≡ (seen o).variables = back.variables ∙ same_room c (kept_by o) (kept_by s) shaped is.shaped is.node in
+      let room : (seen o').row ≡ (seen o).row = back.row ∙ same_room c (kept_by o) (kept_by s) shaped is.shaped is.node in
       λ j. record { node = node j; cells = cells j; firsts = firsts j; room = room j }
 
   pub back_even : IsEven s → IsEven o'

@@ -46,7 +46,7 @@ impl Object {
     {
         // The program is checked, so that its calls are nested.
         let _program = code.program();
-        let instance = Instance::fresh(alloc, code.classes(), node.0)?;
+        let instance = Instance::fresh(alloc, code.classes(), code.framed(), node.0)?;
         Ok(Object { instance })
     }
 
@@ -54,7 +54,7 @@ impl Object {
     pub fn shaped(&self, code: &Code) -> bool
         ensures { IsTrue result ↔ IsObjectOf code.now self.now }
     {
-        self.instance.is_shaped(code.classes())
+        self.instance.is_shaped(code.classes(), code.framed())
     }
 
     /// Whether there are as many inputs as the node has, each a value of its type or absent.

@@ -31,6 +31,8 @@ pub(crate) fn step_instance(
     let classes = code.classes();
     let node = &code.program().nodes[instance.node as usize];
     let depth = classes.len() + 1;
-    let outputs = instance.step(classes, depth, inputs, node.outputs as usize)?;
+    let framed = code.framed();
+    let plans = code.plans();
+    let outputs = instance.step(classes, framed, plans, depth, inputs, node.outputs as usize)?;
     Ok(outputs)
 }

@@ -1,15 +1,11 @@
 -- What the words of the command line ask for, by the meaning that clap's own specification gives to the command.
 use Rattle.std.specs.Prelude.{Bool, List, Option, Some, None, option_map, codes, true, false}
-use Rattle.clap.specs.Words.{App, Row, new_rule, with_rule, first_of}
+use Rattle.clap.specs.Words.{App, Row, first_of}
 use Rattle.lus_syntax.specs.Lexemes.{Text}
-use Rattle.lus_reports.specs.CliSpecs.CommandLine.{asked_of, bare, is_set, with_flag, with_optional, with_required}
+use Rattle.lus_reports.specs.CliSpecs.CommandLine.{asked_of, bare, is_set, with_flag, with_optional, with_required, with_value}
 use Rattle.lus_explain.specs.declared.words.Form.{Form}
 use Rattle.lus_explain.specs.declared.words.Task.{Task}
 use Rattle.lus_explain.specs.declared.words.Task.TheVariants as tasks
-
--- a command with an option that has a value
-abbrev pub with_value : Text → App → App
-with_value name app = with_rule app (record (new_rule name) { long = Some name })
 
 -- flags `--json` and `--warnings`, an option `--script NODE`, a required PROGRAM and an optional SCRIPTS
 abbrev pub the_command : App

@@ -3,11 +3,12 @@
 ghost use Rattle.std.specs.Prelude.{◌≡◌, IfOk, Some, None, Err, map, option_map, string_bytes};
 ghost use Rattle.clap.specs.Words.{app_of, found_of, rows_of};
 ghost use Rattle.lus_reports.specs.CliSpecs.declared.words.WordsError.TheVariants.{Mistaken};
-ghost use Rattle.lus_explain.specs.CommandLine.{asked, said, task_seen, the_command, with_value};
+ghost use Rattle.lus_explain.specs.CommandLine.{asked, said, task_seen, the_command};
 
-use clap::{Arg, ArgMatches, Command};
+use clap::{ArgMatches, Command};
 use lus_reports::lus_cli::{
     WordsError, bare, is_set, matches, value_of, with_flag, with_optional, with_required,
+    with_value,
 };
 use std::alloc::{AllocError, Global};
 
@@ -32,17 +33,6 @@ pub enum Task<'a> {
         node: &'a str,
         program: &'a str,
     },
-}
-
-/// A command with one more option that has a value.
-fn with_value<'a>(
-    alloc: Global,
-    command: Command<'a>,
-    name: &'a str,
-) -> Result<Command<'a>, AllocError>
-    ensures { IfOk result (λ c. app_of c ≡ with_value name.entry.now (app_of command.entry)) }
-{
-    command.arg(Arg::new(alloc, name).long(name))
 }
 
 fn command<'a>(alloc: Global) -> Result<Command<'a>, AllocError>

@@ -1,13 +1,13 @@
 mod Rows
 mod Steps
-mod Asked
-mod Segments
+pub mod Asked
+pub mod Segments
 mod Callee
 mod Call
 mod Frames
 mod Going
 mod Made
-mod Emitted
+pub mod Emitted
 mod RowsKept
 mod Added
 mod Called

@@ -28,3 +28,10 @@ impl<T: Drop> From<AllocFailed<T>> for Unframed {
         Unframed::Memory
     }
 }
+
+impl From<Unframed> for Memory {
+    /// What is past the numbers that can be stored is refused as what has no memory.
+    fn from(_error: Unframed) -> Memory {
+        Memory
+    }
+}

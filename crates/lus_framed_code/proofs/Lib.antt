@@ -1,8 +1,11 @@
+mod Alike
 mod Answered
 mod Belonging
 mod Growing
+mod InPlace
 mod Marked
+mod Remade
 mod Segments
-mod ShortTurns
+mod Skipping
 mod Standing
 mod Underway

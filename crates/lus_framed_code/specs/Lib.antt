@@ -5,3 +5,5 @@ pub mod Made
 pub mod Marking
 pub mod Laws
 pub mod Answering
+pub mod Alike
+pub mod Unfolding

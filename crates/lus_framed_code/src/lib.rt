@@ -10,6 +10,8 @@ mod items;
 mod laws;
 mod locating;
 mod once;
+mod unfolding;
 
 pub use classes::frame_classes;
-pub use laws::{instants_answer, made_code_belongs};
+pub use laws::{likes_answer, made_code_belongs};
+pub use unfolding::unfold_classes;

@@ -1,9 +1,9 @@
 mod Called
-mod Unfolded
+pub mod Unfolded
 pub mod Apart
 pub mod FollowedApart
-mod Cases
-mod Moved
+pub mod Likeness
+pub mod Moved
 pub mod Obeyed
 mod Splicing
 mod Wider

@@ -1,9 +1,11 @@
-//! Classes, places and state cells of small programs. That too many cells are refused is in `rows/`.
+//! Classes, their code, places and state cells of small programs. That too many cells are refused is in `rows/`.
 
 use lus_clocks::{check_clocks, check_nil};
 use lus_code::{Code, translate};
-use lus_flat_classes::{Call, Class, Extent, Part};
+use lus_flat_classes::{Call, Extent};
+use lus_frames::{Class as Framed, Order};
 use lus_grammar::parse;
+use lus_instructions::Located;
 use lus_normal::{has_few_parts, normalise};
 use lus_order::order;
 use lus_program::NodeId;
@@ -39,16 +41,16 @@ const BEFORE: &str =
 const AROUND: &str =
     "node t() returns (n: int); let n = 0 -> pre n + 1; tel node o(x: int) returns (y: int); var a: int; let a = x + 1; y = a + t() * 2; tel";
 
-/// Whether there are so many cells, first-flags and variables.
-fn is(extent: Extent, cells: u32, firsts: u32, variables: u32) -> bool {
-    extent.cells == cells && extent.firsts == firsts && extent.variables == variables
+/// Whether there are so many cells and first-flags.
+fn is(extent: Extent, cells: u32, firsts: u32) -> bool {
+    extent.cells == cells && extent.firsts == firsts
 }
 
 /// Whether the part of the second call stands behind that of the first.
 fn are_apart(calls: &[Call]) -> bool {
     match calls {
         [first, second] => {
-            is(first.offset, 0, 0, 0) && is(first.extent, 1, 1, 1) && is(second.offset, 1, 1, 0)
+            is(first.offset, 0, 0) && is(first.extent, 1, 1) && is(second.offset, 1, 1)
         }
         _ => false,
     }
@@ -56,7 +58,7 @@ fn are_apart(calls: &[Call]) -> bool {
 
 fn has_parts_apart(code: &Code) -> bool {
     match code.classes() {
-        [_, caller] => is(caller.extent, 2, 2, 3) && are_apart(&caller.calls),
+        [_, caller] => is(caller.extent, 2, 2) && are_apart(&caller.calls),
         _ => false,
     }
 }
@@ -75,17 +77,9 @@ fn parts_of_calls_stand_behind_each_other(rt: HostRuntime) -> Result<(), Fail> {
     Ok(())
 }
 
-/// Whether one state cell is kept by code in place of a class's parts.
-fn is_whole(class: &Class) -> bool {
-    match &class.whole {
-        Some(whole) => whole.cells.len() == 1,
-        None => false,
-    }
-}
-
 fn has_caller_first(code: &Code) -> bool {
     match code.classes() {
-        [caller, _] => is(caller.extent, 1, 1, 3) && caller.steps.len() == 2 && is_whole(caller),
+        [caller, _] => is(caller.extent, 1, 1) && caller.steps.len() == 2,
         _ => false,
     }
 }
@@ -96,31 +90,35 @@ fn called_nodes_may_stand_behind_their_callers(rt: HostRuntime) -> Result<(), Fa
         panic!(rt; "refused")
     };
     assert!(rt; has_caller_first(&code));
+    assert!(rt; are_in_place(code.framed()));
     Ok(())
 }
 
-/// Whether there are so many parts, at least and at most, and the last is made by instructions.
-fn ends_in_code(parts: &[Part], least: usize, most: usize) -> bool {
-    match parts {
-        [.., Part::Code(_, _)] => parts.len() >= least && parts.len() <= most,
-        _ => false,
+/// Whether an order is no call.
+fn is_act(order: &Order) -> bool {
+    match order {
+        Order::Act(_) => true,
+        Order::Call(_) => false,
     }
 }
 
-fn is_one_part_each(code: &Code) -> bool {
-    match code.classes() {
-        [counter, caller] => {
-            ends_in_code(&counter.parts, 1, 1) && ends_in_code(&caller.parts, 2, 3)
-        }
-        _ => false,
-    }
+/// Whether an instruction is located.
+fn is_located(located: &Located) -> bool {
+    !matches!(located, Located::Other)
+}
+
+/// Whether no class has a call left in its code, and all of it is located.
+fn are_in_place(framed: &[Framed]) -> bool {
+    framed.iter().all(|class| {
+        class.code.iter().all(is_act) && class.located.iter().all(is_located)
+    })
 }
 
 #[test]
-fn neighbours_are_made_by_one_part(rt: HostRuntime) -> Result<(), Fail> {
+fn called_nodes_stand_in_place_of_their_calls(rt: HostRuntime) -> Result<(), Fail> {
     let Ok(code) = code_of(rt.alloc(), AROUND) else {
         panic!(rt; "refused")
     };
-    assert!(rt; is_one_part_each(&code));
+    assert!(rt; are_in_place(code.framed()));
     Ok(())
 }

@@ -5,13 +5,13 @@ ghost use Rattle.lus_program.specs.Programs.{Program};
 ghost use Rattle.lus_lines.specs.Lines.{HasRead};
 ghost use Rattle.lus_play.specs.Plays.{HasPlayed, HasPlayedAll};
 ghost use Rattle.lus_replay.specs.Replays.{HasReplayed, IsJudged, ReadsBack};
-ghost use Rattle.lus_recovery.specs.Journals.{HasWritten, HasWrittenSome};
+ghost use Rattle.lus_recovery.specs.Journals.{HasWritten, HasWrittenSome, parties_seen};
 ghost use Rattle.lus_recovery.specs.Recoveries.{HasResumed, HasResumedSome};
 
 use lus_devices::{Sink, Source};
 use lus_lines::{LineError, Reading, read_line};
 use lus_play::{Calls, PlayError, Reacts, Score, Speaks, play};
-use lus_recovery::{Start, resume, write_on};
+use lus_recovery::{Parties, Start, resume, write_on};
 use lus_replay::{Replayed, Verdict, replay, replay_line};
 use lus_values::{Memory, Names};
 use std::alloc::Global;
@@ -80,18 +80,21 @@ pub fn write_journal<C: Calls, R: Reacts, S: Source, O: Sink, F: Sink>(
     alloc: Global,
     calls: &C,
     names: &Names,
+    caller: &str,
     entries: u64,
     reactor: &mut R,
     input: &mut S,
     output: &mut O,
     faults: &mut F,
 ) -> Result<Score, PlayError>
-    ensures all { IfOk result (λ score. HasWritten (C.reads calls.now) names.now entries (S.left input.old) (S.left input.new)
+    ensures all { IfOk result (λ score. HasWritten (C.reads calls.now) names.now caller.now entries (S.left input.old) (S.left input.new)
         (R.history reactor.old) (R.history reactor.new) (O.written output.old) (O.written output.new) score) }
-    ensures begun { OnErr result (HasWrittenSome (C.reads calls.now) names.now entries (S.left input.old)
+    ensures begun { OnErr result (HasWrittenSome (C.reads calls.now) names.now caller.now entries (S.left input.old)
         (R.history reactor.old) (R.history reactor.new) (O.written output.old) (O.written output.new)) }
 {
-    write_on(alloc, calls, names, entries, reactor, input, output, faults)
+    write_on(
+        alloc, calls, names, caller, entries, reactor, input, output, faults,
+    )
 }
 
 /// A journal is written on from where it was recovered.
@@ -99,19 +102,19 @@ pub fn resume_journal<C: Calls, R: Reacts, S: Source, O: Sink, F: Sink>(
     alloc: Global,
     calls: &C,
     names: &Names,
-    name: &str,
+    who: Parties<'_>,
     start: Start,
     reactor: &mut R,
     input: &mut S,
     output: &mut O,
     faults: &mut F,
 ) -> Result<Score, PlayError>
-    ensures all { IfOk result (λ score. HasResumed (C.reads calls.now) names.now name.now start (S.left input.old) (S.left input.new)
+    ensures all { IfOk result (λ score. HasResumed (C.reads calls.now) names.now (parties_seen who.entry) start (S.left input.old) (S.left input.new)
         (R.history reactor.old) (R.history reactor.new) (O.written output.old) (O.written output.new) score) }
-    ensures begun { OnErr result (HasResumedSome (C.reads calls.now) names.now name.now start (S.left input.old)
+    ensures begun { OnErr result (HasResumedSome (C.reads calls.now) names.now (parties_seen who.entry) start (S.left input.old)
         (R.history reactor.old) (R.history reactor.new) (O.written output.old) (O.written output.new)) }
 {
     resume(
-        alloc, calls, names, name, start, reactor, input, output, faults,
+        alloc, calls, names, who, start, reactor, input, output, faults,
     )
 }

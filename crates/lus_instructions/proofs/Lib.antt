@@ -8,3 +8,4 @@ pub mod Going
 pub mod Growing
 pub mod Longer
 pub mod LocatedSteps
+pub mod OnClocks

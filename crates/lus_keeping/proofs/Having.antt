@@ -19,6 +19,8 @@ has_frames classes framed g c room h all =
       can = record {
         room = room;
         own = omega (arith, own, row);
+        cells = h.is.cells;
+        firsts = h.is.firsts;
         frames = h.is.frames;
         within = (all g h.code h.found).frames;
       };

@@ -1,3 +1,9 @@
 mod Having
 mod InPlace
 mod Walking
+mod LikeFrames
+mod Further
+mod Planned
+mod Running
+mod Adding
+mod Plans

@@ -1,2 +1,4 @@
 pub mod Keeping
 pub mod Laws
+pub mod Planning
+pub mod Plans

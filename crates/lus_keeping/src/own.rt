@@ -2,7 +2,7 @@
 
 ghost use Rattle.std.specs.Prelude.{◌≡◌, IfOk, None, length, map};
 ghost use Rattle.lus_values.specs.Lists.{item};
-ghost use Rattle.lus_classes.specs.Steps.{atom_in, cells_after, flags_after};
+ghost use Rattle.lus_classes.specs.Steps.{atom_in, cells_after, flags_after, is_on_row};
 ghost use Rattle.lus_flat_classes.specs.Looks.{newest, short_memory};
 ghost use Rattle.lus_flat_classes.specs.View.{atom_of};
 ghost use Rattle.lus_instructions.specs.Followed.{cell_of};
@@ -16,7 +16,7 @@ use std::alloc::Global;
 
 /// What a variable holds; past the row it is absent.
 #[inline(always)]
-fn held_at<T: Held>(alloc: Global, row: &[T], variable: usize) -> Result<T, Stop>
+pub fn held_at<T: Held>(alloc: Global, row: &[T], variable: usize) -> Result<T, Stop>
     ensures { IfOk result (λ h. T.entry h ≡ item None (map T.entry row.now) variable) }
 {
     match found_at(row, variable) {
@@ -39,6 +39,14 @@ fn atom_in<T: Held>(alloc: Global, atom: &Atom, row: &[T]) -> Result<T, Stop>
     }
 }
 
+/// Whether a cell is kept: whether the newest test of its clock holds.
+#[inline(always)]
+fn is_kept<T: Held>(cell: &Cell, row: &[T]) -> bool
+    ensures { result ≡ is_on_row (newest cell.now.test) (map T.entry row.now) }
+{
+    is_on(cell.test, row)
+}
+
 /// Each of a class's own cells takes what its operand holds where the newest test of its clock does.
 pub fn keep<T: Held>(
     alloc: Global,
@@ -51,7 +59,7 @@ pub fn keep<T: Held>(
         IfOk result (λ _. held cells.new ≡ cells_after (map short_memory memories.now) (held cells.old) (map T.entry row.now)) }
 {
     for (place, cell) in memories.iter().enumerate() {
-        if !is_on(cell.test, row) {
+        if !is_kept(cell, row) {
             continue;
         }
         let value = atom_in(alloc, &cell.operand, row)?;

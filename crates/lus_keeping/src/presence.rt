@@ -11,7 +11,7 @@ use lus_program::Test;
 
 /// Whether a test holds.
 #[inline(always)]
-fn holds<T: Held>(test: &Test, row: &[T]) -> bool
+pub fn holds<T: Held>(test: &Test, row: &[T]) -> bool
     ensures { result ≡ holds_in test.now (map T.entry row.now) }
 {
     match found_at(row, test.variable as usize) {

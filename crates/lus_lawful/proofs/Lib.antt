@@ -7,3 +7,4 @@ pub mod Findings
 pub mod Firsts
 pub mod Reaching
 pub mod Blames
+pub mod Accepted

@@ -19,8 +19,8 @@ use crate::texts::{push_lawful, push_wrong};
 use lus_devices::Source;
 use lus_lines::{Whole, read_whole_line};
 use lus_live_instance::lus_machine::{NodeId, Program};
-use lus_reasons::Reasons;
 use lus_replay::{Ending, Replayed, replay};
+use lus_windows::Reasons;
 use std::alloc::Global;
 use std::sync::Arc;
 
@@ -96,9 +96,11 @@ fn replay_new<S: Source>(
     Ok(replayed)
 }
 
-/// Reasons to be collected of an instance whose journal begins behind so many lines, where they are asked.
+/// Reasons to be collected of an instance of a node whose journal begins behind so many lines, where they are asked.
 fn reasons_of(
     alloc: Global,
+    program: &Arc<Program>,
+    node: NodeId,
     is_asked: bool,
     instance: &str,
     lines: u64,
@@ -108,7 +110,8 @@ fn reasons_of(
     if !is_asked {
         return Ok(None);
     }
-    let reasons = Reasons::new(alloc, instance, lines_behind(lines, 1)?)?;
+    let line = lines_behind(lines, 1)?;
+    let reasons = Reasons::new(alloc, program.source(), node.0, instance, line)?;
     Ok(Some(reasons))
 }
 
@@ -188,7 +191,14 @@ fn audit_journal<S: Source>(
 {
     let mut right = String::new(alloc);
     let mut said = Vec::new(alloc);
-    let reasons = reasons_of(alloc, reasoned.is_asked, head.instance, lines)?;
+    let reasons = reasons_of(
+        alloc,
+        program,
+        node,
+        reasoned.is_asked,
+        head.instance,
+        lines,
+    )?;
     let replayed = replay_new(
         alloc, program, node, source, line, &mut right, reasons, &mut said,
     )?;
@@ -282,7 +292,7 @@ fn audit_all<S: Source>(
 }
 
 /// Audits journals, one behind another: each is replayed on a new instance of its node, up to the first line that isn't right. No
-/// more is kept than an instance, two lines and the report; where reasons are asked, also each instance's inputs. It is an error of
+/// more is kept than an instance, two lines and the report; where reasons are asked, also what is kept of its streams. It is an error of
 /// a line where that is none of a journal, which no line is of journals that can be read back.
 pub fn audit<S: Source>(
     alloc: Global,

@@ -8,9 +8,9 @@ ghost use Rattle.lus_live_instance.specs.Lives.{IsLive};
 use lus_live_instance::lus_machine::{NodeId, Program};
 use lus_live_instance::{Instance, new_instance};
 use lus_play::Reacts;
-use lus_reasons::Reasons;
 use lus_requests::{Reply, Request};
 use lus_values::Memory;
+use lus_windows::Reasons;
 use std::alloc::Global;
 use std::sync::Arc;
 
@@ -68,7 +68,7 @@ fn note(
 ) {
     if let Some(reasons) = &mut explanation.reasons {
         let (source, names) = (program.source(), program.names());
-        let noted = reasons.note(alloc, source, names, node.0 as usize, request, reply);
+        let noted = reasons.note(alloc, source, names, node.0, request, reply);
         if noted.is_err() {
             explanation.is_lost = true;
         }

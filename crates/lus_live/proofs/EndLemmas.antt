@@ -1,35 +1,36 @@
 -- How a live run ends, by how its parts do.
-use Rattle.std.proofs.Common.{◌≡◌, ◌∙◌, ℕ, inl, inr, refl, subst, sym, List, [], Option, Some, Result, Ok, Err, IfOk, OnErr}
+use Rattle.std.proofs.Common.{◌≡◌, ◌∙◌, ℕ, inl, inr, refl, subst, sym, List, [], Option, Some, None, Result, Ok, Err, IfOk, OnErr}
 use Rattle.lus_values.specs.Names.{Names}
 use Rattle.lus_requests.specs.declared.request.Entry.{Entry}
 use Rattle.lus_program.specs.Programs.{Program}
 use Rattle.lus_devices.specs.Devices.{Bytes}
 use Rattle.lus_devices.specs.Folders.{Holds, Known, WithFile}
+use Rattle.lus_recovery.specs.Journals.{Parties}
 use Rattle.lus_recovery.specs.Recoveries.{HasRecovered}
 use Rattle.lus_recovery.specs.declared.error.RecoveryError.{RecoveryError}
 use Rattle.lus_recovery.specs.declared.error.RecoveryError.TheVariants as recoveries
 use Rattle.lus_recovery.specs.declared.recovering.Start.{Start}
 use Rattle.lus_told.specs.LiveSpecs.Lives.{HasLived, HasLivedOn, HasLivedSome, HasLivedSomeOn}
-use Rattle.lus_told.specs.LiveSpecs.MachineSpecs.Constructors.{names_of}
 use Rattle.lus_cli.specs.Changes.{Change, IsUntouched, change}
 use Rattle.lus_cli.specs.CommandLine.{Text}
-use Rattle.lus_cli.specs.Faults.{IsToldBy}
+use Rattle.lus_cli.specs.Faults.{IsQuiet}
 use Rattle.lus_cli.specs.MachineSpecs.Formals.{node_named}
-use Rattle.lus_cli.specs.Programs.{IsProgramFault}
+use Rattle.lus_cli.specs.Programs.{IsOfFile, IsProgramFault}
 use Rattle.lus_cli.specs.declared.fault.Fault.{Fault}
 use Rattle.lus_cli.specs.declared.fault.Fault.TheVariants as faults
 use Rattle.lus_cli.proofs.ProgramLemmas.{file_then}
+use Rattle.lus_told.specs.Logged.{HasLogged, HasLoggedSome}
 use Rattle.lus_told.specs.Records.{HasToldCsv, HasToldCsvSome}
 use Rattle.lus_told.specs.Telling.{HasToldJson, HasToldJsonSome}
-use Rattle.lus_live.specs.CommandLine.{Asked, Form, behind}
-use Rattle.lus_live.specs.Ends.{AsksBehind, GoesOn, HasGoneOn, HasPlayedIn, IsOfFile, IsQuiet, IsRecoveryFault, IsToldAlone, LiveFails, Lived, LivedOn, Ran, TaskEnds, ToldCsv, ToldJson, recovery_fault}
+use Rattle.lus_live.specs.CommandLine.{Asked, Form, behind, csv, journal, json, logged}
+use Rattle.lus_live.specs.Ends.{AsksBehind, GoesOn, HasGoneOn, HasLoggedOn, HasPlayedIn, IsRecovered, IsRecoveryFault, LiveFails, Lived, LivedOn, LogStays, LoggedOn, Logs, Ran, StaysIn, TaskEnds, ToldCsv, ToldJson, parties_of, recovery_fault}
 
 -- what was played, whether to the end or not
-pub lived : (p : Program) (f : ℕ) (name : Text) (left end : Option Bytes) (ran : Ran) (output : Change)
-    → IfOk ran (λ score. HasLived p f name left end output.old output.new score) → OnErr ran (HasLivedSome p f name left output.old output.new)
-    → Lived p f name left end ran output
-lived p f name left end (Ok score) output all begun = all
-lived p f name left end (Err e) output all begun = begun
+pub lived : (p : Program) (f : ℕ) (who : Parties) (left end : Option Bytes) (ran : Ran) (output : Change)
+    → IfOk ran (λ score. HasLived p f who left end output.old output.new score) → OnErr ran (HasLivedSome p f who left output.old output.new)
+    → Lived p f who left end ran output
+lived p f who left end (Ok score) output all begun = all
+lived p f who left end (Err e) output all begun = begun
 
 -- what was told, whether to the end or not
 pub told_json : (p : Program) (f : ℕ) (left end : Option Bytes) (ran : Ran) (output : Change)
@@ -45,30 +46,53 @@ told_csv p f left end (Ok score) output all begun = all
 told_csv p f left end (Err e) output all begun = begun
 
 -- what was played, behind what a journal has
-lived_on : (p : Program) (f : ℕ) (name : Text) (start : Start) (left end : Option Bytes) (before : List Entry) (ran : Ran) (output : Change)
-    → IfOk ran (λ score. HasLivedOn p f name start left end before output.old output.new score)
-    → OnErr ran (HasLivedSomeOn p f name start left before output.old output.new)
-    → LivedOn p f name start left end before ran output
-lived_on p f name start left end before (Ok score) output all begun = all
-lived_on p f name start left end before (Err e) output all begun = begun
+lived_on : (p : Program) (f : ℕ) (who : Parties) (start : Start) (left end : Option Bytes) (before : List Entry) (ran : Ran) (output : Change)
+    → IfOk ran (λ score. HasLivedOn p f who start left end before output.old output.new score)
+    → OnErr ran (HasLivedSomeOn p f who start left before output.old output.new)
+    → LivedOn p f who start left end before ran output
+lived_on p f who start left end before (Ok score) output all begun = all
+lived_on p f who start left end before (Err e) output all begun = begun
 
 -- what was recovered of a file that was opened is recovered of its bytes
-recovered_file : (start : Start) (names : Names) (name : Text) (known : Known) (left ahead : Option Bytes) (h : List Entry) → Holds known left → ahead ≡ left
+pub recovered_file : (start : Start) (names : Names) (name : Text) (known : Known) (left ahead : Option Bytes) (h : List Entry) → Holds known left → ahead ≡ left
     → HasRecovered start names name ahead [] h → WithFile known (λ bytes. HasRecovered start names name (Some bytes) [] h)
 recovered_file start names name known left ahead h holds same recovered =
     file_then known (λ bytes. left ≡ Some bytes) (λ bytes. HasRecovered start names name (Some bytes) [] h)
     (λ bytes is. subst (λ o. HasRecovered start names name o [] h) (same ∙ is) recovered) holds
 
-pub gone_on : (p : Program) (f : ℕ) (name : Text) (start : Start) (left end : Option Bytes) (before : List Entry) (ran : Ran) (output : Change)
-    (known : Known) (opened ahead : Option Bytes) → Holds known opened → ahead ≡ opened → HasRecovered start (names_of p) name ahead [] before
-    → IfOk ran (λ score. HasLivedOn p f name start left end before output.old output.new score)
-    → OnErr ran (HasLivedSomeOn p f name start left before output.old output.new)
-    → HasGoneOn known p f name left end ran output
-gone_on p f name start left end before ran output known opened ahead holds same recovered all begun = record {
+pub gone_on : (p : Program) (f : ℕ) (who : Parties) (start : Start) (left end : Option Bytes) (before : List Entry) (ran : Ran) (output : Change)
+    (known : Known) → IsRecovered known p who.node start before
+    → IfOk ran (λ score. HasLivedOn p f who start left end before output.old output.new score)
+    → OnErr ran (HasLivedSomeOn p f who start left before output.old output.new)
+    → HasGoneOn known p f who left end ran output
+gone_on p f who start left end before ran output known recovered all begun = record {
   start = start;
   before = before;
-  recovered = recovered_file start (names_of p) name known opened ahead before holds same recovered;
-  lived = lived_on p f name start left end before ran output all begun;
+  recovered = recovered;
+  lived = lived_on p f who start left end before ran output all begun;
+}
+
+-- what was entered and told, behind what a journal has
+logged_on : (p : Program) (f : ℕ) (who : Parties) (start : Start) (left end : Option Bytes) (before : List Entry) (log : Change) (ran : Ran) (output : Change)
+    → IfOk ran (λ score. HasLogged p f who start left end before log.old log.new output.old output.new score)
+    → OnErr ran (HasLoggedSome p f who start left before log.old log.new output.old output.new)
+    → LoggedOn p f who start left end before log ran output
+logged_on p f who start left end before log (Ok score) output all begun = all
+logged_on p f who start left end before log (Err e) output all begun = begun
+
+pub has_logged : (p : Program) (f : ℕ) (who : Parties) (start : Start) (left end : Option Bytes) (before : List Entry) (log : Change) (ran : Ran) (output : Change)
+    (known : Known) (is_opened : Type 0) (l : Option Bytes) → l ≡ log.old → IsRecovered known p who.node start before → is_opened
+    → IfOk ran (λ score. HasLogged p f who start left end before l log.new output.old output.new score)
+    → OnErr ran (HasLoggedSome p f who start left before l log.new output.old output.new)
+    → HasLoggedOn known is_opened p f who left end log ran output
+has_logged p f who start left end before log ran output known is_opened l same recovered opened all begun = record {
+  start = start;
+  before = before;
+  recovered = recovered;
+  opened = opened;
+  logged = logged_on p f who start left end before log ran output
+      (subst (λ k. IfOk ran (λ score. HasLogged p f who start left end before k log.new output.old output.new score)) same all)
+      (subst (λ k. OnErr ran (HasLoggedSome p f who start left before k log.new output.old output.new)) same begun);
 }
 
 pub recovery_faults : (e : RecoveryError) → IsRecoveryFault (recovery_fault e)
@@ -101,52 +125,62 @@ journal_fails read_fails file name form faults.Words asks never = absurd never
 journal_fails read_fails file name form faults.Output asks never = absurd never
 journal_fails read_fails file name form faults.Start asks never = absurd never
 
-module _ (read_fails : Known → Type 0) (known : Text → Known) (left end : Option Bytes) (asked : Asked) (p : Program) (node : ℕ) (output : Change)
-    (accepted : IsOfFile (known asked.program) p) (named : node_named p asked.node ≡ Some node) where
+module _ (read_fails : Known → Type 0) (known : Text → Known) (opens : Text → Type 0) (left end : Option Bytes) (log : Change) (asked : Asked) (p : Program)
+    (node : ℕ) (output : Change) (accepted : IsOfFile (known asked.program) p) (named : node_named p asked.node ≡ Some node) where
   -- in the form that was asked for
-  pub task_played : (form : Form) (ran : Ran) → asked.form ≡ form → HasPlayedIn known form asked.node left end ran output p node
-      → TaskEnds read_fails known left end asked (Ok ran) output
+  pub task_played : (form : Form) (ran : Ran) → asked.form ≡ form → HasPlayedIn known opens form (parties_of asked) left end log ran output p node
+      → TaskEnds read_fails known opens left end log asked (Ok ran) output
   task_played form ran is played = record {
     program = p;
     accepted = accepted;
     node = node;
     named = named;
-    played = subst (λ k. HasPlayedIn known k asked.node left end ran output p node) (sym is) played;
+    played = subst (λ k. HasPlayedIn known opens k (parties_of asked) left end log ran output p node) (sym is) played;
   }
 
-  pub task_behind : (file : Text) (result : Result Ran Fault) → asked.form ≡ behind file
-      → GoesOn (known file) p node asked.node left end result output → TaskEnds read_fails known left end asked result output
-  task_behind file (Ok ran) is goes = task_played (behind file) ran is goes
-  task_behind file (Err f) is goes =
-      let asks : AsksBehind (known asked.program) asked.node asked.form =
-      subst (AsksBehind (known asked.program) asked.node) (sym is) (p, node, accepted, named) in
-      (journal_fails read_fails (known asked.program) asked.node asked.form f asks goes.0, goes.1, goes.2)
+  -- a journal isn't gone on from
+  task_fails : (form : Form) (f : Fault) → asked.form ≡ form → AsksBehind (known asked.program) asked.node form → IsRecoveryFault f → end ≡ left
+      → IsUntouched log → IsUntouched output → TaskEnds read_fails known opens left end log asked (Err f) output
+  task_fails form f is asks fault same log_same output_same = (
+    journal_fails read_fails (known asked.program) asked.node asked.form f (subst (AsksBehind (known asked.program) asked.node) (sym is) asks) fault,
+    same,
+    log_same,
+    output_same,
+  )
 
--- a fault is told behind what was said before
-module _ (status : ℕ) (old mid new : Option Bytes) (before between after : Option ℕ) where
-  same_told : (f : Fault) → IsUntouched (change old mid before between) → IsToldBy status f (change mid new between after)
-      → IsToldBy status f (change old new before after)
-  same_told f same told =
-      subst (λ o. IsToldBy status f (change o new before after)) same.0
-      (subst (λ n. IsToldBy status f (change mid new n after)) same.1 told)
+  pub task_behind : (file : Text) (result : Result Ran Fault) → asked.form ≡ behind file → IsUntouched log
+      → GoesOn (known file) p node (parties_of asked) left end result output → TaskEnds read_fails known opens left end log asked result output
+  task_behind file (Ok ran) is kept goes = task_played (behind file) ran is goes
+  task_behind file (Err f) is kept goes = task_fails (behind file) f is (p, node, accepted, named) goes.0 goes.1 kept goes.2
 
-  pub told_alone : (f : Fault) → IsQuiet f (change old mid before between) → IsToldBy status f (change mid new between after)
-      → IsToldAlone status f (change old new before after)
-  told_alone (faults.Journal n) quiet told = (mid, between, told)
-  told_alone (faults.Program e) quiet told = same_told (faults.Program e) quiet told
-  told_alone (faults.Scripts e) quiet told = same_told (faults.Scripts e) quiet told
-  told_alone faults.Words quiet told = same_told faults.Words quiet told
-  told_alone faults.File quiet told = same_told faults.File quiet told
-  told_alone faults.Output quiet told = same_told faults.Output quiet told
-  told_alone faults.Memory quiet told = same_told faults.Memory quiet told
-  told_alone faults.Start quiet told = same_told faults.Start quiet told
+  pub task_logged : (file : Text) (result : Result Ran Fault) → asked.form ≡ logged file
+      → Logs (known file) (opens file) p node (parties_of asked) left end log result output
+      → TaskEnds read_fails known opens left end log asked result output
+  task_logged file (Ok ran) is logs = task_played (logged file) ran is logs
+  task_logged file (Err f) is logs = task_fails (logged file) f is (p, node, accepted, named) logs.0 logs.1 logs.2 logs.3
 
 pub quiet_nothing : (f : Fault) (w : Option Bytes) (n : Option ℕ) → IsQuiet f (change w w n n)
 quiet_nothing (faults.Journal k) w n = tt
 quiet_nothing (faults.Program e) w n = (refl, refl)
-quiet_nothing (faults.Scripts e) w n = (refl, refl)
+quiet_nothing (faults.Scripts e) w n = tt
 quiet_nothing faults.Words w n = (refl, refl)
 quiet_nothing faults.File w n = (refl, refl)
 quiet_nothing faults.Output w n = (refl, refl)
 quiet_nothing faults.Memory w n = (refl, refl)
 quiet_nothing faults.Start w n = (refl, refl)
+
+-- a log that is left alone
+form_stays : (form : Form) (w : Option Bytes) (n : Option ℕ) → StaysIn form (change w w n n)
+form_stays journal w n = (refl, refl)
+form_stays (behind file) w n = (refl, refl)
+form_stays json w n = (refl, refl)
+form_stays (logged file) w n = tt
+form_stays csv w n = (refl, refl)
+
+pub still_stays : (asked : Option Asked) (w : Option Bytes) (n : Option ℕ) → LogStays asked (change w w n n)
+still_stays None w n = (refl, refl)
+still_stays (Some asked) w n = form_stays asked.form w n
+
+-- one that a form goes on in
+pub logged_stays : (form : Form) (file : Text) (log : Change) → form ≡ logged file → StaysIn form log
+logged_stays form file log is = subst (λ f. StaysIn f log) (sym is) tt

@@ -1,10 +1,11 @@
 -- How a live run ends: what was played on which node, or which fault came before the first line.
-use Rattle.std.specs.Prelude.{◌≡◌, ◌==◌, ◌⊎◌, ℕ, List, [], Option, Some, None, Result, Ok, Err, ⊤, if◌then◌else◌}
+use Rattle.std.specs.Prelude.{◌≡◌, ◌⊎◌, ℕ, List, [], Option, Some, None, Result, Ok, Err, ⊤}
 use Rattle.lus_program.specs.Programs.{Program}
 use Rattle.lus_devices.specs.Devices.{Bytes}
 use Rattle.lus_devices.specs.Folders.{Known, WithFile}
 use Rattle.lus_scripts.specs.declared.refusal.ScriptRefusal.TheVariants as scripts
 use Rattle.lus_requests.specs.declared.request.Entry.{Entry}
+use Rattle.lus_recovery.specs.Journals.{Parties}
 use Rattle.lus_recovery.specs.Recoveries.{HasRecovered}
 use Rattle.lus_recovery.specs.declared.error.RecoveryError.{RecoveryError}
 use Rattle.lus_recovery.specs.declared.error.RecoveryError.TheVariants as recoveries
@@ -14,36 +15,33 @@ use Rattle.lus_told.specs.LiveSpecs.MachineSpecs.Constructors.{names_of}
 use Rattle.lus_told.specs.LiveSpecs.PlaySpecs.declared.error.PlayError.{PlayError}
 use Rattle.lus_told.specs.LiveSpecs.PlaySpecs.declared.error.PlayError.TheVariants as plays
 use Rattle.lus_told.specs.LiveSpecs.PlaySpecs.declared.playing.Score.{Score}
+use Rattle.lus_told.specs.Logged.{HasLogged, HasLoggedSome}
 use Rattle.lus_told.specs.Records.{HasToldCsv, HasToldCsvSome}
 use Rattle.lus_told.specs.Telling.{HasToldJson, HasToldJsonSome}
 use Rattle.lus_cli.specs.HostSpecs.Sources.{ProgramRefused}
-use Rattle.lus_cli.specs.MachineSpecs.Acceptance.{Accepted}
 use Rattle.lus_cli.specs.MachineSpecs.Formals.{node_named}
-use Rattle.lus_cli.specs.Changes.{Change, IsUntouched, change}
+use Rattle.lus_cli.specs.Changes.{Change, IsUntouched}
 use Rattle.lus_cli.specs.CommandLine.{Text}
 use Rattle.lus_cli.specs.Ends.{AskedEnds, IsLost}
-use Rattle.lus_cli.specs.Faults.{IsToldBy}
+use Rattle.lus_cli.specs.Faults.{IsToldAlone, IsToldLast}
+use Rattle.lus_cli.specs.Programs.{IsOfFile, LacksNode, lines_status}
 use Rattle.lus_cli.specs.declared.fault.Fault.{Fault}
 use Rattle.lus_cli.specs.declared.fault.Fault.TheVariants as faults
-use Rattle.lus_live.specs.CommandLine.{Asked, Form, behind, csv, journal, json}
+use Rattle.lus_live.specs.CommandLine.{Asked, Form, behind, csv, journal, json, logged}
 
 -- what became of the lines: all were read, or an error came first
 abbrev pub Ran : Type 0
 Ran = Result Score PlayError
 
--- the program of the file is accepted, where its bytes are known
-abbrev pub IsOfFile : Known → Program → Type 0
-IsOfFile file p = WithFile file (λ text. Accepted text p)
-
 -- the calls among the lines make a lawful history, whose journal is written, or after an error a beginning of it
-abbrev pub Lived : Program → ℕ → Text → Option Bytes → Option Bytes → Ran → Change → Type 0
-Lived p f name left end (Ok score) output = HasLived p f name left end output.old output.new score
-Lived p f name left end (Err e) output = HasLivedSome p f name left output.old output.new
+abbrev pub Lived : Program → ℕ → Parties → Option Bytes → Option Bytes → Ran → Change → Type 0
+Lived p f who left end (Ok score) output = HasLived p f who left end output.old output.new score
+Lived p f who left end (Err e) output = HasLivedSome p f who left output.old output.new
 
 -- likewise, behind what a journal has
-abbrev pub LivedOn : Program → ℕ → Text → Start → Option Bytes → Option Bytes → List Entry → Ran → Change → Type 0
-LivedOn p f name start left end before (Ok score) output = HasLivedOn p f name start left end before output.old output.new score
-LivedOn p f name start left end before (Err e) output = HasLivedSomeOn p f name start left before output.old output.new
+abbrev pub LivedOn : Program → ℕ → Parties → Start → Option Bytes → Option Bytes → List Entry → Ran → Change → Type 0
+LivedOn p f who start left end before (Ok score) output = HasLivedOn p f who start left end before output.old output.new score
+LivedOn p f who start left end before (Err e) output = HasLivedSomeOn p f who start left before output.old output.new
 
 -- the calls among the lines make a lawful history, whose replies are written as objects of JSON, or after an error a beginning of that
 abbrev pub ToldJson : Program → ℕ → Option Bytes → Option Bytes → Ran → Change → Type 0
@@ -55,19 +53,48 @@ abbrev pub ToldCsv : Program → ℕ → Option Bytes → Option Bytes → Ran �
 ToldCsv p f left end (Ok score) output = HasToldCsv p f left end output.old output.new score
 ToldCsv p f left end (Err e) output = HasToldCsvSome p f left output.old output.new
 
+-- a file's journal of the node of this name is replayed, to where a run goes on
+abbrev pub IsRecovered : Known → Program → Text → Start → List Entry → Type 0
+IsRecovered had p name start before = WithFile had (λ bytes. HasRecovered start (names_of p) name (Some bytes) [] before)
+
 -- behind what a journal has, lines were played on the node of this number and name
-pub record HasGoneOn (had : Known) (p : Program) (node : ℕ) (name : Text) (left end : Option Bytes) (ran : Ran) (output : Change) : Type 0 where
+pub record HasGoneOn (had : Known) (p : Program) (node : ℕ) (who : Parties) (left end : Option Bytes) (ran : Ran) (output : Change) : Type 0 where
   pub start : Start
   pub before : List Entry
-  pub recovered : WithFile had (λ bytes. HasRecovered start (names_of p) name (Some bytes) [] before)
-  pub lived : LivedOn p node name start left end before ran output
+  pub recovered : IsRecovered had p who.node start before
+  pub lived : LivedOn p node who start left end before ran output
+
+-- a device of this type was this, and was opened by this name
+abbrev pub Opens : (L : Type 0) → (L → Text → L → Type 0) → L → Text → Type 0
+Opens L opens log name = (opened : L) × opens log name opened
+
+-- behind what a journal has, the calls among the lines make a lawful history: the log has its lines, and the replies are written as objects
+-- of JSON; or after an error a beginning of either, and a reply is begun only once its line is whole in the log
+abbrev pub LoggedOn : Program → ℕ → Parties → Start → Option Bytes → Option Bytes → List Entry → Change → Ran → Change → Type 0
+LoggedOn p f who start left end before log (Ok score) output = HasLogged p f who start left end before log.old log.new output.old output.new score
+LoggedOn p f who start left end before log (Err e) output = HasLoggedSome p f who start left before log.old log.new output.old output.new
+
+-- likewise, where the log was opened by the name of the journal's file
+pub record HasLoggedOn (had : Known) (is_opened : Type 0) (p : Program) (node : ℕ) (who : Parties) (left end : Option Bytes) (log : Change)
+    (ran : Ran) (output : Change) : Type 0 where
+  pub start : Start
+  pub before : List Entry
+  pub recovered : IsRecovered had p who.node start before
+  pub opened : is_opened
+  pub logged : LoggedOn p node who start left end before log ran output
 
 -- in each form lines were played on the node of this number and name
-abbrev pub HasPlayedIn : (Text → Known) → Form → Text → Option Bytes → Option Bytes → Ran → Change → Program → ℕ → Type 0
-HasPlayedIn known journal name left end ran output p node = Lived p node name left end ran output
-HasPlayedIn known (behind file) name left end ran output p node = HasGoneOn (known file) p node name left end ran output
-HasPlayedIn known json name left end ran output p node = ToldJson p node left end ran output
-HasPlayedIn known csv name left end ran output p node = ToldCsv p node left end ran output
+abbrev pub HasPlayedIn : (Text → Known) → (Text → Type 0) → Form → Parties → Option Bytes → Option Bytes → Change → Ran → Change → Program → ℕ → Type 0
+HasPlayedIn known opens journal who left end log ran output p node = Lived p node who left end ran output
+HasPlayedIn known opens (behind file) who left end log ran output p node = HasGoneOn (known file) p node who left end ran output
+HasPlayedIn known opens json who left end log ran output p node = ToldJson p node left end ran output
+HasPlayedIn known opens (logged file) who left end log ran output p node =
+    HasLoggedOn (known file) (opens file) p node who left end log ran output
+HasPlayedIn known opens csv who left end log ran output p node = ToldCsv p node left end ran output
+
+-- whom a journal of what was asked for names
+abbrev pub parties_of : Asked → Parties
+parties_of asked = record { node = asked.node; caller = asked.caller }
 
 -- this holds of the node of this name of a file's program
 pub record OfNode (file : Known) (name : Text) (HasPlayed : Program → ℕ → Type 0) : Type 0 where
@@ -77,15 +104,12 @@ pub record OfNode (file : Known) (name : Text) (HasPlayed : Program → ℕ → 
   pub named : node_named program name ≡ Some node
   pub played : HasPlayed program node
 
--- a file's program has no node of this name
-abbrev pub LacksNode : Known → Text → Type 0
-LacksNode file name = (p : Program) × IsOfFile file p × (node_named p name ≡ None)
-
 -- it has one, and what comes behind a file's journal is asked for
 abbrev pub AsksBehind : Known → Text → Form → Type 0
 AsksBehind file name journal = ⊥
 AsksBehind file name (behind other) = (p : Program) × (node : ℕ) × IsOfFile file p × (node_named p name ≡ Some node)
 AsksBehind file name json = ⊥
+AsksBehind file name (logged other) = (p : Program) × (node : ℕ) × IsOfFile file p × (node_named p name ≡ Some node)
 AsksBehind file name csv = ⊥
 
 -- why no line is played: the program's file is lost, it is refused, or it lacks the node; or the journal's file is lost, or a line of it
@@ -101,11 +125,24 @@ LiveFails read_fails file name form faults.Output = ⊥
 LiveFails read_fails file name form faults.Start = ⊥
 
 -- the lines are played, or no line is read and nothing is written
-abbrev pub TaskEnds : (Known → Type 0) → (Text → Known) → Option Bytes → Option Bytes → Asked → Result Ran Fault → Change → Type 0
-TaskEnds read_fails known left end asked (Ok ran) output =
-    OfNode (known asked.program) asked.node (HasPlayedIn known asked.form asked.node left end ran output)
-TaskEnds read_fails known left end asked (Err f) output =
-    LiveFails read_fails (known asked.program) asked.node asked.form f × (end ≡ left) × IsUntouched output
+abbrev pub TaskEnds : (Known → Type 0) → (Text → Known) → (Text → Type 0) → Option Bytes → Option Bytes → Change → Asked → Result Ran Fault → Change
+    → Type 0
+TaskEnds read_fails known opens left end log asked (Ok ran) output =
+    OfNode (known asked.program) asked.node (HasPlayedIn known opens asked.form (parties_of asked) left end log ran output)
+TaskEnds read_fails known opens left end log asked (Err f) output =
+    LiveFails read_fails (known asked.program) asked.node asked.form f × (end ≡ left) × IsUntouched log × IsUntouched output
+
+-- unless replies are told that a file's journal has, the log is left alone
+abbrev pub StaysIn : Form → Change → Type 0
+StaysIn journal log = IsUntouched log
+StaysIn (behind file) log = IsUntouched log
+StaysIn json log = IsUntouched log
+StaysIn (logged file) log = ⊤
+StaysIn csv log = IsUntouched log
+
+abbrev pub LogStays : Option Asked → Change → Type 0
+LogStays None log = IsUntouched log
+LogStays (Some asked) log = StaysIn asked.form log
 
 -- ---- inside
 
@@ -126,26 +163,15 @@ recovery_fault (recoveries.Wrong n) = faults.Journal n
 recovery_fault recoveries.Read = faults.File
 recovery_fault recoveries.Memory = faults.Memory
 
-abbrev pub GoesOn : Known → Program → ℕ → Text → Option Bytes → Option Bytes → Result Ran Fault → Change → Type 0
-GoesOn had p node name left end (Ok ran) output = HasGoneOn had p node name left end ran output
-GoesOn had p node name left end (Err f) output = IsRecoveryFault f × (end ≡ left) × IsUntouched output
+abbrev pub GoesOn : Known → Program → ℕ → Parties → Option Bytes → Option Bytes → Result Ran Fault → Change → Type 0
+GoesOn had p node who left end (Ok ran) output = HasGoneOn had p node who left end ran output
+GoesOn had p node who left end (Err f) output = IsRecoveryFault f × (end ≡ left) × IsUntouched output
 
--- before a fault is told nothing was said, unless it is a journal's
-abbrev pub IsQuiet : Fault → Change → Type 0
-IsQuiet (faults.Journal n) c = ⊤
-IsQuiet (faults.Program e) c = IsUntouched c
-IsQuiet (faults.Scripts e) c = IsUntouched c
-IsQuiet faults.Words c = IsUntouched c
-IsQuiet faults.File c = IsUntouched c
-IsQuiet faults.Output c = IsUntouched c
-IsQuiet faults.Memory c = IsUntouched c
-IsQuiet faults.Start c = IsUntouched c
+abbrev pub Logs : Known → Type 0 → Program → ℕ → Parties → Option Bytes → Option Bytes → Change → Result Ran Fault → Change → Type 0
+Logs had is_opened p node who left end log (Ok ran) output = HasLoggedOn had is_opened p node who left end log ran output
+Logs had is_opened p node who left end log (Err f) output = IsRecoveryFault f × (end ≡ left) × IsUntouched log × IsUntouched output
 
 -- ---- what is told
-
--- 0 where each line was a call
-abbrev pub score_status : Score → ℕ
-score_status score = if score.refused == 0 then 0 else 2
 
 abbrev pub play_fault : PlayError → Fault
 play_fault plays.Read = faults.File
@@ -153,29 +179,14 @@ play_fault plays.Write = faults.Output
 play_fault plays.Memory = faults.Memory
 play_fault plays.Full = faults.Scripts scripts.Limit
 
--- the status and the line are the fault's, behind what was said before
-abbrev pub IsToldLast : ℕ → Fault → Change → Type 0
-IsToldLast status f faults = (said : Option Bytes) × (failed : Option ℕ) × IsToldBy status f (change said faults.new failed faults.after)
-
--- a journal's fault is told behind a reply that isn't the right one, and any other alone
-abbrev pub IsToldAlone : ℕ → Fault → Change → Type 0
-IsToldAlone status (faults.Journal n) c = IsToldLast status (faults.Journal n) c
-IsToldAlone status (faults.Program e) c = IsToldBy status (faults.Program e) c
-IsToldAlone status (faults.Scripts e) c = IsToldBy status (faults.Scripts e) c
-IsToldAlone status faults.Words c = IsToldBy status faults.Words c
-IsToldAlone status faults.File c = IsToldBy status faults.File c
-IsToldAlone status faults.Output c = IsToldBy status faults.Output c
-IsToldAlone status faults.Memory c = IsToldBy status faults.Memory c
-IsToldAlone status faults.Start c = IsToldBy status faults.Start c
-
 abbrev pub IsTold : Result Ran Fault → ℕ → Change → Type 0
-IsTold (Ok (Ok score)) status faults = status ≡ score_status score
+IsTold (Ok (Ok score)) status faults = status ≡ lines_status score.refused
 IsTold (Ok (Err e)) status faults = IsToldLast status (play_fault e) faults
 IsTold (Err f) status faults = IsToldAlone status f faults
 
 -- a live run ends with an outcome of what was asked for, which is told
-pub record Ends (read_fails : Known → Type 0) (known : Text → Known) (asked : Option Asked) (left end : Option Bytes)
-    (output faults : Change) (status : ℕ) : Type 0 where
+pub record Ends (read_fails : Known → Type 0) (known : Text → Known) (opens : Text → Type 0) (asked : Option Asked) (left end : Option Bytes)
+    (log output faults : Change) (status : ℕ) : Type 0 where
   pub outcome : Result Ran Fault
-  pub ends : AskedEnds (TaskEnds read_fails known left end) asked outcome output
+  pub ends : AskedEnds (TaskEnds read_fails known opens left end log) asked outcome output
   pub told : IsTold outcome status faults

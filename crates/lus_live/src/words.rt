@@ -1,14 +1,16 @@
 //! The words of the command line.
 
-ghost use Rattle.std.specs.Prelude.{◌≡◌, IfOk, Some, None, Err, map, option_map, string_bytes};
-ghost use Rattle.clap.specs.Words.{app_of, found_of, rows_of};
+ghost use Rattle.std.specs.Prelude.{◌≡◌, IfOk, Some, None, Err, codes, map, option_map, string_bytes};
+ghost use Rattle.clap.specs.Words.{app_of, first_of, found_of, rows_of};
 ghost use Rattle.lus_cli.specs.declared.words.WordsError.TheVariants.{Mistaken};
-ghost use Rattle.lus_live.specs.CommandLine.{asked, form_in, form_seen, said, task_seen, the_command};
+ghost use Rattle.lus_live.specs.CommandLine.{asked, caller_of, form_in, form_seen, is_journal, said, task_seen, the_command};
 
 use clap::{ArgMatches, Command};
 use lus_cli::{
     WordsError, bare, is_set, matches, value_of, with_flag, with_optional, with_required,
+    with_value,
 };
+use lus_scripts::is_name;
 use std::alloc::{AllocError, Global};
 
 /// How what becomes of the calls is written.
@@ -20,6 +22,8 @@ pub enum Form<'a> {
     Behind(&'a str),
     /// Each reply as an object of JSON.
     Json,
+    /// Likewise, once its entry is in a file's journal.
+    Logged(&'a str),
     /// The outputs of each step as a record of CSV, as which the steps are read.
     Csv,
 }
@@ -29,6 +33,7 @@ pub enum Form<'a> {
 pub struct Task<'a> {
     pub program: &'a str,
     pub node: &'a str,
+    pub caller: &'a str,
     pub form: Form<'a>,
 }
 
@@ -37,7 +42,8 @@ fn command<'a>(alloc: Global) -> Result<Command<'a>, AllocError>
 {
     let json = with_flag(alloc, bare(alloc, "lus_live"), "json")?;
     let csv = with_flag(alloc, json, "csv")?;
-    let program = with_required(alloc, csv, "PROGRAM")?;
+    let caller = with_value(alloc, csv, "caller")?;
+    let program = with_required(alloc, caller, "PROGRAM")?;
     let node = with_required(alloc, program, "NODE")?;
     with_optional(alloc, node, "JOURNAL")
 }
@@ -51,7 +57,7 @@ pub fn read_words<'a>(alloc: Global, words: &'a [String]) -> Result<Task<'a>, Wo
     choose(&matches).ok_or(WordsError::Mistaken)
 }
 
-/// Only a journal is written behind what a file has, and of the two flags there is one at most.
+/// A table goes with no file's journal, and of the two flags there is one at most.
 fn form_in<'a>(matches: &ArgMatches<'a>) -> Option<Form<'a>>
     ensures { option_map form_seen result ≡ form_in (rows_of (found_of matches.now)) }
 {
@@ -63,8 +69,29 @@ fn form_in<'a>(matches: &ArgMatches<'a>) -> Option<Form<'a>>
         (false, false, None) => Some(Form::Journal),
         (false, false, Some(journal)) => Some(Form::Behind(journal)),
         (true, false, None) => Some(Form::Json),
+        (true, false, Some(journal)) => Some(Form::Logged(journal)),
         (false, true, None) => Some(Form::Csv),
         _ => None,
+    }
+}
+
+fn is_journal(form: Form<'_>) -> bool
+    ensures { result ≡ is_journal (form_seen form.entry) }
+{
+    match form {
+        Form::Journal | Form::Behind(_) | Form::Logged(_) => true,
+        Form::Json | Form::Csv => false,
+    }
+}
+
+/// The name of the one caller, which only a journal has.
+fn caller_in<'a>(matches: &ArgMatches<'a>, form: Form<'a>) -> Option<&'a str>
+    ensures { option_map (λ t. t.now) result ≡ caller_of (form_seen form.entry) (first_of (codes "caller") (rows_of (found_of matches.now))) }
+{
+    match value_of(matches, "caller") {
+        None => Some("user"),
+        Some(name) if is_journal(form) && is_name(name) => Some(name),
+        Some(_) => None,
     }
 }
 
@@ -75,9 +102,11 @@ fn choose<'a>(matches: &ArgMatches<'a>) -> Option<Task<'a>>
     let form = form_in(matches)?;
     let program = value_of(matches, "PROGRAM")?;
     let node = value_of(matches, "NODE")?;
+    let caller = caller_in(matches, form)?;
     Some(Task {
         program,
         node,
+        caller,
         form,
     })
 }

@@ -13,6 +13,7 @@ use Rattle.std.specs.Str.{bytes_eq}
 use Rattle.lus_reactions.specs.PlaySpecs.declared.playing.Score.{Score}
 use Rattle.lus_reactions.specs.Reactions.{HasReacted, HasReactedSome, IsCallTo}
 use Rattle.lus_reactions.proofs.ReactionLaws.{not_begun}
+use Rattle.lus_recovery.specs.Journals.{Parties}
 use Rattle.lus_recovery.specs.Recoveries.{HasRecovered, HasResumed, HasResumedSome}
 use Rattle.lus_recovery.specs.declared.recovering.Start.{Start}
 use Rattle.lus_live_instance.specs.Lives.{HasLived, HasLivedOn, HasLivedSome, HasLivedSomeOn, IsLive}
@@ -44,35 +45,35 @@ named_within p name f is =
     omega (arith, within)
 
 -- nothing was played
-pub not_lived : (p : Program) (f : ℕ) (name : Text) (left w : Option Bytes) → HasLivedSome p f name left w w
-not_lived p f name left w = record { history = []; lawful = empty; reacted = not_begun p (names_of p) f name left w [] refl }
+pub not_lived : (p : Program) (f : ℕ) (who : Parties) (left w : Option Bytes) → HasLivedSome p f who left w w
+not_lived p f who left w = record { history = []; lawful = empty; reacted = not_begun p (names_of p) f who left w [] refl }
 
-module _ (p : Program) (f : ℕ) (name : Text) (left : Option Bytes) (w w' : Option Bytes) (m : Told) (live : IsLive p f m)
+module _ (p : Program) (f : ℕ) (who : Parties) (left : Option Bytes) (w w' : Option Bytes) (m : Told) (live : IsLive p f m)
     (q : Program) (names : Names) (same : q ≡ p) (named : names ≡ names_of p) where
-  pub all_lived : (end : Option Bytes) (score : Score) → HasReacted q names f name left end m.history w w' score → HasLived p f name left end w w' score
+  pub all_lived : (end : Option Bytes) (score : Score) → HasReacted q names f who left end m.history w w' score → HasLived p f who left end w w' score
   all_lived end score reacted = record {
     history = m.history;
     lawful = lawful_of p f m live;
-    reacted = subst (λ ns. HasReacted p ns f name left end m.history w w' score) named
-        (subst (λ r. HasReacted r names f name left end m.history w w' score) same reacted);
+    reacted = subst (λ ns. HasReacted p ns f who left end m.history w w' score) named
+        (subst (λ r. HasReacted r names f who left end m.history w w' score) same reacted);
   }
 
-  pub some_lived : HasReactedSome q names f name left m.history w w' → HasLivedSome p f name left w w'
+  pub some_lived : HasReactedSome q names f who left m.history w w' → HasLivedSome p f who left w w'
   some_lived reacted = record {
     history = m.history;
     lawful = lawful_of p f m live;
-    reacted = subst (λ ns. HasReactedSome p ns f name left m.history w w') named
-        (subst (λ r. HasReactedSome r names f name left m.history w w') same reacted);
+    reacted = subst (λ ns. HasReactedSome p ns f who left m.history w w') named
+        (subst (λ r. HasReactedSome r names f who left m.history w w') same reacted);
   }
 
   -- ---- behind the history of a journal
 
   module _ (start : Start) (h : List Entry) where
-    pub all_resumed : (end : Option Bytes) (score : Score) → HasResumed (IsCallTo q names f) names name start left end h m.history w w' score
-        → HasLivedOn p f name start left end h w w' score
+    pub all_resumed : (end : Option Bytes) (score : Score) → HasResumed (IsCallTo q names f) names who start left end h m.history w w' score
+        → HasLivedOn p f who start left end h w w' score
     all_resumed end score resumed =
-        let r = subst (λ ns. HasResumed (IsCallTo p ns f) ns name start left end h m.history w w' score) named
-        (subst (λ x. HasResumed (IsCallTo x names f) names name start left end h m.history w w' score) same resumed) in
+        let r = subst (λ ns. HasResumed (IsCallTo p ns f) ns who start left end h m.history w w' score) named
+        (subst (λ x. HasResumed (IsCallTo x names f) names who start left end h m.history w w' score) same resumed) in
         record {
           entries = r.entries;
           lawful = subst (History p f) r.entered (lawful_of p f m live);
@@ -80,10 +81,10 @@ module _ (p : Program) (f : ℕ) (name : Text) (left : Option Bytes) (w w' : Opt
           wrote = r.wrote;
         }
 
-    pub some_resumed : HasResumedSome (IsCallTo q names f) names name start left h m.history w w' → HasLivedSomeOn p f name start left h w w'
+    pub some_resumed : HasResumedSome (IsCallTo q names f) names who start left h m.history w w' → HasLivedSomeOn p f who start left h w w'
     some_resumed resumed =
-        let r = subst (λ ns. HasResumedSome (IsCallTo p ns f) ns name start left h m.history w w') named
-        (subst (λ x. HasResumedSome (IsCallTo x names f) names name start left h m.history w w') same resumed) in
+        let r = subst (λ ns. HasResumedSome (IsCallTo p ns f) ns who start left h m.history w w') named
+        (subst (λ x. HasResumedSome (IsCallTo x names f) names who start left h m.history w w') same resumed) in
         record {
           entries = r.entries;
           lawful = subst (History p f) r.entered (lawful_of p f m live);

@@ -5,4 +5,4 @@ mod live;
 
 pub use live::{Instance, Recovered, new_instance, recover_live, resume_live, run_live};
 pub use lus_machine;
-pub use lus_reactions::{PlayError, RecoveryError, Score, Start};
+pub use lus_reactions::{Parties, PlayError, RecoveryError, Score, Start};

@@ -5,12 +5,15 @@ ghost use Rattle.std.specs.Arc.{arc_value};
 ghost use Rattle.lus_machine.specs.CodeSpecs.Codes.{program_of};
 ghost use Rattle.lus_machine.specs.Constructors.{names_of};
 ghost use Rattle.lus_machine.specs.Formals.{node_named};
+ghost use Rattle.lus_recovery.specs.Journals.{parties_seen};
 ghost use Rattle.lus_recovery.specs.Recoveries.{HasRecovered};
 ghost use Rattle.lus_live_instance.specs.Lives.{HasLived, HasLivedOn, HasLivedSome, HasLivedSomeOn, IsLive};
 
 use lus_devices::{Sink, Source};
 use lus_machine::{NodeId, Program, Reactor};
-use lus_reactions::{PlayError, Reacts, RecoveryError, Score, Start, react, react_on, recover};
+use lus_reactions::{
+    Parties, PlayError, Reacts, RecoveryError, Score, Start, react, react_on, recover,
+};
 use lus_requests::{Reply, Request};
 use lus_values::Memory;
 use std::alloc::Global;
@@ -47,15 +50,15 @@ pub fn run_live<S: Source, O: Sink, F: Sink>(
     alloc: Global,
     program: &Arc<Program>,
     node: NodeId,
-    name: &str,
+    who: Parties<'_>,
     input: &mut S,
     output: &mut O,
     faults: &mut F,
 ) -> Result<Score, PlayError>
-    requires { node_named (program_of (arc_value program.now)) name.now ≡ Some node.0 }
-    ensures all { IfOk result (λ score. HasLived (program_of (arc_value program.now)) node.0 name.now (S.left input.old) (S.left input.new)
+    requires { node_named (program_of (arc_value program.now)) who.node.now ≡ Some node.0 }
+    ensures all { IfOk result (λ score. HasLived (program_of (arc_value program.now)) node.0 (parties_seen who.entry) (S.left input.old) (S.left input.new)
         (O.written output.old) (O.written output.new) score) }
-    ensures begun { OnErr result (HasLivedSome (program_of (arc_value program.now)) node.0 name.now (S.left input.old)
+    ensures begun { OnErr result (HasLivedSome (program_of (arc_value program.now)) node.0 (parties_seen who.entry) (S.left input.old)
         (O.written output.old) (O.written output.new)) }
 {
     let mut instance = new_instance(alloc, program, node)?;
@@ -64,7 +67,7 @@ pub fn run_live<S: Source, O: Sink, F: Sink>(
         program.source(),
         program.names(),
         node,
-        name,
+        who,
         &mut instance,
         input,
         output,
@@ -106,16 +109,16 @@ pub fn resume_live<S: Source, O: Sink, F: Sink>(
     alloc: Global,
     program: &Arc<Program>,
     node: NodeId,
-    name: &str,
+    who: Parties<'_>,
     recovered: Recovered,
     input: &mut S,
     output: &mut O,
     faults: &mut F,
 ) -> Result<Score, PlayError>
     requires { IsLive (program_of (arc_value program.now)) node.0 recovered.instance.reactor }
-    ensures all { IfOk result (λ score. HasLivedOn (program_of (arc_value program.now)) node.0 name.now recovered.start
+    ensures all { IfOk result (λ score. HasLivedOn (program_of (arc_value program.now)) node.0 (parties_seen who.entry) recovered.start
         (S.left input.old) (S.left input.new) recovered.instance.reactor.history (O.written output.old) (O.written output.new) score) }
-    ensures begun { OnErr result (HasLivedSomeOn (program_of (arc_value program.now)) node.0 name.now recovered.start
+    ensures begun { OnErr result (HasLivedSomeOn (program_of (arc_value program.now)) node.0 (parties_seen who.entry) recovered.start
         (S.left input.old) recovered.instance.reactor.history (O.written output.old) (O.written output.new)) }
 {
     let mut recovered = recovered;
@@ -124,7 +127,7 @@ pub fn resume_live<S: Source, O: Sink, F: Sink>(
         program.source(),
         program.names(),
         node,
-        name,
+        who,
         recovered.start,
         &mut recovered.instance,
         input,

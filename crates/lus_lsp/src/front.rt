@@ -5,12 +5,13 @@ ghost use Rattle.lus_syntax.specs.declared.refusal.Refusal.{Refusal};
 ghost use Rattle.lus_editing.specs.Diagnostics.{AreFaults};
 ghost use Rattle.lus_lsp.specs.Verdicts.{IsAccepted, IsRefused};
 
-use lus_editing::{Compiler, RenameProblem};
+use crate::facts::fact_of;
+use lus_editing::{Compiler, Fact, RenameProblem};
 use lus_format::{FormatError, format};
 use lus_further::Told;
 use lus_rename::{RenameError, renamed};
 use lus_reports::{accept, further_faults, known_finding};
-use lus_syntax::{Refusal, RefusalNumber};
+use lus_syntax::{Place, Refusal, RefusalNumber};
 use lus_warnings::{Warning, warnings_of};
 use std::alloc::{AllocError, Global};
 
@@ -78,6 +79,19 @@ impl Compiler for Front {
                 Err(AllocError)
             }
             Err(_) => Ok(Some(RenameProblem::OtherProgram)),
+        }
+    }
+
+    fn fact(
+        &self,
+        alloc: Global,
+        source: &str,
+        declared: Place,
+    ) -> Result<Option<Fact>, AllocError> {
+        match fact_of(alloc, source, declared) {
+            Ok(fact) => Ok(fact),
+            Err(refusal) if refusal.number == RefusalNumber::Memory => Err(AllocError),
+            Err(_) => Ok(None),
         }
     }
 

@@ -1,5 +1,5 @@
 -- How a host of many instances ends: what became of its lines, or which fault came before the first.
-use Rattle.std.specs.Prelude.{◌≡◌, ◌==◌, ℕ, Bool, true, false, Option, Some, None, Result, Ok, Err, ⊤, if◌then◌else◌}
+use Rattle.std.specs.Prelude.{◌≡◌, ℕ, Bool, true, false, Option, Some, Result, Ok, Err, ⊤}
 use Rattle.lus_program.specs.Programs.{Program}
 use Rattle.lus_devices.specs.Devices.{Bytes}
 use Rattle.lus_devices.specs.Folders.{Known, WithFile}
@@ -11,12 +11,12 @@ use Rattle.lus_hosting.specs.Turns.{HasHosted, HasHostedSome}
 use Rattle.lus_hosting.specs.declared.error.HostError.{HostError}
 use Rattle.lus_hosting.specs.declared.error.HostError.TheVariants as hosts
 use Rattle.lus_cli.specs.HostSpecs.Sources.{ProgramRefused}
-use Rattle.lus_cli.specs.MachineSpecs.Acceptance.{Accepted}
 use Rattle.lus_cli.specs.MachineSpecs.Formals.{node_named}
 use Rattle.lus_cli.specs.Changes.{Change, IsUntouched, change}
 use Rattle.lus_cli.specs.CommandLine.{Text}
 use Rattle.lus_cli.specs.Ends.{AskedEnds, IsLost}
-use Rattle.lus_cli.specs.Faults.{IsToldBy}
+use Rattle.lus_cli.specs.Faults.{IsToldAlone, IsToldLast}
+use Rattle.lus_cli.specs.Programs.{IsOfFile, LacksNode, lines_status}
 use Rattle.lus_cli.specs.declared.fault.Fault.{Fault}
 use Rattle.lus_cli.specs.declared.fault.Fault.TheVariants as faults
 use Rattle.lus_many.specs.CommandLine.{Asked}
@@ -25,10 +25,6 @@ use Rattle.lus_many.specs.Objects.{node_spelling}
 -- what became of the lines: all were read, or an error came first
 abbrev pub Ran : Type 0
 Ran = Result Score HostError
-
--- the program of the file is accepted, where its bytes are known
-abbrev pub IsOfFile : Known → Program → Type 0
-IsOfFile file p = WithFile file (λ text. Accepted text p)
 
 -- how it is spelled what becomes of lines: as objects of JSON, or as a log
 abbrev pub spelling_of : Bool → Program → ℕ → Spelling
@@ -48,10 +44,6 @@ pub record HasRun (is_json : Bool) (file : Known) (name : Text) (left end : Opti
   pub named : node_named program name ≡ Some node
   pub hosted : Hosted is_json program node left end ran output
 
--- a file's program has no node of this name
-abbrev pub LacksNode : Known → Text → Type 0
-LacksNode file name = (p : Program) × IsOfFile file p × (node_named p name ≡ None)
-
 -- why no line is read: the program's file is lost, it is refused, or it lacks the node; or memory was wanting
 abbrev pub HostFails : (Known → Type 0) → Known → Text → Fault → Type 0
 HostFails read_fails file name faults.File = IsLost read_fails file
@@ -70,10 +62,6 @@ TaskEnds read_fails known left end asked (Err f) output = HostFails read_fails (
 
 -- ---- what is told
 
--- 0 where each line was a call, an entry, or a note
-abbrev pub score_status : Score → ℕ
-score_status score = if score.refused == 0 then 0 else 2
-
 abbrev pub host_fault : HostError → Fault
 host_fault (hosts.Line n) = faults.Journal n
 host_fault (hosts.Wrong n) = faults.Journal n
@@ -82,14 +70,10 @@ host_fault hosts.Write = faults.Output
 host_fault hosts.Memory = faults.Memory
 host_fault hosts.Full = faults.Scripts scripts.Limit
 
--- the status and the line are the fault's, behind what was said before
-abbrev pub IsToldLast : ℕ → Fault → Change → Type 0
-IsToldLast status f faults = (said : Option Bytes) × (failed : Option ℕ) × IsToldBy status f (change said faults.new failed faults.after)
-
 abbrev pub IsTold : Result Ran Fault → ℕ → Change → Type 0
-IsTold (Ok (Ok score)) status faults = status ≡ score_status score
+IsTold (Ok (Ok score)) status faults = status ≡ lines_status score.refused
 IsTold (Ok (Err e)) status faults = IsToldLast status (host_fault e) faults
-IsTold (Err f) status faults = IsToldBy status f faults
+IsTold (Err f) status faults = IsToldAlone status f faults
 
 -- a host ends with an outcome of what was asked for, which is told
 pub record Ends (read_fails : Known → Type 0) (known : Text → Known) (asked : Option Asked) (left end : Option Bytes)

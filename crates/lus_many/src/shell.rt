@@ -5,14 +5,15 @@ ghost use Rattle.std.specs.Arc.{arc_value};
 ghost use Rattle.lus_cli.specs.Changes.{change};
 ghost use Rattle.lus_cli.specs.CodeSpecs.Codes.{program_of};
 ghost use Rattle.lus_cli.specs.Ends.{AskedEnds, ReadFails};
+ghost use Rattle.lus_cli.specs.Faults.{IsQuiet};
 ghost use Rattle.lus_hosting.specs.Turns.{HasHosted, HasHostedSome};
 ghost use Rattle.lus_many.specs.CommandLine.{asked, task_seen};
-ghost use Rattle.lus_many.specs.Ends.{Ends, TaskEnds, host_fault, score_status, spelling_of};
+ghost use Rattle.lus_many.specs.Ends.{Ends, TaskEnds, host_fault, spelling_of};
 
 use crate::objects::host_json;
 use crate::words::{Task, read_words};
 use lus_cli::lus_host::ScriptRefusal;
-use lus_cli::{Fault, read_program, tell};
+use lus_cli::{Fault, lines_status, read_program, tell, tell_nodes};
 use lus_devices::{Folder, Sink, Source, write_all};
 use lus_hosting::lus_live_instance::Score;
 use lus_hosting::lus_live_instance::lus_machine::{NodeId, Program};
@@ -47,7 +48,7 @@ fn tell_wrong<F: Sink>(error: HostError, wrong: &Wrong, faults: &mut F) {
 }
 
 /// Hosts instances of a node. An error is of a fault before the first line, or of the host itself.
-fn perform<D: Folder, S: Source, O: Sink>(
+fn perform<D: Folder, S: Source, O: Sink, F: Sink>(
     alloc: Global,
     folder: &D,
     words: &[String],
@@ -55,17 +56,20 @@ fn perform<D: Folder, S: Source, O: Sink>(
     input: &mut S,
     output: &mut O,
     wrong: &mut Wrong,
+    faults: &mut F,
 ) -> Result<Result<Score, HostError>, Fault>
-    ensures { AskedEnds (TaskEnds (ReadFails D.File D.File.left D.File.failures) (D.known folder.now)
+    ensures ends { AskedEnds (TaskEnds (ReadFails D.File D.File.left D.File.failures) (D.known folder.now)
         (S.left input.old) (S.left input.new)) (asked (map string_bytes words.now)) result
         (change (O.written output.old) (O.written output.new) (O.failures output.old) (O.failures output.new)) }
+    ensures quiet { IfErr result (λ f. IsQuiet f
+        (change (F.written faults.old) (F.written faults.new) (F.failures faults.old) (F.failures faults.new))) }
 {
     let task = read_words(alloc, words)?;
-    host_on(alloc, folder, task, keys, input, output, wrong)
+    host_on(alloc, folder, task, keys, input, output, wrong, faults)
 }
 
 /// Hosts instances of the node that a task names.
-fn host_on<D: Folder, S: Source, O: Sink>(
+fn host_on<D: Folder, S: Source, O: Sink, F: Sink>(
     alloc: Global,
     folder: &D,
     task: Task<'_>,
@@ -73,13 +77,17 @@ fn host_on<D: Folder, S: Source, O: Sink>(
     input: &mut S,
     output: &mut O,
     wrong: &mut Wrong,
+    faults: &mut F,
 ) -> Result<Result<Score, HostError>, Fault>
-    ensures { TaskEnds (ReadFails D.File D.File.left D.File.failures) (D.known folder.now) (S.left input.old) (S.left input.new)
+    ensures ends { TaskEnds (ReadFails D.File D.File.left D.File.failures) (D.known folder.now) (S.left input.old) (S.left input.new)
         (task_seen task.entry) result
         (change (O.written output.old) (O.written output.new) (O.failures output.old) (O.failures output.new)) }
+    ensures quiet { IfErr result (λ f. IsQuiet f
+        (change (F.written faults.old) (F.written faults.new) (F.failures faults.old) (F.failures faults.new))) }
 {
     let program = read_program(alloc, folder, task.program)?;
     let Some(node) = program.node(task.node) else {
+        tell_nodes(&program, faults);
         return Err(Fault::Scripts(ScriptRefusal::Unknown));
     };
     let Ok(program) = Arc::new(alloc, program) else {
@@ -125,13 +133,6 @@ fn host_in<S: Source, O: Sink>(
     }
 }
 
-/// The status where all lines were read: 2 where one is no call.
-fn status_of(score: Score) -> u8
-    ensures { result ≡ score_status score }
-{
-    if score.refused == 0 { 0 } else { 2 }
-}
-
 fn fault_of(error: HostError) -> Fault
     ensures { result ≡ host_fault error }
 {
@@ -166,8 +167,10 @@ pub fn command<D: Folder, S: Source, O: Sink, F: Sink>(
         line: Vec::new(alloc),
         right: String::new(alloc),
     };
-    match perform(alloc, folder, words, keys, input, output, &mut wrong) {
-        Ok(Ok(score)) => status_of(score),
+    match perform(
+        alloc, folder, words, keys, input, output, &mut wrong, faults,
+    ) {
+        Ok(Ok(score)) => lines_status(score.refused),
         Ok(Err(error)) => {
             tell_wrong(error, &wrong, faults);
             tell(faults, fault_of(error))

@@ -62,9 +62,13 @@ pub fn helping(
     edit: Option<Edit>,
     number: RefusalNumber,
 ) -> Result<Option<Edit>, AllocError> {
-    match edit {
-        Some(edit) if helps(alloc, source, &edit, number)? => Ok(Some(edit)),
-        _ => Ok(None),
+    let Some(edit) = edit else {
+        return Ok(None);
+    };
+    if helps(alloc, source, &edit, number)? {
+        Ok(Some(edit))
+    } else {
+        Ok(None)
     }
 }
 
@@ -180,6 +184,37 @@ fn next_of(
     }
 }
 
+/// The change that is told of a source's refusal, if it helps.
+fn helping_next(
+    alloc: Global,
+    source: &str,
+    refusal: &Refusal,
+    teller: Teller,
+) -> Result<Option<Edit>, AllocError> {
+    let next = next_of(alloc, source, refusal, teller)?;
+    trusted(alloc, source, next, refusal.number, teller)
+}
+
+/// A change that made this text together with the next one of its kind, if the equation or the line needs it and it helps.
+fn with_next_in(
+    alloc: Global,
+    changed: &str,
+    edit: &Edit,
+    teller: Teller,
+) -> Result<Option<Edit>, AllocError> {
+    let Some(refusal) = refusal_in(alloc, changed) else {
+        return Ok(None);
+    };
+    let byte = offset_of(changed, refusal.line, refusal.column);
+    if !goes_on(changed, edit, byte) {
+        return Ok(None);
+    }
+    match helping_next(alloc, changed, &refusal, teller)? {
+        Some(next) => joined(alloc, changed, edit, &next),
+        None => Ok(None),
+    }
+}
+
 /// A change of a text together with the next one of its kind, if the equation or the line needs it and it helps.
 fn with_next(
     alloc: Global,
@@ -187,21 +222,27 @@ fn with_next(
     edit: &Edit,
     teller: Teller,
 ) -> Result<Option<Edit>, AllocError> {
-    let Some(changed) = edited(alloc, source, edit)? else {
-        return Ok(None);
-    };
-    let Some(refusal) = refusal_in(alloc, changed.as_str()) else {
-        return Ok(None);
-    };
-    let byte = offset_of(changed.as_str(), refusal.line, refusal.column);
-    if !goes_on(changed.as_str(), edit, byte) {
-        return Ok(None);
-    }
-    let next = next_of(alloc, changed.as_str(), &refusal, teller)?;
-    match trusted(alloc, changed.as_str(), next, refusal.number, teller)? {
-        Some(next) => joined(alloc, changed.as_str(), edit, &next),
+    match edited(alloc, source, edit)? {
+        Some(changed) => with_next_in(alloc, changed.as_str(), edit, teller),
         None => Ok(None),
     }
+}
+
+/// A change of a text with all further ones of its kind that the equation or the line needs.
+fn with_further(
+    alloc: Global,
+    source: &str,
+    first: Edit,
+    teller: Teller,
+) -> Result<Edit, AllocError> {
+    let mut edit = first;
+    for _turn in 0..MOST_FURTHER {
+        match with_next(alloc, source, &edit, teller)? {
+            Some(further) => edit = further,
+            None => return Ok(edit),
+        }
+    }
+    Ok(edit)
 }
 
 /// A change of a text, if it helps, with all further ones of its kind that the equation or the line needs.
@@ -211,17 +252,8 @@ pub fn whole(
     first: Option<Edit>,
     teller: Teller,
 ) -> Result<Option<Edit>, AllocError> {
-    let source = fault.source;
-    let mut edit = trusted(alloc, source, first, fault.number, teller)?;
-    for _turn in 0..MOST_FURTHER {
-        let further = match &edit {
-            Some(edit) => with_next(alloc, source, edit, teller)?,
-            None => None,
-        };
-        if further.is_none() {
-            return Ok(edit);
-        }
-        edit = further;
+    match trusted(alloc, fault.source, first, fault.number, teller)? {
+        Some(edit) => Ok(Some(with_further(alloc, fault.source, edit, teller)?)),
+        None => Ok(None),
     }
-    Ok(edit)
 }

@@ -3,7 +3,7 @@
 use crate::changes::helping;
 use crate::edits::edit_at;
 use crate::fault::Fault;
-use crate::saying::told;
+use crate::saying::noted;
 use crate::words::is_of_word;
 use lus_faults::{Edit, Finding, bytes_at};
 use lus_syntax::{Place, Span};
@@ -45,54 +45,77 @@ fn is_of_code(inside: &str) -> bool {
     is_begun && (inside.contains(";") || inside.contains(")"))
 }
 
-/// The note on a comment, and what it is meant as.
-fn meant(
-    alloc: Global,
-    inside: &str,
-    byte: usize,
-) -> Result<(&'static str, Option<Edit>), AllocError> {
+/// What a comment is meant as.
+#[derive(Clone, Copy)]
+enum Meant<'t> {
+    Arrow,
+    Countdown,
+    Negative(&'t str),
+}
+
+/// What a comment of this inside is meant as.
+fn meaning_of(inside: &str) -> Meant<'_> {
     let word = word_of(inside);
     if inside.starts_with(">") {
-        let arrow = String::from_str(alloc, "->")?;
-        return Ok(("The arrow is `->`.", Some(edit_at(byte, 3, arrow))));
+        Meant::Arrow
+    } else if word.is_empty() {
+        Meant::Countdown
+    } else {
+        Meant::Negative(word)
     }
-    if word.is_empty() {
-        return Ok(("To count down, write `y = 9 -> pre y - 1;`.", None));
+}
+
+/// The note on a comment.
+fn note_on(meant: Meant<'_>) -> &'static str {
+    match meant {
+        Meant::Arrow => "The arrow is `->`.",
+        Meant::Countdown => "To count down, write `y = 9 -> pre y - 1;`.",
+        Meant::Negative(_) => "To subtract a negative number, write `3 - (-n)`.",
     }
-    let text = format!(in alloc; "- (-{word})")?;
-    let length = word.len().saturating_add(2);
-    Ok((
-        "To subtract a negative number, write `3 - (-n)`.",
-        Some(edit_at(byte, length, text)),
-    ))
+}
+
+/// The change that writes what a comment at a byte is meant as.
+fn change_to(alloc: Global, meant: Meant<'_>, byte: usize) -> Result<Option<Edit>, AllocError> {
+    match meant {
+        Meant::Arrow => Ok(Some(edit_at(byte, 3, String::from_str(alloc, "->")?))),
+        Meant::Countdown => Ok(None),
+        Meant::Negative(word) => {
+            let text = format!(in alloc; "- (-{word})")?;
+            Ok(Some(edit_at(byte, word.len().saturating_add(2), text)))
+        }
+    }
+}
+
+/// The change that writes what a comment is meant as, if it helps.
+fn change_of(
+    alloc: Global,
+    fault: &Fault<'_>,
+    meant: Meant<'_>,
+    byte: usize,
+) -> Result<Option<Edit>, AllocError> {
+    let edit = change_to(alloc, meant, byte)?;
+    helping(alloc, fault.source, edit, fault.number)
+}
+
+/// What is said of a comment that is meant as code.
+fn told_comment(
+    alloc: Global,
+    fault: &Fault<'_>,
+    comment: Span,
+    meant: Meant<'_>,
+) -> Result<Finding, AllocError> {
+    let sentence = String::from_str(alloc, "`--` starts a comment, which ends with its line")?;
+    let place = Some(comment.start);
+    let finding = noted(alloc, place, comment.length, sentence, note_on(meant))?;
+    Ok(finding.with_edit(change_of(alloc, fault, meant, comment.start.byte)?))
 }
 
 /// What is said of a text that lacks what a comment holds.
 pub fn commented(alloc: Global, fault: &Fault<'_>) -> Result<Option<Finding>, AllocError> {
-    let Some((comment, inside)) = comment_before(fault) else {
-        return Ok(None);
-    };
-    if !is_of_code(inside) {
-        return Ok(None);
-    }
-    let (note, edit) = meant(alloc, inside, comment.start.byte)?;
-    let edit = helping(alloc, fault.source, edit, fault.number)?;
-    let sentence = String::from_str(alloc, "`--` starts a comment, which ends with its line")?;
-    let found = told(
-        alloc,
-        fault,
-        (fault.place, fault.place),
-        sentence,
-        note,
-        edit,
-    )?;
-    match found {
-        Some(finding) => {
-            let mut finding = finding;
-            finding.place = Some(comment.start);
-            finding.length = comment.length;
-            Ok(Some(finding))
+    match comment_before(fault) {
+        Some((comment, inside)) if is_of_code(inside) => {
+            Ok(Some(told_comment(alloc, fault, comment, meaning_of(inside))?))
         }
-        None => Ok(None),
+        _ => Ok(None),
     }
 }

@@ -37,31 +37,45 @@ fn blank_between(first: Option<&u8>, second: Option<&u8>) -> &'static str {
     }
 }
 
-/// The change by which a text takes the place of tokens: with the blanks round them where it has blanks there itself, and with blanks of
-/// its own where it would make one word with what stands beside it.
+/// The bytes in the place of which a text is written for some tokens: with the blanks round them where it has blanks there itself, or
+/// has a `%` before it.
+fn bytes_for(fault: &Fault<'_>, range: Range, text: &str) -> Option<(usize, usize)> {
+    let (start, end) = fault.bytes_of(range)?;
+    let (front, rear) = sides(fault, range, start, end);
+    let takes_front = text.starts_with(" ") || text.starts_with("%");
+    let byte = if takes_front && is_blank(fault.source, front, start) {
+        front
+    } else {
+        start
+    };
+    let to = if text.ends_with(" ") && is_blank(fault.source, end, rear) {
+        rear
+    } else {
+        end
+    };
+    Some((byte, to))
+}
+
+/// The byte of a source before another one.
+fn byte_before(source: &str, byte: usize) -> Option<&u8> {
+    source.as_bytes().get(byte.checked_sub(1)?)
+}
+
+/// The change by which a text takes the place of tokens, with the blanks that belong to it, and with blanks of its own where it would
+/// make one word with what stands beside it.
 pub fn edit_of(
     alloc: Global,
     fault: &Fault<'_>,
     range: Range,
-    text: String,
+    text: &str,
 ) -> Result<Option<Edit>, AllocError> {
-    let Some((start, end)) = fault.bytes_of(range) else {
+    let Some((byte, to)) = bytes_for(fault, range, text) else {
         return Ok(None);
     };
-    let (front, rear) = sides(fault, range, start, end);
-    let is_tight = text.starts_with("%");
-    let takes_front = (text.starts_with(" ") || is_tight) && is_blank(fault.source, front, start);
-    let takes_rear = text.ends_with(" ") && is_blank(fault.source, end, rear);
-    let byte = if takes_front { front } else { start };
-    let to = if takes_rear { rear } else { end };
-    let inner = text.strip_prefix("%").unwrap_or(text.as_str());
-    let bytes = fault.source.as_bytes();
-    let before = match byte.checked_sub(1) {
-        Some(before) => bytes.get(before),
-        None => None,
-    };
-    let left = blank_between(before, inner.as_bytes().first());
-    let right = blank_between(inner.as_bytes().last(), bytes.get(to));
+    let inner = text.strip_prefix("%").unwrap_or(text);
+    let written = inner.as_bytes();
+    let left = blank_between(byte_before(fault.source, byte), written.first());
+    let right = blank_between(written.last(), fault.source.as_bytes().get(to));
     Ok(Some(Edit {
         byte,
         length: to.saturating_sub(byte),
@@ -69,30 +83,31 @@ pub fn edit_of(
     }))
 }
 
-/// The change that leaves out tokens, with the blanks on one of their sides where that joins no words.
-pub fn without(alloc: Global, fault: &Fault<'_>, range: Range) -> Result<Option<Edit>, AllocError> {
-    let Some((start, end)) = fault.bytes_of(range) else {
-        return Ok(None);
-    };
+/// The bytes of tokens, with the blanks on one of their sides where that joins no words.
+fn bytes_without(fault: &Fault<'_>, range: Range) -> Option<(usize, usize)> {
+    let (start, end) = fault.bytes_of(range)?;
     let (from, to) = range;
     let (front, rear) = sides(fault, range, start, end);
     let is_before = front < start && is_blank(fault.source, front, start);
     let is_behind = end < rear && is_blank(fault.source, end, rear);
     let is_last = end < rear && !is_behind;
-    let (byte, behind) = if is_behind
-        && (is_before || is_sign(fault.tokens.get(from.saturating_sub(1))))
-    {
-        (start, rear)
+    if is_behind && (is_before || is_sign(fault.tokens.get(from.saturating_sub(1)))) {
+        Some((start, rear))
     } else if is_before && (is_last || is_sign(fault.tokens.get(to))) {
-        (front, end)
+        Some((front, end))
     } else {
-        (start, end)
-    };
-    Ok(Some(Edit {
+        Some((start, end))
+    }
+}
+
+/// The change that leaves out tokens, with the blanks on one of their sides where that joins no words.
+pub fn without(alloc: Global, fault: &Fault<'_>, range: Range) -> Option<Edit> {
+    let (byte, end) = bytes_without(fault, range)?;
+    Some(Edit {
         byte,
-        length: behind.saturating_sub(byte),
+        length: end.saturating_sub(byte),
         text: String::new(alloc),
-    }))
+    })
 }
 
 /// The blank that a missing token has before it, behind the token there.
@@ -105,33 +120,40 @@ fn front_of(missing: &str, before: &Token) -> &'static str {
     }
 }
 
-/// The change that puts a missing token behind the one before the fault, with the blanks that people write. A parenthesis that opens
-/// takes the place of the blanks behind it.
+/// The blank that a missing token has behind it: one where the fault's token stands right behind the one before it.
+fn rear_of(fault: &Fault<'_>, missing: &str, end: usize) -> &'static str {
+    match fault.token() {
+        Some(found)
+            if found.span.start.byte == end
+                && !is_any(missing, &["("])
+                && !is_sign(fault.token()) => " ",
+        _ => "",
+    }
+}
+
+/// The byte up to which a missing token takes the place of blanks: a parenthesis that opens does of those behind it.
+fn end_for(fault: &Fault<'_>, missing: &str, end: usize) -> usize {
+    match fault.token() {
+        Some(found)
+            if is_any(missing, &["("]) && is_blank(fault.source, end, found.span.start.byte) =>
+            found.span.start.byte,
+        _ => end,
+    }
+}
+
+/// The change that puts a missing token behind the one before the fault, with the blanks that people write.
 pub fn with_missing(
     alloc: Global,
     fault: &Fault<'_>,
     missing: &str,
     before: &Token,
-) -> Result<Option<Edit>, AllocError> {
-    let front = front_of(missing, before);
+) -> Result<Edit, AllocError> {
     let end = before.span.end().byte;
-    let next = match fault.token() {
-        Some(found) => found.span.start.byte,
-        None => end,
-    };
-    let is_open = is_any(missing, &["("]);
-    let to = if is_open && is_blank(fault.source, end, next) {
-        next
-    } else {
-        end
-    };
-    let is_tight = next == end && !is_open && fault.token().is_some() && !is_sign(fault.token());
-    let rear = if is_tight { " " } else { "" };
-    Ok(Some(Edit {
-        byte: end,
-        length: to.saturating_sub(end),
-        text: format!(in alloc; "{front}{missing}{rear}")?,
-    }))
+    let to = end_for(fault, missing, end);
+    let front = front_of(missing, before);
+    let rear = rear_of(fault, missing, end);
+    let text = format!(in alloc; "{front}{missing}{rear}")?;
+    Ok(edit_at(end, to.saturating_sub(end), text))
 }
 
 /// The change that puts a text before a byte, or in the place of so many.

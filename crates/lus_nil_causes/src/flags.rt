@@ -118,3 +118,9 @@ impl<'t> Flags<'t> {
         None
     }
 }
+
+/// Whether a variable of a node in which nil stands only where flags allow may be nil at the first instant of its clock.
+pub fn may_be_nil(alloc: Global, node: &Node, name: &str) -> Result<bool, AllocError> {
+    let flags = flags_of(alloc, node)?;
+    Ok(flags.raised.contains(&name))
+}

@@ -8,3 +8,4 @@ mod wanting;
 mod way;
 
 pub use cause::nil_cause;
+pub use flags::may_be_nil;

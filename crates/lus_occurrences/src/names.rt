@@ -1,11 +1,11 @@
 //! The names of a source with their declarations.
 
-ghost use Rattle.std.specs.Prelude.{◌≡◌, List, IfOk, option_map, slice_get};
+ghost use Rattle.std.specs.Prelude.{◌≡◌, ◌↔◌, Contains, List, IfNone, IfOk, IfSome, IsTrue, option_map, slice_get};
 ghost use Rattle.std.specs.List.{All};
 ghost use Rattle.lus_syntax.specs.Lexemes.{Lexeme};
 ghost use Rattle.lus_syntax.specs.Tokens.{Tokens};
 ghost use Rattle.lus_syntax.specs.View.{tokens_seen};
-ghost use Rattle.lus_occurrences.specs.Occurrences.{StandsFor};
+ghost use Rattle.lus_occurrences.specs.Occurrences.{StandsAt, StandsFor};
 
 use crate::resolving::resolved;
 use crate::role::Declared;
@@ -59,16 +59,24 @@ impl<'t> Names<'t> {
         Some(self.tokens.get(token)?.span)
     }
 
-    /// The name that stands at a byte of the source, or ends there.
-    pub fn occurrence_at(&self, byte: usize) -> Option<Occurrence> {
+    /// Whether a token stands at a byte of the source, or ends there.
+    fn stands_at(&self, token: usize, byte: usize) -> bool
+        ensures { IsTrue result ↔ StandsAt self.now.tokens.items token byte }
+    {
+        match self.tokens.get(token) {
+            Some(token) => token.span.start.byte <= byte && byte <= token.span.end().byte,
+            None => false,
+        }
+    }
+
+    /// The first name that stands at a byte of the source, or ends there.
+    pub fn occurrence_at(&self, byte: usize) -> Option<Occurrence>
+        ensures some { IfSome result (λ o. Contains self.now.occurrences.items o × StandsAt self.now.tokens.items o.token byte) }
+        ensures none { IfNone result (All (λ o. ¬ StandsAt self.now.tokens.items o.token byte) self.now.occurrences.items) }
+    {
         for occurrence in &self.occurrences {
-            let span = self.span_of(occurrence.token)?;
-            if byte <= span.end().byte {
-                return if span.start.byte <= byte {
-                    Some(*occurrence)
-                } else {
-                    None
-                };
+            if self.stands_at(occurrence.token, byte) {
+                return Some(*occurrence);
             }
         }
         None

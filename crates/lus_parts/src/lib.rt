@@ -6,5 +6,6 @@ mod listing;
 mod part;
 mod under;
 
+pub use clocks::{base_of, clock_of, formal_clock};
 pub use listing::parts_of;
 pub use part::Part;

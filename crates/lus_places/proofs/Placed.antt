@@ -10,17 +10,15 @@ use Rattle.lus_places.specs.Placing.{no_room, together, parts_end, PlacedAreWell
 pub record IsWithin (a b : Extent) : Type 0 where
   pub cells : a.cells ≤ b.cells
   pub firsts : a.firsts ≤ b.firsts
-  pub variables : a.variables ≤ b.variables
 
 -- the parts end behind the place from which they stand
 pub ends_behind : (rooms : List Extent) (from : Extent) (qs : List Call) → IsWithin from (parts_end rooms from qs)
-ends_behind rooms from [] = record { cells = omega arith; firsts = omega arith; variables = omega arith }
+ends_behind rooms from [] = record { cells = omega arith; firsts = omega arith }
 ends_behind rooms from (q ∷ qs) =
     let rest = ends_behind rooms (together from (item no_room rooms q.node)) qs in
     let a = rest.cells in
     let b = rest.firsts in
-    let d = rest.variables in
-    record { cells = omega (arith, a); firsts = omega (arith, b); variables = omega (arith, d) }
+    record { cells = omega (arith, a); firsts = omega (arith, b) }
 
 -- and so do those behind the next one
 pub next_within : (rooms : List Extent) (from : Extent) (calls : List Call) (i : ℕ) (q : Call) (room : Extent) → i < length calls → q ≡ get_or calls i q → room ≡ item no_room rooms q.node
@@ -39,8 +37,7 @@ placed_are_well rooms from (q ∷ qs) =
     let behind = ends_behind rooms next qs in
     let a = behind.cells in
     let b = behind.firsts in
-    let d = behind.variables in
     record {
       order = (omega arith, omega arith, rest.order);
-      ends = (record { cells = omega (arith, a); firsts = omega (arith, b); variables = omega (arith, d) }, rest.ends);
+      ends = (record { cells = omega (arith, a); firsts = omega (arith, b) }, rest.ends);
     }

@@ -1,17 +1,15 @@
 -- Classes that all have their places can be run.
-use Rattle.std.proofs.Common.{◌≡◌, ◌∙◌, ℕ, suc, ◌<◌, List, [], ◌∷◌, length, Contains, IfSome, Some, slice_get, get_or, refl, sym, ap, subst, arith, nat_lt}
+use Rattle.std.proofs.Common.{◌≡◌, ◌∙◌, ℕ, suc, ◌<◌, List, [], ◌∷◌, length, Contains, Some, slice_get, get_or, refl, sym, ap, subst, arith, nat_lt}
 use Rattle.std.proofs.lemmas.Option.{slice_get_within, slice_get-get_or}
 use Rattle.lus_values.specs.Lists.{item, Each}
 use Rattle.lus_classes.specs.ClassesOf.{InTurn}
 use Rattle.lus_flat_classes.specs.declared.class.Call.{Call}
 use Rattle.lus_flat_classes.specs.declared.class.Class.{Class}
 use Rattle.lus_flat_classes.specs.declared.class.Extent.{Extent}
-use Rattle.lus_flat_classes.specs.Parts.{AreParts}
 use Rattle.lus_flat_classes.specs.Places.{HasRoom, InOrder, IsPart}
 use Rattle.lus_flat_classes.specs.Turns.{AreMaking, AreReady, GivesSome, HasTurns, IsReady}
 use Rattle.lus_flat_classes.specs.View.{class_of, steps_of}
-use Rattle.lus_flat_classes.specs.Wholes.{IsWhole}
-use Rattle.lus_places.specs.Placing.{no_room, together, placed_calls, parts_end, room_with, EndsWithin, IsPlaced}
+use Rattle.lus_places.specs.Placing.{no_room, together, placed_calls, parts_end, room_with, EndsWithin, IsPlaced, KeepSteps}
 use Rattle.lus_places.specs.Shaped.{CanAllBePlaced, CallsClass, CanBePlaced}
 use Rattle.lus_places.proofs.Placed.{placed_are_well}
 use Rattle.lus_places.proofs.Underway.{IsUnderway, class_seen}
@@ -32,7 +30,6 @@ turns_kept rooms c c' room is turns =
       turns = subst (λ d. InTurn d (steps_of c'.steps.items) (λ x. nat_lt x c'.inputs)) (sym seen)
           (subst (λ ss. InTurn (class_of c) (steps_of ss) (λ x. nat_lt x c'.inputs)) (sym steps)
           (subst (λ n. InTurn (class_of c) (steps_of c.steps.items) (λ x. nat_lt x n)) (sym inputs) turns.turns));
-      parts = subst (λ (d : Class). AreParts d.tests.items d.steps.items d.steps.items d.parts.items) (sym is.same) turns.parts;
       given = subst (λ ss. Each (GivesSome (length c'.calls.items)) ss) (sym steps) (subst (λ n. Each (GivesSome n) c.steps.items) (sym long) turns.given);
       every = λ n lt. subst (λ ss. AreMaking n ss) (sym steps) (turns.every n (subst (λ l. n < l) long lt));
     }
@@ -48,14 +45,11 @@ module _ (old new : List Class) (rooms : List Extent) (done : List ℕ) (is : Is
         let was = is.placed q.node calls.called among calls.found in
         let cells : length c'.cells.items ≡ length c.cells.items = ap (λ d. length d.cells.items) placed.same in
         let firsts : length c'.firsts.items ≡ length c.firsts.items = ap (λ d. length d.firsts.items) placed.same in
-        let clocks : length c'.tests.items ≡ length c.tests.items = ap (λ d. length d.tests.items) placed.same in
         let whole : c'.extent ≡ room_with c (parts_end rooms no_room c.calls.items) = ap (λ d. d.extent) placed.same ∙ placed.extent in
         let all_cells = ap (λ e. e.cells) whole in
         let all_firsts = ap (λ e. e.firsts) whole in
-        let all_variables = ap (λ e. e.variables) whole in
         let a = ends.cells in
         let b = ends.firsts in
-        let d = ends.variables in
         let inputs : was.given.inputs ≡ calls.called.inputs = ap (λ z. z.inputs) was.placed.same in
         record {
           called = was.given;
@@ -63,7 +57,6 @@ module _ (old new : List Class) (rooms : List Extent) (done : List ℕ) (is : Is
           extent = extent ∙ sym (ap (λ z. z.extent) was.placed.same);
           cells = omega (arith, a, cells, all_cells);
           firsts = omega (arith, b, firsts, all_firsts);
-          variables = omega (arith, d, clocks, all_variables);
           arguments = ap (λ v. length v.items) arguments ∙ calls.arguments ∙ sym inputs;
         }
 
@@ -71,7 +64,7 @@ module _ (old new : List Class) (rooms : List Extent) (done : List ℕ) (is : Is
         → Each (IsPart new c') (placed_calls rooms from qs)
     parts_of from [] calls among ends = tt
     parts_of from (q ∷ qs) calls among ends = (
-      part_of q (record q { offset = record { cells = from.cells; firsts = from.firsts; variables = 0 }; extent = item no_room rooms q.node }) calls.0 among.0 refl refl refl ends.0,
+      part_of q (record q { offset = record { cells = from.cells; firsts = from.firsts }; extent = item no_room rooms q.node }) calls.0 among.0 refl refl refl ends.0,
       parts_of (together from (item no_room rooms q.node)) qs calls.1 among.1 ends.1,
     )
 
@@ -87,13 +80,11 @@ module _ (old new : List Class) (rooms : List Extent) (done : List ℕ) (is : Is
         let whole : c'.extent ≡ room_with c (parts_end rooms no_room c.calls.items) = ap (λ d. d.extent) placed.same ∙ placed.extent in
         let all_cells = ap (λ e. e.cells) whole in
         let all_firsts = ap (λ e. e.firsts) whole in
-        let all_variables = ap (λ e. e.variables) whole in
         let behind = shape.outputs in
         record {
           outputs = omega (arith, behind, inputs, outputs, clocks);
           cells = omega (arith, cells, all_cells);
           firsts = omega (arith, firsts, all_firsts);
-          variables = omega (arith, clocks, all_variables);
           calls = subst (Each (IsPart new c')) (sym items) (parts_of no_room c.calls.items shape.calls among well.ends);
           order = subst (λ qs. InOrder 0 0 qs) (sym items) well.order;
         }
@@ -111,5 +102,20 @@ module _ (old new : List Class) (rooms : List Extent) (done : List ℕ) (is : Is
       subst (IsReady new) same (record {
         room = room_of c was.given (item no_room rooms g) was.placed shape was.calls;
         turns = turns_kept rooms c was.given (item no_room rooms g) was.placed shape.turns;
-        whole = subst (λ o. IfSome o (IsWhole new was.given)) (sym (ap (λ d. d.whole) was.placed.same ∙ shape.whole)) tt;
       })
+
+-- and they have the steps that they had
+pub steps_kept : (old new : List Class) (rooms : List Extent) (done : List ℕ) → IsUnderway old new rooms done → ((g : ℕ) → g < length old → Contains done g) → KeepSteps old new
+steps_kept old new rooms done is all g c' here =
+    let lt : g < length old = (let low = slice_get_within new g c' here in let size = is.size in omega (arith, low, size)) in
+    let c = get_or old g c' in
+    let at : slice_get old g ≡ Some c = slice_get-get_or old g c' lt in
+    let was = is.placed g c (all g lt) at in
+    let both : Some was.given ≡ Some c' = sym was.here ∙ here in
+    let same : was.given ≡ c' = cc in
+    record {
+      was = c;
+      found = at;
+      tests = ap (λ (d : Class). d.tests) (sym same) ∙ ap (λ (d : Class). d.tests) was.placed.same;
+      steps = ap (λ (d : Class). d.steps) (sym same) ∙ ap (λ (d : Class). d.steps) was.placed.same;
+    }

@@ -37,8 +37,8 @@ module _ (rooms : List Extent) (x : ℕ) (room : Extent) where
   calls_kept from [] others = refl
   calls_kept from (q ∷ qs) others =
       let e = room_kept q.node others.0 in
-      let place : Extent → List Call = λ r. record q { offset = record { cells = from.cells; firsts = from.firsts; variables = 0 }; extent = r } ∷ placed_calls (set rooms x room) (together from r) qs in
-      ap place e ∙ ap (λ rest. record q { offset = record { cells = from.cells; firsts = from.firsts; variables = 0 }; extent = item no_room rooms q.node } ∷ rest) (calls_kept (together from (item no_room rooms q.node)) qs others.1)
+      let place : Extent → List Call = λ r. record q { offset = record { cells = from.cells; firsts = from.firsts }; extent = r } ∷ placed_calls (set rooms x room) (together from r) qs in
+      ap place e ∙ ap (λ rest. record q { offset = record { cells = from.cells; firsts = from.firsts }; extent = item no_room rooms q.node } ∷ rest) (calls_kept (together from (item no_room rooms q.node)) qs others.1)
 
   end_kept : (from : Extent) (qs : List Call) → Each (λ q. q.node ≢ x) qs → parts_end (set rooms x room) from qs ≡ parts_end rooms from qs
   end_kept from [] others = refl

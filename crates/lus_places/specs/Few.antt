@@ -1,5 +1,5 @@
--- What keeps the places of classes within the numbers that are stored: counts that each class keeps to, and few variables.
-use Rattle.std.specs.Prelude.{◌≡◌, ℕ, ◌+◌, ◌*◌, ◌^◌, ◌<◌, ◌≤◌, List, length, sum_by, Some, slice_get}
+-- What keeps the places of classes within the numbers that are stored: counts that each class keeps to.
+use Rattle.std.specs.Prelude.{◌≡◌, ℕ, ◌+◌, ◌^◌, ◌<◌, ◌≤◌, List, length, sum_by, Some, slice_get}
 use Rattle.lus_values.specs.Lists.{item}
 use Rattle.lus_flat_classes.specs.declared.class.Extent.{Extent}
 use Rattle.lus_flat_classes.specs.declared.class.Class.{Class}
@@ -8,7 +8,6 @@ use Rattle.lus_flat_classes.specs.declared.class.Class.{Class}
 pub record CanBeStored (e : Extent) : Type 0 where
   pub cells : e.cells < 2 ^ 32
   pub firsts : e.firsts < 2 ^ 32
-  pub variables : e.variables < 2 ^ 32
 
 -- what a class keeps, where its calls keep what nodes have by these counts
 abbrev pub kept_with : List ℕ → Class → ℕ
@@ -22,11 +21,8 @@ KeepTo counts classes = (g : ℕ) (c : Class) → slice_get classes g ≡ Some c
 abbrev pub AreAsLong : List ℕ → List Class → Type 0
 AreAsLong counts classes = (g : ℕ) (c : Class) → slice_get classes g ≡ Some c → c.extent.cells + c.extent.firsts ≤ item 0 counts g
 
--- classes keep to counts that can be stored, and so can as many variables as all of them have
+-- classes keep to counts that can be stored
 pub record AreFew (classes : List Class) : Type 0 where
   pub counts : List ℕ
   pub counted : KeepTo counts classes
   pub small : (g : ℕ) → item 0 counts g < 2 ^ 32
-  pub variables : ℕ
-  pub narrow : (g : ℕ) (c : Class) → slice_get classes g ≡ Some c → length c.tests.items ≤ variables
-  pub total : length classes * variables < 2 ^ 32

@@ -1,12 +1,12 @@
 //! Places for all classes of a program, those of called nodes first.
 
 ghost use Rattle.std.specs.Prelude.{◌≡◌, ℕ, List, map, IfOk, OnOk};
-ghost use Rattle.lus_graph.specs.Ways.{IsOrder};
 ghost use Rattle.lus_graph.specs.Walks.{uses_of};
 ghost use Rattle.lus_flat_classes.specs.Turns.{AreReady};
 ghost use Rattle.lus_flat_classes.specs.View.{classes_of};
 ghost use Rattle.lus_places.specs.Few.{AreAsLong, AreFew, KeepTo};
-ghost use Rattle.lus_places.specs.Shaped.{AreNested, CanAllBePlaced, class_uses};
+ghost use Rattle.lus_places.specs.Placing.{KeepSteps};
+ghost use Rattle.lus_places.specs.Shaped.{AreNested, CanAllBePlaced, IsCallOrder, class_uses};
 
 use crate::room::place_class;
 use lus_flat_classes::{Call, Class, Extent};
@@ -39,7 +39,7 @@ fn uses_in(alloc: Global, classes: &[Class]) -> Result<Vec<Vec<u32>>, Memory>
 /// All classes in an order in which each comes after those that it calls.
 pub fn order_of_classes(alloc: Global, classes: &[Class]) -> Result<Vec<usize>, Memory>
     requires { AreNested (classes_of classes.now) }
-    ensures { IfOk result (λ order. IsOrder (class_uses classes.now) order.items) }
+    ensures { IfOk result (λ order. IsCallOrder classes.now order.items) }
 {
     let uses = uses_in(alloc, classes)?;
     match order_of(alloc, &uses) {
@@ -49,19 +49,20 @@ pub fn order_of_classes(alloc: Global, classes: &[Class]) -> Result<Vec<usize>, 
     }
 }
 
-/// Gives the classes their places in an order in which each comes after those that it calls.
-fn place_in_order(alloc: Global, order: &[usize], classes: &mut [Class]) -> Result<(), Memory>
+/// Gives the parts of calls their places and the classes their extents, after which the classes can be run, in an order in which each
+/// comes after those that it calls. Where each class keeps to a count, its part is no longer.
+pub fn place_classes(alloc: Global, order: &[usize], classes: &mut [Class]) -> Result<(), Memory>
     requires shaped { CanAllBePlaced classes.old }
-    requires order { IsOrder (class_uses classes.old) order.now }
+    requires order { IsCallOrder classes.old order.now }
     requires few { AreFew classes.old }
     ensures same { OnOk result (classes_of classes.new ≡ classes_of classes.old) }
+    ensures steps { OnOk result (KeepSteps classes.old classes.new) }
     ensures ready { OnOk result (AreReady classes.new) }
     ensures long { OnOk result ((counts : List ℕ) → KeepTo counts classes.old → AreAsLong counts classes.new) }
 {
     let none = Extent {
         cells: 0,
         firsts: 0,
-        variables: 0,
     };
     let mut rooms = vec![in alloc; none; classes.len()]?;
     for place in order {
@@ -69,18 +70,4 @@ fn place_in_order(alloc: Global, order: &[usize], classes: &mut [Class]) -> Resu
         rooms[*place] = room;
     }
     Ok(())
-}
-
-/// Gives the parts of calls their places and the classes their extents, after which the classes can be run. Where each class
-/// keeps to a count, its part is no longer.
-pub fn place_classes(alloc: Global, classes: &mut [Class]) -> Result<(), Memory>
-    requires shaped { CanAllBePlaced classes.old }
-    requires nested { AreNested (classes_of classes.old) }
-    requires few { AreFew classes.old }
-    ensures same { OnOk result (classes_of classes.new ≡ classes_of classes.old) }
-    ensures ready { OnOk result (AreReady classes.new) }
-    ensures long { OnOk result ((counts : List ℕ) → KeepTo counts classes.old → AreAsLong counts classes.new) }
-{
-    let order = order_of_classes(alloc, classes)?;
-    place_in_order(alloc, &order, classes)
 }

@@ -7,7 +7,7 @@ ghost use Rattle.lus_places.specs.Placing.{IsPlaced, no_room, parts_end, placed_
 
 use lus_flat_classes::{Call, Class, Extent};
 
-/// Room for two parts that share the places of variables.
+/// Room for two parts, one behind the other.
 fn room_for(a: Extent, b: Extent) -> Extent
     requires { CanBeStored (together a b) }
     ensures { result ≡ together a b }
@@ -15,7 +15,6 @@ fn room_for(a: Extent, b: Extent) -> Extent
     Extent {
         cells: a.cells + b.cells,
         firsts: a.firsts + b.firsts,
-        variables: a.variables.max(b.variables),
     }
 }
 
@@ -28,7 +27,6 @@ fn room_of(rooms: &[Extent], node: u32) -> Extent
         None => Extent {
             cells: 0,
             firsts: 0,
-            variables: 0,
         },
     }
 }
@@ -42,7 +40,6 @@ fn place_calls(calls: &mut [Call], rooms: &[Extent]) -> Extent
     let mut from = Extent {
         cells: 0,
         firsts: 0,
-        variables: 0,
     };
     for call in calls.iter_mut() {
         let room = room_of(rooms, call.node);
@@ -50,7 +47,6 @@ fn place_calls(calls: &mut [Call], rooms: &[Extent]) -> Extent
         call.offset = Extent {
             cells: from.cells,
             firsts: from.firsts,
-            variables: 0,
         };
         call.extent = room;
         from = next;
@@ -66,7 +62,6 @@ fn room_with(class: &Class, parts: Extent) -> Extent
     Extent {
         cells: class.cells.len() as u32 + parts.cells,
         firsts: class.firsts.len() as u32 + parts.firsts,
-        variables: class.tests.len() as u32 + parts.variables,
     }
 }
 

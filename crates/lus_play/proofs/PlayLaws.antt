@@ -1,12 +1,12 @@
 -- Lines that are played one by one.
-use Rattle.std.proofs.Common.{◌≡◌, ◌∙◌, inl, inr, ◌+◌, ◌-◌, ◌<◌, ◌≤◌, ◌++◌, ℕ, refl, ap, sym, subst, Bool, true, false, List, [], ◌∷◌, length, map, flat_map, Option, Some, None, append_assoc, append-nil, arith, length-append}
+use Rattle.std.proofs.Common.{◌≡◌, ◌∙◌, inr, ◌+◌, ◌-◌, ◌<◌, ◌≤◌, ◌++◌, ℕ, refl, ap, sym, subst, Bool, true, false, List, [], ◌∷◌, length, map, flat_map, Option, Some, None, append_assoc, append-nil, arith, length-append}
 use Rattle.std.specs.List.{AllZip}
 use Rattle.lus_devices.specs.Devices.{Bytes, WritesBeginning, with_front, with_text}
 use Rattle.lus_devices.proofs.Laws.{reaches_began, reaches_stop, with_front-more, with_text-more, with_text-nothing}
 use Rattle.lus_requests.specs.declared.request.Request.{Request}
 use Rattle.lus_requests.specs.declared.request.Entry.{Entry}
 use Rattle.lus_lines.specs.Lines.{IsNext}
-use Rattle.lus_play.specs.Plays.{AnswerFails, Answers, Asks, HasPlayed, HasPlayedAll, IsReadAs, Played, TurnFails, TurnIs, ended, requests, texts, turn_of, with_tail}
+use Rattle.lus_play.specs.Plays.{Answers, Asks, HasPlayed, HasPlayedAll, IsReadAs, Played, TurnIs, ended, requests, texts, turn_of, with_tail}
 use Rattle.lus_play.specs.declared.playing.Score.{Score}
 use Rattle.lus_play.specs.declared.playing.Turn.{Turn}
 use Rattle.lus_play.specs.declared.playing.Turn.TheVariants.{Entered, Refused, Unfinished, Ended}
@@ -40,15 +40,18 @@ asked_more : (es : List Entry) (e : Entry) → map (λ (d : Entry). d.request) (
 asked_more [] e = refl
 asked_more (d ∷ es) e = ap (λ rs. d.request ∷ rs) (asked_more es e)
 
-texts_more : (says : ℕ → Entry → Bytes) (n : ℕ) (es : List Entry) (e : Entry) → texts says n (es ++ e ∷ []) ≡ texts says n es ++ says (n + length es) e
-texts_more says n [] e =
+pub texts_parts : (says : ℕ → Entry → Bytes) (n : ℕ) (es ds : List Entry) → texts says n (es ++ ds) ≡ texts says n es ++ texts says (n + length es) ds
+texts_parts says n [] ds =
     let same : n ≡ n + 0 = omega arith in
-    append-nil (says n e) ∙ ap (λ m. says m e) same
-texts_more says n (d ∷ es) e =
-    let same : n + 1 + length es ≡ n + length (d ∷ es) = omega arith in
-    ap (λ t. says n d ++ t) (texts_more says (n + 1) es e)
-    ∙ sym (append_assoc (says n d) (texts says (n + 1) es) (says (n + 1 + length es) e))
-    ∙ ap (λ m. (says n d ++ texts says (n + 1) es) ++ says m e) same
+    ap (λ m. texts says m ds) same
+texts_parts says n (e ∷ es) ds =
+    let same : n + 1 + length es ≡ n + length (e ∷ es) = omega arith in
+    ap (λ t. says n e ++ t) (texts_parts says (n + 1) es ds)
+    ∙ sym (append_assoc (says n e) (texts says (n + 1) es) (texts says (n + 1 + length es) ds))
+    ∙ ap (λ m. (says n e ++ texts says (n + 1) es) ++ texts says m ds) same
+
+texts_more : (says : ℕ → Entry → Bytes) (n : ℕ) (es : List Entry) (e : Entry) → texts says n (es ++ e ∷ []) ≡ texts says n es ++ says (n + length es) e
+texts_more says n es e = texts_parts says n es (e ∷ []) ∙ ap (λ t. texts says n es ++ t) (append-nil (says (n + length es) e))
 
 module _ (R : Bytes → Option Request → Type 0) (says : ℕ → Entry → Bytes) (first : ℕ) (left : Option Bytes) (h : List Entry) (w : Option Bytes) where
   abbrev Exact : Option Bytes → Bytes → Type 0
@@ -130,54 +133,30 @@ module _ (R : Bytes → Option Request → Type 0) (says : ℕ → Entry → Byt
     all_asked : (n : ℕ) → n ≡ turns - refused → Asks R left mid so_far.entries (n + refused) refused
     all_asked n is = subst (λ k. Asks R left mid so_far.entries k refused) (score_turns n is) so_far.asks
 
-    pub played_ended : (number : ℕ) (end : Option Bytes) (h' : List Entry) (next : Option Bytes) (score : Score) → score.entered ≡ turns - refused
-        → score.refused ≡ refused → TurnIs Ended R says number mid end m h' now next → HasPlayedAll R says first left end h h' w next score
-    played_ended number end h' next score entered none turn = record {
-      entries = so_far.entries;
-      asks = (mid, [], refused, all_asked score.entered entered, turn.0, none);
-      entered = turn.1 ∙ so_far.entered;
-      wrote = turn.2 ∙ so_far.wrote;
-    }
-
     tail_more : (tail : Bytes) → 0 < length tail → refused + 1 ≡ with_tail tail refused
     tail_more [] some = absurd (omega (arith, some))
     tail_more (b ∷ bs) some = refl
 
-    pub played_unfinished : (number : ℕ) (end : Option Bytes) (h' : List Entry) (next : Option Bytes) (score : Score) → score.entered ≡ turns - refused
-        → score.refused ≡ refused + 1 → TurnIs Unfinished R says number mid end m h' now next → HasPlayedAll R says first left end h h' w next score
-    played_unfinished number end h' next score entered one turn = record {
-      entries = so_far.entries;
-      asks = (mid, turn.0, refused, all_asked score.entered entered, turn.1, one ∙ tail_more turn.0 turn.2);
-      entered = turn.3 ∙ so_far.entered;
-      wrote = turn.4 ∙ so_far.wrote;
-    }
-
-    begins : (next : Option Bytes) → next ≡ now → WritesBeginning w next (texts says first so_far.entries)
-    begins next same =
-        let text = texts says first so_far.entries in
-        reaches_stop w next text [] (text, same ∙ so_far.wrote, sym (append-nil text))
-
     pub played_stopped : HasPlayed R says first left h m w now
-    played_stopped = record { entries = so_far.entries; asks = (mid, turns, refused, so_far.asks); entered = so_far.entered; wrote = begins now refl }
+    played_stopped =
+        let text = texts says first so_far.entries in
+        record {
+          entries = so_far.entries;
+          asks = (mid, turns, refused, so_far.asks);
+          entered = so_far.entered;
+          wrote = reaches_stop w now text [] (text, so_far.wrote, sym (append-nil text));
+        }
 
-    stopped_with : (number : ℕ) (later : Option Bytes) (h' : List Entry) (next : Option Bytes) → Played R says first left later h h' (Began next) (turns + 1) refused
-        → HasPlayed R says first left h h' w next
-    stopped_with number later h' next played =
+    -- one more call was entered, and a beginning of its text is written
+    pub played_begun : (number : ℕ) (line : Bytes) (e : Entry) (later : Option Bytes) (h' : List Entry) (next : Option Bytes) → number ≡ first + (turns - refused)
+        → IsNext line mid later → R line (Some e.request) → h' ≡ m ++ e ∷ [] → WritesBeginning now next (says number e) → HasPlayed R says first left h h' w next
+    played_begun number line e later h' next place is asks grown began =
+        let text = texts says first so_far.entries in
+        let piece = says number e in
+        let whole : text ++ piece ≡ text ++ (piece ++ []) = ap (λ t. text ++ t) (sym (append-nil piece)) in
+        let played = entered_with (Began next) number line e later h' place is asks grown
+        (reaches_began w now next (text ++ piece) piece [] (text, so_far.wrote, whole) began) in
         record { entries = played.entries; asks = (later, turns + 1, refused, played.asks); entered = played.entered; wrote = played.wrote }
-
-    pub played_failed : (number : ℕ) (h' : List Entry) (next : Option Bytes) → number ≡ first + (turns - refused)
-        → TurnFails R says number mid m h' now next → HasPlayed R says first left h h' w next
-    played_failed number h' next is fails =
-        elim fails [
-          | inl nothing ↦ record { entries = so_far.entries; asks = (mid, turns, refused, so_far.asks); entered = nothing.0 ∙ so_far.entered; wrote = begins next nothing.1 }
-          | inr some ↦
-              let text = texts says first so_far.entries in
-              let piece = says number some.2 in
-              let whole : text ++ piece ≡ text ++ (piece ++ []) = ap (λ t. text ++ t) (sym (append-nil piece)) in
-              stopped_with number some.0 h' next
-              (entered_with (Began next) number some.1 some.2 some.0 h' is some.3 some.4 some.5
-              (reaches_began w now next (text ++ piece) piece [] (text, so_far.wrote, whole) some.6))
-        ]
 
     -- a turn of the loop
     pub turn_entered : (turn : Turn) (number r : ℕ) (later : Option Bytes) (h' : List Entry) (next : Option Bytes) → turn ≡ Entered → r ≡ refused → refused ≤ turns
@@ -200,6 +179,30 @@ module _ (R : Bytes → Option Request → Type 0) (says : ℕ → Entry → Byt
           within,
         )
 
+    pub turn_ended : (turn : Turn) (number : ℕ) (end : Option Bytes) (h' : List Entry) (next : Option Bytes) (score : Score) → turn ≡ Ended
+        → score.entered ≡ turns - refused → score.refused ≡ refused → TurnIs turn R says number mid end m h' now next
+        → HasPlayedAll R says first left end h h' w next score
+    turn_ended turn number end h' next score is entered none turned =
+        let here = subst (λ t. TurnIs t R says number mid end m h' now next) is turned in
+        record {
+          entries = so_far.entries;
+          asks = (mid, [], refused, all_asked score.entered entered, here.0, none);
+          entered = here.1 ∙ so_far.entered;
+          wrote = here.2 ∙ so_far.wrote;
+        }
+
+    pub turn_unfinished : (turn : Turn) (number : ℕ) (end : Option Bytes) (h' : List Entry) (next : Option Bytes) (score : Score) → turn ≡ Unfinished
+        → score.entered ≡ turns - refused → score.refused ≡ refused + 1 → TurnIs turn R says number mid end m h' now next
+        → HasPlayedAll R says first left end h h' w next score
+    turn_unfinished turn number end h' next score is entered one turned =
+        let here = subst (λ t. TurnIs t R says number mid end m h' now next) is turned in
+        record {
+          entries = so_far.entries;
+          asks = (mid, here.0, refused, all_asked score.entered entered, here.1, one ∙ tail_more here.0 here.2);
+          entered = here.3 ∙ so_far.entered;
+          wrote = here.4 ∙ so_far.wrote;
+        }
+
 -- a line was read and answered
 pub line_taken : (R : Bytes → Option Request → Type 0) (says : ℕ → Entry → Bytes) (n : ℕ) (line here : Bytes) (left later : Option Bytes) (h h' : List Entry)
     (w w' : Option Bytes) (is_call : Bool) (turn : Turn) → IsNext line left later → here ≡ line → Answers R says n here is_call h h' w w' → turn ≡ turn_of is_call
@@ -208,12 +211,3 @@ line_taken R says n line here left later h h' w w' true turn next same answer is
     rw is (line, answer.0, next, subst (λ l. R l (Some answer.0.request)) same answer.1, answer.2, answer.3)
 line_taken R says n line here left later h h' w w' false turn next same answer is =
     rw is (line, next, inr (subst (λ l. R l None) same answer.0), answer.1, answer.2)
-
--- a line was read, and its answer failed
-pub line_failed : (R : Bytes → Option Request → Type 0) (says : ℕ → Entry → Bytes) (n : ℕ) (line here : Bytes) (left later : Option Bytes) (h h' : List Entry)
-    (w w' : Option Bytes) → IsNext line left later → here ≡ line → AnswerFails R says n here h h' w w' → TurnFails R says n left h h' w w'
-line_failed R says n line here left later h h' w w' next same fails =
-    elim fails [
-      | inl nothing ↦ inl nothing
-      | inr some ↦ inr (later, line, some.0, next, subst (λ l. R l (Some some.0.request)) same some.1, some.2, some.3)
-    ]

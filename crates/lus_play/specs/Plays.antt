@@ -95,6 +95,24 @@ pub record HasPlayed (R : Bytes → Option Request → Type 0) (says : ℕ → E
   pub entered : h' ≡ h ++ entries
   pub wrote : WritesBeginning w w' (texts says first entries)
 
+-- ---- with a log
+
+-- what the log took begins with this text
+abbrev pub HasWhole : Option Bytes → Option Bytes → Bytes → Type 0
+HasWhole l l' text = (tail : Bytes) × (l' ≡ with_text l (text ++ tail))
+
+-- Some lines were read. A beginning of the texts of their entries is in the log; of some its texts are whole, and of their replies a
+-- beginning is written.
+pub record HasPlayedAhead (R : Bytes → Option Request → Type 0) (logs tells : ℕ → Entry → Bytes) (first : ℕ) (left : Option Bytes)
+    (h h' : List Entry) (l l' w w' : Option Bytes) : Type 0 where
+  pub told : List Entry
+  pub rest : List Entry
+  pub asks : AsksSome R left (told ++ rest)
+  pub entered : h' ≡ h ++ (told ++ rest)
+  pub logged : WritesBeginning l l' (texts logs first (told ++ rest))
+  pub whole : HasWhole l l' (texts logs first told)
+  pub replied : WritesBeginning w w' (texts tells first told)
+
 -- ---- one line
 
 -- a line was answered, or it is no call
@@ -103,11 +121,17 @@ abbrev pub Answers : (Bytes → Option Request → Type 0) → (ℕ → Entry �
 Answers R says n line true h h' w w' = (e : Entry) × R line (Some e.request) × (h' ≡ h ++ e ∷ []) × (w' ≡ with_text w (says n e))
 Answers R says n line false h h' w w' = R line None × (h' ≡ h) × (w' ≡ w)
 
--- nothing was done, or the call was made and a beginning of its entry's text is written
-abbrev pub AnswerFails : (Bytes → Option Request → Type 0) → (ℕ → Entry → Bytes) → ℕ → Bytes
-    → List Entry → List Entry → Option Bytes → Option Bytes → Type 0
-AnswerFails R says n line h h' w w' =
-    ((h' ≡ h) × (w' ≡ w)) ⊎ ((e : Entry) × R line (Some e.request) × (h' ≡ h ++ e ∷ []) × WritesBeginning w w' (says n e))
+-- a beginning of an entry's line is in the log, or it is whole there and a beginning of its reply is written
+abbrev pub EntryFails : (ℕ → Entry → Bytes) → (ℕ → Entry → Bytes) → ℕ → Entry → Option Bytes → Option Bytes → Option Bytes → Option Bytes → Type 0
+EntryFails logs tells n e l l' w w' =
+    (WritesBeginning l l' (logs n e) × (w' ≡ w)) ⊎ ((l' ≡ with_text l (logs n e)) × WritesBeginning w w' (tells n e))
+
+-- nothing was done, or the call was made and failed to be entered or told
+abbrev pub AnswerFails : (Bytes → Option Request → Type 0) → (ℕ → Entry → Bytes) → (ℕ → Entry → Bytes) → ℕ → Bytes
+    → List Entry → List Entry → Option Bytes → Option Bytes → Option Bytes → Option Bytes → Type 0
+AnswerFails R logs tells n line h h' l l' w w' =
+    ((h' ≡ h) × (l' ≡ l) × (w' ≡ w))
+    ⊎ ((e : Entry) × R line (Some e.request) × (h' ≡ h ++ e ∷ []) × EntryFails logs tells n e l l' w w')
 
 abbrev pub turn_of : Bool → Turn
 turn_of true = Entered
@@ -121,9 +145,9 @@ TurnIs Refused R says n left later h h' w w' = (line : Bytes) × IsNext line lef
 TurnIs Unfinished R says n left later h h' w w' = (tail : Bytes) × IsLast tail left later × (0 < length tail) × (h' ≡ h) × (w' ≡ w)
 TurnIs Ended R says n left later h h' w w' = IsLast [] left later × (h' ≡ h) × (w' ≡ w)
 
-abbrev pub TurnFails : (Bytes → Option Request → Type 0) → (ℕ → Entry → Bytes) → ℕ → Option Bytes
-    → List Entry → List Entry → Option Bytes → Option Bytes → Type 0
-TurnFails R says n left h h' w w' =
-    ((h' ≡ h) × (w' ≡ w))
+abbrev pub TurnFails : (Bytes → Option Request → Type 0) → (ℕ → Entry → Bytes) → (ℕ → Entry → Bytes) → ℕ → Option Bytes
+    → List Entry → List Entry → Option Bytes → Option Bytes → Option Bytes → Option Bytes → Type 0
+TurnFails R logs tells n left h h' l l' w w' =
+    ((h' ≡ h) × (l' ≡ l) × (w' ≡ w))
     ⊎ ((later : Option Bytes) × (line : Bytes) × (e : Entry) × IsNext line left later × R line (Some e.request) × (h' ≡ h ++ e ∷ [])
-    × WritesBeginning w w' (says n e))
+    × EntryFails logs tells n e l l' w w')

@@ -24,6 +24,9 @@ pub trait Calls {
     /// Writes what is wrong with a line that has no request.
     fn explain<F: Sink>(&self, line: &[u8], faults: &mut F);
 
+    /// Writes why the call of the line of this number was refused, where it was.
+    fn remark<F: Sink>(&self, line: u64, entry: &Entry, faults: &mut F);
+
     /// The number of the first line: 1, unless others came before it.
     fn first_line(&self) -> u64 {
         1
@@ -67,7 +70,4 @@ pub trait Speaks {
     /// Appends the text of the nth entry. After `Memory` a part of it may have been appended.
     fn push(&self, text: &mut String, number: u64, entry: &Entry) -> Result<(), Memory>
         ensures { OnOk result (string_bytes text.new ≡ string_bytes text.old ++ says self.now number entry.now) };
-
-    /// Says among the faults what the text of an entry leaves out, whose line has this number: nothing, unless another spelling does.
-    fn remark<F: Sink>(&self, _line: u64, _entry: &Entry, _faults: &mut F) {}
 }

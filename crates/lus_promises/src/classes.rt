@@ -11,7 +11,7 @@ ghost use Rattle.lus_places.specs.Shaped.{AreNested, CanAllBePlaced};
 ghost use Rattle.lus_turns.specs.Turned.{IsTurned};
 
 use lus_flat_classes::Class;
-use lus_places::place_classes;
+use lus_places::{order_of_classes, place_classes};
 use lus_program::{Node, Program};
 use lus_turns::class_of;
 use lus_values::Memory;
@@ -29,7 +29,8 @@ pub fn turn_equations(
     requires order { OrdersVariables (node_of node.now) order.now }
     ensures { IfOk result (λ c. IsTurned (program_seen program.now) (node_of node.now) c) }
 {
-    class_of(alloc, program, node, order)
+    let (class, _parts) = class_of(alloc, program, node, order)?;
+    Ok(class)
 }
 
 /// Gives the parts of calls their places, after which classes can be run.
@@ -40,5 +41,6 @@ pub fn place_parts(alloc: Global, classes: &mut [Class]) -> Result<(), Memory>
     ensures same { OnOk result (classes_of classes.new ≡ classes_of classes.old) }
     ensures ready { OnOk result (AreReady classes.new) }
 {
-    place_classes(alloc, classes)
+    let order = order_of_classes(alloc, classes)?;
+    place_classes(alloc, &order, classes)
 }

@@ -2,12 +2,59 @@
 
 use crate::places::{Spot, lines_of, push_span};
 use lus_json_faults::push_string;
-use lus_occurrences::names_of;
+use lus_occurrences::{Names, names_of};
+use lus_syntax::Place;
 use std::alloc::{AllocError, Global};
 
-/// The declaration of the name at a spot: of a variable its type and its clock, of a node its inputs and outputs (`Hover`); null where
-/// no name stands that is declared.
-pub fn hover(alloc: Global, source: &str, at: Spot) -> Result<String, AllocError> {
+/// What a declaration doesn't say of its name: of a variable whether it may be nil at the first instant of its clock, of a node its state
+/// size.
+#[derive(Clone, Copy)]
+pub enum Fact {
+    MayBeNil(bool),
+    Cells(u32),
+}
+
+/// Where the name at a spot is declared; nothing where no name stands that is.
+pub fn declared_at(alloc: Global, source: &str, at: Spot) -> Result<Option<Place>, AllocError> {
+    let byte = lines_of(alloc, source)?.byte_at(at);
+    let names = names_of(alloc, source)?;
+    Ok(declared_of(&names, byte))
+}
+
+/// Where the name at a byte is declared.
+fn declared_of(names: &Names<'_>, byte: usize) -> Option<Place> {
+    let occurrence = names.occurrence_at(byte)?;
+    let declaration = names.declarations.get(occurrence.declaration)?;
+    Some(names.span_of(declaration.token)?.start)
+}
+
+/// Appends a fact, as a paragraph of its own.
+fn push_fact(text: &mut String, fact: Fact) -> Result<(), AllocError> {
+    match fact {
+        Fact::MayBeNil(false) => text.push_str("\n\nNever nil."),
+        Fact::MayBeNil(true) => text.push_str("\n\nPerhaps nil at the first instant of its clock."),
+        Fact::Cells(1) => text.push_str("\n\nState size: 1 cell."),
+        Fact::Cells(cells) => write!(text, "\n\nState size: {cells} cells."),
+    }
+}
+
+/// What is shown of a declaration, in Markdown.
+fn shown(alloc: Global, said: &str, fact: Option<Fact>) -> Result<String, AllocError> {
+    let mut text = format!(in alloc; "```lus\n{said}\n```")?;
+    if let Some(fact) = fact {
+        push_fact(&mut text, fact)?;
+    }
+    Ok(text)
+}
+
+/// The declaration of the name at a spot: of a variable its type and its clock, of a node its inputs and outputs, and the fact
+/// (`Hover`); null where no name stands that is declared.
+pub fn hover(
+    alloc: Global,
+    source: &str,
+    at: Spot,
+    fact: Option<Fact>,
+) -> Result<String, AllocError> {
     let lines = lines_of(alloc, source)?;
     let names = names_of(alloc, source)?;
     let Some(occurrence) = names.occurrence_at(lines.byte_at(at)) else {
@@ -17,7 +64,7 @@ pub fn hover(alloc: Global, source: &str, at: Spot) -> Result<String, AllocError
         return String::from_str(alloc, "null");
     };
     let said = names.description(alloc, source, occurrence.declaration)?;
-    let shown = format!(in alloc; "```lus\n{said}\n```")?;
+    let shown = shown(alloc, said.as_str(), fact)?;
     let mut text = String::from_str(alloc, "{\"contents\":{\"kind\":\"markdown\",\"value\":")?;
     push_string(alloc, &mut text, shown.as_str())?;
     text.push_str("},\"range\":")?;

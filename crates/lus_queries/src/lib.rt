@@ -14,7 +14,7 @@ mod signature;
 
 pub use colours::semantic_tokens;
 pub use completion::completions;
-pub use hovering::hover;
+pub use hovering::{Fact, declared_at, hover};
 pub use occurrences::{definition, highlights, references};
 pub use outline::{folds, symbols};
 pub use places::{Lines, Spot, lines_of, spot_at};

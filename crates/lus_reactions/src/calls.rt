@@ -7,7 +7,8 @@ ghost use Rattle.lus_reactions.specs.Reactions.{IsCallTo};
 use lus_devices::{Sink, write_all};
 use lus_play::Calls;
 use lus_program::{NodeId, Program};
-use lus_requests::Request;
+use lus_refusals::note_of;
+use lus_requests::{Entry, Request};
 use lus_scripts::{ScriptRefusal, read_request};
 use lus_values::{Memory, Names};
 use std::alloc::Global;
@@ -64,5 +65,12 @@ impl Calls for JsonCalls<'_> {
 
     fn explain<F: Sink>(&self, line: &[u8], faults: &mut F) {
         let _ = write_all(faults, self.reason(line).as_bytes());
+    }
+
+    fn remark<F: Sink>(&self, line: u64, entry: &Entry, faults: &mut F) {
+        let node = self.node.0 as usize;
+        if let Ok(note) = note_of(self.alloc, self.program, self.names, node, line, entry) {
+            let _ = write_all(faults, note.as_bytes());
+        }
     }
 }

@@ -6,5 +6,5 @@ mod reacting;
 
 pub use calls::JsonCalls;
 pub use lus_play::{PlayError, Reacts, Score};
-pub use lus_recovery::{RecoveryError, Start, recover};
+pub use lus_recovery::{Parties, RecoveryError, Start, recover};
 pub use reacting::{react, react_on};

@@ -6,10 +6,11 @@ ghost use Rattle.lus_records.specs.Records.{step_in};
 
 use crate::steps::{explain, step_in};
 use indexmap::IndexSet;
-use lus_devices::Sink;
+use lus_devices::{Sink, write_all};
 use lus_play::Calls;
-use lus_program::{Program, Variable};
-use lus_requests::Request;
+use lus_program::{NodeId, Program, Variable};
+use lus_refusals::note_of;
+use lus_requests::{Entry, Request};
 use lus_values::{Memory, Names};
 use std::alloc::Global;
 
@@ -19,6 +20,7 @@ pub struct RecordCalls<'p> {
     pub alloc: Global,
     pub program: &'p Program,
     pub names: &'p Names,
+    pub node: NodeId,
     pub inputs: &'p [Variable],
     pub head: IndexSet<String>,
 }
@@ -48,6 +50,14 @@ impl Calls for RecordCalls<'_> {
             line,
             faults,
         );
+    }
+
+    /// That a step is refused no record says.
+    fn remark<F: Sink>(&self, line: u64, entry: &Entry, faults: &mut F) {
+        let node = self.node.0 as usize;
+        if let Ok(note) = note_of(self.alloc, self.program, self.names, node, line, entry) {
+            let _ = write_all(faults, note.as_bytes());
+        }
     }
 
     /// The head is the first line of all.

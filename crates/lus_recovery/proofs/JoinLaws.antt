@@ -6,21 +6,21 @@ use Rattle.lus_requests.specs.declared.request.Entry.{Entry}
 use Rattle.lus_devices.specs.Devices.{Bytes}
 use Rattle.lus_devices.specs.Journals.{count_text, line_text, lines_text}
 use Rattle.lus_replay.specs.Replays.{CutShort, Item, cut_mark, item_text, items_text, said_in, saids_of}
-use Rattle.lus_recovery.specs.Journals.{more_text, user}
+use Rattle.lus_recovery.specs.Journals.{Parties, more_text}
 use Rattle.lus_recovery.specs.Recoveries.{added, ended, entries_at, head_of, joined, so_far}
 use Rattle.lus_recovery.specs.declared.recovering.Start.{Start}
 use Rattle.lus_recovery.specs.declared.recovering.Start.TheVariants as starts
 
 -- further entries, and how many there are of all
-ended_text : (names : Names) (k : ℕ) (es : List Entry) → items_text names k (ended es) ≡ more_text names k es
-ended_text names k [] =
+ended_text : (names : Names) (caller : Text) (k : ℕ) (es : List Entry) → items_text names k (ended caller es) ≡ more_text names caller k es
+ended_text names caller k [] =
     let same : k ≡ k + 0 = omega arith in
     append-nil (count_text k) ∙ ap count_text same
-ended_text names k (e ∷ es) =
+ended_text names caller k (e ∷ es) =
     let same : k + 1 + length es ≡ k + length (e ∷ es) = omega arith in
-    ap (λ t. line_text names user (k + 1) e ++ t) (ended_text names (k + 1) es)
-    ∙ sym (append_assoc (line_text names user (k + 1) e) (lines_text names user (k + 1 + 1) es) (count_text (k + 1 + length es)))
-    ∙ ap (λ n. (line_text names user (k + 1) e ++ lines_text names user (k + 1 + 1) es) ++ count_text n) same
+    ap (λ t. line_text names (caller ∷ []) (k + 1) e ++ t) (ended_text names caller (k + 1) es)
+    ∙ sym (append_assoc (line_text names (caller ∷ []) (k + 1) e) (lines_text names (caller ∷ []) (k + 1 + 1) es) (count_text (k + 1 + length es)))
+    ∙ ap (λ n. (line_text names (caller ∷ []) (k + 1) e ++ lines_text names (caller ∷ []) (k + 1 + 1) es) ++ count_text n) same
 
 items_append : (names : Names) (k : ℕ) (is js : List Item)
     → items_text names k (is ++ js) ≡ items_text names k is ++ items_text names (k + length (saids_of is)) js
@@ -41,34 +41,34 @@ items_behind names k items js counted =
     let same : 0 + length (saids_of items) ≡ k = omega (arith, counted) in
     items_append names 0 items js ∙ ap (λ n. items_text names 0 items ++ items_text names n js) same
 
-module _ (names : Names) (k : ℕ) (items : List Item) (es : List Entry) (counted : k ≡ length (saids_of items)) where
-  line_joined : (head : Text) → (head ++ items_text names 0 items) ++ more_text names k es ≡ head ++ items_text names 0 (items ++ ended es)
+module _ (names : Names) (caller : Text) (k : ℕ) (items : List Item) (es : List Entry) (counted : k ≡ length (saids_of items)) where
+  line_joined : (head : Text) → (head ++ items_text names 0 items) ++ more_text names caller k es ≡ head ++ items_text names 0 (items ++ ended caller es)
   line_joined head =
-      append_assoc head (items_text names 0 items) (more_text names k es)
-      ∙ ap (λ t. head ++ (items_text names 0 items ++ t)) (sym (ended_text names k es))
-      ∙ ap (λ t. head ++ t) (sym (items_behind names k items (ended es) counted))
+      append_assoc head (items_text names 0 items) (more_text names caller k es)
+      ∙ ap (λ t. head ++ (items_text names 0 items ++ t)) (sym (ended_text names caller k es))
+      ∙ ap (λ t. head ++ t) (sym (items_behind names k items (ended caller es) counted))
 
-  cut_item : (tail : Bytes) → items_text names k (CutShort tail ∷ ended es) ≡ tail ++ (cut_mark ++ more_text names k es)
+  cut_item : (tail : Bytes) → items_text names k (CutShort tail ∷ ended caller es) ≡ tail ++ (cut_mark ++ more_text names caller k es)
   cut_item tail =
       let same : k + 0 ≡ k = omega arith in
-      ap (λ n. (tail ++ cut_mark) ++ items_text names n (ended es)) same
-      ∙ append_assoc tail cut_mark (items_text names k (ended es))
-      ∙ ap (λ t. tail ++ (cut_mark ++ t)) (ended_text names k es)
+      ap (λ n. (tail ++ cut_mark) ++ items_text names n (ended caller es)) same
+      ∙ append_assoc tail cut_mark (items_text names k (ended caller es))
+      ∙ ap (λ t. tail ++ (cut_mark ++ t)) (ended_text names caller k es)
 
   cut_joined : (head : Text) (tail : Bytes)
-      → (head ++ (items_text names 0 items ++ tail)) ++ (cut_mark ++ more_text names k es) ≡ head ++ items_text names 0 (items ++ CutShort tail ∷ ended es)
+      → (head ++ (items_text names 0 items ++ tail)) ++ (cut_mark ++ more_text names caller k es) ≡ head ++ items_text names 0 (items ++ CutShort tail ∷ ended caller es)
   cut_joined head tail =
-      append_assoc head (items_text names 0 items ++ tail) (cut_mark ++ more_text names k es)
-      ∙ ap (λ t. head ++ t) (append_assoc (items_text names 0 items) tail (cut_mark ++ more_text names k es))
+      append_assoc head (items_text names 0 items ++ tail) (cut_mark ++ more_text names caller k es)
+      ∙ ap (λ t. head ++ t) (append_assoc (items_text names 0 items) tail (cut_mark ++ more_text names caller k es))
       ∙ ap (λ t. head ++ (items_text names 0 items ++ t)) (sym (cut_item tail))
-      ∙ ap (λ t. head ++ t) (sym (items_behind names k items (CutShort tail ∷ ended es) counted))
+      ∙ ap (λ t. head ++ t) (sym (items_behind names k items (CutShort tail ∷ ended caller es) counted))
 
-pub are_joined : (names : Names) (name : Text) (start : Start) (items : List Item) (tail : Bytes) (es : List Entry)
+pub are_joined : (names : Names) (who : Parties) (start : Start) (items : List Item) (tail : Bytes) (es : List Entry)
     → entries_at start ≡ length (saids_of items)
-    → so_far names name start items tail ++ added names name start es ≡ head_of name ++ items_text names 0 (joined start items tail es)
-are_joined names name (starts.Head n) items tail es counted =
-    sym (append_assoc (take n (head_of name)) (drop n (head_of name)) (more_text names 0 es))
-    ∙ ap (λ t. t ++ more_text names 0 es) (take-append-drop n (head_of name))
-    ∙ ap (λ t. head_of name ++ t) (sym (ended_text names 0 es))
-are_joined names name (starts.Line k) items tail es counted = line_joined names k items es counted (head_of name)
-are_joined names name (starts.Cut k n) items tail es counted = cut_joined names k items es counted (head_of name) tail
+    → so_far names who.node start items tail ++ added names who start es ≡ head_of who.node ++ items_text names 0 (joined who.caller start items tail es)
+are_joined names who (starts.Head n) items tail es counted =
+    sym (append_assoc (take n (head_of who.node)) (drop n (head_of who.node)) (more_text names who.caller 0 es))
+    ∙ ap (λ t. t ++ more_text names who.caller 0 es) (take-append-drop n (head_of who.node))
+    ∙ ap (λ t. head_of who.node ++ t) (sym (ended_text names who.caller 0 es))
+are_joined names who (starts.Line k) items tail es counted = line_joined names who.caller k items es counted (head_of who.node)
+are_joined names who (starts.Cut k n) items tail es counted = cut_joined names who.caller k items es counted (head_of who.node) tail

@@ -11,7 +11,7 @@ use Rattle.lus_play.specs.declared.playing.Score.{Score}
 use Rattle.lus_replay.specs.Replays.{Item, Told, Counted, CutShort, Replays, cut_mark, items_text, saids_of}
 use Rattle.lus_replay.specs.declared.replaying.Ending.TheVariants as endings
 use Rattle.lus_replay.specs.declared.replaying.Replayed.{Replayed}
-use Rattle.lus_recovery.specs.Journals.{journal_of, more_text, user}
+use Rattle.lus_recovery.specs.Journals.{Parties, journal_of, more_text}
 use Rattle.lus_recovery.specs.declared.recovering.Start.{Start}
 use Rattle.lus_recovery.specs.declared.recovering.Start.TheVariants as starts
 
@@ -57,24 +57,24 @@ start_text name (starts.Line k) = []
 start_text name (starts.Cut k n) = cut_mark
 
 -- what is written of further entries
-abbrev pub added : Names → Text → Start → List Entry → Text
-added names name start es = start_text name start ++ more_text names (entries_at start) es
+abbrev pub added : Names → Parties → Start → List Entry → Text
+added names who start es = start_text who.node start ++ more_text names who.caller (entries_at start) es
 
 -- All lines were read up to the end. The calls among them are new in the history, and are written on in the journal.
-pub record HasResumed (R : Bytes → Option Request → Type 0) (names : Names) (name : Text) (start : Start) (left end : Option Bytes) (h h' : List Entry)
+pub record HasResumed (R : Bytes → Option Request → Type 0) (names : Names) (who : Parties) (start : Start) (left end : Option Bytes) (h h' : List Entry)
     (w w' : Option Bytes) (score : Score) : Type 0 where
   pub entries : List Entry
   pub asks : AsksAll R left end entries score
   pub entered : h' ≡ h ++ entries
-  pub wrote : w' ≡ with_text w (added names name start entries)
+  pub wrote : w' ≡ with_text w (added names who start entries)
 
 -- Some lines were read. The calls among them are new in the history, and a beginning of what is to be written of them is.
-pub record HasResumedSome (R : Bytes → Option Request → Type 0) (names : Names) (name : Text) (start : Start) (left : Option Bytes) (h h' : List Entry)
+pub record HasResumedSome (R : Bytes → Option Request → Type 0) (names : Names) (who : Parties) (start : Start) (left : Option Bytes) (h h' : List Entry)
     (w w' : Option Bytes) : Type 0 where
   pub entries : List Entry
   pub asks : AsksSome R left entries
   pub entered : h' ≡ h ++ entries
-  pub wrote : WritesBeginning w w' (added names name start entries)
+  pub wrote : WritesBeginning w w' (added names who start entries)
 
 -- ---- the journal that comes of both
 
@@ -85,18 +85,18 @@ so_far names name (starts.Line k) items tail = head_of name ++ items_text names 
 so_far names name (starts.Cut k n) items tail = head_of name ++ (items_text names 0 items ++ tail)
 
 -- an entry by its caller's name
-abbrev pub told : Entry → Item
-told e = Told (record { caller = caller_name user e.caller; request = e.request; reply = e.reply })
+abbrev pub told : Text → Entry → Item
+told caller e = Told (record { caller = caller_name (caller ∷ []) e.caller; request = e.request; reply = e.reply })
 
--- further entries, and how many there are of all
-abbrev pub ended : List Entry → List Item
-ended es = map told es ++ Counted ∷ []
+-- a caller's further entries, and how many there are of all
+abbrev pub ended : Text → List Entry → List Item
+ended caller es = map (told caller) es ++ Counted ∷ []
 
 -- the items of the journal once these entries are written
-abbrev pub joined : Start → List Item → Bytes → List Entry → List Item
-joined (starts.Head n) items tail es = ended es
-joined (starts.Line k) items tail es = items ++ ended es
-joined (starts.Cut k n) items tail es = items ++ CutShort tail ∷ ended es
+abbrev pub joined : Text → Start → List Item → Bytes → List Entry → List Item
+joined caller (starts.Head n) items tail es = ended caller es
+joined caller (starts.Line k) items tail es = items ++ ended caller es
+joined caller (starts.Cut k n) items tail es = items ++ CutShort tail ∷ ended caller es
 
 -- ---- inside
 

@@ -1,8 +1,8 @@
 //! The text of a journal of one instance that is named like its node, and of one caller.
 
-ghost use Rattle.std.specs.Prelude.{◌≡◌, ◌∷◌, [], IfOk, codes, map, string_bytes};
+ghost use Rattle.std.specs.Prelude.{◌≡◌, ◌∷◌, [], IfOk, map, string_bytes};
 ghost use Rattle.lus_devices.specs.Journals.{count_text, head_text, line_text};
-ghost use Rattle.lus_recovery.specs.Journals.{journal_of, user};
+ghost use Rattle.lus_recovery.specs.Journals.{journal_of};
 
 use lus_devices::push_line;
 use lus_play::Speaks;
@@ -10,9 +10,17 @@ use lus_requests::Entry;
 use lus_values::{Memory, Names};
 use std::alloc::Global;
 
+/// Whom a journal names.
+#[derive(Clone, Copy)]
+pub struct Parties<'a> {
+    /// The node, and the instance like it.
+    pub node: &'a str,
+    pub caller: &'a str,
+}
+
 /// Spells entries as the lines of a journal.
 #[derive(Drop)]
-pub(crate) struct JournalLines<'p> {
+pub struct JournalLines<'p> {
     pub names: &'p Names,
     pub callers: &'p [String],
 }
@@ -25,12 +33,12 @@ impl Speaks for JournalLines<'_> {
     }
 }
 
-/// The names of the callers.
-pub(crate) fn callers(alloc: Global) -> Result<Vec<String>, Memory>
-    ensures { IfOk result (λ v. map string_bytes v.items ≡ user) }
+/// The names of the callers, where there is one.
+pub fn callers(alloc: Global, caller: &str) -> Result<Vec<String>, Memory>
+    ensures { IfOk result (λ v. map string_bytes v.items ≡ caller.now ∷ []) }
 {
     let mut callers = Vec::new(alloc);
-    callers.push(String::from_str(alloc, "user")?)?;
+    callers.push(String::from_str(alloc, caller)?)?;
     Ok(callers)
 }
 
@@ -44,7 +52,7 @@ pub fn head(alloc: Global, name: &str) -> Result<String, Memory>
 }
 
 /// The last line of a journal of so many entries.
-pub(crate) fn count(alloc: Global, entries: u64) -> Result<String, Memory>
+pub fn count(alloc: Global, entries: u64) -> Result<String, Memory>
     ensures { IfOk result (λ t. string_bytes t ≡ count_text entries) }
 {
     let mut text = String::new(alloc);

@@ -2,17 +2,18 @@
 
 ghost use Rattle.std.specs.Prelude.{◌≡◌, ◌++◌, List, length};
 ghost use Rattle.lus_devices.specs.Devices.{Bytes};
+ghost use Rattle.lus_recovery.specs.Journals.{Parties};
 ghost use Rattle.lus_recovery.specs.Recoveries.{added, entries_at, head_of, joined, so_far};
 ghost use Rattle.lus_recovery.specs.declared.recovering.Start.{Start};
 ghost use Rattle.lus_replay.specs.Replays.{Item, items_text, saids_of};
 ghost use Rattle.lus_requests.specs.declared.request.Entry.{Entry};
-ghost use Rattle.lus_values.specs.Names.{Names, Text};
+ghost use Rattle.lus_values.specs.Names.{Names};
 
 /// What a journal has, and behind it what a run that goes on writes, is the text of one journal again.
 #[tactic(auto, using(crate::proofs::JoinLaws::are_joined))]
 pub fn journals_are_joined()
-    ensures { (names : Names) (name : Text) (start : Start) (items : List Item) (tail : Bytes) (entries : List Entry)
+    ensures { (names : Names) (who : Parties) (start : Start) (items : List Item) (tail : Bytes) (entries : List Entry)
         → entries_at start ≡ length (saids_of items)
-        → so_far names name start items tail ++ added names name start entries
-        ≡ head_of name ++ items_text names 0 (joined start items tail entries) }
+        → so_far names who.node start items tail ++ added names who start entries
+        ≡ head_of who.node ++ items_text names 0 (joined who.caller start items tail entries) }
 {}

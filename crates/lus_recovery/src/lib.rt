@@ -9,8 +9,8 @@ mod resuming;
 mod writing;
 
 pub use error::RecoveryError;
-pub use journal::head;
+pub use journal::{JournalLines, Parties, callers, count, head};
 pub use laws::journals_are_joined;
 pub use recovering::{Start, recover};
-pub use resuming::resume;
+pub use resuming::{entries_at, resume, write_start};
 pub use writing::{write_bytes, write_on};

@@ -3,9 +3,10 @@
 ghost use Rattle.std.specs.Prelude.{◌≡◌, ℕ, IfOk, OnErr, OnOk, drop};
 ghost use Rattle.lus_devices.specs.Devices.{WritesBeginning, with_text};
 ghost use Rattle.lus_program.specs.Programs.{Program};
+ghost use Rattle.lus_recovery.specs.Journals.{parties_seen};
 ghost use Rattle.lus_recovery.specs.Recoveries.{HasResumed, HasResumedSome, entries_at, start_text};
 
-use crate::journal::head;
+use crate::journal::{Parties, head};
 use crate::recovering::Start;
 use crate::writing::{write_bytes, write_on};
 use lus_devices::{Sink, Source};
@@ -14,7 +15,7 @@ use lus_values::Names;
 use std::alloc::Global;
 
 /// How many entries there are where a run goes on.
-fn entries_at(start: Start) -> u64
+pub fn entries_at(start: Start) -> u64
     ensures { result ≡ entries_at start }
 {
     match start {
@@ -35,7 +36,7 @@ fn behind(bytes: &[u8], count: usize) -> &[u8]
 }
 
 /// Writes what comes before the next entry: the rest of the first line, or the mark of a line that was cut short.
-fn write_start<O: Sink>(
+pub fn write_start<O: Sink>(
     alloc: Global,
     name: &str,
     start: Start,
@@ -61,20 +62,22 @@ pub fn resume<C: Calls, R: Reacts, S: Source, O: Sink, F: Sink>(
     alloc: Global,
     calls: &C,
     names: &Names,
-    name: &str,
+    who: Parties<'_>,
     start: Start,
     reactor: &mut R,
     input: &mut S,
     output: &mut O,
     faults: &mut F,
 ) -> Result<Score, PlayError>
-    ensures all { IfOk result (λ score. HasResumed (C.reads calls.now) names.now name.now start (S.left input.old) (S.left input.new)
+    ensures all { IfOk result (λ score. HasResumed (C.reads calls.now) names.now (parties_seen who.entry) start (S.left input.old) (S.left input.new)
         (R.history reactor.old) (R.history reactor.new) (O.written output.old) (O.written output.new) score) }
-    ensures begun { OnErr result (HasResumedSome (C.reads calls.now) names.now name.now start (S.left input.old)
+    ensures begun { OnErr result (HasResumedSome (C.reads calls.now) names.now (parties_seen who.entry) start (S.left input.old)
         (R.history reactor.old) (R.history reactor.new) (O.written output.old) (O.written output.new)) }
     ensures same { (p : Program) (f : ℕ) → R.is_of reactor.old p f → R.is_of reactor.new p f }
 {
-    write_start(alloc, name, start, output)?;
+    write_start(alloc, who.node, start, output)?;
     let entries = entries_at(start);
-    write_on(alloc, calls, names, entries, reactor, input, output, faults)
+    write_on(
+        alloc, calls, names, who.caller, entries, reactor, input, output, faults,
+    )
 }

@@ -23,26 +23,27 @@ pub fn write_bytes<O: Sink>(output: &mut O, bytes: &[u8]) -> Result<(), PlayErro
 }
 
 /// Makes the call of each line on an instance that has so many entries already, and writes on in its journal: the line of each entry,
-/// numbered on, before the next call is read, and how many entries there are of all where no line is left. The caller is `user`. A
-/// line that is no call enters nothing, and `faults` is given its number and what is wrong. What is kept is one line, its call and its
+/// numbered on, before the next call is read, and how many entries there are of all where no line is left. The entries are of the
+/// caller of this name. A line that is no call enters nothing, and `faults` is given its number and what is wrong. What is kept is one line, its call and its
 /// entry, however many there were.
 pub fn write_on<C: Calls, R: Reacts, S: Source, O: Sink, F: Sink>(
     alloc: Global,
     calls: &C,
     names: &Names,
+    caller: &str,
     entries: u64,
     reactor: &mut R,
     input: &mut S,
     output: &mut O,
     faults: &mut F,
 ) -> Result<Score, PlayError>
-    ensures all { IfOk result (λ score. HasWritten (C.reads calls.now) names.now entries (S.left input.old) (S.left input.new)
+    ensures all { IfOk result (λ score. HasWritten (C.reads calls.now) names.now caller.now entries (S.left input.old) (S.left input.new)
         (R.history reactor.old) (R.history reactor.new) (O.written output.old) (O.written output.new) score) }
-    ensures begun { OnErr result (HasWrittenSome (C.reads calls.now) names.now entries (S.left input.old)
+    ensures begun { OnErr result (HasWrittenSome (C.reads calls.now) names.now caller.now entries (S.left input.old)
         (R.history reactor.old) (R.history reactor.new) (O.written output.old) (O.written output.new)) }
     ensures same { (p : Program) (f : ℕ) → R.is_of reactor.old p f → R.is_of reactor.new p f }
 {
-    let callers = callers(alloc)?;
+    let callers = callers(alloc, caller)?;
     let lines = JournalLines {
         names,
         callers: &callers,

@@ -3,5 +3,7 @@ pub mod Recalled
 pub mod Renewed
 pub mod Steps
 pub mod Parts
+pub mod Given
 pub mod Needed
 pub mod Examples
+pub mod Causes

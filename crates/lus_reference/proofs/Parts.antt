@@ -16,7 +16,7 @@ use Rattle.lus_reference.proofs.Drops.{dropped_next, dropped_map}
 use Rattle.lus_reference.proofs.Recalled.{keeps_left, rows_behind, recalled_is_value}
 
 -- whether a clock is present hangs on the base and the entries
-on_is : (k : Clock) (now : Instant) → is_on k now ≡ is_on k (instant (is_present now) (row_of now) nobody)
+pub on_is : (k : Clock) (now : Instant) → is_on k now ≡ is_on k (instant (is_present now) (row_of now) nobody)
 on_is [] now = refl
 on_is (t ∷ k) now = ap (λ b. holds t.variable t.constructor now && b) (on_is k now)
 

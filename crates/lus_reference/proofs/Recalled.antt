@@ -15,7 +15,7 @@ item_one : {X : Type 0} (d : X) (xs : List X) → item d xs 1 ≡ item d (drop 1
 item_one d [] = refl
 item_one d (x ∷ xs) = refl
 
-item_behind : {X : Type 0} (d : X) (n m : ℕ) (xs : List X) → item d (drop n xs) m ≡ item d xs (n + m)
+pub item_behind : {X : Type 0} (d : X) (n m : ℕ) (xs : List X) → item d (drop n xs) m ≡ item d xs (n + m)
 item_behind d zero m xs = let same : m ≡ 0 + m = omega arith in ap (item d xs) same
 item_behind d (suc n) m [] = refl
 item_behind d (suc n) m (x ∷ xs) = let same : suc (n + m) ≡ suc n + m = omega arith in item_behind d n m xs ∙ ap (item d (x ∷ xs)) same
@@ -119,7 +119,7 @@ module _ (p : Program) (now : Instant) (past : World) where
         let none : inputs ≡ inputs + 0 = omega arith in
         ap (λ row. item None row inputs) (r 0) ∙ ap₂ (λ i m. item None (row_of (called_instant i now)) m) first none
 
-    all_recalled_are_values : (es : Operands) (n : ℕ) (k : Clock) (m : ℕ) (kept : Row) (rows : List Row) → Keeps p past (all_parts p (all_numbered n es) (λ i. k) m) kept → AreRowsFrom now n rows
+    pub all_recalled_are_values : (es : Operands) (n : ℕ) (k : Clock) (m : ℕ) (kept : Row) (rows : List Row) → Keeps p past (all_parts p (all_numbered n es) (λ i. k) m) kept → AreRowsFrom now n rows
         → all_recalled p (row_of now) es kept rows ≡ values p (all_numbered n es) k now past
     all_recalled_are_values none n k m kept rows h g = refl
     all_recalled_are_values (more e es) n k m kept rows h g =

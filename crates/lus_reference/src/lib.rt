@@ -4,14 +4,20 @@
 ghost use Rattle.lus_reference.specs.Laws.{ValuesAreKept};
 ghost use Rattle.lus_reference.specs.Needed.{NeedsSuffice};
 
+mod cause;
+mod definition;
 mod entries;
 mod evaluation;
+mod passing;
 mod renewal;
 mod skipping;
 mod value;
 
+pub use cause::{Cause, Operation, cause_in};
+pub use definition::define;
 pub use evaluation::evaluate;
-pub use renewal::{fault_in, renew};
+pub use passing::pass;
+pub use renewal::{fault_in, is_on, renew, rows_from};
 
 /// Nothing is kept before the first instant; after an instant without a fault the values of the parts on present clocks are.
 pub fn values_are_kept()

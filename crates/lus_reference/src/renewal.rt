@@ -8,7 +8,7 @@ ghost use Rattle.lus_parts.specs.Nested.{AreNested};
 ghost use Rattle.lus_parts.specs.Parts.{part_of};
 ghost use Rattle.lus_reference.specs.Parts.{DoesRenew, IsFaultOf, has_value, kept_next, part_recalled};
 
-use crate::entries::{entry_at, holds};
+use crate::entries::{entries_from, entry_at, holds};
 use crate::value::value_at;
 use lus_parts::Part;
 use lus_program::{Program, Test};
@@ -16,7 +16,7 @@ use lus_values::{Memory, Row, Value};
 use std::alloc::Global;
 
 /// Whether a clock is present at an instant with these entries, at which the base is present or not.
-fn is_on(clock: &[Test], present: bool, row: &[Option<Value>]) -> bool
+pub fn is_on(clock: &[Test], present: bool, row: &[Option<Value>]) -> bool
     ensures { result ≡ is_on clock.now (instant present (map entry_of row.now) nobody) }
 {
     for test in clock {
@@ -27,19 +27,8 @@ fn is_on(clock: &[Test], present: bool, row: &[Option<Value>]) -> bool
     present
 }
 
-/// What is kept from a place on.
-fn kept_from(kept: &[Option<Value>], place: usize) -> &[Option<Value>]
-    ensures { result.now ≡ drop place kept.now }
-{
-    if place < kept.len() {
-        &kept[place..]
-    } else {
-        &[]
-    }
-}
-
 /// The rows of the calls from a number on.
-fn rows_from(rows: &[Row], number: usize) -> &[Row]
+pub fn rows_from(rows: &[Row], number: usize) -> &[Row]
     ensures { result.now ≡ drop number rows.now }
 {
     if number < rows.len() {
@@ -90,7 +79,7 @@ fn kept_of(
 }
 
 /// Whether a part has a value, or its clock isn't present.
-fn is_whole(
+pub fn is_whole(
     alloc: Global,
     program: &Program,
     present: bool,
@@ -125,7 +114,7 @@ pub fn renew(
 {
     let mut next = Vec::new(alloc);
     for (place, part) in parts.iter().enumerate() {
-        let earlier = kept_from(kept, place);
+        let earlier = entries_from(kept, place);
         let renewed = kept_of(alloc, program, present, row, rows, part, earlier)?;
         next.push(renewed)?;
     }
@@ -146,7 +135,7 @@ pub fn fault_in(
     ensures { IfOk result (IsFaultOf (program_seen program.now) present (map entry_of row.now) rows.now (map part_of parts.now) (map entry_of kept.now)) }
 {
     for (place, part) in parts.iter().enumerate() {
-        let earlier = kept_from(kept, place);
+        let earlier = entries_from(kept, place);
         let whole = is_whole(alloc, program, present, row, rows, part, earlier)?;
         if !whole {
             return Ok(Some(place));

@@ -99,7 +99,7 @@ pub fn value_at(
 
 /// The values of operands, if all have one.
 #[cycle(values)]
-fn values_at(
+pub fn values_at(
     alloc: Global,
     program: &Program,
     row: &[Option<Value>],

@@ -35,6 +35,17 @@ fn is_refused_by(alloc: Global, number: RefusalNumber, source: &str) -> Result<b
     }
 }
 
+/// Whether a source is refused. Out of memory, that isn't known.
+pub(crate) fn is_refused(alloc: Global, source: &str) -> Result<bool, AllocError> {
+    match compile(alloc, source) {
+        Ok(_program) => Ok(false),
+        Err(refusal) => match refusal.number {
+            RefusalNumber::Memory => Err(AllocError),
+            _ => Ok(true),
+        },
+    }
+}
+
 /// Whether two sources are the same program but for names, or refused by the same number.
 pub(crate) fn are_same_but_for_names(
     alloc: Global,

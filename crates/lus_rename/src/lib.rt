@@ -6,6 +6,7 @@ mod keeping;
 mod naming;
 mod proposing;
 mod renaming;
+mod taken;
 #[cfg(test)]
 mod tests;
 

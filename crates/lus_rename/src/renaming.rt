@@ -9,6 +9,7 @@ use crate::error::RenameError;
 use crate::keeping::are_same_but_for_names;
 use crate::naming::{is_name, named_at};
 use crate::proposing::with_name;
+use crate::taken::is_taken_in_refused;
 use lus_edits::{keeps_comments, renames_tokens};
 use lus_occurrences::names_of;
 use lus_syntax::Refusal;
@@ -31,7 +32,8 @@ fn keeps(alloc: Global, old: &str, name: &str, source: &str, made: &str) -> Resu
 ///
 /// What is made has the source's tokens, but that the old name is the new one here or there, and its comments. Where the source is
 /// accepted it is accepted too, as a program that is the same but for names; where the source is refused it is refused by the same
-/// number. Where that can't be, as under a name that hides another one, there is an error.
+/// number, and the new name is none that another declaration in scope has. Where that can't be, as under a name that hides another one,
+/// there is an error.
 pub fn renamed(alloc: Global, source: &str, byte: usize, name: &str) -> Result<String, RenameError>
     ensures name { IfOk result (λ _. IsName name.now) }
     ensures tokens { IfOk result (λ made. (old : Text) × IsNameAt source.now byte old × RenamesTokens old name.now source.now (string_bytes made)) }
@@ -48,7 +50,11 @@ pub fn renamed(alloc: Global, source: &str, byte: usize, name: &str) -> Result<S
     let Some(old) = named_at(&names.tokens, occurrence.token, byte) else {
         return Err(RenameError::NoName);
     };
-    let made = with_name(alloc, source, &names, occurrence.declaration, name)?;
+    let declaration = occurrence.declaration;
+    if is_taken_in_refused(alloc, source, &names, declaration, name)? {
+        return Err(RenameError::Changes);
+    }
+    let made = with_name(alloc, source, &names, declaration, name)?;
     if !keeps(alloc, old, name, source, made.as_str())? {
         return Err(RenameError::Changes);
     }

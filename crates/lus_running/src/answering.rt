@@ -5,16 +5,18 @@ ghost use Rattle.lus_values.specs.View.{entry_of};
 ghost use Rattle.lus_instructions.specs.Followed.{cell_of};
 ghost use Rattle.lus_running.specs.Answering.{AnswersTo};
 ghost use Rattle.lus_running.specs.Comes.{Faultless};
-ghost use Rattle.lus_running.specs.OnClocks.{PresentOnClock};
-ghost use Rattle.lus_running.specs.Settings.{CanRunOn, FitsClass, FitsWhole, IsWholeOn};
+ghost use Rattle.lus_running.specs.Settings.{CanRunOn, FitsClass, GivesInputs};
 
 use crate::error::Failure;
-use crate::running::{place, run_parts};
+use crate::keeping::{copy_cells, copy_flags};
+use crate::resetting::forget;
+use crate::running::place;
 use crate::setting::Setting;
-use crate::wholes::run_in_row;
-use lus_flat_classes::Whole;
+use lus_frames::follow_class;
 use lus_instructions::{Held, Stop, entry_at};
+use lus_keeping::keep_class;
 use lus_values::{Row, Value};
+use std::alloc::Global;
 
 /// So many outputs, which stand behind the inputs of a class, in no more memory than they need.
 fn outputs_in<T: Held>(on: &Setting<'_, T>, row: &[T], outputs: usize) -> Result<Row, Failure>
@@ -36,48 +38,45 @@ fn outputs_in<T: Held>(on: &Setting<'_, T>, row: &[T], outputs: usize) -> Result
     Ok(Row::new(found))
 }
 
-/// So many outputs, which stand behind the inputs, of one instant by the whole of a class, in a row that has room for all its places.
-pub fn answer_in_row<T: Held>(
+/// So many outputs, which stand behind the inputs, of one instant of a class: its code is followed on a row that is empty but for the
+/// inputs, and then what is kept is copied and what the instant keeps is written over the copy.
+pub fn answer<T: Held>(
     on: &Setting<'_, T>,
-    whole: &Whole,
     inputs: &[Option<Value>],
     outputs: usize,
     next_cells: &mut [T],
     next_firsts: &mut [bool],
     row: &mut [T],
 ) -> Result<Row, Failure>
-    requires fits { FitsWhole on.now next_cells.old next_firsts.old row.old whole.now }
-    requires room { whole.now.top ≤ length row.old }
-    requires whole { IsWholeOn on.now whole.now }
-    requires inputs { length inputs.now ≡ on.now.class.now.inputs }
-    requires outputs { on.now.class.now.inputs + outputs ≤ length on.now.class.now.tests.items }
-    ensures { AnswersTo T.entry on.now (map entry_of inputs.now) outputs
-        result (map (cell_of T.entry) next_cells.new) next_firsts.new }
-{
-    place(on.alloc, inputs, row)?;
-    run_in_row(on, whole, next_cells, next_firsts, row)?;
-    outputs_in(on, row, outputs)
-}
-
-/// So many outputs, which stand behind the inputs, of one instant by the parts of a class.
-pub fn answer_by_parts<T: Held>(
-    on: &Setting<'_, T>,
-    inputs: &[Option<Value>],
-    outputs: usize,
-    next_cells: &mut [T],
-    next_firsts: &mut [bool],
-    variables: &mut [T],
-    temporaries: &mut Vec<T>,
-) -> Result<Row, Failure>
     requires class { CanRunOn on.now }
-    requires fits { FitsClass on.now next_cells.old next_firsts.old variables.old }
+    requires fits { FitsClass on.now next_cells.old next_firsts.old row.old }
     requires inputs { length inputs.now ≡ on.now.class.now.inputs }
     requires outputs { on.now.class.now.inputs + outputs ≤ length on.now.class.now.tests.items }
-    requires present { PresentOnClock on.now.class.now.tests.items (map entry_of inputs.now) }
+    requires given { GivesInputs on.now (map entry_of inputs.now) }
     ensures { AnswersTo T.entry on.now (map entry_of inputs.now) outputs
         result (map (cell_of T.entry) next_cells.new) next_firsts.new }
 {
-    place(on.alloc, inputs, variables)?;
-    run_parts(on, next_cells, next_firsts, variables, temporaries)?;
-    outputs_in(on, variables, outputs)
+    forget(row, on.class.inputs as usize, on.code.row as usize);
+    place(on.alloc, inputs, row)?;
+    if !follow_class(
+        on.alloc, on.framed, on.depth, on.code, on.cells, on.firsts, row,
+    )? {
+        return Err(Failure::Fault);
+    }
+    copy_cells(on.alloc, on.cells, next_cells)?;
+    copy_flags(on.firsts, next_firsts);
+    keep_class(
+        on.alloc,
+        on.classes,
+        on.framed,
+        on.plans,
+        on.depth,
+        on.node,
+        on.class,
+        on.code,
+        row,
+        next_cells,
+        next_firsts,
+    )?;
+    outputs_in(on, row, outputs)
 }

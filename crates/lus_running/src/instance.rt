@@ -4,16 +4,19 @@ ghost use Rattle.std.specs.Prelude.{◌≡◌, ◌↔◌, ◌<◌, IsTrue, suc, 
 ghost use Rattle.lus_classes.specs.States.{WithinDepth};
 ghost use Rattle.lus_flat_classes.specs.Turns.{AreReady};
 ghost use Rattle.lus_flat_classes.specs.View.{classes_of};
+ghost use Rattle.lus_keeping.specs.Keeping.{HaveFrames};
 ghost use Rattle.lus_running.specs.Fits.{FitsPresence, OfClass};
 ghost use Rattle.lus_running.specs.Instances.{HasFormals, HasRowsOfClass, IsBack, IsCopy, IsFresh, IsReset, KeepsSame, LeavesBehind};
 ghost use Rattle.lus_running.specs.Instances.{TakesStep, seen};
 ghost use Rattle.lus_running.specs.OnClocks.{PassOnClocks};
+ghost use Rattle.lus_running.specs.Settings.{RunsClasses};
 
 use crate::error::StepError;
-use crate::following::most_temporaries;
 use crate::holding::Holding;
 use crate::rows::Rows;
 use lus_flat_classes::Class;
+use lus_frames::Class as Framed;
+use lus_keeping::Plan;
 use lus_values::{Memory, Row};
 use std::alloc::Global;
 
@@ -27,15 +30,21 @@ pub struct Instance {
 
 impl Instance {
     /// An instance of a node at its start.
-    pub fn fresh(alloc: Global, classes: &[Class], node: u32) -> Result<Instance, Memory>
+    pub fn fresh(
+        alloc: Global,
+        classes: &[Class],
+        framed: &[Framed],
+        node: u32,
+    ) -> Result<Instance, Memory>
         requires within { node < length classes.now }
         requires all { AreReady classes.now }
+        requires code { HaveFrames classes.now framed.now }
         ensures start { IfOk result (λ o. IsFresh classes.now node (seen o)) }
         ensures node { IfOk result (λ o. o.node ≡ node) }
-        ensures shaped { IfOk result (λ o. HasRowsOfClass classes.now (seen o)) }
+        ensures shaped { IfOk result (λ o. HasRowsOfClass classes.now framed.now (seen o)) }
     {
         let extent = classes[node as usize].extent;
-        let words = Rows::fresh(alloc, extent, most_temporaries(classes))?;
+        let words = Rows::fresh(alloc, extent, framed[node as usize].row)?;
         Ok(Instance {
             alloc,
             node,
@@ -65,12 +74,13 @@ impl Instance {
     }
 
     /// Whether the rows are as long as the part of the node among these classes.
-    pub fn is_shaped(&self, classes: &[Class]) -> bool
-        ensures { IsTrue result ↔ HasRowsOfClass classes.now (seen self.now) }
+    pub fn is_shaped(&self, classes: &[Class], framed: &[Framed]) -> bool
+        ensures { IsTrue result ↔ HasRowsOfClass classes.now framed.now (seen self.now) }
     {
-        match classes.get(self.node as usize) {
-            Some(class) => self.holding.is_long(class.extent),
-            None => false,
+        let node = self.node as usize;
+        match (classes.get(node), framed.get(node)) {
+            (Some(class), Some(code)) => self.holding.is_long(class.extent, code.row),
+            _ => false,
         }
     }
 
@@ -79,25 +89,29 @@ impl Instance {
     pub fn step(
         &mut self,
         classes: &[Class],
+        framed: &[Framed],
+        plans: &[Plan],
         depth: usize,
         inputs: &Row,
         outputs: usize,
     ) -> Result<Row, StepError>
         requires all { AreReady classes.now }
-        requires shaped { HasRowsOfClass classes.now (seen self.old) }
+        requires code { RunsClasses classes.now framed.now plans.now }
+        requires shaped { HasRowsOfClass classes.now framed.now (seen self.old) }
         requires depth { WithinDepth (classes_of classes.now) (suc depth) self.old.node }
         requires formals { OfClass classes.now self.old.node (HasFormals outputs inputs.now) }
         requires presence { OfClass classes.now self.old.node (λ c. FitsPresence c inputs.now) }
         requires passing { PassOnClocks classes.now }
         ensures step { TakesStep classes.now depth outputs (seen self.old) inputs.now result (seen self.new) }
         ensures node { self.new.node ≡ self.old.node }
-        ensures shaped { HasRowsOfClass classes.now (seen self.new) }
+        ensures shaped { HasRowsOfClass classes.now framed.now (seen self.new) }
         ensures err { OnErr result (KeepsSame (seen self.old) (seen self.new)) }
         ensures behind { OnOk result (LeavesBehind (seen self.old) (seen self.new)) }
     {
         let class = &classes[self.node as usize];
+        let code = &framed[self.node as usize];
         let answer = self.holding.step(
-            self.alloc, classes, depth, self.node, class, inputs, outputs,
+            self.alloc, classes, framed, plans, depth, self.node, class, code, inputs, outputs,
         )?;
         Ok(answer)
     }

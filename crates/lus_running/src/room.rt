@@ -4,19 +4,17 @@ ghost use Rattle.std.specs.Prelude.{◌≡◌, ◌+◌, ◌≤◌, ◌↔◌, Is
 ghost use Rattle.lus_values.specs.View.{entry_of};
 ghost use Rattle.lus_running.specs.Answering.{AnswersTo};
 ghost use Rattle.lus_running.specs.Keeping.{cells_of};
-ghost use Rattle.lus_running.specs.OnClocks.{PresentOnClock};
 ghost use Rattle.lus_running.specs.Rooms.{FitsRoom, IsAsLarge, IsNewRoom, IsRoomFor};
-ghost use Rattle.lus_running.specs.Settings.{CanRunOn};
+ghost use Rattle.lus_running.specs.Settings.{CanRunOn, GivesInputs};
 
-use crate::answering::{answer_by_parts, answer_in_row};
+use crate::answering::answer;
 use crate::error::Failure;
-use crate::following::room_for;
 use crate::kept::Kept;
 use crate::resetting::filled;
 use crate::setting::Setting;
 use lus_flat_classes::Extent;
+use lus_instructions::Held;
 use lus_instructions::words::Word;
-use lus_instructions::{Held, Stop};
 use lus_values::{Memory, Row, Value};
 use std::alloc::Global;
 
@@ -24,31 +22,18 @@ use std::alloc::Global;
 #[derive(Drop)]
 pub struct Room<T> {
     pub next: Kept<T>,
-    /// Room for the variables of an instant; what it holds between instants has no meaning.
-    pub variables: Vec<T>,
-    /// Room for what instructions compute on the way; it has no meaning behind them.
-    pub temporaries: Vec<T>,
+    /// The row on which code is followed; what it holds between instants has no meaning.
+    pub row: Vec<T>,
 }
 
 impl<T: Held> Room<T> {
-    /// Room for so many cells and first-flags, variables and temporaries.
-    pub fn fresh(
-        alloc: Global,
-        cells: usize,
-        firsts: usize,
-        variables: usize,
-        temporaries: usize,
-    ) -> Result<Room<T>, Memory>
-        ensures { IfOk result (λ r. IsNewRoom T.entry cells firsts variables r) }
+    /// Room for so many cells and first-flags, and a row so long.
+    pub fn fresh(alloc: Global, cells: usize, firsts: usize, row: usize) -> Result<Room<T>, Memory>
+        ensures { IfOk result (λ r. IsNewRoom T.entry cells firsts row r) }
     {
-        let variables = filled(alloc, variables, Word::Absent)?;
-        let temporaries = filled(alloc, temporaries, Word::Absent)?;
+        let row = filled(alloc, row, Word::Absent)?;
         let next = Kept::fresh(alloc, cells, firsts)?;
-        Ok(Room {
-            next,
-            variables,
-            temporaries,
-        })
+        Ok(Room { next, row })
     }
 
     /// As large, of another kind.
@@ -59,16 +44,15 @@ impl<T: Held> Room<T> {
             alloc,
             self.next.cells.len(),
             self.next.firsts.len(),
-            self.variables.len(),
-            self.temporaries.len(),
+            self.row.len(),
         )
     }
 
     /// Whether it is so large.
-    pub fn is_long(&self, extent: Extent) -> bool
-        ensures { IsTrue result ↔ IsRoomFor extent self.now }
+    pub fn is_long(&self, extent: Extent, row: u32) -> bool
+        ensures { IsTrue result ↔ IsRoomFor extent row self.now }
     {
-        self.next.is_long(extent) && self.variables.len() == extent.variables as usize
+        self.next.is_long(extent) && self.row.len() == row as usize
     }
 
     /// So many outputs of one instant of a class, and what it keeps next.
@@ -82,33 +66,18 @@ impl<T: Held> Room<T> {
         requires fits { FitsRoom on.now self.old }
         requires inputs { length inputs.now ≡ on.now.class.now.inputs }
         requires outputs { on.now.class.now.inputs + outputs ≤ length on.now.class.now.tests.items }
-        requires present { PresentOnClock on.now.class.now.tests.items (map entry_of inputs.now) }
+        requires given { GivesInputs on.now (map entry_of inputs.now) }
         ensures fits { FitsRoom on.now self.new }
         ensures answers { AnswersTo T.entry on.now (map entry_of inputs.now) outputs
             result (cells_of T.entry self.new.next) self.new.next.firsts.items }
     {
-        match &on.class.whole {
-            Some(whole) => {
-                let row = room_for(&mut self.temporaries, whole.top as usize)?;
-                answer_in_row(
-                    on,
-                    whole,
-                    inputs,
-                    outputs,
-                    &mut self.next.cells,
-                    &mut self.next.firsts,
-                    row,
-                )
-            }
-            None => answer_by_parts(
-                on,
-                inputs,
-                outputs,
-                &mut self.next.cells,
-                &mut self.next.firsts,
-                &mut self.variables,
-                &mut self.temporaries,
-            ),
-        }
+        answer(
+            on,
+            inputs,
+            outputs,
+            &mut self.next.cells,
+            &mut self.next.firsts,
+            &mut self.row,
+        )
     }
 }

@@ -9,7 +9,9 @@ use crate::kept::Kept;
 use crate::room::Room;
 use crate::setting::Setting;
 use lus_flat_classes::{Class, Extent};
+use lus_frames::Class as Framed;
 use lus_instructions::{Held, Stop};
+use lus_keeping::Plan;
 use lus_values::{Memory, Row};
 use std::alloc::Global;
 use std::mem::swap;
@@ -22,14 +24,14 @@ pub struct Rows<T> {
 }
 
 impl<T: Held> Rows<T> {
-    /// Rows so long, at their start, with room for so many temporaries.
-    pub fn fresh(alloc: Global, extent: Extent, count: usize) -> Result<Rows<T>, Memory>
-        ensures { IfOk result (λ o. (g : ℕ) → IsNew extent (rows_seen T.entry g o)) }
+    /// Rows so long, at their start, with a row so long for instants.
+    pub fn fresh(alloc: Global, extent: Extent, row: u32) -> Result<Rows<T>, Memory>
+        ensures { IfOk result (λ o. (g : ℕ) → IsNew extent row (rows_seen T.entry g o)) }
     {
         let cells = extent.cells as usize;
         let firsts = extent.firsts as usize;
         let kept = Kept::fresh(alloc, cells, firsts)?;
-        let room = Room::fresh(alloc, cells, firsts, extent.variables as usize, count)?;
+        let room = Room::fresh(alloc, cells, firsts, row as usize)?;
         Ok(Rows { kept, room })
     }
 
@@ -50,10 +52,10 @@ impl<T: Held> Rows<T> {
     }
 
     /// Whether the rows are so long.
-    pub fn is_long(&self, extent: Extent) -> bool
-        ensures { (g : ℕ) → IsTrue result ↔ IsLong extent (rows_seen T.entry g self.now) }
+    pub fn is_long(&self, extent: Extent, row: u32) -> bool
+        ensures { (g : ℕ) → IsTrue result ↔ IsLong extent row (rows_seen T.entry g self.now) }
     {
-        self.kept.is_long(extent) && self.room.is_long(extent)
+        self.kept.is_long(extent) && self.room.is_long(extent, row)
     }
 
     /// One more instant of a node: so many outputs, with the rows of the last instant left behind as those for the next one; or
@@ -62,24 +64,31 @@ impl<T: Held> Rows<T> {
         &mut self,
         alloc: Global,
         classes: &[Class],
+        framed: &[Framed],
+        plans: &[Plan],
         depth: usize,
         node: u32,
         class: &Class,
+        code: &Framed,
         inputs: &Row,
         outputs: usize,
     ) -> Result<Row, Failure>
-        requires { CanStep classes.now depth class.now inputs.now outputs (rows_seen T.entry node self.old) }
+        requires { CanStep classes.now framed.now plans.now depth class.now code.now inputs.now outputs (rows_seen T.entry node self.old) }
         ensures step { MakesStep classes.now depth class.now outputs (rows_seen T.entry node self.old) inputs.now
             result (rows_seen T.entry node self.new) }
-        ensures long { IsLong class.now.extent (rows_seen T.entry node self.new) }
+        ensures long { IsLong class.now.extent code.now.row (rows_seen T.entry node self.new) }
         ensures err { OnErr result (KeepsSame (rows_seen T.entry node self.old) (rows_seen T.entry node self.new)) }
         ensures behind { OnOk result (LeavesBehind (rows_seen T.entry node self.old) (rows_seen T.entry node self.new)) }
     {
         let on = Setting {
             alloc,
             classes,
+            framed,
+            plans,
             depth,
+            node,
             class,
+            code,
             cells: &self.kept.cells,
             firsts: &self.kept.firsts,
         };

@@ -10,7 +10,7 @@ use crate::text::begins_name;
 use crate::token::{Symbol, TokenKind, Word};
 use std::str;
 
-/// The words of the language, and those that are kept back.
+/// The words of the language, and those that are reserved.
 pub static WORDS: &[(&str, Option<Word>)] = &[
     ("node", Some(Word::Node)),
     ("function", Some(Word::Function)),

@@ -22,7 +22,7 @@ pub fn one_reading()
         → (n ≡ RefusalNumber.Lexical) ⊎ ((n ≡ RefusalNumber.Unsupported) ⊎ (n ≡ RefusalNumber.Limit)) }
     ensures stands { (text : List ℕ) (n : RefusalNumber) (p : Place) → Faulty text n p → StandsAt text p }
 
-    // A text of a token that stands for nothing is kept back or past the limit, and never a lexical fault.
+    // A text of a token that stands for nothing is reserved or past the limit, and never a lexical fault.
     ensures no_meaning { (text : List ℕ) (n : RefusalNumber) → is_text text ≡ true → meaning text ≡ Err n
         → (n ≡ RefusalNumber.Unsupported) ⊎ (n ≡ RefusalNumber.Limit) }
 {}

@@ -76,6 +76,7 @@ fn tell_under<S: Source, O: Sink, F: Sink>(
         alloc,
         program: source,
         names,
+        node,
         inputs,
         head,
     };

@@ -1,2 +1,5 @@
 pub mod Traces
 pub mod Tables
+pub mod Markup
+pub mod Pages
+pub mod Parts

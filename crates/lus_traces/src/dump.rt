@@ -17,10 +17,11 @@ struct Scope<'a> {
 fn scopes<'a>(alloc: Global, traces: &[Trace<'a>]) -> Result<Vec<Scope<'a>>, AllocError> {
     let mut scopes = Vec::new(alloc);
     for (place, trace) in traces.iter().enumerate() {
+        let frames = frames_of(alloc, &trace.columns)?;
         scopes.push(Scope {
             number: place as u64 + 1,
-            kinds: kinds_of(alloc, &trace.signals, &trace.columns)?,
-            frames: frames_of(alloc, &trace.columns)?,
+            kinds: kinds_of(alloc, &trace.signals, &frames)?,
+            frames,
         })?;
     }
     Ok(scopes)

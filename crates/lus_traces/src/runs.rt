@@ -19,11 +19,20 @@ fn push_run<'a>(runs: &mut Vec<Run<'a>>, run: Run<'a>) -> Result<(), AllocError>
     Ok(())
 }
 
-/// The runs of a row: as few as there can be.
+/// The value of a field of a structure, by its place among all that are no structures: of an absent structure it is absent.
+fn field_of(value: &str, place: usize) -> &str {
+    match value.split(';').nth(place) {
+        Some(part) => part.trim().trim_start_matches('{').trim_end_matches('}'),
+        None => "-",
+    }
+}
+
+/// The runs of a row, or of a field of its structures: as few as there can be.
 pub(crate) fn runs_of<'a>(
     alloc: Global,
     frames: &[Frame<'a>],
     row: usize,
+    field: Option<usize>,
 ) -> Result<Vec<Run<'a>>, AllocError> {
     let mut runs = Vec::new(alloc);
     let mut run = Run {
@@ -32,7 +41,10 @@ pub(crate) fn runs_of<'a>(
         value: "-",
     };
     for (place, frame) in frames.iter().enumerate() {
-        let value = frame.value(row);
+        let value = match field {
+            Some(place) => field_of(frame.value(row), place),
+            None => frame.value(row),
+        };
         if run.value != value {
             push_run(&mut runs, run)?;
             run = Run {

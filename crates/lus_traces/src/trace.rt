@@ -3,10 +3,14 @@
 ghost use Rattle.std.specs.Prelude.{◌≡◌, IfOk, map};
 ghost use Rattle.lus_diagrams.specs.Columns.{columns_of};
 ghost use Rattle.lus_diagrams.specs.View.{entry_seen};
+ghost use Rattle.lus_traces.specs.Parts.{part_of};
 ghost use Rattle.lus_traces.specs.Traces.{trace_seen};
 
+use crate::parts::{Part, part_of};
+use crate::refusals::{Refusal, refusals_of};
 use lus_diagrams::{Column, Journal, columns};
 use std::alloc::{AllocError, Global};
+use std::slice;
 
 /// What a signal's values are: truth values, numbers of 64 bits, or texts.
 #[derive(Clone, Copy)]
@@ -16,68 +20,108 @@ pub enum SignalKind {
     Text,
 }
 
-/// An input or an output. Where its kind isn't given, its values say it.
-#[derive(Drop)]
-pub struct Signal {
-    pub name: String,
-    pub kind: Option<SignalKind>,
+/// Whether a signal is an input or an output.
+#[derive(Clone, Copy)]
+pub enum Side {
+    Input,
+    Output,
 }
 
-/// A journal's table, and the inputs and outputs that its rows are.
+impl Side {
+    pub fn word(self) -> &'static str {
+        match self {
+            Side::Input => "input",
+            Side::Output => "output",
+        }
+    }
+}
+
+/// An input or an output. Where its kind isn't given, its values say it. A structure has the names of its fields, and of the fields
+/// of those that are structures.
+#[derive(Drop)]
+pub struct Signal {
+    pub side: Side,
+    pub name: String,
+    pub kind: Option<SignalKind>,
+    pub fields: Vec<String>,
+}
+
+impl Signal {
+    /// The names of the lanes that a signal has: one for each field of a structure.
+    pub fn lanes(&self) -> &[String] {
+        if self.fields.is_empty() {
+            slice::from_ref(&self.name)
+        } else {
+            &self.fields
+        }
+    }
+}
+
+/// A part of a journal's table, the inputs and outputs that its rows are, and its refused calls.
 #[derive(Drop)]
 pub struct Trace<'a> {
     pub instance: &'a str,
     pub node: &'a str,
+    pub part: Part,
     pub signals: Vec<Signal>,
     pub columns: Vec<Column<'a>>,
+    pub refusals: Vec<Refusal<'a>>,
 }
 
-/// `input 1`, `output 1` and so on.
-fn numbered(alloc: Global, inputs: usize, outputs: usize) -> Result<Vec<Signal>, AllocError> {
-    let mut signals = Vec::new(alloc);
-    for place in 0..inputs {
+/// Appends `input 1` or `output 1`, and so on.
+fn push_numbered(
+    alloc: Global,
+    signals: &mut Vec<Signal>,
+    side: Side,
+    count: usize,
+) -> Result<(), AllocError> {
+    let word = side.word();
+    for place in 0..count {
         signals.push(Signal {
-            name: format!(in alloc; "input {}", place as u64 + 1)?,
+            side,
+            name: format!(in alloc; "{word} {}", place as u64 + 1)?,
             kind: None,
+            fields: Vec::new(alloc),
         })?;
     }
-    for place in 0..outputs {
-        signals.push(Signal {
-            name: format!(in alloc; "output {}", place as u64 + 1)?,
-            kind: None,
-        })?;
-    }
-    Ok(signals)
+    Ok(())
 }
 
 impl<'a> Trace<'a> {
-    /// The trace of a journal whose rows are these signals.
+    /// The trace of a part of a journal whose rows are these signals.
     pub fn named(
         alloc: Global,
         journal: &Journal<'a>,
+        part: Part,
         signals: Vec<Signal>,
     ) -> Result<Trace<'a>, AllocError>
         ensures instance { IfOk result (λ t. (trace_seen t).instance ≡ journal.now.instance.now) }
-        ensures columns { IfOk result (λ t. (trace_seen t).columns ≡ columns_of (map entry_seen journal.now.entries.items)) }
+        ensures columns { IfOk result (λ t. (trace_seen t).columns ≡ part_of part (columns_of (map entry_seen journal.now.entries.items))) }
     {
         Ok(Trace {
             instance: journal.instance,
             node: journal.node,
+            part,
             signals,
-            columns: columns(alloc, &journal.entries)?,
+            columns: part_of(alloc, part, columns(alloc, &journal.entries)?)?,
+            refusals: refusals_of(alloc, part, &journal.entries)?,
         })
     }
 
-    /// The trace of a journal whose rows are numbered.
-    pub fn numbered(alloc: Global, journal: &Journal<'a>) -> Result<Trace<'a>, AllocError>
+    /// The trace of a part of a journal whose rows are numbered.
+    pub fn numbered(
+        alloc: Global,
+        journal: &Journal<'a>,
+        part: Part,
+    ) -> Result<Trace<'a>, AllocError>
         ensures instance { IfOk result (λ t. (trace_seen t).instance ≡ journal.now.instance.now) }
-        ensures columns { IfOk result (λ t. (trace_seen t).columns ≡ columns_of (map entry_seen journal.now.entries.items)) }
+        ensures columns { IfOk result (λ t. (trace_seen t).columns ≡ part_of part (columns_of (map entry_seen journal.now.entries.items))) }
     {
-        let (inputs, outputs) = match journal.arity {
-            Some(arity) => (arity.inputs, arity.outputs),
-            None => (0, 0),
-        };
-        let signals = numbered(alloc, inputs, outputs)?;
-        Trace::named(alloc, journal, signals)
+        let mut signals = Vec::new(alloc);
+        if let Some(arity) = journal.arity {
+            push_numbered(alloc, &mut signals, Side::Input, arity.inputs)?;
+            push_numbered(alloc, &mut signals, Side::Output, arity.outputs)?;
+        }
+        Trace::named(alloc, journal, part, signals)
     }
 }

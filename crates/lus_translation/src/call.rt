@@ -140,5 +140,4 @@ pub fn call_of(
 const NO_ROOM: Extent = Extent {
     cells: 0,
     firsts: 0,
-    variables: 0,
 };

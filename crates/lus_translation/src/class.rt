@@ -1,6 +1,6 @@
 //! The class of a node whose equations have their turns.
 
-ghost use Rattle.std.specs.Prelude.{◌≡◌, None, Some, [], IfOk, OnOk, length};
+ghost use Rattle.std.specs.Prelude.{◌≡◌, Some, [], IfOk, OnOk, length};
 ghost use Rattle.lus_program.specs.View.{node_of};
 ghost use Rattle.lus_values.specs.Lists.{Each};
 ghost use Rattle.lus_flat_classes.specs.Parts.{AreParts};
@@ -14,7 +14,7 @@ use crate::flat_code::parts_of;
 use crate::kept::Kept;
 use crate::steps::{Built, give_turn};
 use crate::turn::Turn;
-use lus_flat_classes::{Class, Extent};
+use lus_flat_classes::{Class, Extent, Part};
 use lus_program::{Equation, Node, Program};
 use lus_values::Memory;
 use std::alloc::Global;
@@ -92,19 +92,18 @@ fn make_turns(
     Ok(())
 }
 
-/// The class of a node whose equations have these turns, without its own room and that of its calls. Of its clocks it keeps the
-/// newest tests.
+/// The class of a node whose equations have these turns, without its own room and that of its calls, and the parts that make its
+/// steps. Of its clocks the class keeps the newest tests.
 pub fn class_with(
     alloc: Global,
     program: &Program,
     node: &Node,
     turns: &[Turn],
-) -> Result<Class, Memory>
-    ensures form { IfOk result (λ c. HasNewest (node_of node.now) c (class_from program.now node.now turns.now)) }
-    ensures outputs { IfOk result (λ c. c.outputs ≡ node.now.outputs) }
-    ensures parts { IfOk result (λ c. AreParts c.tests.items c.steps.items c.steps.items c.parts.items) }
-    ensures given { IfOk result (λ c. Each GivesAny c.steps.items) }
-    ensures whole { IfOk result (λ c. c.whole ≡ None) }
+) -> Result<(Class, Vec<Part>), Memory>
+    ensures form { IfOk result (λ made. HasNewest (node_of node.now) made.0 (class_from program.now node.now turns.now)) }
+    ensures outputs { IfOk result (λ made. made.0.outputs ≡ node.now.outputs) }
+    ensures parts { IfOk result (λ made. AreParts made.0.tests.items made.0.steps.items made.0.steps.items made.1.items) }
+    ensures given { IfOk result (λ made. Each GivesAny made.0.steps.items) }
 {
     let mut built = Built {
         steps: Vec::new(alloc),
@@ -118,20 +117,18 @@ pub fn class_with(
     let tests = tests_of(alloc, node)?;
     let parts = parts_of(alloc, &tests, &built.steps)?;
     let calls = calls_of(alloc, program, node)?;
-    Ok(Class {
+    let class = Class {
         inputs: node.inputs,
         outputs: node.outputs,
         tests,
         steps: built.steps,
-        parts,
         cells: built.kept.cells,
         firsts: built.kept.firsts,
         calls,
         extent: Extent {
             cells: 0,
             firsts: 0,
-            variables: 0,
         },
-        whole: None,
-    })
+    };
+    Ok((class, parts))
 }

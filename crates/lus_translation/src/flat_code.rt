@@ -1,6 +1,7 @@
 //! Flat code: the steps of classes as instructions.
 
 mod flattening;
+mod fronts;
 mod operands;
 mod parts;
 mod playing;

@@ -21,7 +21,6 @@ use Rattle.lus_flat_classes.specs.declared.class.Class.{Class as StoredClass}
 use Rattle.lus_flat_classes.specs.declared.class.Target.{Target}
 use Rattle.lus_flat_classes.specs.declared.class.Step.{Step as StoredStep}
 use Rattle.lus_flat_classes.specs.declared.class.Step.TheVariants as steps
-use Rattle.lus_flat_classes.specs.Parts.{AreParts}
 use Rattle.lus_flat_classes.specs.Turns.{AreMaking, GivesSome}
 use Rattle.lus_flat_classes.specs.View.{argument_of, call_of, class_of, code_of, steps_of, taken}
 use Rattle.lus_translation.specs.Forms.{calls_form, numbers_form}
@@ -180,9 +179,9 @@ calls_node p f c ts (s ∷ ss) (q ∷ qs) n are known = (
 
 -- a class that belongs to its node and whose calls are those of its equations has its turns
 pub classes_are_turned : (p : Program) (f : Node) → IsReady p f → (qs : List StoredEquation) → f.equations ≡ equations_from 0 qs → (c : StoredClass) → IsClassOf p f (class_of c)
-    → (class_of c).calls ≡ calls_form p f f.equations → c.outputs ≡ f.outputs → AreParts c.tests.items c.steps.items c.steps.items c.parts.items → Each GivesAny c.steps.items
-    → (HaveOneLeft f → KeepsFew f c) → c.whole ≡ None → IsTurned p f c
-classes_are_turned p f ready qs is c belongs same_calls outputs parts any kept whole =
+    → (class_of c).calls ≡ calls_form p f f.equations → c.outputs ≡ f.outputs → Each GivesAny c.steps.items
+    → (HaveOneLeft f → KeepsFew f c) → IsTurned p f c
+classes_are_turned p f ready qs is c belongs same_calls outputs any kept =
     let d = class_of c in
     let size : length d.calls ≡ length c.calls.items = length-map c.calls.items (call_of c.tests.items) in
     let all = made p f ready qs is d belongs same_calls in
@@ -191,7 +190,6 @@ classes_are_turned p f ready qs is c belongs same_calls outputs parts any kept w
       outputs = outputs;
       turns = record {
         turns = subst (λ n. InTurn d d.steps (λ x. nat_lt x n)) (sym belongs.inputs) belongs.turns;
-        parts = parts;
         given = subst (λ n. Each (GivesSome n) c.steps.items) size (gives_some p f d c.steps.items any belongs.steps);
         every = λ n lt. (
             let m = all n (subst (λ l. n < l) (sym size) lt) in
@@ -199,5 +197,4 @@ classes_are_turned p f ready qs is c belongs same_calls outputs parts any kept w
       };
       calls = calls_node p f d c.tests.items (sites p f) c.calls.items 0 belongs.calls (calls_known p d all);
       kept = kept;
-      whole = whole;
     }

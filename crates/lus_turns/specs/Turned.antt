@@ -1,5 +1,5 @@
 -- What the class of a node promises besides that it belongs to the node.
-use Rattle.std.specs.Prelude.{◌≡◌, ◌<◌, ◌≤◌, ℕ, None, length}
+use Rattle.std.specs.Prelude.{◌≡◌, ◌<◌, ◌≤◌, ℕ, length}
 use Rattle.lus_values.specs.Lists.{Each}
 use Rattle.lus_program.specs.Programs.{Expression, call, Node, Program, node_at}
 use Rattle.lus_classes.specs.ClassesOf.{IsClassOf}
@@ -27,12 +27,11 @@ pub record KeepsFew (f : Node) (c : Class) : Type 0 where
   pub cells : length c.cells.items ≤ node_memories f
   pub firsts : length c.firsts.items ≤ node_firsts f
 
--- a class belongs to node f of a program, has its outputs, makes its steps in their turns, calls nodes of the program, keeps no
--- more than its node wants, and is run by its parts
+-- a class belongs to node f of a program, has its outputs, makes its steps in their turns, calls nodes of the program, and keeps no
+-- more than its node wants
 pub record IsTurned (p : Program) (f : Node) (c : Class) : Type 0 where
   pub belongs : IsClassOf p f (class_of c)
   pub outputs : c.outputs ≡ f.outputs
   pub turns : HasTurns c
   pub calls : Each (CallsNode p) c.calls.items
   pub kept : HaveOneLeft f → KeepsFew f c
-  pub whole : c.whole ≡ None

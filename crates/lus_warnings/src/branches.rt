@@ -6,14 +6,15 @@ use crate::kind::Kind;
 use crate::known::Scope;
 use crate::same::{are_same, bare, text_of};
 use crate::warning::Warning;
-use lus_faults::{Edit, extent_of};
-use lus_syntax::{Expr, Infix, Part, Span};
+use indexmap::IndexMap;
+use lus_faults::{Edit, expressions_in, extent_of, start_of};
+use lus_syntax::{Expr, Infix, Span};
 use lus_values::Op;
 use std::alloc::{AllocError, Global};
 
 /// A division by what a test excludes from being 0.
 #[derive(Clone, Copy)]
-struct Division<'t> {
+pub(crate) struct Division<'t> {
     whole: &'t Expr,
     divisor: &'t Expr,
     guard: Guard<'t>,
@@ -49,64 +50,112 @@ fn guarded<'t>(source: &str, guards: &[Guard<'t>], whole: &'t Expr) -> Option<Di
     })
 }
 
-/// Appends the divisions in an expression that tests seem to guard, with the tests in mind that stand round it.
-#[cycle(walks)]
-fn go<'t>(
+/// What runs although a test that holds, or doesn't, would choose another result.
+#[derive(Clone, Copy)]
+struct Choice<'t> {
+    test: &'t Expr,
+    holds: bool,
+    by: Chooser,
+    branch: &'t Expr,
+}
+
+/// The divisions of a node that a test of their divisor seems to guard, each with the innermost such test, by where the divisor begins.
+pub(crate) type Divisions<'t> = IndexMap<usize, Division<'t>>;
+
+/// Puts the divisions in a branch that one of some tests seems to guard in the place of what was found of them.
+fn put_in_branch<'t>(
+    alloc: Global,
+    source: &str,
+    guards: &[Guard<'t>],
+    branch: &'t Expr,
+    found: &mut Divisions<'t>,
+) -> Result<(), AllocError> {
+    for inner in &expressions_in(alloc, branch)? {
+        if let Some(division) = guarded(source, guards, inner) {
+            let _outer = found.insert(start_of(division.divisor).byte, division)?;
+        }
+    }
+    Ok(())
+}
+
+/// Puts the divisions in a branch that its test seems to guard in the place of what was found of them.
+fn put_guarded<'t>(
+    alloc: Global,
     source: &str,
     scope: &Scope<'_, 't>,
-    guards: &mut Vec<Guard<'t>>,
-    found: &mut Vec<Division<'t>>,
-    expr: &'t Expr,
+    choice: Choice<'t>,
+    found: &mut Divisions<'t>,
 ) -> Result<(), AllocError> {
-    if let Some(division) = guarded(source, guards, expr) {
-        found.push(division)?;
-    }
-    let before = guards.len();
+    let mut guards = Vec::new(alloc);
+    keep_in_mind(scope, &mut guards, choice.test, choice.holds, choice.by)?;
+    put_in_branch(alloc, source, &guards, choice.branch, found)
+}
+
+/// Puts the divisions that seem to be guarded by what an expression chooses by.
+fn put_chosen<'t>(
+    alloc: Global,
+    source: &str,
+    scope: &Scope<'_, 't>,
+    expr: &'t Expr,
+    found: &mut Divisions<'t>,
+) -> Result<(), AllocError> {
     match expr {
-        Expr::Number(_, _) | Expr::Truth(_, _) | Expr::Name(_) => Ok(()),
-        Expr::Call(_, parts)
-        | Expr::Structure(_, parts)
-        | Expr::Merge(_, _, parts)
-        | Expr::Variadic(_, _, parts) => go_parts(source, scope, guards, found, parts),
-        Expr::Field(operand, _)
-        | Expr::Parentheses(_, operand)
-        | Expr::When(operand, _)
-        | Expr::Unary(_, _, operand) => go(source, scope, guards, found, operand),
-        Expr::Binary(infix, left, right) => {
-            go(source, scope, guards, found, left)?;
-            if let Some((by, holds)) = chooser_of(*infix) {
-                keep_in_mind(scope, guards, left, holds, by)?;
+        Expr::Binary(infix, test, branch) => match chooser_of(*infix) {
+            Some((by, holds)) => {
+                let choice = Choice {
+                    test,
+                    holds,
+                    by,
+                    branch,
+                };
+                put_guarded(alloc, source, scope, choice, found)
             }
-            go(source, scope, guards, found, right)?;
-            guards.truncate(before);
-            Ok(())
+            None => Ok(()),
+        },
+        Expr::If(_, test, left, right) => {
+            let first = Choice {
+                test,
+                holds: true,
+                by: Chooser::If,
+                branch: left,
+            };
+            put_guarded(alloc, source, scope, first, found)?;
+            let second = Choice {
+                holds: false,
+                branch: right,
+                ..first
+            };
+            put_guarded(alloc, source, scope, second, found)
         }
-        Expr::If(_, condition, left, right) => {
-            go(source, scope, guards, found, condition)?;
-            keep_in_mind(scope, guards, condition, true, Chooser::If)?;
-            go(source, scope, guards, found, left)?;
-            guards.truncate(before);
-            keep_in_mind(scope, guards, condition, false, Chooser::If)?;
-            go(source, scope, guards, found, right)?;
-            guards.truncate(before);
-            Ok(())
-        }
+        _ => Ok(()),
     }
 }
 
-/// Goes through parts.
-#[cycle(walks)]
-fn go_parts<'t>(
+/// Puts the divisions in an expression that a test seems to guard.
+fn put_divisions<'t>(
+    alloc: Global,
     source: &str,
     scope: &Scope<'_, 't>,
-    guards: &mut Vec<Guard<'t>>,
-    found: &mut Vec<Division<'t>>,
-    parts: &'t [Part],
+    expr: &'t Expr,
+    found: &mut Divisions<'t>,
 ) -> Result<(), AllocError> {
-    for part in parts {
-        go(source, scope, guards, found, &part.value)?;
+    for inner in &expressions_in(alloc, expr)? {
+        put_chosen(alloc, source, scope, inner, found)?;
     }
     Ok(())
+}
+
+/// The divisions in a node that a test of their divisors seems to guard.
+pub(crate) fn divisions_in<'t>(
+    alloc: Global,
+    source: &str,
+    scope: &Scope<'_, 't>,
+) -> Result<Divisions<'t>, AllocError> {
+    let mut found = IndexMap::new(alloc);
+    for equation in &scope.node.equations {
+        put_divisions(alloc, source, scope, &equation.right, &mut found)?;
+    }
+    Ok(found)
 }
 
 /// A divisor as it is written, but for parentheses round a name.
@@ -145,42 +194,44 @@ fn note_on(by: Chooser) -> &'static str {
     }
 }
 
-/// The warning of a division behind a test of its divisor.
-fn unguarded(alloc: Global, source: &str, division: Division<'_>) -> Result<Warning, AllocError> {
-    let span = extent_of(source, division.whole);
+/// The warning of a division behind a test of its divisor, without what is related to it.
+fn told_alone(alloc: Global, source: &str, division: Division<'_>) -> Result<Warning, AllocError> {
     let text = text_of(source, division.whole);
     let by = divisor_text(source, division.divisor);
     let sentence = format!(in alloc;
         "`{text}` is computed also where `{by}` is 0, and fails there"
     )?;
+    let span = extent_of(source, division.whole);
     let note = note_on(division.guard.by);
-    let mut warning = Warning::new(alloc, Kind::UnguardedDivision, span, sentence, note)?;
+    Warning::new(alloc, Kind::UnguardedDivision, span, sentence, note)
+}
+
+/// Adds the test that seems to guard a division.
+fn relate_test(
+    alloc: Global,
+    source: &str,
+    division: Division<'_>,
+    warning: &mut Warning,
+) -> Result<(), AllocError> {
     let label = String::from_str(
         alloc,
         "this test chooses a result, but keeps nothing from running",
     )?;
     warning
         .finding
-        .relate(extent_of(source, division.guard.test), label)?;
+        .relate(extent_of(source, division.guard.test), label)
+}
+
+/// The warning of a division behind a test of its divisor.
+pub(crate) fn unguarded_division(
+    alloc: Global,
+    source: &str,
+    division: Division<'_>,
+) -> Result<Warning, AllocError> {
+    let mut warning = told_alone(alloc, source, division)?;
+    relate_test(alloc, source, division, &mut warning)?;
+    let by = divisor_text(source, division.divisor);
     let place = extent_of(source, division.divisor);
     warning.finding.edit = Some(never_zero(alloc, by, place)?);
     Ok(warning)
-}
-
-/// Appends warnings of the divisions in a node that a test of their divisors seems to guard.
-pub(crate) fn push_divisions(
-    alloc: Global,
-    source: &str,
-    scope: &Scope<'_, '_>,
-    found: &mut Vec<Warning>,
-) -> Result<(), AllocError> {
-    let mut guards = Vec::new(alloc);
-    let mut divisions = Vec::new(alloc);
-    for equation in &scope.node.equations {
-        go(source, scope, &mut guards, &mut divisions, &equation.right)?;
-    }
-    for division in &divisions {
-        found.push(unguarded(alloc, source, *division)?)?;
-    }
-    Ok(())
 }

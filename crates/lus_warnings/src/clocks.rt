@@ -4,7 +4,7 @@ use crate::kind::Kind;
 use crate::known::{Known, Scope};
 use crate::warning::Warning;
 use indexmap::IndexMap;
-use lus_syntax::{Expr, Label, Name, Test};
+use lus_syntax::{Equation, Expr, Label, Name, Test};
 use std::alloc::{AllocError, Global};
 
 /// A variable that is always the same: where its equation defines it, and its value.
@@ -14,8 +14,30 @@ pub(crate) struct Fixed<'t> {
     value: Known<'t>,
 }
 
+/// A test of a variable that is always the same.
+#[derive(Clone, Copy)]
+pub(crate) struct FixedTest<'t> {
+    test: &'t Test,
+    fixed: Fixed<'t>,
+}
+
 /// The variables of a node that are always the same, by their names.
 pub(crate) type AllFixed<'t> = IndexMap<&'t str, Fixed<'t>>;
+
+/// Adds the variable of an equation that gives it a constant.
+fn add_fixed<'t>(
+    all: &mut AllFixed<'t>,
+    scope: &Scope<'_, 't>,
+    equation: &'t Equation,
+) -> Result<(), AllocError> {
+    match (equation.left.as_slice(), scope.value(&equation.right)) {
+        ([name], Some(value)) => {
+            let _before = all.insert(name.text.as_str(), Fixed { name, value })?;
+            Ok(())
+        }
+        _ => Ok(()),
+    }
+}
 
 /// The variables of a node whose equations give them a constant.
 pub(crate) fn fixed_in<'t>(
@@ -24,9 +46,7 @@ pub(crate) fn fixed_in<'t>(
 ) -> Result<AllFixed<'t>, AllocError> {
     let mut all = IndexMap::new(alloc);
     for equation in &scope.node.equations {
-        if let ([name], Some(value)) = (equation.left.as_slice(), scope.value(&equation.right)) {
-            let _before = all.insert(name.text.as_str(), Fixed { name, value })?;
-        }
+        add_fixed(&mut all, scope, equation)?;
     }
     Ok(all)
 }
@@ -68,43 +88,38 @@ fn words_of(holds: bool) -> (&'static str, &'static str) {
     }
 }
 
-/// The warning of a test of a variable that is always the same.
-fn fixed_test(alloc: Global, test: &Test, fixed: Fixed<'_>) -> Result<Warning, AllocError> {
-    let name = clock_of(test);
+/// A test, where it tests a variable that is always the same.
+pub(crate) fn fixed_by<'t>(all: &AllFixed<'t>, test: &'t Test) -> Option<FixedTest<'t>> {
+    let fixed = all.get(&clock_of(test).text.as_str()).copied()?;
+    Some(FixedTest { test, fixed })
+}
+
+/// The test of an expression, where it is a `when` on a clock that is always the same.
+pub(crate) fn sampling<'t>(all: &AllFixed<'t>, expr: &'t Expr) -> Option<FixedTest<'t>> {
+    match expr {
+        Expr::When(_, test) => fixed_by(all, test),
+        _ => None,
+    }
+}
+
+/// The warning of a test of a variable that is always the same, without where that one is defined.
+fn told_alone(alloc: Global, found: FixedTest<'_>) -> Result<Warning, AllocError> {
+    let name = clock_of(found.test);
     let text = name.text.as_str();
-    let value = fixed.value;
-    let (word, note) = words_of(holds(test, value));
+    let value = found.fixed.value;
+    let (word, note) = words_of(holds(found.test, value));
     let sentence = format!(in alloc;
         "the clock `{text}` is always `{value}`, so this is there {word}"
     )?;
-    let mut warning = Warning::new(alloc, Kind::ConstantClock, name.span, sentence, note)?;
-    warning.finding.relate(
-        fixed.name.span,
-        format!(in alloc; "`{text}` is `{value}` here")?,
-    )?;
+    Warning::new(alloc, Kind::ConstantClock, name.span, sentence, note)
+}
+
+/// The warning of a test of a variable that is always the same.
+pub(crate) fn constant_clock(alloc: Global, found: FixedTest<'_>) -> Result<Warning, AllocError> {
+    let mut warning = told_alone(alloc, found)?;
+    let text = clock_of(found.test).text.as_str();
+    let value = found.fixed.value;
+    let label = format!(in alloc; "`{text}` is `{value}` here")?;
+    warning.finding.relate(found.fixed.name.span, label)?;
     Ok(warning)
-}
-
-/// The warning of a test, where it tests a variable that is always the same.
-pub(crate) fn test_of_fixed(
-    alloc: Global,
-    all: &AllFixed<'_>,
-    test: &Test,
-) -> Result<Option<Warning>, AllocError> {
-    match all.get(&clock_of(test).text.as_str()).copied() {
-        Some(fixed) => Ok(Some(fixed_test(alloc, test, fixed)?)),
-        None => Ok(None),
-    }
-}
-
-/// The warning of an expression, where it is a `when` on a clock that is always the same.
-pub(crate) fn sampling(
-    alloc: Global,
-    all: &AllFixed<'_>,
-    expr: &Expr,
-) -> Result<Option<Warning>, AllocError> {
-    match expr {
-        Expr::When(_, test) => test_of_fixed(alloc, all, test),
-        _ => Ok(None),
-    }
 }

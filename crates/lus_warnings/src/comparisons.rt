@@ -38,11 +38,18 @@ fn of_known(op: Op, left: Known<'_>, right: Known<'_>) -> Option<bool> {
     }
 }
 
-/// A comparison that is always so, and what it gives: of sides that are written alike, or of values that are known.
+/// Why a comparison is always so: its sides are written alike, or their values are known.
 #[derive(Clone, Copy)]
 enum Always {
     Alike(bool),
     Known(bool),
+}
+
+/// A comparison that is always so, and what it gives.
+#[derive(Clone, Copy)]
+pub(crate) struct Comparison<'t> {
+    expr: &'t Expr,
+    always: Always,
 }
 
 /// What a comparison always gives, if that is known.
@@ -76,22 +83,30 @@ fn words_of(always: Always) -> (bool, &'static str) {
     }
 }
 
-/// The warning of an expression, where it is a comparison that is always so.
-pub(crate) fn comparison<'t>(
-    alloc: Global,
+/// The comparison that an expression is, if it is one that is always so.
+pub(crate) fn comparison_in<'t>(
     source: &str,
     scope: &Scope<'_, 't>,
     expr: &'t Expr,
-) -> Result<Option<Warning>, AllocError> {
-    let Expr::Binary(Infix::Compute(op), left, right) = expr else {
-        return Ok(None);
-    };
-    let Some(always) = result_of(source, scope, *op, left, right) else {
-        return Ok(None);
-    };
-    let (holds, note) = words_of(always);
-    let text = text_of(source, expr);
+) -> Option<Comparison<'t>> {
+    match expr {
+        Expr::Binary(Infix::Compute(op), left, right) => {
+            let always = result_of(source, scope, *op, left, right)?;
+            Some(Comparison { expr, always })
+        }
+        _ => None,
+    }
+}
+
+/// The warning of a comparison that is always so.
+pub(crate) fn constant_comparison(
+    alloc: Global,
+    source: &str,
+    found: Comparison<'_>,
+) -> Result<Warning, AllocError> {
+    let (holds, note) = words_of(found.always);
+    let text = text_of(source, found.expr);
     let sentence = format!(in alloc; "`{text}` is always {holds}")?;
-    let span = extent_of(source, expr);
-    Ok(Some(Warning::new(alloc, Kind::ConstantComparison, span, sentence, note)?))
+    let span = extent_of(source, found.expr);
+    Warning::new(alloc, Kind::ConstantComparison, span, sentence, note)
 }

@@ -2,7 +2,9 @@
 
 use crate::same::bare;
 use indexmap::{IndexMap, IndexSet};
-use lus_syntax::{Definition, Expr, Group, Literal, Name, Node, Prefix, Tree};
+use lus_syntax::{
+    Constant, Definition, Expr, Group, Literal, Name, Node, Prefix, Tree, TypeDeclaration,
+};
 use std::alloc::{AllocError, Global};
 use std::fmt;
 
@@ -55,17 +57,29 @@ fn add_constructors<'t>(values: &mut Values<'t>, names: &'t [Name]) -> Result<()
     Ok(())
 }
 
+/// Adds the constructors of types.
+fn add_types<'t>(values: &mut Values<'t>, types: &'t [TypeDeclaration]) -> Result<(), AllocError> {
+    for declaration in types {
+        if let Definition::Enumeration(names) = &declaration.definition {
+            add_constructors(values, names)?;
+        }
+    }
+    Ok(())
+}
+
+/// Adds constants.
+fn add_constants<'t>(values: &mut Values<'t>, constants: &'t [Constant]) -> Result<(), AllocError> {
+    for constant in constants {
+        let _before = values.insert(constant.name.text.as_str(), literal_value(&constant.value))?;
+    }
+    Ok(())
+}
+
 /// The constants and the constructors of a source.
 pub(crate) fn values_by_name(alloc: Global, tree: &Tree) -> Result<Values<'_>, AllocError> {
     let mut values = IndexMap::new(alloc);
-    for declaration in &tree.types {
-        if let Definition::Enumeration(names) = &declaration.definition {
-            add_constructors(&mut values, names)?;
-        }
-    }
-    for constant in &tree.constants {
-        let _before = values.insert(constant.name.text.as_str(), literal_value(&constant.value))?;
-    }
+    add_types(&mut values, &tree.types)?;
+    add_constants(&mut values, &tree.constants)?;
     Ok(values)
 }
 

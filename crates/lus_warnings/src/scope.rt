@@ -67,7 +67,7 @@ pub(crate) enum Without {
     Left,
 }
 
-/// Whether a token is left out, of the equation that it stands in.
+/// Whether a token of an equation is passed over.
 fn is_out(without: Without, equation: &Equation, token: Token<'_>) -> bool {
     match without {
         Without::Own => is_own(equation, token),

@@ -4,15 +4,19 @@
 //! a node those of the source, of a variable those from its node's name to the next node's. So none is told that has a use; what has
 //! the name of something else in the same tokens may not be told.
 
+ghost use Rattle.std.specs.Prelude.{◌≡◌, All, IfOk, IsTrue};
+ghost use Rattle.std.specs.List.{filter};
+ghost use Rattle.lus_warnings.specs.Uses.{is_idle_by, is_unused};
+
 use crate::kind::Kind;
 use crate::scope::{Without, node_from, tokens_without};
 use crate::table::{Names, has_repeated, is_idle, is_repeated, names_among};
 use lus_syntax::{Constant, Definition, Group, Name, Node, Token, Tree, TypeDeclaration};
 use std::alloc::{AllocError, Global};
 
-/// A declaration that nothing uses.
+/// A declaration, and what is warned of if nothing uses it.
 #[derive(Clone, Copy)]
-pub(crate) struct Unused<'t> {
+pub(crate) struct Declaration<'t> {
     pub kind: Kind,
     pub name: &'t Name,
 }
@@ -26,38 +30,33 @@ fn has_use(names: &Names<'_>, definition: &Definition) -> bool {
     }
 }
 
-/// Appends the types that nothing uses, nor any of their constructors.
+/// Appends the types of which no constructor has a use.
 fn push_types<'t>(
     names: &Names<'_>,
     types: &'t [TypeDeclaration],
-    found: &mut Vec<Unused<'t>>,
+    declared: &mut Vec<Declaration<'t>>,
 ) -> Result<(), AllocError> {
     for declaration in types {
-        let name = &declaration.name;
-        if is_idle(names, name) && !has_use(names, &declaration.definition) {
-            found.push(Unused {
+        if !has_use(names, &declaration.definition) {
+            declared.push(Declaration {
                 kind: Kind::UnusedType,
-                name,
+                name: &declaration.name,
             })?;
         }
     }
     Ok(())
 }
 
-/// Appends the constants that nothing uses.
+/// Appends the constants.
 fn push_constants<'t>(
-    names: &Names<'_>,
     constants: &'t [Constant],
-    found: &mut Vec<Unused<'t>>,
+    declared: &mut Vec<Declaration<'t>>,
 ) -> Result<(), AllocError> {
     for constant in constants {
-        let name = &constant.name;
-        if is_idle(names, name) {
-            found.push(Unused {
-                kind: Kind::UnusedConstant,
-                name,
-            })?;
-        }
+        declared.push(Declaration {
+            kind: Kind::UnusedConstant,
+            name: &constant.name,
+        })?;
     }
     Ok(())
 }
@@ -72,127 +71,140 @@ fn is_among(names: &[&str], name: &str) -> bool {
     false
 }
 
-/// Appends the nodes that no node calls, and that aren't among those which instances run.
+/// Appends the nodes that aren't among those which instances run.
 fn push_nodes<'t>(
-    names: &Names<'_>,
     run: &[&str],
     nodes: &'t [Node],
-    found: &mut Vec<Unused<'t>>,
+    declared: &mut Vec<Declaration<'t>>,
 ) -> Result<(), AllocError> {
     for node in nodes {
-        let name = &node.name;
-        if is_idle(names, name) && !is_among(run, name.text.as_str()) {
-            found.push(Unused {
+        if !is_among(run, node.name.text.as_str()) {
+            declared.push(Declaration {
                 kind: Kind::UnusedNode,
-                name,
+                name: &node.name,
             })?;
         }
     }
     Ok(())
 }
 
-/// Appends those of some inputs that need a use and have none.
-fn push_idle_names<'t>(
+/// What is declared outside of nodes, but for types of which a constructor has a use and nodes that are run. Where it isn't known which
+/// are, it is none of the nodes.
+fn declared_outside<'t>(
+    alloc: Global,
     names: &Names<'_>,
-    declared: &'t [Name],
-    found: &mut Vec<Unused<'t>>,
-) -> Result<(), AllocError> {
-    for name in declared {
-        if is_idle(names, name) {
-            found.push(Unused {
-                kind: Kind::UnusedInput,
-                name,
-            })?;
-        }
+    tree: &'t Tree,
+    run: Option<&[&str]>,
+) -> Result<Vec<Declaration<'t>>, AllocError> {
+    let mut declared = Vec::new(alloc);
+    push_types(names, &tree.types, &mut declared)?;
+    push_constants(&tree.constants, &mut declared)?;
+    if let Some(run) = run {
+        push_nodes(run, &tree.nodes, &mut declared)?;
     }
-    Ok(())
+    Ok(declared)
 }
 
-/// Appends the inputs among some groups that need a use and have none.
-fn push_idle_groups<'t>(
-    names: &Names<'_>,
+/// The variables of some groups.
+fn variables_in<'t>(
+    alloc: Global,
+    kind: Kind,
     groups: &'t [Group],
-    found: &mut Vec<Unused<'t>>,
-) -> Result<(), AllocError> {
+) -> Result<Vec<Declaration<'t>>, AllocError> {
+    let mut declared = Vec::new(alloc);
     for group in groups {
-        push_idle_names(names, &group.names, found)?;
+        for name in &group.names {
+            declared.push(Declaration { kind, name })?;
+        }
     }
-    Ok(())
+    Ok(declared)
 }
 
-/// Appends the inputs of a node that nothing uses.
-fn push_inputs<'t>(
+/// Those of some declarations that need a use and have none, in their order.
+fn idle_of<'t>(
+    alloc: Global,
+    names: &Names<'_>,
+    declared: &[Declaration<'t>],
+) -> Result<Vec<Declaration<'t>>, AllocError>
+    ensures { IfOk result (λ found. found.items ≡ filter (is_idle_by names.now) declared.now) }
+{
+    let mut found = Vec::new(alloc);
+    for declaration in declared {
+        if is_idle(names, declaration.name) {
+            found.push(*declaration)?;
+        }
+    }
+    Ok(found)
+}
+
+/// Those of some declarations that nothing among some tokens uses, in their order.
+fn unused_among<'t>(
+    alloc: Global,
+    tokens: &[Token<'_>],
+    declared: &[Declaration<'t>],
+) -> Result<Vec<Declaration<'t>>, AllocError>
+    ensures { IfOk result (λ found. found.items ≡ filter (is_unused tokens.now) declared.now) }
+{
+    let names = names_among(alloc, tokens)?;
+    idle_of(alloc, &names, declared)
+}
+
+/// The types and the constants that nothing in the source uses, and the nodes that no node calls and that aren't run.
+fn unused_outside<'t>(
+    alloc: Global,
+    tokens: &[Token<'_>],
+    tree: &'t Tree,
+    run: Option<&[&str]>,
+) -> Result<Vec<Declaration<'t>>, AllocError>
+    ensures { IfOk result (λ found. All (λ d. IsTrue (is_unused tokens.now d)) found.items) }
+{
+    let names = names_among(alloc, tokens)?;
+    let declared = declared_outside(alloc, &names, tree, run)?;
+    idle_of(alloc, &names, &declared)
+}
+
+/// A local variable that only its own equation uses, as a memory, if its name stands twice among what is read.
+fn as_memory<'t>(read: &Names<'_>, found: Declaration<'t>) -> Declaration<'t> {
+    if is_repeated(read, found.name.text.as_str()) {
+        return Declaration {
+            kind: Kind::UnreadMemory,
+            name: found.name,
+        };
+    }
+    found
+}
+
+/// The local variables of a node that nothing but their own equations uses.
+fn unused_locals<'t>(
     alloc: Global,
     tokens: &[Token<'_>],
     node: &'t Node,
-    found: &mut Vec<Unused<'t>>,
-) -> Result<(), AllocError> {
-    let names = names_among(alloc, tokens)?;
-    push_idle_groups(&names, &node.inputs, found)
+) -> Result<Vec<Declaration<'t>>, AllocError> {
+    let locals = variables_in(alloc, Kind::UnusedLocal, &node.locals)?;
+    let others = tokens_without(alloc, Without::Own, tokens, &node.equations)?;
+    unused_among(alloc, &others, &locals)
 }
 
-/// What is told of a local variable that is used by its own equation alone, or by none.
-fn unread(read: &Names<'_>, name: &str) -> Kind {
-    if is_repeated(read, name) {
-        Kind::UnreadMemory
-    } else {
-        Kind::UnusedLocal
-    }
-}
-
-/// Appends those of some local variables that need a use and have none, by the names outside of their own equations, and by those that
-/// are read.
-fn push_unread_names<'t>(
-    names: &Names<'_>,
-    read: &Names<'_>,
-    declared: &'t [Name],
-    found: &mut Vec<Unused<'t>>,
-) -> Result<(), AllocError> {
-    for name in declared {
-        if is_idle(names, name) {
-            found.push(Unused {
-                kind: unread(read, name.text.as_str()),
-                name,
-            })?;
-        }
-    }
-    Ok(())
-}
-
-/// Appends the local variables among some groups that need a use and have none.
-fn push_unread_groups<'t>(
-    names: &Names<'_>,
-    read: &Names<'_>,
-    groups: &'t [Group],
-    found: &mut Vec<Unused<'t>>,
-) -> Result<(), AllocError> {
-    for group in groups {
-        push_unread_names(names, read, &group.names, found)?;
-    }
-    Ok(())
-}
-
-/// The names among the tokens of a node, without some in its equations.
-fn names_without<'t>(
+/// How often names stand among the tokens of a node, but for left sides.
+fn names_read<'t>(
     alloc: Global,
-    without: Without,
     tokens: &[Token<'t>],
     node: &Node,
 ) -> Result<Names<'t>, AllocError> {
-    let kept = tokens_without(alloc, without, tokens, &node.equations)?;
-    names_among(alloc, &kept)
+    let read = tokens_without(alloc, Without::Left, tokens, &node.equations)?;
+    names_among(alloc, &read)
 }
 
-/// Appends the local variables of a node that have no use, by the names outside of their own equations.
+/// Appends local variables that only their own equations use, by the names that are read.
 fn push_unread<'t>(
-    alloc: Global,
-    names: &Names<'_>,
-    tokens: &[Token<'_>],
-    node: &'t Node,
-    found: &mut Vec<Unused<'t>>,
+    read: &Names<'_>,
+    unused: &[Declaration<'t>],
+    found: &mut Vec<Declaration<'t>>,
 ) -> Result<(), AllocError> {
-    let read = names_without(alloc, Without::Left, tokens, node)?;
-    push_unread_groups(names, &read, &node.locals, found)
+    for local in unused {
+        found.push(as_memory(read, *local))?;
+    }
+    Ok(())
 }
 
 /// Appends the local variables of a node that nothing but their own equations uses.
@@ -200,10 +212,11 @@ fn push_locals<'t>(
     alloc: Global,
     tokens: &[Token<'_>],
     node: &'t Node,
-    found: &mut Vec<Unused<'t>>,
+    found: &mut Vec<Declaration<'t>>,
 ) -> Result<(), AllocError> {
-    let names = names_without(alloc, Without::Own, tokens, node)?;
-    push_unread(alloc, &names, tokens, node, found)
+    let unused = unused_locals(alloc, tokens, node)?;
+    let read = names_read(alloc, tokens, node)?;
+    push_unread(&read, &unused, found)
 }
 
 /// Appends the variables of a node that nothing uses.
@@ -211,55 +224,11 @@ fn push_variables<'t>(
     alloc: Global,
     tokens: &[Token<'_>],
     node: &'t Node,
-    found: &mut Vec<Unused<'t>>,
+    found: &mut Vec<Declaration<'t>>,
 ) -> Result<(), AllocError> {
-    push_inputs(alloc, tokens, node, found)?;
+    let inputs = variables_in(alloc, Kind::UnusedInput, &node.inputs)?;
+    found.extend_from_slice(&unused_among(alloc, tokens, &inputs)?)?;
     push_locals(alloc, tokens, node, found)
-}
-
-/// Appends the variables of nodes that nothing uses.
-fn push_all_variables<'t>(
-    alloc: Global,
-    tokens: &[Token<'_>],
-    nodes: &'t [Node],
-    found: &mut Vec<Unused<'t>>,
-) -> Result<(), AllocError> {
-    let mut from = node_from(tokens, 0, nodes.first());
-    for (place, node) in nodes.iter().enumerate() {
-        let to = node_from(tokens, from, nodes.get(place.saturating_add(1)));
-        let own = tokens.get(from..to).unwrap_or(&[]);
-        push_variables(alloc, own, node, found)?;
-        from = to;
-    }
-    Ok(())
-}
-
-/// Appends the types, the constants and the nodes that nothing uses. Of nodes it is asked which are run; where that isn't known, none is
-/// unused.
-fn push_outside<'t>(
-    names: &Names<'_>,
-    tree: &'t Tree,
-    run: Option<&[&str]>,
-    found: &mut Vec<Unused<'t>>,
-) -> Result<(), AllocError> {
-    push_types(names, &tree.types, found)?;
-    push_constants(names, &tree.constants, found)?;
-    match run {
-        Some(run) => push_nodes(names, run, &tree.nodes, found),
-        None => Ok(()),
-    }
-}
-
-/// Appends what nothing in the source uses.
-fn push_unused<'t>(
-    alloc: Global,
-    tokens: &[Token<'_>],
-    tree: &'t Tree,
-    run: Option<&[&str]>,
-    found: &mut Vec<Unused<'t>>,
-) -> Result<(), AllocError> {
-    let names = names_among(alloc, tokens)?;
-    push_outside(&names, tree, run, found)
 }
 
 /// The declarations of a source that nothing uses: types, constants and nodes, and then inputs and locals.
@@ -268,9 +237,14 @@ pub(crate) fn unused_in<'t>(
     tokens: &[Token<'_>],
     tree: &'t Tree,
     run: Option<&[&str]>,
-) -> Result<Vec<Unused<'t>>, AllocError> {
-    let mut found = Vec::new(alloc);
-    push_unused(alloc, tokens, tree, run, &mut found)?;
-    push_all_variables(alloc, tokens, &tree.nodes, &mut found)?;
+) -> Result<Vec<Declaration<'t>>, AllocError> {
+    let mut found = unused_outside(alloc, tokens, tree, run)?;
+    let mut from = node_from(tokens, 0, tree.nodes.first());
+    for (place, node) in tree.nodes.iter().enumerate() {
+        let to = node_from(tokens, from, tree.nodes.get(place.saturating_add(1)));
+        let own = tokens.get(from..to).unwrap_or(&[]);
+        push_variables(alloc, own, node, &mut found)?;
+        from = to;
+    }
     Ok(found)
 }

@@ -1,11 +1,11 @@
 //! Warnings of an accepted source.
 
-use crate::branches::push_divisions;
-use crate::clocks::{AllFixed, fixed_in, sampling, test_of_fixed};
-use crate::comparisons::comparison;
+use crate::branches::{Division, Divisions, divisions_in, unguarded_division};
+use crate::clocks::{AllFixed, FixedTest, constant_clock, fixed_by, fixed_in, sampling};
+use crate::comparisons::{Comparison, comparison_in, constant_comparison};
 use crate::kind::Kind;
 use crate::known::{Scope, Values, values_by_name};
-use crate::unused::{Unused, unused_in};
+use crate::unused::{Declaration, unused_in};
 use lus_faults::{Finding, expressions_in};
 use lus_grammar::parse;
 use lus_syntax::{Expr, Group, Node, Refusal, Span, Token, Tree, lex};
@@ -75,164 +75,184 @@ fn words_of(kind: Kind) -> (&'static str, &'static str, &'static str) {
 }
 
 /// The warning of a declaration that nothing uses.
-fn of_unused(alloc: Global, found: Unused<'_>) -> Result<Warning, AllocError> {
+fn of_unused(alloc: Global, found: Declaration<'_>) -> Result<Warning, AllocError> {
     let (front, behind, note) = words_of(found.kind);
     let name = found.name.text.as_str();
     let sentence = format!(in alloc; "{front}`{name}`{behind}")?;
     Warning::new(alloc, found.kind, found.name.span, sentence, note)
 }
 
-/// Appends the warning of an expression by itself, if there is one.
-fn push_one<'t>(
-    alloc: Global,
-    source: &str,
-    scope: &Scope<'_, 't>,
-    fixed: &AllFixed<'t>,
-    expr: &'t Expr,
-    found: &mut Vec<Warning>,
-) -> Result<(), AllocError> {
-    if let Some(warning) = comparison(alloc, source, scope, expr)? {
-        found.push(warning)?;
-    }
-    if let Some(warning) = sampling(alloc, fixed, expr)? {
-        found.push(warning)?;
-    }
-    Ok(())
+/// What is warned of.
+#[derive(Clone, Copy)]
+enum Cause<'t> {
+    Unused(Declaration<'t>),
+    Division(Division<'t>),
+    Comparison(Comparison<'t>),
+    Clock(FixedTest<'t>),
 }
 
-/// Appends warnings of declared clocks.
-fn push_clocks(
-    alloc: Global,
-    fixed: &AllFixed<'_>,
-    groups: &[Group],
-    found: &mut Vec<Warning>,
+/// Appends the clocks of some groups that are always the same.
+fn push_clocks<'t>(
+    fixed: &AllFixed<'t>,
+    groups: &'t [Group],
+    found: &mut Vec<Cause<'t>>,
 ) -> Result<(), AllocError> {
     for group in groups {
         if let Some(test) = &group.test
-            && let Some(warning) = test_of_fixed(alloc, fixed, test)?
+            && let Some(clock) = fixed_by(fixed, test)
         {
-            found.push(warning)?;
+            found.push(Cause::Clock(clock))?;
         }
     }
     Ok(())
 }
 
-/// Appends warnings of the expressions in one.
+/// Appends what is warned of in an expression, but for divisions.
 fn push_expressions<'t>(
     alloc: Global,
     source: &str,
     scope: &Scope<'_, 't>,
     fixed: &AllFixed<'t>,
     expr: &'t Expr,
-    found: &mut Vec<Warning>,
+    found: &mut Vec<Cause<'t>>,
 ) -> Result<(), AllocError> {
     for inner in &expressions_in(alloc, expr)? {
-        push_one(alloc, source, scope, fixed, inner, found)?;
+        if let Some(comparison) = comparison_in(source, scope, inner) {
+            found.push(Cause::Comparison(comparison))?;
+        }
+        if let Some(clock) = sampling(fixed, inner) {
+            found.push(Cause::Clock(clock))?;
+        }
     }
     Ok(())
 }
 
-/// Appends warnings of a node's clocks and of what its equations compute, by the variables that are always the same.
+/// Appends divisions.
+fn push_divisions<'t>(
+    divisions: &Divisions<'t>,
+    found: &mut Vec<Cause<'t>>,
+) -> Result<(), AllocError> {
+    for division in divisions.values() {
+        found.push(Cause::Division(*division))?;
+    }
+    Ok(())
+}
+
+/// Appends the divisions of a node that a test seems to guard.
+fn push_guarded<'t>(
+    alloc: Global,
+    source: &str,
+    scope: &Scope<'_, 't>,
+    found: &mut Vec<Cause<'t>>,
+) -> Result<(), AllocError> {
+    let divisions = divisions_in(alloc, source, scope)?;
+    push_divisions(&divisions, found)
+}
+
+/// Appends what is warned of in what a node computes, by the variables that are always the same.
 fn push_by_fixed<'t>(
     alloc: Global,
     source: &str,
     scope: &Scope<'_, 't>,
     fixed: &AllFixed<'t>,
-    found: &mut Vec<Warning>,
+    found: &mut Vec<Cause<'t>>,
 ) -> Result<(), AllocError> {
-    push_clocks(alloc, fixed, &scope.node.outputs, found)?;
-    push_clocks(alloc, fixed, &scope.node.locals, found)?;
+    push_clocks(fixed, &scope.node.outputs, found)?;
+    push_clocks(fixed, &scope.node.locals, found)?;
     for equation in &scope.node.equations {
         push_expressions(alloc, source, scope, fixed, &equation.right, found)?;
     }
     Ok(())
 }
 
-/// Appends warnings of what a node computes, by what its names stand for.
-fn push_scope(
+/// Appends what is warned of in what a node computes, but for divisions.
+fn push_scope<'t>(
     alloc: Global,
     source: &str,
-    scope: &Scope<'_, '_>,
-    found: &mut Vec<Warning>,
+    scope: &Scope<'_, 't>,
+    found: &mut Vec<Cause<'t>>,
 ) -> Result<(), AllocError> {
-    push_divisions(alloc, source, scope, found)?;
     let fixed = fixed_in(alloc, scope)?;
     push_by_fixed(alloc, source, scope, &fixed, found)
 }
 
-/// Appends warnings of what a node computes.
-fn push_node(
+/// Appends what is warned of in a node, by the values of constants.
+fn push_node<'t>(
     alloc: Global,
     source: &str,
-    values: &Values<'_>,
-    node: &Node,
-    found: &mut Vec<Warning>,
+    values: &Values<'t>,
+    node: &'t Node,
+    found: &mut Vec<Cause<'t>>,
 ) -> Result<(), AllocError> {
     let scope = Scope::of(alloc, values, node)?;
+    push_guarded(alloc, source, &scope, found)?;
     push_scope(alloc, source, &scope, found)
 }
 
-/// Appends warnings of what nodes compute, by the values of constants.
-fn push_nodes(
+/// Appends what is warned of in the nodes of a source.
+fn push_nodes<'t>(
     alloc: Global,
     source: &str,
-    values: &Values<'_>,
-    nodes: &[Node],
-    found: &mut Vec<Warning>,
-) -> Result<(), AllocError> {
-    for node in nodes {
-        push_node(alloc, source, values, node, found)?;
-    }
-    Ok(())
-}
-
-/// Appends warnings of what a source computes.
-fn push_computed(
-    alloc: Global,
-    source: &str,
-    tree: &Tree,
-    found: &mut Vec<Warning>,
+    tree: &'t Tree,
+    found: &mut Vec<Cause<'t>>,
 ) -> Result<(), AllocError> {
     let values = values_by_name(alloc, tree)?;
-    push_nodes(alloc, source, &values, &tree.nodes, found)
-}
-
-/// Appends warnings of declarations that nothing uses.
-fn push_unused(
-    alloc: Global,
-    unused: &[Unused<'_>],
-    found: &mut Vec<Warning>,
-) -> Result<(), AllocError> {
-    for idle in unused {
-        found.push(of_unused(alloc, *idle)?)?;
+    for node in &tree.nodes {
+        push_node(alloc, source, &values, node, found)?;
     }
     Ok(())
 }
 
-/// What is warned of in a tree, in the order of the text.
-fn warnings_in(
+/// What is warned of in a source.
+fn causes_in<'t>(
     alloc: Global,
     source: &str,
-    tree: &Tree,
-    unused: &[Unused<'_>],
-) -> Result<Vec<Warning>, AllocError> {
+    tokens: &[Token<'_>],
+    tree: &'t Tree,
+    run: Option<&[&str]>,
+) -> Result<Vec<Cause<'t>>, AllocError> {
     let mut found = Vec::new(alloc);
-    push_unused(alloc, unused, &mut found)?;
-    push_computed(alloc, source, tree, &mut found)?;
-    found.sort_by_key(|warning| warning.span.start.byte)?;
+    for unused in &unused_in(alloc, tokens, tree, run)? {
+        found.push(Cause::Unused(*unused))?;
+    }
+    push_nodes(alloc, source, tree, &mut found)?;
     Ok(found)
 }
 
-/// What is warned of in the tree of these tokens.
+/// The warning of what is warned of.
+fn warning_of(alloc: Global, source: &str, cause: Cause<'_>) -> Result<Warning, AllocError> {
+    match cause {
+        Cause::Unused(unused) => of_unused(alloc, unused),
+        Cause::Division(division) => unguarded_division(alloc, source, division),
+        Cause::Comparison(comparison) => constant_comparison(alloc, source, comparison),
+        Cause::Clock(clock) => constant_clock(alloc, clock),
+    }
+}
+
+/// The warnings of a source, in the order of its text.
 fn warnings_by(
+    alloc: Global,
+    source: &str,
+    causes: &[Cause<'_>],
+) -> Result<Vec<Warning>, AllocError> {
+    let mut warnings = Vec::new(alloc);
+    for cause in causes {
+        warnings.push(warning_of(alloc, source, *cause)?)?;
+    }
+    warnings.sort_by_key(|warning| warning.span.start.byte)?;
+    Ok(warnings)
+}
+
+/// The warnings of a source that was read.
+fn warnings_in(
     alloc: Global,
     source: &str,
     tokens: &[Token<'_>],
     tree: &Tree,
     run: Option<&[&str]>,
 ) -> Result<Vec<Warning>, AllocError> {
-    let unused = unused_in(alloc, tokens, tree, run)?;
-    warnings_in(alloc, source, tree, &unused)
+    let causes = causes_in(alloc, source, tokens, tree, run)?;
+    warnings_by(alloc, source, &causes)
 }
 
 /// What is warned of in an accepted source, in the order of the text. `run` has the names of the nodes that instances run, where these
@@ -244,5 +264,5 @@ pub fn warnings_of(
 ) -> Result<Vec<Warning>, Refusal> {
     let tokens = lex(alloc, source)?;
     let tree = parse(alloc, &tokens)?;
-    Ok(warnings_by(alloc, source, &tokens, &tree, run)?)
+    Ok(warnings_in(alloc, source, &tokens, &tree, run)?)
 }

@@ -8,6 +8,7 @@ use Rattle.lus_order.specs.Orders.{OrdersVariables}
 use Rattle.lus_order.proofs.Nodes.{node_here}
 use Rattle.lus_turns.specs.Turned.{IsTurned}
 use Rattle.lus_code.proofs.MadeClasses.{more_turned}
+use Rattle.lus_code.proofs.Parted.{more_parts}
 use Rattle.lus_code.proofs.classes.classes_without_places.Goals as goal
 
 -- the node that the loop is at
@@ -48,8 +49,16 @@ loop-place-preserved c =
     let place = c.loop-place.place in
     let nodes = p.nodes.items in
     let node = c.node-item.result in
-    let class = c.in_ok-class.class in
+    let class = c.in_ok-made.made.0 in
+    let parts = c.in_ok-made.made.1 in
+    let was = c.loop-place.invariant in
     let within : place < length nodes = subst (λ l. place < length l) c.deref-node-items.ensures.value c.loop-place-test.true in
     let here : node ≡ item node nodes place = c.node-item.is ∙ ap (λ l. item node l place) c.deref-node-items.ensures.value in
-    let pushed : c.push.new.self.items ≡ c.loop-place.classes.items ++ class ∷ [] = search rules in
-    rw pushed (more_turned (program_seen p) place c.loop-place.classes.items class c.loop-place.invariant (subst (λ f. IsTurned (program_seen p) f class) (sym (node_here p place node within here)) c.in_ok-class.ensures))
+    let turned = subst (λ f. IsTurned (program_seen p) f class) (sym (node_here p place node within here)) c.in_ok-made.ensures.turned in
+    let classes_pushed : c.push.new.self.items ≡ c.loop-place.classes.items ++ class ∷ [] = search rules in
+    let parts_pushed : c.push-in-loop-place.new.self.items ≡ c.loop-place.parts.items ++ parts ∷ [] = search rules in
+    record {
+      turned = rw classes_pushed (more_turned (program_seen p) place c.loop-place.classes.items class was.turned turned);
+      parts = rw classes_pushed (rw parts_pushed (more_parts c.loop-place.classes.items c.loop-place.parts.items class parts was.many was.parts c.in_ok-made.ensures.parts));
+      many = search rules;
+    }

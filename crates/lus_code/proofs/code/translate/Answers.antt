@@ -7,7 +7,6 @@ use Rattle.lus_syntax.specs.Limits.{most_cells}
 use Rattle.lus_streams.proofs.Lists.{each_item}
 use Rattle.lus_cells.specs.Cells.{AreStateCells, HaveLeaves}
 use Rattle.lus_code.specs.Codes.{IsTranslated}
-use Rattle.lus_normal.proofs.Narrow.{normal_variables_few}
 use Rattle.lus_code.proofs.NormalForms.{kept_to, lefts_one}
 use Rattle.lus_code.proofs.MadeClasses.{as_many}
 use Rattle.lus_code.proofs.code.translate.Goals as goal
@@ -31,16 +30,11 @@ classes_of_nodes-requires-clause-small c =
     let counted = subst (λ z. AreStateCells (program_seen z) cells) given c.in_ok-cells.ensures.ok in
     let leaves = subst (λ z. HaveLeaves (program_seen z)) given c.in_ok-cells.ensures.leaves in
     let resolved = c.sound_of.ensures.checked.resolved in
-    let limited = c.sound_of.ensures.limited in
-    let long = length-map q.nodes.items node_of ∙ as_many (program_seen p) p.nodes.items q.nodes.items c.program.ensures.made ∙ sym (length-map p.nodes.items node_of) in
-    let nodes = limited.nodes in
     record {
       counts = cells;
       kept = kept_to p q c.program.ensures.normal cells resolved leaves counted;
       few = λ g. each_item (λ n. n ≤ most_cells) 0 cells (omega arith) counted.few g;
       lefts = lefts_one p q resolved c.program.ensures.made;
-      nodes = omega (arith, long, nodes);
-      variables = normal_variables_few (program_seen p) (program_seen q) limited c.sound_of.ensures.few c.program.ensures.normal;
     }
 
 pub invariant_of-result : goal.invariant_of-result
@@ -53,17 +47,22 @@ invariant_of-result c =
     let cells = c.in_ok-cells.cells.items in
     let counted = subst (λ z. AreStateCells (program_seen z) cells) given c.in_ok-cells.ensures.ok in
     let leaves = subst (λ z. HaveLeaves (program_seen z)) given c.in_ok-cells.ensures.leaves in
-    subst (λ z. IsTranslated (program_seen z) c.in_ok-classes.classes.items c.in_ok-cells.cells.items) (sym same) (record {
+    let made = c.in_ok-coded.ensures in
+    subst (λ z. IsTranslated (program_seen z) c.in_ok-coded.coded.classes.items c.in_ok-coded.coded.framed.items c.in_ok-coded.coded.plans.items cells) (sym same) (record {
       code = (
         program_seen q,
         record {
           new_parts = λ g. node_taken (program_seen p) (node_at (program_seen p) g);
           normal = c.program.ensures.normal;
-          belong = c.in_ok-classes.ensures.belong;
+          belong = made.belong;
         },
       );
-      size = c.in_ok-classes.ensures.size ∙ long;
-      ready = c.in_ok-classes.ensures.ready;
+      size = made.size ∙ long;
+      ready = made.ready;
+      located = made.framed;
+      frames = made.frames;
+      instants = made.instants;
+      planned = made.planned;
       counted = counted;
-      rows = c.in_ok-classes.ensures.long cells (kept_to p q c.program.ensures.normal cells c.sound_of.ensures.checked.resolved leaves counted);
+      rows = made.long cells (kept_to p q c.program.ensures.normal cells c.sound_of.ensures.checked.resolved leaves counted);
     })

@@ -11,5 +11,5 @@ returns-clause-drawn c =
       utf8 = c.in-Ok.ensures.utf8;
       journals = map journal_seen c.in-Ok.journals.items;
       read = c.in-Ok.ensures.read;
-      shown = subst (λ js. IsShown c.args.format (map journal_seen js) (string_bytes s)) c.deref.ensures.value shown;
+      shown = subst (λ js. IsShown c.args.format c.args.part (map journal_seen js) (string_bytes s)) c.deref.ensures.value shown;
     }) c.written.ensures.shown

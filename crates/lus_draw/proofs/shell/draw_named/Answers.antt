@@ -14,7 +14,7 @@ returns-clause-drawn g c =
     let short : length read.items < 18446744073709551615 = omega (arith, read.ok.0, read.ok.1, small) in
     IfOk-weaker c.drawing.result _ _ (λ s drawn. (
       drawn_of (ReadFails g.row.D-File.Denot g.D.File.Source.left g.D.File.Source.failures) (g.D.Folder.known c.args.folder.now) c.args.journal.now
-          (Some c.args.program.now) 18446744073709551615 read.items short c.in_ok-bytes.ensures.bytes (λ bs. Draws c.args.format bs (string_bytes s))
-          (subst (λ bs. Draws c.args.format bs (string_bytes s)) c.deref.ensures.value drawn),
+          (Some c.args.program.now) 18446744073709551615 read.items short c.in_ok-bytes.ensures.bytes (λ bs. Draws c.args.format c.args.part bs (string_bytes s))
+          (subst (λ bs. Draws c.args.format c.args.part bs (string_bytes s)) c.deref.ensures.value drawn),
       named (g.D.Folder.known c.args.folder.now) c.args.program.now (program_of c.in_ok-program.program) c.in_ok-program.ensures.accepted,
     )) c.drawing.ensures.drawn

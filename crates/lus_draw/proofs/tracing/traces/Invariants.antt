@@ -6,4 +6,4 @@ use Rattle.lus_traces.specs.Traces.{trace_seen}
 use Rattle.lus_draw.proofs.tracing.traces.Given as goal
 
 abbrev pub invariant-loop-journal : goal.invariant-loop-journal
-invariant-loop-journal l = map table_of (map trace_seen l.traces.items) ≡ map journal_table (map journal_seen (take l.journal-index l.journals))
+invariant-loop-journal l = map table_of (map trace_seen l.traces.items) ≡ map (journal_table l.part) (map journal_seen (take l.journal-index l.journals))

@@ -4,6 +4,7 @@ use Rattle.std.specs.Prelude.{slice_get}
 use Rattle.lus_program.specs.Programs.{Node, node_at}
 use Rattle.lus_classes.specs.States.{WithinDepth}
 use Rattle.lus_flat_classes.specs.declared.class.Class.{Class}
+use Rattle.lus_frames.specs.declared.class.Class.{Class as Framed}
 use Rattle.lus_flat_classes.specs.View.{classes_of}
 use Rattle.lus_code.specs.SimulationSpecs.LineageLaws.{StepsTo, EndsStreams}
 use Rattle.lus_code.specs.SimulationSpecs.Nesting.{depth_of}
@@ -12,6 +13,8 @@ use Rattle.lus_running.specs.declared.error.StepError.{StepError as RunningError
 use Rattle.lus_running.specs.declared.error.StepError.TheVariants as running
 use Rattle.lus_running.specs.Instances.{HasFormals, TakesStep, seen}
 use Rattle.lus_running.specs.Instances.{state_of as instance_state}
+use Rattle.lus_running.specs.Settings.{RunsClasses}
+use Rattle.lus_keeping.specs.Plans.{ArePlans}
 use Rattle.lus_eval.specs.Objects.{kept_by, state_of}
 use Rattle.lus_eval.proofs.Following.{nested, has_formals, presence_told, step_follows, fault_follows}
 use Rattle.lus_eval.proofs.KeptRows.{instance_shaped, shaped_in_code, source_checked, source_node}
@@ -22,7 +25,19 @@ use Rattle.lus_eval.proofs.stepping.step_instance.Goals as goal
 pub step-requires-clause-shaped : goal.step-requires-clause-shaped
 step-requires-clause-shaped c =
     let code = c.args.code.now in
-    instance_shaped code c.classes-classes.result.now c.classes-classes.ensures.same c.args.instance.now c.requires.even (c.requires.shaped)
+    instance_shaped code c.classes-classes.result.now c.framed-framed.result.now c.classes-classes.ensures.same c.framed-framed.ensures.same c.args.instance.now c.requires.even (c.requires.shaped)
+
+pub step-requires-clause-code : goal.step-requires-clause-code
+step-requires-clause-code c =
+    let told = c.framed-framed.ensures in
+    let plans = c.plans-plans.result.now in
+    subst (λ (l : List Class). RunsClasses l c.framed-framed.result.now plans) (sym c.classes-classes.ensures.same)
+    (record {
+      located = told.framed;
+      frames = told.frames;
+      instants = told.instants;
+      planned = subst (λ (fs : List Framed). ArePlans c.args.code.now.classes fs plans) (sym told.same) c.plans-plans.ensures.planned;
+    })
 
 pub step-requires-clause-depth : goal.step-requires-clause-depth
 step-requires-clause-depth c =
@@ -109,6 +124,6 @@ returns-clause-ok c =
     let seen = subst (λ (l : List Class). StepsTo p (classes_of l) (instance_state l (depth_of p) before) (instance_state l (depth_of p) after) before.node i outputs) c.classes-classes.ensures.same steps in
     record {
       node = c.step.ensures.node;
-      shaped = shaped_in_code code classes c.classes-classes.ensures.same c.step.new.self c.classes-classes.ensures.rows c.step.ensures.shaped;
+      shaped = shaped_in_code code classes c.framed-framed.result.now c.classes-classes.ensures.same c.framed-framed.ensures.same c.step.new.self c.classes-classes.ensures.rows c.step.ensures.shaped;
       steps = seen;
     }

@@ -7,8 +7,8 @@ use Rattle.lus_flat_classes.specs.Looks.{newest, short_memory}
 use Rattle.lus_keeping.proofs.InPlace.{cell_stays, cell_taken, cells_up_to, none_behind}
 use Rattle.lus_keeping.proofs.own.keep.Goals as goal
 
-pub loop-place-preserved-then-not-is_on : goal.loop-place-preserved-then-not-is_on
-loop-place-preserved-then-not-is_on g c =
+pub loop-place-preserved-then-not-is_kept : goal.loop-place-preserved-then-not-is_kept
+loop-place-preserved-then-not-is_kept g c =
     let held = cell_of g.T.Held.entry in
     let i = c.loop-place.place in
     let ms = map short_memory c.args.memories.now in
@@ -20,7 +20,7 @@ loop-place-preserved-then-not-is_on g c =
     let lv : i < length vs = rw (length-map c.args.cells.now held) (omega (arith, c.requires, lt)) in
     let em : short_memory m ≡ slice_index_or ms i (short_memory m) =
     sym (get_or-map short_memory c.args.memories.now i m (short_memory m) lt ∙ ap short_memory (sym c.index-memories-place.is)) in
-    let off : is_on_row (newest m.test) r ≡ false = sym c.is_on.ensures.newest ∙ c.if-not-is_on.true in
+    let off : is_on_row (newest m.test) r ≡ false = sym c.is_kept.ensures ∙ c.if-not-is_kept.true in
     rw add-one (c.loop-place.invariant ∙ cell_stays r ms vs i (short_memory m) lm lv em off)
 
 pub loop-place-preserved : goal.loop-place-preserved
@@ -37,7 +37,7 @@ loop-place-preserved g c =
     let lv : i < length vs = rw (length-map c.args.cells.now held) (omega (arith, c.requires, lt)) in
     let em : short_memory m ≡ slice_index_or ms i (short_memory m) =
     sym (get_or-map short_memory c.args.memories.now i m (short_memory m) lt ∙ ap short_memory (sym c.index-memories-place.is)) in
-    let on : is_on_row (newest m.test) r ≡ true = sym c.is_on.ensures.newest ∙ c.if-not-is_on.false in
+    let on : is_on_row (newest m.test) r ≡ true = sym c.is_kept.ensures ∙ c.if-not-is_kept.false in
     let here : held u ≡ unwrap_or (atom_in (short_memory m).operand r) nil = ap (λ e. unwrap_or e nil) c.in_ok-value.ensures in
     rw add-one
     (map-set held c.loop-place.cells i u

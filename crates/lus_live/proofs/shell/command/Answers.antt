@@ -1,10 +1,10 @@
 -- A fault is told behind what was said before.
 use Rattle.std.proofs.Common.{Err}
-use Rattle.lus_live.proofs.EndLemmas.{told_alone}
+use Rattle.lus_cli.proofs.TellingLemmas.{told_alone}
 use Rattle.lus_live.proofs.shell.command.Goals as goal
 
-pub returns-in-Err : goal.returns-in-Err
-returns-in-Err g c = record {
+pub returns-in-Err-clause-ends : goal.returns-in-Err-clause-ends
+returns-in-Err-clause-ends g c = record {
   outcome = Err c.in-Err.fault;
   ends = c.in-Err.ensures.ends;
   told = told_alone c.tell-in-Err.result (g.F.Sink.written c.args.faults.now) (g.F.Sink.written c.perform.new.faults) (g.F.Sink.written c.tell-in-Err.new.faults)

@@ -10,7 +10,7 @@ use Rattle.lus_live_instance.proofs.LiveLaws.{all_lived, named_within, not_lived
 use Rattle.lus_live_instance.proofs.live.run_live.Goals as goal
 
 pub new_instance-requires : goal.new_instance-requires
-new_instance-requires g c = named_within (program_of (arc_value c.args.program.now)) c.args.name.now c.args.node.0 c.requires
+new_instance-requires g c = named_within (program_of (arc_value c.args.program.now)) c.args.who.node.now c.args.node.0 c.requires
 
 pub returns-in_err-instance-clause-begun : goal.returns-in_err-instance-clause-begun
 returns-in_err-instance-clause-begun g c = on_err c.from_residual.result _ (not_lived _ _ _ _ _)

@@ -6,12 +6,12 @@ use Rattle.lus_cli.specs.Changes.{change}
 use Rattle.lus_cli.specs.CodeSpecs.Codes.{program_of}
 use Rattle.lus_cli.specs.MachineSpecs.Formals.{node_named}
 use Rattle.lus_hosting.proofs.LiveProofs.LiveLaws.{named_within}
-use Rattle.lus_many.specs.Ends.{IsOfFile}
+use Rattle.lus_cli.specs.Programs.{IsOfFile}
 use Rattle.lus_many.proofs.EndLemmas.{hosted}
 use Rattle.lus_many.proofs.shell.host_on.Goals as goal
 
-pub returns-in_default : goal.returns-in_default
-returns-in_default g c =
+pub returns-in_default-clause-ends : goal.returns-in_default-clause-ends
+returns-in_default-clause-ends g c =
     let none : node_named (program_of c.in_ok-program.program) c.args.task.node.now ≡ None = sym c.node.ensures ∙ ap (option_map _) c.in_default.is in
     ((refl, (program_of c.in_ok-program.program, c.in_ok-program.ensures.accepted, none)), refl, (refl, refl))
 
@@ -23,8 +23,8 @@ host_in-requires g c =
     named_within (program_of (arc_value c.in-Ok.program)) c.args.task.node.now c.in-Some.node.0
     (subst (λ p. node_named p c.args.task.node.now ≡ Some c.in-Some.node.0) same named)
 
-pub returns : goal.returns
-returns g c =
+pub returns-clause-ends : goal.returns-clause-ends
+returns-clause-ends g c =
     let same : program_of c.in_ok-program.program ≡ program_of (arc_value c.in-Ok.program) = ap program_of (sym c.in-Ok.ensures.ok) in
     let named : node_named (program_of c.in_ok-program.program) c.args.task.node.now ≡ Some c.in-Some.node.0 =
     sym c.node.ensures ∙ ap (option_map _) c.in-Some.is in

@@ -16,9 +16,7 @@ room_for-next-requires c =
     let end = c.loop-call.invariant.end in
     let cells = ap (λ e. e.cells) end in
     let firsts = ap (λ e. e.firsts) end in
-    let variables = ap (λ e. e.variables) end in
     record {
       cells = omega (arith, within.cells, cells);
       firsts = omega (arith, within.firsts, firsts);
-      variables = omega (arith, within.variables, variables);
     }

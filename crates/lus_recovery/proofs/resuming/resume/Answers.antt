@@ -14,7 +14,7 @@ pub returns-clause-all : goal.returns-clause-all
 returns-clause-all g c =
     IfOk-weaker c.write_on.result _ _
     (λ score written. resumed_all _ _ _ _ _ _ _ _ c.in_ok-write_start.ensures.whole _ _ _ score
-    (subst (λ k. HasWritten (g.C.Calls.reads c.args.calls.now) c.args.names.now k (g.S.Source.left c.args.input.now) (g.S.Source.left c.write_on.new.input)
+    (subst (λ k. HasWritten (g.C.Calls.reads c.args.calls.now) c.args.names.now c.args.who.caller.now k (g.S.Source.left c.args.input.now) (g.S.Source.left c.write_on.new.input)
     (g.R.Reacts.history c.args.reactor.now) (g.R.Reacts.history c.write_on.new.reactor) (g.O.Sink.written c.write_start.new.output)
     (g.O.Sink.written c.write_on.new.output) score) c.entries_at-entries.ensures written))
     c.write_on.ensures.all
@@ -23,7 +23,7 @@ pub returns-clause-begun : goal.returns-clause-begun
 returns-clause-begun g c =
     on_err_weaker c.write_on.result
     (λ written. resumed_some _ _ _ _ _ _ _ _ c.in_ok-write_start.ensures.whole _ _
-    (subst (λ k. HasWrittenSome (g.C.Calls.reads c.args.calls.now) c.args.names.now k (g.S.Source.left c.args.input.now)
+    (subst (λ k. HasWrittenSome (g.C.Calls.reads c.args.calls.now) c.args.names.now c.args.who.caller.now k (g.S.Source.left c.args.input.now)
     (g.R.Reacts.history c.args.reactor.now) (g.R.Reacts.history c.write_on.new.reactor) (g.O.Sink.written c.write_start.new.output)
     (g.O.Sink.written c.write_on.new.output)) c.entries_at-entries.ensures written))
     c.write_on.ensures.begun

@@ -26,7 +26,7 @@ loop-place-preserved c =
     let q = c.index-parts-place.result in
     let next : i + 1 ≡ suc i = omega arith in
     let rest : drop i qs ≡ q ∷ drop (suc i) qs = drop-cons qs i q c.loop-place-test.true ∙ (λ j. sym c.index-parts-place.is j ∷ drop (suc i) qs) in
-    let behind : map entry_of c.kept_from-earlier.result.now ≡ drop i kept = ap (map entry_of) c.kept_from-earlier.ensures ∙ dropped_map entry_of i c.args.kept.now in
+    let behind : map entry_of c.entries_from-earlier.result.now ≡ drop i kept = ap (map entry_of) c.entries_from-earlier.ensures ∙ dropped_map entry_of i c.args.kept.now in
     let own : has_value p b row rows q (drop i kept) ≡ true = ap (has_value p b row rows q) (sym behind) ∙ sym c.in_ok-whole.ensures ∙ c.if-not-whole.false in
     let one_more : drop (i + 1) kept ≡ drop 1 (drop i kept) = dropped i 1 kept in
     (λ j. all_have p b row rows (drop (next j) qs) (one_more j))
@@ -45,7 +45,7 @@ returns-then-not-whole c =
     let i = c.loop-place.place in
     let q = c.index-parts-place.result in
     let rest : drop i qs ≡ q ∷ drop (suc i) qs = drop-cons qs i q c.loop-place-test.true ∙ (λ j. sym c.index-parts-place.is j ∷ drop (suc i) qs) in
-    let behind : map entry_of c.kept_from-earlier.result.now ≡ drop i kept = ap (map entry_of) c.kept_from-earlier.ensures ∙ dropped_map entry_of i c.args.kept.now in
+    let behind : map entry_of c.entries_from-earlier.result.now ≡ drop i kept = ap (map entry_of) c.entries_from-earlier.ensures ∙ dropped_map entry_of i c.args.kept.now in
     let missing : has_value p b row rows q (drop i kept) ≡ false = ap (has_value p b row rows q) (sym behind) ∙ sym c.in_ok-whole.ensures ∙ c.if-not-whole.true in
     let nested : AreNested p (map part_of (q ∷ drop (suc i) qs)) = subst (λ l. AreNested p (map part_of l)) rest (behind_nested p b row rows i qs c.requires) in
     let within : i < length (map part_of qs) = omega (arith, length-map qs part_of, c.loop-place-test.true) in (

@@ -11,6 +11,9 @@ use Rattle.lus_eval.proofs.Following.{nested}
 use Rattle.lus_eval.proofs.KeptRows.{source_checked, shaped_in_code}
 use Rattle.lus_eval.proofs.object.Object.fresh.Goals as goal
 
+pub fresh-requires-clause-code : goal.fresh-requires-clause-code
+fresh-requires-clause-code c = rw c.classes.ensures.same c.framed.ensures.frames
+
 pub returns : goal.returns
 returns c =
     let code = c.args.code.now in
@@ -25,6 +28,6 @@ returns c =
     let lived = subst (λ (s : State). HasLived p (classes_of classes) s f []) (sym (c.in_ok-instance.ensures.start depth within)) begun in
     record {
       node = c.in_ok-instance.ensures.node;
-      shaped = shaped_in_code code classes c.classes.ensures.same c.in_ok-instance.instance c.classes.ensures.rows c.in_ok-instance.ensures.shaped;
+      shaped = shaped_in_code code classes c.framed.result.now c.classes.ensures.same c.framed.ensures.same c.in_ok-instance.instance c.classes.ensures.rows c.in_ok-instance.ensures.shaped;
       lived = subst (λ (l : List Class). HasLived p (classes_of l) (state_of l depth (seen c.in_ok-instance.instance)) f []) c.classes.ensures.same lived;
     }

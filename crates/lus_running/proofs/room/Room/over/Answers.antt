@@ -15,5 +15,5 @@ returns g c =
     if_ok c.fresh.result (λ r n. record {
       cells = sym (length-map r.next.cells.items (cell_of g.U.Held.entry)) ∙ ap length n.next.cells ∙ length-replicate c.len.result nil ∙ c.len.ensures ∙ room.next.cells.ok.0;
       firsts = ap length n.next.firsts ∙ length-replicate c.len-2.result true ∙ c.len-2.ensures ∙ room.next.firsts.ok.0;
-      variables = n.variables ∙ c.len-3.ensures ∙ room.variables.ok.0;
+      row = n.row ∙ c.len-3.ensures ∙ room.row.ok.0;
     }) c.fresh.ensures

@@ -9,5 +9,5 @@ returns g c =
       firsts = kept.firsts;
       next_cells = room.next.cells;
       next_firsts = room.next.firsts;
-      variables = room.variables;
+      row = room.row;
     }

@@ -16,11 +16,11 @@ returns-then-is_long g c =
             firsts = kept.firsts;
             next_cells = length-map o.room.next.cells.items held ∙ room.next.cells;
             next_firsts = room.next.firsts;
-            variables = room.variables;
+            row = room.row;
           },
       λ long. c.is_long-then-is_long.ensures.1 (record {
         next = record { cells = sym (length-map o.room.next.cells.items held) ∙ long.next_cells; firsts = long.next_firsts };
-        variables = long.variables;
+        row = long.row;
       }),
     )
 

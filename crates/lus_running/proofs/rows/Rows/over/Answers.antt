@@ -9,7 +9,7 @@ returns g c =
     let large = c.in_ok-room.ensures in
     let next = c.args.self.now.room.next.cells.items in
     λ n. record {
-      same = record { node = refl; cells = alike.cells; firsts = alike.firsts; variables = large.variables };
+      same = record { node = refl; cells = alike.cells; firsts = alike.firsts; row = large.row };
       next_cells = length-map c.in_ok-room.room.next.cells.items (cell_of g.U.Held.entry) ∙ large.cells ∙ sym (length-map next (cell_of g.T.Held.entry));
       next_firsts = large.firsts;
     }

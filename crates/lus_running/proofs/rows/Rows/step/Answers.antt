@@ -2,17 +2,19 @@ use Rattle.std.proofs.Common.{◌≡◌, ◌∙◌, suc, sym, ap, subst, map, le
 use Rattle.std.specs.Prelude.{OnErr, OnOk}
 use Rattle.std.proofs.lemmas.List.{length-map}
 use Rattle.lus_classes.specs.Steps.{step}
+use Rattle.lus_flat_classes.specs.Instants.{class_state, instant_in}
 use Rattle.lus_flat_classes.specs.Places.{state_in}
 use Rattle.lus_flat_classes.specs.View.{classes_of}
+use Rattle.lus_flat_classes.specs.Looks.{short_of}
 use Rattle.lus_instructions.specs.Followed.{cell_of}
+use Rattle.lus_instructions.specs.Played.{GivenOnClocks}
 use Rattle.lus_values.specs.Values.{Row}
 use Rattle.lus_values.specs.View.{entry_of}
 use Rattle.lus_running.specs.Answering.{Reaches}
 use Rattle.lus_running.specs.Instances.{IsLong, KeepsSame, LeavesBehind, MakesStep, rows_seen}
-use Rattle.lus_running.specs.Instants.{class_state, instant_in}
 use Rattle.lus_running.specs.Keeping.{cells_of}
-use Rattle.lus_running.specs.OnClocks.{PresentOnClock}
 use Rattle.lus_running.specs.declared.error.Failure.{Failure}
+use Rattle.lus_running.proofs.GivenRows.{given_short, pass_given}
 use Rattle.lus_running.proofs.InstanceSteps.{fails_step, reaches_step}
 use Rattle.lus_running.proofs.ShortSteps.{fits_on_clocks, step_same}
 use Rattle.lus_running.proofs.TakenRows.{taken}
@@ -28,17 +30,19 @@ answer-answer-requires-clause-fits g c =
       firsts = ap length c.deref-2.ensures.value ∙ long.firsts;
       next_cells = sym (length-map o.room.next.cells.items held) ∙ long.next_cells;
       next_firsts = long.next_firsts;
-      variables = long.variables;
+      row = long.row;
     }
 
 pub answer-answer-requires-clause-inputs : goal.answer-answer-requires-clause-inputs
 answer-answer-requires-clause-inputs g c =
     sym (length-map c.items.result.now entry_of) ∙ ap length c.items.ensures ∙ c.requires.formals.0
 
-pub answer-answer-requires-clause-present : goal.answer-answer-requires-clause-present
-answer-answer-requires-clause-present g c =
+pub answer-answer-requires-clause-given : goal.answer-answer-requires-clause-given
+answer-answer-requires-clause-given g c =
     let k = c.args.class.now in
-    subst (PresentOnClock k.tests.items) (sym c.items.ensures) (fits_on_clocks k c.args.inputs.now c.requires.formals.0 c.requires.presence)
+    let i = c.args.inputs.now in
+    let on : GivenOnClocks (short_of k) i = given_short k i (fits_on_clocks k i c.requires.formals.0 c.requires.presence) in
+    record { on = subst (GivenOnClocks (short_of k)) (sym c.items.ensures) on; passing = pass_given c.args.classes.now c.requires.passing }
 
 pub returns-clause-err : goal.returns-clause-err
 returns-clause-err g c =
@@ -48,7 +52,7 @@ returns-clause-err g c =
     taken c.answer-answer.result c.is_ok.result _ c.take_over.new.self c.is_ok.ensures.value c.take_over.ensures.made c.take_over.ensures.not
     (λ u r. OnErr u (KeepsSame old (rows_seen entry c.args.node r)))
     (λ a is. tt)
-    (λ e is. record { node = refl; cells = refl; firsts = refl; variables = fits.variables ∙ sym c.requires.long.variables })
+    (λ e is. record { node = refl; cells = refl; firsts = refl; row = fits.row ∙ sym c.requires.long.row })
 
 pub returns-clause-behind : goal.returns-clause-behind
 returns-clause-behind g c =
@@ -66,9 +70,9 @@ returns-clause-long g c =
     let fits = c.answer-answer.ensures.fits in
     let cells = length-map c.answer-answer.new.self.next.cells.items (cell_of entry) ∙ fits.next_cells in
     taken c.answer-answer.result c.is_ok.result _ c.take_over.new.self c.is_ok.ensures.value c.take_over.ensures.made c.take_over.ensures.not
-    (λ u r. IsLong c.args.class.now.extent (rows_seen entry c.args.node r))
-    (λ a is. record { cells = cells; firsts = fits.next_firsts; next_cells = long.cells; next_firsts = long.firsts; variables = fits.variables })
-    (λ e is. record { cells = long.cells; firsts = long.firsts; next_cells = cells; next_firsts = fits.next_firsts; variables = fits.variables })
+    (λ u r. IsLong c.args.class.now.extent c.args.code.now.row (rows_seen entry c.args.node r))
+    (λ a is. record { cells = cells; firsts = fits.next_firsts; next_cells = long.cells; next_firsts = long.firsts; row = fits.row })
+    (λ e is. record { cells = long.cells; firsts = long.firsts; next_cells = cells; next_firsts = fits.next_firsts; row = fits.row })
 
 pub returns-clause-step : goal.returns-clause-step
 returns-clause-step g c =
@@ -85,7 +89,7 @@ returns-clause-step g c =
     let next = c.answer-answer.new.self.next in
     let left = class_state classes d k (cells_of entry next) next.firsts.items in
     let narrow : length i ≡ k.inputs = c.requires.formals.0 in
-    let looks = step_same classes c.requires.class.can.all c.requires.class.passes.all (state_in classes (suc d) node vs bs) node k i c.requires.found narrow (fits_on_clocks k i narrow c.requires.presence) in
+    let looks = step_same classes c.requires.class.can.all c.requires.passing (state_in classes (suc d) node vs bs) node k i c.requires.found narrow (fits_on_clocks k i narrow c.requires.presence) in
     let told = subst (λ (r : Row). Reaches k count c.answer-answer.result (instant_in classes d k vs bs r) left) c.items.ensures c.answer-answer.ensures.answers in
     let before : (map (cell_of entry) c.deref.result.now ≡ cells_of entry o.kept) × (bs ≡ o.kept.firsts.items) = (ap (map (cell_of entry)) c.deref.ensures.value, c.deref-2.ensures.value) in
     let from = step (classes_of classes) (state_in classes (suc d) node vs bs) node i in

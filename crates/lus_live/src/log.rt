@@ -1,0 +1,19 @@
+//! The file of a journal that a run goes on in.
+
+ghost use Rattle.std.specs.Prelude.{◌≡◌, OnOk};
+
+use lus_devices::{Failure, Sink};
+
+/// A file of a journal, once it is opened: what it takes comes behind what the file has.
+pub trait Log: Sink {
+    ghost use Rattle.std.specs.Prelude.{ℕ, List};
+
+    // It was this, and was opened by this name.
+    ghost opens: { Self → List ℕ → Self → Type 0 };
+
+    /// Opens the file of this name, which is there.
+    fn open(&mut self, name: &str) -> Result<(), Failure>
+        ensures opened { OnOk result (opens self.old name.now self.new) }
+        ensures written { Self.written self.new ≡ Self.written self.old }
+        ensures failures { Self.failures self.new ≡ Self.failures self.old };
+}

@@ -1,0 +1,4 @@
+pub mod Words
+pub mod Windows
+pub mod Finding
+pub mod Reasons

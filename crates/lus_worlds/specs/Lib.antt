@@ -1,0 +1,7 @@
+pub mod Moments
+pub mod Following
+pub mod Fitting
+pub mod Judging
+pub mod Finding
+pub mod Beginning
+pub mod Worlds

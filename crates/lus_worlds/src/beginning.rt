@@ -1,0 +1,101 @@
+//! What is kept before the first instant.
+
+ghost use Rattle.std.specs.Prelude.{◌≡◌, [], IfOk, IsTrue, MatchOption, map};
+ghost use Rattle.lus_program.specs.View.{expression_of, program_seen};
+ghost use Rattle.lus_streams.specs.Equations.{sites_in};
+ghost use Rattle.lus_parts.specs.Parts.{part_of};
+ghost use Rattle.lus_reference.specs.Given.{callee as callee_in};
+ghost use Rattle.lus_worlds.specs.Beginning.{Begins};
+ghost use Rattle.lus_worlds.specs.Moments.{EachKeeps, KeepsBehind};
+
+use crate::moment::{Moment, Verdict};
+use lus_parts::{Part, parts_of};
+use lus_program::{Expr, Form, Program};
+use lus_values::{Memory, Row};
+use std::alloc::Global;
+
+/// What is kept of a node before its first instant, if the program has it and its calls are no deeper than this.
+#[cycle(start)]
+pub fn start(
+    alloc: Global,
+    program: &Program,
+    depth: usize,
+    number: u32,
+) -> Result<Option<Moment>, Memory>
+    ensures { IfOk result (λ o. MatchOption o (Unit {0}) (λ m. KeepsBehind (program_seen program.now) m number [])) }
+{
+    if depth == 0 {
+        return Ok(None);
+    }
+    match program.nodes.get(number as usize) {
+        Some(node) => {
+            let parts = parts_of(alloc, program, node)?;
+            match start_calls(alloc, program, depth - 1, &parts)? {
+                Some(called) => Ok(Some(Moment {
+                    node: number,
+                    present: false,
+                    row: Row::new(Vec::new(alloc)),
+                    kept: Row::new(Vec::new(alloc)),
+                    complete: false,
+                    verdict: Verdict::Lacking,
+                    called,
+                })),
+                None => Ok(None),
+            }
+        }
+        None => Ok(None),
+    }
+}
+
+/// What is kept before the first instant of the nodes that these parts call.
+#[cycle(start)]
+fn start_calls(
+    alloc: Global,
+    program: &Program,
+    depth: usize,
+    parts: &[Part<'_>],
+) -> Result<Option<Vec<Moment>>, Memory>
+    ensures { IfOk result (λ o. MatchOption o (Unit {0}) (λ ms. let p = program_seen program.now in EachKeeps p ms.items (sites_in p (map part_of parts.now)) [])) }
+{
+    let mut called = Vec::new(alloc);
+    for part in parts {
+        let begun = start_call(alloc, program, depth, part, &mut called)?;
+        if !begun {
+            return Ok(None);
+        }
+    }
+    Ok(Some(called))
+}
+
+/// Appends what is kept before the first instant of the node that a part calls, if it is a call.
+#[cycle(start)]
+fn start_call(
+    alloc: Global,
+    program: &Program,
+    depth: usize,
+    part: &Part<'_>,
+    called: &mut Vec<Moment>,
+) -> Result<bool, Memory>
+    ensures { IfOk result (λ b. IsTrue b → Begins (program_seen program.now) part.now called.old.items called.new.items) }
+{
+    match callee(part.expr) {
+        Some(other) => match start(alloc, program, depth, other)? {
+            Some(moment) => {
+                called.push(moment)?;
+                Ok(true)
+            }
+            None => Ok(false),
+        },
+        None => Ok(true),
+    }
+}
+
+/// The node that an expression calls, if it is a call.
+fn callee(expr: &Expr) -> Option<u32>
+    ensures { result ≡ callee_in (expression_of expr.now) }
+{
+    match &expr.form {
+        Form::Call(node, _) => Some(*node),
+        _ => None,
+    }
+}

@@ -1,0 +1,207 @@
+//! What is said of an instant: whether something is at fault in it, or an input is missing.
+
+ghost use Rattle.std.specs.Prelude.{◌≡◌, ◌∷◌, IfOk, IsTrue, MatchOption, map};
+ghost use Rattle.std.specs.Option.{option_map};
+ghost use Rattle.lus_program.specs.View.{program_seen};
+ghost use Rattle.lus_values.specs.View.{entry_of, value_of};
+ghost use Rattle.lus_parts.specs.Nested.{AreNested};
+ghost use Rattle.lus_parts.specs.Parts.{part_of};
+ghost use Rattle.lus_reference.specs.Causes.{operation_in};
+ghost use Rattle.lus_worlds.specs.Judging.{EachSound, IsFault, IsFaultBelow, IsFaultHere, IsVerdict, NoFaultHere};
+ghost use Rattle.lus_worlds.specs.Moments.{cause_in, row_in};
+
+use crate::moment::{Fault, Moment, Verdict};
+use lus_parts::Part;
+use lus_program::Program;
+use lus_reference::{Operation, cause_in, fault_in};
+use lus_values::{Memory, Row, Value, copy};
+use std::alloc::Global;
+
+/// Copies of values.
+fn copy_all(alloc: Global, values: &[Value]) -> Result<Vec<Value>, Memory>
+    ensures { IfOk result (λ vs. map value_of vs.items ≡ map value_of values.now) }
+{
+    let mut copies = Vec::new(alloc);
+    for value in values {
+        let value_copy = copy(alloc, value)?;
+        copies.push(value_copy)?;
+    }
+    Ok(copies)
+}
+
+/// A copy of an operation, if there is one.
+fn copy_cause(alloc: Global, cause: &Option<Operation>) -> Result<Option<Operation>, Memory>
+    ensures { IfOk result (λ o. option_map operation_in o ≡ option_map operation_in cause.now) }
+{
+    match cause {
+        Some(operation) => Ok(Some(Operation {
+            operator: operation.operator,
+            operands: copy_all(alloc, &operation.operands)?,
+        })),
+        None => Ok(None),
+    }
+}
+
+/// A fault in a called node, as one of the node that calls it by this number.
+fn fault_below(alloc: Global, number: u32, fault: &Fault) -> Result<Fault, Memory>
+    ensures way { IfOk result (λ t. t.way.items ≡ number ∷ fault.now.way.items) }
+    ensures place { IfOk result (λ t. t.place ≡ fault.now.place) }
+    ensures cause { IfOk result (λ t. cause_in t ≡ cause_in fault.now) }
+{
+    let mut way = Vec::new(alloc);
+    way.push(number)?;
+    way.extend_from_slice(&fault.way)?;
+    let cause = copy_cause(alloc, &fault.cause)?;
+    Ok(Fault {
+        way,
+        place: fault.place,
+        cause,
+    })
+}
+
+/// The first cause among the parts of a node, of which one is at fault, if there is one.
+fn cause_here(
+    alloc: Global,
+    program: &Program,
+    present: bool,
+    row: &[Option<Value>],
+    rows: &[Row],
+    parts: &[Part<'_>],
+    kept: &[Option<Value>],
+    called: &[Moment],
+) -> Result<Option<Fault>, Memory>
+    requires rows { rows.now ≡ map row_in called.now }
+    requires nested { AreNested (program_seen program.now) (map part_of parts.now) }
+    ensures { IfOk result (λ o. MatchOption o (Unit {0}) (IsFaultHere (program_seen program.now) present (map entry_of row.now) parts.now (map entry_of kept.now) called.now)) }
+{
+    match cause_in(alloc, program, present, row, rows, parts, kept)? {
+        Some(cause) => Ok(Some(Fault {
+            way: Vec::new(alloc),
+            place: parts[cause.place].expr.place,
+            cause: Some(cause.operation),
+        })),
+        None => Ok(None),
+    }
+}
+
+/// The first part of a node at fault, if one is.
+fn fault_here(
+    alloc: Global,
+    program: &Program,
+    present: bool,
+    row: &[Option<Value>],
+    rows: &[Row],
+    parts: &[Part<'_>],
+    kept: &[Option<Value>],
+    called: &[Moment],
+) -> Result<Option<Fault>, Memory>
+    requires rows { rows.now ≡ map row_in called.now }
+    requires nested { AreNested (program_seen program.now) (map part_of parts.now) }
+    ensures { let p = program_seen program.now in
+        let now = map entry_of row.now in
+        IfOk result (λ o. MatchOption o (NoFaultHere p present now parts.now (map entry_of kept.now) called.now) (IsFaultHere p present now parts.now (map entry_of kept.now) called.now)) }
+{
+    match fault_in(alloc, program, present, row, rows, parts, kept)? {
+        Some(place) => Ok(Some(Fault {
+            way: Vec::new(alloc),
+            place: parts[place].expr.place,
+            cause: None,
+        })),
+        None => Ok(None),
+    }
+}
+
+/// Whether a fault has its cause, or none is wanted.
+fn is_wanted(fault: &Fault, is_cause: bool) -> bool {
+    fault.cause.is_some() || !is_cause
+}
+
+/// The fault of the first called node that has one, or that has one with its cause, if that is wanted.
+fn fault_among(alloc: Global, called: &[Moment], is_cause: bool) -> Result<Option<Fault>, Memory>
+    ensures { IfOk result (λ o. MatchOption o (Unit {0}) (IsFaultBelow called.now)) }
+{
+    let mut number = 0;
+    for moment in called {
+        if let Verdict::AtFault(fault) = &moment.verdict {
+            if is_wanted(fault, is_cause) {
+                let found = fault_below(alloc, number, fault)?;
+                return Ok(Some(found));
+            }
+        }
+        match number.checked_add(1) {
+            Some(next) => number = next,
+            None => return Err(Memory),
+        }
+    }
+    Ok(None)
+}
+
+/// Whether nothing is at fault or missing in these instants.
+fn all_sound(called: &[Moment]) -> bool
+    ensures { IsTrue result → EachSound called.now }
+{
+    for moment in called {
+        if !matches!(moment.verdict, Verdict::Sound) {
+            return false;
+        }
+    }
+    true
+}
+
+/// A cause of a part's fault, here or in a called node, or this fault, where none is found.
+fn cause_of(
+    alloc: Global,
+    program: &Program,
+    present: bool,
+    row: &[Option<Value>],
+    rows: &[Row],
+    parts: &[Part<'_>],
+    kept: &[Option<Value>],
+    called: &[Moment],
+    fault: Fault,
+) -> Result<Fault, Memory>
+    requires rows { rows.now ≡ map row_in called.now }
+    requires nested { AreNested (program_seen program.now) (map part_of parts.now) }
+    requires fault { IsFaultHere (program_seen program.now) present (map entry_of row.now) parts.now (map entry_of kept.now) called.now fault }
+    ensures { IfOk result (IsFault (program_seen program.now) present (map entry_of row.now) parts.now (map entry_of kept.now) called.now) }
+{
+    if let Some(cause) = cause_here(alloc, program, present, row, rows, parts, kept, called)? {
+        return Ok(cause);
+    }
+    match fault_among(alloc, called, true)? {
+        Some(cause) => Ok(cause),
+        None => Ok(fault),
+    }
+}
+
+/// What is said of an instant with these instants of called nodes: a part at fault, here or in them, a cause before others.
+pub fn judge(
+    alloc: Global,
+    program: &Program,
+    present: bool,
+    row: &[Option<Value>],
+    rows: &[Row],
+    parts: &[Part<'_>],
+    kept: &[Option<Value>],
+    called: &[Moment],
+    complete: bool,
+) -> Result<Verdict, Memory>
+    requires rows { rows.now ≡ map row_in called.now }
+    requires nested { AreNested (program_seen program.now) (map part_of parts.now) }
+    ensures { IfOk result (IsVerdict (program_seen program.now) present (map entry_of row.now) parts.now (map entry_of kept.now) called.now complete) }
+{
+    if let Some(fault) = fault_here(alloc, program, present, row, rows, parts, kept, called)? {
+        let cause = cause_of(
+            alloc, program, present, row, rows, parts, kept, called, fault,
+        )?;
+        return Ok(Verdict::AtFault(cause));
+    }
+    if let Some(fault) = fault_among(alloc, called, false)? {
+        return Ok(Verdict::AtFault(fault));
+    }
+    if complete && all_sound(called) {
+        Ok(Verdict::Sound)
+    } else {
+        Ok(Verdict::Lacking)
+    }
+}

@@ -1,0 +1,62 @@
+//! Whether what was found for a node is what its equations give at an instant.
+
+ghost use Rattle.std.specs.Prelude.{◌≡◌, IfOk, MatchOption, map};
+ghost use Rattle.lus_program.specs.Programs.{node_at};
+ghost use Rattle.lus_program.specs.View.{node_of, program_seen};
+ghost use Rattle.lus_worlds.specs.Moments.{EachFollows, Follows, moments_in, node_in};
+
+use crate::fitting::all_fit;
+use crate::following::{all_follow, all_given};
+use crate::judging::judge;
+use crate::moment::{Moment, rows_of};
+use lus_parts::parts_of;
+use lus_program::{Node, Program};
+use lus_reference::renew;
+use lus_values::{Memory, Row, Value};
+use std::alloc::Global;
+
+/// An instant of a node with these entries and these instants of the nodes that it calls, if it is what the equations give behind what
+/// is kept: an instant of each call follows behind what is kept of it.
+pub fn settle(
+    alloc: Global,
+    program: &Program,
+    number: u32,
+    node: &Node,
+    present: bool,
+    row: Vec<Option<Value>>,
+    called: Vec<Moment>,
+    old: &Moment,
+) -> Result<Option<Moment>, Memory>
+    requires node { node_of node.now ≡ node_at (program_seen program.now) number }
+    requires called { EachFollows (program_seen program.now) (moments_in old.now) called.items }
+    ensures { IfOk result (λ o. MatchOption o (Unit {0}) (λ m. (node_in m ≡ number) × Follows (program_seen program.now) old.now m)) }
+{
+    let parts = parts_of(alloc, program, node)?;
+    let rows = rows_of(alloc, &called)?;
+    let kept = old.kept.items();
+    let follows = all_follow(alloc, program, present, &row, node, kept, &rows)?;
+    let fits = all_fit(alloc, program, present, &row, &rows, &parts, kept, &called)?;
+    if row.len() != node.variables.len() {
+        return Ok(None);
+    }
+    if !follows {
+        return Ok(None);
+    }
+    if !fits {
+        return Ok(None);
+    }
+    let complete = all_given(alloc, present, &row, node)?;
+    let verdict = judge(
+        alloc, program, present, &row, &rows, &parts, kept, &called, complete,
+    )?;
+    let next = renew(alloc, program, present, &row, &rows, &parts, kept)?;
+    Ok(Some(Moment {
+        node: number,
+        present,
+        row: Row::new(row),
+        kept: Row::new(next),
+        complete,
+        verdict,
+        called,
+    }))
+}
