@@ -8,7 +8,7 @@ use Rattle.lus_types.proofs.ProgramsMeant.{meant_programs_are_sound}
 use Rattle.lus_resolved_streams.proofs.NeedsResolved.{resolved_needs_are_variables}
 use Rattle.lus_order.specs.Orders.{IsNarrow, NeedsVariables}
 use Rattle.lus_order.proofs.Narrow.{few_are_narrow}
-use Rattle.lus_live_instance.specs.MachineSpecs.Acceptance.{IsAccepted}
+use Rattle.lus_cli.specs.MachineSpecs.Acceptance.{IsAccepted}
 
 pub accepted_needs : (p : Program) → IsAccepted p → Each NeedsVariables p.nodes
 accepted_needs p a = resolved_needs_are_variables p (subst Resolved (sym a.1.means) (meant_programs_are_sound a.1.tree a.1.formed).resolved)
