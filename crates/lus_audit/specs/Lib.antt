@@ -1,4 +1,3 @@
 pub mod CommandLine
 pub mod Ends
-pub mod Reasons
 pub mod Logs

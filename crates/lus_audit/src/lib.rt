@@ -4,7 +4,6 @@
 
 mod log_words;
 mod logs;
-mod reasons;
 mod shell;
 mod words;
 

@@ -1,5 +1,4 @@
 pub mod Codes
-pub mod Correct
 pub mod Made
 pub use Rattle.lus_order.specs as OrderSpecs
 pub use Rattle.lus_cells.specs as CellsSpecs

@@ -1,3 +1,13 @@
+pub mod Texts
+pub mod Words
+pub mod Items
+pub mod Rows
+pub mod Entries
+pub mod View
+pub mod Journals
+pub mod JournalView
+pub mod Accepted
 pub mod Columns
 pub mod ColumnView
-pub mod Tables
+pub mod Plain
+pub mod Printed

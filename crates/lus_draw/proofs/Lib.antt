@@ -1,4 +1,1 @@
-pub mod Accepted
-pub mod Audited
-pub mod Drawn
 pub mod Files

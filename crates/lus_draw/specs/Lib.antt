@@ -1,4 +1,3 @@
 pub mod CommandLine
 pub mod Drawings
 pub mod Ends
-pub mod Gatherings

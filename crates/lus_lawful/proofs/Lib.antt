@@ -3,9 +3,8 @@ pub mod Heads
 pub mod Words
 pub mod Replies
 pub mod Places
-pub mod Tails
 pub mod Findings
 pub mod Firsts
 pub mod Reaching
 pub mod Blames
-pub mod Observing
+pub mod Accepted

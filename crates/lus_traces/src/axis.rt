@@ -1,9 +1,8 @@
 //! What stands above and across the lanes of a picture of waves: numbers of instants, events, and refused calls.
 
 use crate::frames::Frame;
-use crate::lines::{Line, text_at};
 use crate::markup::push_escaped;
-use crate::refusals::Refused;
+use crate::refusals::Refusal;
 use crate::time::Time;
 use crate::words::{push_word, width};
 use std::alloc::AllocError;
@@ -41,17 +40,6 @@ pub(crate) fn push_axis(
     Ok(())
 }
 
-/// How far the name of the last events reaches.
-pub(crate) fn events_end(time: Time, frames: &[Frame<'_>]) -> usize {
-    let mut end = 0usize;
-    for (place, frame) in frames.iter().enumerate() {
-        if !frame.events.is_empty() {
-            end = time.start(place).saturating_add(width(&frame.events));
-        }
-    }
-    end
-}
-
 /// Appends a mark through all lanes where events stand before an instant, with their names where they have room.
 pub(crate) fn push_events(
     out: &mut String,
@@ -84,8 +72,7 @@ pub(crate) fn push_events(
 pub(crate) fn push_refusals(
     out: &mut String,
     time: Time,
-    lines: &[Line<'_>],
-    refusals: &[Refused],
+    refusals: &[Refusal<'_>],
     top: usize,
 ) -> Result<(), AllocError> {
     let y = top.saturating_add(REFUSALS);
@@ -104,7 +91,7 @@ pub(crate) fn push_refusals(
             )?;
             last = Some(refusal.behind);
         }
-        push_escaped(out, text_at(lines, refusal.line))?;
+        push_escaped(out, refusal.line)?;
     }
     if last.is_some() {
         out.push_str("</title></path>\n")?;

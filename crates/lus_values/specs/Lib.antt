@@ -7,5 +7,4 @@ pub mod Fitting
 pub mod Names
 pub mod Text
 pub mod View
-pub mod Rows
 pub mod Coded

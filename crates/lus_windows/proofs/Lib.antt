@@ -1,4 +1,2 @@
 pub mod Rows
-pub mod Walks
-pub mod Following
-pub mod Noted
+pub mod Windows

@@ -1,5 +1,4 @@
 pub mod Words
 pub mod Windows
-pub mod Picks
 pub mod Finding
 pub mod Reasons

@@ -2,6 +2,4 @@
 #![tactic(auto)]
 
 #[cfg(test)]
-mod windows;
-#[cfg(test)]
 mod worlds;

@@ -1,4 +1,0 @@
-pub mod Paths
-pub mod Selections
-pub mod Signals
-pub mod Sketches
