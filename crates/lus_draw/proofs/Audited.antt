@@ -1,5 +1,6 @@
 -- What an audit finds, of what was gathered.
-use Rattle.std.proofs.Common.{inl, inr, refl, ℕ, List, [], Option, Some, None}
+use Rattle.std.proofs.Common.{◌≡◌, inl, inr, refl, subst, sym, ℕ, List, [], Option, Some, None}
+use Rattle.std.specs.Prelude.{⊤}
 use Rattle.lus_program.specs.Programs.{Program}
 use Rattle.lus_devices.specs.Devices.{Bytes}
 use Rattle.lus_lawful.specs.Audits.{AreLawful, Gathers, HasAudited}
@@ -9,11 +10,12 @@ use Rattle.lus_lawful.specs.Journals.{Journal}
 use Rattle.lus_lawful.specs.declared.error.AuditError.{AuditError}
 use Rattle.lus_lawful.specs.declared.error.AuditError.TheVariants as errors
 use Rattle.lus_cli.specs.CommandLine.{Text}
+use Rattle.lus_cli.specs.declared.fault.Fault.{Fault}
 use Rattle.lus_sketches.specs.Selections.{Selection}
 use Rattle.lus_sketches.specs.Sketches.{IsFailure}
 use Rattle.lus_sketches.specs.declared.sketches.Failure.{Failure}
 use Rattle.lus_sketches.specs.declared.sketches.Failure.TheVariants as failures
-use Rattle.lus_draw.specs.Drawings.{IsDrawingFault, audit_fault, failure_fault}
+use Rattle.lus_draw.specs.Drawings.{IsDrawingFault, IsUnsettled, audit_fault, failure_fault}
 use Rattle.lus_draw.specs.Gatherings.{AreDrawn, HasGathered}
 use Rattle.lus_draw.specs.declared.gathering.Drawn.{Drawn}
 
@@ -36,21 +38,37 @@ module _ (p : Program) (Old New : List Journal → Type 0) (on : (js : List Jour
       (mid, later, lines, lawful, wrong, lawful_as [] left mid lines lawful are, is, reported)
 
 module _ (s : Selection) (p : Program) where
+  -- what journals are drawn behind nothing
+  abbrev pub GathersAll : Option Failure → List Drawn → List Journal → Type 0
+  GathersAll failure ds = Gathers (λ js. HasGathered s p js None []) (λ js. HasGathered s p js failure ds)
+
   -- of all lawful journals something is drawn
-  pub all_drawn : (ds : List Drawn) (left : Option Bytes) (report : Text)
-      → HasAudited p (Gathers (λ js. HasGathered s p js None []) (λ js. HasGathered s p js None ds)) None left report
-      → HasAudited p (λ js. AreDrawn s p js ds) None left report
-  all_drawn ds left report = audited_as p (Gathers (λ js. HasGathered s p js None []) (λ js. HasGathered s p js None ds)) (λ js. AreDrawn s p js ds) (λ js g. g.behind [] tt) None left report
+  pub all_drawn : (wrong : Option ℕ) (failure : Option Failure) (ds items : List Drawn) (left : Option Bytes) (report : Text) → wrong ≡ None
+      → failure ≡ None → items ≡ ds → HasAudited p (GathersAll failure ds) wrong left report → HasAudited p (λ js. AreDrawn s p js items) None left report
+  all_drawn wrong failure ds items left report right drawn same audited =
+      let whole = subst (λ w. HasAudited p (GathersAll failure ds) w left report) right audited in
+      let none_failed = subst (λ f. HasAudited p (GathersAll f ds) None left report) drawn whole in
+      let are = audited_as p (GathersAll None ds) (λ js. AreDrawn s p js ds) (λ js g. g.behind [] tt) None left report none_failed in
+      subst (λ v. HasAudited p (λ js. AreDrawn s p js v) None left report) (sym same) are
 
   -- or it is known why nothing is
-  pub none_drawn : (ds : List Drawn) (failure : Failure) (left : Option Bytes) (report : Text)
-      → HasAudited p (Gathers (λ js. HasGathered s p js None []) (λ js. HasGathered s p js (Some failure) ds)) None left report → IsFailure s failure
+  none_drawn : (ds : List Drawn) (failure : Failure) (left : Option Bytes) (report : Text)
+      → HasAudited p (GathersAll (Some failure) ds) None left report → IsFailure s failure
   none_drawn ds failure left report (tail, mid, end, lines, lawful, last) = lawful.gathered.behind [] tt
 
   module _ (bytes : Text) where
-    pub failure_is : (failure : Failure) → IsFailure s failure → IsDrawingFault s p bytes (failure_fault failure)
+    failure_is : (failure : Failure) → IsFailure s failure → IsDrawingFault s p bytes (failure_fault failure)
     failure_is failures.Unknown by_name = by_name
     failure_is (failures.Lost n) picked = inr (inr picked)
+
+    pub unsettled_is : (wrong : Option ℕ) (failure : Option Failure) (ds : List Drawn) (report : Text) (f : Fault) → IsUnsettled wrong failure f
+        → HasAudited p (GathersAll failure ds) wrong (Some bytes) report → IsDrawingFault s p bytes f
+    unsettled_is (Some n) failure ds report f is audited =
+        let found = audited_as p (GathersAll failure ds) (λ js. ⊤) (λ js g. tt) (Some n) (Some bytes) report audited in
+        subst (IsDrawingFault s p bytes) (sym is) (inr (inl (report, found)))
+    unsettled_is None (Some e) ds report f is audited =
+        subst (IsDrawingFault s p bytes) (sym is) (failure_is e (none_drawn ds e (Some bytes) report audited))
+    unsettled_is None None ds report f never audited = absurd never
 
     pub audit_is : (e : AuditError) → BlamesIf (AreNone p (Some bytes)) e → IsDrawingFault s p bytes (audit_fault e)
     audit_is (errors.Line n) blames = inl (blames n refl)

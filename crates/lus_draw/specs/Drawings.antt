@@ -118,6 +118,12 @@ failure_fault (failures.Lost n) = faults.Journal n
 
 -- ---- on the way
 
+-- why nothing is drawn of what was gathered: a line is wrong, or of a journal nothing is drawn
+abbrev pub IsUnsettled : Option ℕ → Option Failure → Fault → Type 0
+IsUnsettled (Some n) failure f = f ≡ faults.Journal n
+IsUnsettled None (Some e) f = f ≡ failure_fault e
+IsUnsettled None None f = ⊥
+
 -- the trace that a part of what was drawn has
 abbrev pub trace_of : Part → Drawn → Trace
 trace_of part d = record {

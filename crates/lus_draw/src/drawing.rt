@@ -1,6 +1,6 @@
 //! What is drawn of bytes that are journals.
 
-ghost use Rattle.std.specs.Prelude.{◌≡◌, ◌≤◌, IfErr, IfOk, length, map, string_bytes};
+ghost use Rattle.std.specs.Prelude.{◌≡◌, ◌≤◌, IfErr, IfOk, None, length, map, string_bytes};
 ghost use Rattle.lus_values.specs.Text.{Begins};
 ghost use Rattle.std.specs.Arc.{arc_value};
 ghost use Rattle.lus_cli.specs.CodeSpecs.Codes.{program_of};
@@ -9,13 +9,13 @@ ghost use Rattle.lus_traces.specs.Pages.{text_of};
 ghost use Rattle.lus_traces.specs.Traces.{trace_seen};
 ghost use Rattle.lus_sketches.specs.Selections.{selection_seen};
 ghost use Rattle.lus_draw.specs.CommandLine.{drawing_seen};
-ghost use Rattle.lus_draw.specs.Drawings.{Draws, DrawsLines, IsDrawingFault, IsFrontOf, IsGathered, IsLinePage, IsPageFault, IsShown, audit_fault, failure_fault, trace_of};
+ghost use Rattle.lus_draw.specs.Drawings.{Draws, DrawsLines, IsDrawingFault, IsFrontOf, IsGathered, IsLinePage, IsPageFault, IsShown, IsUnsettled, audit_fault, failure_fault, trace_of};
 
 use crate::gathering::{Drawn, Gathering, Selects};
 use crate::words::{Drawing, Format};
 use lus_cli::Fault;
 use lus_cli::lus_host::{Memory, Names, Program};
-use lus_lawful::{AuditError, audit};
+use lus_lawful::{AuditError, Report, audit};
 use lus_sketches::{Failure, Selection};
 use lus_traces::{Line, Part, Trace, csv, html, lines_of, push_further, text, vcd, waves};
 use std::alloc::Global;
@@ -49,6 +49,23 @@ fn fault_of(failure: Failure) -> Fault
     }
 }
 
+/// What was gathered of journals that an audit reported, if it found nothing wrong and nothing failed.
+fn settled<K: Selects>(
+    report: &Report,
+    gathering: Gathering<'_, K>,
+) -> Result<Vec<Drawn>, Fault>
+    ensures drawn { IfOk result (λ v. (report.now.wrong ≡ None) × (gathering.failure ≡ None) × (v.items ≡ gathering.drawn.items)) }
+    ensures fault { IfErr result (IsUnsettled report.now.wrong gathering.failure) }
+{
+    if let Some(line) = report.wrong {
+        return Err(Fault::Journal(line));
+    }
+    match gathering.failure {
+        Some(failure) => Err(fault_of(failure)),
+        None => Ok(gathering.drawn),
+    }
+}
+
 /// What is drawn of each journal, with the signals that are selected.
 fn gathered<K: Selects>(
     alloc: Global,
@@ -62,16 +79,9 @@ fn gathered<K: Selects>(
 {
     let mut source = bytes;
     let mut gathering: Gathering<'_, K> = Gathering::new(alloc, selection);
-    let report = match audit(alloc, program, &mut source, &mut gathering) {
-        Ok(report) => report,
-        Err(error) => return Err(audit_fault(error)),
-    };
-    if let Some(line) = report.wrong {
-        return Err(Fault::Journal(line));
-    }
-    match gathering.failure {
-        Some(failure) => Err(fault_of(failure)),
-        None => Ok(gathering.drawn),
+    match audit(alloc, program, &mut source, &mut gathering) {
+        Ok(report) => settled(&report, gathering),
+        Err(error) => Err(audit_fault(error)),
     }
 }
 
