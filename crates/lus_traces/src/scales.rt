@@ -43,15 +43,10 @@ pub(crate) fn scale_of(kind: SignalKind, runs: &[Run<'_>]) -> Scale {
     }
 }
 
-/// How high one of `count + 1` levels is, from the lowest on.
+/// How high one of `count + 1` levels is, from the lowest on: the last is at the top.
 fn level(place: u64, count: u64) -> usize {
-    let levels = LEVELS as u64;
-    let height = if count > levels {
-        place / (count / levels).max(1)
-    } else {
-        place.min(levels) * levels / count.max(1)
-    };
-    height.min(levels) as usize
+    let levels = LEVELS as u128;
+    (u128::from(place) * levels / u128::from(count.max(1))).min(levels) as usize
 }
 
 /// How high a value stands above the lowest level.
