@@ -81,7 +81,22 @@ fn push_runs(
     out.push_str("\"/>\n")
 }
 
-/// Appends the values of runs that have room for them: in the middle of boxes, and above steps.
+/// Appends what shows a box's value where the mouse is.
+fn push_title(
+    out: &mut String,
+    start: usize,
+    end: usize,
+    low: usize,
+    value: &str,
+) -> Result<(), AllocError> {
+    let high = low.saturating_sub(LEVELS);
+    write!(
+        out,
+        "<path class=\"narrow\" d=\"M{start} {low}V{high}H{end}V{low}Z\"><title>{value}</title></path>\n"
+    )
+}
+
+/// Appends the values of runs that have room for them: in the middle of boxes, and above steps. Other boxes have theirs as titles.
 fn push_values(
     alloc: Global,
     out: &mut String,
@@ -94,25 +109,25 @@ fn push_values(
     for run in runs {
         let (start, end) = (time.start(run.first), time.end(run.last));
         let value = print(alloc, run.value, names)?;
-        if width(&value) <= end.saturating_sub(start) {
-            match scale {
-                Scale::Truths => {}
-                Scale::Numbers { .. } => {
-                    let y = low.saturating_sub(height(scale, run.value).saturating_add(40));
-                    push_word(out, "value", start.saturating_add(30), y, &value)?;
-                }
-                Scale::Boxes => {
-                    let middle = (start / 2).saturating_add(end / 2);
-                    let y = low.saturating_sub(LEVELS / 2 - 38);
-                    push_word(out, "value boxed", middle, y, &value)?;
-                }
+        let fits = width(&value) <= end.saturating_sub(start);
+        match scale {
+            Scale::Numbers { .. } if fits => {
+                let y = low.saturating_sub(height(scale, run.value).saturating_add(40));
+                push_word(out, "value", start.saturating_add(30), y, &value)?;
             }
+            Scale::Boxes if fits => {
+                let middle = (start / 2).saturating_add(end / 2);
+                let y = low.saturating_sub(LEVELS / 2 - 38);
+                push_word(out, "value boxed", middle, y, &value)?;
+            }
+            Scale::Boxes => push_title(out, start, end, low, &value)?,
+            _ => {}
         }
     }
     Ok(())
 }
 
-/// Appends the least and the most of numbers beside their levels.
+/// Appends the least and the most of numbers beside their levels, below and above a long name.
 fn push_bounds(
     out: &mut String,
     time: Time,
@@ -120,10 +135,10 @@ fn push_bounds(
     least: i64,
     most: i64,
 ) -> Result<(), AllocError> {
-    let x = time.end(0).saturating_sub(60);
+    let (x, y) = (time.end(0).saturating_sub(60), low.saturating_add(10));
     write!(
         out,
-        "<text class=\"bound\" x=\"{x}\" y=\"{low}\">{least}</text>\n"
+        "<text class=\"bound\" x=\"{x}\" y=\"{y}\">{least}</text>\n"
     )?;
     if least != most {
         let high = low.saturating_sub(200);
@@ -142,7 +157,7 @@ fn push_name(out: &mut String, low: usize, side: Side, name: &str) -> Result<(),
         Side::Output => "out",
         Side::Local => "var",
     };
-    let y = low.saturating_sub(80);
+    let y = low.saturating_sub(95);
     push_word(out, "side", 60, y, word)?;
     push_word(out, side.word(), 280, y, name)
 }

@@ -38,7 +38,7 @@ text{font:120px 'DejaVu Sans Mono',Menlo,Consolas,monospace;fill:#1e293b}
 .side{font-size:90px;fill:#64748b}.input{fill:#9a3412}.output{fill:#1e40af}
 .bound{font-size:90px;fill:#64748b;text-anchor:end}.value{font-size:105px}.boxed{text-anchor:middle}.mark{font-size:100px;fill:#b45309}
 path{fill:none;stroke-width:14}.grid{stroke:#e2e8f0;stroke-width:8}.axis{stroke:#94a3b8;stroke-width:8}
-.event{stroke:#f59e0b;stroke-width:10;stroke-dasharray:30 30}.refused{fill:#dc2626}
+.event{stroke:#f59e0b;stroke-width:10;stroke-dasharray:30 30}.refused{fill:#dc2626}.narrow{pointer-events:all}
 .truth{stroke:#0f766e}.numbers{stroke:#1d4ed8}.texts{stroke:#7c3aed;fill:#f5f3ff}
 @media (prefers-color-scheme:dark){svg{background:#0f172a}text{fill:#e2e8f0}.number,.bound,.side{fill:#94a3b8}.mark{fill:#fbbf24}
 .input{fill:#fdba74}.output{fill:#93c5fd}.grid{stroke:#283548}.axis{stroke:#64748b}.event{stroke:#d97706}.refused{fill:#fb7185}
@@ -59,9 +59,9 @@ fn lane_count(trace: &Trace) -> usize {
     count
 }
 
-/// Where time begins: behind the longest name of a lane.
+/// Where time begins: behind the longest name of a lane, and every number.
 fn left_of(traces: &[Trace]) -> usize {
-    let mut most = 0usize;
+    let mut most = 4usize;
     for trace in traces {
         for signal in &trace.signals {
             for lane in &signal.lanes {
