@@ -12,9 +12,8 @@ pub const OPENING: &str = "<!DOCTYPE html>
 @media (prefers-color-scheme:dark){:root{--ground:#0f172a;--text:#e2e8f0;--soft:#94a3b8;--grid:#1e293b;--band:#131d33;--line:#334155;
 --truth:#2dd4bf;--lit:#134e4a;--number:#60a5fa;--box:#a78bfa;--event:#fbbf24;--refused:#fb7185;--cursor:#38bdf8;--local:#bef264}}
 *{box-sizing:border-box}
-body{margin:0;background:var(--ground);color:var(--text);font:14px system-ui,sans-serif}
-header{position:sticky;top:0;z-index:2;display:flex;flex-wrap:wrap;gap:8px;align-items:center;padding:8px 12px;background:var(--ground);
-border-bottom:1px solid var(--line)}
+body{margin:0;height:100vh;display:flex;flex-direction:column;background:var(--ground);color:var(--text);font:14px system-ui,sans-serif}
+header{display:flex;flex-wrap:wrap;gap:8px;align-items:center;padding:8px 12px;border-bottom:1px solid var(--line)}
 h1{font-size:16px;margin:0 8px 0 0}
 button,select,input,summary{font:inherit;color:inherit;background:var(--band);border:1px solid var(--line);border-radius:6px;padding:3px 8px}
 button:hover,summary:hover{border-color:var(--cursor)}
@@ -23,19 +22,20 @@ details{position:relative}summary{list-style:none;cursor:pointer}
 padding:8px;min-width:240px}
 #choice label{display:block;padding:2px 0;white-space:nowrap}
 #choice input[type=search]{width:100%;margin-bottom:6px}
-main{display:grid;grid-template-columns:minmax(180px,300px) 1fr}
-#names{border-right:1px solid var(--line);padding-top:48px}
+main{flex:1;min-height:0;overflow:auto;display:grid;grid-template-columns:max-content 1fr;outline:none}
+#names{position:sticky;left:0;min-width:180px;max-width:50vw;border-right:1px solid var(--line)}
+#names::before{content:'';position:sticky;top:0;z-index:1;display:block;height:48px;background:var(--ground)}
 .row{height:36px;display:flex;align-items:center;gap:8px;padding:0 10px;cursor:grab;border-bottom:1px solid var(--grid);white-space:nowrap}
 .row.chosen{background:var(--band);box-shadow:inset 3px 0 var(--cursor)}
-.row span{overflow:hidden;text-overflow:ellipsis}
+.row span{overflow:hidden;text-overflow:ellipsis;line-height:1.5}
+.row .name{flex:1 1000 auto;min-width:3em}
 .row .side{font-size:11px;color:var(--soft);width:24px;flex:none}
 .row.var .name{color:var(--local)}
-.row .value{margin-left:auto;font-family:'DejaVu Sans Mono',Menlo,Consolas,monospace;max-width:60%}
-#scroll{overflow-x:auto;outline:none}
-#wide{height:1px}
-canvas{position:sticky;left:0;display:block}
-footer{padding:8px 12px;color:var(--soft);border-top:1px solid var(--line);min-height:44px;font-family:'DejaVu Sans Mono',Menlo,Consolas,monospace;
-font-size:13px;white-space:pre-wrap}
+.row .value{flex:0 1 auto;text-align:right;font-family:'DejaVu Sans Mono',Menlo,Consolas,monospace}
+#wide{contain:size;overflow:clip}
+canvas{position:sticky;top:0;display:block}
+footer{padding:8px 12px;color:var(--soft);border-top:1px solid var(--line);min-height:44px;max-height:30vh;overflow:auto;
+font:13px 'DejaVu Sans Mono',Menlo,Consolas,monospace;white-space:pre-wrap}
 footer b{color:var(--refused);font-weight:normal}
 </style>
 <header>
@@ -46,12 +46,10 @@ footer b{color:var(--refused);font-weight:normal}
 <button id='farther' title='farther (-)'>&#8722;</button>
 <button id='closer' title='closer (+)'>+</button>
 <button id='whole' title='all instants (f)'>all</button>
-<details><summary>signals</summary><div id='choice'><input id='filter' type='search' placeholder='name'><div id='signals'></div></div></details>
+<details id='menu'><summary>signals</summary><div id='choice'><input id='filter' type='search' placeholder='name'>
+<button id='every'>all</button> <button id='none'>none</button><div id='signals'></div></div></details>
 </header>
-<main>
-<div id='names'></div>
-<div id='scroll' tabindex='0'><canvas id='picture'></canvas><div id='wide'></div></div>
-</main>
+<main id='scroll' tabindex='0'><div id='names'></div><div id='wide'><canvas id='picture'></canvas></div></main>
 <footer id='line'></footer>
 <pre id='journals' hidden>
 ";
