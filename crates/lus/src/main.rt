@@ -86,16 +86,16 @@ fn live<O: Sink, F: Sink>(
     )
 }
 
-/// Runs the tool of this name: its status.
+/// Runs the tool of this name, but `lus` and `lus_bench`, which begin threads: its status.
 fn run<O: Sink, F: Sink>(
     rt: &HostRuntime,
     tool: &str,
     words: &[String],
     output: &mut O,
     faults: &mut F,
-) -> u8 {
+) -> Option<u8> {
     let disk = Disk(rt);
-    match tool {
+    let status = match tool {
         "lus_explain" => lus_explain::command(rt.alloc(), &disk, words, output, faults),
         "lus_format" => {
             let mut input = Input(rt.stdin());
@@ -109,9 +109,9 @@ fn run<O: Sink, F: Sink>(
             let mut input = Buffered::new(Input(rt.stdin()));
             lus_lsp::command(rt.alloc(), words, &mut input, output, faults)
         }
-        "lus_bench" => lus_bench::command(rt, words),
-        _ => command(rt, rt.alloc(), words, output, faults),
-    }
+        _ => return None,
+    };
+    Some(status)
 }
 
 fn main(rt: HostRuntime) -> ExitCode {
@@ -125,7 +125,11 @@ fn main(rt: HostRuntime) -> ExitCode {
     if let Some(status) = introduce(tool, words, &mut output, &mut faults) {
         return ExitCode::from(status);
     }
-    let status = run(&rt, tool, words, &mut output, &mut faults);
+    let status = match run(&rt, tool, words, &mut output, &mut faults) {
+        Some(status) => status,
+        None if tool == "lus_bench" => lus_bench::command(&rt, words),
+        None => command(&rt, rt.alloc(), words, &mut output, &mut faults),
+    };
     if status == FILE_FAILED {
         name_unopened(&rt, tool, words, &mut faults);
     }

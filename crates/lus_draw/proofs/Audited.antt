@@ -1,6 +1,6 @@
 -- What an audit finds, of what was gathered.
 use Rattle.std.proofs.Common.{◌≡◌, inl, inr, refl, subst, sym, ℕ, List, [], Option, Some, None}
-use Rattle.std.specs.Prelude.{⊤}
+use Rattle.std.specs.Prelude.{⊤, IfOk, Ok, Result}
 use Rattle.lus_program.specs.Programs.{Program}
 use Rattle.lus_devices.specs.Devices.{Bytes}
 use Rattle.lus_lawful.specs.Audits.{AreLawful, Gathers, HasAudited}
@@ -18,6 +18,10 @@ use Rattle.lus_sketches.specs.declared.sketches.Failure.TheVariants as failures
 use Rattle.lus_draw.specs.Drawings.{IsDrawingFault, IsUnsettled, audit_fault, failure_fault}
 use Rattle.lus_draw.specs.Gatherings.{AreDrawn, HasGathered}
 use Rattle.lus_draw.specs.declared.gathering.Drawn.{Drawn}
+
+-- what holds of a result that is a value holds of the value
+pub when_ok : {X E : Type 0} (r : Result X E) (x : X) (P : X → Type 0) → r ≡ Ok x → IfOk r P → P x
+when_ok r x P is holds = subst (λ q. IfOk q P) is holds
 
 module _ (p : Program) (Old New : List Journal → Type 0) (on : (js : List Journal) → Old js → New js) where
   lawful_as : (tail : Text) (left later : Option Bytes) (lines : ℕ) (report : Text) → AreLawful p Old tail left later lines report → AreLawful p New tail left later lines report
@@ -41,6 +45,14 @@ module _ (s : Selection) (p : Program) where
   -- what journals are drawn behind nothing
   abbrev pub GathersAll : Option Failure → List Drawn → List Journal → Type 0
   GathersAll failure ds = Gathers (λ js. HasGathered s p js None []) (λ js. HasGathered s p js failure ds)
+
+  -- before the audit nothing was drawn
+  pub from_nothing : (before failure : Option Failure) (old ds : List Drawn) (wrong : Option ℕ) (left : Option Bytes) (report : Text) → before ≡ None
+      → old ≡ [] → HasAudited p (Gathers (λ js. HasGathered s p js before old) (λ js. HasGathered s p js failure ds)) wrong left report
+      → HasAudited p (GathersAll failure ds) wrong left report
+  from_nothing before failure old ds wrong left report none empty audited =
+      subst (λ o. HasAudited p (Gathers (λ js. HasGathered s p js None o) (λ js. HasGathered s p js failure ds)) wrong left report) empty
+      (subst (λ b. HasAudited p (Gathers (λ js. HasGathered s p js b old) (λ js. HasGathered s p js failure ds)) wrong left report) none audited)
 
   -- of all lawful journals something is drawn
   pub all_drawn : (wrong : Option ℕ) (failure : Option Failure) (ds items : List Drawn) (left : Option Bytes) (report : Text) → wrong ≡ None

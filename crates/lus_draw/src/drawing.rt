@@ -54,8 +54,8 @@ fn settled<K: Selects>(
     report: &Report,
     gathering: Gathering<'_, K>,
 ) -> Result<Vec<Drawn>, Fault>
-    ensures drawn { IfOk result (λ v. (report.now.wrong ≡ None) × (gathering.failure ≡ None) × (v.items ≡ gathering.drawn.items)) }
-    ensures fault { IfErr result (IsUnsettled report.now.wrong gathering.failure) }
+    ensures drawn { IfOk result (λ v. (report.now.wrong ≡ None) × (gathering.entry.failure ≡ None) × (v.items ≡ gathering.entry.drawn.items)) }
+    ensures fault { IfErr result (IsUnsettled report.now.wrong gathering.entry.failure) }
 {
     if let Some(line) = report.wrong {
         return Err(Fault::Journal(line));

@@ -144,11 +144,11 @@ fn has_parts(format: Format) -> bool
 }
 
 /// Journals are drawn in parts in the formats that have them.
-fn drawing_task(drawing: Drawing<'_>) -> Option<Task<'_>>
-    ensures { option_map task_seen result ≡ drawing (drawing_seen drawing.entry) }
+fn drawing_task(wanted: Drawing<'_>) -> Option<Task<'_>>
+    ensures { option_map task_seen result ≡ drawing (drawing_seen wanted.entry) }
 {
-    if is_whole(drawing.part) || has_parts(drawing.format) {
-        Some(Task::Drawing(drawing))
+    if is_whole(wanted.part) || has_parts(wanted.format) {
+        Some(Task::Drawing(wanted))
     } else {
         None
     }
