@@ -1,5 +1,5 @@
 -- What the words of the command line ask for, by the meaning that clap's own specification gives to the command.
-use Rattle.std.specs.Prelude.{◌&&◌, ◌||◌, ◌-◌, ◌==◌, ◌^◌, ℕ, Bool, List, Option, Some, None, nat_le, option_map, codes, true, false, if◌then◌else◌}
+use Rattle.std.specs.Prelude.{◌&&◌, ◌||◌, ◌-◌, ◌==◌, ◌^◌, ℕ, Bool, List, Option, Some, None, nat_le, codes, true, false, if◌then◌else◌}
 use Rattle.clap.specs.Words.{App, Row, first_of}
 use Rattle.lus_cli.specs.CommandLine.{Text, asked_of, bare, is_set, with_flag, with_optional, with_required, with_value}
 use Rattle.lus_asked.specs.Reading.{number_below}

@@ -1,5 +1,5 @@
 -- What is drawn of the bytes of journals, and why nothing is.
-use Rattle.std.specs.Prelude.{◌≡◌, ◌≢◌, ◌⊎◌, ◌++◌, ℕ, Bool, true, false, List, [], ◌∷◌, map, take, length, codes, Option, Some, None, IsUtf8, string_bytes, ⊤}
+use Rattle.std.specs.Prelude.{◌≡◌, ◌⊎◌, ◌++◌, ℕ, List, [], ◌∷◌, map, codes, Option, Some, None, IsUtf8, string_bytes, ⊤}
 use Rattle.lus_values.specs.Names.{Names}
 use Rattle.lus_program.specs.Programs.{Program}
 use Rattle.lus_diagrams.specs.Columns.{Column}

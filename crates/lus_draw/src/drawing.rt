@@ -50,10 +50,7 @@ fn fault_of(failure: Failure) -> Fault
 }
 
 /// What was gathered of journals that an audit reported, if it found nothing wrong and nothing failed.
-fn settled<K: Selects>(
-    report: &Report,
-    gathering: Gathering<'_, K>,
-) -> Result<Vec<Drawn>, Fault>
+fn settled<K: Selects>(report: &Report, gathering: Gathering<'_, K>) -> Result<Vec<Drawn>, Fault>
     ensures drawn { IfOk result (λ v. (report.now.wrong ≡ None) × (gathering.entry.failure ≡ None) × (v.items ≡ gathering.entry.drawn.items)) }
     ensures fault { IfErr result (IsUnsettled report.now.wrong gathering.entry.failure) }
 {
