@@ -15,7 +15,7 @@ fn is_unopened<R: Files>(rt: &R, name: &str) -> bool {
 }
 
 /// The last of the files that the words name which can't be opened. No flag names a file, nor does `-`, nor a name, which stands behind
-/// `--script` or `--caller`, or is the second word of `lus_live`, or of `lus_audit --many`, that is no flag: a node's.
+/// `--script`, `--caller` or `--signals`, or is the second word of `lus_live`, or of `lus_audit --many`, that is no flag: a node's.
 fn unopened<'w, R: Files>(rt: &R, tool: &str, words: &'w [String]) -> Option<&'w str> {
     let mut found = None;
     let mut count = 0usize;
@@ -30,7 +30,7 @@ fn unopened<'w, R: Files>(rt: &R, tool: &str, words: &'w [String]) -> Option<&'w
                 found = Some(name);
             }
         }
-        is_name = matches!(name, "--script" | "--caller");
+        is_name = matches!(name, "--script" | "--caller" | "--signals");
     }
     found
 }

@@ -30,18 +30,20 @@ A rejected file stays as it is. Status: 0 done, 1 a file is rejected, or would c
 3 a file or the output fails, 4 out of memory.
 ";
 
-const DRAW: &str =
-    "usage: lus_draw [--html | --waves | --csv | --vcd] [--from N] [--to N] JOURNAL [PROGRAM]
+const DRAW: &str = "usage: lus_draw [--html | --waves | --csv | --vcd] [--from N] [--to N]
+                [--all | --signals NAMES] PROGRAM JOURNAL
+       lus_draw --html JOURNAL
 
-Draws journals that lus or lus_live wrote: as a chronogram, or
+Draws journals that lus or lus_live wrote, if they are lawful: as a chronogram, or
 
-  --html   as a page for a browser, with signals over time, a cursor and a zoom
-  --waves  as a timing diagram (SVG)
-  --csv    as tables for spreadsheets
-  --vcd    as a value change dump, for viewers of waveforms
+  --html     as a page for a browser, with signals over time, a cursor and a zoom
+  --waves    as a timing diagram (SVG)
+  --csv      as tables for spreadsheets
+  --vcd      as a value change dump, for viewers of waveforms
+  --all      with the node's locals; --signals a,b,f.c,f#2.c: these, c of calls of the node f
 
 --from and --to draw the instants from the N-th to the N-th alone, not with --html or --vcd.
-PROGRAM gives the inputs and outputs their names. Status: 0 drawn, 1 to 4 as lus.
+Without PROGRAM a page shows the journal's lines. Status: 0 drawn, 1 to 4 as lus.
 ";
 
 const AUDIT: &str = "usage: lus_audit [--why] PROGRAM JOURNAL

@@ -1,5 +1,6 @@
 -- How an audit ends, by how its parts do.
-use Rattle.std.proofs.Common.{◌≡◌, ◌∙◌, inl, inr, refl, subst, sym, Bool, Option, Some}
+use Rattle.std.proofs.Common.{◌≡◌, ◌∙◌, inl, inr, refl, subst, Option, Some, Result, Ok, Err}
+use Rattle.std.specs.Prelude.{IfOk}
 use Rattle.lus_program.specs.Programs.{Program}
 use Rattle.lus_devices.specs.Devices.{Bytes}
 use Rattle.lus_devices.specs.Folders.{Holds, Known, WithFile}
@@ -14,20 +15,17 @@ use Rattle.lus_hosting.specs.LawfulSpecs.declared.error.AuditError.{AuditError}
 use Rattle.lus_hosting.specs.LawfulSpecs.declared.error.AuditError.TheVariants as errors
 use Rattle.lus_hosting.specs.Audits.{IsNoLog}
 use Rattle.lus_audit.specs.Logs.{LogAuditFails}
-use Rattle.lus_audit.specs.Ends.{AuditFails, HasReasons, IsFound, IsOfFile, audit_fault}
+use Rattle.lus_audit.specs.Ends.{AuditFails, IsOfFile, audit_fault}
 
 -- what holds of the bytes that an opened file has left holds of the file's
 pub file_so : (P : Option Bytes → Type 0) (known : Known) (left ahead : Option Bytes) → Holds known left → ahead ≡ left → P ahead
     → WithFile known (λ bytes. P (Some bytes))
 file_so P known left ahead holds same so = file_then known (λ bytes. left ≡ Some bytes) (λ bytes. P (Some bytes)) (λ bytes is. subst P (same ∙ is) so) holds
 
--- what was found of them is found of the file, and so is what is reported, with reasons behind it where they are asked
-pub reported : (p : Program) (is_lawful is_so : Bool) (found report : Text) (is_why : Bool) (known : Known) (left ahead : Option Bytes) → Holds known left
-    → ahead ≡ left → IsFound p is_lawful ahead found → (is_so ≡ is_lawful) × HasReasons is_why found report
-    → (text : Text) × WithFile known (λ bytes. IsFound p is_so (Some bytes) text) × HasReasons is_why text report
-reported p is_lawful is_so found report is_why known left ahead holds same audited (is, reasons) =
-    let said = subst (λ b. IsFound p b ahead found) (sym is) audited in
-    (found, file_so (λ o. IsFound p is_so o found) known left ahead holds same said, reasons)
+-- what holds of a value by two facts of it
+pub both : {T E : Type 0} (r : Result T E) (P Q R : T → Type 0) → ((x : T) → P x → Q x → R x) → IfOk r P → IfOk r Q → IfOk r R
+both (Ok x) P Q R from one other = from x one other
+both (Err e) P Q R from one other = tt
 
 module _ (read_fails : Known → Type 0) (file journal : Known) where
   -- a fault of the program

@@ -1,5 +1,5 @@
 -- How an audit ends: what was found of the journals, or which fault ended it.
-use Rattle.std.specs.Prelude.{◌≡◌, ◌⊎◌, ◌++◌, ℕ, Bool, true, false, Option, Some, Result, ⊤}
+use Rattle.std.specs.Prelude.{◌≡◌, ◌⊎◌, ◌++◌, ℕ, Bool, true, false, Option, Some, Result, is_none, ⊤}
 use Rattle.lus_program.specs.Programs.{Program}
 use Rattle.lus_devices.specs.Devices.{Bytes}
 use Rattle.lus_devices.specs.Folders.{Known, WithFile}
@@ -15,25 +15,27 @@ use Rattle.lus_hosting.specs.LawfulSpecs.Findings.{AreNone, FindsAll}
 use Rattle.lus_hosting.specs.LawfulSpecs.declared.error.AuditError.{AuditError}
 use Rattle.lus_hosting.specs.LawfulSpecs.declared.error.AuditError.TheVariants as errors
 use Rattle.lus_audit.specs.CommandLine.{Asked}
+use Rattle.lus_audit.specs.Reasons.{AreReasons}
 
 -- the program of the file is accepted, where its bytes are known
 abbrev pub IsOfFile : Known → Program → Type 0
 IsOfFile file p = WithFile file (λ text. Accepted text p)
 
--- a report is what was found, with reasons of refusals behind it where they are asked
-abbrev pub HasReasons : Bool → Text → Text → Type 0
-HasReasons true found report = (reasons : Text) × (report ≡ found ++ reasons)
-HasReasons false found report = report ≡ found
-
--- what is found of bytes is so, and of journals that can be read back what is to be found is found
-abbrev pub IsFound : Program → Bool → Option Bytes → Text → Type 0
-IsFound p is_lawful left found = HasAudited p is_lawful left found × FindsAll p is_lawful left found
+-- What is found of bytes is so, and of journals that can be read back what is to be found is found. It is reported, with the reasons of
+-- the lawful journals' refusals behind it where they are asked.
+pub record IsReported (p : Program) (is_why is_lawful : Bool) (left : Option Bytes) (report : Text) : Type 0 where
+  pub found : Text
+  pub reasons : Text
+  pub wrong : Option ℕ
+  pub status : is_lawful ≡ is_none wrong
+  pub sound : HasAudited p (AreReasons is_why p reasons) wrong left found
+  pub complete : FindsAll p is_lawful left found
+  pub reported : report ≡ found ++ reasons
 
 -- the journals of a file are audited by the program of another
 abbrev pub IsAudited : Known → Known → Bool → Bool → Text → Type 0
 IsAudited program journal is_why is_lawful report =
-    (p : Program) × IsOfFile program p
-    × ((found : Text) × WithFile journal (λ bytes. IsFound p is_lawful (Some bytes) found) × HasReasons is_why found report)
+    (p : Program) × IsOfFile program p × WithFile journal (λ bytes. IsReported p is_why is_lawful (Some bytes) report)
 
 -- why nothing is found: the program's file is lost or it is refused; or it is accepted, and the journals' file is lost, or has a line
 -- that is none of a journal, and so no journals that can be read back; or out of memory

@@ -4,6 +4,7 @@
 
 mod log_words;
 mod logs;
+mod reasons;
 mod shell;
 mod words;
 

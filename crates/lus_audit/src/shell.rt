@@ -1,16 +1,21 @@
 //! The command line over a folder.
 
-ghost use Rattle.std.specs.Prelude.{◌≡◌, IfErr, IfOk, map, string_bytes};
+ghost use Rattle.std.specs.Prelude.{◌≡◌, ◌++◌, IfErr, IfOk, is_none, map, string_bytes, true};
+ghost use Rattle.std.specs.Arc.{arc_value};
 ghost use Rattle.lus_cli.specs.Changes.{change};
 ghost use Rattle.lus_cli.specs.Ends.{AskedEnds, Ends, ReadFails};
-ghost use Rattle.lus_cli.specs.declared.fault.Fault.TheVariants as faults;
+ghost use Rattle.lus_cli.specs.CodeSpecs.Codes.{program_of};
+ghost use Rattle.lus_hosting.specs.LawfulSpecs.Errors.{BlamesIf, IsOutside};
+ghost use Rattle.lus_hosting.specs.LawfulSpecs.Findings.{AreNone};
 ghost use Rattle.lus_audit.specs.CommandLine.{asked};
-ghost use Rattle.lus_audit.specs.Ends.{AuditFails, HasReasons, IsAudited, TaskEnds, audit_fault, audit_status};
+ghost use Rattle.lus_audit.specs.Ends.{AuditFails, IsAudited, IsReported, TaskEnds, audit_fault, audit_status};
 
+use crate::reasons::Explanations;
 use crate::words::{Task, read_words};
 use lus_cli::{Fault, read_program, tell};
-use lus_devices::{Folder, Sink, write_all};
-use lus_hosting::lus_lawful::{AuditError, Buffered, Report, audit};
+use lus_devices::{Folder, Sink, Source, write_all};
+use lus_hosting::lus_lawful::{AuditError, Buffered, Report, Unobserved, audit};
+use lus_hosting::lus_live_instance::lus_machine::Program;
 use std::alloc::Global;
 use std::sync::Arc;
 
@@ -24,22 +29,56 @@ pub(crate) fn fault_of(error: AuditError) -> Fault
     }
 }
 
-/// The report with its reasons behind it, where they are asked.
-fn with_reasons(report: Report, is_why: bool) -> Result<Report, Fault>
-    ensures ok { IfOk result (λ r. (r.is_lawful ≡ report.is_lawful) × HasReasons is_why report.text.items r.text.items) }
-    ensures memory { IfErr result (λ f. f ≡ faults.Memory) }
+/// The report with reasons behind it.
+fn with_reasons(report: Report, reasons: &[u8]) -> Result<Report, AuditError>
+    ensures ok { IfOk result (λ r. (r.wrong ≡ report.wrong) × (r.text.items ≡ report.text.items ++ reasons.now)) }
+    ensures memory { IfErr result IsOutside }
 {
     let mut report = report;
-    if is_why && report.text.extend_from_slice(&report.reasons).is_err() {
-        return Err(Fault::Memory);
+    if report.text.extend_from_slice(reasons).is_err() {
+        return Err(AuditError::Memory);
     }
     Ok(report)
+}
+
+/// Audits journals, with the reasons of their refusals behind the report.
+fn explain<S: Source>(
+    alloc: Global,
+    program: &Arc<Program>,
+    source: &mut S,
+) -> Result<Report, AuditError>
+    ensures ok { IfOk result (λ r. IsReported (program_of (arc_value program.now)) true (is_none r.wrong) (S.left source.old) r.text.items) }
+    ensures blames { IfErr result (BlamesIf (AreNone (program_of (arc_value program.now)) (S.left source.old))) }
+{
+    let text = Vec::new(alloc);
+    let mut explanations = Explanations { text };
+    match audit(alloc, program, source, &mut explanations) {
+        Ok(report) => with_reasons(report, &explanations.text),
+        Err(error) => Err(error),
+    }
+}
+
+/// Audits journals, with the reasons of their refusals where they are asked.
+fn audit_journals<S: Source>(
+    alloc: Global,
+    program: &Arc<Program>,
+    is_why: bool,
+    source: &mut S,
+) -> Result<Report, AuditError>
+    ensures ok { IfOk result (λ r. IsReported (program_of (arc_value program.now)) is_why (is_none r.wrong) (S.left source.old) r.text.items) }
+    ensures blames { IfErr result (BlamesIf (AreNone (program_of (arc_value program.now)) (S.left source.old))) }
+{
+    if is_why {
+        explain(alloc, program, source)
+    } else {
+        audit(alloc, program, source, &mut Unobserved)
+    }
 }
 
 /// Audits the journals of a file, of nodes of the program of another.
 fn audit_file<D: Folder>(alloc: Global, folder: &D, task: Task<'_>) -> Result<Report, Fault>
     ensures audited { IfOk result (λ r. IsAudited (D.known folder.now task.entry.program.now) (D.known folder.now task.entry.journal.now)
-        task.entry.is_why r.is_lawful r.text.items) }
+        task.entry.is_why (is_none r.wrong) r.text.items) }
     ensures fault { IfErr result (λ f. AuditFails (ReadFails D.File D.File.left D.File.failures) (D.known folder.now task.entry.program.now)
         (D.known folder.now task.entry.journal.now) f) }
 {
@@ -50,11 +89,10 @@ fn audit_file<D: Folder>(alloc: Global, folder: &D, task: Task<'_>) -> Result<Re
     let Ok(journal) = folder.open(task.journal) else {
         return Err(Fault::File);
     };
-    let report = match audit(alloc, &program, &mut Buffered::new(journal), task.is_why) {
-        Ok(report) => report,
-        Err(error) => return Err(fault_of(error)),
-    };
-    with_reasons(report, task.is_why)
+    match audit_journals(alloc, &program, task.is_why, &mut Buffered::new(journal)) {
+        Ok(report) => Ok(report),
+        Err(error) => Err(fault_of(error)),
+    }
 }
 
 /// Whether the journals that the words name are lawful. What is reported of them is written.
@@ -71,7 +109,7 @@ fn perform<D: Folder, O: Sink>(
     let task = read_words(alloc, words)?;
     let report = audit_file(alloc, folder, task)?;
     match write_all(output, &report.text) {
-        Ok(()) => Ok(report.is_lawful),
+        Ok(()) => Ok(report.wrong.is_none()),
         Err(_) => Err(Fault::Output),
     }
 }

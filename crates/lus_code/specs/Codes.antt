@@ -1,21 +1,14 @@
 -- How contracts see the code of a program: the ordered program that it is made of, a class for each node with its code and its
 -- plan, and the state cells of each.
-use Rattle.std.specs.Prelude.{◌≡◌, ℕ, List, length}
+use Rattle.std.specs.Prelude.{ℕ, List}
 use Rattle.lus_program.specs.Programs.{Program}
 use Rattle.lus_program.specs.View.{program_seen}
 use Rattle.lus_classes.specs.Classes.{Class}
 use Rattle.lus_order.specs.OrderedPrograms.{OrderedProgram}
 use Rattle.lus_simulation.specs.Codes.{AreCodeOf}
-use Rattle.lus_frames.specs.Classes.{AreFramed}
 use Rattle.lus_frames.specs.declared.class.Class.{Class as Framed}
 use Rattle.lus_flat_classes.specs.declared.class.Class.{Class as StoredClass}
-use Rattle.lus_flat_classes.specs.Turns.{AreReady}
 use Rattle.lus_flat_classes.specs.View.{classes_of}
-use Rattle.lus_places.specs.Few.{AreAsLong}
-use Rattle.lus_cells.specs.Cells.{AreStateCells}
-use Rattle.lus_framed_code.specs.Alike.{MakeInstants}
-use Rattle.lus_keeping.specs.Keeping.{HaveFrames}
-use Rattle.lus_keeping.specs.Plans.{ArePlans}
 use Rattle.lus_keeping.specs.declared.plan.Plan.{Plan}
 
 pub record ProgramCode : Type 0 where
@@ -35,16 +28,3 @@ plain_classes c = classes_of c.classes
 -- the classes belong to the nodes of a normal form of the program
 abbrev pub IsCodeOf : Program → List Class → Type 0
 IsCodeOf p classes = (q : Program) × AreCodeOf p q classes
-
--- a class for each node of p, whose instants its code makes, with places and plans for what is kept, and the state cells of the nodes:
--- the part of each is no longer than these
-pub record IsTranslated (p : Program) (classes : List StoredClass) (framed : List Framed) (plans : List Plan) (cells : List ℕ) : Type 0 where
-  pub code : IsCodeOf p (classes_of classes)
-  pub size : length classes ≡ length p.nodes
-  pub ready : AreReady classes
-  pub located : AreFramed framed
-  pub frames : HaveFrames classes framed
-  pub instants : MakeInstants classes framed
-  pub planned : ArePlans classes framed plans
-  pub counted : AreStateCells p cells
-  pub rows : AreAsLong cells classes

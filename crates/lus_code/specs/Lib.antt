@@ -1,4 +1,5 @@
 pub mod Codes
+pub mod Correct
 pub mod Made
 pub use Rattle.lus_order.specs as OrderSpecs
 pub use Rattle.lus_cells.specs as CellsSpecs

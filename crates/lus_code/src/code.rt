@@ -5,16 +5,10 @@ ghost use Rattle.lus_values.specs.Lists.{item};
 ghost use Rattle.lus_syntax.specs.declared.refusal.RefusalNumber.TheVariants as numbers;
 ghost use Rattle.lus_program.specs.View.{program_seen};
 ghost use Rattle.lus_typing.specs.Refusals.{RefusesFor};
-ghost use Rattle.lus_flat_classes.specs.Turns.{AreReady};
-ghost use Rattle.lus_flat_classes.specs.View.{classes_of};
 ghost use Rattle.lus_simulation.specs.Checked.{IsChecked};
-ghost use Rattle.lus_places.specs.Few.{AreAsLong};
 ghost use Rattle.lus_cells.specs.Cells.{AreStateCells, FitsCells, NamesTooMany};
-ghost use Rattle.lus_frames.specs.Classes.{AreFramed};
-ghost use Rattle.lus_framed_code.specs.Alike.{MakeInstants};
-ghost use Rattle.lus_keeping.specs.Keeping.{HaveFrames};
-ghost use Rattle.lus_keeping.specs.Plans.{ArePlans};
-ghost use Rattle.lus_code.specs.Codes.{IsCodeOf, program_of};
+ghost use Rattle.lus_code.specs.Codes.{program_of};
+ghost use Rattle.lus_code.specs.Correct.{IsCorrect};
 
 use crate::classes::classes_of_nodes;
 use lus_cells::cells_of_nodes;
@@ -43,8 +37,8 @@ impl Model for Code {
     ghost use Rattle.lus_program.specs.contracts.expr.Expr as program_expr;
     ghost use Rattle.lus_flat_classes.specs.contracts.formula.Formula as formula;
     ghost use Rattle.lus_values.specs.contracts.value.Value as value;
-    ghost use Rattle.lus_program.specs.View.{program_seen};
-    ghost use Rattle.lus_code.specs.Codes.{ProgramCode, IsTranslated};
+    ghost use Rattle.lus_code.specs.Codes.{ProgramCode};
+    ghost use Rattle.lus_code.specs.Correct.{IsCorrect};
 
     ghost Value = { ProgramCode };
 
@@ -52,7 +46,7 @@ impl Model for Code {
 
     ghost view = { λ c. record { source = c.source; classes = c.classes.items; framed = c.framed.items; plans = c.plans.items; cells = c.cells.items } };
 
-    ghost invariant = { λ c. IsTranslated (program_seen c.source.program) c.classes.items c.framed.items c.plans.items c.cells.items };
+    ghost invariant = { λ c. IsCorrect (record { source = c.source; classes = c.classes.items; framed = c.framed.items; plans = c.plans.items; cells = c.cells.items }) };
 }
 
 impl Code {
@@ -74,27 +68,21 @@ impl Code {
     /// The class of each node, by the node's place.
     pub fn classes(&self) -> &[Class]
         ensures same { result.now ≡ self.now.classes }
-        ensures code { IsCodeOf (program_of self.now) (classes_of result.now) }
-        ensures size { length result.now ≡ length (program_of self.now).nodes }
-        ensures ready { AreReady result.now }
-        ensures rows { AreAsLong self.now.cells result.now }
+        ensures correct { IsCorrect self.now }
     {
         &self.classes
     }
 
     /// The code of each class, by the node's place: it makes the class's instants.
     pub fn framed(&self) -> &[Framed]
-        ensures same { result.now ≡ self.now.framed }
-        ensures framed { AreFramed result.now }
-        ensures frames { HaveFrames self.now.classes result.now }
-        ensures instants { MakeInstants self.now.classes result.now }
+        ensures { result.now ≡ self.now.framed }
     {
         &self.framed
     }
 
     /// The plan of what the calls of each class keep, by the node's place.
     pub fn plans(&self) -> &[Plan]
-        ensures planned { ArePlans self.now.classes self.now.framed result.now }
+        ensures { result.now ≡ self.now.plans }
     {
         &self.plans
     }
@@ -133,6 +121,7 @@ fn sound_of(normal: &Normal) -> &Sound
 /// name.
 pub fn translate(alloc: Global, normal: Normal) -> Result<Code, Refusal>
     ensures same { IfOk result (λ c. c.source ≡ normal.source) }
+    ensures correct { IfOk result IsCorrect }
     ensures ok { OnOk result (FitsCells (program_seen normal.source.program)) }
     ensures refused { IfErr result (RefusesFor numbers.Limit (FitsCells (program_seen normal.source.program))) }
     ensures placed { IfErr result (λ e. e.number ≢ numbers.Memory → NamesTooMany normal.source.program e.line e.column) }

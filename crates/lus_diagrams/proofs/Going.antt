@@ -1,39 +1,36 @@
--- How many columns an entry adds, and that no number of the lineage goes beyond them.
-use Rattle.std.proofs.Common.{◌≡◌, ◌∙◌, ◌++◌, ◌+◌, suc, ap, sym, refl, ℕ, List, [], ◌∷◌, Option, length, map, arith}
-use Rattle.std.proofs.lemmas.List.{length-map, length-append}
-use Rattle.lus_diagrams.specs.Entries.{Entry}
-use Rattle.lus_diagrams.specs.Accepted as accepted
-use Rattle.lus_diagrams.specs.Accepted.{accepted_rows, row_seen}
-use Rattle.lus_diagrams.specs.Columns.{IsWithin, instants, marked}
+-- A table that goes on by an entry.
+use Rattle.std.proofs.Common.{◌≡◌, ◌∙◌, ◌++◌, ◌+◌, ap, sym, refl, ℕ, List, [], ◌∷◌, length, map, append_assoc, append-nil}
+use Rattle.lus_diagrams.specs.Columns.{Noted, columns_from, entry_columns, event_of, instants, lineage_after, lineage_behind, lineage_from, marked, newborn}
 use Rattle.lus_diagrams.specs.ColumnView.{column_seen}
-use Rattle.lus_diagrams.specs.declared.accepted.Row.{Row}
-use Rattle.lus_diagrams.specs.declared.lineage.Head.{Head}
+use Rattle.lus_diagrams.specs.Tables.{HasNoted}
 use Rattle.lus_diagrams.specs.declared.lineage.Lineage.{Lineage}
 use Rattle.lus_diagrams.specs.declared.table.Column.{Column}
+use Rattle.lus_diagrams.specs.declared.table.Table.{Table}
 
-length-instants : (n : ℕ) (rs : List accepted.Row) → length (instants n rs) ≡ length rs
-length-instants n [] = refl
-length-instants n (r ∷ rs) = ap suc (length-instants (n + 1) rs)
+columns_more : (l : Lineage) (es : List Noted) (e : Noted) → columns_from l (es ++ e ∷ []) ≡ columns_from l es ++ entry_columns (lineage_from l es) e
+columns_more l [] e = append-nil (entry_columns l e)
+columns_more l (d ∷ es) e =
+    ap (λ cs. entry_columns l d ++ cs) (columns_more (lineage_after l d) es e)
+    ∙ sym (append_assoc (entry_columns l d) (columns_from (lineage_after l d) es) (entry_columns (lineage_from (lineage_after l d) es) e))
 
-pub so_many : (rs : List Row) (e : Entry) → map row_seen rs ≡ accepted_rows e → length rs ≡ length (accepted_rows e)
-so_many rs e read = sym (length-map rs row_seen) ∙ ap length read
+lineage_more : (l : Lineage) (es : List Noted) (e : Noted) → lineage_from l (es ++ e ∷ []) ≡ lineage_after (lineage_from l es) e
+lineage_more l [] e = refl
+lineage_more l (d ∷ es) e = lineage_more (lineage_after l d) es e
 
-marked_length : (cs0 cs1 : List Column) (m : Option Head) → map column_seen cs1 ≡ map column_seen cs0 ++ marked m → length cs1 ≡ length cs0 + length (marked m)
-marked_length cs0 cs1 m h =
-    sym (length-map cs1 column_seen) ∙ ap length h
-    ∙ length-append (map column_seen cs0) (marked m) ∙ ap (λ k. k + length (marked m)) (length-map cs0 column_seen)
-
-pushed_length : (cs1 cs2 : List Column) (n : ℕ) (rs : List Row) → map column_seen cs2 ≡ map column_seen cs1 ++ instants n (map row_seen rs) → length cs2 ≡ length cs1 + length rs
-pushed_length cs1 cs2 n rs h =
-    sym (length-map cs2 column_seen) ∙ ap length h
-    ∙ length-append (map column_seen cs1) (instants n (map row_seen rs))
-    ∙ ap (λ k. k + length (instants n (map row_seen rs))) (length-map cs1 column_seen)
-    ∙ ap (λ k. length cs1 + k) (length-instants n (map row_seen rs) ∙ length-map rs row_seen)
-
-pub within_columns : (cs0 cs1 cs2 : List Column) (m : Option Head) (l : Lineage) (count : ℕ) (rs : List Row)
-    → map column_seen cs1 ≡ map column_seen cs0 ++ marked m → map column_seen cs2 ≡ map column_seen cs1 ++ instants l.count (map row_seen rs)
-    → count ≡ l.count + length rs → IsWithin (length cs0) l → IsWithin (length cs2) (record { count = count; saved = l.saved })
-within_columns cs0 cs1 cs2 m l count rs mark pushed counted within =
-    let a = marked_length cs0 cs1 m mark in
-    let b = pushed_length cs1 cs2 l.count rs pushed in
-    (omega (arith, within.0, a, b, counted), λ k. omega (arith, within.1 k, a, b))
+-- where the columns of its event and then of its instants were appended
+pub goes_on : (t u : Table) (es : List Noted) (e : Noted) (cs : List Column) (n : ℕ)
+    → map column_seen cs ≡ map column_seen t.columns.items ++ marked (event_of e)
+    → map column_seen u.columns.items ≡ map column_seen cs ++ instants t.lineage.count e.rows
+    → n ≡ t.lineage.count + length e.rows → u.lineage ≡ lineage_behind (record { count = n; saved = t.lineage.saved }) (event_of e)
+    → HasNoted es t → HasNoted (es ++ e ∷ []) u
+goes_on t u es e cs n event rows counted behind old = record {
+  columns =
+      rows ∙ ap (λ ds. ds ++ instants t.lineage.count e.rows) event
+      ∙ append_assoc (map column_seen t.columns.items) (marked (event_of e)) (instants t.lineage.count e.rows)
+      ∙ (λ i. old.columns i ++ entry_columns (old.lineage i) e)
+      ∙ sym (columns_more newborn es e);
+  lineage =
+      behind ∙ ap (λ m. lineage_behind (record { count = m; saved = t.lineage.saved }) (event_of e)) counted
+      ∙ ap (λ l. lineage_after l e) old.lineage
+      ∙ sym (lineage_more newborn es e);
+}

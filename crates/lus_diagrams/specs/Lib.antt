@@ -1,13 +1,3 @@
-pub mod Texts
-pub mod Words
-pub mod Items
-pub mod Rows
-pub mod Entries
-pub mod View
-pub mod Journals
-pub mod JournalView
-pub mod Accepted
 pub mod Columns
 pub mod ColumnView
-pub mod Plain
-pub mod Printed
+pub mod Tables

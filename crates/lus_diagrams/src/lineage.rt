@@ -1,10 +1,9 @@
 //! The number of each instant in its lineage: the instants since a reset, a restore going back to its save's.
 
-ghost use Rattle.std.specs.Prelude.{◌≡◌, ◌<◌, ℕ};
-ghost use Rattle.lus_diagrams.specs.Columns.{IsWithin, lineage_behind, mark_between, slot_value};
-ghost use Rattle.lus_diagrams.specs.View.{entry_seen};
+ghost use Rattle.std.specs.Prelude.{◌≡◌};
+ghost use Rattle.lus_diagrams.specs.Columns.{event_between, lineage_behind};
 
-use crate::entry::{Entry, Reply, Request};
+use lus_requests::{Reply, Request};
 
 /// What stands above a column: the number of an instant in its lineage, or what happened between instants. A burst has the
 /// number of its instants, which follow.
@@ -13,8 +12,8 @@ pub enum Head {
     Instant(u64),
     Burst(u64),
     Reset,
-    Save(u8),
-    Restore(u8),
+    Save(u64),
+    Restore(u64),
 }
 
 /// How many instants an instance has lived through, and how many each slot recorded.
@@ -24,43 +23,27 @@ pub(crate) struct Lineage {
     pub saved: [u64; 8],
 }
 
-/// The number of a slot; 0 where a text is none.
-fn slot_value(slot: &str) -> u8
-    ensures value { result ≡ slot_value slot.now }
-    ensures small { result < 8 }
+/// The event of an entry that accepted so many instants, if it is one.
+pub(crate) fn event_of(instants: usize, request: &Request, reply: &Reply) -> Option<Head>
+    ensures { result ≡ event_between instants request.now reply.now }
 {
-    match slot.as_bytes() {
-        [digit] if 48 <= *digit && *digit <= 55 => *digit - 48,
-        _ => 0,
-    }
-}
-
-/// The mark that an entry of so many accepted rows leaves.
-pub(crate) fn mark_of(rows: usize, entry: &Entry<'_>) -> Option<Head>
-    ensures { let e = entry_seen entry.now in result ≡ mark_between rows e.request e.reply }
-{
-    match (entry.request, entry.reply) {
-        (Request::Burst(_), Reply::Rows(_)) => Some(Head::Burst(rows as u64)),
+    match (request, reply) {
+        (Request::Burst(_), Reply::Rows(_)) => Some(Head::Burst(instants as u64)),
         (Request::Reset, Reply::Done) => Some(Head::Reset),
-        (Request::Save(slot), Reply::Done) => Some(Head::Save(slot_value(slot))),
-        (Request::Restore(slot), Reply::Done) => Some(Head::Restore(slot_value(slot))),
+        (Request::Save(slot), Reply::Done) => Some(Head::Save(*slot)),
+        (Request::Restore(slot), Reply::Done) => Some(Head::Restore(*slot)),
         _ => None,
     }
 }
 
-/// The lineage behind the mark of an entry of so many accepted rows.
-pub(crate) fn lineage_behind(mut lineage: Lineage, rows: usize, entry: &Entry<'_>) -> Lineage
-    ensures gives { let e = entry_seen entry.now in result ≡ lineage_behind lineage (mark_between rows e.request e.reply) }
-    ensures within { (i : ℕ) → IsWithin i lineage → IsWithin i result }
+/// The lineage behind an event.
+pub(crate) fn lineage_behind(mut lineage: Lineage, event: Option<Head>) -> Lineage
+    ensures { result ≡ lineage_behind lineage event }
 {
-    match (entry.request, entry.reply) {
-        (Request::Reset, Reply::Done) => lineage.count = 0,
-        (Request::Save(slot), Reply::Done) => {
-            lineage.saved[slot_value(slot) as usize] = lineage.count;
-        }
-        (Request::Restore(slot), Reply::Done) => {
-            lineage.count = lineage.saved[slot_value(slot) as usize];
-        }
+    match event {
+        Some(Head::Reset) => lineage.count = 0,
+        Some(Head::Save(slot)) if slot < 8 => lineage.saved[slot as usize] = lineage.count,
+        Some(Head::Restore(slot)) if slot < 8 => lineage.count = lineage.saved[slot as usize],
         _ => {}
     }
     lineage

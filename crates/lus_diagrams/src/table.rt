@@ -1,129 +1,131 @@
-//! The table of a journal: a column for each accepted instant, and marks between them.
+//! The table of a journal, which grows entry by entry.
 
-ghost use Rattle.std.specs.Prelude.{◌≡◌, ◌≤◌, ◌++◌, ◌+◌, IfOk, OnOk, length, map, string_bytes};
-ghost use Rattle.lus_diagrams.specs.Accepted.{row_seen};
-ghost use Rattle.lus_diagrams.specs.Columns.{IsWithin, cells_of, columns_of, entry_columns, instants, lineage_after, marked, title_of};
+ghost use Rattle.std.specs.Prelude.{◌≡◌, ◌++◌, ◌+◌, ◌∷◌, [], IfOk, List, OnOk, length, map};
+ghost use Rattle.lus_diagrams.specs.Columns.{Noted, instants, marked, noted};
 ghost use Rattle.lus_diagrams.specs.ColumnView.{column_seen};
-ghost use Rattle.lus_diagrams.specs.View.{entry_seen};
+ghost use Rattle.lus_diagrams.specs.Tables.{HasNoted};
 
-use crate::accepted::{Row, accepted_rows};
-use crate::entry::Entry;
-use crate::items::push_items;
-use crate::lineage::{Head, Lineage, lineage_behind, mark_of};
-use std::alloc::{AllocError, Global};
+use crate::lineage::{Head, Lineage, event_of, lineage_behind};
+use lus_requests::{Reply, Request};
+use lus_values::{Memory, Row};
+use std::alloc::Global;
 
-/// A column of the table: an accepted instant with its inputs and outputs, or a burst, a reset, a save or a restore, with none.
+/// A column: an accepted instant with the entries of its signals, or an event between instants, with none. It stands on this line of
+/// the journal's file, counted from 1.
 #[derive(Drop)]
-pub struct Column<'a> {
+pub struct Column {
     pub head: Head,
-    pub title: String,
-    pub cells: Vec<&'a str>,
+    pub line: u64,
+    pub cells: Row,
 }
 
-impl Column<'_> {
-    /// The length of the longest text of the column.
-    pub(crate) fn width(&self) -> usize {
-        let mut most = self.title.len();
-        for cell in &self.cells {
-            most = most.max(cell.len());
-        }
-        most
-    }
+/// A refused call: its line, and how many columns stand before it.
+#[derive(Clone, Copy)]
+pub struct Refusal {
+    pub line: u64,
+    pub before: usize,
 }
 
-/// What stands above a column.
-fn title_of(alloc: Global, head: Head) -> Result<String, AllocError>
-    ensures { IfOk result (λ title. string_bytes title ≡ title_of head) }
-{
-    match head {
-        Head::Instant(number) => format!(in alloc; "{number}"),
-        Head::Burst(count) => format!(in alloc; "burst {count}"),
-        Head::Reset => String::from_str(alloc, "reset"),
-        Head::Save(slot) => format!(in alloc; "save {slot}"),
-        Head::Restore(slot) => format!(in alloc; "restore {slot}"),
-    }
+/// The table of a journal so far.
+#[derive(Drop)]
+pub struct Table {
+    pub columns: Vec<Column>,
+    pub refusals: Vec<Refusal>,
+    line: u64,
+    lineage: Lineage,
 }
 
-fn cells_of<'a>(alloc: Global, row: Row<'a>) -> Result<Vec<&'a str>, AllocError>
-    ensures { IfOk result (λ v. map (λ t. t.now) v.items ≡ cells_of (row_seen row.entry)) }
-{
-    let mut cells = Vec::new(alloc);
-    push_items(alloc, &mut cells, row.inputs)?;
-    push_items(alloc, &mut cells, row.outputs)?;
-    Ok(cells)
-}
-
-/// Appends a column without values, if there is a mark.
-fn push_mark(
+/// Appends a column without cells, if there is an event.
+fn push_event(
     alloc: Global,
-    columns: &mut Vec<Column<'_>>,
-    mark: Option<Head>,
-) -> Result<(), AllocError>
-    ensures pushed { OnOk result (map column_seen columns.new.items ≡ map column_seen columns.old.items ++ marked mark) }
+    columns: &mut Vec<Column>,
+    line: u64,
+    event: Option<Head>,
+) -> Result<(), Memory>
+    ensures { OnOk result (map column_seen columns.new.items ≡ map column_seen columns.old.items ++ marked event) }
 {
-    if let Some(head) = mark {
-        let title = title_of(alloc, head)?;
-        columns.push(Column {
-            head,
-            title,
-            cells: Vec::new(alloc),
-        })?;
+    if let Some(head) = event {
+        let cells = Row::new(Vec::new(alloc));
+        columns.push(Column { head, line, cells })?;
     }
     Ok(())
 }
 
-/// Appends the columns of instants, of which the first has the number behind this one, and gives the last number.
-fn push_instants<'a>(
-    alloc: Global,
-    columns: &mut Vec<Column<'a>>,
+/// Appends the columns of instants, of which the first has the number behind this one, and gives the last number. More of them than a
+/// number counts have no room either.
+fn push_instants(
+    columns: &mut Vec<Column>,
+    line: u64,
     count: u64,
-    rows: &[Row<'a>],
-) -> Result<u64, AllocError>
-    requires { count ≤ length columns.now.items }
-    ensures pushed { OnOk result (map column_seen columns.new.items ≡ map column_seen columns.old.items ++ instants count (map row_seen rows.now)) }
-    ensures counted { IfOk result (λ n. n ≡ count + length rows.now) }
+    rows: Vec<Row>,
+) -> Result<u64, Memory>
+    ensures pushed { OnOk result (map column_seen columns.new.items ≡ map column_seen columns.old.items ++ instants count rows.items) }
+    ensures counted { IfOk result (λ n. n ≡ count + length rows.items) }
 {
     let mut number = count;
-    for row in rows {
-        let cells = cells_of(alloc, *row)?;
-        number += 1;
+    for cells in rows {
+        let Some(next) = number.checked_add(1) else {
+            return Err(Memory);
+        };
+        number = next;
         let head = Head::Instant(number);
-        let title = title_of(alloc, head)?;
-        columns.push(Column { head, title, cells })?;
+        columns.push(Column { head, line, cells })?;
     }
     Ok(number)
 }
 
-/// Appends the columns of an entry, and gives the lineage behind it.
-#[tactic(auto, using(crate::proofs::Going::so_many))]
-fn push_entry<'a>(
-    alloc: Global,
-    columns: &mut Vec<Column<'a>>,
-    mut lineage: Lineage,
-    entry: &Entry<'a>,
-) -> Result<Lineage, AllocError>
-    requires { IsWithin (length columns.now.items) lineage }
-    ensures pushed { OnOk result (map column_seen columns.new.items ≡ map column_seen columns.old.items ++ entry_columns lineage (entry_seen entry.now)) }
-    ensures behind { IfOk result (λ after. after ≡ lineage_after lineage (entry_seen entry.now)) }
-    ensures within { IfOk result (λ after. IsWithin (length columns.new.items) after) }
-{
-    let rows = accepted_rows(alloc, entry)?;
-    push_mark(alloc, columns, mark_of(rows.len(), entry))?;
-    lineage.count = push_instants(alloc, columns, lineage.count, &rows)?;
-    Ok(lineage_behind(lineage, rows.len(), entry))
+/// Appends the line of a call, if it was refused.
+fn push_refusal(
+    refusals: &mut Vec<Refusal>,
+    line: u64,
+    before: usize,
+    reply: &Reply,
+) -> Result<(), Memory> {
+    if let Reply::Refused(_) = reply {
+        refusals.push(Refusal { line, before })?;
+    }
+    Ok(())
 }
 
-/// The columns of a journal's entries, in their order. Refused calls have none.
-pub fn columns<'a>(alloc: Global, entries: &[Entry<'a>]) -> Result<Vec<Column<'a>>, AllocError>
-    ensures { IfOk result (λ v. map column_seen v.items ≡ columns_of (map entry_seen entries.now)) }
-{
-    let mut columns = Vec::new(alloc);
-    let mut lineage = Lineage {
-        count: 0,
-        saved: [0; 8],
-    };
-    for entry in entries {
-        lineage = push_entry(alloc, &mut columns, lineage, entry)?;
+impl Table {
+    /// Before the first entry of a journal whose first line has this number in its file.
+    pub fn new(alloc: Global, line: u64) -> Table
+        ensures { HasNoted [] result }
+    {
+        Table {
+            columns: Vec::new(alloc),
+            refusals: Vec::new(alloc),
+            line,
+            lineage: Lineage {
+                count: 0,
+                saved: [0; 8],
+            },
+        }
     }
-    Ok(columns)
+
+    /// Goes on behind a line that is no entry.
+    pub fn pass(&mut self)
+        ensures { (es : List Noted) → HasNoted es self.old → HasNoted es self.new }
+    {
+        self.line = self.line.saturating_add(1);
+    }
+
+    /// Goes on behind an entry, the next of the journal, with the cells of each instant that it accepted.
+    pub fn note(
+        &mut self,
+        alloc: Global,
+        request: &Request,
+        reply: &Reply,
+        rows: Vec<Row>,
+    ) -> Result<(), Memory>
+        ensures { OnOk result ((es : List Noted) → HasNoted es self.old → HasNoted (es ++ noted request.now reply.now rows.items ∷ []) self.new) }
+    {
+        self.line = self.line.saturating_add(1);
+        push_refusal(&mut self.refusals, self.line, self.columns.len(), reply)?;
+        let event = event_of(rows.len(), request, reply);
+        push_event(alloc, &mut self.columns, self.line, event)?;
+        self.lineage.count = push_instants(&mut self.columns, self.line, self.lineage.count, rows)?;
+        self.lineage = lineage_behind(self.lineage, event);
+        Ok(())
+    }
 }

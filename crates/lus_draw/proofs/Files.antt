@@ -1,39 +1,61 @@
 -- What is drawn of the bytes that were read is drawn of the files'.
-use Rattle.std.proofs.Common.{◌≡◌, ◌<◌, inl, inr, subst, ℕ, length, take, Option, Some, is_some}
+use Rattle.std.proofs.Common.{◌≡◌, ◌<◌, inl, inr, subst, ℕ, length, take}
 use Rattle.lus_program.specs.Programs.{Program}
-use Rattle.lus_cli.specs.MachineSpecs.Acceptance.{Accepted}
 use Rattle.lus_devices.specs.Devices.{Bytes}
 use Rattle.lus_devices.specs.Folders.{Known, WithFile}
 use Rattle.lus_cli.proofs.HostProofs.Sources.{read_whole}
 use Rattle.lus_cli.proofs.ProgramLemmas.{file_then}
-use Rattle.lus_cli.specs.CommandLine.{Text}
 use Rattle.lus_cli.specs.Ends.{IsLost, IsReadingFault}
-use Rattle.lus_cli.specs.Programs.{IsProgramFault}
+use Rattle.lus_cli.specs.Programs.{IsOfFile, IsProgramFault}
 use Rattle.lus_cli.specs.declared.fault.Fault.{Fault}
 use Rattle.lus_cli.specs.declared.fault.Fault.TheVariants as faults
-use Rattle.lus_draw.specs.Drawings.{IsDrawingFault}
-use Rattle.lus_draw.specs.Ends.{DrawFails, IsNamed}
+use Rattle.lus_draw.specs.CommandLine.{Drawing}
+use Rattle.lus_draw.specs.Drawings.{BeginsJournal, IsDrawingFault, IsJournalFault, IsPageFault}
+use Rattle.lus_draw.specs.Ends.{DrawingFails, PageFails}
 
--- the program of a file gives names
-pub named : (known : Text → Known) (name : Text) (p : Program) → WithFile (known name) (λ text. Accepted text p) → IsNamed known (Some name)
-named known name p = file_then (known name) (λ text. Accepted text p) (λ text. (q : Program) × Accepted text q) (λ text a. (p, a))
+-- a file that was read whole
+module _ (file : Known) (n : ℕ) (bytes : Bytes) (short : length bytes < n) (read : WithFile file (λ left. bytes ≡ take n left)) where
+  pub of_file : (P : Bytes → Type 0) → P bytes → WithFile file P
+  of_file P so = file_then file (λ left. bytes ≡ take n left) P (λ left same. subst P (read_whole n bytes left same short) so) read
 
-module _ (read_fails : Known → Type 0) (known : Text → Known) where
-  -- a fault of the program that gives names
-  pub program_fails : (journal name : Text) (f : Fault) → IsProgramFault read_fails (known name) f → DrawFails read_fails known journal (Some name) f
-  program_fails journal name (faults.Program e) refused = refused
-  program_fails journal name faults.Memory memory = tt
-  program_fails journal name (faults.Journal k) never = absurd never
-  program_fails journal name (faults.Scripts e) never = absurd never
-  program_fails journal name faults.Words never = absurd never
-  program_fails journal name faults.File lost = inr lost
-  program_fails journal name faults.Output never = absurd never
-  program_fails journal name faults.Start never = absurd never
+module _ (read_fails : Known → Type 0) (journal : Known) where
+  -- a fault of reading the lines of a file
+  pub page_unread : (f : Fault) → IsReadingFault (IsLost read_fails journal) f → PageFails read_fails journal f
+  page_unread faults.File lost = lost
+  page_unread faults.Memory memory = tt
+  page_unread (faults.Program e) never = absurd never
+  page_unread (faults.Journal k) never = absurd never
+  page_unread (faults.Scripts e) never = absurd never
+  page_unread faults.Words never = absurd never
+  page_unread faults.Output never = absurd never
+  page_unread faults.Start never = absurd never
 
-  module _ (journal : Text) (program : Option Text) where
-    -- a fault of reading the file of journals
-    pub journal_unread : (f : Fault) → IsReadingFault (IsLost read_fails (known journal)) f → DrawFails read_fails known journal program f
-    journal_unread faults.File lost = inl lost
+  pub page_fails : (n : ℕ) (bytes : Bytes) → length bytes < n → WithFile journal (λ left. bytes ≡ take n left) → (f : Fault) → IsPageFault bytes f
+      → PageFails read_fails journal f
+  page_fails n bytes short read (faults.Journal k) cause = of_file journal n bytes short read (λ bs. BeginsJournal bs → ⊥) cause
+  page_fails n bytes short read faults.Memory memory = tt
+  page_fails n bytes short read (faults.Program e) never = absurd never
+  page_fails n bytes short read (faults.Scripts e) never = absurd never
+  page_fails n bytes short read faults.Words never = absurd never
+  page_fails n bytes short read faults.File never = absurd never
+  page_fails n bytes short read faults.Output never = absurd never
+  page_fails n bytes short read faults.Start never = absurd never
+
+  module _ (program : Known) (d : Drawing) where
+    -- a fault of the program
+    pub program_fails : (f : Fault) → IsProgramFault read_fails program f → DrawingFails read_fails program journal d f
+    program_fails faults.File lost = inl lost
+    program_fails (faults.Program e) refused = refused
+    program_fails faults.Memory memory = tt
+    program_fails (faults.Journal k) never = absurd never
+    program_fails (faults.Scripts e) never = absurd never
+    program_fails faults.Words never = absurd never
+    program_fails faults.Output never = absurd never
+    program_fails faults.Start never = absurd never
+
+    -- of reading the file of journals
+    pub journal_unread : (f : Fault) → IsReadingFault (IsLost read_fails journal) f → DrawingFails read_fails program journal d f
+    journal_unread faults.File lost = inr lost
     journal_unread faults.Memory memory = tt
     journal_unread (faults.Program e) never = absurd never
     journal_unread (faults.Journal k) never = absurd never
@@ -42,17 +64,15 @@ module _ (read_fails : Known → Type 0) (known : Text → Known) where
     journal_unread faults.Output never = absurd never
     journal_unread faults.Start never = absurd never
 
-    -- a file of journals that was read whole
-    module _ (n : ℕ) (bytes : Bytes) (short : length bytes < n) (read : WithFile (known journal) (λ left. bytes ≡ take n left)) where
-      pub drawn_of : (P : Bytes → Type 0) → P bytes → WithFile (known journal) P
-      drawn_of P p = file_then (known journal) (λ left. bytes ≡ take n left) P (λ left same. subst P (read_whole n bytes left same short) p) read
-
-      pub drawing_fails : (f : Fault) → IsDrawingFault (is_some program) bytes f → DrawFails read_fails known journal program f
-      drawing_fails (faults.Journal k) cause = drawn_of (λ bs. IsDrawingFault (is_some program) bs (faults.Journal k)) cause
-      drawing_fails faults.Memory memory = tt
-      drawing_fails (faults.Program e) never = absurd never
-      drawing_fails (faults.Scripts e) never = absurd never
-      drawing_fails faults.Words never = absurd never
-      drawing_fails faults.File never = absurd never
-      drawing_fails faults.Output never = absurd never
-      drawing_fails faults.Start never = absurd never
+    -- and of what it has
+    pub drawing_fails : (n : ℕ) (bytes : Bytes) → length bytes < n → WithFile journal (λ left. bytes ≡ take n left) → (p : Program) → IsOfFile program p → (f : Fault)
+        → IsDrawingFault d.selection p bytes f → DrawingFails read_fails program journal d f
+    drawing_fails n bytes short read p accepted (faults.Journal k) cause =
+        (p, accepted, of_file journal n bytes short read (λ bs. IsJournalFault d.selection p bs k) cause)
+    drawing_fails n bytes short read p accepted faults.Words by_name = by_name
+    drawing_fails n bytes short read p accepted faults.Memory memory = tt
+    drawing_fails n bytes short read p accepted (faults.Program e) never = absurd never
+    drawing_fails n bytes short read p accepted (faults.Scripts e) never = absurd never
+    drawing_fails n bytes short read p accepted faults.File never = absurd never
+    drawing_fails n bytes short read p accepted faults.Output never = absurd never
+    drawing_fails n bytes short read p accepted faults.Start never = absurd never

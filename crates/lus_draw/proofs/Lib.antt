@@ -1,1 +1,4 @@
+pub mod Accepted
+pub mod Audited
+pub mod Drawn
 pub mod Files

@@ -1,88 +1,130 @@
 -- What is drawn of the bytes of journals, and why nothing is.
-use Rattle.std.specs.Prelude.{◌≡◌, Bool, true, false, List, map, IsUtf8, Ok, Err, ⊤}
-use Rattle.lus_cli.specs.CommandLine.{Text}
-use Rattle.lus_cli.specs.declared.fault.Fault.{Fault}
-use Rattle.lus_cli.specs.declared.fault.Fault.TheVariants as faults
-use Rattle.lus_diagrams.specs.Columns.{Column, columns_of}
+use Rattle.std.specs.Prelude.{◌≡◌, ◌≢◌, ◌⊎◌, ◌++◌, ℕ, Bool, true, false, List, [], ◌∷◌, map, take, length, codes, Option, Some, None, IsUtf8, string_bytes, ⊤}
+use Rattle.lus_values.specs.Names.{Names}
+use Rattle.lus_program.specs.Programs.{Program}
+use Rattle.lus_diagrams.specs.Columns.{Column}
 use Rattle.lus_diagrams.specs.ColumnView.{column_seen}
-use Rattle.lus_diagrams.specs.Journals.{Journal, journals_of}
-use Rattle.lus_diagrams.specs.declared.diagram.Diagram.{Diagram}
 use Rattle.lus_traces.specs.Parts.{part_of}
 use Rattle.lus_traces.specs.declared.parts.Part.{Part}
-use Rattle.lus_traces.specs.Pages.{Sheet, lines_of, page_text}
+use Rattle.lus_traces.specs.Pages.{Line, page_text, whole_lines}
 use Rattle.lus_traces.specs.Tables.{csv_text}
-use Rattle.lus_traces.specs.Traces.{Trace}
+use Rattle.lus_traces.specs.Traces.{Trace, name_of}
+use Rattle.lus_lawful.specs.Audits.{HasAudited}
+use Rattle.lus_lawful.specs.Findings.{AreNone}
+use Rattle.lus_lawful.specs.Journals.{Journal}
+use Rattle.lus_lawful.specs.declared.error.AuditError.{AuditError}
+use Rattle.lus_lawful.specs.declared.error.AuditError.TheVariants as errors
+use Rattle.lus_cli.specs.CommandLine.{Text}
+use Rattle.lus_cli.specs.MachineSpecs.Constructors.{names_of}
+use Rattle.lus_cli.specs.declared.fault.Fault.{Fault}
+use Rattle.lus_cli.specs.declared.fault.Fault.TheVariants as faults
+use Rattle.lus_sketches.specs.Selections.{IsByName, IsPicked, Selection}
+use Rattle.lus_sketches.specs.declared.sketches.Failure.{Failure}
+use Rattle.lus_sketches.specs.declared.sketches.Failure.TheVariants as failures
+use Rattle.lus_draw.specs.CommandLine.{Drawing}
+use Rattle.lus_draw.specs.Gatherings.{AreDrawn, IsTableOf}
+use Rattle.lus_draw.specs.declared.gathering.Drawn.{Drawn}
 use Rattle.lus_draw.specs.declared.words.Format.{Format}
 use Rattle.lus_draw.specs.declared.words.Format.TheVariants as formats
 
--- the columns of a part of a journal's table
-abbrev pub journal_columns : Part → Journal → List Column
-journal_columns p j = part_of p (columns_of j.entries)
+-- ---- what is written
 
-abbrev pub diagram_columns : Diagram → List Column
-diagram_columns d = map column_seen d.columns.items
+-- the trace of a part of a journal's table
+pub record IsTrace (s : Selection) (p : Program) (part : Part) (j : Journal) (t : Trace) : Type 0 where
+  pub whole : List Column
+  pub table : IsTableOf s p j t.instance t.names whole
+  pub columns : t.columns ≡ part_of part whole
 
--- an instance, and the columns of its table
-abbrev pub Table : Type 0
-Table = Text × List Column
+-- journals have these traces, in their order
+abbrev pub AreTraces : Selection → Program → Part → List Journal → List Trace → Type 0
+AreTraces s p part [] [] = ⊤
+AreTraces s p part [] (t ∷ ts) = ⊥
+AreTraces s p part (j ∷ js) [] = ⊥
+AreTraces s p part (j ∷ js) (t ∷ ts) = IsTrace s p part j t × AreTraces s p part js ts
 
-abbrev pub journal_table : Part → Journal → Table
-journal_table p j = (j.instance, journal_columns p j)
+-- bytes begin with a text, which is all of them where they are one
+abbrev pub IsFrontOf : Text → Text → Type 0
+IsFrontOf bytes text = ((rest : Text) × (bytes ≡ text ++ rest)) × (IsUtf8 bytes → bytes ≡ text)
 
-abbrev pub table_of : Trace → Table
-table_of t = (t.instance, t.columns)
+abbrev pub texts : List Line → List Text
+texts ls = map (λ l. l.text) ls
 
--- CSV that has a part of these journals' tables, with names for their rows
-abbrev pub AreTablesOf : Part → List Journal → Text → Type 0
-AreTablesOf p journals written = (ts : List Trace) × (map table_of ts ≡ map (journal_table p) journals) × (written ≡ csv_text ts)
+-- a page that has exactly the whole lines of a text, with further ones behind them
+abbrev pub DrawsLines : Text → Text → Type 0
+DrawsLines text written = (ls : List Line) × (texts ls ≡ texts (whole_lines text)) × (written ≡ page_text ls)
 
--- the names of an instance and its node, and the lines of its entries
-abbrev pub Lines : Type 0
-Lines = Text × Text × List Text
+-- what is written of a text of journals: of text, waves and a value change dump nothing is said
+abbrev pub IsShown : Format → Names → Text → List Trace → Text → Type 0
+IsShown formats.Text names text ts written = ⊤
+IsShown formats.Waves names text ts written = ⊤
+IsShown formats.Html names text ts written = DrawsLines text written
+IsShown formats.Csv names text ts written = written ≡ csv_text names ts
+IsShown formats.Vcd names text ts written = ⊤
 
-abbrev pub journal_lines : Journal → Lines
-journal_lines j = (j.instance, j.node, lines_of j.entries)
+-- The bytes are journals that an audit finds lawful, perhaps with bytes behind their last line feed. Each has a trace, and this is written
+-- of them.
+pub record Draws (p : Program) (d : Drawing) (bytes written : Text) : Type 0 where
+  pub traces : List Trace
+  pub report : Text
+  pub audited : HasAudited p (λ js. AreTraces d.selection p d.part js traces) None (Some bytes) report
+  pub text : Text
+  pub front : IsFrontOf bytes text
+  pub shown : IsShown d.format (names_of p) text traces written
 
-abbrev pub sheet_lines : Sheet → Lines
-sheet_lines s = (s.instance, s.node, s.lines)
+-- without a program, a page of the lines of bytes that begin as journals do
+abbrev pub BeginsJournal : Text → Type 0
+BeginsJournal bytes = (rest : Text) × (bytes ≡ codes "instance " ++ rest)
 
--- a page that has these journals' lines, with names for their inputs and outputs
-abbrev pub IsPageOf : List Journal → Text → Type 0
-IsPageOf journals written = (ss : List Sheet) × (map sheet_lines ss ≡ map journal_lines journals) × (written ≡ page_text ss)
+abbrev pub IsLinePage : Text → Text → Type 0
+IsLinePage bytes written = (text : Text) × IsFrontOf bytes text × DrawsLines text written
 
--- what is written of a part of journals, which of a page is the whole: of text, waves and a value change dump nothing is said
-abbrev pub IsShown : Format → Part → List Journal → Text → Type 0
-IsShown formats.Text p journals written = ⊤
-IsShown formats.Waves p journals written = ⊤
-IsShown formats.Html p journals written = IsPageOf journals written
-IsShown formats.Csv p journals written = AreTablesOf p journals written
-IsShown formats.Vcd p journals written = ⊤
+-- ---- why nothing is
 
--- the bytes are a text of journals, of which this is written
-pub record Draws (format : Format) (part : Part) (bytes written : Text) : Type 0 where
-  pub utf8 : IsUtf8 bytes
-  pub journals : List Journal
-  pub read : journals_of bytes ≡ Ok journals
-  pub shown : IsShown format part journals written
+-- Line n is none of a journal there, of journals that can be read back; or it isn't the right one; or a world is lost, where signals are
+-- selected.
+abbrev pub IsJournalFault : Selection → Program → Text → ℕ → Type 0
+IsJournalFault s p bytes n =
+    AreNone p (Some bytes) ⊎ (((report : Text) × HasAudited p (λ js. ⊤) (Some n) (Some bytes) report) ⊎ IsPicked s)
 
--- a journal whose node the program doesn't have, or has with other inputs or outputs; or out of memory
-abbrev pub IsDiagramFault : Bool → Fault → Type 0
-IsDiagramFault named (faults.Journal n) = named ≡ true
-IsDiagramFault named faults.Memory = ⊤
-IsDiagramFault named (faults.Program e) = ⊥
-IsDiagramFault named (faults.Scripts e) = ⊥
-IsDiagramFault named faults.Words = ⊥
-IsDiagramFault named faults.File = ⊥
-IsDiagramFault named faults.Output = ⊥
-IsDiagramFault named faults.Start = ⊥
+abbrev pub IsDrawingFault : Selection → Program → Text → Fault → Type 0
+IsDrawingFault s p bytes (faults.Journal n) = IsJournalFault s p bytes n
+IsDrawingFault s p bytes faults.Words = IsByName s
+IsDrawingFault s p bytes faults.Memory = ⊤
+IsDrawingFault s p bytes (faults.Program e) = ⊥
+IsDrawingFault s p bytes (faults.Scripts e) = ⊥
+IsDrawingFault s p bytes faults.File = ⊥
+IsDrawingFault s p bytes faults.Output = ⊥
+IsDrawingFault s p bytes faults.Start = ⊥
 
--- without a program, the line that is told of a text is the first that is none of a journal
-abbrev pub IsDrawingFault : Bool → Text → Fault → Type 0
-IsDrawingFault named bytes (faults.Journal n) = named ≡ false → IsUtf8 bytes → journals_of bytes ≡ Err n
-IsDrawingFault named bytes faults.Memory = ⊤
-IsDrawingFault named bytes (faults.Program e) = ⊥
-IsDrawingFault named bytes (faults.Scripts e) = ⊥
-IsDrawingFault named bytes faults.Words = ⊥
-IsDrawingFault named bytes faults.File = ⊥
-IsDrawingFault named bytes faults.Output = ⊥
-IsDrawingFault named bytes faults.Start = ⊥
+-- without a program the bytes don't begin as journals do
+abbrev pub IsPageFault : Text → Fault → Type 0
+IsPageFault bytes (faults.Journal n) = BeginsJournal bytes → ⊥
+IsPageFault bytes faults.Memory = ⊤
+IsPageFault bytes (faults.Program e) = ⊥
+IsPageFault bytes (faults.Scripts e) = ⊥
+IsPageFault bytes faults.Words = ⊥
+IsPageFault bytes faults.File = ⊥
+IsPageFault bytes faults.Output = ⊥
+IsPageFault bytes faults.Start = ⊥
+
+abbrev pub audit_fault : AuditError → Fault
+audit_fault (errors.Line n) = faults.Journal n
+audit_fault errors.Read = faults.Memory
+audit_fault errors.Memory = faults.Memory
+
+abbrev pub failure_fault : Failure → Fault
+failure_fault failures.Unknown = faults.Words
+failure_fault (failures.Lost n) = faults.Journal n
+
+-- ---- on the way
+
+-- the trace that a part of what was drawn has
+abbrev pub trace_of : Part → Drawn → Trace
+trace_of part d = record {
+  instance = string_bytes d.heading.instance;
+  names = map name_of d.signals.items;
+  columns = part_of part (map column_seen d.table.columns.items);
+}
+
+abbrev pub IsGathered : Selection → Program → Text → List Drawn → Type 0
+IsGathered s p bytes ds = (report : Text) × HasAudited p (λ js. AreDrawn s p js ds) None (Some bytes) report

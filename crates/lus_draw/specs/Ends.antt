@@ -1,53 +1,55 @@
 -- How drawing ends: what was drawn of the files, or which fault ended it.
-use Rattle.std.specs.Prelude.{◌⊎◌, Option, Some, None, Result, ⊤, is_some}
-use Rattle.lus_syntax.specs.declared.refusal.Refusal.{Refusal}
+use Rattle.std.specs.Prelude.{◌⊎◌, Result, ⊤}
 use Rattle.lus_program.specs.Programs.{Program}
-use Rattle.lus_cli.specs.MachineSpecs.Acceptance.{Accepted}
 use Rattle.lus_devices.specs.Folders.{Known, WithFile}
 use Rattle.lus_cli.specs.HostSpecs.Sources.{ProgramRefused}
 use Rattle.lus_cli.specs.Changes.{Change}
 use Rattle.lus_cli.specs.CommandLine.{Text}
 use Rattle.lus_cli.specs.Ends.{IsLost, SaysEnds}
+use Rattle.lus_cli.specs.Programs.{IsOfFile}
 use Rattle.lus_cli.specs.declared.fault.Fault.{Fault}
 use Rattle.lus_cli.specs.declared.fault.Fault.TheVariants as faults
-use Rattle.lus_traces.specs.declared.parts.Part.{Part}
-use Rattle.lus_draw.specs.CommandLine.{Asked}
-use Rattle.lus_draw.specs.Drawings.{Draws, IsDrawingFault}
-use Rattle.lus_draw.specs.declared.words.Format.{Format}
+use Rattle.lus_sketches.specs.Selections.{IsByName}
+use Rattle.lus_draw.specs.CommandLine.{Asked, Drawing, drawing_of, page_of}
+use Rattle.lus_draw.specs.Drawings.{BeginsJournal, Draws, IsJournalFault, IsLinePage}
 
--- the program whose names are used is accepted, where its bytes are known
-abbrev pub IsNamed : (Text → Known) → Option Text → Type 0
-IsNamed known None = ⊤
-IsNamed known (Some program) = WithFile (known program) (λ text. (p : Program) × Accepted text p)
+-- a drawing of the journals of a file, of nodes of the program of another
+abbrev pub IsDrawing : Known → Known → Drawing → Text → Type 0
+IsDrawing program journal d drawn = (p : Program) × IsOfFile program p × WithFile journal (λ bytes. Draws p d bytes drawn)
 
--- the program's file is lost
-abbrev pub IsProgramLost : (Known → Type 0) → (Text → Known) → Option Text → Type 0
-IsProgramLost read_fails known None = ⊥
-IsProgramLost read_fails known (Some program) = IsLost read_fails (known program)
+-- what is drawn is what was asked for
+abbrev pub IsDrawn : (Text → Known) → Asked → Text → Type 0
+IsDrawn known (page_of journal) drawn = WithFile (known journal) (λ bytes. IsLinePage bytes drawn)
+IsDrawn known (drawing_of d) drawn = IsDrawing (known d.program) (known d.journal) d drawn
 
--- the program is refused, where its bytes are known
-abbrev pub IsProgramRefused : (Text → Known) → Option Text → Refusal → Type 0
-IsProgramRefused known None e = ⊥
-IsProgramRefused known (Some program) e = WithFile (known program) (λ text. ProgramRefused text e)
+-- why journals aren't drawn: a file is lost, or the program is refused; or it is accepted, and the journals are at fault; or a name is
+-- unknown
+abbrev pub DrawingFails : (Known → Type 0) → Known → Known → Drawing → Fault → Type 0
+DrawingFails read_fails program journal d faults.File = IsLost read_fails program ⊎ IsLost read_fails journal
+DrawingFails read_fails program journal d (faults.Program e) = WithFile program (λ text. ProgramRefused text e)
+DrawingFails read_fails program journal d (faults.Journal n) =
+    (p : Program) × IsOfFile program p × WithFile journal (λ bytes. IsJournalFault d.selection p bytes n)
+DrawingFails read_fails program journal d faults.Words = IsByName d.selection
+DrawingFails read_fails program journal d faults.Memory = ⊤
+DrawingFails read_fails program journal d (faults.Scripts e) = ⊥
+DrawingFails read_fails program journal d faults.Output = ⊥
+DrawingFails read_fails program journal d faults.Start = ⊥
 
--- why nothing is drawn of the journals of this name, perhaps with the names of a program
-abbrev pub DrawFails : (Known → Type 0) → (Text → Known) → Text → Option Text → Fault → Type 0
-DrawFails read_fails known journal program faults.File = IsLost read_fails (known journal) ⊎ IsProgramLost read_fails known program
-DrawFails read_fails known journal program (faults.Program e) = IsProgramRefused known program e
-DrawFails read_fails known journal program (faults.Journal n) =
-    WithFile (known journal) (λ bytes. IsDrawingFault (is_some program) bytes (faults.Journal n))
-DrawFails read_fails known journal program faults.Memory = ⊤
-DrawFails read_fails known journal program (faults.Scripts e) = ⊥
-DrawFails read_fails known journal program faults.Words = ⊥
-DrawFails read_fails known journal program faults.Output = ⊥
-DrawFails read_fails known journal program faults.Start = ⊥
+-- why there is no page of a file's lines: it is lost, or doesn't begin as journals do
+abbrev pub PageFails : (Known → Type 0) → Known → Fault → Type 0
+PageFails read_fails journal faults.File = IsLost read_fails journal
+PageFails read_fails journal (faults.Journal n) = WithFile journal (λ bytes. BeginsJournal bytes → ⊥)
+PageFails read_fails journal faults.Memory = ⊤
+PageFails read_fails journal (faults.Program e) = ⊥
+PageFails read_fails journal (faults.Scripts e) = ⊥
+PageFails read_fails journal faults.Words = ⊥
+PageFails read_fails journal faults.Output = ⊥
+PageFails read_fails journal faults.Start = ⊥
 
--- the drawing of a part of the journals of this name
-abbrev pub IsDrawn : (Text → Known) → Format → Part → Text → Option Text → Text → Type 0
-IsDrawn known format part journal program drawn = WithFile (known journal) (λ bytes. Draws format part bytes drawn) × IsNamed known program
+abbrev pub DrawFails : (Known → Type 0) → (Text → Known) → Asked → Fault → Type 0
+DrawFails read_fails known (page_of journal) f = PageFails read_fails (known journal) f
+DrawFails read_fails known (drawing_of d) f = DrawingFails read_fails (known d.program) (known d.journal) d f
 
 -- the drawing is written; where there is none, nothing is
 abbrev pub TaskEnds : (Known → Type 0) → (Text → Known) → Asked → Result (Unit {0}) Fault → Change → Type 0
-TaskEnds read_fails known asked =
-    SaysEnds (λ done drawn. IsDrawn known asked.format asked.part asked.journal asked.program drawn)
-    (DrawFails read_fails known asked.journal asked.program)
+TaskEnds read_fails known asked = SaysEnds (λ done drawn. IsDrawn known asked drawn) (DrawFails read_fails known asked)

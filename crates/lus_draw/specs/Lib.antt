@@ -1,3 +1,4 @@
 pub mod CommandLine
 pub mod Drawings
 pub mod Ends
+pub mod Gatherings

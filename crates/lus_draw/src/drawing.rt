@@ -1,258 +1,225 @@
-//! What is drawn of a text of journals.
+//! What is drawn of bytes that are journals.
 
-ghost use Rattle.std.specs.Prelude.{◌≡◌, IfErr, IfOk, IsUtf8, OnOk, Ok, is_some, map, string_bytes, true};
-ghost use Rattle.lus_diagrams.specs.Journals.{IsFaultOf, journals_of};
-ghost use Rattle.lus_diagrams.specs.JournalView.{journal_seen};
-ghost use Rattle.lus_diagrams.specs.Columns.{columns_of};
-ghost use Rattle.lus_traces.specs.Parts.{part_of};
-ghost use Rattle.lus_draw.specs.Drawings.{AreTablesOf, Draws, IsDiagramFault, IsDrawingFault, IsShown, diagram_columns, journal_columns};
+ghost use Rattle.std.specs.Prelude.{◌≡◌, ◌≤◌, IfErr, IfOk, length, map, string_bytes};
+ghost use Rattle.lus_values.specs.Text.{Begins};
+ghost use Rattle.std.specs.Arc.{arc_value};
+ghost use Rattle.lus_cli.specs.CodeSpecs.Codes.{program_of};
+ghost use Rattle.lus_cli.specs.MachineSpecs.Constructors.{names_of};
+ghost use Rattle.lus_traces.specs.Pages.{text_of};
+ghost use Rattle.lus_traces.specs.Traces.{trace_seen};
+ghost use Rattle.lus_sketches.specs.Selections.{selection_seen};
+ghost use Rattle.lus_draw.specs.CommandLine.{drawing_seen};
+ghost use Rattle.lus_draw.specs.Drawings.{Draws, DrawsLines, IsDrawingFault, IsFrontOf, IsGathered, IsLinePage, IsPageFault, IsShown, audit_fault, failure_fault, trace_of};
 
-use crate::labels::labels;
-use crate::nodes::node_of;
-use crate::page::page;
-use crate::tracing::traces;
-use crate::words::Format;
+use crate::gathering::{Drawn, Gathering, Selects};
+use crate::words::{Drawing, Format};
 use lus_cli::Fault;
-use lus_cli::lus_host::Program;
-use lus_diagrams::{Diagram, Journal, JournalError, push_text, read_journals};
-use lus_traces::{Part, csv, part_of, refusals_of, vcd, waves};
-use std::alloc::{AllocError, Global};
+use lus_cli::lus_host::{Memory, Names, Program};
+use lus_lawful::{AuditError, audit};
+use lus_sketches::{Failure, Selection};
+use lus_traces::{Line, Part, Trace, csv, html, lines_of, push_further, text, vcd, waves};
+use std::alloc::Global;
+use std::marker::Brand;
 use std::str;
+use std::sync::Arc;
 
-/// The diagram of a journal, with the names of the program's node.
-fn named_diagram<'a>(
-    alloc: Global,
-    program: &Program,
-    journal: &Journal<'a>,
-) -> Result<Diagram<'a>, Fault>
-    ensures columns { IfOk result (λ d. diagram_columns d ≡ columns_of (journal_seen journal.now).entries) }
-    ensures fault { IfErr result (λ f. IsDiagramFault true f) }
+/// All instants of a journal.
+const WHOLE: Part = Part {
+    from: 1,
+    to: u64::MAX,
+};
+
+/// The fault of an audit that stopped. Reading of memory doesn't fail.
+fn audit_fault(error: AuditError) -> Fault
+    ensures { result ≡ audit_fault error }
 {
-    let node = node_of(program, journal)?;
-    let Ok(labels) = labels(alloc, program.names(), node) else {
-        return Err(Fault::Memory);
+    match error {
+        AuditError::Line(line) => Fault::Journal(line),
+        AuditError::Read | AuditError::Memory => Fault::Memory,
+    }
+}
+
+/// The fault of a journal that isn't drawn.
+fn fault_of(failure: Failure) -> Fault
+    ensures { result ≡ failure_fault failure }
+{
+    match failure {
+        Failure::Unknown => Fault::Words,
+        Failure::Lost(line) => Fault::Journal(line),
+    }
+}
+
+/// What is drawn of each journal, with the signals that are selected.
+fn gathered<K: Selects>(
+    alloc: Global,
+    program: &Arc<Program>,
+    selection: Selection<'_>,
+    bytes: &[u8],
+) -> Result<Vec<Drawn>, Fault>
+    requires { selection_seen selection ≡ K.selection }
+    ensures drawn { IfOk result (λ v. IsGathered K.selection (program_of (arc_value program.now)) bytes.now v.items) }
+    ensures fault { IfErr result (λ f. IsDrawingFault K.selection (program_of (arc_value program.now)) bytes.now f) }
+{
+    let mut source = bytes;
+    let mut gathering: Gathering<'_, K> = Gathering::new(alloc, selection);
+    let report = match audit(alloc, program, &mut source, &mut gathering) {
+        Ok(report) => report,
+        Err(error) => return Err(audit_fault(error)),
     };
-    match Diagram::labelled(alloc, journal, node.inputs as usize, labels) {
-        Ok(diagram) => Ok(diagram),
-        Err(_) => Err(Fault::Memory),
+    if let Some(line) = report.wrong {
+        return Err(Fault::Journal(line));
+    }
+    match gathering.failure {
+        Some(failure) => Err(fault_of(failure)),
+        None => Ok(gathering.drawn),
     }
 }
 
-/// The diagram of a journal, with the names of a program's node if there is one.
-fn whole_diagram<'a>(
+/// The trace of a part of a journal.
+fn trace(alloc: Global, part: Part, one: Drawn) -> Result<Trace, Memory>
+    ensures { IfOk result (λ t. trace_seen t ≡ trace_of part one) }
+{
+    Ok(Trace::new(alloc, one.heading, part, one.signals, one.table)?)
+}
+
+/// The traces of a part of journals.
+fn traces(alloc: Global, part: Part, drawn: Vec<Drawn>) -> Result<Vec<Trace>, Memory>
+    ensures { IfOk result (λ v. map trace_seen v.items ≡ map (trace_of part) drawn.items) }
+{
+    let mut traces = Vec::new(alloc);
+    for one in drawn {
+        traces.push(trace(alloc, part, one)?)?;
+    }
+    Ok(traces)
+}
+
+/// Adds the further lines of what is drawn of a journal.
+fn push_one(
     alloc: Global,
-    program: Option<&Program>,
-    journal: &Journal<'a>,
-) -> Result<Diagram<'a>, Fault>
-    ensures columns { IfOk result (λ d. diagram_columns d ≡ columns_of (journal_seen journal.now).entries) }
-    ensures fault { IfErr result (λ f. IsDiagramFault (is_some program.entry) f) }
+    names: &Names,
+    lines: &mut Vec<Line<'_>>,
+    one: Drawn,
+) -> Result<(), Memory>
+    ensures { map text_of lines.new.items ≡ map text_of lines.old.items }
 {
-    let Some(program) = program else {
-        return match Diagram::numbered(alloc, journal) {
-            Ok(diagram) => Ok(diagram),
-            Err(_) => Err(Fault::Memory),
-        };
-    };
-    named_diagram(alloc, program, journal)
+    let trace = Trace::new(alloc, one.heading, WHOLE, one.signals, one.table)?;
+    push_further(alloc, names, lines, &one.formals, &trace)
 }
 
-/// A diagram's part.
-fn part_diagram<'a>(
+/// Adds the further lines of what is drawn of journals.
+fn push_all(
     alloc: Global,
-    part: Part,
-    journal: &Journal<'a>,
-    whole: Diagram<'a>,
-) -> Result<Diagram<'a>, AllocError>
-    ensures columns { IfOk result (λ d. diagram_columns d ≡ part_of part (diagram_columns whole.entry)) }
+    names: &Names,
+    lines: &mut Vec<Line<'_>>,
+    drawn: Vec<Drawn>,
+) -> Result<(), Memory>
+    ensures { map text_of lines.new.items ≡ map text_of lines.old.items }
 {
-    let mut refused = Vec::new(alloc);
-    for refusal in &refusals_of(alloc, part, &journal.entries)? {
-        refused.push(refusal.line)?;
+    for one in drawn {
+        push_one(alloc, names, lines, one)?;
     }
-    Ok(Diagram {
-        instance: whole.instance,
-        node: whole.node,
-        inputs: whole.inputs,
-        labels: whole.labels,
-        columns: part_of(alloc, part, whole.columns)?,
-        refused,
-    })
+    Ok(())
 }
 
-/// The diagram of a part of a journal, with the names of a program's node if there is one.
-fn diagram<'a>(
-    alloc: Global,
-    program: Option<&Program>,
-    part: Part,
-    journal: &Journal<'a>,
-) -> Result<Diagram<'a>, Fault>
-    ensures columns { IfOk result (λ d. diagram_columns d ≡ journal_columns part (journal_seen journal.now)) }
-    ensures fault { IfErr result (λ f. IsDiagramFault (is_some program.entry) f) }
+/// A page of the lines of journals, with further ones for what is drawn.
+fn page(alloc: Global, names: &Names, journals: &str, drawn: Vec<Drawn>) -> Result<String, Memory>
+    ensures { IfOk result (λ s. DrawsLines journals.now (string_bytes s)) }
 {
-    let whole = whole_diagram(alloc, program, journal)?;
-    match part_diagram(alloc, part, journal, whole) {
-        Ok(diagram) => Ok(diagram),
-        Err(_) => Err(Fault::Memory),
-    }
+    let mut lines = lines_of(alloc, journals)?;
+    push_all(alloc, names, &mut lines, drawn)?;
+    Ok(html(alloc, &lines)?)
 }
 
-fn diagrams<'a>(
-    alloc: Global,
-    program: Option<&Program>,
-    part: Part,
-    journals: &[Journal<'a>],
-) -> Result<Vec<Diagram<'a>>, Fault>
-    ensures columns { IfOk result (λ v. map diagram_columns v.items ≡ map (journal_columns part) (map journal_seen journals.now)) }
-    ensures fault { IfErr result (λ f. IsDiagramFault (is_some program.entry) f) }
-{
-    let mut diagrams = Vec::new(alloc);
-    for journal in journals {
-        let diagram = diagram(alloc, program, part, journal)?;
-        if diagrams.push(diagram).is_err() {
-            return Err(Fault::Memory);
-        }
-    }
-    Ok(diagrams)
-}
-
-fn text_of(alloc: Global, diagrams: &[Diagram<'_>]) -> Result<String, AllocError> {
-    let mut out = String::new(alloc);
-    for (place, diagram) in diagrams.iter().enumerate() {
-        if place > 0 {
-            out.push_str("\n")?;
-        }
-        push_text(&mut out, diagram)?;
-    }
-    Ok(out)
-}
-
-/// The first line that is none of a journal, where what stands behind this front is no text.
-fn fault_behind(alloc: Global, front: &[u8]) -> JournalError {
-    let read = match str::from_utf8(front) {
-        Ok(text) => read_journals(alloc, text),
-        Err(_) => return JournalError::Line(1),
-    };
-    match read {
-        Ok(_) => {
-            let whole = front.iter().filter(|byte| **byte == b'\n').count();
-            JournalError::Line(whole as u64 + 1)
-        }
-        Err(error) => error,
-    }
-}
-
-/// The journals of bytes. Bytes that are no text are in a line that is none.
-fn journals_in(alloc: Global, bytes: &[u8]) -> Result<Vec<Journal<'_>>, JournalError>
-    ensures utf8 { OnOk result (IsUtf8 bytes.now) }
-    ensures read { IfOk result (λ v. journals_of bytes.now ≡ Ok (map journal_seen v.items)) }
-    ensures refused { IfErr result (λ e. IsUtf8 bytes.now → IsFaultOf e (journals_of bytes.now)) }
-{
-    match str::from_utf8(bytes) {
-        Ok(text) => read_journals(alloc, text),
-        Err(error) => Err(fault_behind(alloc, &bytes[..error.valid_up_to()])),
-    }
-}
-
-/// The diagrams of journals as text.
-fn text(
-    alloc: Global,
-    program: Option<&Program>,
-    part: Part,
-    journals: &[Journal<'_>],
-) -> Result<String, Fault>
-    ensures { IfErr result (λ f. IsDiagramFault (is_some program.entry) f) }
-{
-    let diagrams = diagrams(alloc, program, part, journals)?;
-    match text_of(alloc, &diagrams) {
-        Ok(text) => Ok(text),
-        Err(_) => Err(Fault::Memory),
-    }
-}
-
-/// A picture of the waves of journals.
-fn wave_picture(
-    alloc: Global,
-    program: Option<&Program>,
-    part: Part,
-    journals: &[Journal<'_>],
-) -> Result<String, Fault>
-    ensures { IfErr result (λ f. IsDiagramFault (is_some program.entry) f) }
-{
-    let traces = traces(alloc, program, part, journals)?;
-    match waves(alloc, &traces) {
-        Ok(waves) => Ok(waves),
-        Err(_) => Err(Fault::Memory),
-    }
-}
-
-/// The tables of journals as CSV.
-fn tables(
-    alloc: Global,
-    program: Option<&Program>,
-    part: Part,
-    journals: &[Journal<'_>],
-) -> Result<String, Fault>
-    ensures tables { IfOk result (λ s. AreTablesOf part (map journal_seen journals.now) (string_bytes s)) }
-    ensures fault { IfErr result (λ f. IsDiagramFault (is_some program.entry) f) }
-{
-    let traces = traces(alloc, program, part, journals)?;
-    match csv(alloc, &traces) {
-        Ok(tables) => Ok(tables),
-        Err(_) => Err(Fault::Memory),
-    }
-}
-
-/// A value change dump of journals.
-fn dump(
-    alloc: Global,
-    program: Option<&Program>,
-    part: Part,
-    journals: &[Journal<'_>],
-) -> Result<String, Fault>
-    ensures { IfErr result (λ f. IsDiagramFault (is_some program.entry) f) }
-{
-    let traces = traces(alloc, program, part, journals)?;
-    match vcd(alloc, &traces) {
-        Ok(dump) => Ok(dump),
-        Err(_) => Err(Fault::Memory),
-    }
-}
-
-/// What a format writes of journals.
+/// What a format writes of journals, of which this is the text.
 fn written(
     alloc: Global,
     format: Format,
-    program: Option<&Program>,
     part: Part,
-    journals: &[Journal<'_>],
-) -> Result<String, Fault>
-    ensures shown { IfOk result (λ s. IsShown format part (map journal_seen journals.now) (string_bytes s)) }
-    ensures fault { IfErr result (λ f. IsDiagramFault (is_some program.entry) f) }
+    names: &Names,
+    journals: &str,
+    drawn: Vec<Drawn>,
+) -> Result<String, Memory>
+    ensures { IfOk result (λ s. IsShown format names.now journals.now (map (trace_of part) drawn.items) (string_bytes s)) }
 {
     match format {
-        Format::Text => text(alloc, program, part, journals),
-        Format::Waves => wave_picture(alloc, program, part, journals),
-        Format::Html => page(alloc, program, journals),
-        Format::Csv => tables(alloc, program, part, journals),
-        Format::Vcd => dump(alloc, program, part, journals),
+        Format::Html => page(alloc, names, journals, drawn),
+        Format::Text => {
+            let lines = lines_of(alloc, journals)?;
+            text(alloc, names, &lines, &traces(alloc, part, drawn)?)
+        }
+        Format::Waves => {
+            let lines = lines_of(alloc, journals)?;
+            waves(alloc, names, &lines, &traces(alloc, part, drawn)?)
+        }
+        Format::Csv => csv(alloc, names, &traces(alloc, part, drawn)?),
+        Format::Vcd => vcd(alloc, names, &traces(alloc, part, drawn)?),
     }
 }
 
-/// What is written of the bytes of journals.
+/// A text that bytes begin with: so many of them, where these are one.
+fn front_of(bytes: &[u8], count: usize) -> &str
+    requires { count ≤ length bytes.now }
+    ensures { Begins result.now bytes.now }
+{
+    match str::from_utf8(&bytes[..count]) {
+        Ok(text) => text,
+        Err(_) => "",
+    }
+}
+
+/// The text that bytes begin with: all of them, where they are a text.
+fn text_in(bytes: &[u8]) -> &str
+    ensures { IsFrontOf bytes.now result.now }
+{
+    match str::from_utf8(bytes) {
+        Ok(text) => text,
+        Err(error) => front_of(bytes, error.valid_up_to()),
+    }
+}
+
+/// A page of lines alone.
+fn plain_page(alloc: Global, journals: &str) -> Result<String, Memory>
+    ensures { IfOk result (λ s. DrawsLines journals.now (string_bytes s)) }
+{
+    let lines = lines_of(alloc, journals)?;
+    Ok(html(alloc, &lines)?)
+}
+
+/// What is drawn of bytes that are journals of a program's nodes.
 pub fn drawing(
     alloc: Global,
-    format: Format,
-    part: Part,
-    program: Option<&Program>,
+    drawing: Drawing<'_>,
+    program: &Arc<Program>,
     bytes: &[u8],
 ) -> Result<String, Fault>
-    ensures drawn { IfOk result (λ s. Draws format part bytes.now (string_bytes s)) }
-    ensures fault { IfErr result (λ f. IsDrawingFault (is_some program.entry) bytes.now f) }
+    ensures drawn { IfOk result (λ s. Draws (program_of (arc_value program.now)) (drawing_seen drawing.entry) bytes.now (string_bytes s)) }
+    ensures fault { IfErr result (λ f. IsDrawingFault (selection_seen drawing.entry.selection) (program_of (arc_value program.now)) bytes.now f) }
 {
-    let journals = match journals_in(alloc, bytes) {
-        Ok(journals) => journals,
-        Err(JournalError::Line(line)) => return Err(Fault::Journal(line)),
-        Err(JournalError::Memory) => return Err(Fault::Memory),
-    };
-    written(alloc, format, program, part, &journals)
+    let drawn = gathered::<Brand>(alloc, program, drawing.selection, bytes)?;
+    let journals = text_in(bytes);
+    match written(
+        alloc,
+        drawing.format,
+        drawing.part,
+        program.names(),
+        journals,
+        drawn,
+    ) {
+        Ok(written) => Ok(written),
+        Err(_) => Err(Fault::Memory),
+    }
+}
+
+/// A page of the lines of bytes that begin as journals do.
+pub fn line_page(alloc: Global, bytes: &[u8]) -> Result<String, Fault>
+    ensures drawn { IfOk result (λ s. IsLinePage bytes.now (string_bytes s)) }
+    ensures fault { IfErr result (λ f. IsPageFault bytes.now f) }
+{
+    if !bytes.starts_with(b"instance ") {
+        return Err(Fault::Journal(1));
+    }
+    match plain_page(alloc, text_in(bytes)) {
+        Ok(page) => Ok(page),
+        Err(_) => Err(Fault::Memory),
+    }
 }

@@ -1,61 +1,51 @@
 //! The command line over a folder.
 
-ghost use Rattle.std.specs.Prelude.{◌≡◌, IfErr, IfOk, Some, None, map, option_map, string_bytes};
+ghost use Rattle.std.specs.Prelude.{◌≡◌, IfErr, IfOk, map, string_bytes};
 ghost use Rattle.lus_cli.specs.Changes.{change};
 ghost use Rattle.lus_cli.specs.Ends.{AskedEnds, Ends, ReadFails, SaysEnds};
-ghost use Rattle.lus_draw.specs.CommandLine.{asked};
-ghost use Rattle.lus_draw.specs.Ends.{DrawFails, IsDrawn, TaskEnds};
+ghost use Rattle.lus_draw.specs.CommandLine.{asked, drawing_seen, task_seen};
+ghost use Rattle.lus_draw.specs.Ends.{DrawFails, DrawingFails, IsDrawing, IsDrawn, PageFails, TaskEnds};
+ghost use Rattle.lus_draw.specs.Drawings.{IsLinePage};
+ghost use Rattle.lus_devices.specs.Folders.{WithFile};
 
-use crate::drawing::drawing;
-use crate::words::{Format, Task, read_words};
+use crate::drawing::{drawing, line_page};
+use crate::words::{Drawing, Task, read_words};
 use lus_cli::{Fault, read_file, read_program, tell};
 use lus_devices::{Folder, Sink, write_all};
-use lus_traces::Part;
 use std::alloc::Global;
+use std::sync::Arc;
 
-/// Draws journals with the names of a program.
-fn draw_named<D: Folder>(
-    alloc: Global,
-    folder: &D,
-    format: Format,
-    part: Part,
-    journal: &str,
-    program: &str,
-) -> Result<String, Fault>
-    ensures drawn { IfOk result (λ s. IsDrawn (D.known folder.now) format part journal.now (Some program.now) (string_bytes s)) }
-    ensures fault { IfErr result (λ f. DrawFails (ReadFails D.File D.File.left D.File.failures) (D.known folder.now)
-        journal.now (Some program.now) f) }
+/// Draws the journals of a file, of nodes of the program of another.
+fn draw_journals<D: Folder>(alloc: Global, folder: &D, task: Drawing<'_>) -> Result<String, Fault>
+    ensures drawn { IfOk result (λ s. IsDrawing (D.known folder.now task.entry.program.now) (D.known folder.now task.entry.journal.now)
+        (drawing_seen task.entry) (string_bytes s)) }
+    ensures fault { IfErr result (λ f. DrawingFails (ReadFails D.File D.File.left D.File.failures) (D.known folder.now task.entry.program.now)
+        (D.known folder.now task.entry.journal.now) (drawing_seen task.entry) f) }
 {
-    let bytes = read_file(alloc, folder, journal, usize::MAX)?;
-    let program = read_program(alloc, folder, program)?;
-    drawing(alloc, format, part, Some(&program), &bytes)
+    let program = read_program(alloc, folder, task.program)?;
+    let Ok(program) = Arc::new(alloc, program) else {
+        return Err(Fault::Memory);
+    };
+    let bytes = read_file(alloc, folder, task.journal, usize::MAX)?;
+    drawing(alloc, task, &program, &bytes)
 }
 
-/// Draws journals by themselves.
-fn draw_numbered<D: Folder>(
-    alloc: Global,
-    folder: &D,
-    format: Format,
-    part: Part,
-    journal: &str,
-) -> Result<String, Fault>
-    ensures drawn { IfOk result (λ s. IsDrawn (D.known folder.now) format part journal.now None (string_bytes s)) }
-    ensures fault { IfErr result (λ f. DrawFails (ReadFails D.File D.File.left D.File.failures) (D.known folder.now)
-        journal.now None f) }
+/// Draws the lines of a file of journals.
+fn draw_lines<D: Folder>(alloc: Global, folder: &D, journal: &str) -> Result<String, Fault>
+    ensures drawn { IfOk result (λ s. WithFile (D.known folder.now journal.now) (λ bytes. IsLinePage bytes (string_bytes s))) }
+    ensures fault { IfErr result (λ f. PageFails (ReadFails D.File D.File.left D.File.failures) (D.known folder.now journal.now) f) }
 {
     let bytes = read_file(alloc, folder, journal, usize::MAX)?;
-    drawing(alloc, format, part, None, &bytes)
+    line_page(alloc, &bytes)
 }
 
 fn draw<D: Folder>(alloc: Global, folder: &D, task: Task<'_>) -> Result<String, Fault>
-    ensures drawn { IfOk result (λ s. IsDrawn (D.known folder.now) task.entry.format task.entry.part task.entry.journal.now
-        (option_map (λ p. p.now) task.entry.program) (string_bytes s)) }
-    ensures fault { IfErr result (λ f. DrawFails (ReadFails D.File D.File.left D.File.failures) (D.known folder.now)
-        task.entry.journal.now (option_map (λ p. p.now) task.entry.program) f) }
+    ensures drawn { IfOk result (λ s. IsDrawn (D.known folder.now) (task_seen task.entry) (string_bytes s)) }
+    ensures fault { IfErr result (λ f. DrawFails (ReadFails D.File D.File.left D.File.failures) (D.known folder.now) (task_seen task.entry) f) }
 {
-    match task.program {
-        Some(program) => draw_named(alloc, folder, task.format, task.part, task.journal, program),
-        None => draw_numbered(alloc, folder, task.format, task.part, task.journal),
+    match task {
+        Task::Page(journal) => draw_lines(alloc, folder, journal),
+        Task::Drawing(drawing) => draw_journals(alloc, folder, drawing),
     }
 }
 

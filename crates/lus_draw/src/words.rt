@@ -1,16 +1,17 @@
 //! The words of the command line.
 
-ghost use Rattle.std.specs.Prelude.{◌≡◌, ◌^◌, IfOk, Some, None, Err, map, option_map, string_bytes};
+ghost use Rattle.std.specs.Prelude.{◌≡◌, IfOk, Some, None, Err, map, option_map, string_bytes};
 ghost use Rattle.clap.specs.Words.{app_of, found_of, rows_of};
-ghost use Rattle.lus_asked.specs.Reading.{begins_number, number_below};
 ghost use Rattle.lus_cli.specs.declared.words.WordsError.TheVariants.{Mistaken};
-ghost use Rattle.lus_draw.specs.CommandLine.{asked, flagged, format_in, has_parts, is_whole, part_in, place_in, said, task_seen, the_command};
+ghost use Rattle.lus_sketches.specs.Selections.{selection_seen};
+ghost use Rattle.lus_draw.specs.CommandLine.{asked, drawing, drawing_seen, flagged, format_in, has_parts, is_whole, page, part_in, place_in, said, selection_in, task_seen, the_command};
 
 use clap::{ArgMatches, Command};
 use lus_cli::{
     WordsError, bare, is_set, matches, value_of, with_flag, with_optional, with_required,
     with_value,
 };
+use lus_sketches::{Selection, number};
 use lus_traces::Part;
 use std::alloc::{AllocError, Global};
 
@@ -24,13 +25,22 @@ pub enum Format {
     Vcd,
 }
 
-/// What the words ask for: a format, of a part of a file of journals, with a program's names where one is named.
+/// What is to be drawn: in a format, of a part of a file of journals of a program's nodes, these signals.
 #[derive(Clone, Copy)]
-pub struct Task<'a> {
+pub struct Drawing<'a> {
     pub format: Format,
     pub part: Part,
+    pub selection: Selection<'a>,
+    pub program: &'a str,
     pub journal: &'a str,
-    pub program: Option<&'a str>,
+}
+
+/// What the words ask for.
+#[derive(Clone, Copy)]
+pub enum Task<'a> {
+    /// A page of the lines of a file of journals, without a program.
+    Page(&'a str),
+    Drawing(Drawing<'a>),
 }
 
 /// The command with its flags.
@@ -40,7 +50,8 @@ fn flagged<'a>(alloc: Global) -> Result<Command<'a>, AllocError>
     let waves = with_flag(alloc, bare(alloc, "lus_draw"), "waves")?;
     let html = with_flag(alloc, waves, "html")?;
     let csv = with_flag(alloc, html, "csv")?;
-    with_flag(alloc, csv, "vcd")
+    let vcd = with_flag(alloc, csv, "vcd")?;
+    with_flag(alloc, vcd, "all")
 }
 
 fn command<'a>(alloc: Global) -> Result<Command<'a>, AllocError>
@@ -48,8 +59,9 @@ fn command<'a>(alloc: Global) -> Result<Command<'a>, AllocError>
 {
     let from = with_value(alloc, flagged(alloc)?, "from")?;
     let to = with_value(alloc, from, "to")?;
-    let journal = with_required(alloc, to, "JOURNAL")?;
-    with_optional(alloc, journal, "PROGRAM")
+    let signals = with_value(alloc, to, "signals")?;
+    let file = with_required(alloc, signals, "FILE")?;
+    with_optional(alloc, file, "JOURNAL")
 }
 
 /// What the words after the program's own name ask for.
@@ -80,26 +92,6 @@ fn format_in(matches: &ArgMatches<'_>) -> Option<Format>
     }
 }
 
-/// Whether a number begins here, without a `+`.
-fn begins_number(text: &[u8]) -> bool
-    ensures { result ≡ begins_number text.now }
-{
-    match text {
-        [first, ..] => *first == b'-' || first.is_ascii_digit(),
-        [] => false,
-    }
-}
-
-fn number(text: &str) -> Option<u64>
-    ensures { result ≡ number_below (2 ^ 64) text.now }
-{
-    if begins_number(text.as_bytes()) {
-        text.parse::<u64>().ok()
-    } else {
-        None
-    }
-}
-
 /// The place that an option gives, or the other one where it isn't among the words.
 fn place_in(other: u64, text: Option<&str>) -> Option<u64>
     ensures { result ≡ place_in other (option_map (λ t. t.now) text.entry) }
@@ -123,6 +115,18 @@ fn part_in(matches: &ArgMatches<'_>) -> Option<Part>
     }
 }
 
+/// The signals that the words ask for: not all and some by name.
+fn selection_in<'a>(matches: &ArgMatches<'a>) -> Option<Selection<'a>>
+    ensures { option_map selection_seen result ≡ selection_in (rows_of (found_of matches.now)) }
+{
+    match (is_set(matches, "all"), value_of(matches, "signals")) {
+        (false, None) => Some(Selection::Formals),
+        (true, None) => Some(Selection::All),
+        (false, Some(names)) => Some(Selection::Named(names)),
+        (true, Some(_)) => None,
+    }
+}
+
 fn is_whole(part: Part) -> bool
     ensures { result ≡ is_whole part }
 {
@@ -139,20 +143,48 @@ fn has_parts(format: Format) -> bool
     }
 }
 
-/// Journals are drawn in a format, and in parts where it has them.
+/// Journals are drawn in parts in the formats that have them.
+fn drawing_task(drawing: Drawing<'_>) -> Option<Task<'_>>
+    ensures { option_map task_seen result ≡ drawing (drawing_seen drawing.entry) }
+{
+    if is_whole(drawing.part) || has_parts(drawing.format) {
+        Some(Task::Drawing(drawing))
+    } else {
+        None
+    }
+}
+
+/// Without a program there is only a page, of all that journals say.
+fn page<'a>(
+    format: Format,
+    part: Part,
+    selection: Selection<'a>,
+    journal: &'a str,
+) -> Option<Task<'a>>
+    ensures { option_map task_seen result ≡ page format part (selection_seen selection.entry) journal.entry.now }
+{
+    match (format, selection) {
+        (Format::Html, Selection::Formals) if is_whole(part) => Some(Task::Page(journal)),
+        _ => None,
+    }
+}
+
+/// The first file is the program's where a second one is named, else that of the journals.
 fn choose<'a>(matches: &ArgMatches<'a>) -> Option<Task<'a>>
     ensures { option_map task_seen result ≡ said (rows_of (found_of matches.now)) }
 {
     let format = format_in(matches)?;
     let part = part_in(matches)?;
-    let journal = value_of(matches, "JOURNAL")?;
-    if !is_whole(part) && !has_parts(format) {
-        return None;
+    let selection = selection_in(matches)?;
+    let file = value_of(matches, "FILE")?;
+    match value_of(matches, "JOURNAL") {
+        Some(journal) => drawing_task(Drawing {
+            format,
+            part,
+            selection,
+            program: file,
+            journal,
+        }),
+        None => page(format, part, selection, file),
     }
-    Some(Task {
-        format,
-        part,
-        journal,
-        program: value_of(matches, "PROGRAM"),
-    })
 }

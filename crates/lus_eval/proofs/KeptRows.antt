@@ -13,12 +13,12 @@ use Rattle.lus_code.proofs.OrderProofs.Nodes.{node_here}
 use Rattle.lus_frames.specs.declared.class.Class.{Class as Framed}
 use Rattle.lus_flat_classes.specs.declared.class.Class.{Class}
 use Rattle.lus_flat_classes.specs.Places.{state_in}
-use Rattle.lus_code.specs.SimulationSpecs.Checked.{IsChecked}
 use Rattle.lus_code.specs.SimulationSpecs.Nesting.{depth_of}
 use Rattle.lus_code.specs.SimulationSpecs.Lineages.{Lineage, HasLived}
 use Rattle.lus_code.proofs.SimulationProofs.Lived.{resets_lived}
 use Rattle.lus_classes.specs.States.{State}
 use Rattle.lus_code.specs.Codes.{ProgramCode, plain_classes, program_of}
+use Rattle.lus_code.specs.Correct.{IsCorrect}
 use Rattle.lus_running.specs.declared.instance.Instance.{Instance}
 use Rattle.lus_running.specs.Instances as instances
 use Rattle.lus_running.specs.Instances.{seen}
@@ -26,9 +26,8 @@ use Rattle.lus_running.proofs.Placed.{resets_state}
 use Rattle.lus_eval.specs.Objects.{Kept, kept_by, IsEven, IsObjectOf, IsReset, MakesStep, ObjectLived, state_of}
 
 module _ (c : ProgramCode) (classes : List Class) (framed : List Framed) (same : classes ≡ c.classes) (coded : framed ≡ c.framed) (o : Instance) where
-  pub shaped_in_code : ((g : ℕ) (k : Class) → slice_get classes g ≡ Some k → k.extent.cells + k.extent.firsts ≤ item 0 c.cells g)
-      → instances.HasRowsOfClass classes framed (seen o) → IsObjectOf c (kept_by o)
-  shaped_in_code rows s = record {
+  pub shaped_in_code : IsCorrect c → instances.HasRowsOfClass classes framed (seen o) → IsObjectOf c (kept_by o)
+  shaped_in_code correct s = record {
     class = s.class;
     code = s.code;
     found = ap (λ l. slice_get l o.node) (sym same) ∙ s.found;
@@ -39,7 +38,7 @@ module _ (c : ProgramCode) (classes : List Class) (framed : List Framed) (same :
     few = (
         let cells = s.long.cells in
         let firsts = s.long.firsts in
-        let row = rows o.node s.class s.found in
+        let row = correct.rows o.node s.class (ap (λ l. slice_get l o.node) (sym same) ∙ s.found) in
         omega (arith, cells, firsts, row));
   }
 
@@ -55,17 +54,14 @@ module _ (c : ProgramCode) (classes : List Class) (framed : List Framed) (same :
 pub node_within : (c : ProgramCode) (o : Kept) → IsObjectOf c o → o.node < length c.classes
 node_within c o s = slice_get_within c.classes o.node s.class s.found
 
--- a program that is a code's source is checked as the source is
-pub source_checked : (c : ProgramCode) (s : StoredProgram) → s ≡ c.source.program → IsChecked (program_seen s) → IsChecked (program_of c)
-source_checked c s same h = subst (λ (r : StoredProgram). IsChecked (program_seen r)) same h
-
 -- the node of an object, as its code's source has it
-pub source_node : (c : ProgramCode) (o : Kept) → IsObjectOf c o → (classes : List Class) → classes ≡ c.classes → length classes ≡ length (program_of c).nodes
-    → (s : StoredProgram) → s ≡ c.source.program → (n : StoredNode) → n ≡ item n s.nodes.items o.node → node_at (program_of c) o.node ≡ node_of n
-source_node c o shaped classes kept size s same n is =
-    let fewer : o.node < length classes = subst (λ (l : List Class). o.node < length l) (sym kept) (node_within c o shaped) in
+pub source_node : (c : ProgramCode) (o : Kept) → IsObjectOf c o → IsCorrect c → (s : StoredProgram) → s ≡ c.source.program → (n : StoredNode) → n ≡ item n s.nodes.items o.node
+    → node_at (program_of c) o.node ≡ node_of n
+source_node c o shaped correct s same n is =
+    let size = correct.size in
+    let fewer = node_within c o shaped in
     let nodes : length (program_of c).nodes ≡ length s.nodes.items = ap (λ (r : StoredProgram). length (program_seen r).nodes) (sym same) ∙ length-map s.nodes.items node_of in
-    let within : o.node < length s.nodes.items = omega arith in
+    let within : o.node < length s.nodes.items = omega (arith, size, fewer, nodes) in
     ap (λ (r : StoredProgram). node_at (program_seen r) o.node) (sym same) ∙ node_here s o.node n within is
 
 pub reset_kept : (o o' : Instance) → instances.IsReset (seen o) (seen o') → IsReset (kept_by o) (kept_by o')

@@ -19,14 +19,26 @@ fn entry_again(alloc: Global, entry: &Option<Value>) -> Result<Option<Value>, Me
 }
 
 /// An equal row, in no more memory than it needs.
-pub(crate) fn row_again(alloc: Global, row: &Row) -> Result<Row, Memory>
+fn row_again(alloc: Global, row: &Row) -> Result<Row, Memory>
     ensures { IfOk result (λ r. r ≡ row.now) }
 {
     let entries = row.items();
+    if let [entry] = entries {
+        return Ok(Row::one(entry_again(alloc, entry)?));
+    }
     let mut again = Vec::with_capacity(alloc, entries.len())?;
     for entry in entries {
         let entry_copy = entry_again(alloc, entry)?;
         again.push_reserved(entry_copy);
     }
     Ok(Row::new(again))
+}
+
+/// A row, and an equal one in no more memory than it needs.
+pub(crate) fn row_twice(alloc: Global, row: Row) -> Result<(Row, Row), Memory>
+    ensures row { IfOk result (λ both. both.0 ≡ row) }
+    ensures same { IfOk result (λ both. both.1 ≡ row) }
+{
+    let again = row_again(alloc, &row)?;
+    Ok((row, again))
 }

@@ -6,7 +6,7 @@ ghost use Rattle.lus_code.specs.SimulationSpecs.Lineages.{Lineage};
 ghost use Rattle.lus_code.specs.Codes.{ProgramCode, program_of};
 ghost use Rattle.lus_eval.specs.Objects.{IsFault, IsReset, IsObjectOf, MakesStep, ObjectLived};
 
-use crate::copying::row_again;
+use crate::copying::row_twice;
 use crate::error::StepError;
 use crate::shape::row_fits;
 use crate::stepping::step_instance;
@@ -44,8 +44,6 @@ impl Object {
         requires { node.0 < length (program_of code.now).nodes }
         ensures { IfOk result (λ o. ObjectLived code.now node.0 o []) }
     {
-        // The program is checked, so that its calls are nested.
-        let _program = code.program();
         let instance = Instance::fresh(alloc, code.classes(), code.framed(), node.0)?;
         Ok(Object { instance })
     }
@@ -75,8 +73,6 @@ impl Object {
         requires { IsObjectOf code.now self.now }
         ensures { result ≡ has_presence (program_of code.now) self.now.node inputs.now }
     {
-        // The program is checked, so that the class's clocks are those of the node.
-        let _program = code.program();
         let class = &code.classes()[self.instance.node as usize];
         fits_presence(class, inputs.items())
     }
@@ -108,8 +104,8 @@ impl Object {
         ensures err { OnErr result (self.new ≡ self.old) }
     {
         let outputs = step_instance(&mut self.instance, code, inputs)?;
-        match row_again(self.instance.alloc, &outputs) {
-            Ok(again) => Ok((outputs, again)),
+        match row_twice(self.instance.alloc, outputs) {
+            Ok(both) => Ok(both),
             Err(Memory) => {
                 self.instance.go_back();
                 Err(StepError::Memory)

@@ -113,12 +113,14 @@ fn half_a_row(alloc: Global) -> Result<Row, Memory> {
     Ok(Row::new(items))
 }
 
-/// Whether a copy of a row has its items, and gives them back.
+/// Whether a copy of a row has its items, and one of a row of one entry that.
 fn is_copied(alloc: Global) -> Result<bool, Memory> {
-    let row = half_a_row(alloc)?;
-    let twin = row.copy(alloc)?;
-    let items = twin.into_items();
-    Ok(matches!(items.as_slice(), [Some(Value::Int(3)), None]))
+    let twin = half_a_row(alloc)?.copy(alloc)?;
+    let one = Row::one(Some(Value::Int(4))).copy(alloc)?;
+    Ok(
+        matches!(twin.items(), [Some(Value::Int(3)), None])
+            && matches!(one.items(), [Some(Value::Int(4))]),
+    )
 }
 
 /// How many rows come back of two.

@@ -136,6 +136,9 @@ pub fn keep_class<T: Held>(
     let (own_firsts, called_firsts) = firsts.split_at_mut(class.firsts.len());
     keep(alloc, &class.cells, own_row, own_cells)?;
     clear(&class.firsts, own_row, own_firsts);
+    if class.calls.is_empty() {
+        return Ok(());
+    }
     if let Some(actions) = flat_plan(plans, node) {
         run(alloc, actions, row, called_cells, called_firsts)?;
         return Ok(());

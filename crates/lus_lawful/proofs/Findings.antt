@@ -1,7 +1,6 @@
 -- What is found of a journal that can be read back.
-use Rattle.std.proofs.Common.{◌≡◌, ◌≢◌, ◌∙◌, ◌⊎◌, inl, inr, ◌+◌, ◌++◌, ℕ, true, false, refl, ap, ap₂, sym, subst, List, [], ◌∷◌, length, map, Option, Some, None, append_assoc, arith, codes}
+use Rattle.std.proofs.Common.{◌≡◌, ◌≢◌, ◌∙◌, ◌⊎◌, inl, inr, ◌+◌, ◌++◌, ℕ, Bool, false, refl, ap, ap₂, sym, subst, List, [], ◌∷◌, length, map, Option, Some, None, append_assoc, arith, codes}
 use Rattle.std.specs.List.{AllZip}
-use Rattle.std.proofs.lemmas.Bool.{true≢false}
 use Rattle.std.proofs.lemmas.Option.{same_Some}
 use Rattle.lus_values.specs.Names.{Names, Text}
 use Rattle.lus_program.specs.Programs.{Program}
@@ -17,17 +16,18 @@ use Rattle.lus_live_instance.specs.MachineSpecs.Constructors.{names_of}
 use Rattle.lus_live_instance.specs.MachineSpecs.Formals.{node_named}
 use Rattle.lus_history.specs.Histories.{History}
 use Rattle.lus_play.specs.Plays.{entry_of}
-use Rattle.lus_replay.specs.Replays.{EndsAt, HasFoundWrong, HasReadAll, IsAlike, IsRest, Item, Said, Told, entry_said, items_text, line_of, rest_text, said_in, said_line, saids_of}
+use Rattle.lus_replay.specs.Replays.{HasFoundWrong, IsAlike, Item, Said, Told, ends_counted, entry_said, items_text, line_of, said_in, said_line, saids_of}
 use Rattle.lus_replay.specs.declared.replaying.Ending.{Ending}
 use Rattle.lus_replay.specs.declared.replaying.Ending.TheVariants as endings
 use Rattle.lus_replay.specs.declared.replaying.Replayed.{Replayed}
 use Rattle.lus_lawful.specs.Audits.{HasReplayedLawfully}
-use Rattle.lus_lawful.specs.Findings.{FindsBehind, GoesOn, IsNoneBehind, IsPassed, IsReadableJournal, IsStopped, IsWrongJournal, wrong_entry_text}
-use Rattle.lus_lawful.specs.Journals.{IsLawfulJournal, Journal, entries_of, lawful_text, line_count, wrong_text}
+use Rattle.lus_lawful.specs.Findings.{FindsBehind, GoesOn, IsBehind, IsNoneBehind, IsPassed, IsReadableJournal, IsStopped, IsWrongJournal, behind_text, wrong_entry_text}
+use Rattle.lus_lawful.specs.Journals.{IsLawfulJournal, Journal, entries_of, is_whole, lawful_text, line_count, wrong_text}
 use Rattle.lus_lawful.specs.declared.auditing.Turn.{Turn}
 use Rattle.lus_lawful.specs.declared.auditing.Turn.TheVariants as turns
 use Rattle.lus_lawful.proofs.Places.{places}
 use Rattle.lus_lawful.proofs.Replies.{AllRight, IsAsked, alike_of, all_right, asked_alike, asked_of, last_same, right_before, told_right}
+use Rattle.lus_lawful.proofs.Tails.{EndsTo, HasReadTo, reads_to}
 use Rattle.lus_lawful.proofs.Words.{names_plain}
 
 -- ---- replies
@@ -114,43 +114,64 @@ module _ (p : Program) (accepted : IsAccepted p) (f : ℕ) where
 
 -- ---- one journal
 
+-- whether a journal is reported as whole, by its end and whether its last line says how many entries there are
+abbrev whole_at : Ending → Bool → Bool
+whole_at endings.Cut is_counted = false
+whole_at _ is_counted = is_counted
+
+whole_is : (rest : Option (Text × Text)) (tail : Text) (e : Ending) (line : Text) (later : Option Bytes) (j : Journal) (c : Bool)
+    → IsBehind rest tail → EndsTo rest tail e line later → c ≡ ends_counted j.items → whole_at e c ≡ is_whole j tail
+whole_is None [] e line later j c is ends counted = ap (λ x. whole_at x c) ends ∙ counted
+whole_is None (b ∷ tail) e line later j c is ends counted = ap (λ x. whole_at x c) ends
+whole_is (Some next) tail e line later j c is ends counted = ap (λ x. whole_at x c) ends.0 ∙ counted ∙ ap (is_whole j) (sym is.1)
+
 module _ (p : Program) (f : ℕ) (instance node : Text) (named : node_named p node ≡ Some f) (left later : Option Bytes) (lines : ℕ)
-    (line right : Text) (r : Replayed) (lived : HasReplayedLawfully p f r left later line right) where
-  module _ (j : Journal) (rest : Option (Text × Text)) (readable : IsReadableJournal p j) (is_rest : IsRest rest) (same : node ≡ j.node)
-      (left_is : left ≡ Some (items_text (names_of p) 0 j.items ++ rest_text rest)) where
-    read : HasReadAll (names_of p) r j.items rest later [] lived.history line ⊎ HasFoundWrong (names_of p) r j.items [] lived.history line right
-    read = lived.back (names_plain p lived.accepted) j.items rest readable.items is_rest left_is
+    (line right : Text) (Seen : List Entry → Type 0) (r : Replayed) (lived : HasReplayedLawfully p f Seen r left later line right) where
+  module _ (j : Journal) (rest : Option (Text × Text)) (tail : Text) (readable : IsReadableJournal p j) (is_behind : IsBehind rest tail)
+      (same : node ≡ j.node) (left_is : left ≡ Some (items_text (names_of p) 0 j.items ++ behind_text rest tail)) where
+    read : HasReadTo (names_of p) r j.items rest tail later [] lived.history line ⊎ HasFoundWrong (names_of p) r j.items [] lived.history line right
+    read =
+        reads_to (names_of p) (names_plain p lived.accepted) r left later [] lived.history line right lived.replayed j.items readable.items lived.back rest
+        tail is_behind left_is
 
     named_so : node_named p j.node ≡ Some f
     named_so = subst (λ n. node_named p n ≡ Some f) same named
 
     -- where all was read
-    on_there : (a : HasReadAll (names_of p) r j.items rest later [] lived.history line) (t : Turn) (behind : ℕ) → behind ≡ lines + r.lines + 1
-        → (e : Ending) → r.ending ≡ e → (e ≡ endings.End → t ≡ turns.Last) → (e ≡ endings.Next → t ≡ turns.Next behind)
-        → GoesOn rest t (lines + line_count j) line later
-    on_there a t behind place e ending last next =
+    on_there : (a : HasReadTo (names_of p) r j.items rest tail later [] lived.history line) (t : Turn) (behind : ℕ) → behind ≡ lines + r.lines + 1
+        → (e : Ending) → r.ending ≡ e → (e ≡ endings.End → t ≡ turns.Last) → (e ≡ endings.Cut → t ≡ turns.Last)
+        → (e ≡ endings.Next → t ≡ turns.Next behind) → GoesOn rest t (lines + line_count j) line later
+    on_there a t behind place e ending last cut next =
         let read_lines = a.lines in
         let count : behind ≡ lines + line_count j = omega (arith, place, read_lines) in
-        go rest a.ended count
+        go rest tail a.ended count
       where
-        go : (x : Option (Text × Text)) → EndsAt x r.ending line later → behind ≡ lines + line_count j → GoesOn x t (lines + line_count j) line later
-        go None ended count = last (sym ending ∙ ended.0)
-        go (Some x) ended count = (next (sym ending ∙ ended.0) ∙ ap turns.Next count, ended.1, ended.2)
+        go : (x : Option (Text × Text)) (y : Text) → EndsTo x y r.ending line later → behind ≡ lines + line_count j
+            → GoesOn x t (lines + line_count j) line later
+        go None [] ended count = last (sym ending ∙ ended)
+        go None (b ∷ y) ended count = cut (sym ending ∙ ended)
+        go (Some x) y ended count = (next (sym ending ∙ ended.0) ∙ ap turns.Next count, ended.1, ended.2)
 
-    lawful_there : (a : HasReadAll (names_of p) r j.items rest later [] lived.history line) → AllRight p f beginning a.entries
+    lawful_there : (a : HasReadTo (names_of p) r j.items rest tail later [] lived.history line) → AllRight p f beginning a.entries
     lawful_there a = all_right p f a.entries (subst (History p f) a.entered lived.lawful)
 
     passed : (t : Turn) (behind : ℕ) (old new : Text) → behind ≡ lines + r.lines + 1 → (e : Ending) → r.ending ≡ e → e ≢ endings.Wrong
-        → (e ≡ endings.End → t ≡ turns.Last) → (e ≡ endings.Next → t ≡ turns.Next behind) → instance ≡ j.instance
-        → new ≡ old ++ lawful_text instance
-        → IsPassed p lines j rest t line later old new ⊎ IsStopped p lines j t old new
-    passed t behind old new place e ending other last next called reported =
+        → (e ≡ endings.End → t ≡ turns.Last) → (e ≡ endings.Cut → t ≡ turns.Last) → (e ≡ endings.Next → t ≡ turns.Next behind)
+        → instance ≡ j.instance → new ≡ old ++ lawful_text instance (whole_at e r.is_counted) behind
+        → IsPassed p lines j rest tail t line later old new ⊎ IsStopped p lines j t old new
+    passed t behind old new place e ending other last cut next called reported =
         elim read [
-          | inl a ↦ inl (record {
-            on = on_there a t behind place e ending last next;
-            reported = reported ∙ ap (λ i. old ++ lawful_text i) called;
-            right = none_wrong p lived.accepted f j lines named_so a.entries a.alike (lawful_there a);
-          })
+          | inl a ↦
+              (let read_lines = a.lines in
+              let count : behind ≡ lines + line_count j = omega (arith, place, read_lines) in
+              let whole : whole_at e r.is_counted ≡ is_whole j tail =
+              ap (λ x. whole_at x r.is_counted) (sym ending) ∙ whole_is rest tail r.ending line later j r.is_counted is_behind a.ended a.counted in
+              inl (record {
+                on = on_there a t behind place e ending last cut next;
+                reported = reported ∙ ap (λ i. old ++ lawful_text i (whole_at e r.is_counted) behind) called
+                    ∙ ap₂ (λ w n. old ++ lawful_text j.instance w n) whole count;
+                right = none_wrong p lived.accepted f j lines named_so a.entries a.alike (lawful_there a);
+              }))
           | inr w ↦ absurd (other (sym ending ∙ w.ended))
         ]
 
@@ -161,12 +182,12 @@ module _ (p : Program) (f : ℕ) (instance node : Text) (named : node_named p no
       differs = λ alike. w.differs (w.written ∙ alike ∙ sym w.spelled);
     }
 
-    stopped : (t : Turn) (number : ℕ) (old new : Text) → number ≡ lines + r.lines + 1 + 1 → r.ending ≡ endings.Wrong → t ≡ turns.Wrong → instance ≡ j.instance
-        → new ≡ old ++ wrong_text instance number line right
-        → IsPassed p lines j rest t line later old new ⊎ IsStopped p lines j t old new
+    stopped : (t : Turn) (number : ℕ) (old new : Text) → number ≡ lines + r.lines + 1 + 1 → r.ending ≡ endings.Wrong → t ≡ turns.Wrong number
+        → instance ≡ j.instance → new ≡ old ++ wrong_text instance number line right
+        → IsPassed p lines j rest tail t line later old new ⊎ IsStopped p lines j t old new
     stopped t number old new place ending ended called reported =
         elim read [
-          | inl a ↦ absurd (no_end rest a.ended)
+          | inl a ↦ absurd (no_end rest tail a.ended)
           | inr w ↦
               (let here = wrong_there w in
               let read_lines = w.lines in
@@ -176,6 +197,7 @@ module _ (p : Program) (f : ℕ) (instance node : Text) (named : node_named p no
               ∙ ap (λ n. wrong_text j.instance n line right) count
               ∙ ap₂ (λ x y. wrong_text j.instance (lines + length w.before + 2) x y) w.written w.spelled in
               inr (record {
+                number = number;
                 ended = ended;
                 wrong = not_lawful p lived.accepted f j lines named_so w.before w.behind w.said w.entries w.answered here w.alike w.items_are;
                 reported = λ report wrong.
@@ -184,55 +206,50 @@ module _ (p : Program) (f : ℕ) (instance node : Text) (named : node_named p no
               }))
         ]
       where
-        no_end : (x : Option (Text × Text)) → EndsAt x r.ending line later → ⊥
-        no_end None end = let is : endings.Wrong ≡ endings.End = sym ending ∙ end.0 in cc
-        no_end (Some x) end = let is : endings.Wrong ≡ endings.Next = sym ending ∙ end.0 in cc
+        no_end : (x : Option (Text × Text)) (y : Text) → EndsTo x y r.ending line later → ⊥
+        no_end None [] end = let is : endings.Wrong ≡ endings.End = sym ending ∙ end in cc
+        no_end None (b ∷ y) end = let is : endings.Wrong ≡ endings.Cut = sym ending ∙ end in cc
+        no_end (Some x) y end = let is : endings.Wrong ≡ endings.Next = sym ending ∙ end.0 in cc
 
-    -- its last line says how many entries there are
-    not_counted : r.is_counted ≡ false → r.ending ≢ endings.Wrong → ⊥
-    not_counted none other =
+    -- each of its lines is one of a journal
+    no_other : r.ending ≡ endings.NoEntry → ⊥
+    no_other ending =
         elim read [
-          | inl a ↦ true≢false (sym readable.counted ∙ sym a.counted ∙ none)
-          | inr w ↦ other w.ended
-        ]
-
-    -- each of its lines is read
-    no_other : (e : Ending) → r.ending ≡ e → e ≢ endings.Wrong → e ≢ endings.End → e ≢ endings.Next → ⊥
-    no_other e ending no_wrong no_last no_next =
-        elim read [
-          | inl a ↦ go rest a.ended
-          | inr w ↦ no_wrong (sym ending ∙ w.ended)
+          | inl a ↦ go rest tail a.ended
+          | inr w ↦ (let is : endings.NoEntry ≡ endings.Wrong = sym ending ∙ w.ended in cc)
         ]
       where
-        go : (x : Option (Text × Text)) → EndsAt x r.ending line later → ⊥
-        go None end = no_last (sym ending ∙ end.0)
-        go (Some x) end = no_next (sym ending ∙ end.0)
+        go : (x : Option (Text × Text)) (y : Text) → EndsTo x y r.ending line later → ⊥
+        go None [] end = let is : endings.NoEntry ≡ endings.End = sym ending ∙ end in cc
+        go None (b ∷ y) end = let is : endings.NoEntry ≡ endings.Cut = sym ending ∙ end in cc
+        go (Some x) y end = let is : endings.NoEntry ≡ endings.Next = sym ending ∙ end.0 in cc
 
-  pub finds_next : (behind : ℕ) (old new : Text) → behind ≡ lines + r.lines + 1 → r.ending ≡ endings.Next → new ≡ old ++ lawful_text instance
-      → FindsBehind (turns.Next behind) p lines instance node left later line old new
+  pub finds_next : (behind : ℕ) (old new : Text) → behind ≡ lines + r.lines + 1 → r.ending ≡ endings.Next
+      → new ≡ old ++ lawful_text instance r.is_counted behind → FindsBehind (turns.Next behind) p lines instance node left later line old new
   finds_next behind old new place ending reported =
-      λ j rest readable is_rest called same left_is.
-      passed j rest readable is_rest same left_is (turns.Next behind) behind old new place endings.Next ending (λ e. cc) (λ e. absurd (cc)) (λ e. refl) called reported
+      λ j rest tail readable is_behind called same left_is.
+      passed j rest tail readable is_behind same left_is (turns.Next behind) behind old new place endings.Next ending (λ e. cc) (λ e. absurd (cc))
+      (λ e. absurd (cc)) (λ e. refl) called reported
 
-  pub finds_last : (behind : ℕ) (old new : Text) → behind ≡ lines + r.lines + 1 → r.ending ≡ endings.End → new ≡ old ++ lawful_text instance
-      → FindsBehind turns.Last p lines instance node left later line old new
+  pub finds_last : (behind : ℕ) (old new : Text) → behind ≡ lines + r.lines + 1 → r.ending ≡ endings.End
+      → new ≡ old ++ lawful_text instance r.is_counted behind → FindsBehind turns.Last p lines instance node left later line old new
   finds_last behind old new place ending reported =
-      λ j rest readable is_rest called same left_is.
-      passed j rest readable is_rest same left_is turns.Last behind old new place endings.End ending (λ e. cc) (λ e. refl) (λ e. absurd (cc)) called reported
+      λ j rest tail readable is_behind called same left_is.
+      passed j rest tail readable is_behind same left_is turns.Last behind old new place endings.End ending (λ e. cc) (λ e. refl) (λ e. refl)
+      (λ e. absurd (cc)) called reported
+
+  pub finds_cut : (behind : ℕ) (old new : Text) → behind ≡ lines + r.lines + 1 → r.ending ≡ endings.Cut
+      → new ≡ old ++ lawful_text instance false behind → FindsBehind turns.Last p lines instance node left later line old new
+  finds_cut behind old new place ending reported =
+      λ j rest tail readable is_behind called same left_is.
+      passed j rest tail readable is_behind same left_is turns.Last behind old new place endings.Cut ending (λ e. cc) (λ e. refl) (λ e. refl)
+      (λ e. absurd (cc)) called reported
 
   pub finds_wrong : (number : ℕ) (old new : Text) → number ≡ lines + r.lines + 1 + 1 → r.ending ≡ endings.Wrong
-      → new ≡ old ++ wrong_text instance number line right → FindsBehind turns.Wrong p lines instance node left later line old new
+      → new ≡ old ++ wrong_text instance number line right → FindsBehind (turns.Wrong number) p lines instance node left later line old new
   finds_wrong number old new place ending reported =
-      λ j rest readable is_rest called same left_is.
-      stopped j rest readable is_rest same left_is turns.Wrong number old new place ending refl called reported
+      λ j rest tail readable is_behind called same left_is.
+      stopped j rest tail readable is_behind same left_is (turns.Wrong number) number old new place ending refl called reported
 
-  pub none_uncounted : r.is_counted ≡ false → r.ending ≢ endings.Wrong → IsNoneBehind p instance node left
-  none_uncounted none other = λ j rest readable is_rest called same left_is. not_counted j rest readable is_rest same left_is none other
-
-  pub none_left : (r.ending ≡ endings.Cut) ⊎ (r.ending ≡ endings.NoEntry) → IsNoneBehind p instance node left
-  none_left (inl ending) =
-      λ j rest readable is_rest called same left_is.
-      no_other j rest readable is_rest same left_is endings.Cut ending (λ e. cc) (λ e. cc) (λ e. cc)
-  none_left (inr ending) =
-      λ j rest readable is_rest called same left_is.
-      no_other j rest readable is_rest same left_is endings.NoEntry ending (λ e. cc) (λ e. cc) (λ e. cc)
+  pub none_left : r.ending ≡ endings.NoEntry → IsNoneBehind p instance node left
+  none_left ending = λ j rest tail readable is_behind called same left_is. no_other j rest tail readable is_behind same left_is ending

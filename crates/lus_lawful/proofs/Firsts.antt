@@ -8,13 +8,14 @@ use Rattle.std.proofs.lemmas.List.Folds.{list_all-append}
 use Rattle.lus_values.specs.Names.{Text}
 use Rattle.lus_program.specs.Programs.{Program}
 use Rattle.lus_asked.specs.Asked.{IsCaller, is_unbroken}
+use Rattle.lus_lines.specs.Lines.{IsPlain}
 use Rattle.lus_live_instance.specs.MachineSpecs.Acceptance.{IsAccepted}
 use Rattle.lus_live_instance.specs.MachineSpecs.Constructors.{names_of}
-use Rattle.lus_replay.specs.Replays.{IsCutShort, IsFirst, IsRest, items_text, rest_text}
+use Rattle.lus_replay.specs.Replays.{IsCutShort, IsFirst, items_text}
 use Rattle.lus_replay.proofs.Splits.{plain_append, same_before}
-use Rattle.lus_lawful.specs.Findings.{IsReadableJournal, first_line, texts}
+use Rattle.lus_lawful.specs.Findings.{IsBehind, IsReadableJournal, behind_text, first_line, texts}
 use Rattle.lus_lawful.specs.Heads.{IsHead, ReadsHead}
-use Rattle.lus_lawful.specs.Journals.{Journal, head_of}
+use Rattle.lus_lawful.specs.Journals.{Journal, head_of, tail_before}
 use Rattle.lus_lawful.specs.declared.head.Head.{Head}
 use Rattle.lus_lawful.proofs.Places.{places}
 use Rattle.lus_lawful.proofs.Words.{node_word, unbroken_plain}
@@ -91,15 +92,22 @@ module _ (p : Program) (accepted : IsAccepted p) where
       → first ≡ first_line j.instance j.node → IsHead j.instance j.node o
   head_read first o reads j readable is = reads j.instance j.node readable.instance (word_of j readable) is
 
-  -- what is behind a journal
-  abbrev pub rest_of : List Journal → Option (Text × Text)
-  rest_of [] = None
-  rest_of (j ∷ js) = Some (first_line j.instance j.node, items_text (names_of p) 0 j.items ++ texts p js)
+  -- what is behind a journal, before the bytes at the end
+  abbrev pub rest_of : List Journal → Text → Option (Text × Text)
+  rest_of [] tail = None
+  rest_of (j ∷ js) tail = Some (first_line j.instance j.node, items_text (names_of p) 0 j.items ++ (texts p js ++ tail))
 
-  pub rest_is : (js : List Journal) → rest_text (rest_of js) ≡ texts p js
-  rest_is [] = refl
-  rest_is (j ∷ js) = sym (append_assoc (first_line j.instance j.node) (items_text (names_of p) 0 j.items) (texts p js))
+  pub texts_are : (j : Journal) (js : List Journal) (tail : Text)
+      → texts p (j ∷ js) ++ tail ≡ first_line j.instance j.node ++ (items_text (names_of p) 0 j.items ++ (texts p js ++ tail))
+  texts_are j js tail =
+      let first = first_line j.instance j.node in
+      let items = items_text (names_of p) 0 j.items in
+      append_assoc (first ++ items) (texts p js) tail ∙ append_assoc first items (texts p js ++ tail)
 
-  pub rest_first : (js : List Journal) → All (IsReadableJournal p) js → IsRest (rest_of js)
-  rest_first [] all = tt
-  rest_first (j ∷ js) all = journal_first j (All-head (IsReadableJournal p) j js all)
+  pub rest_is : (js : List Journal) (tail : Text) → behind_text (rest_of js tail) (tail_before js tail) ≡ texts p js ++ tail
+  rest_is [] tail = refl
+  rest_is (j ∷ js) tail = sym (texts_are j js tail)
+
+  pub rest_behind : (js : List Journal) (tail : Text) → All (IsReadableJournal p) js → IsPlain tail → IsBehind (rest_of js tail) (tail_before js tail)
+  rest_behind [] tail all plain = plain
+  rest_behind (j ∷ js) tail all plain = (journal_first j (All-head (IsReadableJournal p) j js all), refl)

@@ -1,5 +1,5 @@
 -- The first line of a journal, taken apart.
-use Rattle.std.proofs.Common.{◌≡◌, ◌≢◌, ◌∙◌, ◌==◌, ◌++◌, ◌<◌, ℕ, zero, suc, not, true, false, refl, sym, subst, [], ◌∷◌, length, get_or, drop, append_assoc, arith, codes}
+use Rattle.std.proofs.Common.{◌≡◌, ◌≢◌, ◌∙◌, ◌==◌, ◌++◌, ◌<◌, ℕ, zero, suc, not, true, refl, sym, subst, [], ◌∷◌, length, get_or, drop, append_assoc, arith, codes}
 use Rattle.std.specs.Prelude.{IsUtf8, nat_lt}
 use Rattle.std.specs.Str.{IsAscii}
 use Rattle.std.specs.List.{list_all}

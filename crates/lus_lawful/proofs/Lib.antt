@@ -3,8 +3,9 @@ pub mod Heads
 pub mod Words
 pub mod Replies
 pub mod Places
+pub mod Tails
 pub mod Findings
 pub mod Firsts
 pub mod Reaching
 pub mod Blames
-pub mod Accepted
+pub mod Observing

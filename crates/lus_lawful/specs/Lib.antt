@@ -3,3 +3,4 @@ pub mod Audits
 pub mod Heads
 pub mod Findings
 pub mod Errors
+pub mod Observed

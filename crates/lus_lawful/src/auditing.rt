@@ -1,43 +1,34 @@
 //! Audits.
 
-ghost use Rattle.std.specs.Prelude.{◌≡◌, ◌+◌, ◌<◌, ◌++◌, IfErr, IfOk, OnOk, Some, [], codes, false, length, string_bytes, true};
+ghost use Rattle.std.specs.Prelude.{◌≡◌, ◌+◌, ◌<◌, ◌++◌, ◌∷◌, [], IfErr, IfOk, List, OnOk, Some, codes, is_none, length, string_bytes};
 ghost use Rattle.std.specs.Arc.{arc_value};
 ghost use Rattle.lus_devices.specs.Devices.{with_front};
 ghost use Rattle.lus_lines.specs.Lines.{IsWholeLine};
 ghost use Rattle.lus_live_instance.specs.MachineSpecs.Acceptance.{IsAccepted};
 ghost use Rattle.lus_live_instance.specs.MachineSpecs.CodeSpecs.Codes.{program_of};
 ghost use Rattle.lus_live_instance.specs.MachineSpecs.Formals.{node_named};
-ghost use Rattle.lus_lawful.specs.Audits.{HasAudited, HasReplayedLawfully, TurnIs};
+ghost use Rattle.lus_lawful.specs.Audits.{Gathers, HasAudited, HasReplayedLawfully, TurnIs};
 ghost use Rattle.lus_lawful.specs.Errors.{BlamesIf, IsOutside};
 ghost use Rattle.lus_lawful.specs.Findings.{AreNone, Finds, FindsAll, FindsBehind, IsNone, IsNoneBehind};
-ghost use Rattle.lus_lawful.specs.Journals.{head_of, lawful_text};
+ghost use Rattle.lus_lawful.specs.Journals.{Journal, entries_of, head_of, lawful_text};
 
 use crate::error::AuditError;
-use crate::explained::{Explanation, new_explained};
 use crate::head::{Head, read_head};
+use crate::observed::new_observed;
+use crate::observer::{Observer, Observers};
 use crate::texts::{push_lawful, push_wrong};
 use lus_devices::Source;
 use lus_lines::{Whole, read_whole_line};
 use lus_live_instance::lus_machine::{NodeId, Program};
 use lus_replay::{Ending, Replayed, replay};
-use lus_windows::Reasons;
 use std::alloc::Global;
 use std::sync::Arc;
 
-/// Whether all journals are lawful, and what there is to say of them; and why the requests of lawful journals were refused, a line
-/// each, where that was asked.
+/// What there is to say of journals, and the number of the first line that isn't the right one, if there is one.
 #[derive(Drop)]
 pub struct Report {
-    pub is_lawful: bool,
+    pub wrong: Option<u64>,
     pub text: Vec<u8>,
-    pub reasons: Vec<u8>,
-}
-
-/// Whether reasons are asked, and those of the journals so far.
-#[derive(Drop)]
-struct Reasoned {
-    is_asked: bool,
-    text: Vec<u8>,
 }
 
 /// What was found of a journal.
@@ -47,8 +38,8 @@ enum Turn {
     Next(u64),
     /// It is lawful, and the last.
     Last,
-    /// A line of it isn't the right one.
-    Wrong,
+    /// The line of this number isn't the right one.
+    Wrong(u64),
 }
 
 /// The program is one that was accepted.
@@ -58,71 +49,28 @@ fn is_accepted(program: &Program)
     program.source();
 }
 
-/// Appends the reasons of an instance's refusals, where they were asked.
-fn push_reasons(explanation: &Explanation, said: &mut Vec<u8>) -> Result<(), AuditError>
-    ensures { IfErr result IsOutside }
-{
-    if explanation.is_lost {
-        return Err(AuditError::Memory);
-    }
-    if let Some(reasons) = &explanation.reasons
-        && said.extend_from_slice(reasons.text().as_bytes()).is_err()
-    {
-        return Err(AuditError::Memory);
-    }
-    Ok(())
-}
-
-/// Replays the lines of a journal behind its first on a new instance of the node, with the reasons of its refusals in `said`, where
-/// they are asked.
-fn replay_new<S: Source>(
+/// Replays the lines of a journal behind its first on a new instance of the node, which is observed.
+fn replay_new<S: Source, O: Observer + Drop>(
     alloc: Global,
     program: &Arc<Program>,
     node: NodeId,
     source: &mut S,
     line: &mut Vec<u8>,
     right: &mut String,
-    reasons: Option<Reasons>,
-    said: &mut Vec<u8>,
-) -> Result<Replayed, AuditError>
-    requires { node.0 < length (program_of (arc_value program.now)).nodes }
-    ensures replayed { IfOk result (λ r. HasReplayedLawfully (program_of (arc_value program.now)) node.0 r
-        (S.left source.old) (S.left source.new) line.new.items (string_bytes right.new)) }
+    observer: O,
+) -> Result<(Replayed, O), AuditError>
+    requires within { node.0 < length (program_of (arc_value program.now)).nodes }
+    requires begun { O.seen observer (program_of (arc_value program.now)) node.0 [] }
+    ensures replayed { let p = program_of (arc_value program.now) in
+        IfOk result (λ r. HasReplayedLawfully p node.0 (O.seen r.1 p node.0) r.0 (S.left source.old) (S.left source.new) line.new.items (string_bytes right.new)) }
     ensures outside { IfErr result IsOutside }
 {
-    let mut explained = new_explained(alloc, program, node, reasons)?;
-    let replayed = replay(alloc, &mut explained, program.names(), source, line, right)?;
-    push_reasons(&explained.explanation, said)?;
-    Ok(replayed)
-}
-
-/// Reasons to be collected of an instance of a node whose journal begins behind so many lines, where they are asked.
-fn reasons_of(
-    alloc: Global,
-    program: &Arc<Program>,
-    node: NodeId,
-    is_asked: bool,
-    instance: &str,
-    lines: u64,
-) -> Result<Option<Reasons>, AuditError>
-    ensures { IfErr result IsOutside }
-{
-    if !is_asked {
-        return Ok(None);
+    let mut observed = new_observed(alloc, program, node, observer)?;
+    let replayed = replay(alloc, &mut observed, program.names(), source, line, right)?;
+    if observed.is_lost {
+        return Err(AuditError::Memory);
     }
-    let line = lines_behind(lines, 1)?;
-    let reasons = Reasons::new(alloc, program.source(), node.0, instance, line)?;
-    Ok(Some(reasons))
-}
-
-/// Adds the reasons of a lawful journal to those before it.
-fn add_reasons(reasoned: &mut Reasoned, said: &[u8]) -> Result<(), AuditError>
-    ensures { IfErr result IsOutside }
-{
-    match reasoned.text.extend_from_slice(said) {
-        Ok(()) => Ok(()),
-        Err(_) => Err(AuditError::Memory),
-    }
+    Ok((replayed, observed.observer))
 }
 
 /// How many lines these are and so many further ones.
@@ -141,34 +89,51 @@ fn lines_with(lines: u64, items: u64) -> Result<u64, AuditError>
     lines_behind(lines_behind(lines, items)?, 1)
 }
 
-/// A journal ends with the number of its entries; else this is the line that isn't right.
-fn check_counted(is_counted: bool, line: u64) -> Result<(), AuditError>
-    ensures ok { OnOk result (is_counted ≡ true) }
-    ensures err { IfErr result (BlamesIf (is_counted ≡ false)) }
-{
-    if is_counted {
-        Ok(())
-    } else {
-        Err(AuditError::Line(line))
-    }
-}
-
-/// Reports a lawful journal, and adds the reasons of its refusals.
-fn report_lawful(
+/// An observer of an instance of this name and node, whose journal begins behind so many lines.
+fn begin_journal<O: Observers>(
+    alloc: Global,
+    program: &Arc<Program>,
     instance: &str,
-    said: &[u8],
-    report: &mut Vec<u8>,
-    reasoned: &mut Reasoned,
-) -> Result<(), AuditError>
-    ensures ok { OnOk result (report.new.items ≡ report.old.items ++ lawful_text instance.now) }
+    node: NodeId,
+    lines: u64,
+    observers: &mut O,
+) -> Result<O::Observer, AuditError>
+    requires { node.0 < length (program_of (arc_value program.now)).nodes }
+    ensures new { IfOk result (λ o. O.Observer.seen o (program_of (arc_value program.now)) node.0 []) }
+    ensures kept { let p = program_of (arc_value program.now) in
+        OnOk result ((js : List Journal) → O.gathered observers.old p js → O.gathered observers.new p js) }
     ensures outside { IfErr result IsOutside }
 {
-    push_lawful(report, instance)?;
-    add_reasons(reasoned, said)
+    let line = lines_behind(lines, 1)?;
+    let observer = observers.begin(alloc, program, instance, node, line)?;
+    Ok(observer)
+}
+
+/// Gives back the observer of a lawful journal, whose last line has this number, and reports the journal.
+fn pass_journal<O: Observers>(
+    alloc: Global,
+    program: &Arc<Program>,
+    instance: &str,
+    node: NodeId,
+    observer: O::Observer,
+    is_whole: bool,
+    line: u64,
+    report: &mut Vec<u8>,
+    observers: &mut O,
+) -> Result<(), AuditError>
+    ensures reported { OnOk result (report.new.items ≡ report.old.items ++ lawful_text instance.now is_whole line) }
+    ensures gathered { let p = program_of (arc_value program.now) in
+        OnOk result ((js : List Journal) (j : Journal) → instance.now ≡ j.instance → node_named p j.node ≡ Some node.0
+        → O.Observer.seen observer p node.0 (entries_of j) → O.gathered observers.old p js → O.gathered observers.new p (js ++ j ∷ [])) }
+    ensures outside { IfErr result IsOutside }
+{
+    observers.end(alloc, program, instance, node, observer, is_whole)?;
+    push_lawful(report, instance, is_whole, line)?;
+    Ok(())
 }
 
 /// Audits a journal whose first line was read, behind so many lines, and reports on it. What ended it is then in `line`.
-fn audit_journal<S: Source>(
+fn audit_journal<S: Source, O: Observers>(
     alloc: Global,
     program: &Arc<Program>,
     head: Head<'_>,
@@ -177,10 +142,11 @@ fn audit_journal<S: Source>(
     source: &mut S,
     line: &mut Vec<u8>,
     report: &mut Vec<u8>,
-    reasoned: &mut Reasoned,
+    observers: &mut O,
 ) -> Result<Turn, AuditError>
     requires { node_named (program_of (arc_value program.now)) head.node.now ≡ Some node.0 }
-    ensures sound { IfOk result (λ turn. TurnIs turn (program_of (arc_value program.now)) lines
+    ensures sound { let p = program_of (arc_value program.now) in
+        IfOk result (λ turn. TurnIs turn p (Gathers (O.gathered observers.old p) (O.gathered observers.new p)) lines
         (with_front (head_of head.entry.instance.now head.entry.node.now ++ codes "\n") (S.left source.old)) (S.left source.new)
         line.new.items report.old.items report.new.items) }
     ensures complete { IfOk result (λ turn. FindsBehind turn (program_of (arc_value program.now)) lines
@@ -190,41 +156,41 @@ fn audit_journal<S: Source>(
         head.entry.instance.now head.entry.node.now (S.left source.old))) }
 {
     let mut right = String::new(alloc);
-    let mut said = Vec::new(alloc);
-    let reasons = reasons_of(
-        alloc,
-        program,
-        node,
-        reasoned.is_asked,
-        head.instance,
-        lines,
-    )?;
-    let replayed = replay_new(
-        alloc, program, node, source, line, &mut right, reasons, &mut said,
-    )?;
+    let name = head.instance;
+    let observer = begin_journal(alloc, program, name, node, lines, observers)?;
+    let (replayed, seen) = replay_new(alloc, program, node, source, line, &mut right, observer)?;
     let behind = lines_with(lines, replayed.lines)?;
-    let number = lines_behind(behind, 1)?;
+    let is_counted = replayed.is_counted;
     match replayed.ending {
-        Ending::Wrong => {
-            push_wrong(report, head.instance, number, line, &right)?;
-            Ok(Turn::Wrong)
-        }
         Ending::Next => {
-            check_counted(replayed.is_counted, number)?;
-            report_lawful(head.instance, &said, report, reasoned)?;
+            pass_journal(
+                alloc, program, name, node, seen, is_counted, behind, report, observers,
+            )?;
             Ok(Turn::Next(behind))
         }
         Ending::End => {
-            check_counted(replayed.is_counted, number)?;
-            report_lawful(head.instance, &said, report, reasoned)?;
+            pass_journal(
+                alloc, program, name, node, seen, is_counted, behind, report, observers,
+            )?;
             Ok(Turn::Last)
         }
-        Ending::Cut | Ending::NoEntry => Err(AuditError::Line(number)),
+        Ending::Cut => {
+            pass_journal(
+                alloc, program, name, node, seen, false, behind, report, observers,
+            )?;
+            Ok(Turn::Last)
+        }
+        Ending::Wrong => {
+            let number = lines_behind(behind, 1)?;
+            push_wrong(report, name, number, line, &right)?;
+            Ok(Turn::Wrong(number))
+        }
+        Ending::NoEntry => Err(AuditError::Line(lines_behind(behind, 1)?)),
     }
 }
 
 /// Audits the journal whose first line this is, with its line feed, behind so many lines.
-fn audit_behind<S: Source>(
+fn audit_behind<S: Source, O: Observers>(
     alloc: Global,
     program: &Arc<Program>,
     first: &[u8],
@@ -232,10 +198,11 @@ fn audit_behind<S: Source>(
     source: &mut S,
     line: &mut Vec<u8>,
     report: &mut Vec<u8>,
-    reasoned: &mut Reasoned,
+    observers: &mut O,
 ) -> Result<Turn, AuditError>
     requires { IsAccepted (program_of (arc_value program.now)) }
-    ensures sound { IfOk result (λ turn. TurnIs turn (program_of (arc_value program.now)) lines
+    ensures sound { let p = program_of (arc_value program.now) in
+        IfOk result (λ turn. TurnIs turn p (Gathers (O.gathered observers.old p) (O.gathered observers.new p)) lines
         (with_front first.now (S.left source.old)) (S.left source.new) line.new.items report.old.items report.new.items) }
     ensures complete { IfOk result (λ turn. Finds turn (program_of (arc_value program.now)) lines first.now
         (S.left source.old) (S.left source.new) line.new.items report.old.items report.new.items) }
@@ -247,27 +214,28 @@ fn audit_behind<S: Source>(
     };
     match program.node(head.node) {
         Some(node) => audit_journal(
-            alloc, program, head, node, lines, source, line, report, reasoned,
+            alloc, program, head, node, lines, source, line, report, observers,
         ),
         None => Err(AuditError::Line(number)),
     }
 }
 
-/// Audits the journals of which the first line was read, one behind another.
-fn audit_all<S: Source>(
+/// Audits the journals of which the first line was read, one behind another, and says which line of all isn't the right one.
+fn audit_all<S: Source, O: Observers>(
     alloc: Global,
     program: &Arc<Program>,
     first: Vec<u8>,
     source: &mut S,
-    reasoned: &mut Reasoned,
+    observers: &mut O,
     report: &mut Vec<u8>,
-) -> Result<bool, AuditError>
+) -> Result<Option<u64>, AuditError>
     requires empty { report.old.items ≡ [] }
     requires accepted { IsAccepted (program_of (arc_value program.now)) }
     requires whole { IsWholeLine first.items }
-    ensures sound { IfOk result (λ is_lawful. HasAudited (program_of (arc_value program.now)) is_lawful
+    ensures sound { let p = program_of (arc_value program.now) in
+        IfOk result (λ wrong. HasAudited p (Gathers (O.gathered observers.old p) (O.gathered observers.new p)) wrong
         (with_front first.items (S.left source.old)) report.new.items) }
-    ensures complete { IfOk result (λ is_lawful. FindsAll (program_of (arc_value program.now)) is_lawful
+    ensures complete { IfOk result (λ wrong. FindsAll (program_of (arc_value program.now)) (is_none wrong)
         (with_front first.items (S.left source.old)) report.new.items) }
     ensures blames { IfErr result (BlamesIf (AreNone (program_of (arc_value program.now))
         (with_front first.items (S.left source.old)))) }
@@ -277,54 +245,44 @@ fn audit_all<S: Source>(
     let mut lines = 0u64;
     for _journal in 0..u64::MAX {
         match audit_behind(
-            alloc, program, &first, lines, source, &mut line, report, reasoned,
+            alloc, program, &first, lines, source, &mut line, report, observers,
         )? {
             Turn::Next(behind) => {
                 lines = behind;
                 first = line;
                 line = Vec::new(alloc);
             }
-            Turn::Last => return Ok(true),
-            Turn::Wrong => return Ok(false),
+            Turn::Last => return Ok(None),
+            Turn::Wrong(number) => return Ok(Some(number)),
         }
     }
     Err(AuditError::Memory)
 }
 
-/// Audits journals, one behind another: each is replayed on a new instance of its node, up to the first line that isn't right. No
-/// more is kept than an instance, two lines and the report; where reasons are asked, also what is kept of its streams. It is an error of
-/// a line where that is none of a journal, which no line is of journals that can be read back.
-pub fn audit<S: Source>(
+/// Audits journals, one behind another: each is replayed on a new instance of its node, up to the first line that isn't right, and
+/// observed meanwhile. One that ends early, without the number of its entries or within a line, is audited to its last whole line, and
+/// the report says so. No more is kept than an instance, two lines, the report and the observers. It is an error of a line where that is
+/// none of a journal, which no line is of journals that can be read back.
+pub fn audit<S: Source, O: Observers>(
     alloc: Global,
     program: &Arc<Program>,
     source: &mut S,
-    is_why: bool,
+    observers: &mut O,
 ) -> Result<Report, AuditError>
-    ensures sound { IfOk result (λ r. HasAudited (program_of (arc_value program.now)) r.is_lawful (S.left source.old) r.text.items) }
-    ensures complete { IfOk result (λ r. FindsAll (program_of (arc_value program.now)) r.is_lawful (S.left source.old) r.text.items) }
+    ensures sound { let p = program_of (arc_value program.now) in
+        IfOk result (λ r. HasAudited p (Gathers (O.gathered observers.old p) (O.gathered observers.new p)) r.wrong (S.left source.old) r.text.items) }
+    ensures complete { IfOk result (λ r. FindsAll (program_of (arc_value program.now)) (is_none r.wrong) (S.left source.old) r.text.items) }
     ensures blames { IfErr result (BlamesIf (AreNone (program_of (arc_value program.now)) (S.left source.old))) }
 {
     is_accepted(program);
     let mut first = Vec::new(alloc);
     let mut text = Vec::new(alloc);
-    let mut reasoned = Reasoned {
-        is_asked: is_why,
-        text: Vec::new(alloc),
-    };
     match read_whole_line(source, &mut first)? {
         Whole::Line => {
-            let is_lawful = audit_all(alloc, program, first, source, &mut reasoned, &mut text)?;
-            Ok(Report {
-                is_lawful,
-                text,
-                reasons: reasoned.text,
-            })
+            let wrong = audit_all(alloc, program, first, source, observers, &mut text)?;
+            Ok(Report { wrong, text })
         }
         Whole::Unfinished => Err(AuditError::Line(1)),
-        Whole::End => Ok(Report {
-            is_lawful: true,
-            text,
-            reasons: reasoned.text,
-        }),
+        Whole::End => Ok(Report { wrong: None, text }),
     }
 }

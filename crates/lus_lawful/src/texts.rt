@@ -1,18 +1,45 @@
 //! What is reported of journals.
 
-ghost use Rattle.std.specs.Prelude.{◌≡◌, ◌++◌, OnOk};
-ghost use Rattle.lus_lawful.specs.Journals.{lawful_text, wrong_text};
+ghost use Rattle.std.specs.Prelude.{◌≡◌, ◌++◌, OnOk, codes};
+ghost use Rattle.lus_lawful.specs.Journals.{early_text, lawful_text, wrong_text};
 
 use itoa::Buffer;
 use lus_values::Memory;
 
-/// Reports that the journal of this instance is lawful.
-pub(crate) fn push_lawful(report: &mut Vec<u8>, instance: &str) -> Result<(), Memory>
-    ensures { OnOk result (report.new.items ≡ report.old.items ++ lawful_text instance.now) }
+/// Reports that the journal of this instance is lawful and whole.
+fn push_whole(report: &mut Vec<u8>, instance: &str) -> Result<(), Memory>
+    ensures { OnOk result (report.new.items ≡ report.old.items ++ (instance.now ++ codes " lawful\n")) }
 {
     report.extend_from_slice(instance.as_bytes())?;
     report.extend_from_slice(b" lawful\n")?;
     Ok(())
+}
+
+/// Reports that the journal of this instance is lawful up to its last line, which has this number.
+fn push_early(report: &mut Vec<u8>, instance: &str, line: u64) -> Result<(), Memory>
+    ensures { OnOk result (report.new.items ≡ report.old.items ++ early_text instance.now line) }
+{
+    report.extend_from_slice(instance.as_bytes())?;
+    report.extend_from_slice(b" lawful, ends early at line ")?;
+    report.extend_from_slice(Buffer::new().format(line).as_bytes())?;
+    report.extend_from_slice(b"\n")?;
+    Ok(())
+}
+
+/// Reports that the journal of this instance is lawful, and the number of its last line where it isn't whole.
+pub(crate) fn push_lawful(
+    report: &mut Vec<u8>,
+    instance: &str,
+    is_whole: bool,
+    line: u64,
+) -> Result<(), Memory>
+    ensures { OnOk result (report.new.items ≡ report.old.items ++ lawful_text instance.now is_whole line) }
+{
+    if is_whole {
+        push_whole(report, instance)
+    } else {
+        push_early(report, instance, line)
+    }
 }
 
 /// Reports the line of this number, which isn't the right one of this instance. Both lines end with their line feeds.

@@ -15,6 +15,10 @@ use Rattle.lus_machine.specs.Bursts.{AreRefused, GoesThrough}
 use Rattle.lus_machine.specs.declared.bursts.NoOutputs.{NoOutputs}
 use Rattle.lus_machine.specs.declared.bursts.NoOutputs.TheVariants as none
 
+pub lone_refused : (c : ProgramCode) (f : ℕ) (l : Lineage) (i : Row) (why : Why) → HasRefused (program_of c) f l (i ∷ []) why → AnswersStep (program_of c) f l i (Refused why)
+lone_refused c f l i why (inl h) = h
+lone_refused c f l i why (inr h) = absurd h.2
+
 module _ (c : ProgramCode) (o : Kept) where
   abbrev f : ℕ
   f = o.node
@@ -43,11 +47,7 @@ module _ (c : ProgramCode) (o : Kept) where
   refused_there rows outputs rest now i none.Memory before h = tt
   refused_there rows outputs rest now i (none.Refused why) before h =
       let here = subst (λ g. Refuses (program_of c) g (ObjectLived c g) now (i ∷ []) why) before.node h in
-      refuses_behind (program_of c) f Lived o rows outputs now before.runs i rest why (λ l lived. lone_refused l i why (here l lived))
-    where
-      lone_refused : (l : Lineage) (i : Row) (why : Why) → HasRefused (program_of c) f l (i ∷ []) why → AnswersStep (program_of c) f l i (Refused why)
-      lone_refused l i why (inl h) = h
-      lone_refused l i why (inr h) = absurd h.2
+      refuses_behind (program_of c) f Lived o rows outputs now before.runs i rest why (λ l lived. lone_refused c f l i why (here l lived))
 
   -- ---- one row
 

@@ -6,7 +6,7 @@ ghost use Rattle.lus_history.specs.Replies.{slots as slot_count};
 ghost use Rattle.lus_eval.specs.CodeSpecs.Codes.{program_of};
 ghost use Rattle.lus_machine.specs.Machines.{IsLawful, entry};
 
-use crate::answers::{SLOTS, answer_twice};
+use crate::answers::{SLOTS, answer, answer_twice};
 use crate::program::Program;
 use lus_eval::Object;
 use lus_program::NodeId;
@@ -98,7 +98,7 @@ impl Reactor {
         ensures err { OnErr result (self.new ≡ self.old) }
         ensures legal { IsLawful self.new }
     {
-        let (reply, _again) = answer_twice(
+        let reply = answer(
             self.alloc,
             self.program.code(),
             &mut self.object,

@@ -24,6 +24,12 @@ fn outputs_in<T: Held>(on: &Setting<'_, T>, row: &[T], outputs: usize) -> Result
     ensures { Faultless result (λ found. found ≡ take outputs (drop on.now.class.now.inputs (map T.entry row.now))) }
 {
     let from = on.class.inputs as usize;
+    if outputs == 1 {
+        let Ok(entry) = entry_at(on.alloc, row, from) else {
+            return Err(Failure::Stopped(Stop::Memory));
+        };
+        return Ok(Row::one(entry));
+    }
     let Ok(mut found) = Vec::with_capacity(on.alloc, outputs) else {
         return Err(Failure::Stopped(Stop::Memory));
     };

@@ -26,4 +26,4 @@ pub use sources::{
     checked_clocks, checked_nil, checked_types, counts, normal_of, ordered_of, places, refused_at,
     tokens_of, translated, tree_of,
 };
-pub use values::{applied, items_again, kind_of_value, value_and_text};
+pub use values::{applied, kind_of_value, one_row, value_and_text};

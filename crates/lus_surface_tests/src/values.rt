@@ -42,7 +42,7 @@ pub fn kind_of_value(value: &Value) -> u32 {
     }
 }
 
-/// What a row is made of, which it gives back.
-pub fn items_again(items: Vec<Option<Value>>) -> Vec<Option<Value>> {
-    Row::new(items).into_items()
+/// A row of one entry.
+pub fn one_row(entry: Option<Value>) -> Row {
+    Row::one(entry)
 }

@@ -1,6 +1,6 @@
 -- Texts within HTML and SVG.
 use Rattle.std.specs.Prelude.{◌==◌, ℕ, flat_map, codes, encode_utf8, if◌then◌else◌}
-use Rattle.lus_diagrams.specs.Texts.{Text}
+use Rattle.lus_values.specs.Names.{Text}
 
 abbrev pub escape : ℕ → Text
 escape b =

@@ -1,34 +1,36 @@
--- Pages of HTML that show journals: between a beginning and a script stands the text of the journals, in which nothing is markup.
-use Rattle.std.specs.Prelude.{List, ◌++◌, flat_map, map, codes, string_bytes}
-use Rattle.lus_diagrams.specs.Texts.{Text}
-use Rattle.lus_diagrams.specs.Entries.{Entry}
+-- Pages of HTML that show journals: between a beginning and a script stand the lines of a file, in which nothing is markup.
+use Rattle.std.specs.Prelude.{◌++◌, ◌-◌, ◌==◌, List, [], flat_map, length, map, codes, string_bytes, take}
+use Rattle.std.specs.List.{slice_split}
+use Rattle.lus_values.specs.Names.{Text}
 use Rattle.lus_traces.specs.Markup.{escaped}
 use Rattle.lus_traces.specs.declared.document.TheConstants.{OPENING}
 use Rattle.lus_traces.specs.declared.script.TheConstants.{CLOSING}
-use Rattle.lus_traces.specs.declared.page.Sheet as code
+use Rattle.lus_traces.specs.declared.lines.Line as code
 
--- the names of an instance and its node, lines that name the node's inputs and outputs, and the lines of the entries
-pub record Sheet : Type 0 where
-  pub instance : Text
-  pub node : Text
-  pub names : List Text
-  pub lines : List Text
+-- a line of the file, and further lines behind it
+pub record Line : Type 0 where
+  pub text : Text
+  pub further : List Text
 
-abbrev pub sheet_seen : code.Sheet → Sheet
-sheet_seen s = record { instance = s.instance.now; node = s.node.now; names = map string_bytes s.names.items; lines = map (λ t. t.now) s.lines.items }
+abbrev pub line_seen : code.Line → Line
+line_seen l = record { text = l.text.now; further = map string_bytes l.further.items }
 
-abbrev pub lines_of : List Entry → List Text
-lines_of es = map (λ e. e.line) es
+abbrev pub text_of : code.Line → Text
+text_of l = l.text.now
+
+abbrev pub plain : Text → Line
+plain t = record { text = t; further = [] }
+
+-- the texts before each line feed, with no lines behind them
+abbrev pub whole_lines : Text → List Line
+whole_lines text = let parts = slice_split (λ b. b == 10) text in map plain (take (length parts - 1) parts)
 
 abbrev pub row_text : Text → Text
 row_text t = escaped t ++ codes "\n"
 
-abbrev pub head_line : Text → Text → Text
-head_line instance node = codes "instance " ++ escaped instance ++ codes " " ++ row_text node
+abbrev pub line_text : Line → Text
+line_text l = row_text l.text ++ flat_map row_text l.further
 
-abbrev pub sheet_text : Sheet → Text
-sheet_text s = head_line s.instance s.node ++ flat_map row_text s.names ++ flat_map row_text s.lines
-
--- the page of journals
-unfoldable pub page_text : List Sheet → Text
-page_text ss = OPENING.now ++ flat_map sheet_text ss ++ CLOSING.now
+-- the page of a file's lines
+unfoldable pub page_text : List Line → Text
+page_text ls = OPENING.now ++ flat_map line_text ls ++ CLOSING.now

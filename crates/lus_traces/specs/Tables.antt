@@ -1,11 +1,13 @@
 -- Tables as CSV (RFC 4180), with line feeds at the ends of lines.
-use Rattle.std.specs.Prelude.{◌==◌, ℕ, Bool, List, [], ◌∷◌, ◌++◌, flat_map, map, codes, if◌then◌else◌}
+use Rattle.std.specs.Prelude.{◌==◌, ℕ, Bool, List, [], ◌∷◌, ◌++◌, Option, Some, None, flat_map, map, codes, if◌then◌else◌}
+use Rattle.std.specs.Fmt.{decimal}
 use Rattle.std.specs.List.{list_any, slice_split}
-use Rattle.std.specs.Str.{bytes_eq}
-use Rattle.lus_diagrams.specs.Texts.{Text}
+use Rattle.lus_values.specs.Names.{Names, Text}
+use Rattle.lus_values.specs.Text.{text_of}
+use Rattle.lus_values.specs.Values.{Row, Value}
 use Rattle.lus_diagrams.specs.Columns.{Column}
 use Rattle.lus_diagrams.specs.declared.lineage.Head.{Head}
-use Rattle.lus_diagrams.specs.declared.lineage.Head.TheVariants as heads
+use Rattle.lus_diagrams.specs.declared.lineage.Head.TheVariants.{Instant, Burst, Reset, Save, Restore}
 use Rattle.lus_traces.specs.Traces.{Trace}
 
 -- ---- cells and lines
@@ -30,50 +32,49 @@ cell_text t = if needs_quotes t then quoted t else t
 abbrev pub following : Text → Text
 following t = codes "," ++ cell_text t
 
--- cells with commas between them
-abbrev pub line_text : Text → List Text → Text
-line_text first others = cell_text first ++ flat_map following others ++ codes "\n"
-
 -- ---- tables: behind the instance's name come the number of an instant, the name of an event, and the values
 
-abbrev pub head_cells : List Text → List Text
-head_cells names = codes "instant number" ∷ codes "event name" ∷ names
+abbrev pub title_of : Head → Text
+title_of (Instant n) = decimal n
+title_of (Burst n) = codes "burst " ++ decimal n
+title_of Reset = codes "reset"
+title_of (Save s) = codes "save " ++ decimal s
+title_of (Restore s) = codes "restore " ++ decimal s
 
 -- an absent value's cell is empty
-abbrev pub shown : Text → Text
-shown value = if bytes_eq value (codes "-") then [] else value
+abbrev pub shown : Names → Option Value → Text
+shown names None = []
+shown names (Some v) = text_of names v
 
-abbrev pub instant_cells : Text → List Text → List Text
-instant_cells title values = title ∷ [] ∷ map shown values
+abbrev pub instant_cells : Names → Text → Row → List Text
+instant_cells names title row = title ∷ [] ∷ map (shown names) row
 
 -- an event has no values
 abbrev pub event_cells : Text → List Text → List Text
-event_cells title names = [] ∷ title ∷ map (λ name. []) names
+event_cells title signals = [] ∷ title ∷ map (λ signal. []) signals
 
-abbrev pub cells_under : List Text → Head → Text → List Text → List Text
-cells_under names (heads.Instant n) title values = instant_cells title values
-cells_under names (heads.Burst n) title values = event_cells title names
-cells_under names heads.Reset title values = event_cells title names
-cells_under names (heads.Save s) title values = event_cells title names
-cells_under names (heads.Restore s) title values = event_cells title names
+-- of a column under such a head, with these signals
+abbrev pub cells_under : Names → List Text → Head → Row → List Text
+cells_under names signals (Instant n) row = instant_cells names (title_of (Instant n)) row
+cells_under names signals h row = event_cells (title_of h) signals
 
-abbrev pub cells_of : List Text → Column → List Text
-cells_of names c = cells_under names c.head c.title c.cells
+abbrev pub others_text : Names → List Text → Column → Text
+others_text names signals c = flat_map following (cells_under names signals c.head c.cells)
+
+abbrev pub column_text : Names → Text → List Text → Column → Text
+column_text names instance signals c = cell_text instance ++ others_text names signals c ++ codes "\n"
 
 unfoldable pub head_text : List Text → Text
-head_text names = line_text (codes "instance name") (head_cells names)
-
-abbrev pub column_text : Text → List Text → Column → Text
-column_text instance names c = line_text instance (cells_of names c)
+head_text signals = codes "instance name,instant number,event name" ++ flat_map following signals ++ codes "\n"
 
 -- a line of names, and one for each column of the journal's table
-abbrev pub table_text : Trace → Text
-table_text t = head_text t.names ++ flat_map (column_text t.instance t.names) t.columns
+unfoldable pub table_text : Names → Trace → Text
+table_text names t = head_text t.names ++ flat_map (column_text names t.instance t.names) t.columns
 
-abbrev pub next_table : Trace → Text
-next_table t = codes "\n" ++ table_text t
+abbrev pub next_table : Names → Trace → Text
+next_table names t = codes "\n" ++ table_text names t
 
 -- tables with an empty line between two
-abbrev pub csv_text : List Trace → Text
-csv_text [] = []
-csv_text (t ∷ ts) = table_text t ++ flat_map next_table ts
+abbrev pub csv_text : Names → List Trace → Text
+csv_text names [] = []
+csv_text names (t ∷ ts) = table_text names t ++ flat_map (next_table names) ts

@@ -1,12 +1,12 @@
 -- A journal's table with the names of its rows.
 use Rattle.std.specs.Prelude.{List, map, string_bytes}
-use Rattle.lus_diagrams.specs.Texts.{Text}
+use Rattle.lus_values.specs.Names.{Text}
 use Rattle.lus_diagrams.specs.Columns.{Column}
 use Rattle.lus_diagrams.specs.ColumnView.{column_seen}
 use Rattle.lus_traces.specs.declared.trace.Signal.{Signal}
 use Rattle.lus_traces.specs.declared.trace.Trace as code
 
--- the instance, the names of the node's inputs and outputs, and the columns of the journal's table
+-- the instance, the names of the signals, and the columns of the journal's table
 pub record Trace : Type 0 where
   pub instance : Text
   pub names : List Text
@@ -16,4 +16,4 @@ abbrev pub name_of : Signal → Text
 name_of s = string_bytes s.name
 
 abbrev pub trace_seen : code.Trace → Trace
-trace_seen t = record { instance = t.instance.now; names = map name_of t.signals.items; columns = map column_seen t.columns.items }
+trace_seen t = record { instance = string_bytes t.heading.instance; names = map name_of t.signals.items; columns = map column_seen t.columns.items }

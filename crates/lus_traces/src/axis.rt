@@ -1,8 +1,9 @@
 //! What stands above and across the lanes of a picture of waves: numbers of instants, events, and refused calls.
 
 use crate::frames::Frame;
+use crate::lines::{Line, text_at};
 use crate::markup::push_escaped;
-use crate::refusals::Refusal;
+use crate::refusals::Refused;
 use crate::time::Time;
 use crate::words::{push_word, width};
 use std::alloc::AllocError;
@@ -40,6 +41,17 @@ pub(crate) fn push_axis(
     Ok(())
 }
 
+/// How far the name of the last events reaches.
+pub(crate) fn events_end(time: Time, frames: &[Frame<'_>]) -> usize {
+    let mut end = 0usize;
+    for (place, frame) in frames.iter().enumerate() {
+        if !frame.events.is_empty() {
+            end = time.start(place).saturating_add(width(&frame.events));
+        }
+    }
+    end
+}
+
 /// Appends a mark through all lanes where events stand before an instant, with their names where they have room.
 pub(crate) fn push_events(
     out: &mut String,
@@ -72,7 +84,8 @@ pub(crate) fn push_events(
 pub(crate) fn push_refusals(
     out: &mut String,
     time: Time,
-    refusals: &[Refusal<'_>],
+    lines: &[Line<'_>],
+    refusals: &[Refused],
     top: usize,
 ) -> Result<(), AllocError> {
     let y = top.saturating_add(REFUSALS);
@@ -91,7 +104,7 @@ pub(crate) fn push_refusals(
             )?;
             last = Some(refusal.behind);
         }
-        push_escaped(out, refusal.line)?;
+        push_escaped(out, text_at(lines, refusal.line))?;
     }
     if last.is_some() {
         out.push_str("</title></path>\n")?;

@@ -8,9 +8,9 @@ pub const OPENING: &str = "<!DOCTYPE html>
 <title>Journals</title>
 <style>
 :root{color-scheme:light dark;--ground:#ffffff;--text:#1e293b;--soft:#64748b;--grid:#e2e8f0;--band:#f8fafc;--line:#cbd5e1;
---truth:#0f766e;--lit:#99f6e4;--number:#1d4ed8;--box:#7c3aed;--event:#d97706;--refused:#be123c;--cursor:#0ea5e9}
+--truth:#0f766e;--lit:#99f6e4;--number:#1d4ed8;--box:#7c3aed;--event:#d97706;--refused:#be123c;--cursor:#0ea5e9;--local:#3f6212}
 @media (prefers-color-scheme:dark){:root{--ground:#0f172a;--text:#e2e8f0;--soft:#94a3b8;--grid:#1e293b;--band:#131d33;--line:#334155;
---truth:#2dd4bf;--lit:#134e4a;--number:#60a5fa;--box:#a78bfa;--event:#fbbf24;--refused:#fb7185;--cursor:#38bdf8}}
+--truth:#2dd4bf;--lit:#134e4a;--number:#60a5fa;--box:#a78bfa;--event:#fbbf24;--refused:#fb7185;--cursor:#38bdf8;--local:#bef264}}
 *{box-sizing:border-box}
 body{margin:0;background:var(--ground);color:var(--text);font:14px system-ui,sans-serif}
 header{position:sticky;top:0;z-index:2;display:flex;flex-wrap:wrap;gap:8px;align-items:center;padding:8px 12px;background:var(--ground);
@@ -29,6 +29,7 @@ main{display:grid;grid-template-columns:minmax(180px,300px) 1fr}
 .row.chosen{background:var(--band);box-shadow:inset 3px 0 var(--cursor)}
 .row span{overflow:hidden;text-overflow:ellipsis}
 .row .side{font-size:11px;color:var(--soft);width:24px;flex:none}
+.row.var .name{color:var(--local)}
 .row .value{margin-left:auto;font-family:'DejaVu Sans Mono',Menlo,Consolas,monospace;max-width:60%}
 #scroll{overflow-x:auto;outline:none}
 #wide{height:1px}

@@ -2,8 +2,10 @@
 
 use crate::frames::{Frame, frames_of};
 use crate::kinds::kinds_of;
+use crate::scopes::{parts_of, push_way};
 use crate::trace::{SignalKind, Trace};
-use crate::values::{push_text, push_value, push_word};
+use crate::values::{entry_text, same_entry};
+use lus_values::{Memory, Names, Value};
 use std::alloc::{AllocError, Global};
 
 /// An instance by its number from 1: the kinds of its signals, and what stands at each time.
@@ -14,7 +16,7 @@ struct Scope<'a> {
     frames: Vec<Frame<'a>>,
 }
 
-fn scopes<'a>(alloc: Global, traces: &[Trace<'a>]) -> Result<Vec<Scope<'a>>, AllocError> {
+fn scopes(alloc: Global, traces: &[Trace]) -> Result<Vec<Scope<'_>>, AllocError> {
     let mut scopes = Vec::new(alloc);
     for (place, trace) in traces.iter().enumerate() {
         let frames = frames_of(alloc, &trace.columns)?;
@@ -27,6 +29,14 @@ fn scopes<'a>(alloc: Global, traces: &[Trace<'a>]) -> Result<Vec<Scope<'a>>, All
     Ok(scopes)
 }
 
+/// Appends a text with `_` for each blank, since a blank ends a value and a name.
+fn push_word(out: &mut String, text: &str) -> Result<(), AllocError> {
+    for part in text.chars() {
+        out.push(if part == ' ' { '_' } else { part })?;
+    }
+    Ok(())
+}
+
 /// The type and the size of a signal in its declaration.
 fn declared(kind: SignalKind) -> &'static str {
     match kind {
@@ -36,49 +46,98 @@ fn declared(kind: SignalKind) -> &'static str {
     }
 }
 
-/// Appends the declarations of an instance's signals: the number of the instant, an event and its name, and below the
-/// node's name its inputs and outputs.
-fn push_scope(out: &mut String, trace: &Trace<'_>, scope: &Scope<'_>) -> Result<(), AllocError> {
+/// Appends the declarations of an instance's signals, each in the scope of the called node that has it.
+fn push_signals(
+    alloc: Global,
+    out: &mut String,
+    trace: &Trace,
+    scope: &Scope<'_>,
+) -> Result<(), AllocError> {
+    let mut open = Vec::new(alloc);
+    for (place, (signal, kind)) in trace.signals.iter().zip(&scope.kinds).enumerate() {
+        let mut way = parts_of(alloc, &signal.name)?;
+        let name = way.pop().unwrap_or("");
+        push_way(out, &open, &way)?;
+        let number = (place as u64).saturating_add(1);
+        write!(out, "$var {} v{}.{number} ", declared(*kind), scope.number)?;
+        push_word(out, name)?;
+        out.push_str(" $end\n")?;
+        open = way;
+    }
+    push_way(out, &open, &[])
+}
+
+/// Appends the declarations of an instance: the number of the instant, an event and its name, and below the node's name its signals.
+fn push_scope(
+    alloc: Global,
+    out: &mut String,
+    trace: &Trace,
+    scope: &Scope<'_>,
+) -> Result<(), AllocError> {
     let number = scope.number;
-    write!(out, "$scope module {} $end\n", trace.instance)?;
+    write!(out, "$scope module {} $end\n", trace.heading.instance)?;
     write!(out, "$var integer 64 n{number} instant $end\n")?;
     write!(out, "$var event 1 e{number} event $end\n")?;
     write!(out, "$var string 1 t{number} events $end\n")?;
-    write!(out, "$scope module {} $end\n", trace.node)?;
-    let mut place = 0u64;
-    for (signal, kind) in trace.signals.iter().zip(&scope.kinds) {
-        place = place.saturating_add(1);
-        write!(out, "$var {} v{number}.{place} ", declared(*kind))?;
-        push_word(out, signal.name.as_str())?;
-        out.push_str(" $end\n")?;
-    }
+    write!(out, "$scope module {} $end\n", trace.heading.node)?;
+    push_signals(alloc, out, trace, scope)?;
     out.push_str("$upscope $end\n$upscope $end\n")
 }
 
 fn push_head(
+    alloc: Global,
     out: &mut String,
-    traces: &[Trace<'_>],
+    traces: &[Trace],
     scopes: &[Scope<'_>],
 ) -> Result<(), AllocError> {
     out.push_str("$comment time n is the n-th accepted instant of each instance $end\n")?;
     out.push_str("$timescale 1 s $end\n")?;
     for (trace, scope) in traces.iter().zip(scopes) {
-        push_scope(out, trace, scope)?;
+        push_scope(alloc, out, trace, scope)?;
     }
     out.push_str("$enddefinitions $end\n")
 }
 
+/// Appends a text up to the code of its signal.
+fn push_text(out: &mut String, text: &str) -> Result<(), AllocError> {
+    out.push_str("s")?;
+    push_word(out, text)?;
+    out.push_str(" ")
+}
+
+/// Appends an entry up to the code of its signal: a truth value as a wire, a number in two's complement without the zeros before it, `x`
+/// where these are absent, or a text.
+fn push_value(
+    alloc: Global,
+    out: &mut String,
+    names: &Names,
+    kind: SignalKind,
+    entry: Option<&Value>,
+) -> Result<(), Memory> {
+    match (kind, entry) {
+        (SignalKind::Truth, Some(Value::Bool(true))) => out.push_str("1")?,
+        (SignalKind::Truth, Some(Value::Bool(false))) => out.push_str("0")?,
+        (SignalKind::Truth, _) => out.push_str("x")?,
+        (SignalKind::Number, Some(Value::Int(number))) => write!(out, "b{number:b} ")?,
+        (SignalKind::Number, _) => out.push_str("bx ")?,
+        (SignalKind::Text, _) => push_text(out, &entry_text(alloc, names, entry)?)?,
+    }
+    Ok(())
+}
+
 /// Appends the values of the signals at a time, of those alone that differ from the time before where one is given.
 fn push_values(
+    alloc: Global,
     out: &mut String,
+    names: &Names,
     scope: &Scope<'_>,
     before: Option<&Frame<'_>>,
     frame: &Frame<'_>,
-) -> Result<(), AllocError> {
+) -> Result<(), Memory> {
     for (place, kind) in scope.kinds.iter().enumerate() {
         let value = frame.value(place);
-        if before.is_none_or(|before| before.value(place) != value) {
-            push_value(out, *kind, value)?;
+        if before.is_none_or(|before| !same_entry(before.value(place), value)) {
+            push_value(alloc, out, names, *kind, value)?;
             write!(out, "v{}.{}\n", scope.number, place as u64 + 1)?;
         }
     }
@@ -102,48 +161,64 @@ fn push_events(out: &mut String, scope: u64, frame: &Frame<'_>) -> Result<(), Al
 
 /// Appends all values of an instance at the beginning.
 fn push_beginning(
+    alloc: Global,
     out: &mut String,
+    names: &Names,
     scope: &Scope<'_>,
     frame: &Frame<'_>,
-) -> Result<(), AllocError> {
+) -> Result<(), Memory> {
     push_number(out, scope.number, frame.number)?;
     push_events(out, scope.number, frame)?;
-    push_values(out, scope, None, frame)
+    push_values(alloc, out, names, scope, None, frame)
 }
 
 /// Appends the changes of an instance from one time to the next.
 fn push_changes(
+    alloc: Global,
     out: &mut String,
+    names: &Names,
     scope: &Scope<'_>,
     before: &Frame<'_>,
     frame: &Frame<'_>,
-) -> Result<(), AllocError> {
+) -> Result<(), Memory> {
     push_number(out, scope.number, frame.number)?;
     if before.events.as_str() != frame.events.as_str() || !frame.events.is_empty() {
         push_events(out, scope.number, frame)?;
     }
-    push_values(out, scope, Some(before), frame)
+    push_values(alloc, out, names, scope, Some(before), frame)
 }
 
 /// Appends the beginning of time, where each signal has its first value.
-fn push_start(out: &mut String, scopes: &[Scope<'_>]) -> Result<(), AllocError> {
+fn push_start(
+    alloc: Global,
+    out: &mut String,
+    names: &Names,
+    scopes: &[Scope<'_>],
+) -> Result<(), Memory> {
     out.push_str("#0\n$dumpvars\n")?;
     for scope in scopes {
         if let Some(frame) = scope.frames.first() {
-            push_beginning(out, scope, frame)?;
+            push_beginning(alloc, out, names, scope, frame)?;
         }
     }
-    out.push_str("$end\n")
+    out.push_str("$end\n")?;
+    Ok(())
 }
 
-fn push_time(out: &mut String, scopes: &[Scope<'_>], time: usize) -> Result<(), AllocError> {
+fn push_time(
+    alloc: Global,
+    out: &mut String,
+    names: &Names,
+    scopes: &[Scope<'_>],
+    time: usize,
+) -> Result<(), Memory> {
     write!(out, "#{time}\n")?;
     for scope in scopes {
         if let (Some(before), Some(frame)) = (
             scope.frames.get(time.saturating_sub(1)),
             scope.frames.get(time),
         ) {
-            push_changes(out, scope, before, frame)?;
+            push_changes(alloc, out, names, scope, before, frame)?;
         }
     }
     Ok(())
@@ -159,13 +234,13 @@ fn times(scopes: &[Scope<'_>]) -> usize {
 }
 
 /// A value change dump of instances: at time n stand the values of the n-th accepted instant of each, and the events before it.
-pub fn vcd(alloc: Global, traces: &[Trace<'_>]) -> Result<String, AllocError> {
+pub fn vcd(alloc: Global, names: &Names, traces: &[Trace]) -> Result<String, Memory> {
     let scopes = scopes(alloc, traces)?;
     let mut out = String::new(alloc);
-    push_head(&mut out, traces, &scopes)?;
-    push_start(&mut out, &scopes)?;
+    push_head(alloc, &mut out, traces, &scopes)?;
+    push_start(alloc, &mut out, names, &scopes)?;
     for time in 1..times(&scopes) {
-        push_time(&mut out, &scopes, time)?;
+        push_time(alloc, &mut out, names, &scopes, time)?;
     }
     Ok(out)
 }

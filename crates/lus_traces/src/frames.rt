@@ -1,21 +1,30 @@
 //! What stands in a journal at each time.
 
+use crate::titles::title_of;
+use crate::values::part_at;
 use lus_diagrams::{Column, Head};
+use lus_values::Value;
 use std::alloc::{AllocError, Global};
 
-/// What stands at a time: the names of the events before its instant, and the instant's number and values. At the beginning and at
+/// What stands at a time: the names of the events before its instant, and the instant's number and entries. At the beginning and at
 /// the end there is no instant.
 #[derive(Drop)]
 pub(crate) struct Frame<'a> {
     pub events: String,
     pub number: Option<u64>,
-    pub values: Vec<&'a str>,
+    pub cells: &'a [Option<Value>],
 }
 
 impl<'a> Frame<'a> {
-    /// The value of a row: `-` where it is absent.
-    pub(crate) fn value(&self, row: usize) -> &'a str {
-        self.values.get(row).copied().unwrap_or("-")
+    /// The value of a row, where it is present.
+    pub(crate) fn value(&self, row: usize) -> Option<&'a Value> {
+        self.cells.get(row)?.as_ref()
+    }
+
+    /// The part of a row's value that these places of fields lead to.
+    pub(crate) fn part(&self, row: usize, way: &[u32]) -> Option<&'a Value> {
+        let value = self.value(row)?;
+        Some(part_at(value, way))
     }
 }
 
@@ -27,25 +36,13 @@ fn push_event(events: &mut String, title: &str) -> Result<(), AllocError> {
     events.push_str(title)
 }
 
-/// The values of a column.
-fn values_of<'a>(alloc: Global, column: &Column<'a>) -> Result<Vec<&'a str>, AllocError> {
-    let mut values = Vec::new(alloc);
-    for value in &column.cells {
-        values.push(*value)?;
-    }
-    Ok(values)
-}
-
 /// The frames of a table: the beginning, each accepted instant, and the end.
-pub(crate) fn frames_of<'a>(
-    alloc: Global,
-    columns: &[Column<'a>],
-) -> Result<Vec<Frame<'a>>, AllocError> {
+pub(crate) fn frames_of(alloc: Global, columns: &[Column]) -> Result<Vec<Frame<'_>>, AllocError> {
     let mut frames = Vec::new(alloc);
     frames.push(Frame {
         events: String::new(alloc),
         number: None,
-        values: Vec::new(alloc),
+        cells: &[],
     })?;
     let mut events = String::new(alloc);
     for column in columns {
@@ -53,17 +50,18 @@ pub(crate) fn frames_of<'a>(
             frames.push(Frame {
                 events,
                 number: Some(number),
-                values: values_of(alloc, column)?,
+                cells: column.cells.items(),
             })?;
             events = String::new(alloc);
         } else {
-            push_event(&mut events, column.title.as_str())?;
+            let title = title_of(alloc, column.head)?;
+            push_event(&mut events, title.as_str())?;
         }
     }
     frames.push(Frame {
         events,
         number: None,
-        values: Vec::new(alloc),
+        cells: &[],
     })?;
     Ok(frames)
 }

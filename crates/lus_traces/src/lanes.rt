@@ -7,6 +7,7 @@ use crate::scales::{LEVELS, Scale, height, scale_of};
 use crate::time::Time;
 use crate::trace::{Side, Signal, SignalKind};
 use crate::words::{push_word, width};
+use lus_values::{Memory, Names, print};
 use std::alloc::{AllocError, Global};
 
 /// How high a lane is, and from its lowest level to its end.
@@ -82,25 +83,28 @@ fn push_runs(
 
 /// Appends the values of runs that have room for them: in the middle of boxes, and above steps.
 fn push_values(
+    alloc: Global,
     out: &mut String,
+    names: &Names,
     time: Time,
     low: usize,
     scale: Scale,
     runs: &[Run<'_>],
-) -> Result<(), AllocError> {
+) -> Result<(), Memory> {
     for run in runs {
         let (start, end) = (time.start(run.first), time.end(run.last));
-        if width(run.value) <= end.saturating_sub(start) {
+        let value = print(alloc, run.value, names)?;
+        if width(&value) <= end.saturating_sub(start) {
             match scale {
                 Scale::Truths => {}
                 Scale::Numbers { .. } => {
                     let y = low.saturating_sub(height(scale, run.value).saturating_add(40));
-                    push_word(out, "value", start.saturating_add(30), y, run.value)?;
+                    push_word(out, "value", start.saturating_add(30), y, &value)?;
                 }
                 Scale::Boxes => {
                     let middle = (start / 2).saturating_add(end / 2);
                     let y = low.saturating_sub(LEVELS / 2 - 38);
-                    push_word(out, "value boxed", middle, y, run.value)?;
+                    push_word(out, "value boxed", middle, y, &value)?;
                 }
             }
         }
@@ -131,11 +135,12 @@ fn push_bounds(
     Ok(())
 }
 
-/// Appends the name of a lane, and whether it is an input's.
+/// Appends the name of a lane, and whether it is an input's, an output's or another variable's.
 fn push_name(out: &mut String, low: usize, side: Side, name: &str) -> Result<(), AllocError> {
     let word = match side {
         Side::Input => "in",
         Side::Output => "out",
+        Side::Local => "var",
     };
     let y = low.saturating_sub(80);
     push_word(out, "side", 60, y, word)?;
@@ -144,12 +149,14 @@ fn push_name(out: &mut String, low: usize, side: Side, name: &str) -> Result<(),
 
 /// Appends the lane of runs whose lowest level is there.
 fn push_lane(
+    alloc: Global,
     out: &mut String,
+    names: &Names,
     time: Time,
     low: usize,
     kind: SignalKind,
     runs: &[Run<'_>],
-) -> Result<(), AllocError> {
+) -> Result<(), Memory> {
     let floor = low.saturating_add(BELOW);
     let right = time.right();
     write!(out, "<path class=\"grid\" d=\"M60 {floor}H{right}\"/>\n")?;
@@ -158,48 +165,29 @@ fn push_lane(
         push_bounds(out, time, low, least, most)?;
     }
     push_runs(out, time, low, scale, runs)?;
-    push_values(out, time, low, scale, runs)
-}
-
-/// Appends the lanes of a row below each other, and gives where they end.
-fn push_row(
-    alloc: Global,
-    out: &mut String,
-    signal: &Signal,
-    frames: &[Frame<'_>],
-    row: usize,
-    time: Time,
-    top: usize,
-) -> Result<usize, AllocError> {
-    let is_whole = signal.fields.is_empty();
-    let mut end = top;
-    for (place, name) in signal.lanes().iter().enumerate() {
-        end = end.saturating_add(LANE);
-        let low = end.saturating_sub(BELOW);
-        push_name(out, low, signal.side, name.as_str())?;
-        if is_whole {
-            let runs = runs_of(alloc, frames, row, None)?;
-            push_lane(out, time, low, kind_of(signal.kind, &runs), &runs)?;
-        } else {
-            let runs = runs_of(alloc, frames, row, Some(place))?;
-            push_lane(out, time, low, kind_of(None, &runs), &runs)?;
-        }
-    }
-    Ok(end)
+    push_values(alloc, out, names, time, low, scale, runs)
 }
 
 /// Appends the lanes of signals below each other.
 pub(crate) fn push_lanes(
     alloc: Global,
     out: &mut String,
+    names: &Names,
     signals: &[Signal],
     frames: &[Frame<'_>],
     time: Time,
     top: usize,
-) -> Result<(), AllocError> {
+) -> Result<(), Memory> {
     let mut end = top;
     for (row, signal) in signals.iter().enumerate() {
-        end = push_row(alloc, out, signal, frames, row, time, end)?;
+        for lane in &signal.lanes {
+            end = end.saturating_add(LANE);
+            let low = end.saturating_sub(BELOW);
+            push_name(out, low, signal.side, lane.name.as_str())?;
+            let runs = runs_of(alloc, frames, row, &lane.way)?;
+            let kind = kind_of(lane.kind, &runs);
+            push_lane(alloc, out, names, time, low, kind, &runs)?;
+        }
     }
     Ok(())
 }

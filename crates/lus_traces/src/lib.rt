@@ -1,5 +1,5 @@
-//! Traces of journals: as a picture of waves, as a page of HTML, and for other programs each instance's table as CSV, and all of them as
-//! VCD, which waveform viewers read.
+//! Traces of journals: as text, as a picture of waves, as a page of HTML, and for other programs each instance's table as CSV, and all of
+//! them as VCD, which waveform viewers read.
 #![tactic(auto)]
 
 mod axis;
@@ -7,8 +7,10 @@ mod cutting;
 mod document;
 mod dump;
 mod frames;
+mod further;
 mod kinds;
 mod lanes;
+mod lines;
 mod markup;
 mod page;
 mod parts;
@@ -16,17 +18,23 @@ mod picture;
 mod refusals;
 mod runs;
 mod scales;
+mod scopes;
 mod script;
 mod tables;
 mod time;
+mod titles;
 mod trace;
 mod values;
 mod words;
+mod written;
 
 pub use dump::vcd;
-pub use page::{Sheet, html, lines_of};
-pub use parts::{Part, part_of};
+pub use further::push_further;
+pub use lines::{Line, lines_of};
+pub use page::html;
+pub use parts::Part;
 pub use picture::waves;
-pub use refusals::{Refusal, refusals_of};
+pub use refusals::Refused;
 pub use tables::csv;
-pub use trace::{Side, Signal, SignalKind, Trace};
+pub use trace::{Heading, Lane, Side, Signal, SignalKind, Trace};
+pub use written::text;

@@ -2,7 +2,7 @@
 
 ghost use Rattle.std.specs.Prelude.{◌≡◌, IfOk, map};
 ghost use Rattle.lus_diagrams.specs.ColumnView.{column_seen};
-ghost use Rattle.lus_traces.specs.Parts.{is_instant, is_within, part_of};
+ghost use Rattle.lus_traces.specs.Parts.{is_instant, part_of};
 
 use lus_diagrams::{Column, Head};
 use std::alloc::{AllocError, Global};
@@ -20,13 +20,21 @@ pub(crate) fn is_instant(head: Head) -> bool
     matches!(head, Head::Instant(_))
 }
 
+/// How many of these columns are instants.
+pub(crate) fn instants_in(columns: &[Column]) -> usize {
+    columns
+        .iter()
+        .filter(|column| is_instant(column.head))
+        .count()
+}
+
 /// The columns of a part, with the events before its first instant and behind its last one.
-pub fn part_of<'a>(
+pub(crate) fn part_of(
     alloc: Global,
     part: Part,
-    columns: Vec<Column<'a>>,
-) -> Result<Vec<Column<'a>>, AllocError>
-    ensures { IfOk result (λ v. map column_seen v.items ≡ part_of part (map column_seen columns.entry.items)) }
+    columns: Vec<Column>,
+) -> Result<Vec<Column>, AllocError>
+    ensures { IfOk result (λ v. map column_seen v.items ≡ part_of part (map column_seen columns.items)) }
 {
     let mut kept = Vec::new(alloc);
     let mut count = 0u64;

@@ -1,12 +1,15 @@
 //! Traces as a picture of waves: for each signal a lane over time. Lengths are tenths of a pixel.
 
-use crate::axis::{push_axis, push_events, push_refusals};
-use crate::frames::frames_of;
+use crate::axis::{events_end, push_axis, push_events, push_refusals};
+use crate::frames::{Frame, frames_of};
 use crate::lanes::{LANE, push_lanes};
-use crate::parts::is_instant;
+use crate::lines::Line;
+use crate::parts::instants_in;
 use crate::time::Time;
-use crate::trace::Trace;
+use crate::titles::push_early;
+use crate::trace::{Heading, Trace, is_local};
 use crate::words::push_word;
+use lus_values::{Memory, Names};
 use std::alloc::{AllocError, Global};
 
 /// How high the title of an instance is with what stands above its lanes, and the room behind them.
@@ -43,98 +46,132 @@ path{fill:none;stroke-width:14}.grid{stroke:#e2e8f0;stroke-width:8}.axis{stroke:
 </style>
 ";
 
+/// The same of names of variables that are no inputs or outputs, where there are any.
+const LOCALS: &str =
+    "<style>.local{fill:#3f6212}@media (prefers-color-scheme:dark){.local{fill:#bef264}}</style>\n";
+
 /// How many lanes the signals of a trace have.
-fn lane_count(trace: &Trace<'_>) -> usize {
+fn lane_count(trace: &Trace) -> usize {
     let mut count = 0usize;
     for signal in &trace.signals {
-        count = count.saturating_add(signal.lanes().len());
+        count = count.saturating_add(signal.lanes.len());
     }
     count
 }
 
-/// How high the waves of an instance are.
-fn height_of(trace: &Trace<'_>) -> usize {
-    lane_count(trace)
-        .saturating_mul(LANE)
-        .saturating_add(HEAD + FOOT)
-}
-
 /// Where time begins: behind the longest name of a lane.
-fn left_of(traces: &[Trace<'_>]) -> usize {
+fn left_of(traces: &[Trace]) -> usize {
     let mut most = 0usize;
     for trace in traces {
         for signal in &trace.signals {
-            for name in signal.lanes() {
-                most = most.max(name.len());
+            for lane in &signal.lanes {
+                most = most.max(lane.name.len());
             }
         }
     }
     most.saturating_mul(LETTER).saturating_add(BESIDE)
 }
 
-fn time_of(trace: &Trace<'_>, left: usize) -> Time {
-    let instants = trace
-        .columns
-        .iter()
-        .filter(|column| is_instant(column.head))
-        .count();
-    Time::of(instants, trace.part.from, left)
+/// The title of an instance's waves.
+fn title_of(alloc: Global, heading: &Heading) -> Result<String, AllocError> {
+    let mut title = format!(in alloc; "{}: {}", heading.instance, heading.node)?;
+    push_early(&mut title, heading)?;
+    Ok(title)
 }
 
-/// How wide the waves of an instance are, with their title.
-fn width_of(trace: &Trace<'_>, left: usize) -> usize {
-    let letters = trace.instance.len().saturating_add(trace.node.len());
-    let title = letters.saturating_add(2).saturating_mul(TITLE);
-    time_of(trace, left)
+/// An instance's waves: what is drawn, how high they are, and how wide with their title and the names of events.
+#[derive(Drop)]
+struct Drawn<'a> {
+    trace: &'a Trace,
+    title: String,
+    frames: Vec<Frame<'a>>,
+    time: Time,
+    lanes: usize,
+    high: usize,
+    wide: usize,
+}
+
+fn waves_of(alloc: Global, trace: &Trace, left: usize) -> Result<Drawn<'_>, AllocError> {
+    let title = title_of(alloc, &trace.heading)?;
+    let frames = frames_of(alloc, &trace.columns)?;
+    let time = Time::of(instants_in(&trace.columns), trace.part.from, left);
+    let lanes = lane_count(trace).saturating_mul(LANE);
+    let wide = time
         .right()
-        .max(title)
+        .max(title.len().saturating_mul(TITLE))
         .saturating_add(MARGIN)
+        .max(events_end(time, &frames));
+    Ok(Drawn {
+        trace,
+        title,
+        frames,
+        time,
+        lanes,
+        high: lanes.saturating_add(HEAD + FOOT),
+        wide,
+    })
 }
 
 fn push_instance(
     alloc: Global,
     out: &mut String,
-    trace: &Trace<'_>,
-    left: usize,
+    names: &Names,
+    lines: &[Line<'_>],
+    waves: &Drawn<'_>,
     top: usize,
-) -> Result<(), AllocError> {
-    let frames = frames_of(alloc, &trace.columns)?;
-    let time = time_of(trace, left);
+) -> Result<(), Memory> {
+    let (time, frames) = (waves.time, waves.frames.as_slice());
     let lanes = top.saturating_add(HEAD);
-    let bottom = lanes.saturating_add(lane_count(trace).saturating_mul(LANE));
-    let title = format!(in alloc; "{}: {}", trace.instance, trace.node)?;
-    push_word(out, "title", 60, top.saturating_add(260), title.as_str())?;
+    let bottom = lanes.saturating_add(waves.lanes);
+    push_word(out, "title", 60, top.saturating_add(260), &waves.title)?;
     push_axis(out, time, top, bottom)?;
-    push_lanes(alloc, out, &trace.signals, &frames, time, lanes)?;
-    push_events(out, time, &frames, top, bottom)?;
-    push_refusals(out, time, &trace.refusals, top)
+    let signals = &waves.trace.signals;
+    push_lanes(alloc, out, names, signals, frames, time, lanes)?;
+    push_events(out, time, frames, top, bottom)?;
+    push_refusals(out, time, lines, &waves.trace.refusals, top)?;
+    Ok(())
 }
 
 /// Appends the document's first tag, and how each class is drawn.
-fn push_head(out: &mut String, traces: &[Trace<'_>], left: usize) -> Result<(), AllocError> {
+fn push_head(out: &mut String, all: &[Drawn<'_>]) -> Result<(), AllocError> {
     let mut wide = 0usize;
     let mut high = 0usize;
-    for trace in traces {
-        wide = wide.max(width_of(trace, left));
-        high = high.saturating_add(height_of(trace));
+    let mut has_locals = false;
+    for waves in all {
+        wide = wide.max(waves.wide);
+        high = high.saturating_add(waves.high);
+        has_locals |= waves.trace.signals.iter().any(is_local);
     }
     let (width, height) = (wide / 10, high / 10);
     write!(
         out,
         "{OPENING} width=\"{width}\" height=\"{height}\" viewBox=\"0 0 {wide} {high}\">\n"
     )?;
-    out.push_str(STYLE)
+    out.push_str(STYLE)?;
+    if has_locals {
+        out.push_str(LOCALS)?;
+    }
+    Ok(())
 }
 
-/// A picture of the waves of instances, one below the other, as wide as their instants.
-pub fn waves(alloc: Global, traces: &[Trace<'_>]) -> Result<String, AllocError> {
+/// A picture of the waves of instances, one below the other, as wide as their instants. The lines are those of the journals' file.
+pub fn waves(
+    alloc: Global,
+    names: &Names,
+    lines: &[Line<'_>],
+    traces: &[Trace],
+) -> Result<String, Memory> {
     let mut out = String::new(alloc);
     let left = left_of(traces);
-    push_head(&mut out, traces, left)?;
-    let mut top = 0usize;
+    let mut all = Vec::new(alloc);
     for trace in traces {
-        push_instance(alloc, &mut out, trace, left, top)?;
-        top = top.saturating_add(height_of(trace));
+        all.push(waves_of(alloc, trace, left)?)?;
+    }
+    push_head(&mut out, &all)?;
+    let mut top = 0usize;
+    for waves in &all {
+        push_instance(alloc, &mut out, names, lines, waves, top)?;
+        top = top.saturating_add(waves.high);
     }
     out.push_str("</svg>\n")?;
     Ok(out)

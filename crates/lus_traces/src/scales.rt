@@ -2,6 +2,7 @@
 
 use crate::runs::Run;
 use crate::trace::SignalKind;
+use lus_values::Value;
 
 /// How far the highest level is from the lowest.
 pub(crate) const LEVELS: usize = 260;
@@ -14,8 +15,11 @@ pub(crate) enum Scale {
     Boxes,
 }
 
-fn number(value: &str) -> i64 {
-    value.parse::<i64>().unwrap_or(0)
+fn number(value: &Value) -> i64 {
+    match value {
+        Value::Int(number) => *number,
+        _ => 0,
+    }
 }
 
 fn numbers(runs: &[Run<'_>]) -> Scale {
@@ -51,9 +55,9 @@ fn level(place: u64, count: u64) -> usize {
 }
 
 /// How high a value stands above the lowest level.
-pub(crate) fn height(scale: Scale, value: &str) -> usize {
+pub(crate) fn height(scale: Scale, value: &Value) -> usize {
     match scale {
-        Scale::Truths => level(u64::from(value == "true"), 1),
+        Scale::Truths => level(u64::from(matches!(value, Value::Bool(true))), 1),
         Scale::Numbers { least, most } => {
             level(number(value).abs_diff(least), most.abs_diff(least))
         }

@@ -14,12 +14,32 @@ const feed = String.fromCharCode(10);
 // The items of a row's text.
 const items = (text) => text === '' ? [] : text.split(', ');
 
-// The values of an item's leaves: of a structure those of its fields, in their order.
-function leaves(item, count) {
-  if (count === 1 && !item.startsWith('{')) return [item];
-  if (item === '-') return Array(count).fill('-');
-  return item.split('{').join('').split('}').join('').split('; ');
+// The value of an item: of a structure the values of its fields.
+function parsed(item) {
+  const stack = [[]];
+  let word = '';
+  const end = () => { if (word !== '') stack[stack.length - 1].push(word); word = ''; };
+  for (const letter of item) {
+    if (letter === '{') stack.push([]);
+    else if (letter === '}') { end(); const fields = stack.pop(); stack[stack.length - 1].push(fields); }
+    else if (letter === ';') end();
+    else if (letter !== ' ') word += letter;
+  }
+  end();
+  return stack[0][0];
 }
+
+// The values of the leaves that have these names, each part by part; of a structure that has no fields here each leaf has its value.
+function spread(value, names) {
+  if (names.length === 1) return [Array.isArray(value) ? spread(value[0], names)[0] : value];
+  const groups = new Map(), is = Array.isArray(value);
+  names.forEach(([part, ...rest]) => groups.set(part, [...(groups.get(part) || []), rest]));
+  const parts = [...groups.values()];
+  if (parts.length === 1) return spread(is && value.length === 1 ? value[0] : value, parts[0]);
+  return parts.flatMap((part, place) => spread(is ? value[place] : value, part));
+}
+
+const leaves = (item, names) => item.startsWith('{') || names.length > 1 ? spread(parsed(item), names) : [item];
 
 // An instance: its signals with a value for each accepted instant, and what stands before each.
 class Instance {
@@ -28,6 +48,10 @@ class Instance {
     this.node = node;
     this.inputs = [];
     this.outputs = [];
+    this.locals = [];
+    this.order = [];
+    this.early = '';
+    this.told = 0;
     this.instants = [];
     this.before = [[]];
     this.count = 0;
@@ -40,7 +64,7 @@ class Instance {
 
   accept(inputs, outputs, caller, line) {
     this.count += 1;
-    this.instants.push({ number: this.count, inputs, outputs, caller, line });
+    this.instants.push({ number: this.count, inputs, outputs, locals: [], caller, line });
     this.before.push([]);
   }
 
@@ -69,18 +93,37 @@ class Instance {
     else this.count = word === 'restore' ? this.saved[slot] : 0;
   }
 
-  // The signals: a row for each leaf of an input or output.
+  // The values of the signals that are no inputs or outputs, at the next instant.
+  tell(values) {
+    this.instants[this.told].locals = values;
+    this.told += 1;
+  }
+
+  // The signals: a row for each leaf of an input, an output or another variable.
   rows() {
-    const first = this.instants[0];
-    const named = (names, side, count) => names.length ? names : Array.from({ length: count }, (_, place) => [side + ' ' + (place + 1)]);
     const rows = [];
-    for (const [side, names] of [['inputs', this.inputs], ['outputs', this.outputs]]) {
-      named(names, side.slice(0, -1), first ? first[side].length : 0).forEach((parts, item) => {
-        const values = this.instants.map((instant) => leaves(instant[side][item], parts.length));
-        parts.forEach((name, leaf) => rows.push(signal(name, side === 'inputs' ? 'in' : 'out', values.map((all) => all[leaf]))));
+    for (const [side, word] of [['inputs', 'in'], ['outputs', 'out'], ['locals', 'var']]) {
+      if (!this[side].length) this.numbered(rows, side, word);
+      this[side].forEach((names, item) => {
+        const parts = names.map((name) => name.split('.'));
+        const values = this.instants.map((instant) => leaves(instant[side][item], parts));
+        names.forEach((name, leaf) => rows.push(signal(name, word, values.map((all) => all[leaf]))));
       });
     }
-    return rows;
+    return this.order.length ? this.ordered(rows) : rows;
+  }
+
+  // Signals without names, each in one row.
+  numbered(rows, side, word) {
+    const items = this.instants.length ? this.instants[0][side] : [];
+    items.forEach((_, item) => rows.push(signal(side.slice(0, -1) + ' ' + (item + 1), word, this.instants.map((instant) => instant[side][item]))));
+  }
+
+  // The signals that are shown in their order, and the others behind them.
+  ordered(rows) {
+    const place = (row) => this.order.indexOf(row.name) + 1 || this.order.length + 1;
+    rows.forEach((row) => { row.shown = this.order.includes(row.name); });
+    return rows.sort((a, b) => place(a) - place(b));
   }
 }
 
@@ -97,15 +140,19 @@ function signal(name, side, values) {
   return { name, side, values, kind: 'box', shown: true };
 }
 
+// A line is an instance's first, one behind that, what is told of an instant, or an entry's. Others say nothing of signals.
 function read(text) {
   const found = [];
-  for (const line of text.split(feed)) {
-    const words = line.split(' ');
+  for (const line of text.split(feed).filter((line) => !line.endsWith('# cut short'))) {
+    const [word, ...words] = line.split(' ');
     const last = found[found.length - 1];
-    if (words[0] === 'instance') found.push(new Instance(words[1], words[2]));
-    else if (words[0] === 'input') last.inputs.push(words.slice(1));
-    else if (words[0] === 'output') last.outputs.push(words.slice(1));
-    else if (line !== '') last.enter(line);
+    if (word === 'instance') found.push(new Instance(...words));
+    else if (!last) continue;
+    else if (['input', 'output', 'local'].includes(word)) last[word + 's'].push(words);
+    else if (word === 'shown') last.order = words;
+    else if (word === 'ends') last.early = ', ' + line;
+    else if (word === '+') last.tell(items(line.slice(3, -1)));
+    else if (line.includes(' -> ')) last.enter(line);
   }
   return found;
 }
@@ -252,7 +299,7 @@ function list() {
   const names = byId('names');
   names.replaceChildren(...shown().map((row) => {
     const line = document.createElement('div');
-    line.className = row === chosen ? 'row chosen' : 'row';
+    line.className = 'row ' + row.side + (row === chosen ? ' chosen' : '');
     line.draggable = true;
     for (const [kind, text] of [['side', row.side], ['name', row.name], ['value', count() ? row.values[cursor] : '']]) {
       const word = document.createElement('span');
@@ -334,7 +381,7 @@ function visit(place) {
   at = place;
   cursor = 0;
   chosen = null;
-  byId('title').textContent = all[at].instance.name + ': ' + all[at].instance.node;
+  byId('title').textContent = all[at].instance.name + ': ' + all[at].instance.node + all[at].instance.early;
   document.title = byId('title').textContent;
   scale = Math.min(Math.max(fitting(), 12), 80);
   choose();

@@ -1,13 +1,16 @@
 //! Traces as CSV: a table for each instance, with a line for each column of its journal's table.
 
-ghost use Rattle.std.specs.Prelude.{◌≡◌, ◌++◌, IfOk, OnOk, flat_map, map, string_bytes};
+ghost use Rattle.std.specs.Prelude.{◌≡◌, ◌++◌, [], IfOk, OnOk, flat_map, map, string_bytes};
+ghost use Rattle.lus_values.specs.View.{entry_of};
 ghost use Rattle.lus_diagrams.specs.ColumnView.{column_seen};
-ghost use Rattle.lus_traces.specs.Tables.{cell_text, cells_of, column_text, csv_text, event_cells, head_cells, head_text, instant_cells, is_special, line_text, needs_quotes, next_table, quoted, shown, table_text};
+ghost use Rattle.lus_traces.specs.Tables.{cell_text, column_text, csv_text, following, head_text, is_special, needs_quotes, next_table, others_text, quoted, shown, table_text};
 ghost use Rattle.lus_traces.specs.Traces.{name_of, trace_seen};
 
 use crate::cutting::parts;
+use crate::titles::title_of;
 use crate::trace::{Signal, Trace};
 use lus_diagrams::{Column, Head};
+use lus_values::{Memory, Names, Value, push_value};
 use std::alloc::{AllocError, Global};
 
 /// Whether a byte stands in a cell only between quotes.
@@ -45,157 +48,161 @@ fn push_cell(alloc: Global, out: &mut String, text: &str) -> Result<(), AllocErr
     }
 }
 
-/// Appends a line with these cells.
-fn push_line(
+/// Appends a cell behind others.
+fn push_next(alloc: Global, out: &mut String, text: &str) -> Result<(), AllocError>
+    ensures { OnOk result (string_bytes out.new ≡ string_bytes out.old ++ following text.now) }
+{
+    out.push_str(",")?;
+    push_cell(alloc, out, text)
+}
+
+fn push_names(alloc: Global, out: &mut String, signals: &[Signal]) -> Result<(), AllocError>
+    ensures { OnOk result (string_bytes out.new ≡ string_bytes out.old ++ flat_map following (map name_of signals.now)) }
+{
+    for signal in signals {
+        push_next(alloc, out, signal.name.as_str())?;
+    }
+    Ok(())
+}
+
+/// Appends an empty cell for each signal.
+fn push_empty(alloc: Global, out: &mut String, signals: &[Signal]) -> Result<(), AllocError>
+    ensures { OnOk result (string_bytes out.new ≡ string_bytes out.old ++ flat_map following (map (λ name. []) (map name_of signals.now))) }
+{
+    for _ in signals {
+        push_next(alloc, out, "")?;
+    }
+    Ok(())
+}
+
+/// The text of an entry's cell, which is empty where it is absent.
+fn shown(alloc: Global, names: &Names, entry: &Option<Value>) -> Result<String, Memory>
+    ensures { IfOk result (λ text. string_bytes text ≡ shown names.now (entry_of entry.now)) }
+{
+    let mut text = String::new(alloc);
+    if let Some(value) = entry {
+        push_value(&mut text, value, names)?;
+    }
+    Ok(text)
+}
+
+/// Appends the cells of entries.
+fn push_entries(
     alloc: Global,
     out: &mut String,
-    first: &str,
-    others: &[&str],
-) -> Result<(), AllocError>
-    ensures { OnOk result (string_bytes out.new ≡ string_bytes out.old ++ line_text first.now (map (λ t. t.now) others.now)) }
+    names: &Names,
+    entries: &[Option<Value>],
+) -> Result<(), Memory>
+    ensures { OnOk result (string_bytes out.new ≡ string_bytes out.old ++ flat_map following (map (shown names.now) (map entry_of entries.now))) }
 {
-    push_cell(alloc, out, first)?;
-    for cell in others {
-        out.push_str(",")?;
-        push_cell(alloc, out, cell)?;
+    for entry in entries {
+        let text = shown(alloc, names, entry)?;
+        push_next(alloc, out, &text)?;
     }
-    out.push_str("\n")
+    Ok(())
 }
 
-/// The names of a table's columns, but for the first.
-fn head_cells<'a>(alloc: Global, signals: &'a [Signal]) -> Result<Vec<&'a str>, AllocError>
-    ensures { IfOk result (λ v. map (λ t. t.now) v.items ≡ head_cells (map name_of signals.now)) }
-{
-    let mut cells = Vec::new(alloc);
-    cells.push("instant number")?;
-    cells.push("event name")?;
-    for signal in signals {
-        cells.push(signal.name.as_str())?;
-    }
-    Ok(cells)
-}
-
-/// A value's cell, which is empty where it is absent.
-fn shown(value: &str) -> &str
-    ensures { result.now ≡ shown value.now }
-{
-    if value == "-" { "" } else { value }
-}
-
-/// The cells of an accepted instant.
-fn instant_cells<'a>(
+/// Appends the cells of a column's line, but for the first.
+fn push_others(
     alloc: Global,
-    title: &'a str,
-    values: &[&'a str],
-) -> Result<Vec<&'a str>, AllocError>
-    ensures { IfOk result (λ v. map (λ t. t.now) v.items ≡ instant_cells title.now (map (λ t. t.now) values.now)) }
-{
-    let mut cells = Vec::new(alloc);
-    cells.push(title)?;
-    cells.push("")?;
-    for value in values {
-        cells.push(shown(*value))?;
-    }
-    Ok(cells)
-}
-
-/// The cells of an event, with an empty one for each signal.
-fn event_cells<'a>(
-    alloc: Global,
-    title: &'a str,
+    out: &mut String,
+    names: &Names,
     signals: &[Signal],
-) -> Result<Vec<&'a str>, AllocError>
-    ensures { IfOk result (λ v. map (λ t. t.now) v.items ≡ event_cells title.now (map name_of signals.now)) }
+    column: &Column,
+) -> Result<(), Memory>
+    ensures { OnOk result (string_bytes out.new ≡ string_bytes out.old ++ others_text names.now (map name_of signals.now) (column_seen column.now)) }
 {
-    let mut cells = Vec::new(alloc);
-    cells.push("")?;
-    cells.push(title)?;
-    for _ in signals {
-        cells.push("")?;
-    }
-    Ok(cells)
-}
-
-/// The cells of a column's line, but for the first.
-fn cells_of<'a>(
-    alloc: Global,
-    signals: &[Signal],
-    column: &'a Column<'_>,
-) -> Result<Vec<&'a str>, AllocError>
-    ensures { IfOk result (λ v. map (λ t. t.now) v.items ≡ cells_of (map name_of signals.now) (column_seen column.now)) }
-{
-    let title = column.title.as_str();
-    match column.head {
-        Head::Instant(_) => instant_cells(alloc, title, &column.cells),
-        _ => event_cells(alloc, title, signals),
+    let title = title_of(alloc, column.head)?;
+    if let Head::Instant(_) = column.head {
+        push_next(alloc, out, &title)?;
+        push_next(alloc, out, "")?;
+        push_entries(alloc, out, names, column.cells.items())
+    } else {
+        push_next(alloc, out, "")?;
+        push_next(alloc, out, &title)?;
+        push_empty(alloc, out, signals)?;
+        Ok(())
     }
 }
 
 /// Appends the line of names of a table.
+#[tactic(auto, unfolding(crate::specs::Tables::head_text))]
 fn push_head(alloc: Global, out: &mut String, signals: &[Signal]) -> Result<(), AllocError>
     ensures { OnOk result (string_bytes out.new ≡ string_bytes out.old ++ head_text (map name_of signals.now)) }
 {
-    let cells = head_cells(alloc, signals)?;
-    push_line(alloc, out, "instance name", &cells)
+    out.push_str("instance name,instant number,event name")?;
+    push_names(alloc, out, signals)?;
+    out.push_str("\n")
 }
 
 /// Appends the line of a column.
 fn push_column(
     alloc: Global,
     out: &mut String,
+    names: &Names,
     instance: &str,
     signals: &[Signal],
-    column: &Column<'_>,
-) -> Result<(), AllocError>
-    ensures { OnOk result (string_bytes out.new ≡ string_bytes out.old ++ column_text instance.now (map name_of signals.now) (column_seen column.now)) }
+    column: &Column,
+) -> Result<(), Memory>
+    ensures { OnOk result (string_bytes out.new ≡ string_bytes out.old ++ column_text names.now instance.now (map name_of signals.now) (column_seen column.now)) }
 {
-    let cells = cells_of(alloc, signals, column)?;
-    push_line(alloc, out, instance, &cells)
+    push_cell(alloc, out, instance)?;
+    push_others(alloc, out, names, signals, column)?;
+    out.push_str("\n")?;
+    Ok(())
 }
 
 fn push_columns(
     alloc: Global,
     out: &mut String,
+    names: &Names,
     instance: &str,
     signals: &[Signal],
-    columns: &[Column<'_>],
-) -> Result<(), AllocError>
+    columns: &[Column],
+) -> Result<(), Memory>
     ensures { OnOk result (string_bytes out.new ≡ string_bytes out.old
-        ++ flat_map (column_text instance.now (map name_of signals.now)) (map column_seen columns.now)) }
+        ++ flat_map (column_text names.now instance.now (map name_of signals.now)) (map column_seen columns.now)) }
 {
     for column in columns {
-        push_column(alloc, out, instance, signals, column)?;
+        push_column(alloc, out, names, instance, signals, column)?;
     }
     Ok(())
 }
 
 /// Appends the table of an instance: a line of names, and a line for each column.
-fn push_table(alloc: Global, out: &mut String, trace: &Trace<'_>) -> Result<(), AllocError>
-    ensures { OnOk result (string_bytes out.new ≡ string_bytes out.old ++ table_text (trace_seen trace.now)) }
+#[tactic(auto, unfolding(crate::specs::Tables::table_text))]
+fn push_table(alloc: Global, out: &mut String, names: &Names, trace: &Trace) -> Result<(), Memory>
+    ensures { OnOk result (string_bytes out.new ≡ string_bytes out.old ++ table_text names.now (trace_seen trace.now)) }
 {
     push_head(alloc, out, &trace.signals)?;
-    push_columns(alloc, out, trace.instance, &trace.signals, &trace.columns)
+    let instance = trace.heading.instance.as_str();
+    push_columns(alloc, out, names, instance, &trace.signals, &trace.columns)
 }
 
 /// Appends tables, each behind an empty line.
-fn push_next_tables(alloc: Global, out: &mut String, traces: &[Trace<'_>]) -> Result<(), AllocError>
-    ensures { OnOk result (string_bytes out.new ≡ string_bytes out.old ++ flat_map next_table (map trace_seen traces.now)) }
+fn push_next_tables(
+    alloc: Global,
+    out: &mut String,
+    names: &Names,
+    traces: &[Trace],
+) -> Result<(), Memory>
+    ensures { OnOk result (string_bytes out.new ≡ string_bytes out.old ++ flat_map (next_table names.now) (map trace_seen traces.now)) }
 {
     for trace in traces {
         out.push_str("\n")?;
-        push_table(alloc, out, trace)?;
+        push_table(alloc, out, names, trace)?;
     }
     Ok(())
 }
 
 /// The tables of instances, with an empty line between two.
-pub fn csv(alloc: Global, traces: &[Trace<'_>]) -> Result<String, AllocError>
-    ensures { IfOk result (λ s. string_bytes s ≡ csv_text (map trace_seen traces.now)) }
+pub fn csv(alloc: Global, names: &Names, traces: &[Trace]) -> Result<String, Memory>
+    ensures { IfOk result (λ s. string_bytes s ≡ csv_text names.now (map trace_seen traces.now)) }
 {
     let mut out = String::new(alloc);
     if let [first, others @ ..] = traces {
-        push_table(alloc, &mut out, first)?;
-        push_next_tables(alloc, &mut out, others)?;
+        push_table(alloc, &mut out, names, first)?;
+        push_next_tables(alloc, &mut out, names, others)?;
     }
     Ok(out)
 }

@@ -1,16 +1,14 @@
 //! A journal's table with the names of its rows.
 
-ghost use Rattle.std.specs.Prelude.{◌≡◌, IfOk, map};
-ghost use Rattle.lus_diagrams.specs.Columns.{columns_of};
-ghost use Rattle.lus_diagrams.specs.View.{entry_seen};
+ghost use Rattle.std.specs.Prelude.{◌≡◌, IfOk, map, string_bytes};
+ghost use Rattle.lus_diagrams.specs.ColumnView.{column_seen};
 ghost use Rattle.lus_traces.specs.Parts.{part_of};
-ghost use Rattle.lus_traces.specs.Traces.{trace_seen};
+ghost use Rattle.lus_traces.specs.Traces.{name_of, trace_seen};
 
 use crate::parts::{Part, part_of};
-use crate::refusals::{Refusal, refusals_of};
-use lus_diagrams::{Column, Journal, columns};
+use crate::refusals::{Refused, refusals_of};
+use lus_diagrams::{Column, Table};
 use std::alloc::{AllocError, Global};
-use std::slice;
 
 /// What a signal's values are: truth values, numbers of 64 bits, or texts.
 #[derive(Clone, Copy)]
@@ -20,11 +18,12 @@ pub enum SignalKind {
     Text,
 }
 
-/// Whether a signal is an input or an output.
+/// Whether a signal is an input, an output, or another variable of the node or of one that it calls.
 #[derive(Clone, Copy)]
 pub enum Side {
     Input,
     Output,
+    Local,
 }
 
 impl Side {
@@ -32,96 +31,75 @@ impl Side {
         match self {
             Side::Input => "input",
             Side::Output => "output",
+            Side::Local => "local",
         }
     }
 }
 
-/// An input or an output. Where its kind isn't given, its values say it. A structure has the names of its fields, and of the fields
-/// of those that are structures.
+/// A part of a signal that is no structure: its name, the places of the fields that lead to it from the signal's value, and its kind.
+#[derive(Drop)]
+pub struct Lane {
+    pub name: String,
+    pub way: Vec<u32>,
+    pub kind: SignalKind,
+}
+
+/// A variable. Its name is behind those of the nodes that lead to it, as `regulator.sum`; its label says its clock too. It has a lane
+/// for each part of it that is no structure, which is itself where it is none.
 #[derive(Drop)]
 pub struct Signal {
     pub side: Side,
     pub name: String,
-    pub kind: Option<SignalKind>,
-    pub fields: Vec<String>,
+    pub label: String,
+    pub kind: SignalKind,
+    pub lanes: Vec<Lane>,
 }
 
-impl Signal {
-    /// The names of the lanes that a signal has: one for each field of a structure.
-    pub fn lanes(&self) -> &[String] {
-        if self.fields.is_empty() {
-            slice::from_ref(&self.name)
-        } else {
-            &self.fields
-        }
-    }
+/// Whether a signal is no input or output.
+pub(crate) fn is_local(signal: &Signal) -> bool {
+    matches!(signal.side, Side::Local)
 }
 
-/// A part of a journal's table, the inputs and outputs that its rows are, and its refused calls.
+/// Which journal it is, and on which line of its file it begins, counted from 1. One that ends early has the number of its last whole
+/// line.
 #[derive(Drop)]
-pub struct Trace<'a> {
-    pub instance: &'a str,
-    pub node: &'a str,
+pub struct Heading {
+    pub instance: String,
+    pub node: String,
+    pub line: u64,
+    pub ends_early: Option<u64>,
+}
+
+/// A part of a journal's table, the signals that its rows are, and its refused calls.
+#[derive(Drop)]
+pub struct Trace {
+    pub heading: Heading,
     pub part: Part,
     pub signals: Vec<Signal>,
-    pub columns: Vec<Column<'a>>,
-    pub refusals: Vec<Refusal<'a>>,
+    pub columns: Vec<Column>,
+    pub refusals: Vec<Refused>,
 }
 
-/// Appends `input 1` or `output 1`, and so on.
-fn push_numbered(
-    alloc: Global,
-    signals: &mut Vec<Signal>,
-    side: Side,
-    count: usize,
-) -> Result<(), AllocError> {
-    let word = side.word();
-    for place in 0..count {
-        signals.push(Signal {
-            side,
-            name: format!(in alloc; "{word} {}", place as u64 + 1)?,
-            kind: None,
-            fields: Vec::new(alloc),
-        })?;
-    }
-    Ok(())
-}
-
-impl<'a> Trace<'a> {
-    /// The trace of a part of a journal whose rows are these signals.
-    pub fn named(
+impl Trace {
+    /// The trace of a part of a table whose rows are these signals.
+    pub fn new(
         alloc: Global,
-        journal: &Journal<'a>,
+        heading: Heading,
         part: Part,
         signals: Vec<Signal>,
-    ) -> Result<Trace<'a>, AllocError>
-        ensures instance { IfOk result (λ t. (trace_seen t).instance ≡ journal.now.instance.now) }
-        ensures columns { IfOk result (λ t. (trace_seen t).columns ≡ part_of part (columns_of (map entry_seen journal.now.entries.items))) }
+        table: Table,
+    ) -> Result<Trace, AllocError>
+        ensures instance { IfOk result (λ t. (trace_seen t).instance ≡ string_bytes heading.instance) }
+        ensures names { IfOk result (λ t. (trace_seen t).names ≡ map name_of signals.items) }
+        ensures columns { IfOk result (λ t. (trace_seen t).columns ≡ part_of part (map column_seen table.columns.items)) }
     {
+        let refusals = refusals_of(alloc, part, &table)?;
         Ok(Trace {
-            instance: journal.instance,
-            node: journal.node,
+            heading,
             part,
             signals,
-            columns: part_of(alloc, part, columns(alloc, &journal.entries)?)?,
-            refusals: refusals_of(alloc, part, &journal.entries)?,
+            columns: part_of(alloc, part, table.columns)?,
+            refusals,
         })
-    }
-
-    /// The trace of a part of a journal whose rows are numbered.
-    pub fn numbered(
-        alloc: Global,
-        journal: &Journal<'a>,
-        part: Part,
-    ) -> Result<Trace<'a>, AllocError>
-        ensures instance { IfOk result (λ t. (trace_seen t).instance ≡ journal.now.instance.now) }
-        ensures columns { IfOk result (λ t. (trace_seen t).columns ≡ part_of part (columns_of (map entry_seen journal.now.entries.items))) }
-    {
-        let mut signals = Vec::new(alloc);
-        if let Some(arity) = journal.arity {
-            push_numbered(alloc, &mut signals, Side::Input, arity.inputs)?;
-            push_numbered(alloc, &mut signals, Side::Output, arity.outputs)?;
-        }
-        Trace::named(alloc, journal, part, signals)
     }
 }

@@ -1,49 +1,54 @@
-//! The values of signals, as a value change dump writes them.
+//! Values, and their parts that are no structures.
 
-use crate::trace::SignalKind;
-use std::alloc::AllocError;
+ghost use Rattle.std.specs.Prelude.{◌≡◌};
 
-/// Appends a text with `_` for each blank, since a blank ends a value and a name.
-pub(crate) fn push_word(out: &mut String, text: &str) -> Result<(), AllocError> {
-    for part in text.chars() {
-        out.push(if part == ' ' { '_' } else { part })?;
+use lus_values::{Memory, Names, Value, push_value, same};
+use std::alloc::Global;
+
+/// The part of a value that these places of fields lead to. Of a structure that is nil each part is.
+pub(crate) fn part_at<'a>(value: &'a Value, way: &[u32]) -> &'a Value {
+    let mut part = value;
+    for place in way {
+        if let Value::Struct(fields) = part
+            && let Some(field) = fields.get(*place as usize)
+        {
+            part = field;
+        }
     }
-    Ok(())
+    part
 }
 
-/// Appends the value of one wire: `x` where it is absent.
-fn push_truth(out: &mut String, value: &str) -> Result<(), AllocError> {
-    match value {
-        "true" => out.push_str("1"),
-        "false" => out.push_str("0"),
-        _ => out.push_str("x"),
+/// Whether two entries are both absent, or equal.
+pub(crate) fn same_entry(left: Option<&Value>, right: Option<&Value>) -> bool {
+    match (left, right) {
+        (Some(left), Some(right)) => same(left, right),
+        (None, None) => true,
+        _ => false,
     }
 }
 
-/// Appends a number in two's complement, without the zeros before it: `x` where it is absent.
-fn push_number(out: &mut String, value: &str) -> Result<(), AllocError> {
-    match value.parse::<i64>() {
-        Ok(number) => write!(out, "b{number:b} "),
-        Err(_) => out.push_str("bx "),
-    }
-}
-
-/// Appends a text: `-` where it is absent.
-pub(crate) fn push_text(out: &mut String, value: &str) -> Result<(), AllocError> {
-    out.push_str("s")?;
-    push_word(out, value)?;
-    out.push_str(" ")
-}
-
-/// Appends a value up to the code of its signal.
-pub(crate) fn push_value(
+/// Appends the text of an entry: `-` where it is absent.
+pub(crate) fn push_entry(
     out: &mut String,
-    kind: SignalKind,
-    value: &str,
-) -> Result<(), AllocError> {
-    match kind {
-        SignalKind::Truth => push_truth(out, value),
-        SignalKind::Number => push_number(out, value),
-        SignalKind::Text => push_text(out, value),
+    names: &Names,
+    entry: Option<&Value>,
+) -> Result<(), Memory> {
+    match entry {
+        Some(value) => push_value(out, value, names),
+        None => {
+            out.push_str("-")?;
+            Ok(())
+        }
     }
+}
+
+/// The text of an entry.
+pub(crate) fn entry_text(
+    alloc: Global,
+    names: &Names,
+    entry: Option<&Value>,
+) -> Result<String, Memory> {
+    let mut text = String::new(alloc);
+    push_entry(&mut text, names, entry)?;
+    Ok(text)
 }

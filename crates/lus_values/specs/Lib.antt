@@ -7,4 +7,5 @@ pub mod Fitting
 pub mod Names
 pub mod Text
 pub mod View
+pub mod Rows
 pub mod Coded

@@ -1,64 +1,88 @@
 //! Rows: the entries of several variables at one instant.
 
-ghost use Rattle.std.specs.Prelude.{◌≡◌, IfOk, map};
+ghost use Rattle.std.specs.Prelude.{◌≡◌, ◌∷◌, [], IfOk, map};
 ghost use Rattle.lus_values.specs.View.{entry_of};
 
 use crate::memory::Memory;
 use crate::value::{Value, copy};
 use std::alloc::Global;
 use std::marker::Model;
+use std::slice;
+
+/// The entries of a row. One alone takes no memory of its own.
+#[derive(Drop)]
+enum Items {
+    One(Option<Value>),
+    Many(Vec<Option<Value>>),
+}
 
 /// The entries of variables in their order; an absent one is `None`.
 #[derive(Drop)]
 pub struct Row {
-    items: Vec<Option<Value>>,
+    items: Items,
 }
 
 impl Model for Row {
-    ghost use Rattle.std.specs.Prelude.{List, Option, map};
-    ghost use Rattle.lus_values.specs.View.{entry_of};
+    ghost use Rattle.std.specs.Prelude.{List, Option};
     ghost use Rattle.lus_values.specs.Values.{Value as PlainValue};
     ghost use Rattle.lus_values.specs.Coded.{coded_row};
+    ghost use Rattle.lus_values.specs.Rows.{items_in};
 
     ghost Value = { List (Option PlainValue) };
 
     ghost coded = { coded_row };
 
-    ghost view = { λ r. map entry_of r.items.items };
+    ghost view = { λ r. items_in r.items };
 }
 
 impl Row {
     pub fn new(items: Vec<Option<Value>>) -> Row
         ensures { result ≡ map entry_of items.items }
     {
-        Row { items }
+        Row {
+            items: Items::Many(items),
+        }
+    }
+
+    /// A row of one entry. No memory is taken.
+    pub fn one(entry: Option<Value>) -> Row
+        ensures { result ≡ entry_of entry ∷ [] }
+    {
+        Row {
+            items: Items::One(entry),
+        }
     }
 
     pub fn items(&self) -> &[Option<Value>]
         ensures { map entry_of result.now ≡ self.now }
     {
-        self.items.as_slice()
-    }
-
-    /// The entries, with which the row is given up. No memory is taken.
-    pub fn into_items(self) -> Vec<Option<Value>>
-        ensures { map entry_of result.items ≡ self }
-    {
-        let Row { items } = self;
-        items
+        match &self.items {
+            Items::One(entry) => slice::from_ref(entry),
+            Items::Many(entries) => entries.as_slice(),
+        }
     }
 
     /// An equal row.
     pub fn copy(&self, alloc: Global) -> Result<Row, Memory>
         ensures { IfOk result (λ r. r ≡ self.now) }
     {
-        let mut items = Vec::new(alloc);
-        for item in &self.items {
-            let item_copy = copy_entry(alloc, item)?;
-            items.push(item_copy)?;
+        match &self.items {
+            Items::One(entry) => Ok(Row::one(copy_entry(alloc, entry)?)),
+            Items::Many(entries) => Ok(Row::new(copy_entries(alloc, entries)?)),
         }
-        Ok(Row { items })
     }
+}
+
+/// Equal entries, in their order.
+fn copy_entries(alloc: Global, entries: &[Option<Value>]) -> Result<Vec<Option<Value>>, Memory>
+    ensures { IfOk result (λ v. map entry_of v.items ≡ map entry_of entries.now) }
+{
+    let mut copies = Vec::new(alloc);
+    for entry in entries {
+        let entry_copy = copy_entry(alloc, entry)?;
+        copies.push(entry_copy)?;
+    }
+    Ok(copies)
 }
 
 /// An equal entry.

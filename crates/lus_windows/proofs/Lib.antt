@@ -1,2 +1,4 @@
 pub mod Rows
-pub mod Windows
+pub mod Walks
+pub mod Following
+pub mod Noted

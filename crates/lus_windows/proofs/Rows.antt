@@ -10,7 +10,7 @@ use Rattle.lus_history.specs.Pasts.{joined}
 use Rattle.lus_worlds.specs.declared.moment.Fault.{Fault}
 use Rattle.lus_worlds.specs.declared.moment.Moment.{Moment}
 use Rattle.lus_worlds.specs.declared.world.Stop.TheVariants as stops
-use Rattle.lus_worlds.specs.Moments.{instant_of, kept_of, Holds, KeepsBehind}
+use Rattle.lus_worlds.specs.Moments.{instant_of, kept_of, Holds}
 use Rattle.lus_worlds.specs.Worlds.{IsFurther, IsStopped}
 use Rattle.lus_windows.specs.Finding.{HasFault, ReachesBehind}
 
@@ -20,9 +20,9 @@ two_items (x ∷ []) a b long first second = absurd (cc)
 two_items (x ∷ y ∷ []) a b long first second = (λ j. sym first j ∷ sym second j ∷ [])
 two_items (x ∷ y ∷ z ∷ xs) a b long first second = absurd (cc)
 
-joined_last : (xs : List Row) (x : Row) (l : Lineage) → joined (xs ++ x ∷ []) l ≡ x ∷ joined xs l
-joined_last [] x l = refl
-joined_last (y ∷ xs) x l = joined_last xs x (y ∷ l)
+pub joined_append : (xs ys : List Row) (l : Lineage) → joined (xs ++ ys) l ≡ joined ys (joined xs l)
+joined_append [] ys l = refl
+joined_append (x ∷ xs) ys l = joined_append xs ys (x ∷ l)
 
 -- one item more
 pub taken_next : {X : Type 0} (i : ℕ) (xs : List X) (x : X) → i < length xs → x ≡ slice_index_or xs i x → take (suc i) xs ≡ take i xs ++ x ∷ []
@@ -36,7 +36,7 @@ item_is d (y ∷ xs) zero x lt is = sym is
 item_is d (y ∷ xs) (suc i) x lt is = item_is d xs i x (le_of_suc-le-suc lt) is
 
 pub joined_next : (i : ℕ) (rows : List Row) (x : Row) (l : Lineage) → i < length rows → x ≡ slice_index_or rows i x → joined (take (suc i) rows) l ≡ x ∷ joined (take i rows) l
-joined_next i rows x l lt is = ap (λ r. joined r l) (taken_next i rows x lt is) ∙ joined_last (take i rows) x l
+joined_next i rows x l lt is = ap (λ r. joined r l) (taken_next i rows x lt is) ∙ joined_append (take i rows) (x ∷ []) l
 
 module _ (p : Program) (f : ℕ) where
   -- before the first row what is kept is a copy

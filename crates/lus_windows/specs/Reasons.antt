@@ -1,16 +1,23 @@
 -- Why the requests of an instance were refused.
-use Rattle.std.specs.Prelude.{◌≡◌, ◌⊎◌, ◌++◌, ℕ, List, [], ◌∷◌, codes}
+use Rattle.std.specs.Prelude.{◌≡◌, ◌⊎◌, ◌++◌, ◌+◌, ◌-◌, ◌^◌, ℕ, min, List, [], ◌∷◌, codes, string_bytes}
+use Rattle.std.specs.Fmt.{decimal}
 use Rattle.lus_values.specs.Names.{Names, Text}
 use Rattle.lus_values.specs.Text.{Begins}
 use Rattle.lus_values.specs.Values.{Row}
 use Rattle.lus_program.specs.Programs.{Program}
 use Rattle.lus_requests.specs.declared.request.Request.{Request}
 use Rattle.lus_requests.specs.declared.request.Request.TheVariants.{Step, Burst}
+use Rattle.lus_requests.specs.declared.request.Reply.{Reply}
+use Rattle.lus_requests.specs.declared.request.Reply.TheVariants.{Outputs, Rows, Done, Refused}
+use Rattle.lus_requests.specs.declared.request.Entry.{Entry}
 use Rattle.lus_requests.specs.declared.request.Why.{Why}
 use Rattle.lus_requests.specs.declared.request.Why.TheVariants.{Shape, Presence, Fault, NoSave}
 use Rattle.lus_simulation.specs.Lineages.{Lineage}
+use Rattle.lus_history.specs.Pasts.{lineage}
 use Rattle.lus_worlds.specs.declared.moment.Fault.{Fault as NamedFault}
+use Rattle.lus_windows.specs.declared.reasons.Reasons.{Reasons}
 use Rattle.lus_windows.specs.Finding.{FaultsAt}
+use Rattle.lus_windows.specs.Windows.{HasFollowed}
 use Rattle.lus_windows.specs.Words.{SaysFault}
 
 -- the rows of a request for instants
@@ -22,6 +29,10 @@ rows_in _ = []
 -- a fault was appended behind further words
 abbrev pub SaysBehind : Names → NamedFault → (old new : Text) → Type 0
 SaysBehind names t old new = (mid : Text) × Begins old mid × SaysFault names t mid new
+
+-- the instance, the line in the file and a word for what the refusal is for were appended
+abbrev pub HasHead : Text → ℕ → (old new : Text) → Type 0
+HasHead instance number old new = (word : Text) × (new ≡ old ++ instance ++ codes " line " ++ decimal number ++ codes " refused " ++ word ++ codes ": ")
 
 module _ (p : Program) (f : ℕ) (names : Names) where
   -- a fault of one of these rows behind a lineage was appended
@@ -40,3 +51,37 @@ module _ (p : Program) (f : ℕ) (names : Names) where
   SaysRefused l request Shape old new = Begins old new
   SaysRefused l request Presence old new = Begins old new
   SaysRefused l request NoSave old new = Begins old new
+
+  -- a line was appended: which instance's request was refused on which line of the file, and why
+  pub record SaysLine (instance : Text) (number : ℕ) (l : Lineage) (request : Request) (why : Why) (old new : Text) : Type 0 where
+    pub head : Text
+    pub reason : Text
+    pub headed : HasHead instance number old head
+    pub says : SaysRefused l request why head reason
+    pub ended : new ≡ reason ++ codes "\n"
+
+  -- and nothing where it wasn't refused
+  abbrev pub TellsEntry : (instance : Text) (number : ℕ) → Lineage → Request → Reply → (old new : Text) → Type 0
+  TellsEntry instance number l request (Refused why) old new = SaysLine instance number l request why old new
+  TellsEntry instance number l request (Outputs o) old new = new ≡ old
+  TellsEntry instance number l request (Rows os) old new = new ≡ old
+  TellsEntry instance number l request Done old new = new ≡ old
+
+-- the number of the next line, as far as such numbers go
+abbrev pub next_line : ℕ → ℕ
+next_line number = min (number + 1) (2 ^ 64 - 1)
+
+-- The reasons of an instance's entries, a line for each that was refused, in their order. A line of the file before the first entry has
+-- a number, and the last line that was read has one.
+pub data Tells (p : Program) (f : ℕ) (names : Names) (instance : Text) (first : ℕ) : List Entry → ℕ → Text → Type 0 where
+  begins : Tells p f names instance first [] first []
+  passes : (h : List Entry) (number : ℕ) (text : Text) → Tells p f names instance first h number text → Tells p f names instance first h (next_line number) text
+  notes : (h : List Entry) (e : Entry) (number : ℕ) (text new : Text) → Tells p f names instance first h number text
+      → TellsEntry p f names instance (next_line number) (lineage h) e.request e.reply text new
+      → Tells p f names instance first (h ++ e ∷ []) (next_line number) new
+
+-- what these entries leave was followed, and their reasons were told
+pub record HasNoted (p : Program) (f : ℕ) (names : Names) (instance : Text) (first : ℕ) (h : List Entry) (r : Reasons) : Type 0 where
+  pub followed : HasFollowed p f h r.window
+  pub named : string_bytes r.instance ≡ instance
+  pub tells : Tells p f names instance first h r.line (string_bytes r.text)

@@ -3,7 +3,10 @@
 
 mod faults;
 mod finding;
+mod picks;
 mod reasons;
 mod window;
 
+pub use picks::Pick;
 pub use reasons::Reasons;
+pub use window::Window;

@@ -1,22 +1,24 @@
 //! Reasons of refused requests, one behind another.
 
-ghost use Rattle.std.specs.Prelude.{◌≡◌, IfOk, MatchOption, OnOk, string_bytes};
+ghost use Rattle.std.specs.Prelude.{◌≡◌, ◌++◌, ◌∷◌, ℕ, List, [], IfOk, MatchOption, OnOk, string_bytes};
 ghost use Rattle.lus_values.specs.Lists.{Each};
+ghost use Rattle.lus_values.specs.Names.{Names as PlainNames, Text};
 ghost use Rattle.lus_values.specs.Text.{Begins};
+ghost use Rattle.lus_program.specs.Programs.{Program as PlainProgram};
 ghost use Rattle.lus_program.specs.View.{program_seen};
+ghost use Rattle.lus_requests.specs.declared.request.Entry.{Entry};
 ghost use Rattle.lus_streams.specs.OnClock.{ProgramOnClocks};
 ghost use Rattle.lus_streams.specs.Order.{IsCausal};
 ghost use Rattle.lus_simulation.specs.Lineages.{Lineage};
 ghost use Rattle.lus_order.specs.Orders.{IsNarrow, NeedsVariables};
 ghost use Rattle.lus_windows.specs.Finding.{FaultsAt};
-ghost use Rattle.lus_windows.specs.Reasons.{SaysBehind, SaysRefused, SaysRows, rows_in};
-ghost use Rattle.lus_windows.specs.Windows.{IsReached};
+ghost use Rattle.lus_windows.specs.Reasons.{HasHead, HasNoted, SaysBehind, SaysRefused, SaysRows, TellsEntry, rows_in};
+ghost use Rattle.lus_windows.specs.Windows.{IsReached, entry_by};
 
 use crate::faults::push_fault;
 use crate::finding::{Found, find};
-use crate::window::{Reached, Window};
+use crate::window::Window;
 use itoa::Buffer;
-use lus_order::orders_of;
 use lus_program::Program;
 use lus_refusals::{push_refusal, why_word};
 use lus_requests::{Reply, Request, Why};
@@ -29,9 +31,9 @@ use std::slice;
 pub struct Reasons {
     instance: String,
     line: u64,
-    orders: Vec<Vec<u32>>,
     window: Window,
     text: String,
+    picked: Vec<Row>,
 }
 
 /// Appends which of several rows it is.
@@ -50,18 +52,17 @@ fn push_row(text: &mut String, rows: &[Row], row: usize) -> Result<(), Memory>
 fn find_behind(
     alloc: Global,
     program: &Program,
-    orders: &[Vec<u32>],
-    node: u32,
+    window: &Window,
     rows: &[Row],
-    reached: &Reached,
 ) -> Result<Option<Found>, Memory>
     requires causal { IsCausal (program_seen program.now) }
     requires clocks { ProgramOnClocks (program_seen program.now) }
     ensures { let p = program_seen program.now in
-        IfOk result (λ o. MatchOption o (Unit {0}) (λ g. (l : Lineage) → IsReached p node l reached.now → FaultsAt p node l rows.now g.fault g.row)) }
+        let f = window.now.node in
+        IfOk result (λ o. MatchOption o (Unit {0}) (λ g. (l : Lineage) → IsReached p f l window.now.reached → FaultsAt p f l rows.now g.fault g.row)) }
 {
-    match &reached.moment {
-        Some(moment) => find(alloc, program, orders, node, rows, moment),
+    match &window.reached.moment {
+        Some(moment) => find(alloc, program, &window.orders, window.node, rows, moment),
         None => Ok(None),
     }
 }
@@ -90,27 +91,20 @@ fn push_rows(
     alloc: Global,
     program: &Program,
     names: &Names,
-    orders: &[Vec<u32>],
-    node: u32,
+    window: &Window,
     rows: &[Row],
-    reached: &Reached,
 ) -> Result<(), Memory>
     requires causal { IsCausal (program_seen program.now) }
     requires clocks { ProgramOnClocks (program_seen program.now) }
     ensures { let p = program_seen program.now in
-        OnOk result ((l : Lineage) → IsReached p node l reached.now → SaysRows p node names.now l rows.now (string_bytes text.old) (string_bytes text.new)) }
+        let f = window.now.node in
+        OnOk result ((l : Lineage) → IsReached p f l window.now.reached → SaysRows p f names.now l rows.now (string_bytes text.old) (string_bytes text.new)) }
 {
-    match find_behind(alloc, program, orders, node, rows, reached)? {
-        Some(found) => push_found(
-            text,
-            alloc,
-            program,
-            names,
-            node,
-            rows,
-            &found,
-            reached.instants,
-        ),
+    match find_behind(alloc, program, window, rows)? {
+        Some(found) => {
+            let (node, instants) = (window.node, window.reached.instants);
+            push_found(text, alloc, program, names, node, rows, &found, instants)
+        }
         None => {
             text.push_str("which operation has no value can't be told")?;
             Ok(())
@@ -118,46 +112,20 @@ fn push_rows(
     }
 }
 
-/// Appends why a request was refused for a fault, behind what was reached.
-fn push_fault_reason(
-    text: &mut String,
-    alloc: Global,
-    program: &Program,
-    names: &Names,
-    orders: &[Vec<u32>],
-    node: u32,
-    request: &Request,
-    reached: &Reached,
-) -> Result<(), Memory>
-    requires causal { IsCausal (program_seen program.now) }
-    requires clocks { ProgramOnClocks (program_seen program.now) }
-    ensures { let p = program_seen program.now in
-        OnOk result ((l : Lineage) → IsReached p node l reached.now → SaysRows p node names.now l (rows_in request.now) (string_bytes text.old) (string_bytes text.new)) }
+/// The rows of a request for instants.
+fn rows_of(request: &Request) -> &[Row]
+    ensures { result.now ≡ rows_in request.now }
 {
     match request {
-        Request::Step(inputs) => {
-            let rows = slice::from_ref(inputs);
-            push_rows(text, alloc, program, names, orders, node, rows, reached)
-        }
-        Request::Burst(rows) => push_rows(
-            text,
-            alloc,
-            program,
-            names,
-            orders,
-            node,
-            rows.items(),
-            reached,
-        ),
-        Request::Reset | Request::Save(_) | Request::Restore(_) => {
-            push_rows(text, alloc, program, names, orders, node, &[], reached)
-        }
+        Request::Step(inputs) => slice::from_ref(inputs),
+        Request::Burst(rows) => rows.items(),
+        Request::Reset | Request::Save(_) | Request::Restore(_) => &[],
     }
 }
 
 /// Appends on which line a request was refused, and for what.
 fn push_head(text: &mut String, instance: &str, line: u64, why: Why) -> Result<(), Memory>
-    ensures { OnOk result (Begins (string_bytes text.old) (string_bytes text.new)) }
+    ensures { OnOk result (HasHead instance.now line (string_bytes text.old) (string_bytes text.new)) }
 {
     text.push_str(instance)?;
     text.push_str(" line ")?;
@@ -200,21 +168,20 @@ fn push_refused(
     alloc: Global,
     program: &Program,
     names: &Names,
-    orders: &[Vec<u32>],
-    node: u32,
+    window: &Window,
     request: &Request,
     why: Why,
-    reached: &Reached,
 ) -> Result<(), Memory>
     requires causal { IsCausal (program_seen program.now) }
     requires clocks { ProgramOnClocks (program_seen program.now) }
     ensures { let p = program_seen program.now in
-        OnOk result ((l : Lineage) → IsReached p node l reached.now → SaysRefused p node names.now l request.now why (string_bytes text.old) (string_bytes text.new)) }
+        let f = window.now.node in
+        OnOk result ((l : Lineage) → IsReached p f l window.now.reached → SaysRefused p f names.now l request.now why (string_bytes text.old) (string_bytes text.new)) }
 {
     if let Why::Fault = why {
-        push_fault_reason(text, alloc, program, names, orders, node, request, reached)
+        push_rows(text, alloc, program, names, window, rows_of(request))
     } else {
-        push_other(text, alloc, program, names, node, request, why)
+        push_other(text, alloc, program, names, window.node, request, why)
     }
 }
 
@@ -229,22 +196,22 @@ impl Reasons {
     ) -> Result<Reasons, Memory>
         requires needs { Each NeedsVariables (program_seen program.now).nodes }
         requires narrow { Each IsNarrow (program_seen program.now).nodes }
+        ensures { IfOk result (λ r. (names : PlainNames) → HasNoted (program_seen program.now) node names instance.now line [] r) }
     {
-        let instance = String::from_str(alloc, instance)?;
-        let Ok(orders) = orders_of(alloc, program) else {
-            return Err(Memory);
-        };
         Ok(Reasons {
-            instance,
+            instance: String::from_str(alloc, instance)?,
             line,
-            orders,
             window: Window::new(alloc, program, node)?,
             text: String::new(alloc),
+            picked: Vec::new(alloc),
         })
     }
 
     /// Goes on behind a line that is no entry.
-    pub fn pass(&mut self) {
+    pub fn pass(&mut self)
+        ensures { (p : PlainProgram) (f : ℕ) (names : PlainNames) (instance : Text) (first : ℕ) (h : List Entry)
+            → HasNoted p f names instance first h self.old → HasNoted p f names instance first h self.new }
+    {
         self.line = self.line.saturating_add(1);
     }
 
@@ -255,30 +222,53 @@ impl Reasons {
         self.text.as_str()
     }
 
+    /// Appends the line of a request that was refused.
+    fn tell(
+        &mut self,
+        alloc: Global,
+        program: &Program,
+        names: &Names,
+        request: &Request,
+        reply: &Reply,
+    ) -> Result<(), Memory>
+        requires causal { IsCausal (program_seen program.now) }
+        requires clocks { ProgramOnClocks (program_seen program.now) }
+        ensures tells { let p = program_seen program.now in
+            let f = self.old.window.node in
+            OnOk result ((l : Lineage) → IsReached p f l self.old.window.reached
+            → TellsEntry p f names.now (string_bytes self.old.instance) self.old.line l request.now reply.now (string_bytes self.old.text) (string_bytes self.new.text)) }
+        ensures same { OnOk result (self.new ≡ record self.old { text = self.new.text }) }
+    {
+        let Reply::Refused(why) = reply else {
+            return Ok(());
+        };
+        let text = &mut self.text;
+        push_head(text, &self.instance, self.line, *why)?;
+        push_refused(text, alloc, program, names, &self.window, request, *why)?;
+        text.push_str("\n")?;
+        Ok(())
+    }
+
     /// Goes on behind an entry, the next of the journal: says why, where it was refused.
     pub fn note(
         &mut self,
         alloc: Global,
         program: &Program,
         names: &Names,
-        node: u32,
         request: &Request,
         reply: &Reply,
     ) -> Result<(), Memory>
         requires causal { IsCausal (program_seen program.now) }
         requires clocks { ProgramOnClocks (program_seen program.now) }
+        ensures { let p = program_seen program.now in
+            OnOk result ((f : ℕ) (instance : Text) (first : ℕ) (h : List Entry) (c : ℕ) → HasNoted p f names.now instance first h self.old
+            → HasNoted p f names.now instance first (h ++ entry_by c request.now reply.now ∷ []) self.new) }
     {
         self.line = self.line.saturating_add(1);
-        if let Reply::Refused(why) = reply {
-            let text = &mut self.text;
-            push_head(text, &self.instance, self.line, *why)?;
-            let (orders, now) = (&self.orders, &self.window.now);
-            push_refused(
-                text, alloc, program, names, orders, node, request, *why, now,
-            )?;
-            text.push_str("\n")?;
-        }
+        self.tell(alloc, program, names, request, reply)?;
+        self.picked.clear();
+        let picked = &mut self.picked;
         self.window
-            .follow(alloc, program, &self.orders, node, request, reply)
+            .follow(alloc, program, request, reply, &[], picked)
     }
 }

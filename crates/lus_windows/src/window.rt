@@ -1,19 +1,28 @@
 //! What is kept of the lineages of an instance.
 
-ghost use Rattle.std.specs.Prelude.{◌∷◌, ℕ, [], IfOk};
+ghost use Rattle.std.specs.Prelude.{◌≡◌, ◌++◌, ◌∷◌, ℕ, List, [], IfOk, MatchOption, None as Nothing, OnOk, replicate};
+ghost use Rattle.lus_values.specs.Lists.{Each};
 ghost use Rattle.lus_program.specs.Programs.{Program as PlainProgram};
 ghost use Rattle.lus_program.specs.View.{program_seen};
+ghost use Rattle.lus_requests.specs.declared.request.Entry.{Entry};
+ghost use Rattle.lus_order.specs.Orders.{IsNarrow, NeedsVariables};
 ghost use Rattle.lus_simulation.specs.Lineages.{Lineage};
-ghost use Rattle.lus_history.specs.Pasts.{joined};
+ghost use Rattle.lus_history.specs.Pasts.{Past, after};
+ghost use Rattle.lus_history.specs.Replies.{slots as slot_count};
 ghost use Rattle.lus_streams.specs.OnClock.{ProgramOnClocks};
 ghost use Rattle.lus_streams.specs.Order.{IsCausal};
-ghost use Rattle.lus_windows.specs.Windows.{IsReached};
+ghost use Rattle.lus_worlds.specs.Worlds.{IsFurther};
+ghost use Rattle.lus_windows.specs.Picks.{AppendsPicked, GoesOn, accepted};
+ghost use Rattle.lus_windows.specs.Windows.{HasFollowed, IsReached, KeepsPast, entry_by, is_lost};
 
+use crate::picks::{Pick, pick_row};
+use lus_order::orders_of;
 use lus_program::Program;
 use lus_requests::{Reply, Request};
 use lus_values::{Memory, Row};
 use lus_worlds::{Moment, Stop, extend, keep, start};
 use std::alloc::Global;
+use std::slice;
 
 /// How many slots an instance has.
 const SLOTS: u64 = 8;
@@ -27,9 +36,11 @@ pub(crate) struct Reached {
 
 /// What is kept behind an instance's lineage, and behind each that a slot saves.
 #[derive(Drop)]
-pub(crate) struct Window {
-    pub(crate) now: Reached,
-    pub(crate) saved: Vec<Reached>,
+pub struct Window {
+    pub(crate) node: u32,
+    pub(crate) orders: Vec<Vec<u32>>,
+    pub(crate) reached: Reached,
+    saved: Vec<Option<Reached>>,
 }
 
 /// What is kept of a node before its first instant.
@@ -63,92 +74,164 @@ fn copy_of(alloc: Global, reached: &Reached) -> Result<Reached, Memory>
     }
 }
 
-/// What is kept behind one instant more, whose inputs are these; nothing, if none is found.
-fn go_on(
+/// The next instant behind what is kept, with these inputs, if it is found.
+fn next(
     alloc: Global,
     program: &Program,
     orders: &[Vec<u32>],
     node: u32,
     inputs: &Row,
     reached: &Reached,
-) -> Result<Reached, Memory>
+) -> Result<Option<Moment>, Memory>
     requires causal { IsCausal (program_seen program.now) }
     requires clocks { ProgramOnClocks (program_seen program.now) }
-    ensures { IfOk result (λ r. (l : Lineage) → IsReached (program_seen program.now) node l reached.now → IsReached (program_seen program.now) node (inputs.now ∷ l) r) }
+    ensures { IfOk result (λ o. MatchOption o (Unit {0}) (λ m. MatchOption reached.now.moment ⊥ (λ old. IsFurther (program_seen program.now) node inputs.now old m))) }
 {
-    let instants = reached.instants.saturating_add(1);
     let Some(old) = &reached.moment else {
-        return Ok(Reached {
-            moment: None,
-            instants,
-        });
+        return Ok(None);
     };
     match extend(alloc, program, orders, node, inputs.items(), old) {
-        Ok(next) => Ok(Reached {
-            moment: Some(next),
-            instants,
-        }),
+        Ok(next) => Ok(Some(next)),
         Err(Stop::Memory) => Err(Memory),
-        Err(_) => Ok(Reached {
-            moment: None,
-            instants,
-        }),
+        Err(_) => Ok(None),
     }
 }
 
-/// What is kept behind further instants, whose inputs are these, one behind another; nothing, if one isn't found.
+/// Goes on behind one instant more, whose inputs are these, and appends the picked entries of it; nothing is kept, if none is found.
+fn go_on(
+    alloc: Global,
+    program: &Program,
+    orders: &[Vec<u32>],
+    node: u32,
+    inputs: &Row,
+    picks: &[Pick],
+    reached: &mut Reached,
+    picked: &mut Vec<Row>,
+) -> Result<(), Memory>
+    requires causal { IsCausal (program_seen program.now) }
+    requires clocks { ProgramOnClocks (program_seen program.now) }
+    ensures { OnOk result (GoesOn (program_seen program.now) node (inputs.now ∷ []) picks.now reached.old reached.new picked.old.items picked.new.items) }
+{
+    let instants = reached.instants.saturating_add(1);
+    match next(alloc, program, orders, node, inputs, reached)? {
+        Some(moment) => {
+            let row = pick_row(alloc, &moment, picks)?;
+            picked.push(row)?;
+            *reached = Reached {
+                moment: Some(moment),
+                instants,
+            };
+            Ok(())
+        }
+        None => {
+            *reached = Reached {
+                moment: None,
+                instants,
+            };
+            Ok(())
+        }
+    }
+}
+
+/// Goes on behind further instants, whose inputs are these, one behind another.
 fn go_through(
     alloc: Global,
     program: &Program,
     orders: &[Vec<u32>],
     node: u32,
     rows: &[Row],
-    reached: &Reached,
-) -> Result<Reached, Memory>
+    picks: &[Pick],
+    reached: &mut Reached,
+    picked: &mut Vec<Row>,
+) -> Result<(), Memory>
     requires causal { IsCausal (program_seen program.now) }
     requires clocks { ProgramOnClocks (program_seen program.now) }
-    ensures { IfOk result (λ r. (l : Lineage) → IsReached (program_seen program.now) node l reached.now → IsReached (program_seen program.now) node (joined rows.now l) r) }
+    ensures { OnOk result (GoesOn (program_seen program.now) node rows.now picks.now reached.old reached.new picked.old.items picked.new.items) }
 {
-    let mut at = copy_of(alloc, reached)?;
     for inputs in rows {
-        let next = go_on(alloc, program, orders, node, inputs, &at)?;
-        at = next;
+        go_on(alloc, program, orders, node, inputs, picks, reached, picked)?;
     }
-    Ok(at)
+    Ok(())
 }
 
-/// What a slot saves; nothing, if there is no such slot.
-fn saved_at(alloc: Global, saved: &[Reached], slot: u64) -> Result<Reached, Memory> {
-    match saved.get(slot as usize) {
-        Some(reached) => copy_of(alloc, reached),
-        None => Ok(Reached {
-            moment: None,
-            instants: 0,
-        }),
+/// The rows that an entry has an instance live through.
+fn accepted_rows<'r>(request: &'r Request, reply: &Reply) -> &'r [Row]
+    ensures { result.now ≡ accepted request.now reply.now }
+{
+    match (request, reply) {
+        (Request::Step(inputs), Reply::Outputs(_)) => slice::from_ref(inputs),
+        (Request::Burst(rows), Reply::Rows(_)) => rows.items(),
+        _ => &[],
     }
+}
+
+/// Slots that save nothing.
+fn empty_slots(alloc: Global) -> Result<Vec<Option<Reached>>, Memory>
+    ensures { IfOk result (λ s. s.items ≡ replicate slot_count Nothing) }
+{
+    let mut slots = Vec::new(alloc);
+    for _slot in 0..SLOTS {
+        slots.push(None)?;
+    }
+    Ok(slots)
 }
 
 impl Window {
     /// Before the first entry of an instance of a node.
-    pub(crate) fn new(alloc: Global, program: &Program, node: u32) -> Result<Window, Memory> {
-        let now = begin(alloc, program, node)?;
-        let mut saved = Vec::new(alloc);
-        for _slot in 0..SLOTS {
-            saved.push(Reached {
-                moment: None,
-                instants: 0,
-            })?;
-        }
-        Ok(Window { now, saved })
+    pub fn new(alloc: Global, program: &Program, node: u32) -> Result<Window, Memory>
+        requires needs { Each NeedsVariables (program_seen program.now).nodes }
+        requires narrow { Each IsNarrow (program_seen program.now).nodes }
+        ensures { IfOk result (λ w. HasFollowed (program_seen program.now) node [] w) }
+    {
+        let Ok(orders) = orders_of(alloc, program) else {
+            return Err(Memory);
+        };
+        let reached = begin(alloc, program, node)?;
+        let saved = empty_slots(alloc)?;
+        Ok(Window {
+            node,
+            orders,
+            reached,
+            saved,
+        })
+    }
+
+    /// Whether nothing is kept behind the lineage any more: an instant of it was not found.
+    pub fn is_lost(&self) -> bool
+        ensures { result ≡ is_lost self.now }
+    {
+        self.reached.moment.is_none()
     }
 
     /// Has a slot save what is kept now.
-    fn save(&mut self, alloc: Global, slot: u64) -> Result<(), Memory> {
-        let reached = copy_of(alloc, &self.now)?;
-        if let Some(saved) = self.saved.get_mut(slot as usize) {
-            *saved = reached;
+    fn save(&mut self, alloc: Global, slot: u64) -> Result<(), Memory>
+        ensures { OnOk result ((p : PlainProgram) (f : ℕ) (past : Past) → KeepsPast p f past self.old → KeepsPast p f (after past (Request.Save slot) Reply.Done) self.new) }
+    {
+        let slot = slot as usize;
+        if slot >= self.saved.len() {
+            return Ok(());
         }
+        let reached = copy_of(alloc, &self.reached)?;
+        self.saved[slot] = Some(reached);
         Ok(())
+    }
+
+    /// Goes back to what a slot saves.
+    fn restore(&mut self, alloc: Global, slot: u64) -> Result<(), Memory>
+        ensures { OnOk result ((p : PlainProgram) (f : ℕ) (past : Past) → KeepsPast p f past self.old → KeepsPast p f (after past (Request.Restore slot) Reply.Done) self.new) }
+    {
+        match self.saved.get(slot as usize) {
+            Some(Some(reached)) => {
+                let reached = copy_of(alloc, reached)?;
+                self.reached = reached;
+                Ok(())
+            }
+            Some(None) => Ok(()),
+            None => {
+                self.reached.moment = None;
+                Ok(())
+            }
+        }
     }
 
     /// Goes on behind a request that was done.
@@ -156,41 +239,50 @@ impl Window {
         &mut self,
         alloc: Global,
         program: &Program,
-        node: u32,
         request: &Request,
-    ) -> Result<(), Memory> {
+    ) -> Result<(), Memory>
+        ensures { OnOk result ((f : ℕ) (past : Past) → KeepsPast (program_seen program.now) f past self.old → KeepsPast (program_seen program.now) f (after past request.now Reply.Done) self.new) }
+    {
         match request {
-            Request::Reset => self.now = begin(alloc, program, node)?,
-            Request::Save(slot) => self.save(alloc, *slot)?,
-            Request::Restore(slot) => self.now = saved_at(alloc, &self.saved, *slot)?,
-            Request::Step(_) | Request::Burst(_) => {}
+            Request::Reset => {
+                self.reached = begin(alloc, program, self.node)?;
+                Ok(())
+            }
+            Request::Save(slot) => self.save(alloc, *slot),
+            Request::Restore(slot) => self.restore(alloc, *slot),
+            Request::Step(_) | Request::Burst(_) => Ok(()),
         }
-        Ok(())
     }
 
-    /// Goes on behind an entry.
-    pub(crate) fn follow(
+    /// Goes on behind an entry. The picked entries of each instant that it accepted are appended, a row each.
+    pub fn follow(
         &mut self,
         alloc: Global,
         program: &Program,
-        orders: &[Vec<u32>],
-        node: u32,
         request: &Request,
         reply: &Reply,
+        picks: &[Pick],
+        picked: &mut Vec<Row>,
     ) -> Result<(), Memory>
         requires causal { IsCausal (program_seen program.now) }
         requires clocks { ProgramOnClocks (program_seen program.now) }
+        ensures followed { let p = program_seen program.now in
+            OnOk result ((f : ℕ) (h : List Entry) (c : ℕ) → HasFollowed p f h self.old → HasFollowed p f (h ++ entry_by c request.now reply.now ∷ []) self.new) }
+        ensures picked { let p = program_seen program.now in
+            OnOk result (AppendsPicked p self.old self.new request.now reply.now picks.now picked.old.items picked.new.items) }
     {
-        match (request, reply) {
-            (Request::Step(inputs), Reply::Outputs(_)) => {
-                self.now = go_on(alloc, program, orders, node, inputs, &self.now)?;
-            }
-            (Request::Burst(rows), Reply::Rows(_)) => {
-                self.now = go_through(alloc, program, orders, node, rows.items(), &self.now)?;
-            }
-            (_, Reply::Done) => self.follow_done(alloc, program, node, request)?,
-            _ => {}
+        if let Reply::Done = reply {
+            return self.follow_done(alloc, program, request);
         }
-        Ok(())
+        go_through(
+            alloc,
+            program,
+            &self.orders,
+            self.node,
+            accepted_rows(request, reply),
+            picks,
+            &mut self.reached,
+            picked,
+        )
     }
 }

@@ -2,4 +2,6 @@
 #![tactic(auto)]
 
 #[cfg(test)]
+mod windows;
+#[cfg(test)]
 mod worlds;

@@ -11,12 +11,12 @@ use std::alloc::Global;
 use std::test::Fail;
 
 /// A counter, and a node that calls it on a slower clock, and divides.
-const SLOWER: &str = "node t(c: bool) returns (n: int); let n = 0 -> pre n + 1; tel
+pub(crate) const SLOWER: &str = "node t(c: bool) returns (n: int); let n = 0 -> pre n + 1; tel
 node o(a: int; c: bool) returns (x: int; y: int when c); let
   x = 12 / a + (0 -> pre x); y = t(c when c); tel";
 
 /// The ordered program of a text.
-fn ordered_of(alloc: Global, text: &str) -> Result<Ordered, Refusal> {
+pub(crate) fn ordered_of(alloc: Global, text: &str) -> Result<Ordered, Refusal> {
     let tokens = lex(alloc, text)?;
     let tree = parse(alloc, &tokens)?;
     let typed = check_types(alloc, tree)?;
@@ -26,7 +26,7 @@ fn ordered_of(alloc: Global, text: &str) -> Result<Ordered, Refusal> {
 }
 
 /// A number and a truth value, as inputs.
-fn inputs(alloc: Global, number: i64, truth: bool) -> Result<Row, Memory> {
+pub(crate) fn inputs(alloc: Global, number: i64, truth: bool) -> Result<Row, Memory> {
     let mut items = Vec::new(alloc);
     items.push(Some(Value::Int(number)))?;
     items.push(Some(Value::Bool(truth)))?;
@@ -34,7 +34,7 @@ fn inputs(alloc: Global, number: i64, truth: bool) -> Result<Row, Memory> {
 }
 
 /// Whether an entry is this number.
-fn is_number(row: &Row, variable: usize, number: i64) -> bool {
+pub(crate) fn is_number(row: &Row, variable: usize, number: i64) -> bool {
     matches!(row.items().get(variable), Some(Some(Value::Int(found))) if *found == number)
 }
 

@@ -1,4 +1,4 @@
-use Rattle.std.proofs.Common.{◌≡◌, ◌≤◌, ◌∙◌, sym, ap, subst, arith}
+use Rattle.std.proofs.Common.{◌≡◌, ◌≤◌, ◌∙◌, sym, subst, arith}
 use Rattle.std.proofs.lemmas.List.{length-map}
 use Rattle.lus_program.specs.Programs.{node_at}
 use Rattle.lus_program.specs.View.{node_of, program_seen}
@@ -6,7 +6,14 @@ use Rattle.lus_normal_form.specs.Parts.{node_taken}
 use Rattle.lus_syntax.specs.Limits.{most_cells}
 use Rattle.lus_streams.proofs.Lists.{each_item}
 use Rattle.lus_cells.specs.Cells.{AreStateCells, HaveLeaves}
-use Rattle.lus_code.specs.Codes.{IsTranslated}
+use Rattle.lus_order.specs.OrderedPrograms.{OrderedProgram}
+use Rattle.lus_flat_classes.specs.View.{classes_of}
+use Rattle.lus_simulation.specs.Codes.{AreCodeOf}
+use Rattle.lus_simulation.specs.Nesting.{depth_of}
+use Rattle.lus_simulation.proofs.FittingRows.{rows_that_fit}
+use Rattle.lus_simulation.proofs.Lived.{faults_follow, starts_lived, steps_follow}
+use Rattle.lus_simulation.proofs.Nested.{calls_nested}
+use Rattle.lus_code.specs.Correct.{IsCorrect}
 use Rattle.lus_code.proofs.NormalForms.{kept_to, lefts_one}
 use Rattle.lus_code.proofs.MadeClasses.{as_many}
 use Rattle.lus_code.proofs.code.translate.Goals as goal
@@ -37,32 +44,44 @@ classes_of_nodes-requires-clause-small c =
       lefts = lefts_one p q resolved c.program.ensures.made;
     }
 
-pub invariant_of-result : goal.invariant_of-result
-invariant_of-result c =
+correct : (c : goal.After-into_source-source) → IsCorrect (record { source = c.into_source-source.result; classes = c.in_ok-coded.coded.classes.items; framed = c.in_ok-coded.coded.framed.items; plans = c.in_ok-coded.coded.plans.items; cells = c.in_ok-cells.cells.items })
+correct c =
     let p = c.args.normal.source.program in
     let q = c.program.result.now in
     let given : c.sound_of.result.now ≡ p = c.sound_of.ensures.same in
-    let same : c.into_source-source.result.program ≡ p = ap (λ s. s.program) c.into_source-source.ensures in
     let long = length-map q.nodes.items node_of ∙ as_many (program_seen p) p.nodes.items q.nodes.items c.program.ensures.made ∙ sym (length-map p.nodes.items node_of) in
     let cells = c.in_ok-cells.cells.items in
     let counted = subst (λ z. AreStateCells (program_seen z) cells) given c.in_ok-cells.ensures.ok in
     let leaves = subst (λ z. HaveLeaves (program_seen z)) given c.in_ok-cells.ensures.leaves in
+    let coded = c.in_ok-coded.coded in
     let made = c.in_ok-coded.ensures in
-    subst (λ z. IsTranslated (program_seen z) c.in_ok-coded.coded.classes.items c.in_ok-coded.coded.framed.items c.in_ok-coded.coded.plans.items cells) (sym same) (record {
-      code = (
-        program_seen q,
-        record {
-          new_parts = λ g. node_taken (program_seen p) (node_at (program_seen p) g);
-          normal = c.program.ensures.normal;
-          belong = made.belong;
-        },
-      );
+    let classes = classes_of coded.classes.items in
+    let checked = c.sound_of.ensures.checked in
+    let code : AreCodeOf (program_seen p) (program_seen q) classes = record {
+      new_parts = λ g. node_taken (program_seen p) (node_at (program_seen p) g);
+      normal = c.program.ensures.normal;
+      belong = made.belong;
+    } in
+    let nested = calls_nested (program_seen p) (program_seen q) classes checked code in
+    subst (λ (s : OrderedProgram). IsCorrect (record { source = s; classes = coded.classes.items; framed = coded.framed.items; plans = coded.plans.items; cells = cells })) (sym c.into_source-source.ensures) (record {
+      checked = checked;
       size = made.size ∙ long;
+      belong = (program_seen q, code);
       ready = made.ready;
+      counted = counted;
+      rows = made.long cells (kept_to p q c.program.ensures.normal cells checked.resolved leaves counted);
+      nested = nested;
       located = made.framed;
       frames = made.frames;
       instants = made.instants;
       planned = made.planned;
-      counted = counted;
-      rows = made.long cells (kept_to p q c.program.ensures.normal cells c.sound_of.ensures.checked.resolved leaves counted);
+      starts = λ f. (starts_lived (program_seen p) (program_seen q) classes code).of_fresh (depth_of (program_seen p)) f (nested f);
+      gives = λ s after f i r shape presence. steps_follow (program_seen p) classes checked s after f i r ((rows_that_fit (program_seen p) checked).fits f i shape presence);
+      faults = faults_follow (program_seen p) classes checked;
     })
+
+pub invariant_of-result : goal.invariant_of-result
+invariant_of-result c = correct c
+
+pub returns-clause-correct : goal.returns-clause-correct
+returns-clause-correct c = correct c

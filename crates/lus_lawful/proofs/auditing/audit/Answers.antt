@@ -3,6 +3,7 @@ use Rattle.std.proofs.Common.{rules}
 use Rattle.std.specs.Arc.{arc_value}
 use Rattle.lus_live_instance.specs.MachineSpecs.Acceptance.{IsAccepted}
 use Rattle.lus_live_instance.specs.MachineSpecs.CodeSpecs.Codes.{program_of}
+use Rattle.lus_lawful.proofs.AuditLaws.{gathers_none, none_audited}
 use Rattle.lus_lawful.proofs.Blames.{blames_on}
 use Rattle.lus_lawful.proofs.Reaching.{none_found, none_there, none_unfinished}
 use Rattle.lus_lawful.proofs.auditing.audit.Goals as goal
@@ -12,14 +13,18 @@ returns-in-Unfinished-clause-blames g c =
     let accepted : IsAccepted (program_of (arc_value c.args.program.now)) = search rules in
     λ n is. none_unfinished (program_of (arc_value c.args.program.now)) accepted _ _ _ _ c.in_ok-read_whole_line.ensures c.in-Unfinished.is
 
+pub returns-in-End-clause-sound : goal.returns-in-End-clause-sound
+returns-in-End-clause-sound g c =
+    none_audited _ _ _ _ _ _ _ (gathers_none _ _ (λ js so_far. so_far)) c.in-End.is c.in_ok-read_whole_line.ensures c.new-text.ensures.items
+
 pub returns-in-End-clause-complete : goal.returns-in-End-clause-complete
 returns-in-End-clause-complete g c =
     let accepted : IsAccepted (program_of (arc_value c.args.program.now)) = search rules in
     none_there (program_of (arc_value c.args.program.now)) accepted _ _ _ _ c.in_ok-read_whole_line.ensures _ c.in-End.is c.new-text.ensures.items
 
-pub returns-in_err-is_lawful-in-Line-clause-blames : goal.returns-in_err-is_lawful-in-Line-clause-blames
-returns-in_err-is_lawful-in-Line-clause-blames g c =
+pub returns-in_err-wrong-in-Line-clause-blames : goal.returns-in_err-wrong-in-Line-clause-blames
+returns-in_err-wrong-in-Line-clause-blames g c =
     let accepted : IsAccepted (program_of (arc_value c.args.program.now)) = search rules in
-    blames_on _ _ c.from_residual-in_err-is_lawful-in-Line.result c.in_err-is_lawful-in-Line.field-0.0
-    c.from_residual-in_err-is_lawful-in-Line.ensures.1 c.in_err-is_lawful-in-Line.ensures.blames
+    blames_on _ _ c.from_residual-in_err-wrong-in-Line.result c.in_err-wrong-in-Line.field-0.0
+    c.from_residual-in_err-wrong-in-Line.ensures.1 c.in_err-wrong-in-Line.ensures.blames
     (none_found (program_of (arc_value c.args.program.now)) accepted _ _ _ _ c.in_ok-read_whole_line.ensures c.in-Line.is)

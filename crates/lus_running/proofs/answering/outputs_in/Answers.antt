@@ -1,11 +1,11 @@
-use Rattle.std.proofs.Common.{◌∙◌, ◌<◌, ◌≤◌, sym, ap, map, length, take, drop, ◌++◌, ◌∷◌, [], add-one, arith}
+use Rattle.std.proofs.Common.{◌≡◌, ◌∙◌, ◌<◌, ◌≤◌, sym, ap, map, length, take, drop, ◌++◌, ◌∷◌, [], add-one, arith}
 use Rattle.std.proofs.lemmas.List.{length-map, map-append}
 use Rattle.lus_values.specs.View.{entry_of}
-use Rattle.lus_running.proofs.Placing.{one_more, nothing_taken, taken_between}
+use Rattle.lus_running.proofs.Placing.{one_more, one_taken, nothing_taken, taken_between}
 use Rattle.lus_running.proofs.answering.outputs_in.Goals as goal
 
 pub loop-variable-init : goal.loop-variable-init
-loop-variable-init g c = ap (map entry_of) c.in-Ok.ensures.items ∙ sym (nothing_taken c.args.on.now.class.now.inputs (map g.T.Held.entry c.args.row.now))
+loop-variable-init g c = ap (map entry_of) c.in-Ok-with_capacity.ensures.items ∙ sym (nothing_taken c.args.on.now.class.now.inputs (map g.T.Held.entry c.args.row.now))
 
 pub loop-variable-preserved : goal.loop-variable-preserved
 loop-variable-preserved g c =
@@ -26,3 +26,11 @@ pub returns : goal.returns
 returns g c =
     let r = map g.T.Held.entry c.args.row.now in
     c.new.ensures ∙ c.loop-variable.invariant ∙ taken_between c.args.on.now.class.now.inputs c.args.outputs c.loop-variable.variable r (omega arith)
+
+pub returns-then-outputs-eq1 : goal.returns-then-outputs-eq1
+returns-then-outputs-eq1 g c =
+    let from = c.args.on.now.class.now.inputs in
+    let r = map g.T.Held.entry c.args.row.now in
+    let one : c.args.outputs ≡ 1 = c.if-outputs-eq1.true in
+    let lt : from < length r = rw (length-map c.args.row.now g.T.Held.entry) (omega arith) in
+    c.one.ensures ∙ ap (λ v. v ∷ []) c.in-Ok.ensures ∙ sym (one_taken from r lt) ∙ ap (λ n. take n (drop from r)) (sym one)

@@ -1,7 +1,7 @@
 -- The lines so far stand behind the old text.
 use Rattle.std.proofs.Common.{◌≡◌, ◌++◌, flat_map, map, string_bytes, take}
-use Rattle.lus_traces.specs.Pages.{row_text}
+use Rattle.lus_traces.specs.Pages.{line_seen, line_text}
 use Rattle.lus_traces.proofs.page.push_lines.Given as goal
 
 abbrev pub invariant-loop-line : goal.invariant-loop-line
-invariant-loop-line l = string_bytes l.out ≡ string_bytes l.initial.out ++ flat_map row_text (map (λ t. t.now) (take l.line-index l.lines))
+invariant-loop-line l = string_bytes l.out ≡ string_bytes l.initial.out ++ flat_map line_text (map line_seen (take l.line-index l.lines))

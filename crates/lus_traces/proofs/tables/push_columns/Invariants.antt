@@ -8,4 +8,4 @@ use Rattle.lus_traces.proofs.tables.push_columns.Given as goal
 abbrev pub invariant-loop-column : goal.invariant-loop-column
 invariant-loop-column l =
     string_bytes l.out
-    ≡ string_bytes l.initial.out ++ flat_map (column_text l.instance (map name_of l.signals)) (map column_seen (take l.column-index l.columns))
+    ≡ string_bytes l.initial.out ++ flat_map (column_text l.names l.instance (map name_of l.signals)) (map column_seen (take l.column-index l.columns))

@@ -1,11 +1,10 @@
 -- One row more, or a fault at it.
-use Rattle.std.proofs.Common.{◌≡◌, suc, ◌+◌, map, sym, subst, take, arith}
-use Rattle.lus_values.specs.View.{entry_of}
+use Rattle.std.proofs.Common.{◌≡◌, suc, ◌+◌, sym, subst, take, arith}
 use Rattle.lus_program.specs.View.{program_seen}
 use Rattle.lus_worlds.specs.declared.world.Stop.TheVariants as stops
 use Rattle.lus_worlds.specs.Worlds.{IsFurther, IsStopped}
 use Rattle.lus_windows.specs.Finding.{HasFault, ReachesBehind}
-use Rattle.lus_windows.proofs.Rows.{reaches_first, reaches_next, faults_there}
+use Rattle.lus_windows.proofs.Rows.{reaches_next, faults_there}
 use Rattle.lus_windows.proofs.finding.find.Goals as goal
 
 pub loop-place-preserved : goal.loop-place-preserved

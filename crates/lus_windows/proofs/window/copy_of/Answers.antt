@@ -1,7 +1,7 @@
 -- A copy keeps the same.
 use Rattle.std.proofs.Common.{subst}
 use Rattle.lus_windows.specs.Windows.{IsKept}
-use Rattle.lus_windows.proofs.Windows.{kept_copy}
+use Rattle.lus_windows.proofs.Following.{kept_copy}
 use Rattle.lus_windows.proofs.window.copy_of.Goals as goal
 
 pub returns-in_ok-kept-in-Some : goal.returns-in_ok-kept-in-Some

@@ -1,16 +1,22 @@
--- One instant more is kept.
-use Rattle.std.proofs.Common.{Some, map, subst}
+-- One instant more, or none.
+use Rattle.std.proofs.Common.{Some, None, refl}
 use Rattle.lus_program.specs.View.{program_seen}
-use Rattle.lus_worlds.specs.Worlds.{IsFurther}
-use Rattle.lus_windows.specs.Windows.{IsKept}
-use Rattle.lus_windows.proofs.Windows.{kept_next}
+use Rattle.lus_windows.specs.declared.window.Reached.{Reached}
+use Rattle.lus_windows.proofs.Following.{goes_found, goes_lost}
 use Rattle.lus_windows.proofs.window.go_on.Goals as goal
 
-pub returns-in-Ok : goal.returns-in-Ok
-returns-in-Ok c =
+pub returns-in_ok-push-in-Some : goal.returns-in_ok-push-in-Some
+returns-in_ok-push-in-Some c =
     let p = program_seen c.args.program.now in
-    let f = c.args.node in
-    let x = c.args.inputs.now in
-    let old = c.in-Some.old in
-    let further : IsFurther p f x old c.in-Ok.next = subst (λ r. IsFurther p f r old c.in-Ok.next) c.items.ensures c.in-Ok.ensures.ok in
-    λ l k. kept_next p f x old c.in-Ok.next l further (subst (IsKept p f l) c.in-Some.is k)
+    let m = c.in-Some.moment in
+    let new : Reached = record { moment = Some m; instants = c.saturating_add-instants.result } in
+    let further = rw c.in-Some.is at c.in_ok-moment.ensures in
+    goes_found p c.args.node c.args.picks.now c.args.inputs.now c.args.reached.now new c.args.picked.now.items c.push.new.self.items m c.in_ok-row-in-Some.row refl further
+    c.in_ok-row-in-Some.ensures c.in_ok-push-in-Some.ensures.items
+
+pub returns-in-None : goal.returns-in-None
+returns-in-None c =
+    let p = program_seen c.args.program.now in
+    let new : Reached = record { moment = None; instants = c.saturating_add-instants.result } in
+    let before = c.args.picked.now.items in
+    goes_lost p c.args.node c.args.picks.now c.args.inputs.now c.args.reached.now new before before refl refl

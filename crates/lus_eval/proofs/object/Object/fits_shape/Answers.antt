@@ -8,7 +8,7 @@ use Rattle.lus_code.specs.SimulationSpecs.Fitting.{has_shape, row_fits}
 use Rattle.lus_code.proofs.SimulationProofs.Lived.{HasFormals, formals_at}
 use Rattle.lus_code.specs.Codes.{program_of}
 use Rattle.lus_eval.specs.Objects.{Kept, kept_by, IsObjectOf}
-use Rattle.lus_eval.proofs.KeptRows.{source_checked, source_node}
+use Rattle.lus_eval.proofs.KeptRows.{source_node}
 use Rattle.lus_eval.proofs.object.Object.fits_shape.Goals as goal
 
 abbrev kind_in : Variable → Kind
@@ -21,9 +21,8 @@ slice_bounds-variables-end c =
     let o = kept_by c.self.inside.instance in
     let n = c.index-node.result.now in
     let vs = c.deref.result.now in
-    let node = source_node code o shaped c.classes-classes.result.now c.classes-classes.ensures.same c.classes-classes.ensures.size c.program-program.result.now c.program-program.ensures.same n c.index-node.ensures in
-    let checked = source_checked code c.program-program.result.now c.program-program.ensures.same c.program-program.ensures.checked in
-    let formals = subst HasFormals node (formals_at (program_of code) checked.resolved o.node) in
+    let node = source_node code o shaped c.classes-classes.ensures.correct c.program-program.result.now c.program-program.ensures.same n c.index-node.ensures in
+    let formals = subst HasFormals node (formals_at (program_of code) c.classes-classes.ensures.correct.checked.resolved o.node) in
     let long : length vs ≡ length (map variable_of n.variables.items) = ap length c.deref.ensures.value ∙ sym (length-map n.variables.items variable_of) in
     let within : n.inputs ≤ length vs = omega (arith, formals, long) in
     sym (length-take-le n.inputs vs within)
@@ -33,7 +32,7 @@ returns c =
     let code = c.args.code.now in
     let shaped = subst (IsObjectOf code) (sym c.self.view_is) c.requires in
     let o = kept_by c.self.inside.instance in
-    let node = source_node code o shaped c.classes-classes.result.now c.classes-classes.ensures.same c.classes-classes.ensures.size c.program-program.result.now c.program-program.ensures.same c.index-node.result.now c.index-node.ensures in
+    let node = source_node code o shaped c.classes-classes.ensures.correct c.program-program.result.now c.program-program.ensures.same c.index-node.result.now c.index-node.ensures in
     let p = program_of code in
     let i = c.args.inputs.now in
     let n = c.index-node.result.now in

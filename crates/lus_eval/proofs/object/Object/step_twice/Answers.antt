@@ -17,7 +17,8 @@ step_instance-requires-clause-presence c = subst (λ (k : Kept). IsTrue (has_pre
 
 pub returns-in-Ok-clause-ok : goal.returns-in-Ok-clause-ok
 returns-in-Ok-clause-ok c =
-    subst (λ (k : Kept). MakesStep c.args.code.now k (kept_by c.step_instance.new.instance) c.args.inputs.now c.in_ok-outputs.outputs) c.self.view_is c.in_ok-outputs.ensures.ok
+    rw c.in-Ok.ensures.row
+    (subst (λ (k : Kept). MakesStep c.args.code.now k (kept_by c.step_instance.new.instance) c.args.inputs.now c.in_ok-outputs.outputs) c.self.view_is c.in_ok-outputs.ensures.ok)
 
 pub returns-in-Err-clause-err : goal.returns-in-Err-clause-err
 returns-in-Err-clause-err c =

@@ -1,6 +1,0 @@
--- Each band takes a column at least.
-use Rattle.std.proofs.Common.{length, ◌-◌}
-use Rattle.lus_diagrams.proofs.plain.push_bands.Given as goal
-
-abbrev pub decreases-loop-from : goal.decreases-loop-from
-decreases-loop-from l = length l.columns - l.from

@@ -1,0 +1,4 @@
+pub mod Paths
+pub mod Selections
+pub mod Signals
+pub mod Sketches

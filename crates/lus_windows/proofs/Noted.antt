@@ -1,0 +1,43 @@
+-- One entry more, and its reason where it was refused.
+use Rattle.std.proofs.Common.{◌≡◌, ◌∙◌, ◌++◌, ℕ, List, [], ◌∷◌, string_bytes, sym, ap, subst}
+use Rattle.lus_values.specs.Names.{Names, Text}
+use Rattle.lus_program.specs.Programs.{Program}
+use Rattle.lus_requests.specs.declared.request.Request.{Request}
+use Rattle.lus_requests.specs.declared.request.Reply.{Reply}
+use Rattle.lus_requests.specs.declared.request.Entry.{Entry}
+use Rattle.lus_simulation.specs.Lineages.{Lineage}
+use Rattle.lus_history.specs.Pasts.{lineage}
+use Rattle.lus_windows.specs.declared.reasons.Reasons.{Reasons}
+use Rattle.lus_windows.specs.Reasons.{TellsEntry, Tells, passes, notes, HasNoted, next_line}
+use Rattle.lus_windows.specs.Windows.{IsReached, HasFollowed, entry_by}
+
+module _ (p : Program) (f : ℕ) (names : Names) (instance : Text) (first : ℕ) (h : List Entry) (old new : Reasons) (named : new.instance ≡ old.instance) where
+  -- a line that is no entry
+  pub passed : new.window ≡ old.window → new.text ≡ old.text → new.line ≡ next_line old.line → HasNoted p f names instance first h old → HasNoted p f names instance first h new
+  passed window text line k = record {
+    followed = subst (HasFollowed p f h) (sym window) k.followed;
+    named = ap string_bytes named ∙ k.named;
+    tells = subst (λ n. Tells p f names instance first h n (string_bytes new.text)) (sym line)
+        (subst (λ t. Tells p f names instance first h (next_line old.line) (string_bytes t)) (sym text) (passes h old.line (string_bytes old.text) k.tells));
+  }
+
+  -- an entry
+  pub noted : (c : ℕ) (r : Request) (a : Reply)
+      → ((l : Lineage) → IsReached p old.window.node l old.window.reached
+      → TellsEntry p old.window.node names (string_bytes old.instance) (next_line old.line) l r a (string_bytes old.text) (string_bytes new.text))
+      → new.line ≡ next_line old.line → (HasFollowed p f h old.window → HasFollowed p f (h ++ entry_by c r a ∷ []) new.window)
+      → HasNoted p f names instance first h old → HasNoted p f names instance first (h ++ entry_by c r a ∷ []) new
+  noted c r a tells line follows k =
+      let node = k.followed.node in
+      let here = tells (lineage h) (subst (λ g. IsReached p g (lineage h) old.window.reached) (sym node) k.followed.keeps.now) in
+      let own : TellsEntry p f names (string_bytes old.instance) (next_line old.line) (lineage h) r a (string_bytes old.text) (string_bytes new.text) =
+      subst (λ g. TellsEntry p g names (string_bytes old.instance) (next_line old.line) (lineage h) r a (string_bytes old.text) (string_bytes new.text)) node here
+      in
+      let told : TellsEntry p f names instance (next_line old.line) (lineage h) r a (string_bytes old.text) (string_bytes new.text) =
+      subst (λ i. TellsEntry p f names i (next_line old.line) (lineage h) r a (string_bytes old.text) (string_bytes new.text)) k.named own
+      in record {
+        followed = follows k.followed;
+        named = ap string_bytes named ∙ k.named;
+        tells = subst (λ n. Tells p f names instance first (h ++ entry_by c r a ∷ []) n (string_bytes new.text)) (sym line)
+            (notes h (entry_by c r a) old.line (string_bytes old.text) (string_bytes new.text) k.tells told);
+      }
