@@ -3,6 +3,7 @@
 
 mod caller;
 mod close;
+mod columns;
 mod condition;
 mod gate;
 mod jobs;

@@ -16,10 +16,10 @@ use Rattle.lus_program.specs.declared.node.Node.{Node as StoredNode}
 use Rattle.lus_program.specs.declared.node.Program.{Program as StoredProgram}
 use Rattle.lus_program.specs.Programs.{Expression, Node, Program, empty_node, node_at}
 use Rattle.lus_program.specs.View.{expression_of, node_of, program_seen}
-use Rattle.lus_typing.specs.Leaves.{AreTheLeaves, kind_leaves}
-use Rattle.lus_typing.specs.Resolved.{EquationFits, NodeResolved, Resolved, nodes_called, program_uses, kind_in}
-use Rattle.lus_typing.proofs.KindsGiven.{given_is}
-use Rattle.lus_typing.proofs.TypedParts.{HasKind}
+use Rattle.lus_program.specs.Leaves.{AreTheLeaves, kind_leaves}
+use Rattle.lus_program.specs.Resolved.{EquationFits, NodeResolved, Resolved, nodes_called, program_uses, kind_in}
+use Rattle.lus_program.proofs.KindsGiven.{given_is}
+use Rattle.lus_program.proofs.TypedParts.{HasKind}
 use Rattle.lus_cells.specs.Cells.{leaves_given, node_cells, AreCells, AreStateCells, FitsCells, HasTooMany, NamesTooMany}
 use Rattle.lus_cells.specs.Given.{given_leaves, counted}
 use Rattle.lus_cells.proofs.Numbering.{cells_stored}

@@ -6,9 +6,9 @@ use Rattle.lus_program.specs.declared.types.Kind.TheVariants as kinds
 use Rattle.lus_program.specs.declared.node.Equation.{Equation as StoredEquation}
 use Rattle.lus_program.specs.Programs.{Expression, literal, variable, operate, pre, arrow, when, merge, call, Operands, none, more, calls, numbered, all_numbered, Node, Program}
 use Rattle.lus_program.specs.View.{expression_of, equations_from}
-use Rattle.lus_typing.specs.Leaves.{kind_leaves}
+use Rattle.lus_program.specs.Leaves.{kind_leaves}
 use Rattle.lus_cells.specs.Cells.{expression_cells, operand_cells}
-use Rattle.lus_typing.specs.Given.{operator_given, given, last_given}
+use Rattle.lus_program.specs.Given.{operator_given, given, last_given}
 use Rattle.lus_cells.specs.Given.{given_leaves}
 
 module _ (p : Program) (f : Node) where

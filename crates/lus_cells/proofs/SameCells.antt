@@ -5,8 +5,8 @@ use Rattle.std.proofs.lemmas.List.Sums.{sum_by-cons}
 use Rattle.lus_values.specs.Lists.{Each}
 use Rattle.lus_program.specs.declared.types.Kind.{Kind}
 use Rattle.lus_program.specs.Programs.{Expression, literal, variable, operate, pre, arrow, when, merge, call, Operands, none, more, Equation, Node, Program}
-use Rattle.lus_typing.specs.Resolved.{EquationFits, kinds_given_in, nodes_called, all_nodes_called}
-use Rattle.lus_typing.proofs.TypedParts.{HasKind, HaveKinds, operate_typed, both_typed, when_typed, merge_typed, call_typed, more_typed, whole_call, whole_typed, fits_given}
+use Rattle.lus_program.specs.Resolved.{EquationFits, kinds_given_in, nodes_called, all_nodes_called}
+use Rattle.lus_program.proofs.TypedParts.{HasKind, HaveKinds, operate_typed, both_typed, when_typed, merge_typed, call_typed, more_typed, whole_call, whole_typed, fits_given}
 use Rattle.lus_cells.specs.Cells.{expression_cells, operand_cells}
 
 module _ (p : Program) (f : Node) (size size' : Expression → ℕ) (sized : (e : Expression) → HasKind p f e → size e ≡ size' e) (at at' : ℕ → ℕ) where

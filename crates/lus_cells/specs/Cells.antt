@@ -8,8 +8,8 @@ use Rattle.lus_program.specs.declared.node.Program.{Program as StoredProgram}
 use Rattle.lus_program.specs.declared.types.Kind.{Kind}
 use Rattle.lus_program.specs.Programs.{Expression, literal, variable, operate, pre, arrow, when, merge, call, Operands, none, more, Node, Program, node_at}
 use Rattle.lus_program.specs.View.{program_seen}
-use Rattle.lus_typing.specs.Resolved.{kind_in}
-pub use Rattle.lus_typing.specs.Leaves.{kind_leaves, AreLeaves, HaveLeaves}
+use Rattle.lus_program.specs.Resolved.{kind_in}
+pub use Rattle.lus_program.specs.Leaves.{kind_leaves, AreLeaves, HaveLeaves}
 
 -- the leaves of what an expression gives
 abbrev pub leaves_given : (ℕ → ℕ) → Option Kind → ℕ

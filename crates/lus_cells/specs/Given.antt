@@ -2,8 +2,8 @@
 use Rattle.std.specs.Prelude.{ℕ, List}
 use Rattle.lus_values.specs.Lists.{item}
 use Rattle.lus_program.specs.Programs.{Expression, Operands, Node, Program}
-use Rattle.lus_typing.specs.Given.{given}
-use Rattle.lus_typing.specs.Leaves.{kind_leaves}
+use Rattle.lus_program.specs.Given.{given}
+use Rattle.lus_program.specs.Leaves.{kind_leaves}
 use Rattle.lus_cells.specs.Cells.{expression_cells, operand_cells}
 
 -- the greatest count that a table holds

@@ -6,15 +6,15 @@ ghost use Rattle.lus_syntax.specs.declared.refusal.RefusalNumber.TheVariants as 
 ghost use Rattle.lus_syntax.specs.Limits.{most_cells};
 ghost use Rattle.lus_program.specs.Programs.{node_at};
 ghost use Rattle.lus_program.specs.View.{program_seen};
-ghost use Rattle.lus_typing.specs.Refusals.{RefusesFor};
-ghost use Rattle.lus_typing.specs.Resolved.{program_uses};
-ghost use Rattle.lus_typing.specs.Leaves.{AreTheLeaves};
+ghost use Rattle.lus_program.specs.Refusals.{RefusesFor};
+ghost use Rattle.lus_program.specs.Resolved.{program_uses};
+ghost use Rattle.lus_program.specs.Leaves.{AreTheLeaves};
 ghost use Rattle.lus_cells.specs.Cells.{AreStateCells, FitsCells, HaveLeaves, NamesTooMany, node_cells as cells_of_node};
 
 use crate::weights::node_cells;
 use lus_graph::{Rule, along};
+use lus_program::Sound;
 use lus_syntax::{MOST_CELLS, Refusal, RefusalNumber};
-use lus_typing::Sound;
 use std::alloc::Global;
 
 /// Each node has its cells, by those of the nodes that it calls.

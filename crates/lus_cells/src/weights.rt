@@ -4,12 +4,13 @@ ghost use Rattle.std.specs.Prelude.{◌≡◌, ◌+◌, max, min, sum_by};
 ghost use Rattle.lus_values.specs.Lists.{item};
 ghost use Rattle.lus_program.specs.declared.types.Kind.TheVariants.{Bool as OfBool};
 ghost use Rattle.lus_program.specs.View.{expression_of, node_of, operands_of, program_seen};
-ghost use Rattle.lus_typing.specs.Given.{given, last_given};
-ghost use Rattle.lus_typing.specs.Leaves.{kind_leaves as leaves_in};
+ghost use Rattle.lus_program.specs.Given.{given, last_given};
+ghost use Rattle.lus_program.specs.Leaves.{kind_leaves as leaves_in};
 ghost use Rattle.lus_cells.specs.Given.{all_counted, counted, most};
 
-use lus_program::{Expr, Form, Kind, Node, Program};
-use lus_typing::{operator_kind, output_kind, value_kind, variable_kind};
+use lus_program::{
+    Expr, Form, Kind, Node, Program, operator_kind, output_kind, value_kind, variable_kind,
+};
 
 /// What an expression gives, and its cells, or the greatest `u32` where it has more.
 #[derive(Clone, Copy)]

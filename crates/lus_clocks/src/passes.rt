@@ -5,15 +5,14 @@ ghost use Rattle.lus_syntax.specs.declared.refusal.RefusalNumber.TheVariants as 
 ghost use Rattle.lus_program.specs.View.{program_seen};
 ghost use Rattle.lus_streams.specs.OnClock.{ProgramOnClocks};
 ghost use Rattle.lus_streams.specs.Flags.{IsFlagged};
-ghost use Rattle.lus_typing.specs.Refusals.{RefusesFor};
-ghost use Rattle.lus_typing.specs.Resolved.{Resolved};
-ghost use Rattle.lus_typing.specs.Sound.{IsLimited};
+ghost use Rattle.lus_program.specs.Refusals.{RefusesFor};
+ghost use Rattle.lus_program.specs.Resolved.{Resolved};
+ghost use Rattle.lus_program.specs.Sound.{IsLimited};
 
 use crate::checking::clocks_fit;
 use crate::flagging::flags_fit;
-use lus_program::Program;
+use lus_program::{Program, Sound, Typed};
 use lus_syntax::Refusal;
-use lus_typing::{Sound, Typed};
 use std::alloc::Global;
 use std::marker::Model;
 

@@ -11,14 +11,14 @@ use Rattle.lus_program.specs.declared.expr.Test.{Test}
 use Rattle.lus_program.specs.Programs.{Expression, literal, variable, operate, pre, arrow, when, merge, call, Operands, none, more, Equation, Node, Program, node_at, empty_node}
 use Rattle.lus_streams.specs.Clocks.{Clock, Part, at, formal_clock, base_of, branch_clock, parts, all_parts}
 use Rattle.lus_streams.specs.Equations.{Site, sites, sites_in, site_first, node_parts, equation_parts, equation_clock}
-use Rattle.lus_typing.specs.Resolved.{EquationFits, NodeResolved, Resolved, kind_in, kinds_given_in}
-use Rattle.lus_typing.proofs.TypedParts.{HasKind, HaveKinds, operate_typed, both_typed, when_typed, merge_typed, call_typed, more_typed, whole_call, whole_typed, fits_given}
+use Rattle.lus_program.specs.Resolved.{EquationFits, NodeResolved, Resolved, kind_in, kinds_given_in}
+use Rattle.lus_program.proofs.TypedParts.{HasKind, HaveKinds, operate_typed, both_typed, when_typed, merge_typed, call_typed, more_typed, whole_call, whole_typed, fits_given}
 use Rattle.lus_classes.specs.ClassesOf.{AreCalls}
 use Rattle.lus_normal_form.specs.NormalForm.{StandsFor}
 use Rattle.lus_normal_form.specs.NormalNodes.{AreSites, IsNormalOf, memories, all_memories, firsts, all_firsts, count_rights, node_memories, node_firsts}
-use Rattle.lus_flat_classes.specs.declared.class.Call.{Call}
-use Rattle.lus_flat_classes.specs.declared.class.Class.{Class}
-use Rattle.lus_flat_classes.specs.View.{call_of, class_of}
+use Rattle.lus_instructions.specs.declared.class.Call.{Call}
+use Rattle.lus_instructions.specs.declared.class.Class.{Class}
+use Rattle.lus_instructions.specs.View.{call_of, class_of}
 use Rattle.lus_cells.specs.Cells.{AreStateCells, HaveLeaves, expression_cells, operand_cells, kind_leaves, leaves_given, node_cells}
 use Rattle.lus_places.specs.Few.{AreFew, KeepTo}
 use Rattle.lus_turns.specs.Turned.{HaveOneLeft}

@@ -8,14 +8,14 @@ use Rattle.lus_program.specs.declared.node.Node.{Node as StoredNode}
 use Rattle.lus_program.specs.Programs.{Node, Program, node_at, empty_node}
 use Rattle.lus_normal.specs.Laws.{AreMadeOf}
 use Rattle.lus_streams.proofs.Lists.{each_item}
-use Rattle.lus_typing.specs.Resolved.{NodeResolved}
+use Rattle.lus_program.specs.Resolved.{NodeResolved}
 use Rattle.lus_classes.specs.Classes.{class_at, empty_class}
 use Rattle.lus_classes.specs.ClassesOf.{AreClassesOf, IsClassOf}
 use Rattle.lus_simulation.specs.Nesting.{depth_of}
 use Rattle.lus_simulation.proofs.Nested.{calls_nested}
-use Rattle.lus_flat_classes.specs.declared.class.Call.{Call}
-use Rattle.lus_flat_classes.specs.declared.class.Class.{Class}
-use Rattle.lus_flat_classes.specs.View.{class_of, classes_of, clock_from}
+use Rattle.lus_instructions.specs.declared.class.Call.{Call}
+use Rattle.lus_instructions.specs.declared.class.Class.{Class}
+use Rattle.lus_instructions.specs.View.{class_of, classes_of, clock_from}
 use Rattle.lus_places.specs.Shaped.{AreNested, CanAllBePlaced, CallsClass}
 use Rattle.lus_turns.specs.Turned.{CallsNode, IsTurned}
 use Rattle.lus_code.specs.Made.{AreFirstTurned, AreTurned, HasSource}

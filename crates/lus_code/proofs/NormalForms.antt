@@ -9,9 +9,9 @@ use Rattle.lus_program.specs.declared.node.Program.{Program as StoredProgram}
 use Rattle.lus_program.specs.Programs.{Expression, call, calls, numbered, Equation, Node, Program, node_at, empty_node}
 use Rattle.lus_program.specs.View.{expression_of, equations_from, node_of, program_seen}
 use Rattle.lus_streams.proofs.Lists.{each_item}
-use Rattle.lus_typing.specs.Resolved.{EquationFits, NodeResolved, Resolved, kind_in, kinds_given_in}
-use Rattle.lus_typing.proofs.Options.{map_gives}
-use Rattle.lus_typing.proofs.TypedParts.{fits_given}
+use Rattle.lus_program.specs.Resolved.{EquationFits, NodeResolved, Resolved, kind_in, kinds_given_in}
+use Rattle.lus_program.proofs.Options.{map_gives}
+use Rattle.lus_program.proofs.TypedParts.{fits_given}
 use Rattle.lus_normal_form.specs.Forms.{added_equations, normal_equations, right_count, right_form, right_out}
 use Rattle.lus_normal_form.specs.Parts.{node_taken}
 use Rattle.lus_normal.specs.Laws.{AreMadeOf, IsMadeOf, IsNormalProgram}

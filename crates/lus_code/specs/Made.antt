@@ -7,7 +7,7 @@ use Rattle.lus_streams.specs.Clocks.{Part}
 use Rattle.lus_streams.specs.Equations.{sites}
 use Rattle.lus_normal_form.specs.NormalNodes.{IsNormalOf, node_firsts, node_memories}
 use Rattle.lus_simulation.specs.Checked.{IsChecked}
-use Rattle.lus_flat_classes.specs.declared.class.Class.{Class}
+use Rattle.lus_instructions.specs.declared.class.Class.{Class}
 use Rattle.lus_turns.specs.Turned.{HaveOneLeft, IsTurned}
 
 -- a class for each of the first n nodes, with its steps in their turns

@@ -4,7 +4,7 @@ ghost use Rattle.std.specs.Prelude.{◌≡◌, ◌≢◌, ◌<◌, length, IfOk,
 ghost use Rattle.lus_values.specs.Lists.{item};
 ghost use Rattle.lus_syntax.specs.declared.refusal.RefusalNumber.TheVariants as numbers;
 ghost use Rattle.lus_program.specs.View.{program_seen};
-ghost use Rattle.lus_typing.specs.Refusals.{RefusesFor};
+ghost use Rattle.lus_program.specs.Refusals.{RefusesFor};
 ghost use Rattle.lus_simulation.specs.Checked.{IsChecked};
 ghost use Rattle.lus_cells.specs.Cells.{AreStateCells, FitsCells, NamesTooMany};
 ghost use Rattle.lus_code.specs.Codes.{program_of};
@@ -12,14 +12,13 @@ ghost use Rattle.lus_code.specs.Correct.{IsCorrect};
 
 use crate::classes::classes_of_nodes;
 use lus_cells::cells_of_nodes;
-use lus_flat_classes::Class;
 use lus_frames::Class as Framed;
+use lus_instructions::Class;
 use lus_keeping::Plan;
 use lus_normal::Normal;
 use lus_order::Ordered;
-use lus_program::{NodeId, Program};
+use lus_program::{NodeId, Program, Sound};
 use lus_syntax::Refusal;
-use lus_typing::Sound;
 use std::alloc::Global;
 use std::marker::Model;
 
@@ -35,7 +34,7 @@ pub struct Code {
 impl Model for Code {
     ghost use Rattle.std.specs.Coded.{codes};
     ghost use Rattle.lus_program.specs.contracts.expr.Expr as program_expr;
-    ghost use Rattle.lus_flat_classes.specs.contracts.formula.Formula as formula;
+    ghost use Rattle.lus_instructions.specs.contracts.formula.Formula as formula;
     ghost use Rattle.lus_values.specs.contracts.value.Value as value;
     ghost use Rattle.lus_code.specs.Codes.{ProgramCode};
     ghost use Rattle.lus_code.specs.Correct.{IsCorrect};

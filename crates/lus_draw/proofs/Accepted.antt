@@ -2,10 +2,10 @@
 use Rattle.std.proofs.Common.{sym, subst}
 use Rattle.lus_values.specs.Lists.{Each}
 use Rattle.lus_program.specs.Programs.{Program}
-use Rattle.lus_typing.specs.Resolved.{Resolved}
-use Rattle.lus_typing.specs.Sound.{IsLimited}
+use Rattle.lus_program.specs.Resolved.{Resolved}
+use Rattle.lus_program.specs.Sound.{IsLimited}
 use Rattle.lus_types.proofs.ProgramsMeant.{meant_programs_are_sound}
-use Rattle.lus_resolved_streams.proofs.NeedsResolved.{resolved_needs_are_variables}
+use Rattle.lus_streams.proofs.NeedsResolved.{resolved_needs_are_variables}
 use Rattle.lus_order.specs.Orders.{IsNarrow, NeedsVariables}
 use Rattle.lus_order.proofs.Narrow.{few_are_narrow}
 use Rattle.lus_cli.specs.MachineSpecs.Acceptance.{IsAccepted}

@@ -11,8 +11,8 @@ use Rattle.lus_program.specs.Programs.{node_at}
 use Rattle.lus_program.specs.View.{node_of, program_seen}
 use Rattle.lus_code.proofs.OrderProofs.Nodes.{node_here}
 use Rattle.lus_frames.specs.declared.class.Class.{Class as Framed}
-use Rattle.lus_flat_classes.specs.declared.class.Class.{Class}
-use Rattle.lus_flat_classes.specs.Places.{state_in}
+use Rattle.lus_instructions.specs.declared.class.Class.{Class}
+use Rattle.lus_instructions.specs.Places.{state_in}
 use Rattle.lus_code.specs.SimulationSpecs.Nesting.{depth_of}
 use Rattle.lus_code.specs.SimulationSpecs.Lineages.{Lineage, HasLived}
 use Rattle.lus_code.proofs.SimulationProofs.Lived.{resets_lived}

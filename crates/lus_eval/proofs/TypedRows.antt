@@ -11,8 +11,8 @@ use Rattle.lus_program.specs.declared.types.Field.{Field as StoredField}
 use Rattle.lus_program.specs.declared.node.Variable.{Variable as StoredVariable}
 use Rattle.lus_program.specs.Programs.{Program, Field}
 use Rattle.lus_program.specs.View.{field_of}
-use Rattle.lus_typing.specs.Kinds.{fields_in}
-use Rattle.lus_typing.specs.Resolved.{declared_in}
+use Rattle.lus_program.specs.Kinds.{fields_in}
+use Rattle.lus_program.specs.Resolved.{declared_in}
 use Rattle.lus_code.specs.SimulationSpecs.Fitting.{is_of, are_of, entry_fits}
 use Rattle.lus_eval.specs.TypedRows.{values_fit, entries_fit}
 

@@ -3,13 +3,12 @@
 ghost use Rattle.std.specs.Prelude.{◌≡◌, map};
 ghost use Rattle.lus_values.specs.View.{entry_of, value_of};
 ghost use Rattle.lus_program.specs.View.{program_seen};
-ghost use Rattle.lus_typing.specs.Kinds.{constructors_in};
-ghost use Rattle.lus_typing.specs.Resolved.{declared_in};
+ghost use Rattle.lus_program.specs.Kinds.{constructors_in};
+ghost use Rattle.lus_program.specs.Resolved.{declared_in};
 ghost use Rattle.lus_code.specs.SimulationSpecs.Fitting.{entry_fits, is_of};
 ghost use Rattle.lus_eval.specs.TypedRows.{entries_fit, values_fit};
 
-use lus_program::{Declared, Field, Kind, Program, Variable};
-use lus_typing::fields_at;
+use lus_program::{Declared, Field, Kind, Program, Variable, fields_at};
 use lus_values::Value;
 
 /// How many constructors a declared type has, none where it is no enumeration.

@@ -8,8 +8,8 @@ use Rattle.lus_program.specs.Programs.{Program, Node, Variable, Field}
 use Rattle.lus_program.specs.declared.expr.Test.{Test}
 use Rattle.lus_program.specs.declared.types.Kind.{Kind}
 use Rattle.lus_program.specs.declared.types.Kind.TheVariants.{Bool, Int, Enum, Struct}
-use Rattle.lus_typing.specs.Kinds.{fields_in}
-use Rattle.lus_typing.specs.Resolved.{declared_in}
+use Rattle.lus_program.specs.Kinds.{fields_in}
+use Rattle.lus_program.specs.Resolved.{declared_in}
 use Rattle.lus_leaves.specs.Writing.{over}
 use Rattle.lus_shared.specs.CodeSpecs.Codes.{program_of}
 use Rattle.lus_shared.specs.MachineSpecs.Constructors.{names_of}

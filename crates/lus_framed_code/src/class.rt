@@ -1,7 +1,7 @@
 //! The code of one class with calls.
 
 ghost use Rattle.std.specs.Prelude.{◌≡◌, IfOk};
-ghost use Rattle.lus_flat_classes.specs.Parts.{AreParts};
+ghost use Rattle.lus_instructions.specs.Parts.{AreParts};
 ghost use Rattle.lus_framed_code.specs.Emission.{own_layout as own_places};
 ghost use Rattle.lus_framed_code.specs.Made.{IsMadeOf};
 
@@ -9,10 +9,9 @@ use crate::emission::{code_of, top_of};
 use crate::frames::frames_of;
 use crate::locating::{all_stay, locate_orders};
 use crate::once::are_once;
-use lus_flat_classes::{Class, Part};
 use lus_framed_classes::{Unframed, count_of};
 use lus_frames::Class as Framed;
-use lus_instructions::Layout;
+use lus_instructions::{Class, Layout, Part};
 use std::alloc::Global;
 
 /// A class's own places, its temporaries included.

@@ -4,15 +4,15 @@ ghost use Rattle.std.specs.Prelude.{◌≡◌, ◌≢◌, ◌<◌, ℕ, IfOk, So
 ghost use Rattle.lus_graph.specs.Ways.{IsOrder};
 ghost use Rattle.lus_frames.specs.Bounds.{AreBound};
 ghost use Rattle.lus_frames.specs.Classes.{AreFramed};
-ghost use Rattle.lus_flat_classes.specs.Turns.{AreReady};
+ghost use Rattle.lus_instructions.specs.Turns.{AreReady};
 ghost use Rattle.lus_places.specs.Shaped.{class_uses};
 ghost use Rattle.lus_framed_classes.specs.Code.{HaveCode};
 ghost use Rattle.lus_framed_code.specs.Made.{HaveParts};
 
 use crate::class::frame_class;
-use lus_flat_classes::{Class, Part};
 use lus_framed_classes::Unframed;
 use lus_frames::Class as Framed;
+use lus_instructions::{Class, Part};
 use std::alloc::Global;
 use std::mem;
 

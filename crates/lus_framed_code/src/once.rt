@@ -4,7 +4,7 @@ ghost use Rattle.std.specs.Prelude.{IfOk, IsTrue};
 ghost use Rattle.lus_framed_classes.specs.Code.{AreOnce};
 ghost use Rattle.lus_framed_code.specs.Marking.{Marks};
 
-use lus_flat_classes::Step;
+use lus_instructions::Step;
 use lus_values::Memory;
 use std::alloc::Global;
 

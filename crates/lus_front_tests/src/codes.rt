@@ -2,10 +2,9 @@
 
 use lus_clocks::{check_clocks, check_nil};
 use lus_code::{Code, translate};
-use lus_flat_classes::{Call, Extent};
 use lus_frames::{Class as Framed, Order};
 use lus_grammar::parse;
-use lus_instructions::Located;
+use lus_instructions::{Call, Extent, Located};
 use lus_normal::{has_few_parts, normalise};
 use lus_order::order;
 use lus_program::NodeId;

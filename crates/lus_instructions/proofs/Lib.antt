@@ -9,3 +9,5 @@ pub mod Growing
 pub mod Longer
 pub mod LocatedSteps
 pub mod OnClocks
+pub mod FormulaViews
+pub mod ShortTurns

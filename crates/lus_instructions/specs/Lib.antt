@@ -6,3 +6,10 @@ pub mod Played
 pub mod Locations
 pub mod Followed
 pub mod Tallied
+pub mod View
+pub mod Looks
+pub mod Places
+pub mod Parts
+pub mod Instants
+pub mod Turns
+pub mod Passing

@@ -1,10 +1,13 @@
-//! Instructions: what the steps of a class compute, one value after another; what operators give, for words and for values; and
-//! following instructions over rows of either.
+//! Classes of nodes as they are run: for each node the steps of an instant, the cells and first-flags that are kept, and the
+//! calls, with the places of each in one row of cells and one of first-flags. Instructions: what the steps compute, one value
+//! after another; what operators give, for words and for values; and following instructions over rows of either.
 #![tactic(auto)]
 
 mod choosing;
+mod class;
 mod counting;
 mod entries;
+mod formula;
 mod held;
 mod instruction;
 mod layout;
@@ -22,7 +25,9 @@ mod stop;
 mod word;
 pub mod words;
 
+pub use class::{Argument, Call, Cell, Class, Extent, Part, Step, Target, test_of};
 pub use entries::copy_value;
+pub use formula::{Atom, Formula};
 pub use held::Held;
 pub use instruction::{Instruction, Operand};
 pub use layout::Layout;

@@ -5,8 +5,8 @@ use Rattle.lus_frames.specs.Classes.{IsFrame}
 use Rattle.lus_frames.specs.declared.class.Frame.{Frame}
 use Rattle.lus_frames.specs.declared.class.Class.{Class as Framed}
 use Rattle.lus_frames.proofs.Likeness.{frames_like}
-use Rattle.lus_flat_classes.specs.declared.class.Call.{Call}
-use Rattle.lus_flat_classes.specs.declared.class.Class.{Class}
+use Rattle.lus_instructions.specs.declared.class.Call.{Call}
+use Rattle.lus_instructions.specs.declared.class.Class.{Class}
 use Rattle.lus_framed_classes.specs.Code.{AreFramesOf}
 use Rattle.lus_keeping.specs.Laws.{LikesHaveFrames}
 

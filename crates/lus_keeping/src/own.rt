@@ -3,14 +3,13 @@
 ghost use Rattle.std.specs.Prelude.{◌≡◌, IfOk, None, length, map};
 ghost use Rattle.lus_values.specs.Lists.{item};
 ghost use Rattle.lus_classes.specs.Steps.{atom_in, cells_after, flags_after, is_on_row};
-ghost use Rattle.lus_flat_classes.specs.Looks.{newest, short_memory};
-ghost use Rattle.lus_flat_classes.specs.View.{atom_of};
+ghost use Rattle.lus_instructions.specs.Looks.{newest, short_memory};
+ghost use Rattle.lus_instructions.specs.View.{atom_of};
 ghost use Rattle.lus_instructions.specs.Followed.{cell_of};
 
 use crate::presence::is_on;
-use lus_flat_classes::{Atom, Cell};
 use lus_instructions::words::Word;
-use lus_instructions::{Held, Stop, copy_value, found_at};
+use lus_instructions::{Atom, Cell, Held, Stop, copy_value, found_at};
 use lus_program::Test;
 use std::alloc::Global;
 

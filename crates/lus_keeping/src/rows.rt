@@ -4,8 +4,8 @@ ghost use Rattle.std.specs.Prelude.{◌≡◌, ◌≤◌, IfOk, Some, length, ma
 ghost use Rattle.lus_values.specs.Lists.{Each};
 ghost use Rattle.lus_classes.specs.States.{WithinDepth};
 ghost use Rattle.lus_frames.specs.Classes.{looks};
-ghost use Rattle.lus_flat_classes.specs.Turns.{CallsWithin};
-ghost use Rattle.lus_flat_classes.specs.View.{classes_of};
+ghost use Rattle.lus_instructions.specs.Turns.{CallsWithin};
+ghost use Rattle.lus_instructions.specs.View.{classes_of};
 ghost use Rattle.lus_framed_classes.specs.InRows.{class_rows, part_of, parts_kept, rows_kept, with_part};
 ghost use Rattle.lus_keeping.specs.Keeping.{CanKeep, CanKeepCall, CanKeepCalls, HaveFrames, IsLong, rows_of};
 ghost use Rattle.lus_keeping.specs.Plans.{ArePlans};
@@ -14,9 +14,8 @@ use crate::flat::run;
 use crate::own::{clear, keep};
 use crate::plan::{Plan, flat_plan};
 use crate::presence::is_on;
-use lus_flat_classes::{Call, Class};
 use lus_frames::{Class as Framed, Frame};
-use lus_instructions::{Held, Stop};
+use lus_instructions::{Call, Class, Held, Stop};
 use std::alloc::Global;
 
 /// What a called node keeps, in its part of what is behind its caller's own.

@@ -8,10 +8,10 @@ ghost use Rattle.lus_machine.specs.Machines.{IsLawful, entry};
 
 use crate::answers::{SLOTS, answer, answer_twice};
 use crate::program::Program;
+use crate::trace::Trace;
 use lus_eval::Object;
 use lus_program::NodeId;
 use lus_requests::{Entry, Reply, Request};
-use lus_trace::Trace;
 use lus_values::Memory;
 use std::alloc::Global;
 use std::marker::Model;

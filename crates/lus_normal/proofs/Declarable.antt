@@ -16,15 +16,15 @@ use Rattle.lus_streams.specs.Clocks.{Clock, chain, clock_of}
 use Rattle.lus_streams.specs.OnClock.{actuals, test_of}
 use Rattle.lus_streams.proofs.Lists.{each_append, each_item}
 use Rattle.lus_clocks.specs.Fitting.{base_test, name_of, names_in, renamed_by, renamed_first, without_tests}
-use Rattle.lus_typing.specs.Kinds.{common_kind, constructors_in, nothing_declared}
-use Rattle.lus_typing.specs.Resolved.{EquationFits, VariableFits, kind_in, kinds_in, kind_of_variable, kinds_given_in, merged, test_fits, values_of, NodeResolved, Resolved}
-use Rattle.lus_typing.proofs.Numbering.{given-numbered}
-use Rattle.lus_typing.proofs.Options.{and_then_gives, map_gives, where_true_gives}
-use Rattle.lus_typing.proofs.TypedParts.{HasKind, HaveKinds, operate_typed, both_typed, when_typed, merge_typed, call_typed, more_typed, whole_call, whole_typed, fits_given}
+use Rattle.lus_program.specs.Kinds.{common_kind, constructors_in, nothing_declared}
+use Rattle.lus_program.specs.Resolved.{EquationFits, VariableFits, kind_in, kinds_in, kind_of_variable, kinds_given_in, merged, test_fits, values_of, NodeResolved, Resolved}
+use Rattle.lus_program.proofs.Numbering.{given-numbered}
+use Rattle.lus_program.proofs.Options.{and_then_gives, map_gives, where_true_gives}
+use Rattle.lus_program.proofs.TypedParts.{HasKind, HaveKinds, operate_typed, both_typed, when_typed, merge_typed, call_typed, more_typed, whole_call, whole_typed, fits_given}
 use Rattle.lus_normal_form.specs.Forms.{Position, Inside, Operand, is_taken}
 use Rattle.lus_normal.specs.Forms.{Taken, branch_test, argument_test, right_takes, operands_takes, takes}
 use Rattle.lus_normal.specs.Laws.{equations_take}
-use Rattle.lus_typing.specs.Sound.{IsLimited}
+use Rattle.lus_program.specs.Sound.{IsLimited}
 use Rattle.lus_normal.specs.Declarable.{AreDeclarable, Fits, IsDeclarable}
 
 -- without its newest tests

@@ -5,7 +5,7 @@ use Rattle.lus_program.specs.declared.expr.Expr.{Expr}
 use Rattle.lus_program.specs.declared.types.Kind.{Kind}
 use Rattle.lus_program.specs.Programs.{Node, Program}
 use Rattle.lus_program.specs.View.{expression_of, operands_of}
-use Rattle.lus_typing.specs.Given.{given, last_given}
+use Rattle.lus_program.specs.Given.{given, last_given}
 
 module _ (p : Program) (f : Node) where
   pub no_last : (k : Kind) (es : List Expr) → length es ≡ 0 → last_given p f k (operands_of es) ≡ k

@@ -9,8 +9,8 @@ use Rattle.lus_program.specs.declared.node.Program.{Program as StoredProgram}
 use Rattle.lus_program.specs.Parts.{node_parts}
 use Rattle.lus_program.specs.Programs.{calls}
 use Rattle.lus_program.specs.View.{expression_of, equations_from, node_of, program_seen}
-use Rattle.lus_typing.specs.Resolved.{NodeResolved, Resolved}
-use Rattle.lus_typing.specs.Sound.{IsLimited}
+use Rattle.lus_program.specs.Resolved.{NodeResolved, Resolved}
+use Rattle.lus_program.specs.Sound.{IsLimited}
 use Rattle.lus_normal_form.specs.Forms.{equations_count}
 use Rattle.lus_normal_form.proofs.NewAreFew.{new_are_few}
 use Rattle.lus_normal_form.proofs.Numbers.{right_count_numbered}

@@ -4,7 +4,7 @@ use Rattle.lus_values.specs.Lists.{Each}
 use Rattle.lus_syntax.specs.Limits.{most_parts, most_variables}
 use Rattle.lus_program.specs.Parts.{node_parts}
 use Rattle.lus_program.specs.Programs.{empty_node, Equation, Node, node_at, Program}
-use Rattle.lus_typing.specs.Sound.{IsLimited}
+use Rattle.lus_program.specs.Sound.{IsLimited}
 use Rattle.lus_streams.specs.Equations.{equation_clock}
 use Rattle.lus_streams.proofs.Lists.{each_item, each_of_items}
 use Rattle.lus_normal_form.specs.Forms.{equations_count}

@@ -4,7 +4,7 @@ use Rattle.lus_values.specs.Lists.{Each}
 use Rattle.lus_program.specs.declared.expr.Test.{Test}
 use Rattle.lus_program.specs.declared.types.Kind.{Kind}
 use Rattle.lus_program.specs.Programs.{Node, Program}
-use Rattle.lus_typing.specs.Resolved.{kind_in}
+use Rattle.lus_program.specs.Resolved.{kind_in}
 use Rattle.lus_normal.specs.Forms.{Taken}
 
 -- the numbers of a test, if there is one, can be stored as `u32`

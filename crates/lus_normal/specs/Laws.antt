@@ -9,7 +9,7 @@ use Rattle.lus_program.specs.declared.node.Program.{Program as StoredProgram}
 use Rattle.lus_program.specs.Programs.{Node, Program, Variable, node_at}
 use Rattle.lus_program.specs.View.{expression_of, equations_from, node_of, program_seen, variable_of}
 use Rattle.lus_streams.specs.OnClock.{IsOnClocks, ProgramOnClocks, test_of}
-use Rattle.lus_typing.specs.Resolved.{kind_in, Resolved}
+use Rattle.lus_program.specs.Resolved.{kind_in, Resolved}
 use Rattle.lus_streams.specs.Order.{IsCausal}
 use Rattle.lus_normal_form.specs.Laws.{KeepsWorlds}
 use Rattle.lus_normal_form.specs.NormalNodes.{IsNormalOf}

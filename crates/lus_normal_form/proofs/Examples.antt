@@ -10,7 +10,7 @@ use Rattle.lus_streams.specs.Order.{HasOrder}
 use Rattle.lus_streams.specs.Streams.{Streams}
 use Rattle.lus_streams.proofs.Examples.{plain, equation, node, program, one, two, number, some, at_base}
 use Rattle.lus_graph.specs.Ways.{used, Leads, step, then}
-use Rattle.lus_typing.specs.Resolved.{NodeResolved, program_uses, Resolved}
+use Rattle.lus_program.specs.Resolved.{NodeResolved, program_uses, Resolved}
 use Rattle.lus_normal_form.specs.Named.{AreNamed}
 use Rattle.lus_normal_form.specs.NormalNodes.{node_memories, node_firsts, IsNormalNode, IsNormalOf, IsSimpleNode}
 use Rattle.lus_normal_form.specs.Laws.{KeepsWorlds}

@@ -5,8 +5,8 @@ use Rattle.lus_values.specs.Lists.{item, Each, Below}
 use Rattle.lus_program.specs.Programs.{Equation, Node}
 use Rattle.lus_streams.specs.Equations.{given_by, place_in, equation_clock, definition_in}
 use Rattle.lus_streams.proofs.Lists.{each_left, each_right, each_implies, each_both, below_at}
-use Rattle.lus_typing.specs.Kinds.{count}
-use Rattle.lus_typing.specs.Resolved.{targets_of, IsDefined}
+use Rattle.lus_program.specs.Kinds.{count}
+use Rattle.lus_program.specs.Resolved.{targets_of, IsDefined}
 use Rattle.lus_normal_form.specs.Named.{Known, DefinesFirst}
 use Rattle.lus_normal_form.proofs.Targets.{count_append, targets_in}
 

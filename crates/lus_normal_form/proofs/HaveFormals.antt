@@ -17,10 +17,10 @@ use Rattle.lus_streams.proofs.Lists.{each_append, each_both, each_implies, each_
 use Rattle.lus_streams.proofs.Clocks.{actuals_none, chain_none}
 use Rattle.lus_normal_form.proofs.OneTest.{clock_is_chain}
 use Rattle.lus_values.proofs.Lists.{each_found, below_at}
-use Rattle.lus_typing.specs.Kinds.{all_same}
-use Rattle.lus_typing.specs.Resolved.{input_kinds, output_kinds, call_results, results, kind_in, kinds_in, kinds_given_in, EquationFits, NodeResolved, Resolved}
-use Rattle.lus_typing.proofs.Options.{and_then_gives, map_gives, where_true_gives, all_same_is}
-use Rattle.lus_typing.proofs.TypedParts.{HasKind, HaveKinds, IsCall, operate_typed, both_typed, when_typed, merge_typed, call_typed, more_typed, whole_call, whole_typed, fits_given}
+use Rattle.lus_program.specs.Kinds.{all_same}
+use Rattle.lus_program.specs.Resolved.{input_kinds, output_kinds, call_results, results, kind_in, kinds_in, kinds_given_in, EquationFits, NodeResolved, Resolved}
+use Rattle.lus_program.proofs.Options.{and_then_gives, map_gives, where_true_gives, all_same_is}
+use Rattle.lus_program.proofs.TypedParts.{HasKind, HaveKinds, IsCall, operate_typed, both_typed, when_typed, merge_typed, call_typed, more_typed, whole_call, whole_typed, fits_given}
 use Rattle.lus_normal_form.specs.Laws.{IsChain}
 use Rattle.lus_normal_form.specs.Computed.{HaveFormals, HasFormals}
 use Rattle.lus_normal_form.specs.Ready.{Declared, HasArguments, operand_size}

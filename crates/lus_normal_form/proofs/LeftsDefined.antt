@@ -7,7 +7,7 @@ use Rattle.lus_values.specs.Lists.{Each}
 use Rattle.lus_program.specs.Programs.{Equation, Node}
 use Rattle.lus_streams.specs.Equations.{Definition, given_by, place_in, equation_clock, definition_in}
 use Rattle.lus_streams.proofs.Lists.{each_found, each_implies, each_left, each_right}
-use Rattle.lus_typing.specs.Kinds.{count}
+use Rattle.lus_program.specs.Kinds.{count}
 use Rattle.lus_normal_form.proofs.Targets.{count_append, targets_in}
 use Rattle.lus_normal_form.proofs.FirstsDefined.{not_before}
 

@@ -11,7 +11,7 @@ use Rattle.lus_streams.specs.Clocks.{Clock, chain, clock_of, Part, at, parts}
 use Rattle.lus_streams.specs.Equations.{Definition, given_by, place_in, equation_clock, definition_in, definition_of, equation_parts, node_parts, Site, sites, sites_in}
 use Rattle.lus_streams.specs.OnClock.{IsOnClocks, ProgramOnClocks, test_of}
 use Rattle.lus_streams.proofs.Lists.{each_both, each_implies, each_item, each_left, each_right}
-use Rattle.lus_typing.specs.Resolved.{IsDefined, NodeResolved, Resolved}
+use Rattle.lus_program.specs.Resolved.{IsDefined, NodeResolved, Resolved}
 use Rattle.lus_normal_form.specs.NormalForm.{IsRight, StandsFor}
 use Rattle.lus_normal_form.specs.NormalNodes.{AreSites, DefinesNew, EachFrom, IsDefinition, IsNormalNode, IsWithin, count_rights, memories, firsts}
 use Rattle.lus_normal_form.specs.Named.{AreNamed, DefinesFirst, GivesOutput, IsNamed, Known, Uses}

@@ -8,10 +8,10 @@ use Rattle.lus_streams.specs.Equations.{equation_clock, equation_parts, node_par
 use Rattle.lus_streams.specs.Flags.{CallsHaveOutputs, HasOutput}
 use Rattle.lus_streams.specs.OnClock.{IsOnClocks, LeftOnClock, ProgramOnClocks, RightOnClock}
 use Rattle.lus_streams.proofs.Lists.{each_of_items, each_implies, each_item, each_left, each_right}
-use Rattle.lus_typing.specs.Kinds.{count}
-use Rattle.lus_typing.specs.Resolved.{targets_of, NodeResolved, Resolved}
-use Rattle.lus_typing.specs.Resolved.{IsDefined as IsCounted}
-use Rattle.lus_resolved_streams.proofs.CallsResolved.{resolved_calls_have_outputs}
+use Rattle.lus_program.specs.Kinds.{count}
+use Rattle.lus_program.specs.Resolved.{targets_of, NodeResolved, Resolved}
+use Rattle.lus_program.specs.Resolved.{IsDefined as IsCounted}
+use Rattle.lus_streams.proofs.CallsResolved.{resolved_calls_have_outputs}
 use Rattle.lus_normal_form.specs.NormalNodes.{IsNormalNode, IsWithin}
 use Rattle.lus_normal_form.proofs.Equations.{each_within}
 use Rattle.lus_normal_form.proofs.Faults.{first_part}

@@ -11,10 +11,10 @@ use Rattle.lus_streams.specs.OnClock.{MayTest, IsDeclared, test_of, OutputOn, De
 use Rattle.lus_streams.specs.Order.{clock_variables}
 use Rattle.lus_streams.specs.Flags.{HasOutput, OutputIs, CallsHaveOutputs}
 use Rattle.lus_streams.proofs.Lists.{each_of_items, each_left, each_right, each_implies, each_item, below_at}
-use Rattle.lus_typing.specs.Resolved.{EquationFits, NodeResolved, Resolved}
-use Rattle.lus_resolved_streams.proofs.CallsResolved.{output_within, resolved_calls_have_outputs}
+use Rattle.lus_program.specs.Resolved.{EquationFits, NodeResolved, Resolved}
+use Rattle.lus_streams.proofs.CallsResolved.{output_within, resolved_calls_have_outputs}
 use Rattle.lus_values.proofs.Lists.{below_all}
-use Rattle.lus_typing.proofs.TypedParts.{fits_given}
+use Rattle.lus_program.proofs.TypedParts.{fits_given}
 use Rattle.lus_normal_form.specs.NormalForm.{StandsFor, IsRight, IsSimple}
 use Rattle.lus_normal_form.specs.Named.{Uses, Known, GivesOutput, DefinesFirst, AreNamed}
 use Rattle.lus_normal_form.specs.NormalNodes.{IsDefinition, IsWithin, IsNormalOf}

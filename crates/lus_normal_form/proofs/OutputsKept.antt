@@ -7,9 +7,9 @@ use Rattle.lus_streams.specs.Equations.{given_by, place_in, equation_clock, defi
 use Rattle.lus_streams.specs.Flags.{HasOutput, OutputIs}
 use Rattle.lus_streams.proofs.Lists.{each_append, each_left, each_right}
 use Rattle.lus_streams.proofs.Definitions.{place_within}
-use Rattle.lus_typing.specs.Resolved.{EquationFits, NodeResolved}
-use Rattle.lus_resolved_streams.proofs.CallsResolved.{output_within}
-use Rattle.lus_typing.proofs.TypedParts.{fits_given}
+use Rattle.lus_program.specs.Resolved.{EquationFits, NodeResolved}
+use Rattle.lus_streams.proofs.CallsResolved.{output_within}
+use Rattle.lus_program.proofs.TypedParts.{fits_given}
 use Rattle.lus_normal_form.specs.Forms.{right_count, right_form, right_out, added_equations, normal_equations}
 use Rattle.lus_normal_form.specs.Parts.{right_taken, equations_taken}
 use Rattle.lus_normal_form.specs.Ready.{HasOutputs}

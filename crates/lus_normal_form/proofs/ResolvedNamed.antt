@@ -16,11 +16,11 @@ use Rattle.lus_streams.specs.Flags.{HasOutput, OutputIs, CallsHaveOutputs}
 use Rattle.lus_streams.proofs.Calls.{OfCall, parts_of_sites}
 use Rattle.lus_streams.proofs.Definitions.{RightParts, right_parts, defined_on_clock}
 use Rattle.lus_streams.proofs.Lists.{each_left, each_append, each_both, each_implies, each_item, each_map_drop, below_at}
-use Rattle.lus_typing.specs.Resolved.{values_of, kind_of_variable, kinds_given_in, EquationFits, NodeResolved}
-use Rattle.lus_resolved_streams.proofs.CallsResolved.{resolved_calls_have_outputs}
-use Rattle.lus_resolved_streams.proofs.NeedsResolved.{resolved_needs_are_variables}
-use Rattle.lus_typing.proofs.Options.{map_gives}
-use Rattle.lus_typing.proofs.TypedParts.{HasKind, HaveKinds, operate_typed, both_typed, when_typed, merge_typed, call_typed, more_typed, whole_call, whole_typed, fits_given}
+use Rattle.lus_program.specs.Resolved.{values_of, kind_of_variable, kinds_given_in, EquationFits, NodeResolved}
+use Rattle.lus_streams.proofs.CallsResolved.{resolved_calls_have_outputs}
+use Rattle.lus_streams.proofs.NeedsResolved.{resolved_needs_are_variables}
+use Rattle.lus_program.proofs.Options.{map_gives}
+use Rattle.lus_program.proofs.TypedParts.{HasKind, HaveKinds, operate_typed, both_typed, when_typed, merge_typed, call_typed, more_typed, whole_call, whole_typed, fits_given}
 use Rattle.lus_normal_form.specs.Named.{Names, Uses, IsCalled, Known, OutputKnown, GivesOutput, DefinitionFits, DefinesFirst, IsNamed}
 use Rattle.lus_normal_form.specs.Laws.{ResolvedAreNamed}
 use Rattle.lus_normal_form.proofs.FirstsDefined.{equations_define}

@@ -3,7 +3,7 @@ use Rattle.std.proofs.Common.{◌≡◌, refl, sym, subst, ℕ, suc, ◌+◌, Li
 use Rattle.lus_program.specs.Programs.{Expression, literal, variable, operate, pre, arrow, when, merge, call, Operands, none, more, calls, all_calls, numbered, all_numbered, Equation, Node, Program, node_at}
 use Rattle.lus_streams.specs.Clocks.{Clock, Part, formal_clock, base_of, branch_clock, parts, all_parts}
 use Rattle.lus_streams.specs.Equations.{equation_clock, equation_parts, sites_in}
-use Rattle.lus_typing.specs.Resolved.{AreNumbered}
+use Rattle.lus_program.specs.Resolved.{AreNumbered}
 use Rattle.lus_normal_form.specs.Named.{Numbered}
 
 module _ (p : Program) where

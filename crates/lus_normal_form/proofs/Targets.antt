@@ -5,8 +5,8 @@ use Rattle.std.specs.Prelude.{flat_map}
 use Rattle.lus_values.specs.Lists.{Each, Below}
 use Rattle.lus_program.specs.Programs.{Expression, Equation, Node}
 use Rattle.lus_streams.proofs.Lists.{each_append, each_implies, each_left, each_right, below_at}
-use Rattle.lus_typing.specs.Kinds.{count}
-use Rattle.lus_typing.specs.Resolved.{definitions, targets_of, IsDefined}
+use Rattle.lus_program.specs.Kinds.{count}
+use Rattle.lus_program.specs.Resolved.{definitions, targets_of, IsDefined}
 use Rattle.lus_normal_form.specs.Forms.{right_count, right_out, added_equations, normal_equations}
 use Rattle.lus_normal_form.proofs.Counted.{out_count}
 

@@ -6,7 +6,7 @@ use Rattle.lus_program.specs.Parts.{node_parts as parts_in}
 use Rattle.lus_streams.specs.Clocks.{Clock, clock_of, Part, at, operand, parts}
 use Rattle.lus_streams.specs.Equations.{node_parts}
 use Rattle.lus_streams.specs.OnClock.{IsName, ProgramOnClocks}
-use Rattle.lus_typing.specs.Resolved.{Resolved}
+use Rattle.lus_program.specs.Resolved.{Resolved}
 use Rattle.lus_normal_form.specs.NormalForm.{IsRight, StandsFor}
 use Rattle.lus_normal_form.specs.NormalNodes.{EachFrom, IsNormalOf, IsWithin}
 use Rattle.lus_normal_form.specs.Forms.{right_form, equations_count}

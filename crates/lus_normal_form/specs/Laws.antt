@@ -8,7 +8,7 @@ use Rattle.lus_streams.specs.Equations.{node_parts, Site, sites}
 use Rattle.lus_streams.specs.OnClock.{IsOnClocks, ProgramOnClocks}
 use Rattle.lus_streams.specs.Streams.{Instant, instant, Called, nobody, also, World, Satisfies, Streams}
 use Rattle.lus_streams.specs.Order.{HasOrder}
-use Rattle.lus_typing.specs.Resolved.{Resolved}
+use Rattle.lus_program.specs.Resolved.{Resolved}
 use Rattle.lus_normal_form.specs.Named.{AreNamed}
 use Rattle.lus_normal_form.specs.NormalNodes.{IsNormalNode, IsNormalOf, IsSimpleNode}
 

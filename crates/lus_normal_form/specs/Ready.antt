@@ -6,7 +6,7 @@ use Rattle.lus_program.specs.Programs.{Expression, call, Operands, none, more, E
 use Rattle.lus_streams.specs.Clocks.{Part, at}
 use Rattle.lus_streams.specs.Equations.{given_by, definition_of, equation_clock, node_parts}
 use Rattle.lus_streams.specs.OnClock.{IsDeclared, IsOnClocks, ProgramOnClocks, test_of}
-use Rattle.lus_typing.specs.Resolved.{Resolved}
+use Rattle.lus_program.specs.Resolved.{Resolved}
 use Rattle.lus_normal_form.specs.Named.{IsNamed}
 use Rattle.lus_normal_form.specs.NormalNodes.{IsSimpleNode}
 use Rattle.lus_normal_form.specs.Computed.{HaveFormals}

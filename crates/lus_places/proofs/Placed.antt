@@ -2,8 +2,8 @@
 use Rattle.std.proofs.Common.{◌≡◌, ◌∙◌, ℕ, suc, ◌<◌, ◌≤◌, List, [], ◌∷◌, length, drop, get_or, sym, ap, subst, arith}
 use Rattle.std.proofs.Math.Seq.{drop-cons}
 use Rattle.lus_values.specs.Lists.{item}
-use Rattle.lus_flat_classes.specs.declared.class.Extent.{Extent}
-use Rattle.lus_flat_classes.specs.declared.class.Call.{Call}
+use Rattle.lus_instructions.specs.declared.class.Extent.{Extent}
+use Rattle.lus_instructions.specs.declared.class.Call.{Call}
 use Rattle.lus_places.specs.Placing.{no_room, together, parts_end, PlacedAreWell}
 
 -- one extent is within another

@@ -5,9 +5,9 @@ use Rattle.std.proofs.lemmas.List.Sums.{sum_by-cons}
 use Rattle.std.proofs.lemmas.Option.{slice_get_within, slice_get-get_or}
 use Rattle.lus_values.specs.Lists.{item}
 use Rattle.lus_graph.specs.Ways.{IsOrder}
-use Rattle.lus_flat_classes.specs.declared.class.Call.{Call}
-use Rattle.lus_flat_classes.specs.declared.class.Class.{Class}
-use Rattle.lus_flat_classes.specs.declared.class.Extent.{Extent}
+use Rattle.lus_instructions.specs.declared.class.Call.{Call}
+use Rattle.lus_instructions.specs.declared.class.Class.{Class}
+use Rattle.lus_instructions.specs.declared.class.Extent.{Extent}
 use Rattle.lus_places.specs.Few.{AreAsLong, AreFew, CanBeStored, KeepTo}
 use Rattle.lus_places.specs.Placing.{no_room, together, parts_end, room_with}
 use Rattle.lus_places.specs.Shaped.{class_uses}

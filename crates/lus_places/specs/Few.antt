@@ -1,8 +1,8 @@
 -- What keeps the places of classes within the numbers that are stored: counts that each class keeps to.
 use Rattle.std.specs.Prelude.{◌≡◌, ℕ, ◌+◌, ◌^◌, ◌<◌, ◌≤◌, List, length, sum_by, Some, slice_get}
 use Rattle.lus_values.specs.Lists.{item}
-use Rattle.lus_flat_classes.specs.declared.class.Extent.{Extent}
-use Rattle.lus_flat_classes.specs.declared.class.Class.{Class}
+use Rattle.lus_instructions.specs.declared.class.Extent.{Extent}
+use Rattle.lus_instructions.specs.declared.class.Class.{Class}
 
 -- the numbers of an extent can be stored
 pub record CanBeStored (e : Extent) : Type 0 where

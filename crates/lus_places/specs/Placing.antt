@@ -2,10 +2,10 @@
 use Rattle.std.specs.Prelude.{◌≡◌, ℕ, ◌+◌, ◌≤◌, List, [], ◌∷◌, Some, Vec, length, slice_get}
 use Rattle.std.specs.Global.{Global}
 use Rattle.lus_values.specs.Lists.{item, Each}
-use Rattle.lus_flat_classes.specs.declared.class.Extent.{Extent}
-use Rattle.lus_flat_classes.specs.declared.class.Call.{Call}
-use Rattle.lus_flat_classes.specs.declared.class.Class.{Class}
-use Rattle.lus_flat_classes.specs.Places.{InOrder}
+use Rattle.lus_instructions.specs.declared.class.Extent.{Extent}
+use Rattle.lus_instructions.specs.declared.class.Call.{Call}
+use Rattle.lus_instructions.specs.declared.class.Class.{Class}
+use Rattle.lus_instructions.specs.Places.{InOrder}
 
 -- room for nothing
 abbrev pub no_room : Extent

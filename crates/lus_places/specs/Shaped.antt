@@ -4,9 +4,9 @@ use Rattle.lus_values.specs.Lists.{Each}
 use Rattle.lus_graph.specs.Ways.{IsOrder, Uses}
 use Rattle.lus_classes.specs.Classes.{Class as PlainClass}
 use Rattle.lus_classes.specs.States.{WithinDepth}
-use Rattle.lus_flat_classes.specs.declared.class.Call.{Call}
-use Rattle.lus_flat_classes.specs.declared.class.Class.{Class}
-use Rattle.lus_flat_classes.specs.Turns.{HasTurns}
+use Rattle.lus_instructions.specs.declared.class.Call.{Call}
+use Rattle.lus_instructions.specs.declared.class.Class.{Class}
+use Rattle.lus_instructions.specs.Turns.{HasTurns}
 
 -- a call is of one of the classes, and has an argument for each of its inputs
 pub record CallsClass (classes : List Class) (q : Call) : Type 0 where

@@ -2,15 +2,15 @@
 
 ghost use Rattle.std.specs.Prelude.{◌≡◌, ℕ, List, map, IfOk, OnOk};
 ghost use Rattle.lus_graph.specs.Walks.{uses_of};
-ghost use Rattle.lus_flat_classes.specs.Turns.{AreReady};
-ghost use Rattle.lus_flat_classes.specs.View.{classes_of};
+ghost use Rattle.lus_instructions.specs.Turns.{AreReady};
+ghost use Rattle.lus_instructions.specs.View.{classes_of};
 ghost use Rattle.lus_places.specs.Few.{AreAsLong, AreFew, KeepTo};
 ghost use Rattle.lus_places.specs.Placing.{KeepSteps};
 ghost use Rattle.lus_places.specs.Shaped.{AreNested, CanAllBePlaced, IsCallOrder, class_uses};
 
 use crate::room::place_class;
-use lus_flat_classes::{Call, Class, Extent};
 use lus_graph::{GraphError, order_of};
+use lus_instructions::{Call, Class, Extent};
 use lus_values::Memory;
 use std::alloc::Global;
 

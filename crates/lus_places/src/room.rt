@@ -5,7 +5,7 @@ ghost use Rattle.lus_values.specs.Lists.{item};
 ghost use Rattle.lus_places.specs.Few.{CanBeStored};
 ghost use Rattle.lus_places.specs.Placing.{IsPlaced, no_room, parts_end, placed_calls, room_with as room_for_class, together};
 
-use lus_flat_classes::{Call, Class, Extent};
+use lus_instructions::{Call, Class, Extent};
 
 /// Room for two parts, one behind the other.
 fn room_for(a: Extent, b: Extent) -> Extent

@@ -4,13 +4,13 @@ ghost use Rattle.std.specs.Prelude.{◌≡◌, IfOk, OnOk};
 ghost use Rattle.lus_program.specs.View.{node_of, program_seen};
 ghost use Rattle.lus_normal_form.specs.Ready.{IsDefined, IsReady};
 ghost use Rattle.lus_order.specs.Orders.{OrdersVariables};
-ghost use Rattle.lus_flat_classes.specs.Turns.{AreReady};
-ghost use Rattle.lus_flat_classes.specs.View.{classes_of};
+ghost use Rattle.lus_instructions.specs.Turns.{AreReady};
+ghost use Rattle.lus_instructions.specs.View.{classes_of};
 ghost use Rattle.lus_places.specs.Few.{AreFew};
 ghost use Rattle.lus_places.specs.Shaped.{AreNested, CanAllBePlaced};
 ghost use Rattle.lus_turns.specs.Turned.{IsTurned};
 
-use lus_flat_classes::Class;
+use lus_instructions::Class;
 use lus_places::{order_of_classes, place_classes};
 use lus_program::{Node, Program};
 use lus_turns::class_of;

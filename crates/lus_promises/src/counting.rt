@@ -4,15 +4,14 @@ ghost use Rattle.std.specs.Prelude.{◌≡◌, ◌<◌, length, min, IfOk, IfErr
 ghost use Rattle.lus_syntax.specs.declared.refusal.RefusalNumber.TheVariants as numbers;
 ghost use Rattle.lus_program.specs.Programs.{node_at};
 ghost use Rattle.lus_program.specs.View.{program_seen};
-ghost use Rattle.lus_typing.specs.Refusals.{RefusesFor};
+ghost use Rattle.lus_program.specs.Refusals.{RefusesFor};
 ghost use Rattle.lus_normal_form.specs.NormalNodes.{node_firsts, node_memories};
 ghost use Rattle.lus_cells.specs.Cells.{AreStateCells, FitsCells};
 
 use lus_cells::cells_of_nodes;
 use lus_normal::Normal;
-use lus_program::NodeId;
+use lus_program::{NodeId, Sound};
 use lus_syntax::Refusal;
-use lus_typing::Sound;
 use std::alloc::Global;
 
 /// How many memories and how many marks of a first instant stand in a node.

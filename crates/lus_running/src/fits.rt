@@ -5,7 +5,7 @@ ghost use Rattle.lus_values.specs.View.{entry_of};
 ghost use Rattle.lus_running.specs.Fits.{FitsLook, FitsPresence, InputsTestInputs};
 
 use crate::presence::is_present;
-use lus_flat_classes::Class;
+use lus_instructions::Class;
 use lus_values::Value;
 
 /// Whether an input is present exactly where the newest test of its clock holds, if it has one.

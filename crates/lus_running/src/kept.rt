@@ -5,9 +5,8 @@ ghost use Rattle.lus_running.specs.Keeping.{AreAlike, AreMany, AreSetBack, AtSta
 
 use crate::keeping::{copy_cells, copy_flags};
 use crate::resetting::{empty_all, filled, set_all, set_flags};
-use lus_flat_classes::Extent;
 use lus_instructions::words::Word;
-use lus_instructions::{Held, Stop};
+use lus_instructions::{Extent, Held, Stop};
 use lus_values::Memory;
 use std::alloc::Global;
 

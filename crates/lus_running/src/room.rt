@@ -12,9 +12,8 @@ use crate::error::Failure;
 use crate::kept::Kept;
 use crate::resetting::filled;
 use crate::setting::Setting;
-use lus_flat_classes::Extent;
-use lus_instructions::Held;
 use lus_instructions::words::Word;
+use lus_instructions::{Extent, Held};
 use lus_values::{Memory, Row, Value};
 use std::alloc::Global;
 

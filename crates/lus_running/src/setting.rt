@@ -1,7 +1,7 @@
 //! What instants are run on.
 
-use lus_flat_classes::Class;
 use lus_frames::Class as Framed;
+use lus_instructions::Class;
 use lus_keeping::Plan;
 use std::alloc::Global;
 

@@ -8,7 +8,7 @@ use Rattle.lus_program.specs.declared.types.Kind.{Kind}
 use Rattle.lus_program.specs.Programs.{Field}
 use Rattle.lus_source.specs.Meaning.{program_of}
 use Rattle.lus_source.specs.Sized.{Counted, DefinitionCounted, field_count}
-use Rattle.lus_typing.specs.Sound.{HasFields, HaveFields}
+use Rattle.lus_program.specs.Sound.{HasFields, HaveFields}
 use Rattle.lus_source.specs.Tables.{declared_as, fields_by, fields_of_kind, kind_named}
 use Rattle.std.specs.Prelude.{slice_get, string_bytes}
 use Rattle.std.specs.List.{list_all}
@@ -16,7 +16,7 @@ use Rattle.std.specs.Str.{bytes_eq}
 use Rattle.lus_program.specs.declared.types.Declared.{Declared as StoredDeclared}
 use Rattle.lus_program.specs.declared.types.Field.{Field as StoredField}
 use Rattle.lus_program.specs.View.{declared_of, field_of}
-use Rattle.lus_typing.specs.Kinds.{fields_in}
+use Rattle.lus_program.specs.Kinds.{fields_in}
 use Rattle.lus_source.specs.Labels.{field_from, has_few_fields}
 use Rattle.std.proofs.lemmas.Bool.{leb-true}
 use Rattle.lus_values.proofs.Equalities.{and_left, and_right}

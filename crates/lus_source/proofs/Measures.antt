@@ -18,10 +18,10 @@ use Rattle.lus_syntax.specs.View.{tree_seen, type_seen, node_seen}
 use Rattle.lus_program.specs.declared.types.Declared.{Declared as StoredDeclared}
 use Rattle.lus_program.specs.View.{declared_of}
 use Rattle.lus_program.specs.Programs.{Declared, structure}
-use Rattle.lus_typing.specs.Kinds.{nothing_declared}
-use Rattle.lus_typing.specs.Leaves.{declared_leaves, AreTheLeaves}
-use Rattle.lus_typing.specs.Sound.{declared_uses}
-use Rattle.lus_typing.proofs.OneTable.{declared_alike, the_leaves}
+use Rattle.lus_program.specs.Kinds.{nothing_declared}
+use Rattle.lus_program.specs.Leaves.{declared_leaves, AreTheLeaves}
+use Rattle.lus_program.specs.Sound.{declared_uses}
+use Rattle.lus_program.proofs.OneTable.{declared_alike, the_leaves}
 use Rattle.lus_source.specs.Loopless.{type_uses, calls_of, node_names, node_uses}
 use Rattle.lus_source.specs.Meaning.{program_of}
 use Rattle.lus_source.proofs.FieldsMeant.{meant_fields}

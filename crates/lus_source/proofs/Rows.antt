@@ -23,7 +23,7 @@ use Rattle.lus_source.specs.Meaning.{meant, equation_meant, program_of}
 use Rattle.lus_source.specs.WellTyped.{memory_fits, IsTyped}
 use Rattle.lus_values.specs.Lists.{Each}
 use Rattle.lus_program.specs.declared.types.Kind.{Kind}
-use Rattle.lus_typing.specs.Resolved.{EquationFits, NodeResolved}
+use Rattle.lus_program.specs.Resolved.{EquationFits, NodeResolved}
 
 -- the type of an expression of a text
 abbrev kind_of : Scope → tree.Expression → Option Kind

@@ -16,7 +16,7 @@ use Rattle.lus_source.specs.Loopless.{place_in, type_names, named_type, definiti
 use Rattle.lus_graph.specs.Along.{within}
 use Rattle.lus_source.specs.Tables.{of_type, definition_at, no_definition, definition_kind, kind_named, fields_declared, declared_as}
 use Rattle.lus_source.specs.Meaning.{program_of}
-use Rattle.lus_typing.specs.Sound.{structures_in, declared_uses, type_uses}
+use Rattle.lus_program.specs.Sound.{structures_in, declared_uses, type_uses}
 use Rattle.std.specs.Prelude.{slice_get}
 use Rattle.lus_syntax.specs.declared.tree.Tree.{Tree as StoredTree}
 use Rattle.lus_syntax.specs.declared.tree.TypeDeclaration.{TypeDeclaration as StoredType}

@@ -3,7 +3,7 @@
 use Rattle.std.specs.Prelude.{◌++◌, List, [], Option, None, length, map}
 use Rattle.lus_program.specs.declared.types.Kind.{Kind}
 use Rattle.lus_program.specs.Programs.{Expression, Operands, Variable, Node, Program, empty_node}
-use Rattle.lus_typing.specs.Resolved.{kind_in, kinds_in}
+use Rattle.lus_program.specs.Resolved.{kind_in, kinds_in}
 use Rattle.lus_source.specs.Scopes.{Scope, Signature}
 
 -- a variable of this type

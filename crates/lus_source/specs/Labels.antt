@@ -11,8 +11,8 @@ use Rattle.lus_program.specs.declared.expr.Test.{Test as PlacedTest}
 use Rattle.lus_program.specs.declared.types.Kind.{Kind}
 use Rattle.lus_program.specs.declared.types.Kind.TheVariants as kinds
 use Rattle.lus_program.specs.Programs.{Declared, Field as DeclaredField}
-use Rattle.lus_typing.specs.Kinds.{same, where_true, count, fields_in}
-use Rattle.lus_typing.specs.Resolved.{declared_in, values_of}
+use Rattle.lus_program.specs.Kinds.{same, where_true, count, fields_in}
+use Rattle.lus_program.specs.Resolved.{declared_in, values_of}
 use Rattle.lus_source.specs.declared.entries.Placed.{Placed}
 use Rattle.lus_source.specs.Heads.{heads}
 use Rattle.lus_source.specs.Scopes.{Scope, entry}

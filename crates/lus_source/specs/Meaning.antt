@@ -19,7 +19,7 @@ use Rattle.lus_program.specs.declared.expr.Test.{Test}
 use Rattle.lus_program.specs.declared.types.Kind.{Kind}
 use Rattle.lus_program.specs.declared.types.Kind.TheVariants as kinds
 use Rattle.lus_program.specs.Programs.{Expression, literal, variable, operate, pre, arrow, fby, when, merge, call, Operands, none, more, calls, numbered, Variable, Equation, Node, Program}
-use Rattle.lus_typing.specs.Kinds.{where_true}
+use Rattle.lus_program.specs.Kinds.{where_true}
 use Rattle.lus_source.specs.Scopes.{Scope, entry}
 use Rattle.lus_source.specs.Heads.{kind_by}
 use Rattle.lus_source.specs.Tables.{scope, groups, group_kinds, kind_named, declared_as}

@@ -6,9 +6,9 @@ use Rattle.lus_values.specs.Lists.{item, Each, Below}
 use Rattle.lus_graph.specs.Along.{IsLocal, within}
 use Rattle.lus_graph.specs.Ways.{Uses, used}
 use Rattle.lus_program.specs.Programs.{Declared, structure}
-use Rattle.lus_typing.specs.Kinds.{nothing_declared}
-use Rattle.lus_typing.specs.Leaves.{declared_leaves}
-use Rattle.lus_typing.specs.Sound.{declared_uses}
+use Rattle.lus_program.specs.Kinds.{nothing_declared}
+use Rattle.lus_program.specs.Leaves.{declared_leaves}
+use Rattle.lus_program.specs.Sound.{declared_uses}
 use Rattle.lus_source.specs.Tables.{groups}
 use Rattle.lus_source.specs.Loopless.{node_uses}
 use Rattle.lus_source.specs.Meaning.{program_of}

@@ -1,5 +1,5 @@
 -- What is well typed: constants, the tests and equations of the nodes that are meant, and functions, which have no memory. The types of
--- expressions are those of the program (lus_typing, Resolved).
+-- expressions are those of the program (lus_program, Resolved).
 use Rattle.std.specs.Prelude.{◌&&◌, Bool, true, false, not, Some, None, List, IsTrue}
 use Rattle.std.specs.List.{list_all}
 use Rattle.lus_syntax.specs.declared.tree.NodeKind.{NodeKind}
@@ -13,8 +13,8 @@ use Rattle.lus_syntax.specs.Trees.{Expression, Numeral, Truth, Name, Call, Struc
 use Rattle.lus_values.specs.Lists.{Each}
 use Rattle.lus_values.specs.Values.{Value}
 use Rattle.lus_program.specs.declared.types.Kind.{Kind}
-use Rattle.lus_typing.specs.Kinds.{same, value_kind}
-use Rattle.lus_typing.specs.Resolved.{VariableFits, EquationFits}
+use Rattle.lus_program.specs.Kinds.{same, value_kind}
+use Rattle.lus_program.specs.Resolved.{VariableFits, EquationFits}
 use Rattle.lus_source.specs.Scopes.{Scope, entry}
 use Rattle.lus_source.specs.Tables.{scope, literal_value, kind_named}
 use Rattle.lus_source.specs.Meaning.{node_meant, program_of}

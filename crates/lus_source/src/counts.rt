@@ -6,7 +6,7 @@ ghost use Rattle.lus_source.specs.Sized.{Counted as IsCounted, DefinitionCounted
 ghost use Rattle.std.specs.Bool.{Decides};
 ghost use Rattle.lus_syntax.specs.declared.refusal.RefusalNumber.TheVariants as numbers;
 ghost use Rattle.lus_syntax.specs.Limits.{most_variables};
-ghost use Rattle.lus_typing.specs.Refusals.{RefusesFor};
+ghost use Rattle.lus_program.specs.Refusals.{RefusesFor};
 ghost use Rattle.lus_source.specs.Tables.{groups};
 ghost use Rattle.lus_source.specs.Limits.{AreLeft};
 

@@ -4,7 +4,7 @@ ghost use Rattle.std.specs.Prelude.{◌≡◌, IfErr, IfOk, OnOk};
 ghost use Rattle.lus_graph.specs.Ways.{IsOrder, HasNoWayBack};
 ghost use Rattle.lus_syntax.specs.declared.refusal.RefusalNumber.TheVariants as numbers;
 ghost use Rattle.lus_syntax.specs.View.{tree_seen};
-ghost use Rattle.lus_typing.specs.Refusals.{RefusesFor};
+ghost use Rattle.lus_program.specs.Refusals.{RefusesFor};
 ghost use Rattle.lus_source.specs.Loopless.{Loopless as IsLoopless, node_uses as calls_of_nodes, type_names as names_of_types, type_uses as uses_of_types};
 ghost use Rattle.lus_source.specs.Named.{Named as IsNamed};
 ghost use Rattle.lus_source.specs.ScopeView.{Judged, Faulty};

@@ -3,7 +3,7 @@
 ghost use Rattle.std.specs.Prelude.{◌≡◌, ◌<◌, [], IfErr, IfOk, OnOk, length, map};
 ghost use Rattle.lus_syntax.specs.declared.refusal.RefusalNumber.TheVariants as numbers;
 ghost use Rattle.lus_syntax.specs.View.{tree_seen};
-ghost use Rattle.lus_typing.specs.Refusals.{RefusesFor};
+ghost use Rattle.lus_program.specs.Refusals.{RefusesFor};
 ghost use Rattle.lus_source.specs.Loopless.{node_names, type_names};
 ghost use Rattle.lus_source.specs.Named.{Named as IsNamed, known, names_in};
 ghost use Rattle.lus_source.specs.Parts.{UsesKnown};

@@ -72,7 +72,7 @@ impl<'a> Scope<'a> {
     ghost use Rattle.std.specs.Prelude.{◌≡◌, ◌≤◌, IfOk, length, map, option_map, slice_get};
     ghost use Rattle.lus_values.specs.View.{value_of};
     ghost use Rattle.lus_program.specs.View.{field_of};
-    ghost use Rattle.lus_typing.specs.Resolved.{kind_of_variable};
+    ghost use Rattle.lus_program.specs.Resolved.{kind_of_variable};
     ghost use Rattle.lus_source.specs.Scopes.{entry};
     ghost use Rattle.lus_source.specs.Heads.{head, head_of, heads};
     ghost use Rattle.lus_source.specs.ScopeView.{scope_of, signature_of};

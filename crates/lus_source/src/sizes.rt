@@ -6,10 +6,10 @@ ghost use Rattle.lus_syntax.specs.declared.refusal.RefusalNumber.TheVariants as 
 ghost use Rattle.lus_syntax.specs.Limits.{most_leaves, most_calls_deep, most_nesting};
 ghost use Rattle.lus_syntax.specs.View.{tree_seen};
 ghost use Rattle.lus_program.specs.View.{declared_of, field_of};
-ghost use Rattle.lus_typing.specs.Kinds.{nothing_declared};
-ghost use Rattle.lus_typing.specs.Leaves.{AreTheLeaves, declared_leaves, kind_leaves};
-ghost use Rattle.lus_typing.specs.Refusals.{RefusesFor};
-ghost use Rattle.lus_typing.specs.Sound.{declared_uses, structures_in};
+ghost use Rattle.lus_program.specs.Kinds.{nothing_declared};
+ghost use Rattle.lus_program.specs.Leaves.{AreTheLeaves, declared_leaves, kind_leaves};
+ghost use Rattle.lus_program.specs.Refusals.{RefusesFor};
+ghost use Rattle.lus_program.specs.Sound.{declared_uses, structures_in};
 ghost use Rattle.lus_source.specs.Meaning.{program_of};
 ghost use Rattle.lus_source.specs.ScopeView.{Judged};
 ghost use Rattle.lus_source.specs.Sized.{AreWithin, Bounded, leaves_at, call_depth_at, declared_nesting, greatest, nesting_at, IsMeasure};

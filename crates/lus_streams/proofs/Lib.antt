@@ -12,3 +12,7 @@ pub mod FlagLaw
 pub mod Examples
 pub mod Judged
 pub mod Sequences
+pub mod CallParts
+pub mod CallsResolved
+pub mod NeedsResolved
+mod ResolvedExamples

@@ -6,3 +6,4 @@ pub mod Throughout
 pub mod Order
 pub mod Flags
 pub mod Laws
+pub mod ResolvedLaws

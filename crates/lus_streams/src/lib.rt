@@ -3,6 +3,10 @@
 
 ghost use Rattle.lus_streams.specs.Laws.{CausalStreamsAreUnique, FlagsHoldInWorlds};
 
+mod resolved;
+
+pub use resolved::{calls_have_outputs, needs_variables};
+
 /// For each node of a causal program on clocks, and for each list of inputs, there is at most one world: one row of
 /// variables at each instant, and one world of each called node.
 pub fn streams_are_unique()

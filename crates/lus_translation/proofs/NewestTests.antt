@@ -13,11 +13,11 @@ use Rattle.lus_streams.specs.OnClock.{test_of}
 use Rattle.lus_classes.specs.Classes.{Memory, Argument, Call, Class}
 use Rattle.lus_normal_form.specs.Laws.{IsChain}
 use Rattle.lus_normal_form.proofs.OneTest.{clock_is_chain}
-use Rattle.lus_flat_classes.specs.declared.class.Cell.{Cell}
-use Rattle.lus_flat_classes.specs.declared.class.Argument.{Argument as StoredArgument}
-use Rattle.lus_flat_classes.specs.declared.class.Call.{Call as StoredCall}
-use Rattle.lus_flat_classes.specs.declared.class.Class.{Class as StoredClass}
-use Rattle.lus_flat_classes.specs.View.{chain_in, clock_from, memory_of, argument_of, call_of, class_of}
+use Rattle.lus_instructions.specs.declared.class.Cell.{Cell}
+use Rattle.lus_instructions.specs.declared.class.Argument.{Argument as StoredArgument}
+use Rattle.lus_instructions.specs.declared.class.Call.{Call as StoredCall}
+use Rattle.lus_instructions.specs.declared.class.Class.{Class as StoredClass}
+use Rattle.lus_instructions.specs.View.{chain_in, clock_from, memory_of, argument_of, call_of, class_of}
 use Rattle.lus_translation.specs.Forms.{all_clocks, class_form, numbers_form}
 use Rattle.lus_translation.specs.Laws.{IsFittingRight, NewestSuffice}
 use Rattle.lus_translation.specs.Newest.{newest, Tested, TestedCall, cell_seen, argument_seen, call_seen, tested_memory, tested_argument, tested_call, HasNewest}

@@ -4,11 +4,11 @@ use Rattle.lus_program.specs.declared.expr.Test.{Test}
 use Rattle.lus_program.specs.Programs.{Variable, Node}
 use Rattle.lus_streams.specs.Clocks.{Clock}
 use Rattle.lus_classes.specs.Classes.{Atom, Memory, Argument, Call, Class}
-use Rattle.lus_flat_classes.specs.declared.class.Cell.{Cell}
-use Rattle.lus_flat_classes.specs.declared.class.Argument.{Argument as StoredArgument}
-use Rattle.lus_flat_classes.specs.declared.class.Call.{Call as StoredCall}
-use Rattle.lus_flat_classes.specs.declared.class.Class.{Class as StoredClass}
-use Rattle.lus_flat_classes.specs.View.{atom_of, steps_of}
+use Rattle.lus_instructions.specs.declared.class.Cell.{Cell}
+use Rattle.lus_instructions.specs.declared.class.Argument.{Argument as StoredArgument}
+use Rattle.lus_instructions.specs.declared.class.Call.{Call as StoredCall}
+use Rattle.lus_instructions.specs.declared.class.Class.{Class as StoredClass}
+use Rattle.lus_instructions.specs.View.{atom_of, steps_of}
 
 abbrev pub newest : Clock → Option Test
 newest [] = None

@@ -2,11 +2,11 @@
 
 ghost use Rattle.std.specs.Prelude.{◌≡◌, IfOk};
 ghost use Rattle.lus_program.specs.View.{expression_of};
-ghost use Rattle.lus_flat_classes.specs.View.{atom_of as atom_in, code_of as code_in};
+ghost use Rattle.lus_instructions.specs.View.{atom_of as atom_in, code_of as code_in};
 ghost use Rattle.lus_classes.specs.ClassesOf.{atom_code};
 ghost use Rattle.lus_translation.specs.Forms.{atom_form};
 
-use lus_flat_classes::{Atom, Formula};
+use lus_instructions::{Atom, Formula};
 use lus_program::{Expr, Form};
 use lus_values::{Memory, Value, copy};
 use std::alloc::Global;

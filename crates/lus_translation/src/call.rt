@@ -12,7 +12,7 @@ use crate::atom::atom_of;
 use crate::clock::{clock_at, newest, without_tests};
 use crate::numbers::number_of;
 use lus_clocks::{inputs_at, variables_at};
-use lus_flat_classes::{Argument, Call, Extent};
+use lus_instructions::{Argument, Call, Extent};
 use lus_program::{Expr, Form, Program, Test, Variable};
 use lus_values::Memory;
 use std::alloc::Global;

@@ -11,7 +11,7 @@ ghost use Rattle.lus_translation.specs.Building.{calls_from, AddsCall};
 use crate::call::call_of;
 use crate::clock::clock_at;
 use crate::numbers::next;
-use lus_flat_classes::Call;
+use lus_instructions::Call;
 use lus_program::{Equation, Expr, Form, Node, Program, Test};
 use lus_values::Memory;
 use std::alloc::Global;

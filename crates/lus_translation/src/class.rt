@@ -3,7 +3,7 @@
 ghost use Rattle.std.specs.Prelude.{◌≡◌, Some, [], IfOk, OnOk, length};
 ghost use Rattle.lus_program.specs.View.{node_of};
 ghost use Rattle.lus_values.specs.Lists.{Each};
-ghost use Rattle.lus_flat_classes.specs.Parts.{AreParts};
+ghost use Rattle.lus_instructions.specs.Parts.{AreParts};
 ghost use Rattle.lus_translation.specs.Making.{GivesAny};
 ghost use Rattle.lus_translation.specs.Newest.{HasNewest};
 ghost use Rattle.lus_translation.specs.Forms.{equation_cells, equation_firsts};
@@ -14,7 +14,7 @@ use crate::flat_code::parts_of;
 use crate::kept::Kept;
 use crate::steps::{Built, give_turn};
 use crate::turn::Turn;
-use lus_flat_classes::{Class, Extent, Part};
+use lus_instructions::{Class, Extent, Part};
 use lus_program::{Equation, Node, Program};
 use lus_values::Memory;
 use std::alloc::Global;

@@ -10,7 +10,7 @@ use crate::atom::{atom_of, formula_of_atom};
 use crate::clock::{newest, with_test};
 use crate::kept::{Kept, keep_cell, keep_first};
 use crate::numbers::number_of;
-use lus_flat_classes::Formula;
+use lus_instructions::Formula;
 use lus_program::{Expr, Form, Test};
 use lus_values::{Memory, Value, copy};
 use std::alloc::Global;

@@ -1,12 +1,12 @@
 //! What a class keeps from one instant to the next, numbered as it is met.
 
 ghost use Rattle.std.specs.Prelude.{◌≡◌, ◌∷◌, ◌++◌, [], IfOk, OnOk, map};
-ghost use Rattle.lus_flat_classes.specs.View.{atom_of as atom_in};
+ghost use Rattle.lus_instructions.specs.View.{atom_of as atom_in};
 ghost use Rattle.lus_translation.specs.Building.{next_cell, next_first};
 ghost use Rattle.lus_translation.specs.Newest.{Tested, cell_seen};
 
 use crate::numbers::number_of;
-use lus_flat_classes::{Atom, Cell};
+use lus_instructions::{Atom, Cell};
 use lus_program::Test;
 use lus_values::Memory;
 

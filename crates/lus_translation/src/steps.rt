@@ -3,7 +3,7 @@
 ghost use Rattle.std.specs.Prelude.{◌≡◌, IfOk, OnOk, map};
 ghost use Rattle.lus_program.specs.View.{expression_of};
 ghost use Rattle.lus_streams.specs.Equations.{place_in};
-ghost use Rattle.lus_flat_classes.specs.View.{taken};
+ghost use Rattle.lus_instructions.specs.View.{taken};
 ghost use Rattle.lus_values.specs.Lists.{Each};
 ghost use Rattle.lus_translation.specs.Making.{GivesAny};
 ghost use Rattle.lus_translation.specs.Forms.{answers_form, given_cells, given_firsts, turn_cells, turn_firsts};
@@ -13,7 +13,7 @@ use crate::code::code_of;
 use crate::kept::Kept;
 use crate::numbers::number_of;
 use lus_clocks::inputs_at;
-use lus_flat_classes::{Step, Target};
+use lus_instructions::{Step, Target};
 use lus_program::{Equation, Expr, Form, Program, Test};
 use lus_values::Memory;
 use std::alloc::Global;

@@ -15,14 +15,14 @@ use Rattle.lus_classes.specs.Classes.{Atom, constant, named, Class, answer, Step
 use Rattle.lus_classes.specs.ClassesOf.{IsClassOf, IsCode, IsCovered, IsSource, IsStep, AreCalls, InTurn, atom_code}
 use Rattle.lus_normal_form.specs.NormalForm.{IsSimpleRight}
 use Rattle.lus_normal_form.specs.Ready.{IsReady}
-use Rattle.lus_flat_classes.specs.declared.formula.Formula.{Formula, Fixed}
-use Rattle.lus_flat_classes.specs.declared.class.Call.{Call as StoredCall}
-use Rattle.lus_flat_classes.specs.declared.class.Class.{Class as StoredClass}
-use Rattle.lus_flat_classes.specs.declared.class.Target.{Target}
-use Rattle.lus_flat_classes.specs.declared.class.Step.{Step as StoredStep}
-use Rattle.lus_flat_classes.specs.declared.class.Step.TheVariants as steps
-use Rattle.lus_flat_classes.specs.Turns.{AreMaking, GivesSome}
-use Rattle.lus_flat_classes.specs.View.{argument_of, call_of, class_of, code_of, steps_of, taken}
+use Rattle.lus_instructions.specs.declared.formula.Formula.{Formula, Fixed}
+use Rattle.lus_instructions.specs.declared.class.Call.{Call as StoredCall}
+use Rattle.lus_instructions.specs.declared.class.Class.{Class as StoredClass}
+use Rattle.lus_instructions.specs.declared.class.Target.{Target}
+use Rattle.lus_instructions.specs.declared.class.Step.{Step as StoredStep}
+use Rattle.lus_instructions.specs.declared.class.Step.TheVariants as steps
+use Rattle.lus_instructions.specs.Turns.{AreMaking, GivesSome}
+use Rattle.lus_instructions.specs.View.{argument_of, call_of, class_of, code_of, steps_of, taken}
 use Rattle.lus_translation.specs.Forms.{calls_form, numbers_form}
 use Rattle.lus_translation.specs.Making.{GivesAny}
 use Rattle.lus_translation.proofs.Numbered.{stored_calls, calls_stored}

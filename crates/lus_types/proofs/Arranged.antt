@@ -17,8 +17,8 @@ use Rattle.lus_program.specs.declared.expr.Expr.{Expr}
 use Rattle.lus_program.specs.declared.types.Kind.{Kind}
 use Rattle.lus_program.specs.Programs.{Expression, Operands, more}
 use Rattle.lus_program.specs.View.{expression_of, operands_of}
-use Rattle.lus_typing.specs.Kinds.{count}
-use Rattle.lus_typing.proofs.Options.{and_then_gives, map_gives}
+use Rattle.lus_program.specs.Kinds.{count}
+use Rattle.lus_program.proofs.Options.{and_then_gives, map_gives}
 use Rattle.lus_source.specs.Labels.{each_counted, each_once}
 use Rattle.lus_source.specs.Meaning.{beside, in_order, in_order_from}
 use Rattle.lus_source.specs.Scopes.{Scope}

@@ -25,8 +25,8 @@ use Rattle.lus_source.specs.Tables.{numbered_from, signature, scope}
 use Rattle.lus_source.specs.Loopless.{place_in, node_names, called, called_in, calls_of, node_uses}
 use Rattle.lus_source.specs.Heads.{kind_by}
 use Rattle.lus_source.specs.Meaning.{one, two, beside, in_order_from, are_arguments, list_operation, prefix_meant, infix_meant, meant, all_meant, equations_meant, node_meant, program_of}
-use Rattle.lus_typing.specs.Resolved.{nodes_called, all_nodes_called, program_uses}
-use Rattle.lus_typing.proofs.Numbering.{nodes_called-numbered}
+use Rattle.lus_program.specs.Resolved.{nodes_called, all_nodes_called, program_uses}
+use Rattle.lus_program.proofs.Numbering.{nodes_called-numbered}
 use Rattle.lus_types.proofs.FormsMeant.{where_holds, name_holds, call_holds, field_holds, when_holds, merge_holds, structure_holds}
 
 module _ (Q : ℕ → Type 0) where

@@ -9,7 +9,7 @@ use Rattle.lus_program.specs.Programs.{literal}
 use Rattle.lus_source.specs.Named.{has_left}
 use Rattle.lus_source.specs.Tables.{scope}
 use Rattle.lus_source.specs.Meaning.{meant, node_meant, program_of}
-use Rattle.lus_typing.specs.Resolved.{kinds_given_in}
+use Rattle.lus_program.specs.Resolved.{kinds_given_in}
 
 abbrev start : Place
 start = record { byte = 0; line = 1; column = 1 }

@@ -12,7 +12,7 @@ use Rattle.lus_program.specs.declared.expr.Test.{Test}
 use Rattle.lus_program.specs.declared.types.Kind.{Kind}
 use Rattle.lus_program.specs.declared.types.Kind.TheVariants as kinds
 use Rattle.lus_program.specs.Programs.{Expression, literal, variable, operate, when, merge, call, Operands}
-use Rattle.lus_typing.specs.Kinds.{where_true}
+use Rattle.lus_program.specs.Kinds.{where_true}
 use Rattle.lus_source.specs.declared.entries.Placed.{Placed}
 use Rattle.lus_source.specs.Scopes.{Scope, Signature, entry}
 use Rattle.lus_source.specs.Labels.{each_once, name_value, size_of, fields_of, field_named, branch_place, branch_places, field_asked, fields_asked, test_placed}

@@ -22,8 +22,8 @@ use Rattle.lus_source.specs.Tables.{text_of, group_kinds, groups, kind_named, pl
 use Rattle.lus_source.specs.Named.{is_in, known, names_in, defined_names, left_names, NodeNamed}
 use Rattle.lus_source.specs.Meaning.{variable_place, meant, equations_meant, node_meant}
 use Rattle.lus_source.proofs.AppendedNames.{is_in-append}
-use Rattle.lus_typing.specs.Kinds.{count}
-use Rattle.lus_typing.specs.Resolved.{targets_of, IsDefined}
+use Rattle.lus_program.specs.Kinds.{count}
+use Rattle.lus_program.specs.Resolved.{targets_of, IsDefined}
 use Rattle.lus_source.proofs.Placing.{names-kinds_by, length-for_each}
 use Rattle.lus_types.proofs.Scoped.{variable_meant}
 use Rattle.lus_types.proofs.Places.{same_text, text_same, all_in, AreApart, are_apart, one_place, among_last, count_apart}

@@ -7,9 +7,9 @@ use Rattle.lus_syntax.specs.Trees.{Definition, Enumeration, Node as SourceNode, 
 use Rattle.lus_source.specs.Meaning.{node_meant, program_of}
 use Rattle.lus_source.specs.Refusals.{WellFormed}
 use Rattle.lus_source.specs.Sized.{DefinitionCounted, variable_count}
-use Rattle.lus_typing.specs.Sound.{IsLimited}
+use Rattle.lus_program.specs.Sound.{IsLimited}
 use Rattle.lus_source.specs.Tables.{declared_as, groups, scope, text_of}
-use Rattle.lus_typing.specs.Kinds.{constructors_in}
+use Rattle.lus_program.specs.Kinds.{constructors_in}
 use Rattle.lus_source.proofs.Placing.{length-for_each}
 use Rattle.lus_types.proofs.Scoped.{variable_meant}
 

@@ -20,9 +20,9 @@ use Rattle.lus_values.specs.declared.operator.Operator.TheVariants as operators
 use Rattle.lus_values.specs.Values.{nil}
 use Rattle.lus_program.specs.Programs.{Expression, Node, Operands, more, literal, operate, call, merge}
 use Rattle.lus_program.specs.View.{expression_of, field_of, operands_of}
-use Rattle.lus_typing.specs.Kinds.{all_same, where_true}
-use Rattle.lus_typing.proofs.Options.{and_then_gives, map_gives}
-use Rattle.lus_typing.specs.Resolved.{kinds_given_in, results, field_kinds, kind_of_variable, test_fits, call_results, input_kinds, output_kinds}
+use Rattle.lus_program.specs.Kinds.{all_same, where_true}
+use Rattle.lus_program.proofs.Options.{and_then_gives, map_gives}
+use Rattle.lus_program.specs.Resolved.{kinds_given_in, results, field_kinds, kind_of_variable, test_fits, call_results, input_kinds, output_kinds}
 use Rattle.lus_source.specs.declared.entries.Placed.{Placed}
 use Rattle.lus_source.specs.Scopes.{Scope, Signature, entry}
 use Rattle.lus_source.specs.Heads.{heads, head, head_of, of_kind, kind_by, kinds_by}

@@ -15,8 +15,8 @@ use Rattle.lus_source.specs.Named.{known, has_left, NodeNamed}
 use Rattle.lus_source.specs.Refusals.{WellFormed}
 use Rattle.lus_source.specs.WellTyped.{NodeTyped}
 use Rattle.lus_source.specs.Meaning.{variable_place, meant, equations_meant, node_meant, program_of}
-use Rattle.lus_typing.specs.Resolved.{AreNumbered, IsDefined, NodeResolved}
-use Rattle.lus_typing.proofs.Numbering.{calls-numbered, numbered-numbered}
+use Rattle.lus_program.specs.Resolved.{AreNumbered, IsDefined, NodeResolved}
+use Rattle.lus_program.proofs.Numbering.{calls-numbered, numbered-numbered}
 use Rattle.lus_types.proofs.Scoped.{formals_are}
 use Rattle.lus_types.proofs.Lefts.{targets_within, is_defined}
 

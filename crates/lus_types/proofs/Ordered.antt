@@ -4,7 +4,7 @@ use Rattle.std.proofs.lemmas.Bool.{eqb-true}
 use Rattle.std.proofs.lemmas.Bool.Decides.{nat_tests}
 use Rattle.lus_values.proofs.Equalities.{and_left, and_right}
 use Rattle.lus_program.specs.Programs.{Expression, Operands, none, more}
-use Rattle.lus_typing.specs.Kinds.{count}
+use Rattle.lus_program.specs.Kinds.{count}
 use Rattle.lus_source.specs.Labels.{each_counted, each_once}
 use Rattle.lus_source.specs.Meaning.{beside, in_order_from, in_order}
 

@@ -8,7 +8,7 @@ use Rattle.std.specs.List.{list_all}
 use Rattle.std.specs.Str.{bytes_eq}
 use Rattle.lus_values.specs.Lists.{Each}
 use Rattle.lus_syntax.specs.Lexemes.{Text}
-use Rattle.lus_typing.specs.Kinds.{count}
+use Rattle.lus_program.specs.Kinds.{count}
 use Rattle.lus_source.specs.Named.{is_in, all_new}
 use Rattle.lus_source.proofs.AppendedNames.{is_in-append, all_new_apart}
 

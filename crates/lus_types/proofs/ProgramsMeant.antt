@@ -3,8 +3,8 @@ use Rattle.std.proofs.Common.{◌≡◌, sym, subst, ℕ, List}
 use Rattle.lus_graph.specs.Ways.{IsOrder}
 use Rattle.lus_syntax.specs.Trees.{Tree}
 use Rattle.lus_program.specs.Programs.{Program}
-use Rattle.lus_typing.specs.Leaves.{AreTheLeaves}
-use Rattle.lus_typing.specs.Sound.{AreFound}
+use Rattle.lus_program.specs.Leaves.{AreTheLeaves}
+use Rattle.lus_program.specs.Sound.{AreFound}
 use Rattle.lus_source.specs.Loopless.{node_uses}
 use Rattle.lus_source.specs.Meaning.{program_of}
 use Rattle.lus_source.specs.Refusals.{WellFormed}

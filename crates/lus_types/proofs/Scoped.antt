@@ -14,7 +14,7 @@ use Rattle.lus_source.specs.Heads.{of_kind, head_of, heads, head}
 use Rattle.lus_source.specs.Scopes.{Scope, Signature}
 use Rattle.lus_source.specs.Tables.{numbered_from, placed_from, each_of, group_kinds, groups, kind_named, signature, scope}
 use Rattle.lus_source.specs.Meaning.{test_meant, variables_of, node_meant, program_of}
-use Rattle.lus_typing.proofs.Alike.{AreAlike, taken_and_given}
+use Rattle.lus_program.proofs.Alike.{AreAlike, taken_and_given}
 use Rattle.lus_types.proofs.Meant.{HasKinds, inputs_are, outputs_are, head_has}
 
 abbrev kinds_of : List Variable → List Kind

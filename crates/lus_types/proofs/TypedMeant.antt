@@ -14,9 +14,9 @@ use Rattle.lus_source.specs.Scopes.{Scope}
 use Rattle.lus_source.specs.Tables.{groups, scope}
 use Rattle.lus_source.specs.Meaning.{meant, targets_meant, equations_meant, node_meant, program_of}
 use Rattle.lus_source.specs.WellTyped.{NodeTyped}
-use Rattle.lus_typing.specs.Resolved.{kind_of_variable, test_fits, VariableFits, EquationFits}
-use Rattle.lus_typing.proofs.Alike.{equations_alike, variables_alike}
-use Rattle.lus_typing.proofs.Numbering.{given-numbered}
+use Rattle.lus_program.specs.Resolved.{kind_of_variable, test_fits, VariableFits, EquationFits}
+use Rattle.lus_program.proofs.Alike.{equations_alike, variables_alike}
+use Rattle.lus_program.proofs.Numbering.{given-numbered}
 use Rattle.lus_types.specs.Wholes.{EquationTyped}
 use Rattle.lus_types.specs.ByScope.{variables_in, maybe_fits, group_fits, IsTypedIn}
 use Rattle.lus_types.proofs.Scoped.{scope_alike}

@@ -5,7 +5,7 @@ use Rattle.lus_syntax.specs.Trees.{Named, Constant, Group, Node as SourceNode}
 use Rattle.lus_values.specs.Lists.{Each}
 use Rattle.lus_program.specs.declared.expr.Test.{Test}
 use Rattle.lus_program.specs.Programs.{Node, Variable}
-use Rattle.lus_typing.specs.Resolved.{test_fits}
+use Rattle.lus_program.specs.Resolved.{test_fits}
 use Rattle.lus_source.specs.Heads.{heads, head}
 use Rattle.lus_source.specs.Scopes.{Scope}
 use Rattle.lus_source.specs.Sized.{variable_count}

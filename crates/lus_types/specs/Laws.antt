@@ -2,7 +2,7 @@
 use Rattle.lus_syntax.specs.Trees.{Tree}
 use Rattle.lus_source.specs.Meaning.{program_of}
 use Rattle.lus_source.specs.Refusals.{WellFormed}
-use Rattle.lus_typing.specs.Sound.{IsSound}
+use Rattle.lus_program.specs.Sound.{IsSound}
 
 -- a well-formed tree means a sound program
 abbrev pub MeantProgramsAreSound : Type 0

@@ -11,8 +11,8 @@ use Rattle.lus_program.specs.declared.expr.Expr.{Expr}
 use Rattle.lus_program.specs.declared.types.Kind.{Kind}
 use Rattle.lus_program.specs.Programs.{Expression, Operands}
 use Rattle.lus_program.specs.View.{expression_of, operands_of}
-use Rattle.lus_typing.specs.Kinds.{where_true}
-use Rattle.lus_typing.specs.Resolved.{kind_of_variable, kinds_given_in, results, EquationFits}
+use Rattle.lus_program.specs.Kinds.{where_true}
+use Rattle.lus_program.specs.Resolved.{kind_of_variable, kinds_given_in, results, EquationFits}
 use Rattle.lus_source.specs.Scopes.{Scope, entry}
 use Rattle.lus_source.specs.Heads.{heads, head, kind_by, kinds_by}
 use Rattle.lus_source.specs.Labels.{branch_place, branch_places, field_asked, fields_asked}

@@ -9,5 +9,5 @@ mod passes;
 mod typing;
 
 pub use laws::{few_parts, sound};
-pub use lus_typing::Typed;
+pub use lus_program::Typed;
 pub use typing::check_types;

@@ -6,7 +6,7 @@ ghost use Rattle.lus_syntax.specs.View.{tree_seen};
 ghost use Rattle.lus_program.specs.View.{node_of, program_seen};
 ghost use Rattle.lus_values.specs.Lists.{Each};
 ghost use Rattle.lus_source.specs.Meaning.{node_meant, program_of};
-ghost use Rattle.lus_typing.specs.Refusals.{RefusesFor};
+ghost use Rattle.lus_program.specs.Refusals.{RefusesFor};
 ghost use Rattle.lus_source.specs.WellTyped.{IsTyped, NodeTyped};
 ghost use Rattle.lus_source.specs.ScopeView.{Judged};
 

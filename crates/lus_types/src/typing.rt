@@ -8,9 +8,9 @@ ghost use Rattle.lus_source.specs.Meaning.{program_of};
 ghost use Rattle.lus_source.specs.Refusals.{FirstFails, WellFormed};
 
 use crate::passes::types;
+use lus_program::{Sound, Typed};
 use lus_source::{check_counts, check_names, check_recursion, check_sizes, tables};
 use lus_syntax::{Refusal, Tree};
-use lus_typing::{Sound, Typed};
 use std::alloc::Global;
 
 /// Checks a source against the limits of its declarations, then its names, recursion, the limits of sizes, and types, each

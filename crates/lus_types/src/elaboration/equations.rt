@@ -4,7 +4,7 @@ ghost use Rattle.std.specs.Prelude.{◌≡◌, IfOk, Some, MatchResult, map};
 ghost use Rattle.std.specs.Bool.{Decides};
 ghost use Rattle.lus_syntax.specs.View.{expression_seen, equation_seen, name_seen, names_seen};
 ghost use Rattle.lus_program.specs.View.{expression_of};
-ghost use Rattle.lus_typing.specs.Resolved.{kind_of_variable};
+ghost use Rattle.lus_program.specs.Resolved.{kind_of_variable};
 ghost use Rattle.lus_source.specs.Heads.{head, heads};
 ghost use Rattle.lus_source.specs.Meaning.{meant, targets_meant, variable_place};
 ghost use Rattle.lus_source.specs.ScopeView.{Judged, scope_of};

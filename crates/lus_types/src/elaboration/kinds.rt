@@ -1,18 +1,17 @@
-//! The types of the program's forms, by the rules of lus_typing.
+//! The types of the program's forms, by the rules of lus_program.
 
 ghost use Rattle.std.specs.Prelude.{◌≡◌, map, option_map, slice_get};
 ghost use Rattle.std.specs.List.{list_all};
 ghost use Rattle.std.specs.Option.{option_and_then};
 ghost use Rattle.lus_program.specs.View.{field_of};
-ghost use Rattle.lus_typing.specs.Kinds.{same as same_kind, all_same as all_same_kinds, alike as alike_kind, common_kind as kind_of_all, value_kind as kind_of_value};
-ghost use Rattle.lus_typing.specs.Resolved.{op_kind as kind_of_op, if_kind as kind_of_if, takes as shape_takes, field_kinds, projected as field_projected, operator_kind as kind_of_operator, test_fits as fits, merged as kind_merged, kind_of_variable, results as results_of};
+ghost use Rattle.lus_program.specs.Kinds.{same as same_kind, all_same as all_same_kinds, alike as alike_kind, common_kind as kind_of_all, value_kind as kind_of_value};
+ghost use Rattle.lus_program.specs.Resolved.{op_kind as kind_of_op, if_kind as kind_of_if, takes as shape_takes, field_kinds, projected as field_projected, operator_kind as kind_of_operator, test_fits as fits, merged as kind_merged, kind_of_variable, results as results_of};
 ghost use Rattle.lus_source.specs.Heads.{head, heads};
 ghost use Rattle.lus_source.specs.ScopeView.{scope_of};
 ghost use Rattle.lus_values.specs.View.{value_of};
 
-use lus_program::{Field, Kind, Test};
+use lus_program::{Field, Kind, Test, operation_kind};
 use lus_source::Scope;
-use lus_typing::operation_kind;
 use lus_values::{Op, Operator, Shape, Value};
 
 pub fn same(left: Kind, right: Kind) -> bool

@@ -2,7 +2,7 @@ use Rattle.std.proofs.Common.{◌≡◌, ◌≤◌, ◌+◌, drop}
 use Rattle.std.specs.Prelude.{min}
 use Rattle.lus_program.specs.declared.types.Kind.TheVariants as kinds
 use Rattle.lus_program.specs.View.{node_of, operands_of, program_seen}
-use Rattle.lus_typing.specs.Given.{last_given}
+use Rattle.lus_program.specs.Given.{last_given}
 use Rattle.lus_cells.specs.Given.{all_counted}
 use Rattle.lus_cells.proofs.weights.+weighing.Given as goal
 

@@ -4,9 +4,9 @@ use Rattle.std.proofs.lemmas.List.{get_or_default, length-map}
 use Rattle.std.proofs.lemmas.Option.{same_Some, slice_get_read}
 use Rattle.lus_graph.specs.Ways.{IsOrder}
 use Rattle.lus_frames.specs.declared.class.Class.{Class as Framed}
-use Rattle.lus_flat_classes.specs.declared.class.Class.{Class}
-use Rattle.lus_flat_classes.specs.declared.class.Part.{Part}
-use Rattle.lus_flat_classes.specs.Parts.{AreParts}
+use Rattle.lus_instructions.specs.declared.class.Class.{Class}
+use Rattle.lus_instructions.specs.declared.class.Part.{Part}
+use Rattle.lus_instructions.specs.Parts.{AreParts}
 use Rattle.lus_places.specs.Shaped.{class_uses, nodes_of}
 use Rattle.lus_framed_code.specs.Made.{IsMadeOf}
 use Rattle.lus_framed_code.proofs.Underway.{IsUnderway, all_bound, all_code, all_framed, next_parts, underway_first, underway_step}

@@ -2,7 +2,7 @@ use Rattle.std.proofs.Common.{◌≡◌, ◌<◌, ◌≤◌, ℕ, List, length, 
 use Rattle.std.proofs.lemmas.List.{get_or_default, length-map}
 use Rattle.std.proofs.lemmas.Option.{slice_get-get_or}
 use Rattle.lus_graph.specs.Ways.{IsOrder}
-use Rattle.lus_flat_classes.specs.declared.class.Class.{Class}
+use Rattle.lus_instructions.specs.declared.class.Class.{Class}
 use Rattle.lus_places.specs.Shaped.{class_uses, nodes_of}
 use Rattle.lus_places.proofs.Underway.{IsUnderway, underway_step}
 use Rattle.lus_places.proofs.Ready.{all_ready, steps_kept}

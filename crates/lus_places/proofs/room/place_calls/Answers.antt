@@ -1,6 +1,6 @@
 use Rattle.std.proofs.Common.{◌≡◌, ◌∙◌, ◌<◌, length, arith, ap, sym}
 use Rattle.lus_values.specs.Lists.{item}
-use Rattle.lus_flat_classes.specs.declared.class.Call.{Call}
+use Rattle.lus_instructions.specs.declared.class.Call.{Call}
 use Rattle.lus_places.specs.Placing.{no_room}
 use Rattle.lus_places.proofs.Placed.{next_within}
 use Rattle.lus_places.proofs.room.place_calls.Goals as goal

@@ -2,7 +2,7 @@ use Rattle.std.proofs.Common.{◌∙◌, ap, map, subst}
 use Rattle.std.proofs.lemmas.Result.{MatchResult-weaker}
 use Rattle.lus_program.specs.View.{declared_of}
 use Rattle.lus_syntax.specs.declared.tree.Tree.{Tree as StoredTree}
-use Rattle.lus_typing.specs.Leaves.{declared_leaves}
+use Rattle.lus_program.specs.Leaves.{declared_leaves}
 use Rattle.lus_source.specs.ScopeView.{Judged}
 use Rattle.lus_source.proofs.Measures.{leaves_meant, leaves_measure, meant_within, of_things, ordered}
 use Rattle.lus_source.proofs.sizes.check_leaves.Goals as goal

@@ -1,7 +1,7 @@
 use Rattle.std.proofs.Common.{◌≡◌, take, flat_map, map}
 use Rattle.lus_values.specs.Lists.{item}
 use Rattle.lus_program.specs.View.{field_of}
-use Rattle.lus_typing.specs.Sound.{structures_in}
+use Rattle.lus_program.specs.Sound.{structures_in}
 use Rattle.lus_source.specs.Sized.{greatest}
 use Rattle.lus_source.proofs.sizes.deepest_field.Given as goal
 

@@ -2,7 +2,7 @@ use Rattle.std.proofs.Common.{rules, arith, ◌<◌, sym}
 use Rattle.std.proofs.lemmas.Grind.{common_steps}
 use Rattle.lus_values.specs.Lists.{item}
 use Rattle.lus_program.specs.View.{field_of}
-use Rattle.lus_typing.specs.Leaves.{kind_leaves}
+use Rattle.lus_program.specs.Leaves.{kind_leaves}
 use Rattle.lus_source.proofs.Counting.{past_most}
 use Rattle.lus_source.proofs.sizes.leaves_of_fields.Goals as goal
 

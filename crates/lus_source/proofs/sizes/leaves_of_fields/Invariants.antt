@@ -1,7 +1,7 @@
 use Rattle.std.proofs.Common.{◌≡◌, ◌+◌, take, map, sum_by}
 use Rattle.lus_values.specs.Lists.{item}
 use Rattle.lus_program.specs.View.{field_of}
-use Rattle.lus_typing.specs.Leaves.{kind_leaves}
+use Rattle.lus_program.specs.Leaves.{kind_leaves}
 use Rattle.lus_source.proofs.sizes.leaves_of_fields.Given as goal
 
 abbrev pub invariant-loop-field : goal.invariant-loop-field

@@ -10,7 +10,7 @@ use Rattle.lus_syntax.specs.Trees.{Tree}
 use Rattle.lus_syntax.specs.View.{tree_seen}
 use Rattle.lus_program.specs.View.{program_seen}
 use Rattle.lus_source.specs.Refusals.{FirstFails, WellFormed}
-use Rattle.lus_typing.specs.Refusals.{RefusesFor}
+use Rattle.lus_program.specs.Refusals.{RefusesFor}
 use Rattle.lus_types.proofs.ProgramsMeant.{found}
 use Rattle.lus_types.proofs.typing.check_types.Goals as goal
 

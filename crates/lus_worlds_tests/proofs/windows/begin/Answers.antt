@@ -1,6 +1,6 @@
 -- What a resolved program within the limits has.
 use Rattle.lus_program.specs.View.{program_seen}
-use Rattle.lus_resolved_streams.proofs.NeedsResolved.{resolved_needs_are_variables}
+use Rattle.lus_streams.proofs.NeedsResolved.{resolved_needs_are_variables}
 use Rattle.lus_order.proofs.Narrow.{few_are_narrow}
 use Rattle.lus_worlds_tests.proofs.windows.begin.Goals as goal
 

@@ -2,7 +2,7 @@ use Rattle.std.proofs.Common.{◌≡◌, ◌↔◌, ◌∙◌, ◌<◌, ℕ, Lis
 use Rattle.std.specs.Prelude.{slice_get}
 use Rattle.std.proofs.lemmas.Option.{slice_get_read}
 use Rattle.lus_values.specs.Values.{Row}
-use Rattle.lus_flat_classes.specs.declared.class.Class.{Class}
+use Rattle.lus_instructions.specs.declared.class.Class.{Class}
 use Rattle.lus_code.specs.SimulationSpecs.Fitting.{has_presence}
 use Rattle.lus_code.specs.Codes.{ProgramCode, program_of}
 use Rattle.lus_running.specs.Fits.{FitsPresence}

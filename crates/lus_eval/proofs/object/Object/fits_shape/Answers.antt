@@ -3,7 +3,7 @@ use Rattle.std.proofs.lemmas.List.{take-map, length-map, length-take-le}
 use Rattle.lus_program.specs.declared.types.Kind.{Kind}
 use Rattle.lus_program.specs.Programs.{Variable, node_at}
 use Rattle.lus_program.specs.View.{node_of, program_seen, variable_of}
-use Rattle.lus_typing.specs.Resolved.{input_kinds}
+use Rattle.lus_program.specs.Resolved.{input_kinds}
 use Rattle.lus_code.specs.SimulationSpecs.Fitting.{has_shape, row_fits}
 use Rattle.lus_code.proofs.SimulationProofs.Lived.{HasFormals, formals_at}
 use Rattle.lus_code.specs.Codes.{program_of}

@@ -3,8 +3,8 @@ use Rattle.std.specs.Bool.{then_some}
 use Rattle.std.specs.Option.{option_and_then}
 use Rattle.std.specs.Prelude.{option_map}
 use Rattle.lus_program.specs.declared.types.Kind.{Kind}
-use Rattle.lus_typing.specs.Kinds.{where_true}
-use Rattle.lus_typing.specs.Resolved.{call_results}
+use Rattle.lus_program.specs.Kinds.{where_true}
+use Rattle.lus_program.specs.Resolved.{call_results}
 use Rattle.lus_source.specs.Heads.{heads}
 use Rattle.lus_source.specs.ScopeView.{scope_of, signature_of}
 use Rattle.lus_types.proofs.Meant.{call_gives}

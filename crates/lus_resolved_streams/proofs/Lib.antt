@@ -1,4 +1,0 @@
-pub mod CallParts
-pub mod CallsResolved
-pub mod NeedsResolved
-mod Examples

@@ -1,5 +1,0 @@
-use Rattle.lus_resolved_streams.proofs.CallsResolved.{resolved_calls_have_outputs}
-use Rattle.lus_resolved_streams.proofs.calls_have_outputs.Goals as goal
-
-pub returns : goal.returns
-returns c = resolved_calls_have_outputs

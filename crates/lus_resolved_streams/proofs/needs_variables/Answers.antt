@@ -1,5 +1,0 @@
-use Rattle.lus_resolved_streams.proofs.NeedsResolved.{resolved_needs_are_variables}
-use Rattle.lus_resolved_streams.proofs.needs_variables.Goals as goal
-
-pub returns : goal.returns
-returns c = resolved_needs_are_variables
