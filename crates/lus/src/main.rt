@@ -86,8 +86,35 @@ fn live<O: Sink, F: Sink>(
     )
 }
 
+/// Runs the tool of this name: its status.
+fn run<O: Sink, F: Sink>(
+    rt: &HostRuntime,
+    tool: &str,
+    words: &[String],
+    output: &mut O,
+    faults: &mut F,
+) -> u8 {
+    let disk = Disk(rt);
+    match tool {
+        "lus_explain" => lus_explain::command(rt.alloc(), &disk, words, output, faults),
+        "lus_format" => {
+            let mut input = Input(rt.stdin());
+            lus_formatter::command(rt.alloc(), &disk, words, &mut input, output, faults)
+        }
+        "lus_draw" => lus_draw::command(rt.alloc(), &disk, words, output, faults),
+        "lus_audit" | "lus_live" if is_many(words) => many(rt, tool, words, output, faults),
+        "lus_audit" => lus_audit::command(rt.alloc(), &disk, words, output, faults),
+        "lus_live" => live(rt, words, output, faults),
+        "lus_lsp" => {
+            let mut input = Buffered::new(Input(rt.stdin()));
+            lus_lsp::command(rt.alloc(), words, &mut input, output, faults)
+        }
+        "lus_bench" => lus_bench::command(rt, words),
+        _ => command(rt, rt.alloc(), words, output, faults),
+    }
+}
+
 fn main(rt: HostRuntime) -> ExitCode {
-    let disk = Disk(&rt);
     let mut output = Output(rt.stdout());
     let mut faults = Output(rt.stderr());
     let arguments = match arguments(&rt) {
@@ -98,33 +125,7 @@ fn main(rt: HostRuntime) -> ExitCode {
     if let Some(status) = introduce(tool, words, &mut output, &mut faults) {
         return ExitCode::from(status);
     }
-    let status = match tool {
-        "lus_explain" => lus_explain::command(rt.alloc(), &disk, words, &mut output, &mut faults),
-        "lus_format" => lus_formatter::command(
-            rt.alloc(),
-            &disk,
-            words,
-            &mut Input(rt.stdin()),
-            &mut output,
-            &mut faults,
-        ),
-        "lus_draw" => lus_draw::command(rt.alloc(), &disk, words, &mut output, &mut faults),
-        "lus_audit" | "lus_live" if is_many(words) => many(
-            &rt,
-            tool,
-            words,
-            &mut output,
-            &mut faults,
-        ),
-        "lus_audit" => lus_audit::command(rt.alloc(), &disk, words, &mut output, &mut faults),
-        "lus_live" => live(&rt, words, &mut output, &mut faults),
-        "lus_lsp" => {
-            let mut input = Buffered::new(Input(rt.stdin()));
-            lus_lsp::command(rt.alloc(), words, &mut input, &mut output, &mut faults)
-        }
-        "lus_bench" => lus_bench::command(&rt, words),
-        _ => command(&rt, rt.alloc(), words, &mut output, &mut faults),
-    };
+    let status = run(&rt, tool, words, &mut output, &mut faults);
     if status == FILE_FAILED {
         name_unopened(&rt, tool, words, &mut faults);
     }
