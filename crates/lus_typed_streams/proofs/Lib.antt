@@ -1,0 +1,5 @@
+pub mod Operators
+pub mod EquationKinds
+pub mod Values
+pub mod Worlds
+pub mod StreamsTyped
