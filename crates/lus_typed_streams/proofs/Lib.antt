@@ -3,3 +3,4 @@ pub mod EquationKinds
 pub mod Values
 pub mod Worlds
 pub mod StreamsTyped
+pub mod Examples

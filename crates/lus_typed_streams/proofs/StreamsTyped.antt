@@ -1,5 +1,5 @@
 -- Streams of a resolved program for inputs of its types.
-use Rattle.std.proofs.Common.{◌≡◌, ℕ, Bool, true, false, nat_eq, List, [], ◌∷◌, map, take, Option, Some, None, refl, sym, subst, IsTrue, true≢false}
+use Rattle.std.proofs.Common.{◌≡◌, ℕ, true, nat_eq, List, [], ◌∷◌, map, take, Option, Some, None, refl, sym, subst, IsTrue, true≢false}
 use Rattle.lus_values.specs.Lists.{Each}
 use Rattle.lus_values.specs.Values.{Value, bool, int, enum, struct, Fields, end, field, Row}
 use Rattle.lus_values.proofs.Equalities.{and_left, and_right, and_true}
@@ -59,10 +59,12 @@ any_literal : (e : Part) → IsLiteralOf any_number e
 any_literal (at k (literal (enum t c))) = refl
 any_literal (at k _) = tt
 
+-- any number will do for each program
+pub any_literals : (p : Program) → HasLiteralsOf p any_number
+any_literals p = each_all (λ f. Each (IsLiteralOf any_number) (node_parts p f)) (λ f. each_all (IsLiteralOf any_number) any_literal (node_parts p f)) p.nodes
+
 pub streams_have_types : StreamsHaveTypes
-streams_have_types p resolved causal =
-    streams_typed p any_number (λ t c e. refl) resolved causal
-    (each_all (λ f. Each (IsLiteralOf any_number) (node_parts p f)) (λ f. each_all (IsLiteralOf any_number) any_literal (node_parts p f)) p.nodes)
+streams_have_types p resolved causal = streams_typed p any_number (λ t c e. refl) resolved causal (any_literals p)
 
 pub streams_have_declared_types : StreamsHaveDeclaredTypes
 streams_have_declared_types p resolved causal literals = streams_typed p (declares p) (λ t c e. e) resolved causal literals

@@ -1,20 +1,19 @@
 -- Values of a node's expressions and variables have their types, where those of its inputs and of the nodes that it calls do.
-use Rattle.std.proofs.Common.{◌≡◌, ◌∙◌, ℕ, zero, suc, ◌+◌, ◌<◌, ◌≤◌, nat_eq, nat_lt, Bool, true, false, List, [], ◌∷◌, map, length, take, drop, Option, Some, None, is_some, refl, sym, ap, subst, arith, MatchBool, ⊎_elim}
+use Rattle.std.proofs.Common.{◌≡◌, ◌∙◌, ℕ, zero, suc, ◌+◌, ◌≤◌, nat_eq, nat_lt, Bool, true, false, List, [], ◌∷◌, map, length, take, drop, Option, Some, None, is_some, refl, sym, subst, arith, MatchBool, ⊎_elim}
 use Rattle.std.proofs.lemmas.Bool.{eq-eqb, ltb-true, cases_lt}
 use Rattle.std.specs.List.{list_all}
 use Rattle.std.specs.Option.{option_and_then}
-use Rattle.std.specs.Prelude.{option_map}
 use Rattle.lus_values.specs.declared.operator.Operator.{Operator}
-use Rattle.lus_values.specs.Lists.{item, Each, Below}
+use Rattle.lus_values.specs.Lists.{item, Each}
 use Rattle.lus_values.specs.Operators.{apply}
 use Rattle.lus_values.specs.Values.{Value, bool, int, enum, struct, nil, Row}
 use Rattle.lus_values.proofs.Equalities.{and_left, and_right, and_true}
 use Rattle.lus_program.specs.declared.types.Kind.{Kind}
 use Rattle.lus_program.specs.Programs.{Expression, literal, variable, operate, pre, arrow, when, merge, call, Operands, none, more, Variable, Node, Program, no_variable, node_at}
 use Rattle.lus_program.specs.Kinds.{same, alike, common_kind}
-use Rattle.lus_program.specs.Given.{variable_given, output_given, given}
+use Rattle.lus_program.specs.Given.{variable_given, given}
 use Rattle.lus_program.specs.Resolved.{operator_kind, input_kinds, kind_of_variable, merged, kind_in, kinds_in, results, values_of}
-use Rattle.lus_program.proofs.Options.{and_then_gives, map_gives, where_true_gives, same_is}
+use Rattle.lus_program.proofs.Options.{and_then_gives, where_true_gives, same_is}
 use Rattle.lus_program.proofs.KindsGiven.{given_is}
 use Rattle.lus_program.proofs.TypedParts.{HasKind, whole_call, whole_typed}
 use Rattle.lus_streams.specs.Clocks.{Clock, clock_of, Part, at, formal_clock, base_of, branch_clock, parts, all_parts}

@@ -1,13 +1,12 @@
 -- Types hold in every world of a causal program whose equations fit, where those of its inputs do, and in the worlds that it calls.
-use Rattle.std.proofs.Common.{◌≡◌, ℕ, ◌+◌, Bool, List, [], ◌∷◌, take, sym, subst, IsTrue}
+use Rattle.std.proofs.Common.{ℕ, ◌+◌, Bool, List, [], ◌∷◌, sym, subst}
 use Rattle.lus_values.specs.Lists.{Each}
 use Rattle.lus_values.specs.Values.{Row}
-use Rattle.lus_program.specs.Programs.{Operands, Node, Program, node_at, empty_node}
+use Rattle.lus_program.specs.Programs.{Program, node_at, empty_node}
 use Rattle.lus_program.specs.Resolved.{EquationFits, input_kinds}
-use Rattle.lus_streams.specs.Clocks.{Clock, Part, at, base_of}
 use Rattle.lus_streams.specs.Equations.{node_parts, Site, sites}
-use Rattle.lus_streams.specs.Order.{needs, needs_all, HasOrder, IsCausal}
-use Rattle.lus_streams.specs.Streams.{Instant, instant, Called, nobody, also, World, row_of, called_instant, called_world, IsInstant, EachCall, Satisfies}
+use Rattle.lus_streams.specs.Order.{needs, needs_all, HasOrder}
+use Rattle.lus_streams.specs.Streams.{Instant, instant, Called, nobody, also, World, called_instant, called_world, IsInstant, EachCall, Satisfies}
 use Rattle.lus_streams.specs.Throughout.{Throughout, ThroughoutCalls}
 use Rattle.lus_streams.proofs.Calls.{OfSite, AtBase, each_equation_part, equation_calls, sites_of_parts, parts_of_sites}
 use Rattle.lus_streams.proofs.FlagLaw.{AllOver}
