@@ -23,7 +23,7 @@ module _ (p : Program) (constructors : Constructors) (all : (t c : ℕ) → decl
     is_still : (k : Kind) (v : Value) → is_of_type p (declares p) k v ≡ true → is_of_type p constructors k v ≡ true
     is_still kinds.Bool (bool b) h = h
     is_still kinds.Int (int z) h = h
-    is_still (kinds.Enum t) (enum u c) h = and_true (nat_eq u t) (constructors u c) (and_left (nat_eq u t) (declares p u c) h) (all u c (and_right (nat_eq u t) (declares p u c) h))
+    is_still (kinds.Enum t) (enum u c) h = and_true (nat_eq u t) (constructors t c) (and_left (nat_eq u t) (declares p t c) h) (all t c (and_right (nat_eq u t) (declares p t c) h))
     is_still (kinds.Struct t) (struct fs) h = are_still (field_kinds p (kinds.Struct t)) fs h
     is_still _ _ h = h
 

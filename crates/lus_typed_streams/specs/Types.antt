@@ -26,7 +26,7 @@ module _ (p : Program) (constructors : Constructors) where
     pub is_of_type : Kind → Value → Bool
     is_of_type kinds.Bool (bool b) = true
     is_of_type kinds.Int (int z) = true
-    is_of_type (kinds.Enum t) (enum u c) = nat_eq u t && constructors u c
+    is_of_type (kinds.Enum t) (enum u c) = nat_eq u t && constructors t c
     is_of_type (kinds.Struct t) (struct fs) = are_of_types (field_kinds p (kinds.Struct t)) fs
     is_of_type _ _ = false
 
