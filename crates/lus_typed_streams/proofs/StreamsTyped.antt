@@ -5,15 +5,16 @@ use Rattle.lus_values.specs.Values.{Value, bool, int, enum, struct, Fields, end,
 use Rattle.lus_values.proofs.Equalities.{and_left, and_right, and_true}
 use Rattle.lus_program.specs.declared.types.Kind.{Kind}
 use Rattle.lus_program.specs.declared.types.Kind.TheVariants as kinds
-use Rattle.lus_program.specs.Programs.{literal, Program, node_at}
-use Rattle.lus_program.specs.Resolved.{EquationFits, NodeResolved, Resolved, field_kinds, input_kinds}
-use Rattle.lus_streams.specs.Clocks.{Part, at}
+use Rattle.lus_program.specs.Programs.{Expression, literal, Node, Program, node_at}
+use Rattle.lus_program.specs.Resolved.{EquationFits, NodeResolved, Resolved, field_kinds, input_kinds, kind_in}
+use Rattle.lus_program.proofs.KindsGiven.{given_is}
+use Rattle.lus_streams.specs.Clocks.{Clock, Part, at}
 use Rattle.lus_streams.specs.Equations.{node_parts}
 use Rattle.lus_streams.specs.Order.{IsCausal}
-use Rattle.lus_streams.specs.Streams.{World, row_of, Streams}
+use Rattle.lus_streams.specs.Streams.{Instant, World, row_of, value, Streams}
 use Rattle.lus_streams.proofs.Lists.{each_all, each_implies}
 use Rattle.lus_typed_streams.specs.Types.{Constructors, declares, any_number, is_of_type, are_of_types, HasType, HaveTypes, entry_fits, row_fits, has_shape}
-use Rattle.lus_typed_streams.specs.Laws.{IsLiteralOf, HasLiteralsOf, TypesHoldOver, InputsHaveTypes, StreamsHaveTypes, StreamsHaveDeclaredTypes}
+use Rattle.lus_typed_streams.specs.Laws.{IsLiteralOf, HasLiteralsOf, PartHasType, TypesHoldOver, InputsHaveTypes, StreamsHaveTypes, StreamsHaveDeclaredTypes}
 use Rattle.lus_typed_streams.proofs.Operators.{of_type}
 use Rattle.lus_typed_streams.proofs.Worlds.{values_have_types}
 
@@ -68,3 +69,8 @@ streams_have_types p resolved causal = streams_typed p any_number (λ t c e. ref
 
 pub streams_have_declared_types : StreamsHaveDeclaredTypes
 streams_have_declared_types p resolved causal literals = streams_typed p (declares p) (λ t c e. e) resolved causal literals
+
+-- what has a kind by the tests of types has that type
+pub kind_typed : (p : Program) (constructors : Constructors) (f : Node) (now : Instant) (past : World) (e : Expression) (k : Clock) (l : Kind) → kind_in p f e ≡ Some l → PartHasType p constructors f now past (at k e)
+    → HasType p constructors l (value p e k now past)
+kind_typed p constructors f now past e k l h typed = subst (λ m. HasType p constructors m (value p e k now past)) (given_is p f e l h) typed

@@ -21,7 +21,7 @@ abbrev pub any_number : Constructors
 any_number t c = true
 
 module _ (p : Program) (constructors : Constructors) where
-  -- a value is one of a type; nil is of none, and so is a structure with nil inside
+  -- a value is one of a type, where enumerations have these constructors; nil is of none, and so is a structure with nil inside
   abbrev mutual
     pub is_of_type : Kind → Value → Bool
     is_of_type kinds.Bool (bool b) = true
