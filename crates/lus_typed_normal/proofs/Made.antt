@@ -1,6 +1,7 @@
 -- The nodes that the code makes of those of a resolved program have equations that fit.
 use Rattle.std.proofs.Common.{arith, ◌≡◌, ◌∙◌, refl, sym, ap, ap₂, subst, ℕ, zero, suc, ◌+◌, ◌≤◌, Bool, true, false, cond, List, [], ◌∷◌, ◌++◌, length, map, take, drop, Option, Some, None, append_assoc, length-drop, length-append}
 use Rattle.std.proofs.lemmas.List.{take-append-le, drop-append-le}
+use Rattle.std.proofs.lemmas.Simd.{map-map}
 use Rattle.std.specs.Prelude.{option_map, slice_get}
 use Rattle.lus_values.specs.Lists.{item, Each}
 use Rattle.lus_program.specs.declared.expr.Test.{Test}
@@ -69,10 +70,6 @@ module _ (p : Program) (f : Node) where
 
 -- ---- variables
 
-map_map : {X Y Z : Type 0} (g : Y → Z) (h : X → Y) (xs : List X) → map (λ x. g (h x)) xs ≡ map g (map h xs)
-map_map g h [] = refl
-map_map g h (x ∷ xs) = ap (λ l. g (h x) ∷ l) (map_map g h xs)
-
 get_left : (vs more_vs : List Variable) (x : ℕ) (v : Variable) → slice_get vs x ≡ Some v → slice_get (vs ++ more_vs) x ≡ Some v
 get_left [] more_vs x v e = cc
 get_left (w ∷ vs) more_vs zero v e = e
@@ -117,7 +114,7 @@ made_fits p f f' resolved made =
     let target = node_of f' in
     let qs = f.equations.items in
     let adds = made.variables in
-    let kinds = adds.kinds ∙ map_map (kind_in p source) (λ (t : Taken). t.operand) (equations_take p source qs) ∙ ap (map (kind_in p source)) (equations_take_out p source qs) in
+    let kinds = adds.kinds ∙ sym (map-map (kind_in p source) (λ (t : Taken). t.operand) (equations_take p source qs)) ∙ ap (map (kind_in p source)) (equations_take_out p source qs) in
     let new = new_from p source target adds.added adds.variables source.variables adds.added (equations_out (equations_seen qs)) adds.variables kinds in
     with_numbers p target 0 f'.equations.items
     (subst (Each (EquationFits p target)) (sym made.equations)
