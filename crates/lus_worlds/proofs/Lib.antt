@@ -1,6 +1,8 @@
 pub mod Moments
-pub mod Settled
+pub mod Sites
+pub mod Passed
 pub mod Fits
+pub mod Settled
 pub mod Followed
 pub mod Found
 pub mod Begun

@@ -1,10 +1,10 @@
 //! Whether variables have what the equations of their node give, whatever is at fault.
 
-ghost use Rattle.std.specs.Prelude.{◌≡◌, ◌<◌, ℕ, IfOk, IsTrue, is_some, length, map, true};
+ghost use Rattle.std.specs.Prelude.{◌≡◌, ◌<◌, ◌↔◌, ℕ, IfOk, IsTrue, false, is_some, length, map, true};
 ghost use Rattle.lus_values.specs.Lists.{item};
 ghost use Rattle.lus_program.specs.View.{node_of, program_seen};
 ghost use Rattle.lus_values.specs.View.{entry_of};
-ghost use Rattle.lus_worlds.specs.Following.{DoesFollow, IsGiven, IsMeant};
+ghost use Rattle.lus_worlds.specs.Following.{DoesFollow, DoesStray, IsGiven, IsMeant, IsMissing, SomeStrays};
 
 use crate::entries::{has_entry, is_entry};
 use lus_parts::clock_of;
@@ -35,7 +35,7 @@ fn meant(
 
 /// Whether an input has an entry only where its clock is present.
 fn fits_input(on: bool, row: &[Option<Value>], variable: u32) -> bool
-    ensures { IsTrue result → is_some (item None (map entry_of row.now) variable) ≡ true → on ≡ true }
+    ensures { IsTrue result ↔ (is_some (item None (map entry_of row.now) variable) ≡ true → on ≡ true) }
 {
     if on {
         true
@@ -55,7 +55,8 @@ fn follows(
     kept: &[Option<Value>],
     rows: &[Row],
 ) -> Result<bool, Memory>
-    ensures { IfOk result (λ b. IsTrue b → DoesFollow (program_seen program.now) present (map entry_of row.now) (node_of node.now) variable (map entry_of kept.now) rows.now) }
+    ensures follows { IfOk result (λ b. IsTrue b → DoesFollow (program_seen program.now) present (map entry_of row.now) (node_of node.now) variable (map entry_of kept.now) rows.now) }
+    ensures strays { IfOk result (λ b. b ≡ false → DoesStray (program_seen program.now) present (map entry_of row.now) (node_of node.now) variable (map entry_of kept.now) rows.now) }
 {
     let clock = clock_of(alloc, &node.variables, variable)?;
     let on = is_on(&clock, present, row);
@@ -87,8 +88,9 @@ pub fn all_follow(
     kept: &[Option<Value>],
     rows: &[Row],
 ) -> Result<bool, Memory>
-    ensures { let f = node_of node.now in
+    ensures follow { let f = node_of node.now in
         IfOk result (λ b. IsTrue b → (x : ℕ) → x < length f.variables → DoesFollow (program_seen program.now) present (map entry_of row.now) f x (map entry_of kept.now) rows.now) }
+    ensures strays { IfOk result (λ b. b ≡ false → SomeStrays (program_seen program.now) present (map entry_of row.now) (node_of node.now) (map entry_of kept.now) rows.now) }
 {
     let count = number_of(node.variables.len())?;
     for variable in 0..count {
@@ -108,7 +110,7 @@ fn is_given(
     node: &Node,
     variable: u32,
 ) -> Result<bool, Memory>
-    ensures { IfOk result (λ b. IsTrue b → IsGiven present (map entry_of row.now) (node_of node.now) variable) }
+    ensures { IfOk result (λ b. IsTrue b ↔ IsGiven present (map entry_of row.now) (node_of node.now) variable) }
 {
     let clock = clock_of(alloc, &node.variables, variable)?;
     let on = is_on(&clock, present, row);
@@ -122,8 +124,9 @@ pub fn all_given(
     row: &[Option<Value>],
     node: &Node,
 ) -> Result<bool, Memory>
-    ensures { let f = node_of node.now in
+    ensures given { let f = node_of node.now in
         IfOk result (λ b. IsTrue b → (x : ℕ) → x < f.inputs → IsGiven present (map entry_of row.now) f x) }
+    ensures missing { IfOk result (λ b. b ≡ false → IsMissing present (map entry_of row.now) (node_of node.now)) }
 {
     for variable in 0..node.inputs {
         let given = is_given(alloc, present, row, node, variable)?;

@@ -1,14 +1,15 @@
 //! What is said of an instant: whether something is at fault in it, or an input is missing.
 
-ghost use Rattle.std.specs.Prelude.{◌≡◌, ◌∷◌, IfOk, IsTrue, MatchOption, map};
+ghost use Rattle.std.specs.Prelude.{◌≡◌, ◌∷◌, IfOk, IsTrue, MatchOption, false, map};
 ghost use Rattle.std.specs.Option.{option_map};
 ghost use Rattle.lus_program.specs.View.{program_seen};
 ghost use Rattle.lus_values.specs.View.{entry_of, value_of};
 ghost use Rattle.lus_parts.specs.Nested.{AreNested};
 ghost use Rattle.lus_parts.specs.Parts.{part_of};
 ghost use Rattle.lus_reference.specs.Causes.{operation_in};
-ghost use Rattle.lus_worlds.specs.Judging.{EachSound, IsFault, IsFaultBelow, IsFaultHere, IsVerdict, NoFaultHere};
-ghost use Rattle.lus_worlds.specs.Moments.{cause_in, row_in};
+ghost use Rattle.lus_worlds.specs.Judging.{EachFaultless, EachSound, IsFault, IsFaultBelow, IsFaultHere, IsFaultless, IsVerdict, NoFaultHere, SomeLacks};
+ghost use Rattle.lus_worlds.specs.Moments.{cause_in, row_in, verdict_in};
+ghost use Rattle.lus_worlds.specs.declared.moment.Verdict.TheVariants as verdicts;
 
 use crate::moment::{Fault, Moment, Verdict};
 use lus_parts::Part;
@@ -112,21 +113,38 @@ fn fault_here(
 }
 
 /// Whether a fault has its cause, or none is wanted.
-fn is_wanted(fault: &Fault, is_cause: bool) -> bool {
+fn is_wanted(fault: &Fault, is_cause: bool) -> bool
+    ensures { is_cause ≡ false → IsTrue result }
+{
     fault.cause.is_some() || !is_cause
+}
+
+/// The fault of an instant, if it has one, or one with its cause, if that is wanted.
+fn fault_of(moment: &Moment, is_cause: bool) -> Option<&Fault>
+    ensures { MatchOption result (is_cause ≡ false → IsFaultless (verdict_in moment.now)) (λ t. verdict_in moment.now ≡ verdicts.AtFault t.now) }
+{
+    match &moment.verdict {
+        Verdict::Sound => None,
+        Verdict::Lacking => None,
+        Verdict::AtFault(fault) => {
+            if is_wanted(fault, is_cause) {
+                Some(fault)
+            } else {
+                None
+            }
+        }
+    }
 }
 
 /// The fault of the first called node that has one, or that has one with its cause, if that is wanted.
 fn fault_among(alloc: Global, called: &[Moment], is_cause: bool) -> Result<Option<Fault>, Memory>
-    ensures { IfOk result (λ o. MatchOption o (Unit {0}) (IsFaultBelow called.now)) }
+    ensures { IfOk result (λ o. MatchOption o (is_cause ≡ false → EachFaultless called.now) (IsFaultBelow called.now)) }
 {
     let mut number = 0;
     for moment in called {
-        if let Verdict::AtFault(fault) = &moment.verdict {
-            if is_wanted(fault, is_cause) {
-                let found = fault_below(alloc, number, fault)?;
-                return Ok(Some(found));
-            }
+        if let Some(fault) = fault_of(moment, is_cause) {
+            let found = fault_below(alloc, number, fault)?;
+            return Ok(Some(found));
         }
         match number.checked_add(1) {
             Some(next) => number = next,
@@ -136,13 +154,17 @@ fn fault_among(alloc: Global, called: &[Moment], is_cause: bool) -> Result<Optio
     Ok(None)
 }
 
-/// Whether nothing is at fault or missing in these instants.
+/// Whether nothing is missing in these instants, at which nothing is at fault.
 fn all_sound(called: &[Moment]) -> bool
-    ensures { IsTrue result → EachSound called.now }
+    requires { EachFaultless called.now }
+    ensures sound { IsTrue result → EachSound called.now }
+    ensures lacks { result ≡ false → SomeLacks called.now }
 {
     for moment in called {
-        if !matches!(moment.verdict, Verdict::Sound) {
-            return false;
+        match &moment.verdict {
+            Verdict::Sound => {}
+            Verdict::AtFault(_) => return false,
+            Verdict::Lacking => return false,
         }
     }
     true
@@ -199,7 +221,10 @@ pub fn judge(
     if let Some(fault) = fault_among(alloc, called, false)? {
         return Ok(Verdict::AtFault(fault));
     }
-    if complete && all_sound(called) {
+    if !complete {
+        return Ok(Verdict::Lacking);
+    }
+    if all_sound(called) {
         Ok(Verdict::Sound)
     } else {
         Ok(Verdict::Lacking)

@@ -3,7 +3,9 @@
 ghost use Rattle.std.specs.Prelude.{◌≡◌, IfOk, MatchOption, map};
 ghost use Rattle.lus_program.specs.Programs.{node_at};
 ghost use Rattle.lus_program.specs.View.{node_of, program_seen};
-ghost use Rattle.lus_worlds.specs.Moments.{EachFollows, Follows, moments_in, node_in};
+ghost use Rattle.lus_values.specs.View.{entry_of};
+ghost use Rattle.lus_streams.specs.Streams.{instant};
+ghost use Rattle.lus_worlds.specs.Moments.{EachFollows, Follows, IsRefused, called_of, instant_of, moments_in, node_in};
 
 use crate::fitting::all_fit;
 use crate::following::{all_follow, all_given};
@@ -16,7 +18,7 @@ use lus_values::{Memory, Row, Value};
 use std::alloc::Global;
 
 /// An instant of a node with these entries and these instants of the nodes that it calls, if it is what the equations give behind what
-/// is kept: an instant of each call follows behind what is kept of it.
+/// is kept: an instant of each call follows behind what is kept of it. It is refused only where it isn't.
 pub fn settle(
     alloc: Global,
     program: &Program,
@@ -29,7 +31,9 @@ pub fn settle(
 ) -> Result<Option<Moment>, Memory>
     requires node { node_of node.now ≡ node_at (program_seen program.now) number }
     requires called { EachFollows (program_seen program.now) (moments_in old.now) called.items }
-    ensures { IfOk result (λ o. MatchOption o (Unit {0}) (λ m. (node_in m ≡ number) × Follows (program_seen program.now) old.now m)) }
+    ensures follows { IfOk result (λ o. MatchOption o (Unit {0}) (λ m. (node_in m ≡ number) × Follows (program_seen program.now) old.now m)) }
+    ensures made { IfOk result (λ o. MatchOption o (Unit {0}) (λ m. instant_of m ≡ instant present (map entry_of row.items) (called_of called.items))) }
+    ensures refused { IfOk result (λ o. MatchOption o (IsRefused (program_seen program.now) number present (map entry_of row.items) called.items old.now) (λ m. Unit {0})) }
 {
     let parts = parts_of(alloc, program, node)?;
     let rows = rows_of(alloc, &called)?;

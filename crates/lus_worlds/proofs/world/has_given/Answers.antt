@@ -26,5 +26,5 @@ returns c =
           ∙ ap (λ i. take i items) (sym c.inputs_at.ensures)
           ∙ sym (taken_map entry_of c.inputs_at.result c.items.result.now)
           ∙ ap (map entry_of) (sym c.first_entries-given.ensures)
-          ∙ c.same_entries.ensures ok;
+          ∙ c.same_entries.ensures.0 ok;
     }
