@@ -1,4 +1,6 @@
 pub mod Moments
+pub mod Among
+pub mod Turns
 pub mod Sites
 pub mod Passed
 pub mod Fits
@@ -7,3 +9,5 @@ pub mod Followed
 pub mod Found
 pub mod Begun
 pub mod Worlds
+pub mod Sought
+pub mod Runs

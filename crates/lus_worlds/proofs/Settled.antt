@@ -29,7 +29,7 @@ use Rattle.lus_worlds.specs.Judging.{EachSound, IsFaultBelow, IsFaultHere, IsVer
 use Rattle.lus_worlds.specs.Moments.{instant_of, called_of, node_in, present_in, row_in, kept_in, complete_in, moments_in, verdict_in, cause_in, kept_of, kept_by, kept_with, Holds, KeepsBehind, EachKeeps, CausedAt, NamesFault, IsSaid, IsNext, Follows, IsRefused, EachFollows, EachFits}
 use Rattle.lus_worlds.proofs.Fits.{called_rows as rows_of_calls}
 use Rattle.lus_worlds.proofs.Passed.{LacksNothing, calls_lack_nothing, inputs_are_variables}
-use Rattle.lus_worlds.proofs.Sites.{each_among}
+use Rattle.lus_worlds.proofs.Among.{each_among}
 use Rattle.lus_worlds.proofs.Moments.{rows_are, instant_seen, kept_seen, each_keeps, all_hold}
 
 module _ (p : Program) where
