@@ -14,7 +14,7 @@ use lus_values::{Memory, Row, Value};
 use std::alloc::Global;
 
 /// What a variable has where its clock is present or not.
-fn meant(
+pub fn meant(
     alloc: Global,
     program: &Program,
     row: &[Option<Value>],

@@ -95,8 +95,7 @@ pub fn extend(
     ensures fault { IfErr result (IsStopped (program_seen program.now) node (map entry_of inputs.now) old.now) }
     ensures none { IfErr result (HasNoFurther (program_seen program.now) node (map entry_of inputs.now) old.now) }
 {
-    let depth = program.nodes.len();
-    match attempt(alloc, program, orders, depth, node, true, inputs, old) {
+    match attempt(alloc, program, orders, node, true, inputs, old) {
         Ok(Some(moment)) => accept(program, node, inputs, old, moment),
         Ok(None) => Err(Stop::Unsettled),
         Err(_) => Err(Stop::Memory),
