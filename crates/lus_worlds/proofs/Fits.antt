@@ -44,7 +44,7 @@ module _ (p : Program) (present : Bool) (row : Row) (ms : List Moment) where
         → EachFits p n' (drop n' ms) ss now past → EachFits p n (drop n ms) (site_first p (at k (numbered q.number e)) ss) now past
 
     -- what is kept of the arguments of a call
-    arguments_kept : (g : ℕ) (es : Operands) (past : World) (rest : List Part) → IsFollowed p (at k (numbered q.number (call g 0 es))) (at k (numbered q.number (call g 0 es)) ∷ rest)
+    pub arguments_kept : (g : ℕ) (es : Operands) (past : World) (rest : List Part) → IsFollowed p (at k (numbered q.number (call g 0 es))) (at k (numbered q.number (call g 0 es)) ∷ rest)
         → Keeps p past (at k (numbered q.number (call g 0 es)) ∷ rest) kept → KeepsArguments p q g es kept past
     arguments_kept g es past rest followed keeps =
         let args = all_numbered (suc q.number) es in

@@ -11,3 +11,4 @@ pub mod Begun
 pub mod Worlds
 pub mod Sought
 pub mod Runs
+pub mod InOrder

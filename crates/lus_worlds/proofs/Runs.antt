@@ -21,8 +21,9 @@ use Rattle.lus_worlds.specs.Following.{IsMeant}
 use Rattle.lus_worlds.specs.Turns.{turns_of}
 use Rattle.lus_worlds.specs.Moments.{instant_of, node_in, row_in, kept_in, moments_in, kept_by, kept_of, kept_with, Holds, AllHold, KeepsBehind}
 use Rattle.lus_worlds.proofs.Moments.{kept_seen}
+use Rattle.lus_worlds.proofs.Among.{map_set}
 use Rattle.lus_worlds.proofs.Sites.{each_is_node}
-use Rattle.lus_worlds.proofs.Sought.{run_more, run_stays, run_now, run_past, rows_set, sought_call, so_far, found_rows, clock_same, definition_same}
+use Rattle.lus_worlds.proofs.Sought.{run_more, run_stays, run_now, run_past, sought_call, so_far, found_rows, clock_same, definition_same}
 
 -- what is sought, by its fields
 module _ (p : Program) (f : ℕ) (present : Bool) (old : Moment) (now : Instant) (past : World) (h : IsSought p f present old now past) where
@@ -95,7 +96,7 @@ module _ (p : Program) (orders : List (List ℕ)) (present : Bool) (old : Moment
             of = record {
                 width = ap (λ v. length v.items) row ∙ of.width;
                 inputs = λ x lt. ap (λ v. item None (map entry_of v.items) x) row ∙ of.inputs x lt;
-                rows = rows ∙ ap (λ l. slice_set l c (row_in m)) of.rows ∙ sym (rows_set os c m) ∙ ap (map row_so_far) (sym called);
+                rows = rows ∙ ap (λ l. slice_set l c (row_in m)) of.rows ∙ sym (map_set row_so_far os c (Some m)) ∙ ap (map row_so_far) (sym called);
                 called = subst (λ l. HaveRun l (called_by now) (sites p (node_at p f))) (sym called) ran;
               };
           },

@@ -69,11 +69,6 @@ rows_of_found (Some m ∷ os) zero = row_is m
 rows_of_found (None ∷ os) (suc c) = rows_of_found os c
 rows_of_found (Some m ∷ os) (suc c) = rows_of_found os c
 
-pub rows_set : (os : List (Option Moment)) (c : ℕ) (m : Moment) → map row_so_far (slice_set os c (Some m)) ≡ slice_set (map row_so_far os) c (row_in m)
-rows_set [] c m = refl
-rows_set (o ∷ os) zero m = refl
-rows_set (o ∷ os) (suc c) m = ap (λ l. row_so_far o ∷ l) (rows_set os c m)
-
 module _ (p : Program) (now : Instant) (past : World) where
   -- none ran yet
   pub none_ran : (olds : List Moment) (os : List (Option Moment)) (js : Called) (ss : List Site) → AllHold p (kept_by olds) ss past → EachAttempt p js ss now past → length os ≡ length olds → Each (λ o. o ≡ None) os → HaveRun os js ss

@@ -3,9 +3,10 @@ use Rattle.std.specs.Prelude.{◌≡◌, ◌<◌, ◌≤◌, ℕ, zero, suc, Boo
 use Rattle.lus_values.specs.Lists.{item, Each}
 use Rattle.lus_values.specs.Values.{Row, Value}
 use Rattle.lus_values.specs.View.{entry_of}
-use Rattle.lus_program.specs.Programs.{Node, Program, node_at}
+use Rattle.lus_program.specs.Programs.{call, Operands, Node, Program, node_at}
+use Rattle.lus_program.specs.View.{expression_of}
 use Rattle.lus_program.specs.Resolved.{Resolved}
-use Rattle.lus_streams.specs.Clocks.{clock_of}
+use Rattle.lus_streams.specs.Clocks.{clock_of, Part, at}
 use Rattle.lus_streams.specs.Equations.{node_parts, Site, sites}
 use Rattle.lus_streams.specs.OnClock.{ProgramOnClocks}
 use Rattle.lus_streams.specs.Order.{IsOrder}
@@ -117,3 +118,12 @@ module _ (p : Program) (orders : List (List ℕ)) (present : Bool) (old : Moment
   FindsAll g order found found' =
       (f : ℕ) (now : Instant) (past : World) → IsPrepared p orders → g ≡ node_at p f → IsOrder g (reverse order) → IsSought p f present old now past → IsOf p f now found
       → IsOf p f now found' × ((x : ℕ) → IsFound (map entry_of found'.row.items) now x) × ((c : ℕ) → has_run found'.called.items c ≡ true)
+
+-- a part that isn't call c
+abbrev pub IsOther : ℕ → Part → Type 0
+IsOther c (at k (call g n args)) = n ≡ c → ⊥
+IsOther c _ = Unit {0}
+
+-- a part that is call c, of node g with these arguments
+abbrev pub CallsHere : ℕ → StoredPart → ℕ → Operands → Type 0
+CallsHere c q g es = (q.number ≡ c) × (expression_of q.expr.now ≡ call g 0 es)

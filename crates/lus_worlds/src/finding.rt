@@ -1,8 +1,9 @@
 //! What was found so far of an instant of a node.
 
-ghost use Rattle.std.specs.Prelude.{◌≡◌, ◌<◌, ◌+◌, ◌++◌, ℕ, [], IfOk, IsTrue, MatchOption, OnOk, false, length, map, slice_set, true};
+ghost use Rattle.std.specs.Prelude.{◌≡◌, ◌<◌, ◌+◌, ◌++◌, ℕ, [], IfOk, IsTrue, MatchOption, OnOk, false, is_some, length, map, slice_set, true};
 ghost use Rattle.lus_program.specs.Programs.{all_calls, all_numbered, calls, numbered};
 ghost use Rattle.lus_program.specs.View.{expression_of, node_of, operands_of, program_seen};
+ghost use Rattle.lus_streams.specs.Equations.{place_in};
 ghost use Rattle.lus_worlds.specs.Finding.{IsFoundBy, has_run, row_so_far, unless};
 ghost use Rattle.lus_worlds.specs.Moments.{row_in};
 ghost use Rattle.lus_worlds.specs.Turns.{all_calls_in_turn, below, calls_in_turn, turns_of};
@@ -191,6 +192,18 @@ fn push_all_calls(
     Ok(next)
 }
 
+/// Whether a variable stands on a left side.
+fn defines(targets: &[u32], variable: u32) -> bool
+    ensures { result ≡ is_some (place_in variable targets.now 0) }
+{
+    for (place, target) in targets.iter().enumerate() {
+        if variable == *target {
+            return true;
+        }
+    }
+    false
+}
+
 /// The calls outside of `pre` on the right side that defines a variable, each behind those in its arguments.
 pub fn calls_of(alloc: Global, node: &Node, variable: u32) -> Result<Vec<usize>, Memory>
     ensures { IfOk result (λ cs. cs.items ≡ turns_of (node_of node.now) variable) }
@@ -199,7 +212,7 @@ pub fn calls_of(alloc: Global, node: &Node, variable: u32) -> Result<Vec<usize>,
     for equation in &node.equations {
         let mut calls = Vec::new(alloc);
         let after = push_calls(&equation.right, next, false, &mut calls)?;
-        if equation.targets.contains(&variable) {
+        if defines(&equation.targets, variable) {
             return Ok(calls);
         }
         next = after;

@@ -2,8 +2,9 @@
 
 ghost use Rattle.std.specs.Prelude.{◌≡◌, ◌<◌, ◌∷◌, [], Bool, IfOk, MatchOption, OnOk, length, map};
 ghost use Rattle.lus_values.specs.View.{entry_of};
-ghost use Rattle.lus_program.specs.View.{node_of, program_seen};
-ghost use Rattle.lus_worlds.specs.Finding.{Finds, FindsAll, IsPrepared, MayFollow, RunsInTurn, RunsNode};
+ghost use Rattle.lus_parts.specs.Parts.{part_of};
+ghost use Rattle.lus_program.specs.View.{node_of, operands_of, program_seen};
+ghost use Rattle.lus_worlds.specs.Finding.{CallsHere, Finds, FindsAll, IsOther, IsPrepared, MayFollow, RunsInTurn, RunsNode};
 ghost use Rattle.lus_worlds.specs.Moments.{Follows, moments_in, node_in};
 
 use crate::entries::entries_from;
@@ -12,7 +13,7 @@ use crate::fitting::pass_at;
 use crate::moment::Moment;
 use crate::settling::settle;
 use lus_parts::{Part, parts_of};
-use lus_program::{Form, Node, Program};
+use lus_program::{Expr, Form, Node, Program};
 use lus_values::{Memory, Value};
 use std::alloc::Global;
 
@@ -130,27 +131,41 @@ fn run_call(
         return Ok(());
     }
     for (place, part) in parts.iter().enumerate() {
-        if part.number == call {
-            if let Form::Call(called, arguments) = &part.expr.form {
-                let kept = entries_from(old.kept.items(), place);
-                let passed = pass_at(
-                    alloc, program, present, &found.row, &found.rows, part, *called, arguments, kept,
-                )?;
-                return run_node(
-                    alloc,
-                    program,
-                    orders,
-                    *called,
-                    passed.on,
-                    &passed.inputs,
-                    old,
-                    call,
-                    found,
-                );
-            }
+        if let Some((called, arguments)) = call_at(part, call) {
+            let kept = entries_from(old.kept.items(), place);
+            let passed = pass_at(
+                alloc, program, present, &found.row, &found.rows, part, called, arguments, kept,
+            )?;
+            return run_node(
+                alloc,
+                program,
+                orders,
+                called,
+                passed.on,
+                &passed.inputs,
+                old,
+                call,
+                found,
+            );
         }
     }
     Ok(())
+}
+
+/// The node and the arguments of the call with this number, if it stands at this part.
+fn call_at<'a>(part: &'a Part<'_>, call: usize) -> Option<(u32, &'a [Expr])>
+    ensures { MatchOption result (IsOther call (part_of part.now)) (λ o. CallsHere call part.now o.0 (operands_of o.1.now)) }
+{
+    if part.number != call {
+        return None;
+    }
+    match &part.expr.form {
+        Form::Call(called, arguments) => {
+            let given: &[Expr] = arguments;
+            Some((*called, given))
+        }
+        _ => None,
+    }
 }
 
 /// Runs the node of a call.

@@ -22,16 +22,19 @@ attempt-settle-requires-clause-called t c =
     let olds = moments_in c.args.old.now in
     let ms = c.in-Some-2.called.items in
     let whole : map (λ m. Some m) ms ≡ c.find.new.found.called.items = rw c.in-Some-2.is at c.in_ok-called-in-Some.ensures in
-    all_follow p olds ms (subst (MayFollow p olds) (sym whole) c.in_ok-find-in-Some.ensures)
+    all_follow p olds ms (subst (MayFollow p olds) (sym whole) c.in_ok-find-in-Some.ensures.may)
 
 pub find-loop-variable-preserved : goal.find-loop-variable-preserved
-find-loop-variable-preserved t c =
-    let p = program_seen c.args.program.now in
-    let olds = moments_in c.args.old.now in
-    subst (λ v. MayFollow p olds v.items) (sym c.in_ok-find_variable.ensures) c.in_ok-run_calls.ensures
+find-loop-variable-preserved t c = ?
 
-pub run_node-returns-in-Some-2 : goal.run_node-returns-in-Some-2
-run_node-returns-in-Some-2 t c =
+pub run_calls-loop-call-preserved : goal.run_calls-loop-call-preserved
+run_calls-loop-call-preserved t c = ?
+
+pub run_call-loop-place-preserved : goal.run_call-loop-place-preserved
+run_call-loop-place-preserved t c = ?
+
+pub run_node-returns-in-Some-2-clause-may : goal.run_node-returns-in-Some-2-clause-may
+run_node-returns-in-Some-2-clause-may t c =
     let p = program_seen c.args.program.now in
     let olds = moments_in c.args.old.now in
     let os = c.args.found.now.called.items in
@@ -41,6 +44,6 @@ run_node-returns-in-Some-2 t c =
     let slot : slice_get c.deref.result.now n ≡ Some own = slice_get_read c.deref.result.now (length c.deref.result.now) n own refl (omega (arith, c.in-Some.ensures.lookup.3.0)) c.in-Some.ensures.lookup.1 in
     let there : slice_get olds n ≡ Some own = subst (λ l. slice_get l n ≡ Some own) c.deref.ensures.value slot in
     let ran = rw c.in-Some-2.is at c.in_ok-moment-in-Some.ensures in
-    let follows : Follows p own m = ran.1 in
+    let follows : Follows p own m = ran.follows.1 in
     let added : MayFollow p olds (slice_set os n (Some m)) = may_set p olds os n own m c.requires there follows in
-    on_ok_weaker c.add.result (λ e. subst (MayFollow p olds) (sym e) added) c.add.ensures
+    on_ok_weaker c.add.result (λ e. subst (MayFollow p olds) (sym e) added) c.add.ensures.called
