@@ -187,8 +187,8 @@ fn run_node(
 {
     match old.called.get(call) {
         Some(own) => match attempt(alloc, program, orders, called, on, inputs, own)? {
-            Some(moment) if call < found.called.len() => found.add(alloc, call, moment),
-            _ => Ok(()),
+            Some(moment) => found.add(alloc, call, moment),
+            None => Ok(()),
         },
         None => Ok(()),
     }
