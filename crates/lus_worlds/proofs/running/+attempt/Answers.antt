@@ -19,7 +19,7 @@ use Rattle.lus_worlds.specs.Fitting.{PassesAt}
 use Rattle.lus_worlds.specs.Moments.{kept_in, moments_in, node_in, row_in, Follows}
 use Rattle.lus_worlds.specs.Turns.{below, turns_of}
 use Rattle.lus_worlds.proofs.Found.{all_follow, blank_may, may_length, may_set}
-use Rattle.lus_worlds.proofs.InOrder.{find_all, find_next, none_settled, one_settled, run_here, run_none, run_nowhere, run_then, some_missing, FindsHere, FindsSoFar, IsBegun}
+use Rattle.lus_worlds.proofs.InOrder.{find_all, find_next, none_settled, one_settled, run_here, run_none, run_nowhere, run_then, some_missing, FindsSoFar, IsBegun}
 use Rattle.lus_worlds.proofs.Runs.{none_found, none_there, one_found}
 use Rattle.lus_worlds.proofs.running.+attempt.Goals as goal
 

@@ -43,8 +43,8 @@ returns-clause-not c =
     ∙ ap (map entry_of) (sym c.first_entries-given.ensures) in
     λ no has. true≢false (sym (c.same_entries.ensures.1 (sym taken ∙ has.inputs)) ∙ no)
 
-pub returns-then-not-present-clause-not : goal.returns-then-not-present-clause-not
-returns-then-not-present-clause-not c = ?
-
-pub returns-then-not-complete-clause-not : goal.returns-then-not-complete-clause-not
-returns-then-not-complete-clause-not c = ?
+pub returns-then-not-moment-clause-not : goal.returns-then-not-moment-clause-not
+returns-then-not-moment-clause-not c =
+    let m = c.args.moment.now in
+    let off : present_in m ≡ false = first_of (search rules, grind (arith, common_steps)) in
+    λ no has. true≢false (sym has.present ∙ ap is_present (instant_seen m) ∙ off)
