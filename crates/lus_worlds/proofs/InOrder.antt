@@ -261,7 +261,7 @@ module _ (p : Program) (orders : List (List ℕ)) (present : Bool) (old : Moment
             called = subst (λ v. HaveRun v.items (called_by now) (sites p own)) (sym called) of'.called;
           },
           subst (Each (IsFound (map entry_of e.row.items) now)) (sym last)
-          (set.1, each_implies (IsFound (map entry_of d.row.items) now) (IsFound (map entry_of e.row.items) now) set.2 (reverse before) found'),
+              (set.1, each_implies (IsFound (map entry_of d.row.items) now) (IsFound (map entry_of e.row.items) now) set.2 (reverse before) found'),
         )
 
     all_more : (order : List ℕ) (parts : List StoredPart) (b d : Found) → IsPrepared p orders → IsOrder own (reverse order) → IsOf p f now b → Each (IsFound (map entry_of b.row.items) now) (reverse order)

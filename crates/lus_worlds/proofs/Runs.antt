@@ -94,11 +94,11 @@ module _ (p : Program) (orders : List (List ℕ)) (present : Bool) (old : Moment
             row = row;
             stays = λ d r. subst (λ l. has_run l d ≡ true) (sym called) (run_stays os c d m r);
             of = record {
-                width = ap (λ v. length v.items) row ∙ of.width;
-                inputs = λ x lt. ap (λ v. item None (map entry_of v.items) x) row ∙ of.inputs x lt;
-                rows = rows ∙ ap (λ l. slice_set l c (row_in m)) of.rows ∙ sym (map_set row_so_far os c (Some m)) ∙ ap (map row_so_far) (sym called);
-                called = subst (λ l. HaveRun l (called_by now) (sites p (node_at p f))) (sym called) ran;
-              };
+              width = ap (λ v. length v.items) row ∙ of.width;
+              inputs = λ x lt. ap (λ v. item None (map entry_of v.items) x) row ∙ of.inputs x lt;
+              rows = rows ∙ ap (λ l. slice_set l c (row_in m)) of.rows ∙ sym (map_set row_so_far os c (Some m)) ∙ ap (map row_so_far) (sym called);
+              called = subst (λ l. HaveRun l (called_by now) (sites p (node_at p f))) (sym called) ran;
+            };
           },
           subst (λ l. has_run l c ≡ true) (sym called) (run_now os c m),
         )

@@ -239,9 +239,9 @@ module _ (p : Program) (all : List Site) (before_all : Each (OfSite p IsBefore) 
   below_run (suc n) before ran = (
     last_can_run n before ran,
     below_run n (n ∷ before)
-    (λ d le within.
-    ⊎_elim (λ lt. let same : d ≡ n = omega (arith, lt, le) in subst (λ z. IsTrue (is_in (n ∷ before) z)) (sym same) (in_first n before)) (λ ge. in_either (nat_eq d n) (is_in before d) (ran d ge within))
-    (cases_lt d (suc n))),
+        (λ d le within.
+        ⊎_elim (λ lt. let same : d ≡ n = omega (arith, lt, le) in subst (λ z. IsTrue (is_in (n ∷ before) z)) (sym same) (in_first n before)) (λ ge. in_either (nat_eq d n) (is_in before d) (ran d ge within))
+        (cases_lt d (suc n))),
   )
 
 -- what each variable of an order needs stands before it

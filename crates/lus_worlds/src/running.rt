@@ -37,14 +37,7 @@ pub fn attempt(
             let order = order_at(orders, number);
             let mut found = Found::begin(alloc, node.variables.len(), inputs, old.called.len())?;
             find(
-                alloc,
-                program,
-                orders,
-                node,
-                order,
-                present,
-                old,
-                &mut found,
+                alloc, program, orders, node, order, present, old, &mut found,
             )?;
             match all_called(alloc, found.called)? {
                 Some(called) => settle(
@@ -76,15 +69,11 @@ fn find(
     let parts = parts_of(alloc, program, node)?;
     for variable in order {
         let calls = calls_of(alloc, node, *variable)?;
-        run_calls(
-            alloc, program, orders, &parts, present, old, &calls, found,
-        )?;
+        run_calls(alloc, program, orders, &parts, present, old, &calls, found)?;
         found.find_variable(alloc, program, node, *variable, present, old.kept.items())?;
     }
     let left = last_first(alloc, old.called.len())?;
-    run_calls(
-        alloc, program, orders, &parts, present, old, &left, found,
-    )
+    run_calls(alloc, program, orders, &parts, present, old, &left, found)
 }
 
 /// Runs those of these calls that did not run yet.
@@ -104,9 +93,7 @@ fn run_calls(
     ensures run { OnOk result (RunsInTurn (program_seen program.now) (map (λ order. order.items) orders.now) present old.now parts.now calls.now found.old found.new) }
 {
     for call in calls {
-        run_call(
-            alloc, program, orders, parts, present, old, *call, found,
-        )?;
+        run_call(alloc, program, orders, parts, present, old, *call, found)?;
     }
     Ok(())
 }
@@ -134,7 +121,15 @@ fn run_call(
         if let Some((called, arguments)) = call_at(part, call) {
             let kept = entries_from(old.kept.items(), place);
             let passed = pass_at(
-                alloc, program, present, &found.row, &found.rows, part, called, arguments, kept,
+                alloc,
+                program,
+                present,
+                &found.row,
+                &found.rows,
+                part,
+                called,
+                arguments,
+                kept,
             )?;
             return run_node(
                 alloc,
