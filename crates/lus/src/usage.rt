@@ -40,7 +40,7 @@ Draws journals that lus or lus_live wrote, if they are lawful: as a chronogram, 
   --waves    as a timing diagram (SVG)
   --csv      as tables for spreadsheets
   --vcd      as a value change dump, for viewers of waveforms
-  --all      with the node's locals; --signals a,b,f.c,f#2.c: these, c of calls of the node f
+  --all      with the node's locals; --signals a,f.c,f#2.*: these, c and all of calls of the node f
 
 --from and --to draw the instants from the N-th to the N-th alone, not with --html or --vcd.
 Without PROGRAM a page shows the journal's lines. Status: 0 drawn, 1 to 4 as lus.

@@ -19,6 +19,11 @@ and_false : (b : Bool) → (b && false) ≡ false
 and_false true = refl
 and_false false = refl
 
+both_ways : (a b : Bool) → (a ≡ true → b ≡ true) → (b ≡ true → a ≡ true) → a ≡ b
+both_ways true b h k = sym (h refl)
+both_ways false true h k = k refl
+both_ways false false h k = refl
+
 -- a test and the rest of a clock, where the entry that is tested is that of the caller where the rest is present
 test_same : (c : ℕ) (on there : Bool) (o given : Option Value) → on ≡ there → given ≡ where_on on o → (is_constructor c o && on) ≡ (is_constructor c given && there)
 test_same c true there o given h e = ap₂ (λ v b. is_constructor c v && b) (sym e) h
@@ -72,7 +77,7 @@ module _ (p : Program) (g : Node) (args : Operands) (base : Clock) (now : Instan
     renamed_is [] h = sym present
     renamed_is (t ∷ l) h = test_is t l (operand args t.variable) refl h.1 h.0 h.2 (renamed_is l h.3)
 
-    module _ (declared : Below (length g.variables) (λ x. IsDeclared g x (test_of g x))) (wide : (x : ℕ) → x < g.inputs → x < length g.variables) (named : NamesFormals g args) where
+    module _ (declared : Below (length g.variables) (λ x. IsDeclared g x (test_of g x))) (wide : (x : ℕ) → x < g.inputs → x < length g.variables) (named : (x : ℕ) → x < g.inputs → Each (λ t. IsName (operand args t.variable)) (clock_of g x)) where
       linked_by : (o : Option Test) (t : Test) (l : Clock) (m : ℕ) → test_of g m ≡ o → IsDeclared g m o → m < g.inputs → clock_of g m ≡ t ∷ l → (t.variable < g.inputs) × (l ≡ clock_of g t.variable)
       linked_by None t l m same d lt h = absurd (cc (chain_none (length g.variables) g.variables m same))
       linked_by (Some u) t l m same d lt h =
@@ -85,12 +90,23 @@ module _ (p : Program) (g : Node) (args : Operands) (base : Clock) (now : Instan
       linked [] m lt h = tt
       linked (t ∷ l) m lt h =
           let own = linked_by (test_of g m) t l m refl (below_at (λ x. IsDeclared g x (test_of g x)) (length g.variables) declared m (wide m lt)) lt h in
-          let names = below_at (λ x. Each (λ s. IsName (operand args s.variable)) (clock_of g x)) (g.inputs + g.outputs) named m (omega arith) in
-          (own.0, (subst (Each (λ s. IsName (operand args s.variable))) h names).0, own.1, linked l t.variable own.0 (sym own.1))
+          (own.0, (subst (Each (λ s. IsName (operand args s.variable))) h (named m lt)).0, own.1, linked l t.variable own.0 (sym own.1))
 
-      pub inputs_on_clocks : (x : ℕ) → x < g.inputs → is_some (entry j x) ≡ true → is_on (clock_of g x) j ≡ true
-      inputs_on_clocks x lt some =
+      -- an input's clock is present where its argument's is
+      formal_is : (x : ℕ) → x < g.inputs → is_on (formal_clock g args base x) now ≡ is_on (clock_of g x) j
+      formal_is x lt = renamed_is (clock_of g x) (linked (clock_of g x) x lt refl)
+
+      input_on_clock : (x : ℕ) → x < g.inputs → is_some (entry j x) ≡ true → is_on (clock_of g x) j ≡ true
+      input_on_clock x lt some =
           let here : 0 + x ≡ x = omega arith in
-          sym (renamed_is (clock_of g x) (linked (clock_of g x) x lt refl))
-          ∙ ap (λ n. is_on (formal_clock g args base n) now) (sym here)
-          ∙ passed_where args 0 x (sym (ap is_some (input_is x lt)) ∙ some)
+          sym (formal_is x lt) ∙ ap (λ n. is_on (formal_clock g args base n) now) (sym here) ∙ passed_where args 0 x (sym (ap is_some (input_is x lt)) ∙ some)
+
+      -- where something is passed on each clock that is present, no input is missing
+      pub none_is_missing : ((x : ℕ) → x < g.inputs → is_on (formal_clock g args base x) now ≡ true → is_some (item None (inputs_given p args g args base 0 now past) x) ≡ true)
+          → (x : ℕ) → x < g.inputs → is_some (entry j x) ≡ is_on (clock_of g x) j
+      none_is_missing passed x lt = both_ways (is_some (entry j x)) (is_on (clock_of g x) j) (input_on_clock x lt) (λ on. ap is_some (input_is x lt) ∙ passed x lt (formal_is x lt ∙ on))
+
+    pub inputs_on_clocks : Below (length g.variables) (λ x. IsDeclared g x (test_of g x)) → ((x : ℕ) → x < g.inputs → x < length g.variables) → NamesFormals g args
+        → (x : ℕ) → x < g.inputs → is_some (entry j x) ≡ true → is_on (clock_of g x) j ≡ true
+    inputs_on_clocks declared wide named =
+        input_on_clock declared wide (λ x lt. below_at (λ m. Each (λ t. IsName (operand args t.variable)) (clock_of g m)) (g.inputs + g.outputs) named x (omega (arith, lt)))

@@ -34,6 +34,7 @@ module _ (read_fails : Known → Type 0) (file journal : Known) where
   program_fails (faults.Program e) refused = refused
   program_fails faults.Memory memory = tt
   program_fails (faults.Journal n) never = absurd never
+  program_fails (faults.Signal n) never = absurd never
   program_fails (faults.Scripts e) never = absurd never
   program_fails faults.Words never = absurd never
   program_fails faults.Output never = absurd never
@@ -52,6 +53,7 @@ module _ (read_fails : Known → Type 0) (file journal : Known) where
   log_program_fails name (faults.Program e) refused = refused
   log_program_fails name faults.Memory memory = tt
   log_program_fails name (faults.Journal n) never = absurd never
+  log_program_fails name (faults.Signal n) never = absurd never
   log_program_fails name (faults.Scripts e) never = absurd never
   log_program_fails name faults.Words never = absurd never
   log_program_fails name faults.Output never = absurd never

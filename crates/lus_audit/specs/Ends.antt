@@ -44,6 +44,7 @@ AuditFails read_fails program journal faults.File = IsLost read_fails program �
 AuditFails read_fails program journal (faults.Program e) = WithFile program (λ text. ProgramRefused text e)
 AuditFails read_fails program journal (faults.Journal n) =
     (p : Program) × IsOfFile program p × WithFile journal (λ bytes. AreNone p (Some bytes))
+AuditFails read_fails program journal (faults.Signal n) = ⊥
 AuditFails read_fails program journal faults.Memory = ⊤
 AuditFails read_fails program journal (faults.Scripts e) = ⊥
 AuditFails read_fails program journal faults.Words = ⊥

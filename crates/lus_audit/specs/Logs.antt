@@ -65,6 +65,7 @@ LogAuditFails read_fails file log name faults.File = IsLost read_fails file ⊎ 
 LogAuditFails read_fails file log name (faults.Program e) = WithFile file (λ text. ProgramRefused text e)
 LogAuditFails read_fails file log name (faults.Scripts e) = (e ≡ scripts.Unknown) × ((p : Program) × IsOfFile file p × (node_named p name ≡ None))
 LogAuditFails read_fails file log name (faults.Journal n) = (p : Program) × IsOfFile file p × WithFile log (λ bytes. IsNoLog p (Some bytes))
+LogAuditFails read_fails file log name (faults.Signal n) = ⊥
 LogAuditFails read_fails file log name faults.Memory = ⊤
 LogAuditFails read_fails file log name faults.Words = ⊥
 LogAuditFails read_fails file log name faults.Output = ⊥

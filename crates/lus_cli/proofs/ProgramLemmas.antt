@@ -38,6 +38,7 @@ module _ (known : Known) where
         (λ left same. refused_left m n is next bytes left e same refused) read
     compile_fault read_fails faults.Memory memory = tt
     compile_fault read_fails (faults.Journal k) never = absurd never
+    compile_fault read_fails (faults.Signal k) never = absurd never
     compile_fault read_fails (faults.Scripts e) never = absurd never
     compile_fault read_fails faults.Words never = absurd never
     compile_fault read_fails faults.File never = absurd never
@@ -50,6 +51,7 @@ module _ (known : Known) where
   program_unread read_fails faults.Memory memory = tt
   program_unread read_fails (faults.Program e) never = absurd never
   program_unread read_fails (faults.Journal k) never = absurd never
+  program_unread read_fails (faults.Signal k) never = absurd never
   program_unread read_fails (faults.Scripts e) never = absurd never
   program_unread read_fails faults.Words never = absurd never
   program_unread read_fails faults.Output never = absurd never

@@ -18,6 +18,7 @@ module _ (status : ℕ) (old mid new : Option Bytes) (before between after : Opt
       → IsToldAlone status f (change old new before after)
   told_alone (faults.Journal n) quiet told = (mid, between, told)
   told_alone (faults.Program e) quiet told = same_told (faults.Program e) quiet told
+  told_alone (faults.Signal n) quiet told = same_told (faults.Signal n) quiet told
   told_alone (faults.Scripts e) quiet told = (mid, between, told)
   told_alone faults.Words quiet told = same_told faults.Words quiet told
   told_alone faults.File quiet told = same_told faults.File quiet told

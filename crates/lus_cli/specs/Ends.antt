@@ -34,6 +34,7 @@ CheckEnds read_fails program (Err faults.Memory) output = IsUntouched output
 CheckEnds read_fails program (Err faults.Words) output = ⊥
 CheckEnds read_fails program (Err faults.Start) output = ⊥
 CheckEnds read_fails program (Err (faults.Journal n)) output = ⊥
+CheckEnds read_fails program (Err (faults.Signal n)) output = ⊥
 CheckEnds read_fails program (Err (faults.Scripts e)) output = ⊥
 
 -- where it is known whether there are both files, there are, and this holds of their bytes
@@ -62,6 +63,7 @@ RunEnds read_fails program scripts (Err faults.Memory) output =
 RunEnds read_fails program scripts (Err faults.Start) output = IsUntouched output
 RunEnds read_fails program scripts (Err faults.Words) output = ⊥
 RunEnds read_fails program scripts (Err (faults.Journal n)) output = ⊥
+RunEnds read_fails program scripts (Err (faults.Signal n)) output = ⊥
 
 -- how what is asked of `lus` ends
 abbrev pub TaskEnds : (Known → Type 0) → (Text → Known) → Asked → Outcome → Change → Type 0
@@ -75,6 +77,7 @@ abbrev pub IsReadingFault : Type 0 → Fault → Type 0
 IsReadingFault lost (faults.Program e) = ⊥
 IsReadingFault lost (faults.Scripts e) = ⊥
 IsReadingFault lost (faults.Journal n) = ⊥
+IsReadingFault lost (faults.Signal n) = ⊥
 IsReadingFault lost faults.Words = ⊥
 IsReadingFault lost faults.File = lost
 IsReadingFault lost faults.Output = ⊥

@@ -50,6 +50,7 @@ abbrev pub fault_status : Fault → ℕ
 fault_status (faults.Program r) = 1
 fault_status (faults.Scripts r) = 2
 fault_status (faults.Journal n) = 2
+fault_status (faults.Signal n) = 2
 fault_status faults.Words = 2
 fault_status faults.File = 3
 fault_status faults.Output = 3
@@ -68,6 +69,7 @@ abbrev pub fault_text : Fault → Text
 fault_text (faults.Program r) = refusal_text r
 fault_text (faults.Scripts r) = script_text r
 fault_text (faults.Journal n) = codes "journal line " ++ decimal n
+fault_text (faults.Signal n) = codes "signal " ++ decimal n
 fault_text faults.Words = codes "words"
 fault_text faults.File = codes "file"
 fault_text faults.Output = codes "output"
@@ -101,6 +103,7 @@ run_outcome (Err e) = Err (run_fault e)
 abbrev pub IsQuiet : Fault → Change → Type 0
 IsQuiet (faults.Journal n) c = ⊤
 IsQuiet (faults.Program e) c = IsUntouched c
+IsQuiet (faults.Signal n) c = IsUntouched c
 IsQuiet (faults.Scripts e) c = ⊤
 IsQuiet faults.Words c = IsUntouched c
 IsQuiet faults.File c = IsUntouched c
@@ -116,6 +119,7 @@ IsToldLast status f faults = (said : Option Bytes) × (failed : Option ℕ) × I
 abbrev pub IsToldAlone : ℕ → Fault → Change → Type 0
 IsToldAlone status (faults.Journal n) c = IsToldLast status (faults.Journal n) c
 IsToldAlone status (faults.Program e) c = IsToldBy status (faults.Program e) c
+IsToldAlone status (faults.Signal n) c = IsToldBy status (faults.Signal n) c
 IsToldAlone status (faults.Scripts e) c = IsToldLast status (faults.Scripts e) c
 IsToldAlone status faults.Words c = IsToldBy status faults.Words c
 IsToldAlone status faults.File c = IsToldBy status faults.File c

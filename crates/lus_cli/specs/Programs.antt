@@ -16,6 +16,7 @@ abbrev pub IsCompileFault : Bytes → Fault → Type 0
 IsCompileFault bytes (faults.Program e) = ProgramRefused bytes e
 IsCompileFault bytes faults.Memory = ⊤
 IsCompileFault bytes (faults.Journal n) = ⊥
+IsCompileFault bytes (faults.Signal n) = ⊥
 IsCompileFault bytes (faults.Scripts e) = ⊥
 IsCompileFault bytes faults.Words = ⊥
 IsCompileFault bytes faults.File = ⊥
@@ -28,6 +29,7 @@ IsProgramFault read_fails program faults.File = IsLost read_fails program
 IsProgramFault read_fails program (faults.Program e) = WithFile program (λ text. ProgramRefused text e)
 IsProgramFault read_fails program faults.Memory = ⊤
 IsProgramFault read_fails program (faults.Journal n) = ⊥
+IsProgramFault read_fails program (faults.Signal n) = ⊥
 IsProgramFault read_fails program (faults.Scripts e) = ⊥
 IsProgramFault read_fails program faults.Words = ⊥
 IsProgramFault read_fails program faults.Output = ⊥

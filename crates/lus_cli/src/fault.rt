@@ -26,17 +26,19 @@ pub enum Fault {
     Scripts(ScriptRefusal),
     /// This line, from 1, is none of a journal, or begins one of a node that the program doesn't have.
     Journal(u64),
+    /// The signal at this place among those that were named, from 1, isn't one of a node there.
+    Signal(u64),
 }
 
 impl Fault {
-    /// The status of the process: 1 for a refused program, 2 for refused scripts, journals or words, 3 for a device that failed,
+    /// The status of the process: 1 for a refused program, 2 for refused scripts, journals, signals or words, 3 for a device that failed,
     /// and 4 where there is no memory or no thread.
     pub fn status(&self) -> u8
         ensures { result ≡ fault_status self.now }
     {
         match self {
             Fault::Program(_) => 1,
-            Fault::Scripts(_) | Fault::Journal(_) | Fault::Words => 2,
+            Fault::Scripts(_) | Fault::Journal(_) | Fault::Signal(_) | Fault::Words => 2,
             Fault::File | Fault::Output => 3,
             Fault::Memory | Fault::Start => 4,
         }

@@ -83,5 +83,6 @@ pub(crate) fn write_fault<F: Sink>(faults: &mut F, fault: &Fault) -> Result<(), 
         Fault::Journal(line) => {
             write_pieces(faults, &["journal line ", Buffer::new().format(*line)])
         }
+        Fault::Signal(place) => write_pieces(faults, &["signal ", Buffer::new().format(*place)]),
     }
 }

@@ -1,22 +1,24 @@
 -- What an audit finds, of what was gathered.
-use Rattle.std.proofs.Common.{◌≡◌, inl, inr, refl, subst, sym, ℕ, List, [], Option, Some, None}
+use Rattle.std.proofs.Common.{◌≡◌, ◌++◌, arith, inl, inr, refl, subst, suc, sym, ℕ, List, [], ◌∷◌, Option, Some, None}
 use Rattle.std.specs.Prelude.{⊤, IfOk, Ok, Result}
+use Rattle.std.specs.List.{All}
 use Rattle.lus_program.specs.Programs.{Program}
 use Rattle.lus_devices.specs.Devices.{Bytes}
 use Rattle.lus_lawful.specs.Audits.{AreLawful, Gathers, HasAudited}
 use Rattle.lus_lawful.specs.Errors.{BlamesIf}
 use Rattle.lus_lawful.specs.Findings.{AreNone}
-use Rattle.lus_lawful.specs.Journals.{Journal}
+use Rattle.lus_lawful.specs.Journals.{IsLawfulJournal, Journal, entries_of}
 use Rattle.lus_lawful.specs.declared.error.AuditError.{AuditError}
 use Rattle.lus_lawful.specs.declared.error.AuditError.TheVariants as errors
 use Rattle.lus_cli.specs.CommandLine.{Text}
+use Rattle.lus_cli.specs.MachineSpecs.HistorySpecs.Histories.{History}
 use Rattle.lus_cli.specs.declared.fault.Fault.{Fault}
 use Rattle.lus_sketches.specs.Selections.{Selection}
-use Rattle.lus_sketches.specs.Sketches.{IsFailure}
 use Rattle.lus_sketches.specs.declared.sketches.Failure.{Failure}
 use Rattle.lus_sketches.specs.declared.sketches.Failure.TheVariants as failures
+use Rattle.lus_sketches.proofs.Sketched.{lost_unlawful}
 use Rattle.lus_draw.specs.Drawings.{IsDrawingFault, IsUnsettled, audit_fault, failure_fault}
-use Rattle.lus_draw.specs.Gatherings.{AreDrawn, HasGathered}
+use Rattle.lus_draw.specs.Gatherings.{AreDrawn, FailsIn, HasGathered}
 use Rattle.lus_draw.specs.declared.gathering.Drawn.{Drawn}
 
 -- what holds of a result that is a value holds of the value
@@ -65,21 +67,33 @@ module _ (s : Selection) (p : Program) where
 
   -- or it is known why nothing is
   none_drawn : (ds : List Drawn) (failure : Failure) (left : Option Bytes) (report : Text)
-      → HasAudited p (GathersAll (Some failure) ds) None left report → IsFailure s failure
-  none_drawn ds failure left report (tail, mid, end, lines, lawful, last) = lawful.gathered.behind [] tt
+      → HasAudited p (GathersAll (Some failure) ds) None left report → HasAudited p (λ js. FailsIn s p js failure) None left report
+  none_drawn ds failure left report = audited_as p (GathersAll (Some failure) ds) (λ js. FailsIn s p js failure) (λ js g. g.behind [] tt) None left report
+
+  lawful_in : (before behind : List Journal) (j : Journal) → All (IsLawfulJournal p) (before ++ j ∷ behind) → IsLawfulJournal p j
+  lawful_in [] behind j all = all 0 j (omega arith)
+  lawful_in (i ∷ before) behind j all = lawful_in before behind j (λ k d lt. all (suc k) d (omega (arith, lt)))
+
+  -- no world is lost of a lawful journal
+  none_lost : (js : List Journal) (n : ℕ) → All (IsLawfulJournal p) js → FailsIn s p js (failures.Lost n) → ⊥
+  none_lost js n all failed =
+      let is = lawful_in failed.before failed.behind failed.journal (subst (All (IsLawfulJournal p)) failed.stands all) in
+      let same : is.node ≡ failed.node = let named = is.named in let again = failed.named in cc in
+      lost_unlawful s p failed.node (entries_of failed.journal) n (subst (λ f. History p f (entries_of failed.journal)) same is.lawful) failed.fails
 
   module _ (bytes : Text) where
-    failure_is : (failure : Failure) → IsFailure s failure → IsDrawingFault s p bytes (failure_fault failure)
-    failure_is failures.Unknown by_name = by_name
-    failure_is (failures.Lost n) picked = inr (inr picked)
+    failure_is : (failure : Failure) (report : Text) → HasAudited p (λ js. FailsIn s p js failure) None (Some bytes) report
+        → IsDrawingFault s p bytes (failure_fault failure)
+    failure_is (failures.Unknown n) report audited = (report, audited)
+    failure_is (failures.Lost n) report (tail, mid, end, lines, lawful, last) = absurd (none_lost lawful.journals n lawful.lawful lawful.gathered)
 
     pub unsettled_is : (wrong : Option ℕ) (failure : Option Failure) (ds : List Drawn) (report : Text) (f : Fault) → IsUnsettled wrong failure f
         → HasAudited p (GathersAll failure ds) wrong (Some bytes) report → IsDrawingFault s p bytes f
     unsettled_is (Some n) failure ds report f is audited =
         let found = audited_as p (GathersAll failure ds) (λ js. ⊤) (λ js g. tt) (Some n) (Some bytes) report audited in
-        subst (IsDrawingFault s p bytes) (sym is) (inr (inl (report, found)))
+        subst (IsDrawingFault s p bytes) (sym is) (inr (report, found))
     unsettled_is None (Some e) ds report f is audited =
-        subst (IsDrawingFault s p bytes) (sym is) (failure_is e (none_drawn ds e (Some bytes) report audited))
+        subst (IsDrawingFault s p bytes) (sym is) (failure_is e report (none_drawn ds e (Some bytes) report audited))
     unsettled_is None None ds report f never audited = absurd never
 
     pub audit_is : (e : AuditError) → BlamesIf (AreNone p (Some bytes)) e → IsDrawingFault s p bytes (audit_fault e)

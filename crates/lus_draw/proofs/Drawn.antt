@@ -1,5 +1,5 @@
 -- What is drawn of journals, one behind another, and of parts of them.
-use Rattle.std.proofs.Common.{ℕ, subst, ◌≡◌, ◌++◌, List, [], ◌∷◌, Option, Some, None, ◌∙◌, ap, map, refl, sym, string_bytes}
+use Rattle.std.proofs.Common.{ℕ, subst, ◌≡◌, ◌++◌, List, [], ◌∷◌, Option, Some, None, ◌∙◌, ap, map, refl, sym, append_assoc, string_bytes}
 use Rattle.std.specs.Option.{option_or}
 use Rattle.std.specs.Global.{Vec}
 use Rattle.std.specs.Prelude.{MatchOption}
@@ -22,7 +22,7 @@ use Rattle.lus_sketches.specs.declared.sketches.Sketch.{Sketch}
 use Rattle.lus_traces.specs.Traces.{name_of}
 use Rattle.lus_traces.specs.declared.trace.Signal.{Signal}
 use Rattle.lus_draw.specs.Drawings.{AreTraces, DrawsLines, texts, trace_of}
-use Rattle.lus_draw.specs.Gatherings.{AreDrawn, HasGathered, IsDrawn}
+use Rattle.lus_draw.specs.Gatherings.{AreDrawn, FailsIn, HasGathered, IsDrawn}
 
 module _ (s : Selection) (p : Program) where
   -- one journal more
@@ -32,10 +32,22 @@ module _ (s : Selection) (p : Program) where
   drawn_next (i ∷ js) [] j d never is = absurd never
   drawn_next (i ∷ js) (e ∷ ds) j d (first, are) is = (first, drawn_next js ds j d are is)
 
+  -- why one of journals isn't drawn says so of more
+  fails_on : (js : List Journal) (j : Journal) (f : Failure) → FailsIn s p js f → FailsIn s p (js ++ j ∷ []) f
+  fails_on js j f failed = record {
+    before = failed.before;
+    journal = failed.journal;
+    behind = failed.behind ++ j ∷ [];
+    stands = ap (λ l. l ++ j ∷ []) failed.stands ∙ append_assoc failed.before (failed.journal ∷ failed.behind) (j ∷ []);
+    node = failed.node;
+    named = failed.named;
+    fails = failed.fails;
+  }
+
   -- one journal more, whose drawing may have failed
   pub gathered_next : (js : List Journal) (j : Journal) (ds : List Drawn) (d : Drawn) (old found : Option Failure) → HasGathered s p js old ds
-      → MatchOption found (IsDrawn s p j d) (IsFailure s) → HasGathered s p (js ++ j ∷ []) (option_or old found) (ds ++ d ∷ [])
-  gathered_next js j ds d (Some f) found failed is = failed
+      → MatchOption found (IsDrawn s p j d) (FailsIn s p (js ++ j ∷ [])) → HasGathered s p (js ++ j ∷ []) (option_or old found) (ds ++ d ∷ [])
+  gathered_next js j ds d (Some f) found failed is = fails_on js j f failed
   gathered_next js j ds d None (Some f) are failed = failed
   gathered_next js j ds d None None are is = drawn_next js ds j d are is
 
@@ -57,17 +69,19 @@ module _ (s : Selection) (p : Program) where
         table = subst (λ (t : Table). IsTable s p f (entries_of j) (map name_of d.signals.items) (map column_seen t.columns.items)) (sym table) same_names;
       }
 
-  sketched_or : (j : Journal) (f : ℕ) (k : Sketch) (d : Drawn) (failure : Option Failure) → (IsSketch s p f (entries_of j) k → IsDrawn s p j d)
-      → MatchOption failure (IsSketch s p f (entries_of j) k) (IsFailure s) → MatchOption failure (IsDrawn s p j d) (IsFailure s)
-  sketched_or j f k d None so is = so is
-  sketched_or j f k d (Some e) so failed = failed
+  sketched_or : (js : List Journal) (j : Journal) (f : ℕ) (k : Sketch) (d : Drawn) (failure : Option Failure) → node_named p j.node ≡ Some f
+      → (IsSketch s p f (entries_of j) k → IsDrawn s p j d) → MatchOption failure (IsSketch s p f (entries_of j) k) (IsFailure s p f (entries_of j))
+      → MatchOption failure (IsDrawn s p j d) (FailsIn s p (js ++ j ∷ []))
+  sketched_or js j f k d None named so is = so is
+  sketched_or js j f k d (Some e) named so failed =
+      record { before = js; journal = j; behind = []; stands = refl; node = f; named = named; fails = failed }
 
   -- one journal more, of which this was drawn
   pub gathered_so : (js : List Journal) (j : Journal) (ds : List Drawn) (f : ℕ) (k : Sketch) (d : Drawn) (old : Option Failure)
       → node_named p j.node ≡ Some f → string_bytes d.heading.instance ≡ j.instance → d.signals ≡ k.signals → d.table ≡ k.table
       → HasSketched s p f (entries_of j) k → HasGathered s p js old ds → HasGathered s p (js ++ j ∷ []) (option_or old k.failure) (ds ++ d ∷ [])
   gathered_so js j ds f k d old named called signals table is are =
-      gathered_next js j ds d old k.failure are (sketched_or j f k d k.failure (sketched j f k d named called signals table) is)
+      gathered_next js j ds d old k.failure are (sketched_or js j f k d k.failure named (sketched j f k d named called signals table) is)
 
   -- the traces of a part
   pub traced : (part : Part) (js : List Journal) (ds : List Drawn) → AreDrawn s p js ds → AreTraces s p part js (map (trace_of part) ds)

@@ -10,7 +10,7 @@ use Rattle.lus_cli.specs.Programs.{IsOfFile, IsProgramFault}
 use Rattle.lus_cli.specs.declared.fault.Fault.{Fault}
 use Rattle.lus_cli.specs.declared.fault.Fault.TheVariants as faults
 use Rattle.lus_draw.specs.CommandLine.{Drawing}
-use Rattle.lus_draw.specs.Drawings.{BeginsJournal, IsDrawingFault, IsJournalFault, IsPageFault}
+use Rattle.lus_draw.specs.Drawings.{BeginsJournal, IsDrawingFault, IsJournalFault, IsPageFault, LacksSignal}
 use Rattle.lus_draw.specs.Ends.{DrawingFails, PageFails}
 
 -- a file that was read whole
@@ -25,6 +25,7 @@ module _ (read_fails : Known → Type 0) (journal : Known) where
   page_unread faults.Memory memory = tt
   page_unread (faults.Program e) never = absurd never
   page_unread (faults.Journal k) never = absurd never
+  page_unread (faults.Signal k) never = absurd never
   page_unread (faults.Scripts e) never = absurd never
   page_unread faults.Words never = absurd never
   page_unread faults.Output never = absurd never
@@ -34,6 +35,7 @@ module _ (read_fails : Known → Type 0) (journal : Known) where
       → PageFails read_fails journal f
   page_fails n bytes short read (faults.Journal k) cause = of_file journal n bytes short read (λ bs. BeginsJournal bs → ⊥) cause
   page_fails n bytes short read faults.Memory memory = tt
+  page_fails n bytes short read (faults.Signal k) never = absurd never
   page_fails n bytes short read (faults.Program e) never = absurd never
   page_fails n bytes short read (faults.Scripts e) never = absurd never
   page_fails n bytes short read faults.Words never = absurd never
@@ -48,6 +50,7 @@ module _ (read_fails : Known → Type 0) (journal : Known) where
     program_fails (faults.Program e) refused = refused
     program_fails faults.Memory memory = tt
     program_fails (faults.Journal k) never = absurd never
+    program_fails (faults.Signal k) never = absurd never
     program_fails (faults.Scripts e) never = absurd never
     program_fails faults.Words never = absurd never
     program_fails faults.Output never = absurd never
@@ -59,6 +62,7 @@ module _ (read_fails : Known → Type 0) (journal : Known) where
     journal_unread faults.Memory memory = tt
     journal_unread (faults.Program e) never = absurd never
     journal_unread (faults.Journal k) never = absurd never
+    journal_unread (faults.Signal k) never = absurd never
     journal_unread (faults.Scripts e) never = absurd never
     journal_unread faults.Words never = absurd never
     journal_unread faults.Output never = absurd never
@@ -68,8 +72,10 @@ module _ (read_fails : Known → Type 0) (journal : Known) where
     pub drawing_fails : (n : ℕ) (bytes : Bytes) → length bytes < n → WithFile journal (λ left. bytes ≡ take n left) → (p : Program) → IsOfFile program p → (f : Fault)
         → IsDrawingFault d.selection p bytes f → DrawingFails read_fails program journal d f
     drawing_fails n bytes short read p accepted (faults.Journal k) cause =
-        (p, accepted, of_file journal n bytes short read (λ bs. IsJournalFault d.selection p bs k) cause)
-    drawing_fails n bytes short read p accepted faults.Words by_name = by_name
+        (p, accepted, of_file journal n bytes short read (λ bs. IsJournalFault p bs k) cause)
+    drawing_fails n bytes short read p accepted (faults.Signal k) cause =
+        (p, accepted, of_file journal n bytes short read (λ bs. LacksSignal d.selection p bs k) cause)
+    drawing_fails n bytes short read p accepted faults.Words never = absurd never
     drawing_fails n bytes short read p accepted faults.Memory memory = tt
     drawing_fails n bytes short read p accepted (faults.Program e) never = absurd never
     drawing_fails n bytes short read p accepted (faults.Scripts e) never = absurd never

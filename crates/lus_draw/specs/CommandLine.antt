@@ -3,7 +3,7 @@ use Rattle.std.specs.Prelude.{◌&&◌, ◌||◌, ◌-◌, ◌==◌, ◌^◌, �
 use Rattle.clap.specs.Words.{App, Row, first_of}
 use Rattle.lus_cli.specs.CommandLine.{Text, asked_of, bare, is_set, with_flag, with_optional, with_required, with_value}
 use Rattle.lus_asked.specs.Reading.{number_below}
-use Rattle.lus_sketches.specs.Selections.{Selection, all, formals, named, selection_seen}
+use Rattle.lus_sketches.specs.Selections.{Selection, formals, named, selection_seen}
 use Rattle.lus_traces.specs.declared.parts.Part.{Part}
 use Rattle.lus_draw.specs.declared.words.Drawing.{Drawing as StoredDrawing}
 use Rattle.lus_draw.specs.declared.words.Format.{Format}
@@ -57,10 +57,10 @@ has_parts formats.Html = false
 has_parts formats.Csv = true
 has_parts formats.Vcd = false
 
--- not all and some by name
+-- not all and some by name; all are those of the name `*`
 abbrev pub selected : Bool → Option Text → Option Selection
 selected false None = Some formals
-selected true None = Some all
+selected true None = Some (named (codes "*"))
 selected false (Some names) = Some (named names)
 selected true (Some names) = None
 
@@ -87,7 +87,6 @@ drawing d = if is_whole d.part || has_parts d.format then Some (drawing_of d) el
 -- without a program there is only a page, of all that journals say
 abbrev pub page : Format → Part → Selection → Text → Option Asked
 page formats.Html p formals journal = if is_whole p then Some (page_of journal) else None
-page formats.Html p all journal = None
 page formats.Html p (named names) journal = None
 page formats.Text p s journal = None
 page formats.Waves p s journal = None

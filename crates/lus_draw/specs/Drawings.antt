@@ -18,11 +18,11 @@ use Rattle.lus_cli.specs.CommandLine.{Text}
 use Rattle.lus_cli.specs.MachineSpecs.Constructors.{names_of}
 use Rattle.lus_cli.specs.declared.fault.Fault.{Fault}
 use Rattle.lus_cli.specs.declared.fault.Fault.TheVariants as faults
-use Rattle.lus_sketches.specs.Selections.{IsByName, IsPicked, Selection}
+use Rattle.lus_sketches.specs.Selections.{Selection}
 use Rattle.lus_sketches.specs.declared.sketches.Failure.{Failure}
 use Rattle.lus_sketches.specs.declared.sketches.Failure.TheVariants as failures
 use Rattle.lus_draw.specs.CommandLine.{Drawing}
-use Rattle.lus_draw.specs.Gatherings.{AreDrawn, IsTableOf}
+use Rattle.lus_draw.specs.Gatherings.{AreDrawn, FailsIn, IsTableOf}
 use Rattle.lus_draw.specs.declared.gathering.Drawn.{Drawn}
 use Rattle.lus_draw.specs.declared.words.Format.{Format}
 use Rattle.lus_draw.specs.declared.words.Format.TheVariants as formats
@@ -80,15 +80,18 @@ IsLinePage bytes written = (text : Text) × IsFrontOf bytes text × DrawsLines t
 
 -- ---- why nothing is
 
--- Line n is none of a journal there, of journals that can be read back; or it isn't the right one; or a world is lost, where signals are
--- selected.
-abbrev pub IsJournalFault : Selection → Program → Text → ℕ → Type 0
-IsJournalFault s p bytes n =
-    AreNone p (Some bytes) ⊎ (((report : Text) × HasAudited p (λ js. ⊤) (Some n) (Some bytes) report) ⊎ IsPicked s)
+-- line n is none of a journal there, of journals that can be read back; or it isn't the right one
+abbrev pub IsJournalFault : Program → Text → ℕ → Type 0
+IsJournalFault p bytes n = AreNone p (Some bytes) ⊎ ((report : Text) × HasAudited p (λ js. ⊤) (Some n) (Some bytes) report)
+
+-- of journals that an audit finds lawful one is of a node from which the signal at this place leads nowhere, as the first
+abbrev pub LacksSignal : Selection → Program → Text → ℕ → Type 0
+LacksSignal s p bytes place = (report : Text) × HasAudited p (λ js. FailsIn s p js (failures.Unknown place)) None (Some bytes) report
 
 abbrev pub IsDrawingFault : Selection → Program → Text → Fault → Type 0
-IsDrawingFault s p bytes (faults.Journal n) = IsJournalFault s p bytes n
-IsDrawingFault s p bytes faults.Words = IsByName s
+IsDrawingFault s p bytes (faults.Journal n) = IsJournalFault p bytes n
+IsDrawingFault s p bytes (faults.Signal place) = LacksSignal s p bytes place
+IsDrawingFault s p bytes faults.Words = ⊥
 IsDrawingFault s p bytes faults.Memory = ⊤
 IsDrawingFault s p bytes (faults.Program e) = ⊥
 IsDrawingFault s p bytes (faults.Scripts e) = ⊥
@@ -100,6 +103,7 @@ IsDrawingFault s p bytes faults.Start = ⊥
 abbrev pub IsPageFault : Text → Fault → Type 0
 IsPageFault bytes (faults.Journal n) = BeginsJournal bytes → ⊥
 IsPageFault bytes faults.Memory = ⊤
+IsPageFault bytes (faults.Signal place) = ⊥
 IsPageFault bytes (faults.Program e) = ⊥
 IsPageFault bytes (faults.Scripts e) = ⊥
 IsPageFault bytes faults.Words = ⊥
@@ -113,7 +117,7 @@ audit_fault errors.Read = faults.Memory
 audit_fault errors.Memory = faults.Memory
 
 abbrev pub failure_fault : Failure → Fault
-failure_fault failures.Unknown = faults.Words
+failure_fault (failures.Unknown place) = faults.Signal place
 failure_fault (failures.Lost n) = faults.Journal n
 
 -- ---- on the way

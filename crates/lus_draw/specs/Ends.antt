@@ -9,9 +9,8 @@ use Rattle.lus_cli.specs.Ends.{IsLost, SaysEnds}
 use Rattle.lus_cli.specs.Programs.{IsOfFile}
 use Rattle.lus_cli.specs.declared.fault.Fault.{Fault}
 use Rattle.lus_cli.specs.declared.fault.Fault.TheVariants as faults
-use Rattle.lus_sketches.specs.Selections.{IsByName}
 use Rattle.lus_draw.specs.CommandLine.{Asked, Drawing, drawing_of, page_of}
-use Rattle.lus_draw.specs.Drawings.{BeginsJournal, Draws, IsJournalFault, IsLinePage}
+use Rattle.lus_draw.specs.Drawings.{BeginsJournal, Draws, IsJournalFault, IsLinePage, LacksSignal}
 
 -- a drawing of the journals of a file, of nodes of the program of another
 abbrev pub IsDrawing : Known → Known → Drawing → Text → Type 0
@@ -22,14 +21,16 @@ abbrev pub IsDrawn : (Text → Known) → Asked → Text → Type 0
 IsDrawn known (page_of journal) drawn = WithFile (known journal) (λ bytes. IsLinePage bytes drawn)
 IsDrawn known (drawing_of d) drawn = IsDrawing (known d.program) (known d.journal) d drawn
 
--- why journals aren't drawn: a file is lost, or the program is refused; or it is accepted, and the journals are at fault; or a name is
--- unknown
+-- why journals aren't drawn: a file is lost, or the program is refused; or it is accepted, and the journals are at fault, or one is of a
+-- node that lacks a signal
 abbrev pub DrawingFails : (Known → Type 0) → Known → Known → Drawing → Fault → Type 0
 DrawingFails read_fails program journal d faults.File = IsLost read_fails program ⊎ IsLost read_fails journal
 DrawingFails read_fails program journal d (faults.Program e) = WithFile program (λ text. ProgramRefused text e)
 DrawingFails read_fails program journal d (faults.Journal n) =
-    (p : Program) × IsOfFile program p × WithFile journal (λ bytes. IsJournalFault d.selection p bytes n)
-DrawingFails read_fails program journal d faults.Words = IsByName d.selection
+    (p : Program) × IsOfFile program p × WithFile journal (λ bytes. IsJournalFault p bytes n)
+DrawingFails read_fails program journal d (faults.Signal place) =
+    (p : Program) × IsOfFile program p × WithFile journal (λ bytes. LacksSignal d.selection p bytes place)
+DrawingFails read_fails program journal d faults.Words = ⊥
 DrawingFails read_fails program journal d faults.Memory = ⊤
 DrawingFails read_fails program journal d (faults.Scripts e) = ⊥
 DrawingFails read_fails program journal d faults.Output = ⊥
@@ -40,6 +41,7 @@ abbrev pub PageFails : (Known → Type 0) → Known → Fault → Type 0
 PageFails read_fails journal faults.File = IsLost read_fails journal
 PageFails read_fails journal (faults.Journal n) = WithFile journal (λ bytes. BeginsJournal bytes → ⊥)
 PageFails read_fails journal faults.Memory = ⊤
+PageFails read_fails journal (faults.Signal place) = ⊥
 PageFails read_fails journal (faults.Program e) = ⊥
 PageFails read_fails journal (faults.Scripts e) = ⊥
 PageFails read_fails journal faults.Words = ⊥

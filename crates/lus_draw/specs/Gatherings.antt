@@ -1,5 +1,5 @@
 -- What is drawn of the journals that an audit finds lawful.
-use Rattle.std.specs.Prelude.{◌≡◌, ℕ, List, [], ◌∷◌, map, Option, Some, MatchOption, string_bytes, ⊤}
+use Rattle.std.specs.Prelude.{◌≡◌, ◌++◌, ℕ, List, [], ◌∷◌, map, Option, Some, MatchOption, string_bytes, ⊤}
 use Rattle.lus_program.specs.Programs.{Program}
 use Rattle.lus_diagrams.specs.Columns.{Column}
 use Rattle.lus_diagrams.specs.ColumnView.{column_seen}
@@ -29,6 +29,16 @@ AreDrawn s p [] (d ∷ ds) = ⊥
 AreDrawn s p (j ∷ js) [] = ⊥
 AreDrawn s p (j ∷ js) (d ∷ ds) = IsDrawn s p j d × AreDrawn s p js ds
 
+-- why one of these journals isn't drawn
+pub record FailsIn (s : Selection) (p : Program) (js : List Journal) (failure : Failure) : Type 0 where
+  pub before : List Journal
+  pub journal : Journal
+  pub behind : List Journal
+  pub stands : js ≡ before ++ journal ∷ behind
+  pub node : ℕ
+  pub named : node_named p journal.node ≡ Some node
+  pub fails : IsFailure s p node (entries_of journal) failure
+
 -- these journals are drawn, or it is known why one isn't
 abbrev pub HasGathered : Selection → Program → List Journal → Option Failure → List Drawn → Type 0
-HasGathered s p js failure ds = MatchOption failure (AreDrawn s p js ds) (IsFailure s)
+HasGathered s p js failure ds = MatchOption failure (AreDrawn s p js ds) (FailsIn s p js)

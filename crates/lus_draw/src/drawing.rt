@@ -44,7 +44,7 @@ fn fault_of(failure: Failure) -> Fault
     ensures { result ≡ failure_fault failure }
 {
     match failure {
-        Failure::Unknown => Fault::Words,
+        Failure::Unknown(place) => Fault::Signal(place),
         Failure::Lost(line) => Fault::Journal(line),
     }
 }

@@ -148,7 +148,7 @@ impl<K: Selects> Observers for Gathering<'_, K> {
             line: sketch.first,
             ends_early: if is_whole { None } else { Some(sketch.line) },
         };
-        let formals = formals(alloc, program.source(), program.names(), found)?;
+        let formals = formals(alloc, program.source(), program.names(), node.0)?;
         let failure = sketch.failure;
         self.drawn.push(drawn_of(sketch, heading, formals))?;
         self.failure = self.failure.or(failure);

@@ -115,13 +115,13 @@ fn part_in(matches: &ArgMatches<'_>) -> Option<Part>
     }
 }
 
-/// The signals that the words ask for: not all and some by name.
+/// The signals that the words ask for: not all and some by name. All are those of the name `*`.
 fn selection_in<'a>(matches: &ArgMatches<'a>) -> Option<Selection<'a>>
     ensures { option_map selection_seen result ≡ selection_in (rows_of (found_of matches.now)) }
 {
     match (is_set(matches, "all"), value_of(matches, "signals")) {
         (false, None) => Some(Selection::Formals),
-        (true, None) => Some(Selection::All),
+        (true, None) => Some(Selection::Named("*")),
         (false, Some(names)) => Some(Selection::Named(names)),
         (true, Some(_)) => None,
     }

@@ -108,6 +108,7 @@ program_fails read_fails file name form faults.File lost = inl lost
 program_fails read_fails file name form (faults.Program e) refused = refused
 program_fails read_fails file name form faults.Memory memory = tt
 program_fails read_fails file name form (faults.Journal n) never = absurd never
+program_fails read_fails file name form (faults.Signal n) never = absurd never
 program_fails read_fails file name form (faults.Scripts e) never = absurd never
 program_fails read_fails file name form faults.Words never = absurd never
 program_fails read_fails file name form faults.Output never = absurd never
@@ -120,6 +121,7 @@ journal_fails read_fails file name form faults.File asks is = inr asks
 journal_fails read_fails file name form (faults.Program e) asks never = absurd never
 journal_fails read_fails file name form faults.Memory asks is = tt
 journal_fails read_fails file name form (faults.Journal n) asks is = asks
+journal_fails read_fails file name form (faults.Signal n) asks never = absurd never
 journal_fails read_fails file name form (faults.Scripts e) asks never = absurd never
 journal_fails read_fails file name form faults.Words asks never = absurd never
 journal_fails read_fails file name form faults.Output asks never = absurd never
@@ -161,6 +163,7 @@ module _ (read_fails : Known → Type 0) (known : Text → Known) (opens : Text 
 
 pub quiet_nothing : (f : Fault) (w : Option Bytes) (n : Option ℕ) → IsQuiet f (change w w n n)
 quiet_nothing (faults.Journal k) w n = tt
+quiet_nothing (faults.Signal k) w n = (refl, refl)
 quiet_nothing (faults.Program e) w n = (refl, refl)
 quiet_nothing (faults.Scripts e) w n = tt
 quiet_nothing faults.Words w n = (refl, refl)

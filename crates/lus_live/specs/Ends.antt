@@ -120,6 +120,7 @@ LiveFails read_fails file name form (faults.Program e) = WithFile file (λ text.
 LiveFails read_fails file name form (faults.Scripts e) = (e ≡ scripts.Unknown) × LacksNode file name
 LiveFails read_fails file name form faults.Memory = ⊤
 LiveFails read_fails file name form (faults.Journal n) = AsksBehind file name form
+LiveFails read_fails file name form (faults.Signal n) = ⊥
 LiveFails read_fails file name form faults.Words = ⊥
 LiveFails read_fails file name form faults.Output = ⊥
 LiveFails read_fails file name form faults.Start = ⊥
@@ -151,6 +152,7 @@ abbrev pub IsRecoveryFault : Fault → Type 0
 IsRecoveryFault faults.File = ⊤
 IsRecoveryFault faults.Memory = ⊤
 IsRecoveryFault (faults.Journal n) = ⊤
+IsRecoveryFault (faults.Signal n) = ⊥
 IsRecoveryFault (faults.Program e) = ⊥
 IsRecoveryFault (faults.Scripts e) = ⊥
 IsRecoveryFault faults.Words = ⊥

@@ -25,6 +25,7 @@ program_fails read_fails file name faults.File lost = lost
 program_fails read_fails file name (faults.Program e) refused = refused
 program_fails read_fails file name faults.Memory memory = tt
 program_fails read_fails file name (faults.Journal n) never = absurd never
+program_fails read_fails file name (faults.Signal n) never = absurd never
 program_fails read_fails file name (faults.Scripts e) never = absurd never
 program_fails read_fails file name faults.Words never = absurd never
 program_fails read_fails file name faults.Output never = absurd never

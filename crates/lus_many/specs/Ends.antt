@@ -51,6 +51,7 @@ HostFails read_fails file name (faults.Program e) = WithFile file (λ text. Prog
 HostFails read_fails file name (faults.Scripts e) = (e ≡ scripts.Unknown) × LacksNode file name
 HostFails read_fails file name faults.Memory = ⊤
 HostFails read_fails file name (faults.Journal n) = ⊥
+HostFails read_fails file name (faults.Signal n) = ⊥
 HostFails read_fails file name faults.Words = ⊥
 HostFails read_fails file name faults.Output = ⊥
 HostFails read_fails file name faults.Start = ⊥

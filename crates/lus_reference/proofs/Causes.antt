@@ -1,15 +1,15 @@
 -- An operation whose operands have values, and which has none.
-use Rattle.std.proofs.Common.{◌≡◌, ◌∙◌, ℕ, ◌+◌, List, [], ◌∷◌, drop, map, Option, Some, None, refl, sym, ap, subst, false, Bool, arith}
+use Rattle.std.proofs.Common.{◌≡◌, ◌∙◌, ℕ, ◌+◌, List, ◌∷◌, drop, map, Option, Some, None, sym, ap, subst, false, Bool, arith}
 use Rattle.std.specs.Option.{option_map}
 use Rattle.lus_values.specs.Operators.{apply}
 use Rattle.lus_values.specs.Values.{Value, Row}
 use Rattle.lus_values.specs.declared.operator.Operator.{Operator}
-use Rattle.lus_program.specs.Programs.{Expression, literal, variable, operate, pre, arrow, when, merge, call, Operands, numbered, all_numbered, Program}
+use Rattle.lus_program.specs.Programs.{Expression, literal, variable, operate, pre, arrow, when, merge, call, numbered, all_numbered, Program}
 use Rattle.lus_program.specs.View.{expression_of}
-use Rattle.lus_streams.specs.Clocks.{Clock, Part, at, parts}
+use Rattle.lus_streams.specs.Clocks.{Clock, at, parts}
 use Rattle.lus_streams.specs.Streams.{Instant, World, row_of, with_operands, value, values}
 use Rattle.lus_parts.specs.declared.part.Part.{Part as StoredPart}
-use Rattle.lus_parts.specs.Nested.{AreNested, IsFollowed}
+use Rattle.lus_parts.specs.Nested.{AreNested}
 use Rattle.lus_parts.specs.Parts.{part_of}
 use Rattle.lus_reference.specs.Causes.{Operation, operation_recalled, IsCause}
 use Rattle.lus_reference.specs.Kept.{AreRowsFrom, Keeps, all_recalled}

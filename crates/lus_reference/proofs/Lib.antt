@@ -1,9 +1,10 @@
 pub mod Drops
 pub mod Recalled
-pub mod Renewed
+pub mod Onward
 pub mod Steps
 pub mod Parts
 pub mod Given
+pub mod Placed
 pub mod Needed
 pub mod Examples
 pub mod Causes

@@ -1,18 +1,19 @@
 -- Parts that follow one another: their values by definition, what is kept of them, and faults among them.
-use Rattle.std.proofs.Common.{◌≡◌, ℕ, zero, suc, ◌+◌, Bool, true, false, ◌&&◌, List, [], ◌∷◌, drop, map, Option, Some, None, is_some, refl, sym, ap, ap₂, ◌∙◌, subst, true≢false, arith}
+use Rattle.std.proofs.Common.{◌≡◌, ℕ, zero, suc, ◌+◌, ◌<◌, Bool, true, false, ◌&&◌, List, [], ◌∷◌, drop, length, map, Option, Some, None, is_some, refl, sym, ap, ap₂, ◌∙◌, subst, true≢false, arith}
 use Rattle.lus_values.specs.Lists.{item, Each}
-use Rattle.lus_values.specs.Values.{Value, Row}
-use Rattle.lus_program.specs.Programs.{numbered, Program}
+use Rattle.std.proofs.Math.ListN.{length-map}
+use Rattle.lus_values.specs.Values.{Value, nil, Row}
+use Rattle.lus_program.specs.Programs.{literal, numbered, Program}
 use Rattle.lus_program.specs.View.{expression_of}
-use Rattle.lus_streams.specs.Clocks.{Clock, Part, parts}
+use Rattle.lus_streams.specs.Clocks.{Clock, Part, at, parts}
 use Rattle.lus_streams.specs.Streams.{Instant, instant, nobody, World, is_present, row_of, holds, is_on, value, HasValue}
 use Rattle.lus_attempts.specs.Attempts.{IsAtFault}
 use Rattle.lus_parts.specs.declared.part.Part.{Part as StoredPart}
 use Rattle.lus_parts.specs.Nested.{IsFollowed, AreNested}
 use Rattle.lus_parts.specs.Parts.{part_of}
 use Rattle.lus_reference.specs.Kept.{AreRowsFrom, Keeps, renewed}
-use Rattle.lus_reference.specs.Parts.{part_on, part_recalled, kept_next, has_value, StandsAt}
-use Rattle.lus_reference.proofs.Drops.{dropped_next, dropped_map}
+use Rattle.lus_reference.specs.Parts.{part_on, part_recalled, kept_next, has_value, first_fault as first_place, StandsAt, IsFaultOf}
+use Rattle.lus_reference.proofs.Drops.{dropped, dropped_next, dropped_map}
 use Rattle.lus_reference.proofs.Recalled.{keeps_left, rows_behind, recalled_is_value}
 
 -- whether a clock is present hangs on the base and the entries
@@ -37,6 +38,12 @@ item_there f d [] zero x ys h = absurd (cc)
 item_there f d (y ∷ xs) zero x ys h = let same : y ≡ x = cc in ap f same
 item_there f d [] (suc i) x ys h = absurd (cc)
 item_there f d (y ∷ xs) (suc i) x ys h = item_there f d xs i x ys h
+
+there_within : {X : Type 0} (xs : List X) (i : ℕ) (x : X) (ys : List X) → drop i xs ≡ x ∷ ys → i < length xs
+there_within [] zero x ys h = absurd (cc)
+there_within [] (suc i) x ys h = absurd (cc)
+there_within (y ∷ xs) zero x ys h = omega arith
+there_within (y ∷ xs) (suc i) x ys h = let lt = there_within xs i x ys h in omega (arith, lt)
 
 module _ (p : Program) (present : Bool) (row : Row) (rows : List Row) where
   abbrev Stands : List StoredPart → Row → Instant → World → Type 0
@@ -117,3 +124,31 @@ module _ (p : Program) (present : Bool) (row : Row) (rows : List Row) where
 
   pub behind_nested : (i : ℕ) (qs : List StoredPart) → AreNested p (map part_of qs) → AreNested p (map part_of (drop i qs))
   behind_nested i qs h = subst (AreNested p) (sym (dropped_map part_of i qs)) (nested_behind p i (map part_of qs) h)
+
+  -- the first part at fault among those before place i, or the rest have values where they all have
+  abbrev pub FaultSoFar : List StoredPart → Row → ℕ → Option ℕ → Type 0
+  FaultSoFar qs kept i None = all_have (drop i qs) (drop i kept) ≡ all_have qs kept
+  FaultSoFar qs kept i (Some n) = IsFaultOf p present row rows (map part_of qs) kept (Some n)
+
+  pub fault_next : (qs : List StoredPart) (kept : Row) (i : ℕ) (q : StoredPart) (o : Option ℕ) (whole : Bool) → drop i qs ≡ q ∷ drop (suc i) qs → AreNested p (map part_of qs) → whole ≡ has_value p present row rows q (drop i kept)
+      → FaultSoFar qs kept i o → FaultSoFar qs kept (suc i) (first_place o whole i)
+  fault_next qs kept i q (Some n) whole rest nested has h = h
+  fault_next qs kept i q None true rest nested has h =
+      let next : i + 1 ≡ suc i = omega arith in
+      let one_more : drop (suc i) kept ≡ drop 1 (drop i kept) = ap (λ n. drop n kept) (sym next) ∙ dropped i 1 kept in
+      ap (all_have (drop (suc i) qs)) one_more
+      ∙ ap (λ b. b && all_have (drop (suc i) qs) (drop 1 (drop i kept))) has
+      ∙ ap (λ l. all_have l (drop i kept)) (sym rest)
+      ∙ h
+  fault_next qs kept i q None false rest nested has h =
+      let behind : AreNested p (map part_of (q ∷ drop (suc i) qs)) = subst (λ l. AreNested p (map part_of l)) rest (behind_nested i qs nested) in
+      let within : i < length (map part_of qs) = omega (arith, length-map qs part_of, there_within qs i q (drop (suc i) qs) rest) in (
+        within,
+        λ now past s.
+            let there = subst (λ l. StandsAt p present row rows (map part_of l) (drop i kept) now past) rest (behind_stands i qs kept now past s) in
+            subst (λ e. IsAtFault p e now past) (sym (item_there part_of (at [] (literal nil)) qs i q (drop (suc i) qs) rest)) (first_fault q (drop (suc i) qs) (drop i kept) now past behind (sym has) there),
+      )
+
+  pub fault_of_all : (qs : List StoredPart) (kept : Row) (i : ℕ) (o : Option ℕ) → drop i qs ≡ [] → AreNested p (map part_of qs) → FaultSoFar qs kept i o → IsFaultOf p present row rows (map part_of qs) kept o
+  fault_of_all qs kept i (Some n) done nested h = h
+  fault_of_all qs kept i None done nested h = λ now past s. all_have_values qs kept now past nested (sym h ∙ ap (λ l. all_have l (drop i kept)) done) s

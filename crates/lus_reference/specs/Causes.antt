@@ -1,5 +1,5 @@
 -- Causes of faults: an operation that has no value, though its operands all have.
-use Rattle.std.specs.Prelude.{◌≡◌, ℕ, ◌<◌, Bool, drop, List, [], map, length, Option, Some, None}
+use Rattle.std.specs.Prelude.{◌≡◌, ◌<◌, Bool, drop, List, [], map, length, Option, Some, None}
 use Rattle.std.specs.Option.{option_map}
 use Rattle.lus_values.specs.Lists.{item}
 use Rattle.lus_values.specs.Operators.{apply}

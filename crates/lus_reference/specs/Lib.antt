@@ -1,6 +1,7 @@
 pub mod Kept
 pub mod Parts
 pub mod Given
+pub mod Placed
 pub mod Needed
 pub mod Causes
 pub mod Laws

@@ -41,3 +41,9 @@ module _ (p : Program) (present : Bool) (row : Row) (rows : List Row) (es : List
   abbrev pub IsFaultOf : Option ℕ → Type 0
   IsFaultOf None = (now : Instant) (past : World) → StandsAt p present row rows es kept now past → Each (λ e. HasValue p e now past) es
   IsFaultOf (Some i) = (i < length es) × ((now : Instant) (past : World) → StandsAt p present row rows es kept now past → IsAtFault p (item (at [] (literal nil)) es i) now past)
+
+-- the first part at fault, with one part more at this place, which has a value or isn't present, or is at fault
+abbrev pub first_fault : Option ℕ → Bool → ℕ → Option ℕ
+first_fault (Some i) whole n = Some i
+first_fault None true n = None
+first_fault None false n = Some n

@@ -1,30 +1,19 @@
 //! What defines a variable at an instant.
 
-ghost use Rattle.std.specs.Prelude.{◌≡◌, IfOk, map};
+ghost use Rattle.std.specs.Prelude.{◌≡◌, ℕ, IfOk, map};
 ghost use Rattle.lus_program.specs.View.{expression_of, node_of, program_seen};
-ghost use Rattle.lus_streams.specs.Equations.{place_in};
 ghost use Rattle.lus_values.specs.View.{entry_of};
 ghost use Rattle.lus_reference.specs.Given.{IsDefinedAt, callee, output_recalled, right_recalled};
+ghost use Rattle.lus_reference.specs.Placed.{place_of};
 
 use crate::entries::{entries_from, entry_at};
-use crate::skipping::{behind_calls, behind_parts};
+use crate::places::Place;
+use crate::renewal::rows_from;
 use crate::value::value_at;
 use lus_clocks::inputs_at;
 use lus_program::{Expr, Form, Node, Program};
 use lus_values::{Memory, Row, Value};
 use std::alloc::Global;
-
-/// Where a variable stands first on a left side, if it does.
-fn place_of(targets: &[u32], variable: u32) -> Option<usize>
-    ensures { result ≡ place_in variable targets.now 0 }
-{
-    for (place, target) in targets.iter().enumerate() {
-        if variable == *target {
-            return Some(place);
-        }
-    }
-    None
-}
 
 /// The node that an expression calls, if it is a call.
 fn callee(expr: &Expr) -> Option<u32>
@@ -73,31 +62,36 @@ fn right_at(
     }
 }
 
-/// The value of a variable of a node by its definition, if it has one, at an instant at which its clock is present: from the
+/// The value by its definition of a variable with this place, if it has one, at an instant at which its clock is present: from the
 /// entries of variables at the instant, from what is kept of the parts of the node, and from the rows of the called nodes.
 pub fn define(
     alloc: Global,
     program: &Program,
     row: &[Option<Value>],
     node: &Node,
-    variable: u32,
+    place: Option<Place>,
     kept: &[Option<Value>],
     rows: &[Row],
 ) -> Result<Option<Value>, Memory>
-    ensures { IfOk result (λ v. IsDefinedAt (program_seen program.now) (map entry_of row.now) (node_of node.now) variable (map entry_of kept.now) rows.now (entry_of v)) }
+    ensures { IfOk result (λ v. (x : ℕ) → place ≡ place_of node.now x → IsDefinedAt (program_seen program.now) (map entry_of row.now) (node_of node.now) x (map entry_of kept.now) rows.now (entry_of v)) }
 {
-    let mut parts = kept;
-    let mut calls = rows;
-    for equation in &node.equations {
-        match place_of(&equation.targets, variable) {
-            Some(place) => {
-                return right_at(alloc, program, row, &equation.right, place, parts, calls);
+    match place {
+        Some(at) => match node.equations.get(at.equation) {
+            Some(equation) => {
+                let parts = entries_from(kept, at.parts);
+                let calls = rows_from(rows, at.calls);
+                right_at(
+                    alloc,
+                    program,
+                    row,
+                    &equation.right,
+                    at.target,
+                    parts,
+                    calls,
+                )
             }
-            None => {
-                parts = behind_parts(&equation.right, parts);
-                calls = behind_calls(&equation.right, calls);
-            }
-        }
+            None => Ok(None),
+        },
+        None => Ok(None),
     }
-    Ok(None)
 }

@@ -5,10 +5,12 @@ ghost use Rattle.lus_reference.specs.Laws.{ValuesAreKept};
 ghost use Rattle.lus_reference.specs.Needed.{NeedsSuffice};
 
 mod cause;
+mod counting;
 mod definition;
 mod entries;
 mod evaluation;
 mod passing;
+mod places;
 mod renewal;
 mod skipping;
 mod value;
@@ -17,7 +19,8 @@ pub use cause::{Cause, Operation, cause_in};
 pub use definition::define;
 pub use evaluation::evaluate;
 pub use passing::pass;
-pub use renewal::{fault_in, is_on, renew, rows_from};
+pub use places::{Place, places_of};
+pub use renewal::{Renewed, is_on, renew, rows_from};
 
 /// Nothing is kept before the first instant; after an instant without a fault the values of the parts on present clocks are.
 pub fn values_are_kept()

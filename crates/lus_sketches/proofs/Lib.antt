@@ -1,5 +1,5 @@
 pub mod Calls
+pub mod Chosen
 pub mod Noted
-pub mod Own
 pub mod Sketched
 pub mod Views

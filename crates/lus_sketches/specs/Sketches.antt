@@ -9,13 +9,13 @@ use Rattle.lus_requests.specs.declared.request.Request.{Request}
 use Rattle.lus_history.specs.Pasts.{lineage}
 use Rattle.lus_play.specs.Plays.{entry_of}
 use Rattle.lus_windows.specs.Picks.{ArePicked, accepted}
-use Rattle.lus_windows.specs.Windows.{HasFollowed}
+use Rattle.lus_windows.specs.Windows.{HasFollowed, HaveNoStreams}
 use Rattle.lus_windows.specs.declared.picks.Pick.{Pick}
 use Rattle.lus_diagrams.specs.Columns.{Column, Noted, columns_of, given_rows, noted}
 use Rattle.lus_diagrams.specs.Tables.{HasNoted}
 use Rattle.lus_traces.specs.Traces.{name_of}
-use Rattle.lus_sketches.specs.Selections.{IsByName, IsPicked, Selection}
-use Rattle.lus_sketches.specs.Signals.{AreChosen}
+use Rattle.lus_sketches.specs.Selections.{IsPicked, Selection}
+use Rattle.lus_sketches.specs.Signals.{AreChosen, IsUnknown}
 use Rattle.lus_sketches.specs.declared.sketches.Failure.{Failure}
 use Rattle.lus_sketches.specs.declared.sketches.Failure.TheVariants as failures
 use Rattle.lus_sketches.specs.declared.sketches.Sketch.{Sketch}
@@ -45,10 +45,17 @@ pub record IsTable (s : Selection) (p : Program) (f : ℕ) (h : List Entry) (nam
 
 -- ---- as entries come
 
--- a name is unknown only among names, and a world is lost only where one is followed
-abbrev pub IsFailure : Selection → Failure → Type 0
-IsFailure s failures.Unknown = IsByName s
-IsFailure s (failures.Lost line) = IsPicked s
+-- behind some of these entries node f has no streams for the lineage that they leave
+pub record IsLost (p : Program) (f : ℕ) (h : List Entry) : Type 0 where
+  pub before : List Entry
+  pub behind : List Entry
+  pub stands : h ≡ before ++ behind
+  pub none : HaveNoStreams p f before
+
+-- why node f isn't drawn: a name leads nowhere, or values are picked of streams, and there are none
+abbrev pub IsFailure : Selection → Program → ℕ → List Entry → Failure → Type 0
+IsFailure s p f h (failures.Unknown place) = IsUnknown p f s place
+IsFailure s p f h (failures.Lost line) = IsPicked s × IsLost p f h
 
 abbrev pub picks_in : Option View → Option (List Pick)
 picks_in None = None
@@ -67,13 +74,13 @@ pub record IsSketch (s : Selection) (p : Program) (f : ℕ) (h : List Entry) (k 
 
 -- these entries are drawn, or it is known why they aren't
 abbrev pub HasSketched : Selection → Program → ℕ → List Entry → Sketch → Type 0
-HasSketched s p f h k = MatchOption k.failure (IsSketch s p f h k) (IsFailure s)
+HasSketched s p f h k = MatchOption k.failure (IsSketch s p f h k) (IsFailure s p f h)
 
--- the cells behind one entry more, unless a world is lost
+-- the cells behind one entry more, unless a world is lost: there are no streams then
 pub record GivesCells (p : Program) (request : Request) (reply : Reply) (old new : Option View) (given : Option (List Row)) : Type 0 where
   pub picks : picks_in new ≡ picks_in old
   pub followed : (f : ℕ) (h : List Entry) → IsFollowed p f h old → IsFollowed p f (h ++ entry_of request reply ∷ []) new
-  pub cells : MatchOption given (IsSome (picks_in old))
+  pub cells : MatchOption given (IsSome (picks_in old) × ((f : ℕ) (h : List Entry) → IsFollowed p f h old → HaveNoStreams p f (h ++ entry_of request reply ∷ [])))
       (λ rows. (f : ℕ) (h : List Entry) → IsFollowed p f h old → AreCells p f (picks_in old) h (entry_of request reply) rows)
 
 abbrev pub BeginsView : Program → ℕ → Option (List Pick) → Option View → Type 0

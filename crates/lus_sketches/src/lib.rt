@@ -2,6 +2,7 @@
 //! accepted instant, the entries' own or picked of the streams by definition.
 #![tactic(auto)]
 
+mod choices;
 mod labels;
 mod lanes;
 mod numbers;

@@ -5,9 +5,7 @@
 pub enum Selection<'a> {
     /// Its inputs and outputs.
     Formals,
-    /// All its variables.
-    All,
     /// Those of these names, with commas between them: of the node's variables, or behind the names of called nodes, with dots between
-    /// them, of theirs.
+    /// them, of theirs. A last word `*` names all variables of its node.
     Named(&'a str),
 }

@@ -1,17 +1,19 @@
 //! The signals that are drawn of a node.
 
-ghost use Rattle.std.specs.Prelude.{◌≡◌, ◌<◌, IfOk, IsTrue, MatchOption, length, map, option_map};
-ghost use Rattle.lus_program.specs.View.{node_of, program_seen};
+ghost use Rattle.std.specs.Prelude.{◌≡◌, IfErr, IfOk, map, option_map};
+ghost use Rattle.lus_program.specs.Programs.{node_at};
+ghost use Rattle.lus_program.specs.View.{program_seen};
 ghost use Rattle.lus_traces.specs.Traces.{name_of};
-ghost use Rattle.lus_sketches.specs.Selections.{IsByName, named, selection_seen};
-ghost use Rattle.lus_sketches.specs.Signals.{AddsPath, AreChosen, formal_names, names_of, own_picks, pick_seen};
+ghost use Rattle.lus_sketches.specs.Paths.{chosen_seen};
+ghost use Rattle.lus_sketches.specs.Selections.{named, selection_seen};
+ghost use Rattle.lus_sketches.specs.Signals.{AreChosen, IsUnknown, formal_names, pick_seen};
 
+use crate::choices::{Chosen, all, chosen_all};
 use crate::labels::label;
 use crate::lanes::{lanes_of, signal_kind};
-use crate::numbers::number_of;
-use crate::paths::{Found, find, parts_between};
+use crate::paths::node_in;
 use crate::selection::Selection;
-use lus_program::{Node, Program, Variable};
+use lus_program::{Node, Program};
 use lus_traces::{Side, Signal};
 use lus_values::{Memory, Names};
 use lus_windows::Pick;
@@ -22,28 +24,6 @@ use std::alloc::Global;
 pub(crate) struct Choice {
     pub(crate) signals: Vec<Signal>,
     pub(crate) picks: Option<Vec<Pick>>,
-}
-
-/// The signal of this name that a variable of a node is. Before names of the node's variables stands the path to the node.
-fn signal(
-    alloc: Global,
-    program: &Program,
-    names: &Names,
-    node: &Node,
-    before: &str,
-    name: &str,
-    side: Side,
-    variable: &Variable,
-) -> Result<Signal, Memory>
-    ensures { IfOk result (λ s. name_of s ≡ name.now) }
-{
-    Ok(Signal {
-        side,
-        name: String::from_str(alloc, name)?,
-        label: label(alloc, names, node, before, variable)?,
-        kind: signal_kind(variable.kind),
-        lanes: lanes_of(alloc, program, variable.kind, name)?,
-    })
 }
 
 /// On which side of a node a variable stands.
@@ -57,26 +37,60 @@ fn side_of(node: &Node, variable: u32) -> Side {
     }
 }
 
-/// The signals that all variables of a node are, with their picks.
-fn own(alloc: Global, program: &Program, names: &Names, node: &Node) -> Result<Choice, Memory>
-    ensures names { IfOk result (λ c. map name_of c.signals.items ≡ names_of (node_of node.now).variables) }
-    ensures picks { IfOk result (λ c. MatchOption c.picks ⊥ (λ ks. map pick_seen ks.items ≡ own_picks 0 (node_of node.now).variables)) }
+/// The signal that a chosen variable is.
+fn signal(
+    alloc: Global,
+    program: &Program,
+    names: &Names,
+    chosen: &Chosen,
+) -> Result<Signal, Memory>
+    ensures { IfOk result (λ s. name_of s ≡ (chosen_seen chosen.now).0) }
+{
+    let Some(node) = program.nodes.get(chosen.node as usize) else {
+        return Err(Memory);
+    };
+    let Some(variable) = node.variables.get(chosen.pick.variable as usize) else {
+        return Err(Memory);
+    };
+    let path = chosen.path.as_str();
+    let (before, side) = match path.rsplit_once('.') {
+        Some((steps, _)) => (format!(in alloc; "{steps}.")?, Side::Local),
+        None => (String::new(alloc), side_of(node, chosen.pick.variable)),
+    };
+    Ok(Signal {
+        side,
+        name: String::from_str(alloc, path)?,
+        label: label(alloc, names, node, &before, variable)?,
+        kind: signal_kind(variable.kind),
+        lanes: lanes_of(alloc, program, variable.kind, path)?,
+    })
+}
+
+/// The signals that chosen variables are.
+fn signals(
+    alloc: Global,
+    program: &Program,
+    names: &Names,
+    chosen: &[Chosen],
+) -> Result<Vec<Signal>, Memory>
+    ensures { IfOk result (λ v. map name_of v.items ≡ map (λ c. c.0) (map chosen_seen chosen.now)) }
 {
     let mut signals = Vec::new(alloc);
-    let mut picks = Vec::new(alloc);
-    for (place, variable) in node.variables.iter().enumerate() {
-        let number = number_of(place)?;
-        let (name, side) = (variable.name.as_str(), side_of(node, number));
-        signals.push(signal(alloc, program, names, node, "", name, side, variable)?)?;
-        picks.push(Pick {
-            way: Vec::new(alloc),
-            variable: number,
-        })?;
+    for one in chosen {
+        signals.push(signal(alloc, program, names, one)?)?;
     }
-    Ok(Choice {
-        signals,
-        picks: Some(picks),
-    })
+    Ok(signals)
+}
+
+/// How chosen variables are picked.
+fn picks(alloc: Global, chosen: Vec<Chosen>) -> Result<Vec<Pick>, Memory>
+    ensures { IfOk result (λ v. map pick_seen v.items ≡ map (λ c. c.1) (map chosen_seen chosen.items)) }
+{
+    let mut picks = Vec::new(alloc);
+    for one in chosen {
+        picks.push(one.pick)?;
+    }
+    Ok(picks)
 }
 
 /// The signals that a node's inputs and outputs are, in declared order.
@@ -84,110 +98,60 @@ pub fn formals(
     alloc: Global,
     program: &Program,
     names: &Names,
-    node: &Node,
+    node: u32,
 ) -> Result<Vec<Signal>, Memory>
-    ensures { IfOk result (λ v. map name_of v.items ≡ formal_names (node_of node.now)) }
+    ensures { IfOk result (λ v. map name_of v.items ≡ formal_names (node_at (program_seen program.now) node)) }
 {
-    let mut signals = own(alloc, program, names, node)?.signals;
-    signals.truncate(node.inputs as usize + node.outputs as usize);
+    let Some(found) = node_in(program, node) else {
+        return Err(Memory);
+    };
+    let every = all(alloc, node, &found.variables)?;
+    let mut signals = signals(alloc, program, names, &every)?;
+    signals.truncate(found.inputs as usize + found.outputs as usize);
     Ok(signals)
 }
 
-/// The signal to which a path leads.
-fn found_signal(
-    alloc: Global,
-    program: &Program,
-    names: &Names,
-    path: &str,
-    found: &Found,
-) -> Result<Option<Signal>, Memory>
-    ensures { IfOk result (λ o. MatchOption o (Unit {0}) (λ s. name_of s ≡ path.now)) }
-{
-    let Some(node) = program.nodes.get(found.node as usize) else {
-        return Ok(None);
-    };
-    let Some(variable) = node.variables.get(found.pick.variable as usize) else {
-        return Ok(None);
-    };
-    let (before, side) = match path.rsplit_once('.') {
-        Some((steps, _)) => (format!(in alloc; "{steps}.")?, Side::Local),
-        None => (String::new(alloc), side_of(node, found.pick.variable)),
-    };
-    let signal = signal(alloc, program, names, node, &before, path, side, variable)?;
-    Ok(Some(signal))
-}
-
-/// Adds the signal to which a path leads, with its pick. Says whether the path leads to one.
-fn add(
-    alloc: Global,
-    program: &Program,
-    names: &Names,
-    node: u32,
-    path: &str,
-    signals: &mut Vec<Signal>,
-    picks: &mut Vec<Pick>,
-) -> Result<bool, Memory>
-    ensures { IfOk result (λ b. IsTrue b → AddsPath (program_seen program.now) node path.now signals.old.items picks.old.items signals.new.items picks.new.items) }
-{
-    let Some(found) = find(alloc, program, program.nodes.len(), node, path)? else {
-        return Ok(false);
-    };
-    let Some(signal) = found_signal(alloc, program, names, path, &found)? else {
-        return Ok(false);
-    };
-    signals.push(signal)?;
-    picks.push(found.pick)?;
-    Ok(true)
-}
-
-/// The signals of these paths, unless one leads nowhere.
+/// The signals that names choose; or the place of the first that leads nowhere, from 1.
 fn named(
     alloc: Global,
     program: &Program,
     names: &Names,
     node: u32,
     list: &str,
-) -> Result<Option<Choice>, Memory>
-    ensures { IfOk result (λ o. MatchOption o (Unit {0}) (λ c. AreChosen (program_seen program.now) node (named list.now) (map name_of c.signals.items) (option_map (λ ks. ks.items) c.picks))) }
+) -> Result<Result<Choice, u64>, Memory>
+    ensures { let p = program_seen program.now in let s = named list.now in
+        IfOk result (λ r. IfOk r (λ c. AreChosen p node s (map name_of c.signals.items) (option_map (λ ks. ks.items) c.picks))
+        × IfErr r (IsUnknown p node s)) }
 {
-    let mut signals = Vec::new(alloc);
-    let mut picks = Vec::new(alloc);
-    let paths = parts_between(alloc, list, ',')?;
-    let mut left = paths.as_slice();
-    while let [path, others @ ..] = left {
-        if !add(alloc, program, names, node, path, &mut signals, &mut picks)? {
-            return Ok(None);
-        }
-        left = others;
-    }
-    Ok(Some(Choice {
+    let chosen = match chosen_all(alloc, program, node, list)? {
+        Ok(chosen) => chosen,
+        Err(place) => return Ok(Err(place)),
+    };
+    let signals = signals(alloc, program, names, &chosen)?;
+    let picks = picks(alloc, chosen)?;
+    Ok(Ok(Choice {
         signals,
         picks: Some(picks),
     }))
 }
 
-/// The signals that are selected of a node, unless it lacks one that is named.
+/// The signals that are selected of a node; or the place of the first name that leads nowhere, from 1.
 pub(crate) fn choose(
     alloc: Global,
     program: &Program,
     names: &Names,
     node: u32,
     selection: Selection<'_>,
-) -> Result<Option<Choice>, Memory>
-    requires { node < length (program_seen program.now).nodes }
-    ensures { let s = selection_seen selection.entry in
-        IfOk result (λ o. MatchOption o (IsByName s) (λ c. AreChosen (program_seen program.now) node s (map name_of c.signals.items) (option_map (λ ks. ks.items) c.picks))) }
+) -> Result<Result<Choice, u64>, Memory>
+    ensures { let p = program_seen program.now in let s = selection_seen selection.entry in
+        IfOk result (λ r. IfOk r (λ c. AreChosen p node s (map name_of c.signals.items) (option_map (λ ks. ks.items) c.picks))
+        × IfErr r (IsUnknown p node s)) }
 {
-    let found = &program.nodes[node as usize];
     match selection {
-        Selection::Formals => Ok(Some(Choice {
-            signals: formals(alloc, program, names, found)?,
+        Selection::Formals => Ok(Ok(Choice {
+            signals: formals(alloc, program, names, node)?,
             picks: None,
         })),
-        Selection::All => {
-            let choice = own(alloc, program, names, found)?;
-            Ok(Some(choice))
-        }
         Selection::Named(list) => named(alloc, program, names, node, list),
     }
 }

@@ -3,6 +3,7 @@
 ghost use Rattle.std.specs.Prelude.{◌≡◌, ◌<◌, ◌++◌, ◌∷◌, ℕ, List, [], IfOk, OnOk, length, option_map};
 ghost use Rattle.lus_values.specs.Lists.{Each};
 ghost use Rattle.lus_program.specs.Programs.{Program as PlainProgram};
+ghost use Rattle.lus_program.specs.Resolved.{Resolved};
 ghost use Rattle.lus_program.specs.View.{program_seen};
 ghost use Rattle.lus_requests.specs.declared.request.Entry.{Entry};
 ghost use Rattle.lus_streams.specs.OnClock.{ProgramOnClocks};
@@ -32,9 +33,9 @@ pub(crate) struct View {
 /// Why a journal isn't drawn.
 #[derive(Clone, Copy)]
 pub enum Failure {
-    /// Its node has no variable of a name that is selected.
-    Unknown,
-    /// The world of the instance was lost at the line of this number.
+    /// The name at this place among those that are selected, from 1, leads nowhere from its node.
+    Unknown(u64),
+    /// There are no streams for what the instance has lived through up to the line of this number.
     Lost(u64),
 }
 
@@ -56,6 +57,8 @@ fn view_of(
     node: u32,
     picks: Option<Vec<Pick>>,
 ) -> Result<Option<View>, Memory>
+    requires resolved { Resolved (program_seen program.now) }
+    requires node { node < length (program_seen program.now).nodes }
     requires needs { Each NeedsVariables (program_seen program.now).nodes }
     requires narrow { Each IsNarrow (program_seen program.now).nodes }
     ensures { IfOk result (λ o. BeginsView (program_seen program.now) node (option_map (λ ks. ks.items) picks) o) }
@@ -104,6 +107,7 @@ impl Sketch {
         selection: Selection<'_>,
         first: u64,
     ) -> Result<Sketch, Memory>
+        requires resolved { Resolved (program_seen program.now) }
         requires node { node < length (program_seen program.now).nodes }
         requires needs { Each NeedsVariables (program_seen program.now).nodes }
         requires narrow { Each IsNarrow (program_seen program.now).nodes }
@@ -111,7 +115,7 @@ impl Sketch {
     {
         let table = Table::new(alloc, first);
         match choose(alloc, program, names, node, selection)? {
-            Some(Choice { signals, picks }) => Ok(Sketch {
+            Ok(Choice { signals, picks }) => Ok(Sketch {
                 first,
                 line: first,
                 signals,
@@ -119,13 +123,13 @@ impl Sketch {
                 table,
                 failure: None,
             }),
-            None => Ok(Sketch {
+            Err(place) => Ok(Sketch {
                 first,
                 line: first,
                 signals: Vec::new(alloc),
                 view: None,
                 table,
-                failure: Some(Failure::Unknown),
+                failure: Some(Failure::Unknown(place)),
             }),
         }
     }

@@ -4,7 +4,8 @@ use Rattle.std.specs.List.{slice_split}
 use Rattle.lus_values.specs.Names.{Text}
 use Rattle.lus_traces.specs.Markup.{escaped}
 use Rattle.lus_traces.specs.declared.document.TheConstants.{OPENING}
-use Rattle.lus_traces.specs.declared.script.TheConstants.{CLOSING}
+use Rattle.lus_traces.specs.declared.reading.TheConstants.{READING}
+use Rattle.lus_traces.specs.declared.showing.TheConstants.{SHOWING}
 use Rattle.lus_traces.specs.declared.lines.Line as code
 
 -- a line of the file, and further lines behind it
@@ -33,4 +34,4 @@ line_text l = row_text l.text ++ flat_map row_text l.further
 
 -- the page of a file's lines
 unfoldable pub page_text : List Line → Text
-page_text ls = OPENING.now ++ flat_map line_text ls ++ CLOSING.now
+page_text ls = (OPENING.now ++ flat_map line_text ls ++ READING.now) ++ SHOWING.now

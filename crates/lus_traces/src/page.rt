@@ -6,7 +6,8 @@ ghost use Rattle.lus_traces.specs.Pages.{line_seen, line_text, page_text, row_te
 use crate::document::OPENING;
 use crate::lines::Line;
 use crate::markup::push_escaped;
-use crate::script::CLOSING;
+use crate::reading::READING;
+use crate::showing::SHOWING;
 use std::alloc::{AllocError, Global};
 
 /// Appends a line in which no character is read as markup.
@@ -43,6 +44,7 @@ pub fn html(alloc: Global, lines: &[Line<'_>]) -> Result<String, AllocError>
 {
     let mut out = String::from_str(alloc, OPENING)?;
     push_lines(&mut out, lines)?;
-    out.push_str(CLOSING)?;
+    out.push_str(READING)?;
+    out.push_str(SHOWING)?;
     Ok(out)
 }

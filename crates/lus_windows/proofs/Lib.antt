@@ -2,3 +2,4 @@ pub mod Rows
 pub mod Walks
 pub mod Following
 pub mod Noted
+pub mod Lawful

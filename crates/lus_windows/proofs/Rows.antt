@@ -9,9 +9,8 @@ use Rattle.lus_simulation.specs.Lineages.{Lineage}
 use Rattle.lus_history.specs.Pasts.{joined}
 use Rattle.lus_worlds.specs.declared.moment.Fault.{Fault}
 use Rattle.lus_worlds.specs.declared.moment.Moment.{Moment}
-use Rattle.lus_worlds.specs.declared.world.Stop.TheVariants as stops
 use Rattle.lus_worlds.specs.Moments.{instant_of, kept_of, Holds}
-use Rattle.lus_worlds.specs.Worlds.{IsFurther, IsStopped}
+use Rattle.lus_worlds.specs.Worlds.{IsFaulty, IsFurther}
 use Rattle.lus_windows.specs.Finding.{HasFault, ReachesBehind}
 
 pub two_items : {X : Type 0} (xs : List X) (a b : X) → length xs ≡ 2 → a ≡ slice_index_or xs 0 a → b ≡ slice_index_or xs 1 b → xs ≡ a ∷ b ∷ []
@@ -50,7 +49,7 @@ module _ (p : Program) (f : ℕ) where
         let h = further (joined (take i rows) l) at.0 at.1 at.2 in
         (instant_of next ∷ at.0, subst (λ r. Streams p f r (instant_of next ∷ at.0)) (sym (joined_next i rows x l lt is)) h.0, h.1)
 
-    pub faults_there : (t : Fault) → IsStopped p f x m (stops.AtFault t) → HasFault p f rows old t i
+    pub faults_there : (t : Fault) → IsFaulty p f x m t → HasFault p f rows old t i
     faults_there t stopped l w s keeps =
         let at = reaches l w s keeps in
         let h = stopped at.0 at.2 in

@@ -1,10 +1,11 @@
 //! Reasons of refused requests, one behind another.
 
-ghost use Rattle.std.specs.Prelude.{◌≡◌, ◌++◌, ◌∷◌, ℕ, List, [], IfOk, MatchOption, OnOk, string_bytes};
+ghost use Rattle.std.specs.Prelude.{◌≡◌, ◌++◌, ◌∷◌, ◌<◌, ℕ, Bool, List, [], IfOk, MatchOption, OnOk, length, string_bytes};
 ghost use Rattle.lus_values.specs.Lists.{Each};
 ghost use Rattle.lus_values.specs.Names.{Names as PlainNames, Text};
 ghost use Rattle.lus_values.specs.Text.{Begins};
 ghost use Rattle.lus_program.specs.Programs.{Program as PlainProgram};
+ghost use Rattle.lus_program.specs.Resolved.{Resolved};
 ghost use Rattle.lus_program.specs.View.{program_seen};
 ghost use Rattle.lus_requests.specs.declared.request.Entry.{Entry};
 ghost use Rattle.lus_streams.specs.OnClock.{ProgramOnClocks};
@@ -59,7 +60,7 @@ fn find_behind(
     requires clocks { ProgramOnClocks (program_seen program.now) }
     ensures { let p = program_seen program.now in
         let f = window.now.node in
-        IfOk result (λ o. MatchOption o (Unit {0}) (λ g. (l : Lineage) → IsReached p f l window.now.reached → FaultsAt p f l rows.now g.fault g.row)) }
+        IfOk result (λ o. MatchOption o (Unit {0}) (λ g. (sure : Bool) (l : Lineage) → IsReached sure p f l window.now.reached → FaultsAt p f l rows.now g.fault g.row)) }
 {
     match &window.reached.moment {
         Some(moment) => find(alloc, program, &window.orders, window.node, rows, moment),
@@ -98,7 +99,7 @@ fn push_rows(
     requires clocks { ProgramOnClocks (program_seen program.now) }
     ensures { let p = program_seen program.now in
         let f = window.now.node in
-        OnOk result ((l : Lineage) → IsReached p f l window.now.reached → SaysRows p f names.now l rows.now (string_bytes text.old) (string_bytes text.new)) }
+        OnOk result ((sure : Bool) (l : Lineage) → IsReached sure p f l window.now.reached → SaysRows p f names.now l rows.now (string_bytes text.old) (string_bytes text.new)) }
 {
     match find_behind(alloc, program, window, rows)? {
         Some(found) => {
@@ -176,7 +177,7 @@ fn push_refused(
     requires clocks { ProgramOnClocks (program_seen program.now) }
     ensures { let p = program_seen program.now in
         let f = window.now.node in
-        OnOk result ((l : Lineage) → IsReached p f l window.now.reached → SaysRefused p f names.now l request.now why (string_bytes text.old) (string_bytes text.new)) }
+        OnOk result ((sure : Bool) (l : Lineage) → IsReached sure p f l window.now.reached → SaysRefused p f names.now l request.now why (string_bytes text.old) (string_bytes text.new)) }
 {
     if let Why::Fault = why {
         push_rows(text, alloc, program, names, window, rows_of(request))
@@ -194,6 +195,8 @@ impl Reasons {
         instance: &str,
         line: u64,
     ) -> Result<Reasons, Memory>
+        requires resolved { Resolved (program_seen program.now) }
+        requires node { node < length (program_seen program.now).nodes }
         requires needs { Each NeedsVariables (program_seen program.now).nodes }
         requires narrow { Each IsNarrow (program_seen program.now).nodes }
         ensures { IfOk result (λ r. (names : PlainNames) → HasNoted (program_seen program.now) node names instance.now line [] r) }
@@ -235,7 +238,7 @@ impl Reasons {
         requires clocks { ProgramOnClocks (program_seen program.now) }
         ensures tells { let p = program_seen program.now in
             let f = self.old.window.node in
-            OnOk result ((l : Lineage) → IsReached p f l self.old.window.reached
+            OnOk result ((sure : Bool) (l : Lineage) → IsReached sure p f l self.old.window.reached
             → TellsEntry p f names.now (string_bytes self.old.instance) self.old.line l request.now reply.now (string_bytes self.old.text) (string_bytes self.new.text)) }
         ensures same { OnOk result (self.new ≡ record self.old { text = self.new.text }) }
     {

@@ -1,8 +1,9 @@
 //! What is kept of the lineages of an instance.
 
-ghost use Rattle.std.specs.Prelude.{◌≡◌, ◌++◌, ◌∷◌, ℕ, List, [], IfOk, MatchOption, None as Nothing, OnOk, replicate};
+ghost use Rattle.std.specs.Prelude.{◌≡◌, ◌<◌, ◌++◌, ◌∷◌, ℕ, Bool, List, [], IfOk, IsTrue, MatchOption, None as Nothing, OnOk, length, map, replicate};
 ghost use Rattle.lus_values.specs.Lists.{Each};
 ghost use Rattle.lus_program.specs.Programs.{Program as PlainProgram};
+ghost use Rattle.lus_program.specs.Resolved.{Resolved};
 ghost use Rattle.lus_program.specs.View.{program_seen};
 ghost use Rattle.lus_requests.specs.declared.request.Entry.{Entry};
 ghost use Rattle.lus_order.specs.Orders.{IsNarrow, NeedsVariables};
@@ -12,8 +13,8 @@ ghost use Rattle.lus_history.specs.Replies.{slots as slot_count};
 ghost use Rattle.lus_streams.specs.OnClock.{ProgramOnClocks};
 ghost use Rattle.lus_streams.specs.Order.{IsCausal};
 ghost use Rattle.lus_worlds.specs.Worlds.{IsFurther};
-ghost use Rattle.lus_windows.specs.Picks.{AppendsPicked, GoesOn, accepted};
-ghost use Rattle.lus_windows.specs.Windows.{HasFollowed, IsReached, KeepsPast, entry_by, is_lost};
+ghost use Rattle.lus_windows.specs.Picks.{AppendsPicked, GoesOn, IsOver, accepted};
+ghost use Rattle.lus_windows.specs.Windows.{HasFollowed, IsReached, KeepsPast, entry_by, has_slot, is_lost};
 
 use crate::picks::{Pick, pick_row};
 use lus_order::orders_of;
@@ -27,7 +28,7 @@ use std::slice;
 /// How many slots an instance has.
 const SLOTS: u64 = 8;
 
-/// What is kept behind a lineage, if it wasn't lost, and how many instants that has.
+/// What is kept behind a lineage, if there are streams for it, and how many instants that has.
 #[derive(Drop)]
 pub(crate) struct Reached {
     pub(crate) moment: Option<Moment>,
@@ -45,9 +46,10 @@ pub struct Window {
 
 /// What is kept of a node before its first instant.
 fn begin(alloc: Global, program: &Program, node: u32) -> Result<Reached, Memory>
-    ensures { IfOk result (λ r. IsReached (program_seen program.now) node [] r) }
+    ensures { let p = program_seen program.now in
+        IfOk result (λ r. (sure : Bool) → Resolved p → node < length p.nodes → IsReached sure p node [] r) }
 {
-    let moment = start(alloc, program, program.nodes.len(), node)?;
+    let moment = start(alloc, program, node)?;
     Ok(Reached {
         moment,
         instants: 0,
@@ -56,7 +58,7 @@ fn begin(alloc: Global, program: &Program, node: u32) -> Result<Reached, Memory>
 
 /// A copy of what is kept.
 fn copy_of(alloc: Global, reached: &Reached) -> Result<Reached, Memory>
-    ensures { IfOk result (λ r. (p : PlainProgram) (f : ℕ) (l : Lineage) → IsReached p f l reached.now → IsReached p f l r) }
+    ensures { IfOk result (λ r. (sure : Bool) (p : PlainProgram) (f : ℕ) (l : Lineage) → IsReached sure p f l reached.now → IsReached sure p f l r) }
 {
     let instants = reached.instants;
     match &reached.moment {
@@ -74,7 +76,7 @@ fn copy_of(alloc: Global, reached: &Reached) -> Result<Reached, Memory>
     }
 }
 
-/// The next instant behind what is kept, with these inputs, if it is found.
+/// The next instant behind what is kept, with these inputs, if there is one.
 fn next(
     alloc: Global,
     program: &Program,
@@ -85,7 +87,9 @@ fn next(
 ) -> Result<Option<Moment>, Memory>
     requires causal { IsCausal (program_seen program.now) }
     requires clocks { ProgramOnClocks (program_seen program.now) }
-    ensures { IfOk result (λ o. MatchOption o (Unit {0}) (λ m. MatchOption reached.now.moment ⊥ (λ old. IsFurther (program_seen program.now) node inputs.now old m))) }
+    ensures { let p = program_seen program.now in
+        IfOk result (λ o. MatchOption o (IsOver p node (map (λ order. order.items) orders.now) inputs.now reached.now)
+        (λ m. MatchOption reached.now.moment ⊥ (λ old. IsFurther p node inputs.now old m))) }
 {
     let Some(old) = &reached.moment else {
         return Ok(None);
@@ -93,11 +97,12 @@ fn next(
     match extend(alloc, program, orders, node, inputs.items(), old) {
         Ok(next) => Ok(Some(next)),
         Err(Stop::Memory) => Err(Memory),
-        Err(_) => Ok(None),
+        Err(Stop::AtFault(_)) => Ok(None),
+        Err(Stop::Unsettled) => Ok(None),
     }
 }
 
-/// Goes on behind one instant more, whose inputs are these, and appends the picked entries of it; nothing is kept, if none is found.
+/// Goes on behind one instant more, whose inputs are these, and appends the picked entries of it; nothing is kept where there is none.
 fn go_on(
     alloc: Global,
     program: &Program,
@@ -110,7 +115,7 @@ fn go_on(
 ) -> Result<(), Memory>
     requires causal { IsCausal (program_seen program.now) }
     requires clocks { ProgramOnClocks (program_seen program.now) }
-    ensures { OnOk result (GoesOn (program_seen program.now) node (inputs.now ∷ []) picks.now reached.old reached.new picked.old.items picked.new.items) }
+    ensures { OnOk result (GoesOn (program_seen program.now) node (map (λ order. order.items) orders.now) (inputs.now ∷ []) picks.now reached.old reached.new picked.old.items picked.new.items) }
 {
     let instants = reached.instants.saturating_add(1);
     match next(alloc, program, orders, node, inputs, reached)? {
@@ -146,7 +151,7 @@ fn go_through(
 ) -> Result<(), Memory>
     requires causal { IsCausal (program_seen program.now) }
     requires clocks { ProgramOnClocks (program_seen program.now) }
-    ensures { OnOk result (GoesOn (program_seen program.now) node rows.now picks.now reached.old reached.new picked.old.items picked.new.items) }
+    ensures { OnOk result (GoesOn (program_seen program.now) node (map (λ order. order.items) orders.now) rows.now picks.now reached.old reached.new picked.old.items picked.new.items) }
 {
     for inputs in rows {
         go_on(alloc, program, orders, node, inputs, picks, reached, picked)?;
@@ -179,6 +184,8 @@ fn empty_slots(alloc: Global) -> Result<Vec<Option<Reached>>, Memory>
 impl Window {
     /// Before the first entry of an instance of a node.
     pub fn new(alloc: Global, program: &Program, node: u32) -> Result<Window, Memory>
+        requires resolved { Resolved (program_seen program.now) }
+        requires node { node < length (program_seen program.now).nodes }
         requires needs { Each NeedsVariables (program_seen program.now).nodes }
         requires narrow { Each IsNarrow (program_seen program.now).nodes }
         ensures { IfOk result (λ w. HasFollowed (program_seen program.now) node [] w) }
@@ -196,7 +203,7 @@ impl Window {
         })
     }
 
-    /// Whether nothing is kept behind the lineage any more: an instant of it was not found.
+    /// Whether nothing is kept behind the lineage any more: there are no streams for it.
     pub fn is_lost(&self) -> bool
         ensures { result ≡ is_lost self.now }
     {
@@ -205,7 +212,8 @@ impl Window {
 
     /// Has a slot save what is kept now.
     fn save(&mut self, alloc: Global, slot: u64) -> Result<(), Memory>
-        ensures { OnOk result ((p : PlainProgram) (f : ℕ) (past : Past) → KeepsPast p f past self.old → KeepsPast p f (after past (Request.Save slot) Reply.Done) self.new) }
+        ensures { OnOk result ((sure : Bool) (p : PlainProgram) (f : ℕ) (past : Past) → KeepsPast sure p f past self.old
+            → KeepsPast sure p f (after past (Request.Save slot) Reply.Done) self.new) }
     {
         let slot = slot as usize;
         if slot >= self.saved.len() {
@@ -218,7 +226,8 @@ impl Window {
 
     /// Goes back to what a slot saves.
     fn restore(&mut self, alloc: Global, slot: u64) -> Result<(), Memory>
-        ensures { OnOk result ((p : PlainProgram) (f : ℕ) (past : Past) → KeepsPast p f past self.old → KeepsPast p f (after past (Request.Restore slot) Reply.Done) self.new) }
+        ensures { OnOk result ((sure : Bool) (p : PlainProgram) (f : ℕ) (past : Past) → (IsTrue sure → slot < slot_count) → KeepsPast sure p f past self.old
+            → KeepsPast sure p f (after past (Request.Restore slot) Reply.Done) self.new) }
     {
         match self.saved.get(slot as usize) {
             Some(Some(reached)) => {
@@ -241,7 +250,9 @@ impl Window {
         program: &Program,
         request: &Request,
     ) -> Result<(), Memory>
-        ensures { OnOk result ((f : ℕ) (past : Past) → KeepsPast (program_seen program.now) f past self.old → KeepsPast (program_seen program.now) f (after past request.now Reply.Done) self.new) }
+        ensures { let p = program_seen program.now in
+            OnOk result ((sure : Bool) (f : ℕ) (past : Past) → (IsTrue sure → IsTrue (has_slot request.now Reply.Done)) → KeepsPast sure p f past self.old
+            → KeepsPast sure p f (after past request.now Reply.Done) self.new) }
     {
         match request {
             Request::Reset => {

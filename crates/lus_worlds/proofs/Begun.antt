@@ -7,7 +7,7 @@ use Rattle.lus_streams.specs.Equations.{Site, site_first, sites_in, node_parts, 
 use Rattle.lus_parts.specs.declared.part.Part.{Part as StoredPart}
 use Rattle.lus_parts.specs.Parts.{part_of}
 use Rattle.lus_reference.specs.Given.{callee}
-use Rattle.lus_reference.proofs.Renewed.{keeps_on}
+use Rattle.lus_reference.proofs.Onward.{keeps_on}
 use Rattle.lus_worlds.specs.declared.moment.Moment.{Moment}
 use Rattle.lus_worlds.specs.Beginning.{Begins}
 use Rattle.lus_worlds.specs.Moments.{kept_in, moments_in, kept_by, kept_of, kept_with, Holds, KeepsBehind, EachKeeps}

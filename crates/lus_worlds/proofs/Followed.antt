@@ -17,5 +17,11 @@ module _ (p : Program) (f : Node) (now : Instant) (past : World) (x : ℕ) where
   pub input_follows : x < f.inputs → OnlyOn → FollowsFaults p f now past x
   input_follows lt h = subst (λ b. MatchBool b OnlyOn AsDefined) (sym (lt-ltb x f.inputs lt)) h
 
+  pub input_strays : x < f.inputs → (OnlyOn → ⊥) → FollowsFaults p f now past x → ⊥
+  input_strays lt h k = h (subst (λ b. MatchBool b OnlyOn AsDefined) (lt-ltb x f.inputs lt) k)
+
+  pub other_strays : f.inputs ≤ x → (AsDefined → ⊥) → FollowsFaults p f now past x → ⊥
+  other_strays ge h k = h (subst (λ b. MatchBool b OnlyOn AsDefined) (le-ltb x f.inputs ge) k)
+
   pub other_follows : f.inputs ≤ x → AsDefined → FollowsFaults p f now past x
   other_follows ge h = subst (λ b. MatchBool b OnlyOn AsDefined) (sym (le-ltb x f.inputs ge)) h

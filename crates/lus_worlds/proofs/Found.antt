@@ -1,5 +1,5 @@
 -- Instants of called nodes that were found so far.
-use Rattle.std.proofs.Common.{◌≡◌, ℕ, zero, suc, List, [], ◌∷◌, map, length, Option, Some, None, MatchOption, sym, ap, subst, slice_get, slice_set, arith, suc-ne-zero}
+use Rattle.std.proofs.Common.{◌≡◌, ℕ, zero, suc, List, [], ◌∷◌, map, length, Option, Some, None, MatchOption, refl, sym, ap, subst, slice_get, slice_set, arith, suc-ne-zero}
 use Rattle.lus_values.specs.Lists.{Each, item}
 use Rattle.lus_program.specs.Programs.{Program, empty_node, node_at}
 use Rattle.lus_program.specs.View.{node_of, program_seen}
@@ -21,6 +21,12 @@ module _ (p : Program) where
   may_set (k ∷ olds) [] c old m h e g = absurd h
   may_set (k ∷ olds) (o ∷ os) zero old m h e g = let same : k ≡ old = cc in (subst (λ j. Follows p j m) (sym same) g, h.1)
   may_set (k ∷ olds) (o ∷ os) (suc c) old m h e g = (h.0, may_set olds os c old m h.1 e g)
+
+  pub may_length : (olds : List Moment) (os : List (Option Moment)) → MayFollow p olds os → length os ≡ length olds
+  may_length [] [] h = refl
+  may_length [] (o ∷ os) h = absurd h
+  may_length (old ∷ olds) [] h = absurd h
+  may_length (old ∷ olds) (o ∷ os) h = ap suc (may_length olds os h.1)
 
   pub all_follow : (olds ms : List Moment) → MayFollow p olds (map (λ m. Some m) ms) → EachFollows p olds ms
   all_follow [] [] h = tt

@@ -1,7 +1,16 @@
 pub mod Moments
-pub mod Settled
+pub mod Among
+pub mod Turns
+pub mod Sites
+pub mod CallPlaces
+pub mod Passed
 pub mod Fits
+pub mod Settled
 pub mod Followed
 pub mod Found
 pub mod Begun
+pub mod Depths
 pub mod Worlds
+pub mod Sought
+pub mod Runs
+pub mod InOrder

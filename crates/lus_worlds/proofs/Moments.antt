@@ -47,7 +47,7 @@ module _ (p : Program) (past : World) where
   all_hold (j ∷ js) [] h = absurd h
   all_hold (j ∷ js) (s ∷ ss) h = (h.0, all_hold js ss h.1)
 
-row_is : (m : Moment) → row_in m ≡ row_of (instant_of m)
+pub row_is : (m : Moment) → row_in m ≡ row_of (instant_of m)
 row_is m = sym (ap row_of (instant_seen m))
 
 pub rows_are : (ms : List Moment) (n : ℕ) → item [] (map row_in ms) n ≡ row_of (called_at (called_of ms) n)

@@ -1,13 +1,16 @@
 -- What was found and checked is what the equations give, and what is said of it holds.
 use Rattle.std.proofs.Common.{◌≡◌, ℕ, zero, suc, ◌+◌, ◌<◌, nat_lt, Bool, true, false, List, [], ◌∷◌, map, length, Option, None, Some, Contains, MatchBool, MatchOption, is_some, refl, sym, ap, subst, ◌∙◌, ⊎_elim, arith, slice_get}
-use Rattle.std.proofs.lemmas.Bool.{ltb-true}
+use Rattle.std.proofs.lemmas.Bool.{lt-ltb, ltb-true}
 use Rattle.lus_values.specs.Lists.{Each}
 use Rattle.lus_values.specs.Values.{Value, Row}
 use Rattle.lus_values.proofs.Lists.{below_all, below_at}
 use Rattle.lus_program.specs.Programs.{Node, Program, node_at}
+use Rattle.lus_program.specs.Resolved.{Resolved}
 use Rattle.lus_streams.specs.Clocks.{clock_of}
 use Rattle.lus_streams.specs.Equations.{definition_of, node_parts, Site, sites, sites_in}
+use Rattle.lus_streams.specs.OnClock.{ProgramOnClocks}
 use Rattle.lus_streams.specs.Streams.{Instant, instant, World, entry, row_of, called_instant, called_world, is_on, where_on, definition_value, Follows as IsFollowing, HasValue, EquationsHold, IsFed, IsInstant, EachCall}
+use Rattle.lus_streams.proofs.Calls.{OfSite}
 use Rattle.lus_attempts.specs.Attempts.{FollowsFaults, EquationsFollow, IsAttempt, EachAttempt, HasInputs, FaultAt}
 use Rattle.lus_parts.specs.declared.part.Part.{Part as StoredPart}
 use Rattle.lus_parts.specs.Parts.{part_of}
@@ -15,15 +18,18 @@ use Rattle.lus_reference.specs.Causes.{Operation}
 use Rattle.lus_reference.specs.Kept.{AreRowsFrom, Keeps}
 use Rattle.lus_reference.specs.Parts.{StandsAt, DoesRenew}
 use Rattle.lus_reference.proofs.Parts.{on_is}
-use Rattle.lus_reference.proofs.Renewed.{keeps_on}
+use Rattle.lus_reference.proofs.Onward.{keeps_on}
 use Rattle.lus_worlds.specs.declared.moment.Fault.{Fault}
 use Rattle.lus_worlds.specs.declared.moment.Verdict.{Verdict}
 use Rattle.lus_worlds.specs.declared.moment.Verdict.TheVariants as verdicts
 use Rattle.lus_worlds.specs.declared.moment.Moment.{Moment}
-use Rattle.lus_worlds.specs.Fitting.{DoFit}
-use Rattle.lus_worlds.specs.Following.{DoesFollow, IsGiven}
-use Rattle.lus_worlds.specs.Judging.{EachSound, IsFaultBelow, IsFaultHere, IsVerdict}
-use Rattle.lus_worlds.specs.Moments.{instant_of, called_of, node_in, present_in, row_in, kept_in, complete_in, moments_in, verdict_in, cause_in, kept_of, kept_by, kept_with, Holds, KeepsBehind, EachKeeps, CausedAt, NamesFault, IsSaid, IsNext, Follows, EachFollows, EachFits}
+use Rattle.lus_worlds.specs.Fitting.{DoFit, DoNotFit}
+use Rattle.lus_worlds.specs.Following.{DoesFollow, IsGiven, IsMissing, SomeStrays}
+use Rattle.lus_worlds.specs.Judging.{EachSound, IsFaultBelow, IsFaultHere, IsVerdict, SomeLacks}
+use Rattle.lus_worlds.specs.Moments.{instant_of, called_of, node_in, present_in, row_in, kept_in, complete_in, moments_in, verdict_in, cause_in, kept_of, kept_by, kept_with, Holds, KeepsBehind, EachKeeps, CausedAt, NamesFault, IsSaid, IsNext, Follows, IsRefused, EachFollows, EachFits}
+use Rattle.lus_worlds.proofs.Fits.{called_rows as rows_of_calls}
+use Rattle.lus_worlds.proofs.Passed.{LacksNothing, calls_lack_nothing, inputs_are_variables}
+use Rattle.lus_worlds.proofs.Among.{each_among}
 use Rattle.lus_worlds.proofs.Moments.{rows_are, instant_seen, kept_seen, each_keeps, all_hold}
 
 module _ (p : Program) where
@@ -151,7 +157,7 @@ module _ (p : Program) (g : ℕ) (present : Bool) (row oldkept kept : Row) (comp
   abbrev pub Said : Verdict → World → Type 0
   Said verdicts.Sound past = IsInstant p now g past × Keeps p (now ∷ past) (node_parts p f) kept × EachKeeps p ms (sites p f) (now ∷ past)
   Said (verdicts.AtFault t) past = NamesFault p t g now past
-  Said verdicts.Lacking past = Unit {0}
+  Said verdicts.Lacking past = Resolved p → ProgramOnClocks p → HasInputs p g now past → ⊥
 
   -- what was found and checked
   pub record IsChecked (v : Verdict) : Type 0 where
@@ -160,6 +166,7 @@ module _ (p : Program) (g : ℕ) (present : Bool) (row oldkept kept : Row) (comp
     pub follow : (x : ℕ) → x < length f.variables → DoesFollow p present row f x oldkept rows
     pub fit : DoFit p present row (map part_of es) oldkept ms
     pub given : complete ≡ true → (x : ℕ) → x < f.inputs → IsGiven present row f x
+    pub missing : complete ≡ false → IsMissing present row f
     pub verdict : IsVerdict p present row es oldkept ms complete v
     pub renewed : DoesRenew p present row rows (map part_of es) oldkept kept
     pub called : EachFollows p olds ms
@@ -167,6 +174,7 @@ module _ (p : Program) (g : ℕ) (present : Bool) (row oldkept kept : Row) (comp
   pub record IsRight (v : Verdict) (past : World) : Type 0 where
     pub attempt : IsAttempt p now g past
     pub whole : complete ≡ true → HasInputs p g now past
+    pub lacking : complete ≡ false → Resolved p → HasInputs p g now past → ⊥
     pub said : Said v past
 
   called_rows : AreRowsFrom now 0 rows
@@ -197,6 +205,24 @@ module _ (p : Program) (g : ℕ) (present : Bool) (row oldkept kept : Row) (comp
 
     has_inputs : complete ≡ true → HasInputs p g now past
     has_inputs c = below_all GivenAt (length f.variables) (λ x lt. given_at c x (nat_lt x f.inputs) refl)
+
+    -- an input is missing
+    lacks : complete ≡ false → Resolved p → HasInputs p g now past → ⊥
+    lacks c resolved inputs =
+        let m = h.missing c in
+        let there = below_at GivenAt (length f.variables) inputs m.0 (inputs_are_variables p resolved g m.0 m.1) in
+        let own : is_some (entry now m.0) ≡ is_on (clock_of f m.0) now = subst (λ b. MatchBool b (is_some (entry now m.0) ≡ is_on (clock_of f m.0) now) (Unit {0})) (lt-ltb m.0 f.inputs m.1) there in
+        m.2 (own ∙ on_is (clock_of f m.0) now)
+
+    -- or one of a called node, though no part is at fault
+    lacks_below : Each (λ e. HasValue p e now past) (map part_of es) → SomeLacks ms → Resolved p → ProgramOnClocks p → ⊥
+    lacks_below values l resolved clocks =
+        let call = call_at p now past 0 l.0 olds ms (sites p f) l.1 l.2 fits h.called below in
+        let s = call.site in
+        let said = subst (λ u. IsSaid p u l.1 s.node (called_world s.number past)) l.3 call.next.said in
+        let own = subst (Each (λ e. HasValue p e now past)) h.parts values in
+        let whole = each_among (OfSite p (LacksNothing p now past resolved clocks)) (sites p f) s (calls_lack_nothing p now past resolved clocks g own) call.there in
+        said resolved clocks (whole (instant_of l.1) (called_world s.number past) call.fed)
 
     holds : complete ≡ true → Each (λ e. HasValue p e now past) (map part_of es) → EquationsHold p f now past
     holds c values = record {
@@ -233,12 +259,14 @@ module _ (p : Program) (g : ℕ) (present : Bool) (row oldkept kept : Row) (comp
       ((holds w h past keeps below k.0 values, calls.0), kept_next w h past keeps below values, calls.1)
   is_said (verdicts.AtFault t) k w h past keeps below =
       ⊎_elim (fault_here w h past keeps below t) (λ b. fault_below p now past g olds ms t b (fits w h past keeps below) h.called below) k
-  is_said verdicts.Lacking k w h past keeps below = tt
+  is_said verdicts.Lacking k w h past keeps below =
+      λ resolved clocks inputs. ⊎_elim (λ c. lacks w h past keeps below c resolved inputs) (λ l. lacks_below w h past keeps below (k.0 past (own_keeps w h past keeps below)) l resolved clocks) k.1
 
   pub is_right : (v : Verdict) → IsChecked v → (past : World) → Keeps p past (node_parts p f) oldkept → EachKeeps p olds (sites p f) past → IsRight v past
   is_right v h past keeps below = record {
     attempt = is_attempt v h past keeps below;
     whole = has_inputs v h past keeps below;
+    lacking = lacks v h past keeps below;
     said = is_said v h.verdict v h past keeps below;
   }
 
@@ -253,7 +281,7 @@ module _ (p : Program) (g : ℕ) (old m : Moment) (es : List StoredPart) where
       let own : Holds p (kept_of m) g (made ∷ past) = subst (λ t. Holds p t g (made ∷ past)) (sym (kept_seen m)) held in
       (subst (λ i. IsInstant p i g past) (sym (instant_seen m)) s.0, subst (λ i. Holds p (kept_of m) g (i ∷ past)) (sym (instant_seen m)) own)
   said_as (verdicts.AtFault t) past s = subst (λ i. NamesFault p t g i past) (sym (instant_seen m)) s
-  said_as verdicts.Lacking past s = tt
+  said_as verdicts.Lacking past s = λ resolved clocks inputs. s resolved clocks (subst (λ i. HasInputs p g i past) (instant_seen m) inputs)
 
   pub made_follows : node_in m ≡ g → IsChecked p g (present_in m) (row_in m) (kept_in old) (kept_in m) (complete_in m) (moments_in old) (moments_in m) es (verdict_in m) → Follows p old m
   made_follows e h past keeps =
@@ -263,6 +291,7 @@ module _ (p : Program) (g : ℕ) (old m : Moment) (es : List StoredPart) where
       let next : IsNext p m g past = record {
         attempt = subst (λ i. IsAttempt p i g past) (sym (instant_seen m)) right.attempt;
         complete = λ c. subst (λ i. HasInputs p g i past) (sym (instant_seen m)) (right.whole c);
+        lacking = λ c resolved inputs. right.lacking c resolved (subst (λ i. HasInputs p g i past) (instant_seen m) inputs);
         said = said_as (verdict_in m) past right.said;
       } in
       subst (λ n. IsNext p m n past) (sym e) next
@@ -277,3 +306,21 @@ module _ (p : Program) (g : ℕ) (old m : Moment) (es : List StoredPart) where
       let h4 = subst (λ x. IsChecked p g (present_in m) (row_in m) (kept_in old) (kept_in m) x (moments_in old) ms es v) ec h3 in
       let h5 = subst (λ x. IsChecked p g (present_in m) (row_in m) (kept_in old) (kept_in m) (complete_in m) (moments_in old) x es v) em h4 in
       made_follows en (subst (λ x. IsChecked p g (present_in m) (row_in m) (kept_in old) (kept_in m) (complete_in m) (moments_in old) (moments_in m) es x) ev h5)
+
+-- what fails a test isn't what the equations give
+module _ (p : Program) (g : ℕ) (present : Bool) (row : Row) (ms : List Moment) (old : Moment) where
+  kept_behind : (past : World) → KeepsBehind p old g past → Keeps p past (node_parts p (node_at p g)) (kept_in old)
+  kept_behind past keeps = (subst (λ t. Holds p t g past) (kept_seen old) keeps).0
+
+  pub another_width : (length row ≡ length (node_at p g).variables → ⊥) → IsRefused p g present row ms old
+  another_width other past keeps follow fit = other follow.width
+
+  pub strays_refused : SomeStrays p present row (node_at p g) (kept_in old) (map row_in ms) → IsRefused p g present row ms old
+  strays_refused h past keeps follow fit =
+      let now = instant present row (called_of ms) in
+      let f = node_at p g in
+      let stands : StandsAt p present row (map row_in ms) (node_parts p f) (kept_in old) now past = record { base = refl; entries = refl; called = rows_of_calls p present row ms; keeps = kept_behind past keeps } in
+      h.2 now past stands (below_at (FollowsFaults p f now past) (length f.variables) follow.variables h.0 h.1)
+
+  pub misfits_refused : DoNotFit p present row (node_parts p (node_at p g)) (kept_in old) ms → IsRefused p g present row ms old
+  misfits_refused h past keeps follow fit = h past (kept_behind past keeps) fit

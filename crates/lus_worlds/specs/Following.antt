@@ -1,5 +1,5 @@
 -- What variables have at an instant with these entries and rows of calls, after each past of which this is kept.
-use Rattle.std.specs.Prelude.{◌≡◌, ℕ, Bool, List, Option, None, is_some}
+use Rattle.std.specs.Prelude.{◌≡◌, ◌<◌, ℕ, Bool, List, length, Option, None, is_some}
 use Rattle.lus_values.specs.Lists.{item}
 use Rattle.lus_values.specs.Values.{Value, Row}
 use Rattle.lus_program.specs.Programs.{Node, Program}
@@ -19,6 +19,17 @@ IsMeant p row f x on kept rows v =
 abbrev pub DoesFollow : Program → Bool → (row : Row) → Node → ℕ → (kept : Row) → List Row → Type 0
 DoesFollow p present row f x kept rows = (now : Instant) (past : World) → StandsAt p present row rows (node_parts p f) kept now past → FollowsFaults p f now past x
 
+-- and that it doesn't
+abbrev pub DoesStray : Program → Bool → (row : Row) → Node → ℕ → (kept : Row) → List Row → Type 0
+DoesStray p present row f x kept rows = (now : Instant) (past : World) → StandsAt p present row rows (node_parts p f) kept now past → FollowsFaults p f now past x → ⊥
+
+abbrev pub SomeStrays : Program → Bool → (row : Row) → Node → (kept : Row) → List Row → Type 0
+SomeStrays p present row f kept rows = (x : ℕ) × (x < length f.variables) × DoesStray p present row f x kept rows
+
 -- input x has an entry where its clock is present, and only there
 abbrev pub IsGiven : Bool → (row : Row) → Node → ℕ → Type 0
 IsGiven present row f x = is_some (item None row x) ≡ is_on (clock_of f x) (instant present row nobody)
+
+-- an input has no entry though its clock is present, or one though it isn't
+abbrev pub IsMissing : Bool → (row : Row) → Node → Type 0
+IsMissing present row f = (x : ℕ) × (x < f.inputs) × (IsGiven present row f x → ⊥)

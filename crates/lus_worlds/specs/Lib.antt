@@ -2,6 +2,7 @@ pub mod Moments
 pub mod Following
 pub mod Fitting
 pub mod Judging
+pub mod Turns
 pub mod Finding
 pub mod Beginning
 pub mod Worlds

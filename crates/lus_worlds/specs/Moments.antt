@@ -1,12 +1,14 @@
 -- Instants of nodes that the code holds, and what is kept behind them.
-use Rattle.std.specs.Prelude.{◌≡◌, ℕ, suc, Bool, true, List, [], ◌∷◌, Option, MatchOption}
+use Rattle.std.specs.Prelude.{◌≡◌, ℕ, suc, Bool, true, false, List, [], ◌∷◌, Option, MatchOption}
 use Rattle.std.specs.Option.{option_map}
 use Rattle.lus_values.specs.Values.{Row}
 use Rattle.lus_program.specs.Programs.{Program, node_at}
+use Rattle.lus_program.specs.Resolved.{Resolved}
 use Rattle.lus_streams.specs.Clocks.{Part}
 use Rattle.lus_streams.specs.Equations.{node_parts, Site, sites}
+use Rattle.lus_streams.specs.OnClock.{ProgramOnClocks}
 use Rattle.lus_streams.specs.Streams.{Instant, instant, Called, nobody, also, World, called_instant, called_world, IsFed, IsInstant}
-use Rattle.lus_attempts.specs.Attempts.{IsAttempt, HasInputs, FaultAt}
+use Rattle.lus_attempts.specs.Attempts.{EquationsFollow, IsAttempt, HasInputs, FaultAt}
 use Rattle.lus_parts.specs.declared.part.Part.{Part as StoredPart}
 use Rattle.lus_parts.specs.Parts.{part_of}
 use Rattle.lus_reference.specs.Causes.{Operation, operation_in, IsCause}
@@ -110,16 +112,18 @@ module _ (p : Program) where
     pub place : t.place ≡ part.expr.now.place
     pub cause : CausedAt (cause_in t) t.way.items (part_of part) now past
 
-  -- what is said of an instant of node f after a past, behind which this is kept
+  -- what is said of an instant of node f after a past, behind which this is kept: that an input is missing, only where one of the
+  -- node's own is, in a resolved program on clocks
   abbrev pub IsSaid : Verdict → Moment → ℕ → World → Type 0
   IsSaid verdicts.Sound m f past = IsInstant p (instant_of m) f past × KeepsBehind m f (instant_of m ∷ past)
   IsSaid (verdicts.AtFault t) m f past = NamesFault t f (instant_of m) past
-  IsSaid verdicts.Lacking m f past = Unit {0}
+  IsSaid verdicts.Lacking m f past = Resolved p → ProgramOnClocks p → HasInputs p f (instant_of m) past → ⊥
 
   -- what the equations of node g give at an instant after a past, and what is said of it
   pub record IsNext (m : Moment) (g : ℕ) (past : World) : Type 0 where
     pub attempt : IsAttempt p (instant_of m) g past
     pub complete : complete_in m ≡ true → HasInputs p g (instant_of m) past
+    pub lacking : complete_in m ≡ false → Resolved p → HasInputs p g (instant_of m) past → ⊥
     pub said : IsSaid (verdict_in m) m g past
 
   -- the second is an instant of its node after each past of which the first is kept
@@ -139,3 +143,10 @@ module _ (p : Program) where
   EachFits n [] (s ∷ ss) now past = ⊥
   EachFits n (m ∷ ms) [] now past = ⊥
   EachFits n (m ∷ ms) (s ∷ ss) now past = (s.number ≡ n) × (node_in m ≡ s.node) × IsFed p s (instant_of m) now past × EachFits (suc n) ms ss now past
+
+  -- after no past of which this is kept these entries are what the equations of node g give and these instants those of its calls
+  abbrev pub IsRefused : ℕ → Bool → (row : Row) → List Moment → Moment → Type 0
+  IsRefused g present row ms old =
+      (past : World) → KeepsBehind old g past
+      → (let now = instant present row (called_of ms) in
+      EquationsFollow p (node_at p g) now past → EachFits 0 ms (sites p (node_at p g)) now past → ⊥)

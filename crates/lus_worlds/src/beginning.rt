@@ -1,11 +1,13 @@
 //! What is kept before the first instant.
 
-ghost use Rattle.std.specs.Prelude.{◌≡◌, [], IfOk, IsTrue, MatchOption, map};
+ghost use Rattle.std.specs.Prelude.{◌≡◌, ◌<◌, [], IfOk, IsTrue, MatchOption, false, length, map};
+ghost use Rattle.lus_values.specs.Lists.{Each};
+ghost use Rattle.lus_program.specs.Resolved.{Resolved};
 ghost use Rattle.lus_program.specs.View.{expression_of, program_seen};
 ghost use Rattle.lus_streams.specs.Equations.{sites_in};
 ghost use Rattle.lus_parts.specs.Parts.{part_of};
 ghost use Rattle.lus_reference.specs.Given.{callee as callee_in};
-ghost use Rattle.lus_worlds.specs.Beginning.{Begins};
+ghost use Rattle.lus_worlds.specs.Beginning.{Begins, IsWithin};
 ghost use Rattle.lus_worlds.specs.Moments.{EachKeeps, KeepsBehind};
 
 use crate::moment::{Moment, Verdict};
@@ -14,15 +16,24 @@ use lus_program::{Expr, Form, Program};
 use lus_values::{Memory, Row};
 use std::alloc::Global;
 
+/// What is kept of a node before its first instant. In a resolved program there is some of each of its nodes.
+pub fn start(alloc: Global, program: &Program, number: u32) -> Result<Option<Moment>, Memory>
+    ensures { let p = program_seen program.now in
+        IfOk result (λ o. MatchOption o (Resolved p → number < length p.nodes → ⊥) (λ m. KeepsBehind p m number [])) }
+{
+    start_within(alloc, program, program.nodes.len(), number)
+}
+
 /// What is kept of a node before its first instant, if the program has it and its calls are no deeper than this.
 #[cycle(start)]
-pub fn start(
+fn start_within(
     alloc: Global,
     program: &Program,
     depth: usize,
     number: u32,
 ) -> Result<Option<Moment>, Memory>
-    ensures { IfOk result (λ o. MatchOption o (Unit {0}) (λ m. KeepsBehind (program_seen program.now) m number [])) }
+    ensures { let p = program_seen program.now in
+        IfOk result (λ o. MatchOption o (IsWithin p depth number → ⊥) (λ m. KeepsBehind p m number [])) }
 {
     if depth == 0 {
         return Ok(None);
@@ -55,7 +66,9 @@ fn start_calls(
     depth: usize,
     parts: &[Part<'_>],
 ) -> Result<Option<Vec<Moment>>, Memory>
-    ensures { IfOk result (λ o. MatchOption o (Unit {0}) (λ ms. let p = program_seen program.now in EachKeeps p ms.items (sites_in p (map part_of parts.now)) [])) }
+    ensures { let p = program_seen program.now in
+        let calls = sites_in p (map part_of parts.now) in
+        IfOk result (λ o. MatchOption o (Each (λ s. IsWithin p depth s.node) calls → ⊥) (λ ms. EachKeeps p ms.items calls [])) }
 {
     let mut called = Vec::new(alloc);
     for part in parts {
@@ -76,10 +89,11 @@ fn start_call(
     part: &Part<'_>,
     called: &mut Vec<Moment>,
 ) -> Result<bool, Memory>
-    ensures { IfOk result (λ b. IsTrue b → Begins (program_seen program.now) part.now called.old.items called.new.items) }
+    ensures begins { IfOk result (λ b. IsTrue b → Begins (program_seen program.now) part.now called.old.items called.new.items) }
+    ensures none { IfOk result (λ b. b ≡ false → MatchOption (callee_in (expression_of part.now.expr.now)) ⊥ (λ g. IsWithin (program_seen program.now) depth g → ⊥)) }
 {
     match callee(part.expr) {
-        Some(other) => match start(alloc, program, depth, other)? {
+        Some(other) => match start_within(alloc, program, depth, other)? {
             Some(moment) => {
                 called.push(moment)?;
                 Ok(true)
@@ -91,7 +105,7 @@ fn start_call(
 }
 
 /// The node that an expression calls, if it is a call.
-fn callee(expr: &Expr) -> Option<u32>
+pub fn callee(expr: &Expr) -> Option<u32>
     ensures { result ≡ callee_in (expression_of expr.now) }
 {
     match &expr.form {

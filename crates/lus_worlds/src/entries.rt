@@ -1,6 +1,6 @@
 //! Entries that are compared.
 
-ghost use Rattle.std.specs.Prelude.{◌≡◌, IsTrue, drop, is_some, map, take};
+ghost use Rattle.std.specs.Prelude.{◌≡◌, ◌↔◌, IsTrue, drop, is_some, map, take};
 ghost use Rattle.lus_values.specs.Lists.{item};
 ghost use Rattle.lus_values.specs.View.{entry_of};
 
@@ -8,7 +8,7 @@ use lus_values::{Value, same};
 
 /// Whether two entries are equal.
 fn same_entry(left: &Option<Value>, right: &Option<Value>) -> bool
-    ensures { IsTrue result → entry_of left.now ≡ entry_of right.now }
+    ensures { IsTrue result ↔ (entry_of left.now ≡ entry_of right.now) }
 {
     match (left, right) {
         (Some(a), Some(b)) => same(a, b),
@@ -19,7 +19,7 @@ fn same_entry(left: &Option<Value>, right: &Option<Value>) -> bool
 
 /// Whether the entry at a place is this one; past the end there is none.
 pub fn is_entry(row: &[Option<Value>], place: usize, entry: &Option<Value>) -> bool
-    ensures { IsTrue result → item None (map entry_of row.now) place ≡ entry_of entry.now }
+    ensures { IsTrue result ↔ (item None (map entry_of row.now) place ≡ entry_of entry.now) }
 {
     match row.get(place) {
         Some(found) => same_entry(found, entry),
@@ -36,7 +36,7 @@ pub fn has_entry(row: &[Option<Value>], place: usize) -> bool
 
 /// Whether two rows have the same entries.
 pub fn same_entries(left: &[Option<Value>], right: &[Option<Value>]) -> bool
-    ensures { IsTrue result → map entry_of left.now ≡ map entry_of right.now }
+    ensures { IsTrue result ↔ (map entry_of left.now ≡ map entry_of right.now) }
 {
     if left.len() != right.len() {
         return false;

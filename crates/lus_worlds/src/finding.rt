@@ -1,13 +1,20 @@
 //! What was found so far of an instant of a node.
 
-ghost use Rattle.std.specs.Prelude.{◌≡◌, ◌<◌, IfOk, MatchOption, OnOk, length, map, slice_set};
+ghost use Rattle.std.specs.Prelude.{◌≡◌, ◌<◌, ◌+◌, ◌++◌, ℕ, [], IfOk, IsTrue, MatchOption, OnOk, false, is_some, length, map, slice_set, true};
+ghost use Rattle.lus_program.specs.Programs.{all_calls, all_numbered, calls, numbered};
+ghost use Rattle.lus_program.specs.View.{expression_of, node_of, operands_of, program_seen};
+ghost use Rattle.lus_reference.specs.Placed.{place_of};
+ghost use Rattle.lus_worlds.specs.Finding.{IsFoundBy, has_run, row_so_far, unless};
+ghost use Rattle.lus_worlds.specs.Moments.{row_in};
+ghost use Rattle.lus_worlds.specs.Turns.{all_calls_in_turn, below, calls_in_turn, turns_of};
 ghost use Rattle.lus_values.specs.Lists.{Each, item};
 ghost use Rattle.lus_values.specs.View.{entry_of};
 
+use crate::following::meant;
 use crate::moment::Moment;
 use lus_parts::clock_of;
 use lus_program::{Expr, Form, Node, Program};
-use lus_reference::{define, is_on};
+use lus_reference::{Place, is_on};
 use lus_values::{Memory, Row, Value, copy_entry};
 use std::alloc::Global;
 
@@ -29,6 +36,9 @@ impl Found {
     ) -> Result<Found, Memory>
         ensures count { IfOk result (λ o. length o.called.items ≡ calls) }
         ensures blank { IfOk result (λ o. Each (λ m. m ≡ None) o.called.items) }
+        ensures width { IfOk result (λ o. length o.row.items ≡ variables) }
+        ensures inputs { IfOk result (λ o. (x : ℕ) → x < variables → item None (map entry_of o.row.items) x ≡ item None (map entry_of inputs.now) x) }
+        ensures rows { IfOk result (λ o. o.rows.items ≡ map row_so_far o.called.items) }
     {
         let mut row = Vec::new(alloc);
         for index in 0..variables {
@@ -45,46 +55,54 @@ impl Found {
 
     /// One more entry.
     fn set(&mut self, variable: usize, entry: Option<Value>)
-        ensures { self.new.called ≡ self.old.called }
+        ensures called { self.new.called ≡ self.old.called }
+        ensures rows { self.new.rows ≡ self.old.rows }
+        ensures row { map entry_of self.new.row.items ≡ slice_set (map entry_of self.old.row.items) variable (entry_of entry) }
     {
         if let Some(place) = self.row.get_mut(variable) {
             *place = entry;
         }
     }
 
-    /// Finds a variable by its equation, where its clock is present; an input is given.
+    /// Finds a variable by its equation, which has this place; an input is given.
     pub fn find_variable(
         &mut self,
         alloc: Global,
         program: &Program,
         node: &Node,
         variable: u32,
+        place: Option<Place>,
         present: bool,
         kept: &[Option<Value>],
     ) -> Result<(), Memory>
-        ensures { OnOk result (self.new.called ≡ self.old.called) }
+        requires { place ≡ place_of node.now variable }
+        ensures called { OnOk result (self.new.called ≡ self.old.called) }
+        ensures rows { OnOk result (self.new.rows ≡ self.old.rows) }
+        ensures row { OnOk result (IsFoundBy (program_seen program.now) (node_of node.now) variable present (map entry_of kept.now) self.old.rows.items (map entry_of self.old.row.items) (map entry_of self.new.row.items)) }
     {
         if variable < node.inputs {
             return Ok(());
         }
         let clock = clock_of(alloc, &node.variables, variable)?;
-        if !is_on(&clock, present, &self.row) {
-            return Ok(());
-        }
-        let value = define(alloc, program, &self.row, node, variable, kept, &self.rows)?;
+        let on = is_on(&clock, present, &self.row);
+        let value = meant(alloc, program, &self.row, node, place, on, kept, &self.rows)?;
         self.set(variable as usize, value);
         Ok(())
     }
 
     /// Whether a call ran.
-    pub fn has(&self, call: usize) -> bool {
+    pub fn has(&self, call: usize) -> bool
+        ensures { IsTrue result → has_run self.now.called.items call ≡ true }
+    {
         matches!(self.called.get(call), Some(Some(_)))
     }
 
     /// One more call ran.
     pub fn add(&mut self, alloc: Global, call: usize, moment: Moment) -> Result<(), Memory>
         requires { call < length self.old.called.items }
-        ensures { OnOk result (self.new.called.items ≡ slice_set self.old.called.items call (Some moment)) }
+        ensures called { OnOk result (self.new.called.items ≡ slice_set self.old.called.items call (Some moment)) }
+        ensures row { OnOk result (self.new.row ≡ self.old.row) }
+        ensures rows { OnOk result (self.new.rows.items ≡ slice_set self.old.rows.items call (row_in moment)) }
     {
         let row = moment.row.copy(alloc)?;
         if call < self.rows.len() {
@@ -97,7 +115,7 @@ impl Found {
 
 /// The instants of all calls, if all ran.
 pub fn all_called(alloc: Global, called: Vec<Option<Moment>>) -> Result<Option<Vec<Moment>>, Memory>
-    ensures { IfOk result (λ o. MatchOption o (Unit {0}) (λ all. map (λ m. Some m) all.items ≡ called.items)) }
+    ensures { IfOk result (λ o. MatchOption o ((c : ℕ) × (has_run called.items c ≡ false)) (λ all. map (λ m. Some m) all.items ≡ called.items)) }
 {
     let mut all = Vec::new(alloc);
     for moment in called {
@@ -127,7 +145,10 @@ pub fn push_calls(
     number: usize,
     held: bool,
     found: &mut Vec<usize>,
-) -> Result<usize, Memory> {
+) -> Result<usize, Memory>
+    ensures next { IfOk result (λ n. n ≡ number + calls (expression_of expr.now)) }
+    ensures found { OnOk result (found.new.items ≡ found.old.items ++ unless held (calls_in_turn (numbered number (expression_of expr.now)))) }
+{
     match &expr.form {
         Form::Literal(_) => Ok(number),
         Form::Variable(_) => Ok(number),
@@ -159,7 +180,10 @@ fn push_all_calls(
     number: usize,
     held: bool,
     found: &mut Vec<usize>,
-) -> Result<usize, Memory> {
+) -> Result<usize, Memory>
+    ensures next { IfOk result (λ n. n ≡ number + all_calls (operands_of operands.now)) }
+    ensures found { OnOk result (found.new.items ≡ found.old.items ++ unless held (all_calls_in_turn (all_numbered number (operands_of operands.now)))) }
+{
     let mut next = number;
     for operand in operands {
         let after = push_calls(operand, next, held, found)?;
@@ -168,22 +192,27 @@ fn push_all_calls(
     Ok(next)
 }
 
-/// The calls outside of `pre` on the right side that defines a variable, each behind those in its arguments.
-pub fn calls_of(alloc: Global, node: &Node, variable: u32) -> Result<Vec<usize>, Memory> {
-    let mut next = 0;
-    for equation in &node.equations {
-        let mut calls = Vec::new(alloc);
-        let after = push_calls(&equation.right, next, false, &mut calls)?;
-        if equation.targets.contains(&variable) {
-            return Ok(calls);
-        }
-        next = after;
+/// The calls outside of `pre` on the right side at this place, each behind those in its arguments.
+pub fn calls_of(alloc: Global, node: &Node, place: Option<Place>) -> Result<Vec<usize>, Memory>
+    ensures { IfOk result (λ cs. (x : ℕ) → place ≡ place_of node.now x → cs.items ≡ turns_of (node_of node.now) x) }
+{
+    let mut calls = Vec::new(alloc);
+    match place {
+        Some(at) => match node.equations.get(at.equation) {
+            Some(equation) => {
+                push_calls(&equation.right, at.calls, false, &mut calls)?;
+                Ok(calls)
+            }
+            None => Ok(calls),
+        },
+        None => Ok(calls),
     }
-    Ok(Vec::new(alloc))
 }
 
 /// The numbers of so many calls, the last first: so each stands behind those in its arguments.
-pub fn last_first(alloc: Global, count: usize) -> Result<Vec<usize>, Memory> {
+pub fn last_first(alloc: Global, count: usize) -> Result<Vec<usize>, Memory>
+    ensures { IfOk result (λ cs. cs.items ≡ below count) }
+{
     let mut calls = Vec::new(alloc);
     for behind in 0..count {
         calls.push(count - 1 - behind)?;
@@ -192,7 +221,9 @@ pub fn last_first(alloc: Global, count: usize) -> Result<Vec<usize>, Memory> {
 }
 
 /// The order of a node's variables; past the last node there is none.
-pub fn order_at(orders: &[Vec<u32>], node: u32) -> &[u32] {
+pub fn order_at(orders: &[Vec<u32>], node: u32) -> &[u32]
+    ensures { result.now ≡ item [] (map (λ order. order.items) orders.now) node }
+{
     match orders.get(node as usize) {
         Some(order) => order,
         None => &[],

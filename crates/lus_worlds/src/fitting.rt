@@ -1,11 +1,11 @@
 //! Whether instants of called nodes are those of the calls in a text.
 
-ghost use Rattle.std.specs.Prelude.{◌≡◌, ℕ, IfOk, IsTrue, MatchOption, map};
+ghost use Rattle.std.specs.Prelude.{◌≡◌, ◌↔◌, ℕ, IfOk, IsTrue, MatchOption, false, map};
 ghost use Rattle.lus_program.specs.View.{expression_of, operands_of, program_seen};
 ghost use Rattle.lus_values.specs.View.{entry_of};
 ghost use Rattle.lus_parts.specs.Nested.{AreNested};
 ghost use Rattle.lus_parts.specs.Parts.{part_of};
-ghost use Rattle.lus_worlds.specs.Fitting.{CallFits, DoFit, PartFits};
+ghost use Rattle.lus_worlds.specs.Fitting.{CallFits, CallMisfits, DoFit, DoNotFit, PartFits, PartMisfits, PassesAt, RestFits};
 ghost use Rattle.lus_worlds.specs.Moments.{row_in};
 
 use crate::entries::{entries_from, first_entries, same_entries};
@@ -17,8 +17,15 @@ use lus_reference::{is_on, pass, rows_from};
 use lus_values::{Memory, Row, Value};
 use std::alloc::Global;
 
-/// Whether an instant is of the node that a part calls, has the call's base as base, and has what the arguments give as inputs.
-fn call_fits(
+/// What a call passes: whether the base of the node that it calls is present, and that node's inputs.
+#[derive(Drop)]
+pub struct Passed {
+    pub on: bool,
+    pub inputs: Vec<Option<Value>>,
+}
+
+/// What the call at a part passes.
+pub fn pass_at(
     alloc: Global,
     program: &Program,
     present: bool,
@@ -28,9 +35,8 @@ fn call_fits(
     called: u32,
     arguments: &[Expr],
     kept: &[Option<Value>],
-    moment: &Moment,
-) -> Result<bool, Memory>
-    ensures { IfOk result (λ b. IsTrue b → CallFits (program_seen program.now) present (map entry_of row.now) rows.now part.now called (operands_of arguments.now) (map entry_of kept.now) moment.now) }
+) -> Result<Passed, Memory>
+    ensures { IfOk result (λ v. PassesAt (program_seen program.now) present (map entry_of row.now) rows.now part.now called (operands_of arguments.now) (map entry_of kept.now) v.on (map entry_of v.inputs.items)) }
 {
     let base = base_of(alloc, program, called, &part.clock)?;
     let on = is_on(&base, present, row);
@@ -47,14 +53,43 @@ fn call_fits(
         entries_from(kept, 1),
         behind,
     )?;
+    Ok(Passed { on, inputs })
+}
+
+/// Whether both are present, or neither.
+fn are_alike(left: bool, right: bool) -> bool
+    ensures { IsTrue result ↔ (left ≡ right) }
+{
+    left == right
+}
+
+/// Whether an instant is of the node that a part calls, has the call's base as base, and has what the arguments give as inputs.
+fn call_fits(
+    alloc: Global,
+    program: &Program,
+    present: bool,
+    row: &[Option<Value>],
+    rows: &[Row],
+    part: &Part<'_>,
+    called: u32,
+    arguments: &[Expr],
+    kept: &[Option<Value>],
+    moment: &Moment,
+) -> Result<bool, Memory>
+    ensures fits { IfOk result (λ b. IsTrue b → CallFits (program_seen program.now) present (map entry_of row.now) rows.now part.now called (operands_of arguments.now) (map entry_of kept.now) moment.now) }
+    ensures not { IfOk result (λ b. b ≡ false → CallMisfits (program_seen program.now) present (map entry_of row.now) rows.now part.now called (operands_of arguments.now) (map entry_of kept.now) moment.now) }
+{
+    let passed = pass_at(
+        alloc, program, present, row, rows, part, called, arguments, kept,
+    )?;
     let given = first_entries(moment.row.items(), inputs_at(program, called) as usize);
     if moment.node != called {
         return Ok(false);
     }
-    if moment.present != on {
+    if !are_alike(moment.present, passed.on) {
         return Ok(false);
     }
-    Ok(same_entries(given, &inputs))
+    Ok(same_entries(given, &passed.inputs))
 }
 
 /// How many of these instants the parts so far have, with this one; none where the instant at its number isn't its own.
@@ -70,7 +105,8 @@ fn part_fits(
     next: usize,
 ) -> Result<Option<usize>, Memory>
     requires { rows.now ≡ map row_in called.now }
-    ensures { IfOk result (λ o. MatchOption o (Unit {0}) (PartFits (program_seen program.now) present (map entry_of row.now) part.now (map entry_of kept.now) called.now next)) }
+    ensures fits { IfOk result (λ o. MatchOption o (Unit {0}) (PartFits (program_seen program.now) present (map entry_of row.now) part.now (map entry_of kept.now) called.now next)) }
+    ensures rest { IfOk result (λ o. MatchOption o (PartMisfits (program_seen program.now) present (map entry_of row.now) part.now (map entry_of kept.now) called.now next) (RestFits (program_seen program.now) present (map entry_of row.now) part.now called.now next)) }
 {
     match &part.expr.form {
         Form::Call(node, arguments) => match called.get(next) {
@@ -105,7 +141,8 @@ pub fn all_fit(
 ) -> Result<bool, Memory>
     requires rows { rows.now ≡ map row_in called.now }
     requires nested { AreNested (program_seen program.now) (map part_of parts.now) }
-    ensures { IfOk result (λ b. IsTrue b → DoFit (program_seen program.now) present (map entry_of row.now) (map part_of parts.now) (map entry_of kept.now) called.now) }
+    ensures fit { IfOk result (λ b. IsTrue b → DoFit (program_seen program.now) present (map entry_of row.now) (map part_of parts.now) (map entry_of kept.now) called.now) }
+    ensures not { IfOk result (λ b. b ≡ false → DoNotFit (program_seen program.now) present (map entry_of row.now) (map part_of parts.now) (map entry_of kept.now) called.now) }
 {
     let mut next = 0;
     for (place, part) in parts.iter().enumerate() {
@@ -116,5 +153,8 @@ pub fn all_fit(
             None => return Ok(false),
         }
     }
-    Ok(next == called.len())
+    if next < called.len() {
+        return Ok(false);
+    }
+    Ok(true)
 }

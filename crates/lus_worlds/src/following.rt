@@ -1,33 +1,34 @@
 //! Whether variables have what the equations of their node give, whatever is at fault.
 
-ghost use Rattle.std.specs.Prelude.{◌≡◌, ◌<◌, ℕ, IfOk, IsTrue, is_some, length, map, true};
+ghost use Rattle.std.specs.Prelude.{◌≡◌, ◌<◌, ◌↔◌, ℕ, IfOk, IsTrue, false, is_some, length, map, true};
 ghost use Rattle.lus_values.specs.Lists.{item};
 ghost use Rattle.lus_program.specs.View.{node_of, program_seen};
 ghost use Rattle.lus_values.specs.View.{entry_of};
-ghost use Rattle.lus_worlds.specs.Following.{DoesFollow, IsGiven, IsMeant};
+ghost use Rattle.lus_reference.specs.Placed.{ArePlaces, place_of};
+ghost use Rattle.lus_worlds.specs.Following.{DoesFollow, DoesStray, IsGiven, IsMeant, IsMissing, SomeStrays};
 
 use crate::entries::{has_entry, is_entry};
 use lus_parts::clock_of;
 use lus_program::{Node, Program};
-use lus_reference::{define, is_on};
+use lus_reference::{Place, define, is_on};
 use lus_values::{Memory, Row, Value};
 use std::alloc::Global;
 
-/// What a variable has where its clock is present or not.
-fn meant(
+/// What a variable with this place has where its clock is present or not.
+pub fn meant(
     alloc: Global,
     program: &Program,
     row: &[Option<Value>],
     node: &Node,
-    variable: u32,
+    place: Option<Place>,
     on: bool,
     kept: &[Option<Value>],
     rows: &[Row],
 ) -> Result<Option<Value>, Memory>
-    ensures { IfOk result (λ v. IsMeant (program_seen program.now) (map entry_of row.now) (node_of node.now) variable on (map entry_of kept.now) rows.now (entry_of v)) }
+    ensures { IfOk result (λ v. (x : ℕ) → place ≡ place_of node.now x → IsMeant (program_seen program.now) (map entry_of row.now) (node_of node.now) x on (map entry_of kept.now) rows.now (entry_of v)) }
 {
     if on {
-        define(alloc, program, row, node, variable, kept, rows)
+        define(alloc, program, row, node, place, kept, rows)
     } else {
         Ok(None)
     }
@@ -35,7 +36,7 @@ fn meant(
 
 /// Whether an input has an entry only where its clock is present.
 fn fits_input(on: bool, row: &[Option<Value>], variable: u32) -> bool
-    ensures { IsTrue result → is_some (item None (map entry_of row.now) variable) ≡ true → on ≡ true }
+    ensures { IsTrue result ↔ (is_some (item None (map entry_of row.now) variable) ≡ true → on ≡ true) }
 {
     if on {
         true
@@ -52,17 +53,20 @@ fn follows(
     row: &[Option<Value>],
     node: &Node,
     variable: u32,
+    place: Option<Place>,
     kept: &[Option<Value>],
     rows: &[Row],
 ) -> Result<bool, Memory>
-    ensures { IfOk result (λ b. IsTrue b → DoesFollow (program_seen program.now) present (map entry_of row.now) (node_of node.now) variable (map entry_of kept.now) rows.now) }
+    requires { place ≡ place_of node.now variable }
+    ensures follows { IfOk result (λ b. IsTrue b → DoesFollow (program_seen program.now) present (map entry_of row.now) (node_of node.now) variable (map entry_of kept.now) rows.now) }
+    ensures strays { IfOk result (λ b. b ≡ false → DoesStray (program_seen program.now) present (map entry_of row.now) (node_of node.now) variable (map entry_of kept.now) rows.now) }
 {
     let clock = clock_of(alloc, &node.variables, variable)?;
     let on = is_on(&clock, present, row);
     if variable < node.inputs {
         Ok(fits_input(on, row, variable))
     } else {
-        let value = meant(alloc, program, row, node, variable, on, kept, rows)?;
+        let value = meant(alloc, program, row, node, place, on, kept, rows)?;
         Ok(is_entry(row, variable as usize, &value))
     }
 }
@@ -77,6 +81,16 @@ fn number_of(count: usize) -> Result<u32, Memory>
     }
 }
 
+/// The place at a variable's number; past the last there is none.
+pub fn place_at(places: &[Option<Place>], variable: u32) -> Option<Place>
+    ensures { result ≡ item None places.now variable }
+{
+    match places.get(variable as usize) {
+        Some(place) => *place,
+        None => None,
+    }
+}
+
 /// Whether all variables of a node do. Where there are more than 2^32, memory is out.
 pub fn all_follow(
     alloc: Global,
@@ -84,15 +98,21 @@ pub fn all_follow(
     present: bool,
     row: &[Option<Value>],
     node: &Node,
+    places: &[Option<Place>],
     kept: &[Option<Value>],
     rows: &[Row],
 ) -> Result<bool, Memory>
-    ensures { let f = node_of node.now in
+    requires { ArePlaces node.now places.now }
+    ensures follow { let f = node_of node.now in
         IfOk result (λ b. IsTrue b → (x : ℕ) → x < length f.variables → DoesFollow (program_seen program.now) present (map entry_of row.now) f x (map entry_of kept.now) rows.now) }
+    ensures strays { IfOk result (λ b. b ≡ false → SomeStrays (program_seen program.now) present (map entry_of row.now) (node_of node.now) (map entry_of kept.now) rows.now) }
 {
     let count = number_of(node.variables.len())?;
     for variable in 0..count {
-        let whole = follows(alloc, program, present, row, node, variable, kept, rows)?;
+        let place = place_at(places, variable);
+        let whole = follows(
+            alloc, program, present, row, node, variable, place, kept, rows,
+        )?;
         if !whole {
             return Ok(false);
         }
@@ -108,7 +128,7 @@ fn is_given(
     node: &Node,
     variable: u32,
 ) -> Result<bool, Memory>
-    ensures { IfOk result (λ b. IsTrue b → IsGiven present (map entry_of row.now) (node_of node.now) variable) }
+    ensures { IfOk result (λ b. IsTrue b ↔ IsGiven present (map entry_of row.now) (node_of node.now) variable) }
 {
     let clock = clock_of(alloc, &node.variables, variable)?;
     let on = is_on(&clock, present, row);
@@ -122,8 +142,9 @@ pub fn all_given(
     row: &[Option<Value>],
     node: &Node,
 ) -> Result<bool, Memory>
-    ensures { let f = node_of node.now in
+    ensures given { let f = node_of node.now in
         IfOk result (λ b. IsTrue b → (x : ℕ) → x < f.inputs → IsGiven present (map entry_of row.now) f x) }
+    ensures missing { IfOk result (λ b. b ≡ false → IsMissing present (map entry_of row.now) (node_of node.now)) }
 {
     for variable in 0..node.inputs {
         let given = is_given(alloc, present, row, node, variable)?;

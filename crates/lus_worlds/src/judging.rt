@@ -1,19 +1,21 @@
 //! What is said of an instant: whether something is at fault in it, or an input is missing.
 
-ghost use Rattle.std.specs.Prelude.{◌≡◌, ◌∷◌, IfOk, IsTrue, MatchOption, map};
+ghost use Rattle.std.specs.Prelude.{◌≡◌, ◌∷◌, IfOk, IsTrue, MatchOption, false, map};
 ghost use Rattle.std.specs.Option.{option_map};
 ghost use Rattle.lus_program.specs.View.{program_seen};
 ghost use Rattle.lus_values.specs.View.{entry_of, value_of};
 ghost use Rattle.lus_parts.specs.Nested.{AreNested};
 ghost use Rattle.lus_parts.specs.Parts.{part_of};
 ghost use Rattle.lus_reference.specs.Causes.{operation_in};
-ghost use Rattle.lus_worlds.specs.Judging.{EachSound, IsFault, IsFaultBelow, IsFaultHere, IsVerdict, NoFaultHere};
-ghost use Rattle.lus_worlds.specs.Moments.{cause_in, row_in};
+ghost use Rattle.lus_reference.specs.Parts.{IsFaultOf};
+ghost use Rattle.lus_worlds.specs.Judging.{EachFaultless, EachSound, IsFault, IsFaultBelow, IsFaultHere, IsFaultless, IsVerdict, NoFaultHere, SomeLacks};
+ghost use Rattle.lus_worlds.specs.Moments.{cause_in, row_in, verdict_in};
+ghost use Rattle.lus_worlds.specs.declared.moment.Verdict.TheVariants as verdicts;
 
 use crate::moment::{Fault, Moment, Verdict};
 use lus_parts::Part;
 use lus_program::Program;
-use lus_reference::{Operation, cause_in, fault_in};
+use lus_reference::{Operation, cause_in};
 use lus_values::{Memory, Row, Value, copy};
 use std::alloc::Global;
 
@@ -84,7 +86,7 @@ fn cause_here(
     }
 }
 
-/// The first part of a node at fault, if one is.
+/// The part of a node at this place, which is at fault, if one is.
 fn fault_here(
     alloc: Global,
     program: &Program,
@@ -94,39 +96,57 @@ fn fault_here(
     parts: &[Part<'_>],
     kept: &[Option<Value>],
     called: &[Moment],
-) -> Result<Option<Fault>, Memory>
+    fault: Option<usize>,
+) -> Option<Fault>
     requires rows { rows.now ≡ map row_in called.now }
-    requires nested { AreNested (program_seen program.now) (map part_of parts.now) }
+    requires fault { IsFaultOf (program_seen program.now) present (map entry_of row.now) rows.now (map part_of parts.now) (map entry_of kept.now) fault }
     ensures { let p = program_seen program.now in
         let now = map entry_of row.now in
-        IfOk result (λ o. MatchOption o (NoFaultHere p present now parts.now (map entry_of kept.now) called.now) (IsFaultHere p present now parts.now (map entry_of kept.now) called.now)) }
+        MatchOption result (NoFaultHere p present now parts.now (map entry_of kept.now) called.now) (IsFaultHere p present now parts.now (map entry_of kept.now) called.now) }
 {
-    match fault_in(alloc, program, present, row, rows, parts, kept)? {
-        Some(place) => Ok(Some(Fault {
+    match fault {
+        Some(place) => Some(Fault {
             way: Vec::new(alloc),
             place: parts[place].expr.place,
             cause: None,
-        })),
-        None => Ok(None),
+        }),
+        None => None,
     }
 }
 
 /// Whether a fault has its cause, or none is wanted.
-fn is_wanted(fault: &Fault, is_cause: bool) -> bool {
+fn is_wanted(fault: &Fault, is_cause: bool) -> bool
+    ensures { is_cause ≡ false → IsTrue result }
+{
     fault.cause.is_some() || !is_cause
+}
+
+/// The fault of an instant, if it has one, or one with its cause, if that is wanted.
+fn fault_of(moment: &Moment, is_cause: bool) -> Option<&Fault>
+    ensures { MatchOption result (is_cause ≡ false → IsFaultless (verdict_in moment.now)) (λ t. verdict_in moment.now ≡ verdicts.AtFault t.now) }
+{
+    match &moment.verdict {
+        Verdict::Sound => None,
+        Verdict::Lacking => None,
+        Verdict::AtFault(fault) => {
+            if is_wanted(fault, is_cause) {
+                Some(fault)
+            } else {
+                None
+            }
+        }
+    }
 }
 
 /// The fault of the first called node that has one, or that has one with its cause, if that is wanted.
 fn fault_among(alloc: Global, called: &[Moment], is_cause: bool) -> Result<Option<Fault>, Memory>
-    ensures { IfOk result (λ o. MatchOption o (Unit {0}) (IsFaultBelow called.now)) }
+    ensures { IfOk result (λ o. MatchOption o (is_cause ≡ false → EachFaultless called.now) (IsFaultBelow called.now)) }
 {
     let mut number = 0;
     for moment in called {
-        if let Verdict::AtFault(fault) = &moment.verdict {
-            if is_wanted(fault, is_cause) {
-                let found = fault_below(alloc, number, fault)?;
-                return Ok(Some(found));
-            }
+        if let Some(fault) = fault_of(moment, is_cause) {
+            let found = fault_below(alloc, number, fault)?;
+            return Ok(Some(found));
         }
         match number.checked_add(1) {
             Some(next) => number = next,
@@ -136,13 +156,17 @@ fn fault_among(alloc: Global, called: &[Moment], is_cause: bool) -> Result<Optio
     Ok(None)
 }
 
-/// Whether nothing is at fault or missing in these instants.
+/// Whether nothing is missing in these instants, at which nothing is at fault.
 fn all_sound(called: &[Moment]) -> bool
-    ensures { IsTrue result → EachSound called.now }
+    requires { EachFaultless called.now }
+    ensures sound { IsTrue result → EachSound called.now }
+    ensures lacks { result ≡ false → SomeLacks called.now }
 {
     for moment in called {
-        if !matches!(moment.verdict, Verdict::Sound) {
-            return false;
+        match &moment.verdict {
+            Verdict::Sound => {}
+            Verdict::AtFault(_) => return false,
+            Verdict::Lacking => return false,
         }
     }
     true
@@ -174,7 +198,8 @@ fn cause_of(
     }
 }
 
-/// What is said of an instant with these instants of called nodes: a part at fault, here or in them, a cause before others.
+/// What is said of an instant with these instants of called nodes, at which the part at this place is at fault, if one is: a part at
+/// fault, here or in them, a cause before others.
 pub fn judge(
     alloc: Global,
     program: &Program,
@@ -185,12 +210,17 @@ pub fn judge(
     kept: &[Option<Value>],
     called: &[Moment],
     complete: bool,
+    fault: Option<usize>,
 ) -> Result<Verdict, Memory>
     requires rows { rows.now ≡ map row_in called.now }
     requires nested { AreNested (program_seen program.now) (map part_of parts.now) }
+    requires fault { IsFaultOf (program_seen program.now) present (map entry_of row.now) rows.now (map part_of parts.now) (map entry_of kept.now) fault }
     ensures { IfOk result (IsVerdict (program_seen program.now) present (map entry_of row.now) parts.now (map entry_of kept.now) called.now complete) }
 {
-    if let Some(fault) = fault_here(alloc, program, present, row, rows, parts, kept, called)? {
+    let here = fault_here(
+        alloc, program, present, row, rows, parts, kept, called, fault,
+    );
+    if let Some(fault) = here {
         let cause = cause_of(
             alloc, program, present, row, rows, parts, kept, called, fault,
         )?;
@@ -199,7 +229,10 @@ pub fn judge(
     if let Some(fault) = fault_among(alloc, called, false)? {
         return Ok(Verdict::AtFault(fault));
     }
-    if complete && all_sound(called) {
+    if !complete {
+        return Ok(Verdict::Lacking);
+    }
+    if all_sound(called) {
         Ok(Verdict::Sound)
     } else {
         Ok(Verdict::Lacking)

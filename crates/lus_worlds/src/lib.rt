@@ -2,6 +2,7 @@
 #![tactic(auto)]
 
 mod beginning;
+mod calling;
 mod entries;
 mod finding;
 mod fitting;
@@ -17,5 +18,4 @@ pub use beginning::start;
 pub use keeping::keep;
 pub use lus_reference::Operation;
 pub use moment::{Fault, Moment, Verdict};
-pub use settling::settle;
 pub use world::{Stop, extend};

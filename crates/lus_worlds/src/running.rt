@@ -1,55 +1,56 @@
 //! Instants of nodes, each with those of the nodes that it calls.
 
-ghost use Rattle.std.specs.Prelude.{◌≡◌, IfOk, MatchOption, OnOk};
-ghost use Rattle.lus_program.specs.View.{program_seen};
-ghost use Rattle.lus_worlds.specs.Finding.{MayFollow};
+ghost use Rattle.std.specs.Prelude.{◌≡◌, ◌<◌, ◌∷◌, [], Bool, IfOk, MatchOption, OnOk, length, map};
+ghost use Rattle.lus_values.specs.View.{entry_of};
+ghost use Rattle.lus_parts.specs.Parts.{part_of};
+ghost use Rattle.lus_program.specs.View.{node_of, operands_of, program_seen};
+ghost use Rattle.lus_reference.specs.Placed.{ArePlaces};
+ghost use Rattle.lus_streams.specs.Equations.{node_parts};
+ghost use Rattle.lus_worlds.specs.Finding.{call_places, CallsHere, Finds, FindsAll, IsOther, IsPrepared, MayFollow, RunsInTurn, RunsNode};
 ghost use Rattle.lus_worlds.specs.Moments.{Follows, moments_in, node_in};
 
+use crate::calling::sites_of;
 use crate::entries::entries_from;
 use crate::finding::{Found, all_called, calls_of, last_first, order_at};
+use crate::fitting::pass_at;
+use crate::following::place_at;
 use crate::moment::Moment;
 use crate::settling::settle;
-use lus_parts::{Part, base_of, parts_of};
-use lus_program::{Form, Node, Program};
-use lus_reference::{is_on, pass, rows_from};
+use lus_parts::{Part, parts_of};
+use lus_program::{Expr, Form, Node, Program};
+use lus_reference::{Place, places_of};
 use lus_values::{Memory, Value};
 use std::alloc::Global;
 
-/// An instant of a node behind what is kept, with this base and these inputs, if one is found through calls of this depth.
+/// An instant of a node behind what is kept, with this base and these inputs, if there is one: whichever is sought is found.
 #[cycle(attempt)]
 pub fn attempt(
     alloc: Global,
     program: &Program,
     orders: &[Vec<u32>],
-    depth: usize,
     number: u32,
     present: bool,
     inputs: &[Option<Value>],
     old: &Moment,
 ) -> Result<Option<Moment>, Memory>
-    ensures { IfOk result (λ o. MatchOption o (Unit {0}) (λ m. (node_in m ≡ number) × Follows (program_seen program.now) old.now m)) }
+    ensures follows { IfOk result (λ o. MatchOption o (Unit {0}) (λ m. (node_in m ≡ number) × Follows (program_seen program.now) old.now m)) }
+    ensures finds { let p = program_seen program.now in
+        IfOk result (λ o. IsPrepared p (map (λ order. order.items) orders.now) → number < length p.nodes → Finds p number present (map entry_of inputs.now) old.now o) }
 {
-    if depth == 0 {
-        return Ok(None);
-    }
     match program.nodes.get(number as usize) {
         Some(node) => {
             let order = order_at(orders, number);
+            let parts = parts_of(alloc, program, node)?;
+            let places = places_of(alloc, node)?;
+            let sites = sites_of(alloc, &parts)?;
             let mut found = Found::begin(alloc, node.variables.len(), inputs, old.called.len())?;
             find(
-                alloc,
-                program,
-                orders,
-                depth - 1,
-                node,
-                order,
-                present,
-                old,
+                alloc, program, orders, node, &parts, &places, &sites, order, present, old,
                 &mut found,
             )?;
             match all_called(alloc, found.called)? {
                 Some(called) => settle(
-                    alloc, program, number, node, present, found.row, called, old,
+                    alloc, program, number, node, &parts, &places, present, found.row, called, old,
                 ),
                 None => Ok(None),
             }
@@ -64,27 +65,44 @@ fn find(
     alloc: Global,
     program: &Program,
     orders: &[Vec<u32>],
-    depth: usize,
     node: &Node,
+    parts: &[Part<'_>],
+    places: &[Option<Place>],
+    sites: &[usize],
     order: &[u32],
     present: bool,
     old: &Moment,
     found: &mut Found,
 ) -> Result<(), Memory>
-    requires { MayFollow (program_seen program.now) (moments_in old.now) found.old.called.items }
-    ensures { OnOk result (MayFollow (program_seen program.now) (moments_in old.now) found.new.called.items) }
+    requires parts { map part_of parts.now ≡ node_parts (program_seen program.now) (node_of node.now) }
+    requires places { ArePlaces node.now places.now }
+    requires sites { sites.now ≡ call_places parts.now 0 }
+    requires may { MayFollow (program_seen program.now) (moments_in old.now) found.old.called.items }
+    ensures may { OnOk result (MayFollow (program_seen program.now) (moments_in old.now) found.new.called.items) }
+    ensures all { OnOk result (FindsAll (program_seen program.now) (map (λ order. order.items) orders.now) present old.now (node_of node.now) order.now found.old found.new) }
 {
-    let parts = parts_of(alloc, program, node)?;
     for variable in order {
-        let calls = calls_of(alloc, node, *variable)?;
+        if *variable as usize >= places.len() {
+            continue;
+        }
+        let place = place_at(places, *variable);
+        let calls = calls_of(alloc, node, place)?;
         run_calls(
-            alloc, program, orders, depth, &parts, present, old, &calls, found,
+            alloc, program, orders, parts, sites, present, old, &calls, found,
         )?;
-        found.find_variable(alloc, program, node, *variable, present, old.kept.items())?;
+        found.find_variable(
+            alloc,
+            program,
+            node,
+            *variable,
+            place,
+            present,
+            old.kept.items(),
+        )?;
     }
     let left = last_first(alloc, old.called.len())?;
     run_calls(
-        alloc, program, orders, depth, &parts, present, old, &left, found,
+        alloc, program, orders, parts, sites, present, old, &left, found,
     )
 }
 
@@ -94,19 +112,21 @@ fn run_calls(
     alloc: Global,
     program: &Program,
     orders: &[Vec<u32>],
-    depth: usize,
     parts: &[Part<'_>],
+    sites: &[usize],
     present: bool,
     old: &Moment,
     calls: &[usize],
     found: &mut Found,
 ) -> Result<(), Memory>
-    requires { MayFollow (program_seen program.now) (moments_in old.now) found.old.called.items }
-    ensures { OnOk result (MayFollow (program_seen program.now) (moments_in old.now) found.new.called.items) }
+    requires sites { sites.now ≡ call_places parts.now 0 }
+    requires may { MayFollow (program_seen program.now) (moments_in old.now) found.old.called.items }
+    ensures may { OnOk result (MayFollow (program_seen program.now) (moments_in old.now) found.new.called.items) }
+    ensures run { OnOk result (RunsInTurn (program_seen program.now) (map (λ order. order.items) orders.now) present old.now parts.now calls.now found.old found.new) }
 {
     for call in calls {
         run_call(
-            alloc, program, orders, depth, parts, present, old, *call, found,
+            alloc, program, orders, parts, sites, present, old, *call, found,
         )?;
     }
     Ok(())
@@ -118,43 +138,73 @@ fn run_call(
     alloc: Global,
     program: &Program,
     orders: &[Vec<u32>],
-    depth: usize,
     parts: &[Part<'_>],
+    sites: &[usize],
     present: bool,
     old: &Moment,
     call: usize,
     found: &mut Found,
 ) -> Result<(), Memory>
-    requires { MayFollow (program_seen program.now) (moments_in old.now) found.old.called.items }
-    ensures { OnOk result (MayFollow (program_seen program.now) (moments_in old.now) found.new.called.items) }
+    requires sites { sites.now ≡ call_places parts.now 0 }
+    requires may { MayFollow (program_seen program.now) (moments_in old.now) found.old.called.items }
+    ensures may { OnOk result (MayFollow (program_seen program.now) (moments_in old.now) found.new.called.items) }
+    ensures runs { OnOk result (RunsInTurn (program_seen program.now) (map (λ order. order.items) orders.now) present old.now parts.now (call ∷ []) found.old found.new) }
 {
     if found.has(call) {
         return Ok(());
     }
-    for (place, part) in parts.iter().enumerate() {
-        if part.number == call {
-            if let Form::Call(called, arguments) = &part.expr.form {
-                let base = base_of(alloc, program, *called, &part.clock)?;
-                let on = is_on(&base, present, &found.row);
-                let own = rows_from(&found.rows, call);
-                let inputs = pass(
-                    alloc,
-                    program,
-                    present,
-                    &found.row,
-                    *called,
-                    arguments,
-                    &base,
-                    entries_from(old.kept.items(), place + 1),
-                    rows_from(own, 1),
-                )?;
-                return run_node(
-                    alloc, program, orders, depth, *called, on, &inputs, old, call, found,
-                );
-            }
-        }
+    if call >= sites.len() {
+        return Ok(());
     }
-    Ok(())
+    let place = sites[call];
+    if place >= parts.len() {
+        return Ok(());
+    }
+    let part = &parts[place];
+    match call_at(part, call) {
+        Some((called, arguments)) => {
+            let kept = entries_from(old.kept.items(), place);
+            let passed = pass_at(
+                alloc,
+                program,
+                present,
+                &found.row,
+                &found.rows,
+                part,
+                called,
+                arguments,
+                kept,
+            )?;
+            run_node(
+                alloc,
+                program,
+                orders,
+                called,
+                passed.on,
+                &passed.inputs,
+                old,
+                call,
+                found,
+            )
+        }
+        None => Ok(()),
+    }
+}
+
+/// The node and the arguments of the call with this number, if it stands at this part.
+fn call_at<'a>(part: &'a Part<'_>, call: usize) -> Option<(u32, &'a [Expr])>
+    ensures { MatchOption result (IsOther call (part_of part.now)) (λ o. CallsHere call part.now o.0 (operands_of o.1.now)) }
+{
+    if part.number != call {
+        return None;
+    }
+    match &part.expr.form {
+        Form::Call(called, arguments) => {
+            let given: &[Expr] = arguments;
+            Some((*called, given))
+        }
+        _ => None,
+    }
 }
 
 /// Runs the node of a call.
@@ -163,7 +213,6 @@ fn run_node(
     alloc: Global,
     program: &Program,
     orders: &[Vec<u32>],
-    depth: usize,
     called: u32,
     on: bool,
     inputs: &[Option<Value>],
@@ -172,12 +221,13 @@ fn run_node(
     found: &mut Found,
 ) -> Result<(), Memory>
     requires { MayFollow (program_seen program.now) (moments_in old.now) found.old.called.items }
-    ensures { OnOk result (MayFollow (program_seen program.now) (moments_in old.now) found.new.called.items) }
+    ensures may { OnOk result (MayFollow (program_seen program.now) (moments_in old.now) found.new.called.items) }
+    ensures runs { OnOk result ((present : Bool) → RunsNode (program_seen program.now) (map (λ order. order.items) orders.now) present old.now call called on (map entry_of inputs.now) found.old found.new) }
 {
     match old.called.get(call) {
-        Some(own) => match attempt(alloc, program, orders, depth, called, on, inputs, own)? {
-            Some(moment) if call < found.called.len() => found.add(alloc, call, moment),
-            _ => Ok(()),
+        Some(own) => match attempt(alloc, program, orders, called, on, inputs, own)? {
+            Some(moment) => found.add(alloc, call, moment),
+            None => Ok(()),
         },
         None => Ok(()),
     }

@@ -1,12 +1,12 @@
 //! Worlds of a node, found out instant by instant.
 
-ghost use Rattle.std.specs.Prelude.{◌≡◌, IfErr, IfOk, IsTrue, map};
+ghost use Rattle.std.specs.Prelude.{◌≡◌, IfErr, IfOk, IsTrue, false, map};
 ghost use Rattle.lus_program.specs.View.{program_seen};
 ghost use Rattle.lus_streams.specs.OnClock.{ProgramOnClocks};
 ghost use Rattle.lus_streams.specs.Order.{IsCausal};
 ghost use Rattle.lus_values.specs.View.{entry_of};
 ghost use Rattle.lus_worlds.specs.Moments.{Follows, node_in, verdict_in};
-ghost use Rattle.lus_worlds.specs.Worlds.{HasGiven, HasNoFurther, IsFurther, IsStopped, Stops};
+ghost use Rattle.lus_worlds.specs.Worlds.{HasGiven, HasNoFurther, IsDeclined, IsFurther, IsStopped, Stops};
 ghost use Rattle.lus_worlds.specs.declared.moment.Verdict.TheVariants as verdicts;
 
 use crate::entries::{first_entries, same_entries};
@@ -22,8 +22,7 @@ use std::alloc::Global;
 pub enum Stop {
     /// A part is at fault.
     AtFault(Fault),
-    /// No instant was found for these inputs: one has an entry where its clock isn't present, or none where it is. That this is the
-    /// only cause isn't proved.
+    /// There is no instant for these inputs, as where one has an entry though its clock isn't present, or none though it is.
     Unsettled,
     /// Memory is out.
     Memory,
@@ -31,7 +30,8 @@ pub enum Stop {
 
 /// Whether an instant of a node has its base, all its inputs, and these as inputs.
 fn has_given(program: &Program, node: u32, inputs: &[Option<Value>], moment: &Moment) -> bool
-    ensures { IsTrue result → HasGiven (program_seen program.now) node (map entry_of inputs.now) moment.now }
+    ensures has { IsTrue result → HasGiven (program_seen program.now) node (map entry_of inputs.now) moment.now }
+    ensures not { result ≡ false → HasGiven (program_seen program.now) node (map entry_of inputs.now) moment.now → ⊥ }
 {
     let given = first_entries(moment.row.items(), inputs_at(program, node) as usize);
     if !moment.present {
@@ -69,7 +69,7 @@ fn accept(
     requires node { node_in moment ≡ node }
     requires follows { Follows (program_seen program.now) old.now moment }
     ensures ok { IfOk result (IsFurther (program_seen program.now) node (map entry_of inputs.now) old.now) }
-    ensures fault { IfErr result (IsStopped (program_seen program.now) node (map entry_of inputs.now) old.now) }
+    ensures declined { IfErr result (IsDeclined (program_seen program.now) node (map entry_of inputs.now) old.now moment) }
 {
     if has_given(program, node, inputs, &moment) {
         stop_of(moment)
@@ -79,8 +79,8 @@ fn accept(
 }
 
 /// The next instant of a world of a node, behind what is kept, with these inputs: the streams for the inputs so far and these are the
-/// world so far with this instant. A fault is in what the equations give for these inputs, and there are no such streams then. What
-/// is kept stays as it is. The variables of each node are found in this order.
+/// world so far with this instant. A fault is in what the equations give for these inputs, and there are no such streams then, nor
+/// where none is found with orders of the variables of each node. What is kept stays as it is.
 pub fn extend(
     alloc: Global,
     program: &Program,
@@ -92,11 +92,10 @@ pub fn extend(
     requires causal { IsCausal (program_seen program.now) }
     requires clocks { ProgramOnClocks (program_seen program.now) }
     ensures ok { IfOk result (IsFurther (program_seen program.now) node (map entry_of inputs.now) old.now) }
-    ensures fault { IfErr result (IsStopped (program_seen program.now) node (map entry_of inputs.now) old.now) }
-    ensures none { IfErr result (HasNoFurther (program_seen program.now) node (map entry_of inputs.now) old.now) }
+    ensures fault { IfErr result (IsStopped (program_seen program.now) node (map entry_of inputs.now) old.now (map (λ order. order.items) orders.now)) }
+    ensures none { IfErr result (HasNoFurther (program_seen program.now) node (map entry_of inputs.now) old.now (map (λ order. order.items) orders.now)) }
 {
-    let depth = program.nodes.len();
-    match attempt(alloc, program, orders, depth, node, true, inputs, old) {
+    match attempt(alloc, program, orders, node, true, inputs, old) {
         Ok(Some(moment)) => accept(program, node, inputs, old, moment),
         Ok(None) => Err(Stop::Unsettled),
         Err(_) => Err(Stop::Memory),

@@ -49,7 +49,11 @@ fn done(
 
 /// A window before the first entry of the caller.
 fn begin(alloc: Global, ordered: &Ordered) -> Result<Window, Memory> {
-    Window::new(alloc, ordered.program(), 1)
+    let program = ordered.program();
+    if program.nodes.len() < 2 {
+        return Err(Memory);
+    }
+    Window::new(alloc, program, 1)
 }
 
 /// What is picked of four steps, the third of which a restore brings behind the first, and the fourth of which a reset makes the first.

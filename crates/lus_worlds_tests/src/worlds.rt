@@ -97,7 +97,7 @@ fn stops(alloc: Global, ordered: &Ordered, old: &Moment) -> Result<bool, Memory>
 
 /// Whether instants follow, the call on its own clock, and go on behind one that stops.
 fn is_found(alloc: Global, ordered: &Ordered) -> Result<bool, Memory> {
-    let Some(before) = start(alloc, ordered.program(), 2, 1)? else {
+    let Some(before) = start(alloc, ordered.program(), 1)? else {
         return Ok(false);
     };
     let Some(first) = next_with(alloc, ordered, &before, 3, true, 4)? else {

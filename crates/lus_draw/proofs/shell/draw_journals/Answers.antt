@@ -10,25 +10,8 @@ use Rattle.lus_draw.specs.Drawings.{Draws, IsDrawingFault}
 use Rattle.lus_draw.proofs.Files.{drawing_fails, of_file}
 use Rattle.lus_draw.proofs.shell.draw_journals.Goals as goal
 
-pub returns-clause-drawn : goal.returns-clause-drawn
-returns-clause-drawn g c =
-    let file = g.D.Folder.known c.args.folder.now c.args.task.program.now in
-    let journal = g.D.Folder.known c.args.folder.now c.args.task.journal.now in
-    let read = c.in_ok-bytes.bytes in
-    let small : read.cap < 9223372036854775808 = read.small in
-    let short : length read.items < 18446744073709551615 = omega (arith, read.ok.0, read.ok.1, small) in
-    let same : arc_value c.in-Ok.program ≡ c.in_ok-program.program = search rules in
-    let p = program_of (arc_value c.in-Ok.program) in
-    let accepted = subst (λ q. IsOfFile file (program_of q)) (sym same) c.in_ok-program.ensures.accepted in
-    IfOk-weaker c.drawing.result _ _ (λ s drawn. (
-      p,
-      accepted,
-      of_file journal 18446744073709551615 read.items short c.in_ok-bytes.ensures.bytes (λ bs. Draws p (drawing_seen c.args.task) bs (string_bytes s))
-          (subst (λ bs. Draws p (drawing_seen c.args.task) bs (string_bytes s)) c.deref.ensures.value drawn),
-    )) c.drawing.ensures.drawn
-
-pub returns-clause-fault : goal.returns-clause-fault
-returns-clause-fault g c =
+pub returns : goal.returns
+returns g c =
     let file = g.D.Folder.known c.args.folder.now c.args.task.program.now in
     let journal = g.D.Folder.known c.args.folder.now c.args.task.journal.now in
     let read = c.in_ok-bytes.bytes in
@@ -38,6 +21,14 @@ returns-clause-fault g c =
     let p = program_of (arc_value c.in-Ok.program) in
     let d = drawing_seen c.args.task in
     let accepted = subst (λ q. IsOfFile file (program_of q)) (sym same) c.in_ok-program.ensures.accepted in
-    IfErr-weaker c.drawing.result _ _ (λ f cause.
-    drawing_fails (ReadFails g.row.D-File.Denot g.D.File.Source.left g.D.File.Source.failures) journal file d 18446744073709551615 read.items short
-    c.in_ok-bytes.ensures.bytes p accepted f (subst (λ bs. IsDrawingFault d.selection p bs f) c.deref.ensures.value cause)) c.drawing.ensures.fault
+    record {
+      drawn = IfOk-weaker c.drawing.result _ _ (λ s drawn. (
+        p,
+        accepted,
+        of_file journal 18446744073709551615 read.items short c.in_ok-bytes.ensures.bytes (λ bs. Draws p d bs (string_bytes s))
+            (subst (λ bs. Draws p d bs (string_bytes s)) c.deref.ensures.value drawn),
+      )) c.drawing.ensures.drawn;
+      fault = IfErr-weaker c.drawing.result _ _ (λ f cause.
+          drawing_fails (ReadFails g.row.D-File.Denot g.D.File.Source.left g.D.File.Source.failures) journal file d 18446744073709551615 read.items short
+          c.in_ok-bytes.ensures.bytes p accepted f (subst (λ bs. IsDrawingFault d.selection p bs f) c.deref.ensures.value cause)) c.drawing.ensures.fault;
+    }

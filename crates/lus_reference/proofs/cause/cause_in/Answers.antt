@@ -1,5 +1,5 @@
 -- The operation is that of the part at its place, which is at fault.
-use Rattle.std.proofs.Common.{◌≡◌, ◌∙◌, suc, ◌<◌, false, [], ◌∷◌, Some, sym, ap, ap₂, subst, drop, drop-cons, length, map, arith}
+use Rattle.std.proofs.Common.{◌≡◌, ◌∙◌, suc, false, [], ◌∷◌, Some, sym, ap, subst, drop, drop-cons, map, arith}
 use Rattle.std.specs.Option.{option_map}
 use Rattle.std.proofs.Math.ListN.{length-map}
 use Rattle.lus_values.specs.Values.{nil}

@@ -1,10 +1,10 @@
 -- An operation, as contracts see its operands.
-use Rattle.std.proofs.Common.{◌≡◌, ◌∙◌, sym, ap, drop, map, Option, None}
+use Rattle.std.proofs.Common.{◌≡◌, ◌∙◌, sym, ap, drop, map}
 use Rattle.std.specs.Option.{option_map}
 use Rattle.lus_values.specs.View.{entry_of, value_of}
 use Rattle.lus_program.specs.View.{expression_of, expression_in, operands_of, program_seen}
 use Rattle.lus_program.proofs.OperandViews.{seen_operate}
-use Rattle.lus_reference.specs.Causes.{Operation, operation_recalled}
+use Rattle.lus_reference.specs.Causes.{operation_recalled}
 use Rattle.lus_reference.specs.Kept.{all_recalled}
 use Rattle.lus_reference.proofs.Drops.{dropped_map}
 use Rattle.lus_reference.proofs.cause.operation_at.Goals as goal

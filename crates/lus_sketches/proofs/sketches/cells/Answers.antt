@@ -12,7 +12,7 @@ returns-then-is_lost c =
     let r = c.args.reply.now in
     let v = c.in-Some.view in
     let w = c.follow.new.self in
-    subst (λ o. GivesCells p q r o (Some (record { picks = v.picks; window = w })) None) (sym c.in-Some.is) (lost_cells p q r v w c.in_ok-follow.ensures.followed)
+    subst (λ o. GivesCells p q r o (Some (record { picks = v.picks; window = w })) None) (sym c.in-Some.is) (lost_cells p q r v w c.in_ok-follow.ensures.followed (sym c.is_lost.ensures ∙ c.if-is_lost.true))
 
 pub returns-else-is_lost : goal.returns-else-is_lost
 returns-else-is_lost c =

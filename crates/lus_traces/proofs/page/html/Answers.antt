@@ -2,13 +2,16 @@
 use Rattle.std.proofs.Common.{◌∙◌, ◌++◌, ap, append_assoc, flat_map, map}
 use Rattle.lus_traces.specs.Pages.{line_seen, line_text, page_text}
 use Rattle.lus_traces.specs.declared.document.TheConstants.{OPENING}
-use Rattle.lus_traces.specs.declared.script.TheConstants.{CLOSING}
+use Rattle.lus_traces.specs.declared.reading.TheConstants.{READING}
+use Rattle.lus_traces.specs.declared.showing.TheConstants.{SHOWING}
 use Rattle.lus_traces.proofs.page.html.Goals as goal
 
 pub returns : goal.returns
 unfolding page_text
 returns c =
     let lines = flat_map line_text (map line_seen c.args.lines.now) in
-    c.in_ok-push_str.ensures.bytes
-    ∙ ap (λ t. t ++ CLOSING.now) (c.in_ok-push_lines.ensures ∙ ap (λ t. t ++ lines) c.in_ok-out.ensures.ok)
-    ∙ append_assoc OPENING.now lines CLOSING.now
+    c.in_ok-push_str-2.ensures.bytes
+    ∙ ap (λ t. t ++ SHOWING.now)
+    (c.in_ok-push_str.ensures.bytes
+    ∙ ap (λ t. t ++ READING.now) (c.in_ok-push_lines.ensures ∙ ap (λ t. t ++ lines) c.in_ok-out.ensures.ok)
+    ∙ append_assoc OPENING.now lines READING.now)

@@ -1,8 +1,7 @@
 -- One row more, or a fault at it.
-use Rattle.std.proofs.Common.{◌≡◌, suc, ◌+◌, sym, subst, take, arith}
+use Rattle.std.proofs.Common.{◌≡◌, suc, ◌+◌, map, sym, subst, take, arith}
 use Rattle.lus_program.specs.View.{program_seen}
-use Rattle.lus_worlds.specs.declared.world.Stop.TheVariants as stops
-use Rattle.lus_worlds.specs.Worlds.{IsFurther, IsStopped}
+use Rattle.lus_worlds.specs.Worlds.{IsFaulty, IsFurther, IsStopped}
 use Rattle.lus_windows.specs.Finding.{HasFault, ReachesBehind}
 use Rattle.lus_windows.proofs.Rows.{reaches_next, faults_there}
 use Rattle.lus_windows.proofs.finding.find.Goals as goal
@@ -30,7 +29,8 @@ returns-in-Err-AtFault c =
     let old = c.args.old.now in
     let m = c.loop-place.reached in
     let t = c.in-Err-AtFault.fault in
-    let there = subst (λ r. IsStopped p f r m c.in-Err-AtFault.field-0) c.items.ensures c.in-Err-AtFault.ensures.fault in
-    let stopped : IsStopped p f x m (stops.AtFault t) = subst (IsStopped p f x m) c.in-Err-AtFault.field-0-is there in
+    let orders = map (λ order. order.items) c.args.orders.now in
+    let there = subst (λ r. IsStopped p f r m orders c.in-Err-AtFault.field-0) c.items.ensures c.in-Err-AtFault.ensures.fault in
+    let stopped : IsFaulty p f x m t = subst (IsStopped p f x m orders) c.in-Err-AtFault.field-0-is there in
     let found : HasFault p f rows old t i = faults_there p f rows i x c.loop-place-test.true c.index-rows-place.is old m c.loop-place.invariant t stopped in
     rw c.in-Err-AtFault.field-0-is found

@@ -7,8 +7,8 @@ use Rattle.lus_worlds.specs.declared.moment.Moment.{Moment}
 use Rattle.lus_worlds.specs.Moments.{EachKeeps}
 use Rattle.lus_worlds.proofs.beginning.+start.Given as goal
 
-abbrev pub decreases-start : goal.decreases-start
-decreases-start l = 3 * l.depth
+abbrev pub decreases-start_within : goal.decreases-start_within
+decreases-start_within l = 3 * l.depth
 
 abbrev pub decreases-start_calls : goal.decreases-start_calls
 decreases-start_calls l = 3 * l.depth + 2

@@ -1,58 +1,39 @@
--- The instant of the call has the call's base and the arguments' values.
-use Rattle.std.proofs.Common.{◌≡◌, ◌∙◌, ◌+◌, suc, drop, take, map, sym, ap, subst, arith, rules}
-use Rattle.std.proofs.lemmas.Grind.{common_steps}
+-- The instant of the call has the call's base and the arguments' values, or it hasn't.
+use Rattle.std.proofs.Common.{◌≡◌, ◌∙◌, take, map, sym, ap, true≢false}
 use Rattle.lus_values.specs.View.{entry_of}
 use Rattle.lus_program.specs.Programs.{node_at}
-use Rattle.lus_program.specs.View.{operands_of, program_seen}
-use Rattle.lus_streams.specs.Clocks.{base_of}
-use Rattle.lus_streams.specs.Streams.{instant, is_on, is_present, nobody, row_of}
-use Rattle.lus_reference.specs.Given.{ArePassedAt}
-use Rattle.lus_reference.specs.Kept.{AreRowsFrom}
-use Rattle.lus_reference.proofs.Drops.{dropped, dropped_map}
-use Rattle.lus_reference.proofs.Parts.{on_is}
-use Rattle.lus_reference.proofs.Recalled.{rows_behind}
-use Rattle.lus_worlds.specs.Moments.{present_in}
+use Rattle.lus_program.specs.View.{program_seen}
+use Rattle.lus_streams.specs.Streams.{is_present, row_of}
+use Rattle.lus_worlds.specs.Moments.{instant_of}
 use Rattle.lus_worlds.proofs.Moments.{instant_seen, taken_map}
 use Rattle.lus_worlds.proofs.fitting.call_fits.Goals as goal
 
 pub returns : goal.returns
 returns c =
-    let p = program_seen c.args.program.now in
-    let b = c.args.present in
-    let row = map entry_of c.args.row.now in
-    let rows = c.args.rows.now in
-    let g = c.args.called in
-    let es = operands_of c.args.arguments.now in
-    let n = c.args.part.now.number in
     let m = c.args.moment.now in
-    let vs = map entry_of c.in_ok-inputs.inputs.items in
-    let base = base_of (node_at p g) c.args.part.now.clock.items in
-    let base_is : c.in_ok-base.base.items ≡ base = c.in_ok-base.ensures ∙ ap (base_of (node_at p g)) c.deref.ensures.value in
-    let behind : map entry_of c.entries_from.result.now ≡ drop 1 (map entry_of c.args.kept.now) = ap (map entry_of) c.entries_from.ensures ∙ dropped_map entry_of 1 c.args.kept.now in
-    let next : n + 1 ≡ suc n = omega arith in
-    let later : c.rows_from-behind.result.now ≡ drop (suc n) rows = c.rows_from-behind.ensures ∙ ap (drop 1) c.rows_from-own.ensures ∙ sym (dropped n 1 rows) ∙ ap (λ i. drop i rows) next in
-    let first = subst (λ k. ArePassedAt p b row g es k (map entry_of c.entries_from.result.now) c.rows_from-behind.result.now vs) (c.deref-3.ensures.value ∙ base_is) c.in_ok-inputs.ensures in
-    let second = subst (λ l. ArePassedAt p b row g es base l c.rows_from-behind.result.now vs) behind first in
-    let passed : ArePassedAt p b row g es base (drop 1 (map entry_of c.args.kept.now)) (drop (suc n) rows) vs = subst (λ l. ArePassedAt p b row g es base (drop 1 (map entry_of c.args.kept.now)) l vs) later second in
-    let at_base : present_in m ≡ c.is_on-on.result = first_of (search rules, grind (arith, common_steps)) in
-    let count = (node_at p g).inputs in
+    let count = (node_at (program_seen c.args.program.now) c.args.called).inputs in
     let items = map entry_of c.items.result.now in
-    λ t now past eb er called keeps.
-    let from : 0 + suc n ≡ suc n = omega arith in
-    let own : AreRowsFrom now (suc n) (drop (suc n) rows) = subst (λ i. AreRowsFrom now i (drop (suc n) rows)) from (rows_behind p now past 0 (suc n) rows called) in (
-      c.if-moment-called.false,
-      ap is_present (instant_seen m)
-          ∙ at_base
-          ∙ c.is_on-on.ensures
-          ∙ ap (λ k. is_on k (instant b row nobody)) (c.deref-2.ensures.value ∙ base_is)
-          ∙ (λ j. is_on base (instant (sym eb j) (sym er j) nobody))
-          ∙ sym (on_is base now),
-      ap (λ i. take count (row_of i)) (instant_seen m)
-          ∙ ap (take count) (sym c.items.ensures)
-          ∙ ap (λ i. take i items) (sym c.inputs_at.ensures)
-          ∙ sym (taken_map entry_of c.inputs_at.result c.items.result.now)
-          ∙ ap (map entry_of) (sym c.first_entries-given.ensures)
-          ∙ c.same_entries.ensures t
-          ∙ ap (map entry_of) c.deref-4.ensures.value
-          ∙ passed now past (suc n) eb er own keeps,
-    )
+    let front : take count (row_of (instant_of m)) ≡ map entry_of c.first_entries-given.result.now =
+    ap (λ i. take count (row_of i)) (instant_seen m)
+    ∙ ap (take count) (sym c.items.ensures)
+    ∙ ap (λ i. take i items) (sym c.inputs_at.ensures)
+    ∙ sym (taken_map entry_of c.inputs_at.result c.items.result.now)
+    ∙ ap (map entry_of) (sym c.first_entries-given.ensures) in
+    let same = ap (map entry_of) c.deref.ensures.value in
+    record {
+      fits = λ t now past eb er called keeps.
+          let passed = c.in_ok-passed.ensures now past eb er called keeps in
+          (c.if-moment-called.false, ap is_present (instant_seen m) ∙ c.are_alike.ensures.0 c.if-not-are_alike.false ∙ passed.0, front ∙ c.same_entries.ensures.0 t ∙ same ∙ passed.1);
+      not = λ t now past eb er called keeps h.
+          let passed = c.in_ok-passed.ensures now past eb er called keeps in
+          true≢false (sym (c.same_entries.ensures.1 (sym front ∙ h.2 ∙ sym passed.1 ∙ sym same)) ∙ t);
+    }
+
+pub returns-then-moment-called-clause-not : goal.returns-then-moment-called-clause-not
+returns-then-moment-called-clause-not c = λ t now past eb er called keeps h. c.if-moment-called.true h.0
+
+pub returns-then-not-are_alike-clause-not : goal.returns-then-not-are_alike-clause-not
+returns-then-not-are_alike-clause-not c =
+    λ t now past eb er called keeps h.
+    let passed = c.in_ok-passed.ensures now past eb er called keeps in
+    true≢false (sym (c.are_alike.ensures.1 (sym (ap is_present (instant_seen c.args.moment.now)) ∙ h.1 ∙ sym passed.0)) ∙ c.if-not-are_alike.true)

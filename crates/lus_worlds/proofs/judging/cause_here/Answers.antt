@@ -1,6 +1,5 @@
 -- The cause, as a part of the node and its operation.
-use Rattle.std.proofs.Common.{◌≡◌, ◌∙◌, ◌<◌, suc, [], ◌∷◌, length, map, drop, drop-cons, refl, sym, ap, subst, Some, MatchOption, arith}
-use Rattle.std.specs.Option.{option_map}
+use Rattle.std.proofs.Common.{◌≡◌, ◌∙◌, ◌<◌, suc, [], ◌∷◌, length, map, drop, drop-cons, refl, sym, ap, subst, arith}
 use Rattle.std.proofs.Math.ListN.{length-map}
 use Rattle.lus_values.specs.Values.{nil}
 use Rattle.lus_values.specs.View.{entry_of}

@@ -30,7 +30,7 @@ returns-in-Some c =
     let now = instant b row (called_of ms) in
     let i = c.in-Some.place in
     let q = c.index-parts-place.result in
-    let fault = subst (IsFaultOf p b row rows (map part_of qs) kept) c.in-Some.is c.in_ok-place.ensures in
+    let fault = subst (IsFaultOf p b row rows (map part_of qs) kept) c.in-Some.is c.requires.fault in
     let within : i < length (map part_of qs) = fault.0 in
     let lt : i < length qs = omega (arith, length-map qs part_of, within) in
     let rest : drop i qs ≡ q ∷ drop (suc i) qs = drop-cons qs i q lt ∙ (λ j. sym c.index-parts-place.is j ∷ drop (suc i) qs) in
@@ -57,6 +57,6 @@ returns-in-None c =
     let kept = map entry_of c.args.kept.now in
     let ms = c.args.called.now in
     let now = instant b row (called_of ms) in
-    let none = subst (IsFaultOf p b row rows (map part_of qs) kept) c.in-None.is c.in_ok-place.ensures in
+    let none = subst (IsFaultOf p b row rows (map part_of qs) kept) c.in-None.is c.requires.fault in
     let called : AreRowsFrom now 0 rows = subst (AreRowsFrom now 0) (sym c.requires.rows) (called_rows p b row ms) in
     λ past keeps. none now past (record { base = refl; entries = refl; called = called; keeps = keeps })

@@ -2,9 +2,13 @@
 use Rattle.std.proofs.Common.{sym, subst}
 use Rattle.lus_values.specs.Lists.{Each}
 use Rattle.lus_program.specs.Programs.{Program}
+use Rattle.lus_program.specs.Resolved.{Resolved}
 use Rattle.lus_order.specs.Orders.{IsNarrow, NeedsVariables}
-use Rattle.lus_draw.proofs.Accepted.{accepted_needs, accepted_narrow}
+use Rattle.lus_draw.proofs.Accepted.{accepted_resolved, accepted_needs, accepted_narrow}
 use Rattle.lus_draw.proofs.gathering.GatheringObservers.begin.Goals as goal
+
+pub new-requires-clause-resolved : goal.new-requires-clause-resolved
+new-requires-clause-resolved g c = subst Resolved (sym c.source.ensures.same) (accepted_resolved _ c.source.ensures.accepted)
 
 pub new-requires-clause-needs : goal.new-requires-clause-needs
 new-requires-clause-needs g c = subst (λ (p : Program). Each NeedsVariables p.nodes) (sym c.source.ensures.same) (accepted_needs _ c.source.ensures.accepted)
