@@ -10,7 +10,7 @@ use Rattle.lus_lawful.specs.Journals.{Journal}
 use Rattle.lus_sketches.specs.Selections.{Selection}
 use Rattle.lus_sketches.specs.Sketches.{IsFailure}
 use Rattle.lus_sketches.specs.declared.sketches.Failure.{Failure}
-use Rattle.lus_draw.specs.declared.gathering.Drawn.{Drawn}
+use Rattle.lus_traces.specs.declared.trace.Trace.{Trace as Drawn}
 use Rattle.lus_traces.specs.Pages.{line_seen, page_text, text_of, whole_lines}
 use Rattle.lus_traces.specs.declared.lines.Line as code
 use Rattle.lus_cli.specs.CommandLine.{Text}
@@ -19,9 +19,9 @@ use Rattle.lus_diagrams.specs.declared.table.Table.{Table}
 use Rattle.lus_lawful.specs.Journals.{entries_of}
 use Rattle.lus_sketches.specs.Sketches.{HasSketched, IsSketch, IsTable, picks_in}
 use Rattle.lus_sketches.specs.declared.sketches.Sketch.{Sketch}
-use Rattle.lus_traces.specs.Traces.{name_of}
+use Rattle.lus_traces.specs.Traces.{name_of, trace_of, trace_seen}
 use Rattle.lus_traces.specs.declared.trace.Signal.{Signal}
-use Rattle.lus_draw.specs.Drawings.{AreTraces, DrawsLines, texts, trace_of}
+use Rattle.lus_draw.specs.Drawings.{AreTraces, DrawsLines, texts}
 use Rattle.lus_draw.specs.Gatherings.{AreDrawn, FailsIn, HasGathered, IsDrawn}
 
 module _ (s : Selection) (p : Program) where
@@ -89,7 +89,7 @@ module _ (s : Selection) (p : Program) where
   traced part [] (d ∷ ds) never = absurd never
   traced part (j ∷ js) [] never = absurd never
   traced part (j ∷ js) (d ∷ ds) (first, are) =
-      (record { whole = map column_seen d.table.columns.items; table = first; columns = refl }, traced part js ds are)
+      (record { whole = trace_seen d; table = first; cut = refl }, traced part js ds are)
 
 lines_texts : (ls : List code.Line) → texts (map line_seen ls) ≡ map text_of ls
 lines_texts [] = refl

@@ -1,14 +1,13 @@
 -- What is drawn of the bytes of journals, and why nothing is.
-use Rattle.std.specs.Prelude.{◌≡◌, ◌⊎◌, ◌++◌, ℕ, List, [], ◌∷◌, map, codes, Option, Some, None, IsUtf8, string_bytes, ⊤}
+use Rattle.std.specs.Prelude.{◌≡◌, ◌⊎◌, ◌++◌, ℕ, List, [], ◌∷◌, map, codes, Option, Some, None, IsUtf8, ⊤}
 use Rattle.lus_values.specs.Names.{Names}
 use Rattle.lus_program.specs.Programs.{Program}
-use Rattle.lus_diagrams.specs.Columns.{Column}
-use Rattle.lus_diagrams.specs.ColumnView.{column_seen}
 use Rattle.lus_traces.specs.Parts.{part_of}
 use Rattle.lus_traces.specs.declared.parts.Part.{Part}
 use Rattle.lus_traces.specs.Pages.{Line, page_text, whole_lines}
 use Rattle.lus_traces.specs.Tables.{csv_text}
-use Rattle.lus_traces.specs.Traces.{Trace, name_of}
+use Rattle.lus_traces.specs.Traces.{Trace}
+use Rattle.lus_traces.specs.declared.trace.Trace.{Trace as Drawn}
 use Rattle.lus_lawful.specs.Audits.{HasAudited}
 use Rattle.lus_lawful.specs.Findings.{AreNone}
 use Rattle.lus_lawful.specs.Journals.{Journal}
@@ -23,7 +22,6 @@ use Rattle.lus_sketches.specs.declared.sketches.Failure.{Failure}
 use Rattle.lus_sketches.specs.declared.sketches.Failure.TheVariants as failures
 use Rattle.lus_draw.specs.CommandLine.{Drawing}
 use Rattle.lus_draw.specs.Gatherings.{AreDrawn, FailsIn, IsTableOf}
-use Rattle.lus_draw.specs.declared.gathering.Drawn.{Drawn}
 use Rattle.lus_draw.specs.declared.words.Format.{Format}
 use Rattle.lus_draw.specs.declared.words.Format.TheVariants as formats
 
@@ -31,9 +29,9 @@ use Rattle.lus_draw.specs.declared.words.Format.TheVariants as formats
 
 -- the trace of a part of a journal's table
 pub record IsTrace (s : Selection) (p : Program) (part : Part) (j : Journal) (t : Trace) : Type 0 where
-  pub whole : List Column
-  pub table : IsTableOf s p j t.instance t.names whole
-  pub columns : t.columns ≡ part_of part whole
+  pub whole : Trace
+  pub table : IsTableOf s p j whole
+  pub cut : t ≡ record whole { columns = part_of part whole.columns }
 
 -- journals have these traces, in their order
 abbrev pub AreTraces : Selection → Program → Part → List Journal → List Trace → Type 0
@@ -127,14 +125,6 @@ abbrev pub IsUnsettled : Option ℕ → Option Failure → Fault → Type 0
 IsUnsettled (Some n) failure f = f ≡ faults.Journal n
 IsUnsettled None (Some e) f = f ≡ failure_fault e
 IsUnsettled None None f = ⊥
-
--- the trace that a part of what was drawn has
-abbrev pub trace_of : Part → Drawn → Trace
-trace_of part d = record {
-  instance = string_bytes d.heading.instance;
-  names = map name_of d.signals.items;
-  columns = part_of part (map column_seen d.table.columns.items);
-}
 
 abbrev pub IsGathered : Selection → Program → Text → List Drawn → Type 0
 IsGathered s p bytes ds = (report : Text) × HasAudited p (λ js. AreDrawn s p js ds) None (Some bytes) report

@@ -5,11 +5,10 @@ ghost use Rattle.lus_values.specs.Text.{Begins};
 ghost use Rattle.std.specs.Arc.{arc_value};
 ghost use Rattle.lus_cli.specs.CodeSpecs.Codes.{program_of};
 ghost use Rattle.lus_cli.specs.MachineSpecs.Constructors.{names_of};
-ghost use Rattle.lus_traces.specs.Pages.{text_of};
-ghost use Rattle.lus_traces.specs.Traces.{trace_seen};
+ghost use Rattle.lus_traces.specs.Traces.{trace_of, trace_seen};
 ghost use Rattle.lus_sketches.specs.Selections.{selection_seen};
 ghost use Rattle.lus_draw.specs.CommandLine.{drawing_seen};
-ghost use Rattle.lus_draw.specs.Drawings.{Draws, DrawsLines, IsDrawingFault, IsFrontOf, IsGathered, IsLinePage, IsPageFault, IsShown, IsUnsettled, audit_fault, failure_fault, trace_of};
+ghost use Rattle.lus_draw.specs.Drawings.{Draws, DrawsLines, IsDrawingFault, IsFrontOf, IsGathered, IsLinePage, IsPageFault, IsShown, IsUnsettled, audit_fault, failure_fault};
 
 use crate::gathering::{Gathering, Selects};
 use crate::words::{Drawing, Format};

@@ -52,7 +52,7 @@ impl<K: Selects> Observer for Sketching<K> {
 }
 
 /// What is drawn of the entries that a sketch has seen.
-fn trace_of(sketch: Sketch, heading: Heading, formals: Vec<Signal>) -> Trace
+fn traced(sketch: Sketch, heading: Heading, formals: Vec<Signal>) -> Trace
     ensures heading { result.heading ≡ heading }
     ensures signals { result.signals ≡ sketch.signals }
     ensures table { result.table ≡ sketch.table }
@@ -144,7 +144,7 @@ impl<K: Selects> Observers for Gathering<'_, K> {
         };
         let formals = formals(alloc, program.source(), program.names(), node.0)?;
         let failure = sketch.failure;
-        self.drawn.push(trace_of(sketch, heading, formals))?;
+        self.drawn.push(traced(sketch, heading, formals))?;
         self.failure = self.failure.or(failure);
         Ok(())
     }
