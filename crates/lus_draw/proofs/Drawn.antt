@@ -28,9 +28,8 @@ module _ (s : Selection) (p : Program) where
   -- one journal more
   pub drawn_next : (js : List Journal) (ds : List Drawn) (j : Journal) (d : Drawn) → AreDrawn s p js ds → IsDrawn s p j d → AreDrawn s p (js ++ j ∷ []) (ds ++ d ∷ [])
   drawn_next [] [] j d are is = (is, tt)
-  drawn_next [] (e ∷ ds) j d never is = absurd never
-  drawn_next (i ∷ js) [] j d never is = absurd never
   drawn_next (i ∷ js) (e ∷ ds) j d (first, are) is = (first, drawn_next js ds j d are is)
+  drawn_next _ _ j d never is = absurd never
 
   -- why one of journals isn't drawn says so of more
   fails_on : (js : List Journal) (j : Journal) (f : Failure) → FailsIn s p js f → FailsIn s p (js ++ j ∷ []) f
@@ -86,10 +85,8 @@ module _ (s : Selection) (p : Program) where
   -- the traces of a part
   pub traced : (part : Part) (js : List Journal) (ds : List Drawn) → AreDrawn s p js ds → AreTraces s p part js (map (trace_of part) ds)
   traced part [] [] are = tt
-  traced part [] (d ∷ ds) never = absurd never
-  traced part (j ∷ js) [] never = absurd never
-  traced part (j ∷ js) (d ∷ ds) (first, are) =
-      (record { whole = trace_seen d; table = first; cut = refl }, traced part js ds are)
+  traced part (j ∷ js) (d ∷ ds) (first, are) = (record { whole = trace_seen d; table = first; cut = refl }, traced part js ds are)
+  traced part _ _ never = absurd never
 
 lines_texts : (ls : List code.Line) → texts (map line_seen ls) ≡ map text_of ls
 lines_texts [] = refl

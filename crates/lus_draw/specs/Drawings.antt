@@ -36,9 +36,8 @@ pub record IsTrace (s : Selection) (p : Program) (part : Part) (j : Journal) (t 
 -- journals have these traces, in their order
 abbrev pub AreTraces : Selection → Program → Part → List Journal → List Trace → Type 0
 AreTraces s p part [] [] = ⊤
-AreTraces s p part [] (t ∷ ts) = ⊥
-AreTraces s p part (j ∷ js) [] = ⊥
 AreTraces s p part (j ∷ js) (t ∷ ts) = IsTrace s p part j t × AreTraces s p part js ts
+AreTraces s p part _ _ = ⊥
 
 -- bytes begin with a text, which is all of them where they are one
 abbrev pub IsFrontOf : Text → Text → Type 0
@@ -53,11 +52,9 @@ DrawsLines text written = (ls : List Line) × (texts ls ≡ texts (whole_lines t
 
 -- what is written of a text of journals: of text, waves and a value change dump nothing is said
 abbrev pub IsShown : Format → Names → Text → List Trace → Text → Type 0
-IsShown formats.Text names text ts written = ⊤
-IsShown formats.Waves names text ts written = ⊤
 IsShown formats.Html names text ts written = DrawsLines text written
 IsShown formats.Csv names text ts written = written ≡ csv_text names ts
-IsShown formats.Vcd names text ts written = ⊤
+IsShown _ names text ts written = ⊤
 
 -- The bytes are journals that an audit finds lawful, perhaps with bytes behind their last line feed. Each has a trace, and this is written
 -- of them.
@@ -89,25 +86,14 @@ LacksSignal s p bytes place = (report : Text) × HasAudited p (λ js. FailsIn s 
 abbrev pub IsDrawingFault : Selection → Program → Text → Fault → Type 0
 IsDrawingFault s p bytes (faults.Journal n) = IsJournalFault p bytes n
 IsDrawingFault s p bytes (faults.Signal place) = LacksSignal s p bytes place
-IsDrawingFault s p bytes faults.Words = ⊥
 IsDrawingFault s p bytes faults.Memory = ⊤
-IsDrawingFault s p bytes (faults.Program e) = ⊥
-IsDrawingFault s p bytes (faults.Scripts e) = ⊥
-IsDrawingFault s p bytes faults.File = ⊥
-IsDrawingFault s p bytes faults.Output = ⊥
-IsDrawingFault s p bytes faults.Start = ⊥
+IsDrawingFault s p bytes _ = ⊥
 
 -- without a program the bytes don't begin as journals do
 abbrev pub IsPageFault : Text → Fault → Type 0
 IsPageFault bytes (faults.Journal n) = BeginsJournal bytes → ⊥
 IsPageFault bytes faults.Memory = ⊤
-IsPageFault bytes (faults.Signal place) = ⊥
-IsPageFault bytes (faults.Program e) = ⊥
-IsPageFault bytes (faults.Scripts e) = ⊥
-IsPageFault bytes faults.Words = ⊥
-IsPageFault bytes faults.File = ⊥
-IsPageFault bytes faults.Output = ⊥
-IsPageFault bytes faults.Start = ⊥
+IsPageFault bytes _ = ⊥
 
 abbrev pub audit_fault : AuditError → Fault
 audit_fault (errors.Line n) = faults.Journal n

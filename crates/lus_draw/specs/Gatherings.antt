@@ -22,9 +22,8 @@ IsDrawn s p j d = IsTableOf s p j (trace_seen d)
 -- these are drawn of journals, in their order
 abbrev pub AreDrawn : Selection → Program → List Journal → List Drawn → Type 0
 AreDrawn s p [] [] = ⊤
-AreDrawn s p [] (d ∷ ds) = ⊥
-AreDrawn s p (j ∷ js) [] = ⊥
 AreDrawn s p (j ∷ js) (d ∷ ds) = IsDrawn s p j d × AreDrawn s p js ds
+AreDrawn s p _ _ = ⊥
 
 -- why one of these journals isn't drawn
 pub record FailsIn (s : Selection) (p : Program) (js : List Journal) (failure : Failure) : Type 0 where

@@ -97,18 +97,18 @@ fn page(alloc: Global, names: &Names, journals: &str, drawn: &[Trace]) -> Result
     Ok(html(alloc, &lines)?)
 }
 
-/// What a format writes of journals, of which this is the text.
+/// What is written of journals, of which this is the text, in the format that is wanted.
 fn written(
     alloc: Global,
-    format: Format,
-    part: Part,
+    wanted: Drawing<'_>,
     names: &Names,
     journals: &str,
     drawn: Vec<Trace>,
 ) -> Result<String, Memory>
-    ensures { IfOk result (λ s. IsShown format names.now journals.now (map (trace_of part) drawn.items) (string_bytes s)) }
+    ensures { IfOk result (λ s. IsShown wanted.entry.format names.now journals.now (map (trace_of wanted.entry.part) drawn.items) (string_bytes s)) }
 {
-    match format {
+    let part = wanted.part;
+    match wanted.format {
         Format::Html => page(alloc, names, journals, &drawn),
         Format::Text => {
             let lines = lines_of(alloc, journals)?;
@@ -116,13 +116,8 @@ fn written(
         }
         Format::Waves => {
             let lines = lines_of(alloc, journals)?;
-            waves(
-                alloc,
-                names,
-                &lines,
-                part.from,
-                &traces(alloc, part, drawn)?,
-            )
+            let traces = traces(alloc, part, drawn)?;
+            waves(alloc, names, &lines, part.from, &traces)
         }
         Format::Csv => csv(alloc, names, &traces(alloc, part, drawn)?),
         Format::Vcd => vcd(alloc, names, &traces(alloc, part, drawn)?),
@@ -162,14 +157,7 @@ pub fn drawing(
 {
     let drawn = gathered::<Brand>(alloc, program, drawing.selection, bytes)?;
     let journals = text_in(bytes);
-    match written(
-        alloc,
-        drawing.format,
-        drawing.part,
-        program.names(),
-        journals,
-        drawn,
-    ) {
+    match written(alloc, drawing, program.names(), journals, drawn) {
         Ok(written) => Ok(written),
         Err(_) => Err(Fault::Memory),
     }
