@@ -46,13 +46,20 @@ pub(crate) fn all(alloc: Global, node: u32, variables: &[Variable]) -> Result<Ve
     Ok(all)
 }
 
-/// The place of a node's variable of this name.
-fn place_named(variables: &[Variable], name: &str) -> Option<usize>
-    ensures { result ≡ position (λ v. bytes_eq v.name name.now) (map variable_of variables.now) }
+/// The place of the first variable of this name.
+fn place_among(variables: &[Variable], name: &str) -> Option<usize>
+    ensures { result ≡ position (λ v. bytes_eq (string_bytes v.name) name.now) variables.now }
 {
     variables
         .iter()
         .position(|variable| variable.name.as_str() == name)
+}
+
+/// The place of a node's variable of this name.
+fn place_named(variables: &[Variable], name: &str) -> Option<usize>
+    ensures { result ≡ position (λ v. bytes_eq v.name name.now) (map variable_of variables.now) }
+{
+    place_among(variables, name)
 }
 
 /// The variable of this name, if a node has it.
