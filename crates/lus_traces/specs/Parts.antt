@@ -7,10 +7,7 @@ use Rattle.lus_traces.specs.declared.parts.Part.{Part}
 
 abbrev pub is_instant : Head → Bool
 is_instant (heads.Instant n) = true
-is_instant (heads.Burst n) = false
-is_instant heads.Reset = false
-is_instant (heads.Save s) = false
-is_instant (heads.Restore s) = false
+is_instant _ = false
 
 -- how many instants there are up to a column, which is itself one or stands between two, where so many stand before it
 abbrev pub up_to : ℕ → Head → ℕ

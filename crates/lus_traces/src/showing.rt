@@ -3,8 +3,7 @@
 /// The script's second half: what it shows, and what one can do. It draws only what is seen.
 pub const SHOWING: &str = "// ---- What is shown.
 
-const instances = read(byId('journals').textContent);
-const all = instances.map((instance) => ({ instance, rows: instance.rows() }));
+const all = read(byId('journals').textContent).map((instance) => ({ instance, rows: instance.rows() }));
 let at = 0, scale = 40, cursor = 0, chosen = null, dragged = null, pinned = false;
 
 const count = () => all[at].instance.instants.length;
@@ -189,9 +188,10 @@ function tell() {
   const { instance } = all[at], instant = instance.instants[cursor], footer = byId('line');
   footer.replaceChildren();
   const say = (text, kind) => { const part = document.createElement(kind); part.textContent = text + feed; footer.append(part); };
-  for (const mark of instance.before[cursor] || []) say(mark.line, mark.kind === 'refused' ? 'b' : 'span');
+  const marks = (place) => instance.before[place].forEach((mark) => say(mark.line, mark.kind === 'refused' ? 'b' : 'span'));
+  marks(cursor);
   if (instant) say('instant ' + (cursor + 1) + ' (' + instant.number + ' since the last reset): ' + instant.line, 'span');
-  if (cursor + 1 >= count()) for (const mark of instance.before[count()]) say(mark.line, mark.kind === 'refused' ? 'b' : 'span');
+  if (cursor + 1 === count()) marks(count());
 }
 
 function show() {
@@ -206,9 +206,8 @@ function show() {
 function zoom(factor, about) {
   const scroll = byId('scroll'), place = (scroll.scrollLeft + about) / scale;
   scale = Math.min(Math.max(scale * factor, fitting()), Math.min(160, MOST / Math.max(count(), 1)));
-  byId('wide').style.minWidth = count() * scale + MARGIN + 'px';
-  scroll.scrollLeft = place * scale - about;
   show();
+  scroll.scrollLeft = place * scale - about;
 }
 
 const within = (place) => Math.min(Math.max(place, 0), Math.max(count() - 1, 0));
