@@ -4,9 +4,7 @@ pub mod Turns
 pub mod Sites
 pub mod CallPlaces
 pub mod Passed
-pub mod Fits
-pub mod Settled
-pub mod Followed
+pub mod Closing
 pub mod Found
 pub mod Begun
 pub mod Depths

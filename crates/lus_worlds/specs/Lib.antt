@@ -1,6 +1,6 @@
 pub mod Moments
 pub mod Following
-pub mod Fitting
+pub mod Passing
 pub mod Judging
 pub mod Turns
 pub mod Finding
