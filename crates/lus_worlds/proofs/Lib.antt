@@ -12,3 +12,4 @@ pub mod Worlds
 pub mod Sought
 pub mod Runs
 pub mod InOrder
+pub mod Existence

@@ -6,3 +6,4 @@ pub mod Turns
 pub mod Finding
 pub mod Beginning
 pub mod Worlds
+pub mod Existing
