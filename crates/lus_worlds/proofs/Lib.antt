@@ -4,8 +4,7 @@ pub mod Turns
 pub mod Sites
 pub mod CallPlaces
 pub mod Passed
-pub mod Closing
-pub mod Found
+pub mod Closed
 pub mod Begun
 pub mod Depths
 pub mod Worlds
@@ -13,3 +12,4 @@ pub mod Sought
 pub mod Runs
 pub mod InOrder
 pub mod Existence
+pub mod Inputs

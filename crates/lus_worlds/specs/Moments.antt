@@ -1,5 +1,5 @@
 -- Instants of nodes that the code holds, and what is kept behind them.
-use Rattle.std.specs.Prelude.{◌≡◌, ℕ, suc, Bool, true, false, List, [], ◌∷◌, Option, MatchOption}
+use Rattle.std.specs.Prelude.{◌≡◌, ℕ, Bool, List, [], ◌∷◌, Option, None, Some, MatchOption}
 use Rattle.std.specs.Option.{option_map}
 use Rattle.lus_values.specs.Values.{Row}
 use Rattle.lus_program.specs.Programs.{Program, node_at}
@@ -7,8 +7,8 @@ use Rattle.lus_program.specs.Resolved.{Resolved}
 use Rattle.lus_streams.specs.Clocks.{Part}
 use Rattle.lus_streams.specs.Equations.{node_parts, Site, sites}
 use Rattle.lus_streams.specs.OnClock.{ProgramOnClocks}
-use Rattle.lus_streams.specs.Streams.{Instant, instant, Called, nobody, also, World, called_instant, called_world, IsFed, IsInstant}
-use Rattle.lus_attempts.specs.Attempts.{EquationsFollow, IsAttempt, HasInputs, FaultAt}
+use Rattle.lus_streams.specs.Streams.{Instant, instant, Called, nobody, also, World, called_instant, called_world, IsInstant}
+use Rattle.lus_attempts.specs.Attempts.{IsAttempt, HasInputs, FaultAt}
 use Rattle.lus_parts.specs.declared.part.Part.{Part as StoredPart}
 use Rattle.lus_parts.specs.Parts.{part_of}
 use Rattle.lus_reference.specs.Causes.{Operation, operation_in, IsCause}

@@ -1,6 +1,7 @@
 -- One row more, or a fault at it.
 use Rattle.std.proofs.Common.{◌≡◌, suc, ◌+◌, map, sym, subst, take, arith}
 use Rattle.lus_program.specs.View.{program_seen}
+use Rattle.lus_worlds.specs.Finding.{IsReady}
 use Rattle.lus_worlds.specs.Worlds.{IsFaulty, IsFurther, IsStopped}
 use Rattle.lus_windows.specs.Finding.{HasFault, ReachesBehind}
 use Rattle.lus_windows.proofs.Rows.{reaches_next, faults_there}
@@ -16,11 +17,13 @@ loop-place-preserved c =
     let old = c.args.old.now in
     let m = c.loop-place.reached in
     let next : i + 1 ≡ suc i = omega arith in
-    let further : IsFurther p f x m c.in-Ok.next = subst (λ r. IsFurther p f r m c.in-Ok.next) c.items.ensures c.in-Ok.ensures.ok in
-    subst (λ j. ReachesBehind p f (take j rows) old c.in-Ok.next) (sym next) (reaches_next p f rows i x c.loop-place-test.true c.index-rows-place.is old m c.loop-place.invariant c.in-Ok.next further)
+    let orders = map (λ order. order.items) c.args.orders.now in
+    let further : IsReady p orders f → IsFurther p f x m c.in-Ok.next = subst (λ r. IsReady p orders f → IsFurther p f r m c.in-Ok.next) c.items.ensures c.in-Ok.ensures.ok in
+    λ ready.
+    subst (λ j. ReachesBehind p f (take j rows) old c.in-Ok.next) (sym next) (reaches_next p f rows i x c.loop-place-test.true c.index-rows-place.is old m (c.loop-place.invariant ready) c.in-Ok.next (further ready))
 
-pub returns-in-Err-AtFault : goal.returns-in-Err-AtFault
-returns-in-Err-AtFault c =
+pub returns-in-Err-Fault : goal.returns-in-Err-Fault
+returns-in-Err-Fault c =
     let p = program_seen c.args.program.now in
     let f = c.args.node in
     let rows = c.args.rows.now in
@@ -28,9 +31,9 @@ returns-in-Err-AtFault c =
     let x = c.index-rows-place.result in
     let old = c.args.old.now in
     let m = c.loop-place.reached in
-    let t = c.in-Err-AtFault.fault in
+    let t = c.in-Err-Fault.fault in
     let orders = map (λ order. order.items) c.args.orders.now in
-    let there = subst (λ r. IsStopped p f r m orders c.in-Err-AtFault.field-0) c.items.ensures c.in-Err-AtFault.ensures.fault in
-    let stopped : IsFaulty p f x m t = subst (IsStopped p f x m orders) c.in-Err-AtFault.field-0-is there in
-    let found : HasFault p f rows old t i = faults_there p f rows i x c.loop-place-test.true c.index-rows-place.is old m c.loop-place.invariant t stopped in
-    rw c.in-Err-AtFault.field-0-is found
+    let there = subst (λ r. IsReady p orders f → IsStopped p f r m c.in-Err-Fault.field-0) c.items.ensures c.in-Err-Fault.ensures.stopped in
+    let stopped : IsReady p orders f → IsFaulty p f x m t = subst (λ s. IsReady p orders f → IsStopped p f x m s) c.in-Err-Fault.field-0-is there in
+    let found : IsReady p orders f → HasFault p f rows old t i = λ ready. faults_there p f rows i x c.loop-place-test.true c.index-rows-place.is old m (c.loop-place.invariant ready) t (stopped ready) in
+    rw c.in-Err-Fault.field-0-is found

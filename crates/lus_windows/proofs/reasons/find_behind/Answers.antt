@@ -7,4 +7,4 @@ use Rattle.lus_windows.proofs.reasons.find_behind.Goals as goal
 pub returns-in-Some : goal.returns-in-Some
 returns-in-Some c =
     let w = c.args.window.now in
-    IfOk-weaker c.find.result _ _ (found_behind (program_seen c.args.program.now) w.node c.args.rows.now c.in-Some.moment w.reached c.in-Some.is) c.find.ensures
+    IfOk-weaker c.find.result _ _ (found_behind _ (program_seen c.args.program.now) w.node c.args.rows.now c.in-Some.moment w.reached c.in-Some.is) c.find.ensures

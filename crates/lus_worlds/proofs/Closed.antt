@@ -10,7 +10,7 @@ use Rattle.lus_streams.specs.Equations.{definition_of, node_parts, Site, sites}
 use Rattle.lus_streams.specs.OnClock.{ProgramOnClocks}
 use Rattle.lus_streams.specs.Streams.{Instant, instant, World, entry, called_instant, called_world, is_on, where_on, definition_value, Follows as IsFollowing, HasValue, EquationsHold, IsFed, IsInstant, EachCall}
 use Rattle.lus_streams.proofs.Calls.{OfSite}
-use Rattle.lus_attempts.specs.Attempts.{FollowsFaults, EquationsFollow, IsAttempt, EachAttempt, HasInputs, FaultAt}
+use Rattle.lus_attempts.specs.Attempts.{FollowsFaults, IsAttempt, EachAttempt, HasInputs, FaultAt}
 use Rattle.lus_normal_form.specs.Named.{Numbered}
 use Rattle.lus_parts.specs.declared.part.Part.{Part as StoredPart}
 use Rattle.lus_parts.specs.Parts.{part_of}
@@ -156,7 +156,7 @@ module _ (p : Program) (f : ℕ) (present : Bool) (row oldkept kept : Row) (ms :
 
     kept_next : Each (λ e. HasValue p e now past) (map part_of es) → Keeps p (now ∷ past) (node_parts p g) kept
     kept_next values =
-        let own : StandsAt p present row (map row_in ms) (map part_of es) oldkept now past = record { base = refl; entries = refl; called = called_rows p present row ms; keeps = own_keeps } in
+        let own : StandsAt p present row (map row_in ms) (map part_of es) oldkept now past = record { base = refl; entries = refl; called = called_rows present row ms; keeps = own_keeps } in
         let after : Keeps p (now ∷ past) (map part_of es) kept = subst (Keeps p (now ∷ past) (map part_of es)) (sym (h.renewed now past own)) ((keeps_on p).at_next (map part_of es) oldkept now past own_keeps values) in
         subst (λ qs. Keeps p (now ∷ past) qs kept) h.parts after
 
@@ -188,7 +188,7 @@ module _ (p : Program) (f : ℕ) (old m : Moment) (es : List StoredPart) where
   made = instant (present_in m) (row_in m) (called_of (moments_in m))
 
   said_as : (o : Option Fault) (past : World) → Said p f (present_in m) (row_in m) (kept_in old) (kept_in m) (moments_in m) es o past → IsSaid p o m f past
-  said_as None past said inputs =
+  said_as None past said = λ inputs.
       let s = said (subst (λ i. HasInputs p f i past) (instant_seen m) inputs) in
       let held : Holds p (kept_with (kept_in m) (kept_by (moments_in m))) f (made ∷ past) = (s.1, all_hold p (made ∷ past) (moments_in m) (sites p (node_at p f)) s.2) in
       let own : Holds p (kept_of m) f (made ∷ past) = subst (λ t. Holds p t f (made ∷ past)) (sym (kept_seen m)) held in
