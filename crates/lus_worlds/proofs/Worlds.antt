@@ -1,5 +1,5 @@
 -- An instant that was found is a further one of a world, or a fault in it stops it; and where these aren't inputs there is none.
-use Rattle.std.proofs.Common.{◌≡◌, ◌∙◌, ℕ, ◌<◌, nat_lt, Bool, true, List, length, take, Option, Some, None, MatchBool, is_some, refl, sym, ap, subst, arith}
+use Rattle.std.proofs.Common.{◌≡◌, ◌∙◌, ℕ, ◌<◌, true, List, [], length, reverse, take, Option, Some, None, ap, subst}
 use Rattle.std.proofs.lemmas.Bool.{lt-ltb}
 use Rattle.lus_values.specs.Lists.{item}
 use Rattle.lus_values.specs.Values.{Row}
@@ -28,22 +28,23 @@ use Rattle.lus_worlds.specs.Worlds.{AreNoFurther, IsFurther, IsFaulty, IsStopped
 use Rattle.lus_worlds.proofs.Existence.{attempt_exists, given_fits, given_whole}
 use Rattle.lus_worlds.proofs.Inputs.{tried_given}
 
--- whichever instant with these inputs is sought was found, and there is one
+-- whichever instant with these inputs is sought was found
+abbrev pub FindsAny : Program → List (List ℕ) → ℕ → (given : Row) → Moment → Option Moment → Type 0
+FindsAny p orders f given old o = IsPrepared p orders → f < length p.nodes → Finds p f true given old o
+
+-- and there is one
 module _ (p : Program) (orders : List (List ℕ)) (f : ℕ) (given : Row) (old : Moment) (ready : IsReady p orders f) where
   abbrev prepared : IsPrepared p orders
   prepared = ready.0
 
-  abbrev pub FindsAny : Option Moment → Type 0
-  FindsAny o = IsPrepared p orders → f < length p.nodes → Finds p f true given old o
-
   module _ (are : AreGiven (node_at p f) given) where
     -- there is none that isn't found
-    pub none_there : FindsAny None → (past : World) → KeepsBehind p old f past → ⊥
+    pub none_there : FindsAny p orders f given old None → (past : World) → KeepsBehind p old f past → ⊥
     none_there finds past keeps =
         let there = attempt_exists p orders prepared f ready.1 true given are.count (given_fits p prepared.resolved prepared.clocks f ready.1 given are) past in
         finds prepared ready.1 there.now past (record { keeps = keeps; attempt = there.attempt; base = there.base }) there.inputs
 
-    module _ (m : Moment) (finds : FindsAny (Some m)) (past : World) (keeps : KeepsBehind p old f past) where
+    module _ (m : Moment) (finds : FindsAny p orders f given old (Some m)) (past : World) (keeps : KeepsBehind p old f past) where
       record IsThere : Type 0 where
         next : IsNext p m f past
         tries : Tries p f given (instant_of m) past
@@ -64,17 +65,17 @@ module _ (p : Program) (orders : List (List ℕ)) (f : ℕ) (given : Row) (old :
             };
           }
 
-    pub is_further : (m : Moment) → FindsAny (Some m) → fault_in m ≡ None → IsFurther p f given old m
+    pub is_further : (m : Moment) → FindsAny p orders f given old (Some m) → fault_in m ≡ None → IsFurther p f given old m
     is_further m finds sound lineage past s keeps =
         let here = is_there m finds past keeps in
         let said = subst (λ o. IsSaid p o m f past) sound here.next.said here.tries.whole in
         (streams_next p f given lineage (instant_of m) past s (record { now_holds = said.0; present_now = here.tries.present; row = here.tries.inputs }), said.1)
 
-    pub is_stopped : (m : Moment) → FindsAny (Some m) → (s : Stop) → Ends m s → IsStopped p f given old s
-    is_stopped m finds (stops.Fault t) ends past keeps =
+    pub is_stopped : (m : Moment) → FindsAny p orders f given old (Some m) → (s : Stop) → Ends m s → IsStopped p f given old s
+    is_stopped m finds (stops.Fault t) ends = λ past keeps.
         let here = is_there m finds past keeps in
         (instant_of m, here.tries, subst (λ o. IsSaid p o m f past) ends here.next.said)
-    is_stopped m finds stops.Presence ends past keeps = absurd ends
+    is_stopped m finds stops.Presence ends = absurd ends
     is_stopped m finds stops.Memory ends = tt
 
 -- where there is no instant, or a fault in it, there are no further streams

@@ -1,5 +1,5 @@
 -- What was found so far is what is sought, with one instant more, and where all are there.
-use Rattle.std.proofs.Common.{◌≡◌, ◌∙◌, ℕ, zero, suc, ◌+◌, ◌<◌, ◌≤◌, Bool, List, [], ◌∷◌, ◌++◌, Option, Some, None, Result, Ok, Err, IfOk, OnOk, MatchOption, drop, drop-cons, drop_of_length-le, get_or, take, length, map, refl, sym, ap, subst, slice_get, slice_set, arith, rules}
+use Rattle.std.proofs.Common.{◌≡◌, ◌∙◌, ℕ, zero, suc, ◌+◌, ◌<◌, ◌≤◌, Bool, List, [], ◌∷◌, ◌++◌, Some, Result, Ok, Err, OnOk, drop, drop-cons, drop_of_length-le, get_or, take, length, map, refl, sym, ap, subst, slice_get, arith, rules}
 use Rattle.std.proofs.Math.ListN.{length-map}
 use Rattle.std.proofs.lemmas.Grind.{common_steps}
 use Rattle.std.proofs.lemmas.List.{take_all, take-append-drop}
@@ -12,7 +12,6 @@ use Rattle.lus_streams.specs.Equations.{node_parts}
 use Rattle.lus_parts.specs.Parts.{part_of}
 use Rattle.lus_reference.specs.Placed.{ArePlaces, place_of}
 use Rattle.lus_reference.proofs.Drops.{dropped_map}
-use Rattle.lus_worlds.specs.declared.moment.Moment.{Moment}
 use Rattle.lus_worlds.specs.Finding.{call_places, CallsHere, FindsAll, has_run, IsFoundBy, RunsInTurn, RunsNode}
 use Rattle.lus_worlds.specs.Passing.{PassesAt}
 use Rattle.lus_worlds.specs.Moments.{kept_in, moments_in}
@@ -43,8 +42,8 @@ attempt-find-requires t c =
     c.deref-in-Some-4.ensures.value ∙ c.in_ok-sites-in-Some.ensures ∙ ap (λ l. call_places l 0) (c.deref-in-Some.ensures.value ∙ sym c.deref-in-Some-2.ensures.value) in
     (omega arith, (parts, (places, (sites, count))))
 
-pub attempt-returns-in-Some- : goal.attempt-returns-in-Some-
-attempt-returns-in-Some- t c =
+pub attempt-returns-in-Some : goal.attempt-returns-in-Some
+attempt-returns-in-Some t c =
     let p = program_seen c.args.program.now in
     let orders = map (λ order. order.items) c.args.orders.now in
     let f = c.args.number in
@@ -64,8 +63,8 @@ attempt-returns-in-Some- t c =
     let missing : (n : ℕ) × (has_run d.called.items n ≡ _) = rw c.in-None-2.is at c.in_ok-called-in-Some.ensures in
     some_missing p orders f b given old c.order_at-order.result.now a d begun c.order_at-order.ensures finds missing.0 missing.1
 
-pub attempt-returns-in-Some-2- : goal.attempt-returns-in-Some-2-
-attempt-returns-in-Some-2- t c =
+pub attempt-returns-in-Some-2 : goal.attempt-returns-in-Some-2
+attempt-returns-in-Some-2 t c =
     let p = program_seen c.args.program.now in
     let orders = map (λ order. order.items) c.args.orders.now in
     let f = c.args.number in
@@ -84,7 +83,7 @@ attempt-returns-in-Some-2- t c =
     (c.in_ok-found-in-Some.ensures.width ∙ total, λ x lt. c.in_ok-found-in-Some.ensures.inputs x (subst (λ n. x < n) (sym total) lt), c.in_ok-found-in-Some.ensures.rows, count, c.in_ok-found-in-Some.ensures.blank) in
     let finds : FindsAll p orders b old (node_at p f) c.order_at-order.result.now a d = subst (λ g. FindsAll p orders b old g c.order_at-order.result.now a d) node_is c.in_ok-find-in-Some.ensures.all in
     let whole : map (λ m. Some m) ms ≡ d.called.items = rw c.in-Some-2.is at c.in_ok-called-in-Some.ensures in
-    all_found p orders f b given old c.order_at-order.result.now a d begun c.order_at-order.ensures finds ms whole c.in_ok-moment-in-Some.moment c.in_ok-moment-in-Some.ensures.made c.in_ok-moment-in-Some.ensures.next
+    all_found p orders f b given old c.order_at-order.result.now a d begun c.order_at-order.ensures finds ms whole c.in_ok-moment-in-Some-2.moment c.in_ok-moment-in-Some-2.ensures.made c.in_ok-moment-in-Some-2.ensures.next
 
 pub find-loop-variable-preserved : goal.find-loop-variable-preserved
 find-loop-variable-preserved t c =
