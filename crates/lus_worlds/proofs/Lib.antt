@@ -15,3 +15,5 @@ pub mod Sought
 pub mod Runs
 pub mod InOrder
 pub mod Existence
+pub mod ExistenceCalls
+pub mod ExistenceSteps
