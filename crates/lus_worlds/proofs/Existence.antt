@@ -2,7 +2,7 @@
 -- fit: step by step, from any instant on, the entries and the calls become those that the equations give, in their order.
 use Rattle.std.proofs.Common.{◌≡◌, ◌∙◌, ℕ, zero, suc, ◌+◌, ◌<◌, ◌≤◌, Bool, true, false, List, [], ◌∷◌, length, reverse, take, Contains, IsTrue, Option, Some, None, is_some, MatchBool, nat_lt, refl, sym, ap, subst, arith, ⊎_elim, slice_get}
 use Rattle.std.proofs.lemmas.Bool.{cases_lt, ltb-true}
-use Rattle.std.proofs.lemmas.Option.{slice_get_past, slice_get_within}
+use Rattle.std.proofs.lemmas.Option.{slice_get_past}
 use Rattle.lus_values.specs.Lists.{item, Each}
 use Rattle.lus_values.specs.Values.{Row}
 use Rattle.lus_values.proofs.Lists.{below_all}
@@ -90,12 +90,9 @@ module _ (p : Program) (resolved : Resolved p) (causal : IsCausal p) (clocks : P
     after zero = instant present [] nobody
     after (suc n) = step (after n)
 
-    after_base : (n : ℕ) → is_present (after n) ≡ present
-    after_base zero = refl
-    after_base (suc n) = refl
-
     base_same : (n : ℕ) → is_present (after n) ≡ is_present (after (suc n))
-    base_same n = after_base n
+    base_same zero = refl
+    base_same (suc n) = refl
 
     abbrev Same : ℕ → ℕ → Type 0
     Same n x = entry (after n) x ≡ entry (after (suc n)) x

@@ -1,19 +1,19 @@
 -- One step towards an instant of a node: what its equations give at an instant, and an attempt of each call with what it passes there.
-use Rattle.std.proofs.Common.{◌≡◌, ◌∙◌, ℕ, zero, suc, ◌+◌, ◌-◌, ◌<◌, ◌≤◌, Bool, true, false, List, [], ◌∷◌, ◌++◌, length, take, Option, Some, None, is_some, MatchBool, nat_lt, IsTrue, refl, sym, ap, ap₂, subst, arith, ⊎_elim, slice_get, not-suc-le-zero}
+use Rattle.std.proofs.Common.{◌≡◌, ◌∙◌, ℕ, zero, suc, ◌+◌, ◌-◌, ◌<◌, ◌≤◌, Bool, true, false, List, [], ◌∷◌, ◌++◌, length, take, Option, Some, None, is_some, MatchBool, nat_lt, IsTrue, refl, sym, ap, ap₂, arith, ⊎_elim, slice_get, not-suc-le-zero}
 use Rattle.std.proofs.lemmas.Bool.{cases_lt, ltb-true, ltb-false}
 use Rattle.std.proofs.lemmas.List.{length-append, get_or-append_right}
 use Rattle.std.proofs.Math.Seq.{take-append_seam}
 use Rattle.lus_values.specs.Lists.{item, Each}
 use Rattle.lus_values.specs.Values.{Row, Value}
 use Rattle.lus_values.proofs.Lists.{below_all}
-use Rattle.lus_program.specs.Programs.{Expression, call, Node, Program, node_at}
+use Rattle.lus_program.specs.Programs.{call, Node, Program, node_at}
 use Rattle.lus_streams.specs.Clocks.{clock_of}
 use Rattle.lus_streams.specs.Equations.{Definition, given_by, definition_of, Site, sites}
 use Rattle.lus_streams.specs.OnClock.{ProgramOnClocks}
 use Rattle.lus_streams.specs.Order.{clock_variables, needs, needs_all, needs_right, needed, is_in, IsCausal}
-use Rattle.lus_streams.specs.Streams.{Instant, instant, Called, nobody, also, World, is_present, row_of, entry, called_at, called_instant, called_world, is_on, where_on, definition_value, inputs_given}
+use Rattle.lus_streams.specs.Streams.{Instant, instant, Called, nobody, also, World, is_present, entry, called_at, called_instant, called_world, is_on, where_on, definition_value, inputs_given}
 use Rattle.lus_streams.proofs.Lists.{each_all, each_in, each_implies, each_left, each_right, item_past, item_take}
-use Rattle.lus_attempts.specs.Attempts.{FollowsFaults, EquationsFollow, IsAttempt, EachAttempt}
+use Rattle.lus_attempts.specs.Attempts.{FollowsFaults, EachAttempt}
 use Rattle.lus_attempts.proofs.Unique.{attempt_unique}
 use Rattle.lus_normal_form.specs.Named.{Numbered}
 use Rattle.lus_reference.specs.Needed.{Agree, calls_now, all_calls_now}
@@ -65,12 +65,15 @@ module _ (p : Program) (f : ℕ) (present : Bool) (given : Row) (past : World) w
     agree : (xs cs : List ℕ) → Each Same xs → Each SameCall cs → Agree a b xs cs
     agree xs cs hx hc = record { base = base; entries = hx; called = hc }
 
-    pub definition_same : (d : Option Definition) → Each Same (needs_right d) → Each SameCall (turns_in d) → definition_value p d a past ≡ definition_value p d b past
+    among : (turns cs : List ℕ) → Each SameCall turns → Each (λ c. IsTrue (is_in turns c)) cs → Each SameCall cs
+    among turns cs h k = each_implies (λ c. IsTrue (is_in turns c)) SameCall (each_in SameCall turns h) cs k
+
+    definition_same : (d : Option Definition) → Each Same (needs_right d) → Each SameCall (turns_in d) → definition_value p d a past ≡ definition_value p d b past
     definition_same None hn hc = refl
     definition_same (Some (given_by (call g c args) n xs k)) hn hc =
-        ap (λ j. entry j ((node_at p g).inputs + n)) (each_implies (λ d. IsTrue (is_in (calls_in_turn (call g c args)) d)) SameCall (each_in SameCall (calls_in_turn (call g c args)) hc) (calls_now (call g c args)) (now_in_turn (call g c args))).0
-    definition_same (Some (given_by e n xs k)) hn hc =
-        (needs_suffice p a b past).values e k (agree (needs e) (calls_now e) hn (each_implies (λ d. IsTrue (is_in (calls_in_turn e) d)) SameCall (each_in SameCall (calls_in_turn e) hc) (calls_now e) (now_in_turn e)))
+        let e = call g c args in
+        ap (λ j. entry j ((node_at p g).inputs + n)) (among (calls_in_turn e) (calls_now e) hc (now_in_turn e)).0
+    definition_same (Some (given_by e n xs k)) hn hc = (needs_suffice p a b past).values e k (agree (needs e) (calls_now e) hn (among (calls_in_turn e) (calls_now e) hc (now_in_turn e)))
 
     pub meant_same : (x : ℕ) → Each Same (needed own x) → Each SameCall (turns_of own x) → meant x a ≡ meant x b
     meant_same x hn hc =
@@ -112,7 +115,7 @@ module _ (p : Program) (f : ℕ) (present : Bool) (given : Row) (past : World) w
         let count = meant_length rest own.inputs now in
         omega (arith, long, count, size, wide)
 
-    pub next_inputs : (now : Instant) → take own.inputs (row now) ≡ given
+    next_inputs : (now : Instant) → take own.inputs (row now) ≡ given
     next_inputs now = ap (λ n. take n (row now)) (sym size) ∙ take-append_seam given (all_meant (length own.variables - own.inputs) own.inputs now)
 
     next_meant : (now : Instant) (x : ℕ) → own.inputs ≤ x → x < length own.variables → entry (next now) x ≡ meant x now
