@@ -14,7 +14,7 @@ use Rattle.lus_streams.specs.OnClock.{ProgramOnClocks}
 use Rattle.lus_streams.specs.Order.{clock_variables, needs_all, needed, is_in, HasOrder, IsCausal}
 use Rattle.lus_streams.specs.Streams.{Instant, instant, nobody, World, is_present, row_of, entry, called_instant, is_on}
 use Rattle.lus_streams.proofs.Calls.{OfSite}
-use Rattle.lus_streams.proofs.Lists.{each_both, each_implies, each_in, each_of_items, item_take}
+use Rattle.lus_streams.proofs.Lists.{each_all, each_both, each_implies, each_in, each_of_items, item_take}
 use Rattle.lus_streams.proofs.Orders.{by_order}
 use Rattle.lus_streams.proofs.Unique.{order_at, clocks_at}
 use Rattle.lus_attempts.specs.Attempts.{HasInputs}
@@ -47,20 +47,18 @@ from_next Q n x h = (suc n, later)
     later zero le = absurd (let wrong : ⊥ = omega (arith, le) in wrong)
     later (suc m) le = h m (omega (arith, le))
 
--- for all of a list, and for all numbers below one, there is one count
+-- for all of a list there is one count
 all_last : (Q : ℕ → ℕ → Type 0) (xs : List ℕ) → Each (Lasts Q) xs → (n : ℕ) × ((m : ℕ) → n ≤ m → Each (Q m) xs)
 all_last Q [] h = (0, λ m le. tt)
 all_last Q (x ∷ xs) h =
-    let rest = all_last Q xs h.1 in
     let own = h.0 in
+    let rest = all_last Q xs h.1 in
     (own.0 + rest.0, λ m le. (own.1 m (omega (arith, le)), rest.1 m (omega (arith, le))))
 
-below_last : (Q : ℕ → ℕ → Type 0) (count : ℕ) → ((x : ℕ) → Lasts Q x) → (n : ℕ) × ((m : ℕ) → n ≤ m → (x : ℕ) → x < count → Q m x)
-below_last Q zero h = (0, λ m le x lt. absurd (let wrong : ⊥ = omega (arith, lt) in wrong))
-below_last Q (suc count) h =
-    let rest = below_last Q count h in
-    let own = h count in
-    (own.0 + rest.0, λ m le x lt. ⊎_elim (λ less. rest.1 m (omega (arith, le)) x less) (λ ge. let same : count ≡ x = omega (arith, lt, ge) in subst (Q m) same (own.1 m (omega (arith, le)))) (cases_lt x count))
+-- the numbers below n, one by one
+each_below : (P : ℕ → Type 0) (n : ℕ) → Each P (below n) → (x : ℕ) → x < n → P x
+each_below P zero h x lt = absurd (let wrong : ⊥ = omega (arith, lt) in wrong)
+each_below P (suc n) h x lt = ⊎_elim (λ less. each_below P n h.1 x less) (λ ge. let same : n ≡ x = omega (arith, lt, ge) in subst P same h.0) (cases_lt x n)
 
 -- what stands at a place has its number
 site_number : (n : ℕ) (ss : List Site) → Numbered n ss → (i : ℕ) (s : Site) → slice_get ss i ≡ Some s → Contains ss s × (s.number ≡ n + i)
@@ -150,25 +148,18 @@ module _ (p : Program) (resolved : Resolved p) (causal : IsCausal p) (clocks : P
         (λ x needs. variable_lasts x needs (turns_last [] (turns_of own x) (turns_run p all (Lasts Same) own (clocks_at p causal clocks f) (each_only p resolved f) x needs) tt))
         (order_at p causal clocks f) (λ x ge. from_next Same 0 x (λ m le. past_same m x ge))
 
-    calls_last : (n : ℕ) → Each (Lasts SameCall) (below n) → (c : ℕ) → c < n → Lasts SameCall c
-    calls_last zero h c lt = absurd (let wrong : ⊥ = omega (arith, lt) in wrong)
-    calls_last (suc n) h c lt = ⊎_elim (λ less. calls_last n h.1 c less) (λ ge. let same : n ≡ c = omega (arith, lt, ge) in subst (Lasts SameCall) same h.0) (cases_lt c n)
+    calls_last : Each (Lasts SameCall) (below (length all))
+    calls_last = turns_last [] (below (length all)) (below_run p all (each_before p resolved f) (Lasts Same) every_lasts (length all) [] (λ d ge within. absurd (let wrong : ⊥ = omega (arith, ge, within) in wrong))) tt
 
-    every_call_lasts : (c : ℕ) → Lasts SameCall c
-    every_call_lasts c =
-        ⊎_elim
-        (λ lt. calls_last (length all) (turns_last [] (below (length all)) (below_run p all (each_before p resolved f) (Lasts Same) every_lasts (length all) [] (λ d ge within. absurd (let wrong : ⊥ = omega (arith, ge, within) in wrong))) tt) c lt)
-        (λ ge. from_next SameCall 0 c (λ m le. past_call_same m c (slice_get_past all c ge)))
-        (cases_lt c (length all))
-
-    pub found : FitsClocks own present given → HasAttempt p f present given past
+    found : FitsClocks own present given → HasAttempt p f present given past
     found fits =
-        let variables = below_last Same (length own.variables) every_lasts in
-        let calls = below_last SameCall (length all) every_call_lasts in
+        let width = length own.variables in
+        let variables = all_last Same (below width) (each_all (Lasts Same) every_lasts (below width)) in
+        let calls = all_last SameCall (below (length all)) calls_last in
         let n = variables.0 + calls.0 in
         steady p f present given past size wide able fits (sites_numbered p resolved f) (after (suc n)) refl
-        (λ x. ⊎_elim (λ lt. variables.1 (suc n) (omega arith) x lt) (λ ge. past_same n x ge) (cases_lt x (length own.variables)))
-        (λ c. ⊎_elim (λ lt. calls.1 (suc n) (omega arith) c lt) (λ ge. past_call_same n c (slice_get_past all c ge)) (cases_lt c (length all)))
+        (λ x. ⊎_elim (λ lt. each_below (Same (suc n)) width (variables.1 (suc n) (omega arith)) x lt) (λ ge. past_same n x ge) (cases_lt x width))
+        (λ c. ⊎_elim (λ lt. each_below (SameCall (suc n)) (length all) (calls.1 (suc n) (omega arith)) c lt) (λ ge. past_call_same n c (slice_get_past all c ge)) (cases_lt c (length all)))
 
   -- a node whose calls are so deep
   exists_within : (n f : ℕ) → IsWithin p n f → (present : Bool) (given : Row) → length given ≡ (node_at p f).inputs → FitsClocks (node_at p f) present given → (past : World) → HasAttempt p f present given past
