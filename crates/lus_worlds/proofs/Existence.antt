@@ -92,15 +92,21 @@ module _ (p : Program) (resolved : Resolved p) (causal : IsCausal p) (clocks : P
     base_same zero = refl
     base_same (suc n) = refl
 
+    -- one step more changes nothing of a variable, or of a call
     abbrev Same : ℕ → ℕ → Type 0
     Same n x = entry (after n) x ≡ entry (after (suc n)) x
 
     abbrev SameCall : ℕ → ℕ → Type 0
     SameCall n c = called_instant c (after n) ≡ called_instant c (after (suc n))
 
+    -- there is nothing past the last variable, nor past the last call
     past_same : (n x : ℕ) → length own.variables ≤ x → Same (suc n) x
     past_same n x ge = next_same p f present given past size wide able (after n) (after (suc n)) x (λ lt. absurd (let wrong : ⊥ = omega (arith, lt, ge) in wrong))
 
+    past_call_same : (n c : ℕ) → slice_get all c ≡ None → SameCall (suc n) c
+    past_call_same n c none = calls_same p f present given past causal clocks (after n) (after (suc n)) all able c (λ s e. absurd (cc))
+
+    -- what a variable has, and what a call gives, lasts where all that it needs does
     variable_lasts : (x : ℕ) → Each (Lasts Same) (needed own x) → Each (Lasts SameCall) (turns_of own x) → Lasts Same x
     variable_lasts x needs calls =
         let variables = all_last Same (needed own x) needs in
@@ -109,9 +115,6 @@ module _ (p : Program) (resolved : Resolved p) (causal : IsCausal p) (clocks : P
         (λ m le.
         next_same p f present given past size wide able (after m) (after (suc m)) x
         (λ lt. meant_same p f present given past (after m) (after (suc m)) (base_same m) x (variables.1 m (omega (arith, le))) (turns.1 m (omega (arith, le)))))
-
-    past_call_same : (n c : ℕ) → slice_get all c ≡ None → SameCall (suc n) c
-    past_call_same n c none = calls_same p f present given past causal clocks (after n) (after (suc n)) all able c (λ s e. absurd (cc))
 
     call_lasts : (c : ℕ) (o : Option Site) → slice_get all c ≡ o → (behind : List ℕ) → CanRun all (Lasts Same) c behind → Each (Lasts SameCall) behind → Lasts SameCall c
     call_lasts c None none behind can ran = from_next SameCall 0 c (λ m le. past_call_same m c none)
@@ -142,6 +145,7 @@ module _ (p : Program) (resolved : Resolved p) (causal : IsCausal p) (clocks : P
     turns_last behind [] can ran = tt
     turns_last behind (c ∷ cs) can ran = let first = call_lasts c (slice_get all c) refl behind can.0 ran in (first, turns_last (c ∷ behind) cs can.1 (first, ran))
 
+    -- so all variables last, in their order, and then all calls, the last first
     every_lasts : (x : ℕ) → Lasts Same x
     every_lasts =
         by_order own (Lasts Same)
@@ -151,6 +155,7 @@ module _ (p : Program) (resolved : Resolved p) (causal : IsCausal p) (clocks : P
     calls_last : Each (Lasts SameCall) (below (length all))
     calls_last = turns_last [] (below (length all)) (below_run p all (each_before p resolved f) (Lasts Same) every_lasts (length all) [] (λ d ge within. absurd (let wrong : ⊥ = omega (arith, ge, within) in wrong))) tt
 
+    -- after so many steps one more changes nothing at all
     found : FitsClocks own present given → HasAttempt p f present given past
     found fits =
         let width = length own.variables in
