@@ -13,3 +13,5 @@ pub mod Runs
 pub mod InOrder
 pub mod Existence
 pub mod Inputs
+pub mod ExistenceCalls
+pub mod ExistenceSteps
