@@ -1,11 +1,12 @@
 -- In a resolved program on clocks, with an order of the variables of each node, there is an instant with each base and inputs that
 -- fit: step by step, from any instant on, the entries and the calls become those that the equations give, in their order.
 use Rattle.std.proofs.Common.{◌≡◌, ◌∙◌, ℕ, zero, suc, ◌+◌, ◌<◌, ◌≤◌, Bool, true, false, List, [], ◌∷◌, length, reverse, take, Contains, IsTrue, Option, Some, None, is_some, MatchBool, nat_lt, refl, sym, ap, subst, arith, ⊎_elim, slice_get}
-use Rattle.std.proofs.lemmas.Bool.{cases_lt, ltb-true}
+use Rattle.std.proofs.lemmas.Bool.{cases_lt, lt-ltb, ltb-true}
+use Rattle.std.proofs.lemmas.List.{length-take-le}
 use Rattle.std.proofs.lemmas.Option.{slice_get_past}
 use Rattle.lus_values.specs.Lists.{item, Each}
 use Rattle.lus_values.specs.Values.{Row}
-use Rattle.lus_values.proofs.Lists.{below_all}
+use Rattle.lus_values.proofs.Lists.{below_all, below_at}
 use Rattle.lus_program.specs.Programs.{Node, Program, empty_node, node_at}
 use Rattle.lus_program.specs.Resolved.{Resolved}
 use Rattle.lus_streams.specs.Clocks.{Clock, clock_of}
@@ -17,7 +18,7 @@ use Rattle.lus_streams.proofs.Calls.{OfSite}
 use Rattle.lus_streams.proofs.Lists.{each_all, each_both, each_implies, each_in, each_of_items, item_take}
 use Rattle.lus_streams.proofs.Orders.{by_order}
 use Rattle.lus_streams.proofs.Unique.{order_at, clocks_at}
-use Rattle.lus_attempts.specs.Attempts.{HasInputs}
+use Rattle.lus_attempts.specs.Attempts.{HasInputs, Tries}
 use Rattle.lus_normal_form.specs.Laws.{IsChain}
 use Rattle.lus_normal_form.specs.Named.{Numbered}
 use Rattle.lus_normal_form.proofs.HaveFormals.{all_declared, tested}
@@ -178,14 +179,17 @@ module _ (p : Program) (resolved : Resolved p) (causal : IsCausal p) (clocks : P
       all (each_both (λ s. IsWithin p n s.node) (OfSite p (PassesFitting p)) all within.1 (calls_fit p resolved clocks f)) in
       found f present given past size wide able fits
 
+-- each node has an order
+pub causal_of : (p : Program) (orders : List (List ℕ)) → IsPrepared p orders → IsCausal p
+causal_of p orders prepared = each_of_items HasOrder empty_node p.nodes (λ k within. (reverse (item [] orders k), prepared.ordered k within))
+
 pub attempt_exists : (p : Program) (orders : List (List ℕ)) → IsPrepared p orders → (f : ℕ) → f < length p.nodes → (present : Bool) (given : Row) → length given ≡ (node_at p f).inputs → FitsClocks (node_at p f) present given
     → (past : World) → HasAttempt p f present given past
 attempt_exists p orders prepared f lt =
-    let causal : IsCausal p = each_of_items HasOrder empty_node p.nodes (λ k within. (reverse (item [] orders k), prepared.ordered k within)) in
-    exists_within p prepared.resolved causal prepared.clocks (length p.nodes) f (is_within p prepared.resolved f lt)
+    exists_within p prepared.resolved (causal_of p orders prepared) prepared.clocks (length p.nodes) f (is_within p prepared.resolved f lt)
 
--- inputs that are given
-module _ (p : Program) (clocks : ProgramOnClocks p) (f : ℕ) (given : Row) (are : AreGiven (node_at p f) given) where
+-- inputs, and whether their clocks are present, since those test inputs alone
+module _ (p : Program) (clocks : ProgramOnClocks p) (f : ℕ) (given : Row) where
   abbrev asked : Node
   asked = node_at p f
 
@@ -195,18 +199,40 @@ module _ (p : Program) (clocks : ProgramOnClocks p) (f : ℕ) (given : Row) (are
       let low = tested asked (all_declared p clocks f) m t k is lt in
       (low, inputs_tested k t.variable (subst (IsChain asked) is (clock_is_chain asked (all_declared p clocks f) m)).0 low)
 
-  -- at each instant with them, each is there exactly where its clock is present
-  input_there : (now : Instant) → is_present now ≡ true → take asked.inputs (row_of now) ≡ given → (x : ℕ) → x < asked.inputs → is_some (entry now x) ≡ is_on (clock_of asked x) now
-  input_there now base inputs x lt =
-      let alone = instant true given nobody in
-      let k = clock_of asked x in
-      let same = λ (y : ℕ) (low : y < asked.inputs). sym (item_take None asked.inputs (row_of now) y low) ∙ ap (λ r. item None r y) inputs in
-      let entries = each_implies (λ y. y < asked.inputs) (λ y. entry now y ≡ entry alone y) same (clock_variables k) (inputs_tested k x refl lt) in
-      ap is_some (same x lt) ∙ are.there x lt ∙ sym ((needs_suffice p now alone []).clocks k (record { base = base; entries = entries; called = tt }))
+  module _ (now : Instant) (base : is_present now ≡ true) (inputs : take asked.inputs (row_of now) ≡ given) where
+    input_is : (x : ℕ) → x < asked.inputs → entry now x ≡ item None given x
+    input_is x lt = sym (item_take None asked.inputs (row_of now) x lt) ∙ ap (λ r. item None r x) inputs
+
+    input_clock : (x : ℕ) → x < asked.inputs → is_on (clock_of asked x) now ≡ is_on (clock_of asked x) (instant true given nobody)
+    input_clock x lt =
+        let alone = instant true given nobody in
+        let k = clock_of asked x in
+        let entries = each_implies (λ y. y < asked.inputs) (λ y. entry now y ≡ entry alone y) input_is (clock_variables k) (inputs_tested k x refl lt) in
+        (needs_suffice p now alone []).clocks k (record { base = base; entries = entries; called = tt })
+
+    -- where they are given, each is there exactly where its clock is present
+    input_there : AreGiven asked given → (x : ℕ) → x < asked.inputs → is_some (entry now x) ≡ is_on (clock_of asked x) now
+    input_there are x lt = ap is_some (input_is x lt) ∙ are.there x lt ∙ sym (input_clock x lt)
+
+  -- those of an instant at which none is missing are given
+  pub tried_given : Resolved p → (now : Instant) (past : World) → Tries p f given now past → AreGiven asked given
+  tried_given resolved (instant b row js) past tries =
+      let now = instant b row js in
+      let width = length asked.variables in
+      let wide : asked.inputs ≤ length row =
+      ⊎_elim (λ lt. absurd (let own = inputs_are_variables p resolved f width lt in let wrong : ⊥ = omega (arith, own) in wrong)) (λ ge. omega (arith, ge, tries.attempt.0.width)) (cases_lt width asked.inputs) in
+      let At : ℕ → Bool → Type 0 = λ x c. MatchBool c (is_some (entry now x) ≡ is_on (clock_of asked x) now) (Unit {0}) in
+      record {
+        count = ap length (sym tries.inputs) ∙ length-take-le asked.inputs row wide;
+        there = λ x lt.
+            let own = below_at (λ y. At y (nat_lt y asked.inputs)) width tries.whole x (inputs_are_variables p resolved f x lt) in
+            let here : is_some (entry now x) ≡ is_on (clock_of asked x) now = subst (At x) (lt-ltb x asked.inputs lt) own in
+            ap is_some (sym (input_is now tries.present tries.inputs x lt)) ∙ here ∙ input_clock now tries.present tries.inputs x lt;
+      }
 
 -- they fit, and at an instant with them none is missing
 pub given_fits : (p : Program) → Resolved p → ProgramOnClocks p → (f : ℕ) → f < length p.nodes → (given : Row) → AreGiven (node_at p f) given → FitsClocks (node_at p f) true given
-given_fits p resolved clocks f lt given are now base inputs x input some = sym (input_there p clocks f given are now base inputs x input) ∙ some
+given_fits p resolved clocks f lt given are now base inputs x input some = sym (input_there p clocks f given now base inputs are x input) ∙ some
 
 pub given_whole : (p : Program) → Resolved p → ProgramOnClocks p → (f : ℕ) → f < length p.nodes → (given : Row) → AreGiven (node_at p f) given
     → (now : Instant) (past : World) → is_present now ≡ true → take (node_at p f).inputs (row_of now) ≡ given → HasInputs p f now past
@@ -215,5 +241,5 @@ given_whole p resolved clocks f lt given are now past base inputs =
     below_all (λ x. MatchBool (nat_lt x g.inputs) (is_some (entry now x) ≡ is_on (clock_of g x) now) (Unit {0})) (length g.variables) (λ x within. at_input (nat_lt x g.inputs) x refl)
   where
     at_input : (b : Bool) (x : ℕ) → nat_lt x (node_at p f).inputs ≡ b → MatchBool b (is_some (entry now x) ≡ is_on (clock_of (node_at p f) x) now) (Unit {0})
-    at_input true x e = input_there p clocks f given are now base inputs x (ltb-true x (node_at p f).inputs e)
+    at_input true x e = input_there p clocks f given now base inputs are x (ltb-true x (node_at p f).inputs e)
     at_input false x e = tt

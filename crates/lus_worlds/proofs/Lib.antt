@@ -12,6 +12,5 @@ pub mod Sought
 pub mod Runs
 pub mod InOrder
 pub mod Existence
-pub mod Inputs
 pub mod ExistenceCalls
 pub mod ExistenceSteps

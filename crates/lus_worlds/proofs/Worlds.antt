@@ -1,32 +1,23 @@
 -- An instant that was found is a further one of a world, or a fault in it stops it; and where these aren't inputs there is none.
-use Rattle.std.proofs.Common.{◌≡◌, ◌∙◌, ℕ, ◌<◌, true, List, [], length, reverse, take, Option, Some, None, ap, subst}
-use Rattle.std.proofs.lemmas.Bool.{lt-ltb}
-use Rattle.lus_values.specs.Lists.{item}
+use Rattle.std.proofs.Common.{◌≡◌, ◌∙◌, ℕ, ◌<◌, true, List, length, take, Option, Some, None, ap, subst}
 use Rattle.lus_values.specs.Values.{Row}
-use Rattle.lus_values.proofs.Lists.{below_at}
-use Rattle.lus_program.specs.Programs.{Program, empty_node, node_at}
-use Rattle.lus_program.specs.Resolved.{Resolved}
-use Rattle.lus_streams.specs.Clocks.{clock_of}
-use Rattle.lus_streams.specs.OnClock.{ProgramOnClocks}
-use Rattle.lus_streams.specs.Order.{HasOrder, IsCausal}
-use Rattle.lus_streams.specs.Streams.{Instant, instant, World, is_present, row_of, entry, is_on, IsInstant, Streams}
+use Rattle.lus_program.specs.Programs.{Program, node_at}
+use Rattle.lus_streams.specs.Order.{IsCausal}
+use Rattle.lus_streams.specs.Streams.{Instant, instant, World, is_present, row_of, IsInstant}
 use Rattle.lus_streams.specs.Throughout.{Throughout}
-use Rattle.lus_streams.proofs.Lists.{each_of_items}
 use Rattle.lus_streams.proofs.Unique.{streams_unique}
 use Rattle.lus_streams.proofs.Worlds.{streams_next, streams_past}
 use Rattle.lus_attempts.specs.Attempts.{HasInputs, Tries}
 use Rattle.lus_attempts.proofs.WithoutFault.{faults_end, without_fault}
 use Rattle.lus_parts.specs.Parts.{part_of}
-use Rattle.lus_worlds.specs.declared.moment.Fault.{Fault}
 use Rattle.lus_worlds.specs.declared.moment.Moment.{Moment}
 use Rattle.lus_worlds.specs.declared.world.Stop.{Stop}
 use Rattle.lus_worlds.specs.declared.world.Stop.TheVariants as stops
 use Rattle.lus_worlds.specs.Existing.{AreGiven}
 use Rattle.lus_worlds.specs.Finding.{IsFoundNext, IsPrepared, IsReady, Finds}
-use Rattle.lus_worlds.specs.Moments.{fault_in, instant_of, KeepsBehind, NamesFault, IsSaid, IsNext}
-use Rattle.lus_worlds.specs.Worlds.{AreNoFurther, IsFurther, IsFaulty, IsStopped, HasNoFurther, Ends}
-use Rattle.lus_worlds.proofs.Existence.{attempt_exists, given_fits, given_whole}
-use Rattle.lus_worlds.proofs.Inputs.{tried_given}
+use Rattle.lus_worlds.specs.Moments.{fault_in, instant_of, KeepsBehind, IsSaid, IsNext}
+use Rattle.lus_worlds.specs.Worlds.{IsFurther, IsStopped, HasNoFurther, Ends}
+use Rattle.lus_worlds.proofs.Existence.{attempt_exists, causal_of, given_fits, given_whole, tried_given}
 
 -- whichever instant with these inputs is sought was found
 abbrev pub FindsAny : Program → List (List ℕ) → ℕ → (given : Row) → Moment → Option Moment → Type 0
@@ -80,9 +71,8 @@ module _ (p : Program) (orders : List (List ℕ)) (f : ℕ) (given : Row) (old :
 
 -- where there is no instant, or a fault in it, there are no further streams
 module _ (p : Program) (orders : List (List ℕ)) (f : ℕ) (given : Row) (old : Moment) (ready : IsReady p orders f) where
-  -- each node has an order
   causal : IsCausal p
-  causal = each_of_items HasOrder empty_node p.nodes (λ g lt. (reverse (item [] orders g), ready.0.ordered g lt))
+  causal = causal_of p orders ready.0
 
   inputs_here : (now : Instant) (past : World) → Throughout p (HasInputs p) now f past → HasInputs p f now past
   inputs_here (instant b row js) past h = h.0
@@ -99,6 +89,6 @@ module _ (p : Program) (orders : List (List ℕ)) (f : ℕ) (given : Row) (old :
       let holds : IsInstant p next.0 f past = subst (λ w. IsInstant p next.0 f w) same next.4.now_holds in
       let laws = without_fault p in
       stopped past keeps
-      (tried_given p ready.0.resolved ready.0.clocks f given next.0 past
+      (tried_given p ready.0.clocks f given ready.0.resolved next.0 past
       (record { attempt = laws.attempts next.0 f past holds; present = next.4.present_now; inputs = next.4.row; whole = inputs_here next.0 past (laws.has_inputs next.0 f past holds) }))
   ends stops.Memory stopped = tt

@@ -2,10 +2,8 @@
 use Rattle.std.proofs.Common.{◌≡◌, ◌∙◌, None, Some, map, sym, true≢false}
 use Rattle.std.proofs.lemmas.Result.{IfErr-weaker, IfOk-weaker}
 use Rattle.lus_values.specs.View.{entry_of}
-use Rattle.lus_program.specs.Programs.{node_at}
 use Rattle.lus_program.specs.View.{program_seen}
 use Rattle.lus_worlds.specs.declared.world.Stop.TheVariants as stops
-use Rattle.lus_worlds.specs.Existing.{AreGiven}
 use Rattle.lus_worlds.specs.Finding.{IsReady}
 use Rattle.lus_worlds.specs.Moments.{fault_in}
 use Rattle.lus_worlds.specs.Worlds.{Ends, HasNoFurther, IsFurther, IsStopped}
