@@ -70,4 +70,3 @@ pub get_there : {X : Type 0} (xs : List X) (i : ℕ) (x : X) → i < length xs �
 get_there [] i x lt e = elim (not-suc-le-zero lt) [ ]
 get_there (y ∷ xs) zero x lt e = ap Some (sym e)
 get_there (y ∷ xs) (suc i) x lt e = get_there xs i x (le_of_suc-le-suc lt) e
-
