@@ -231,12 +231,12 @@ module _ (p : Program) (clocks : ProgramOnClocks p) (f : ℕ) (given : Row) wher
       }
 
 -- they fit, and at an instant with them none is missing
-pub given_fits : (p : Program) → Resolved p → ProgramOnClocks p → (f : ℕ) → f < length p.nodes → (given : Row) → AreGiven (node_at p f) given → FitsClocks (node_at p f) true given
-given_fits p resolved clocks f lt given are now base inputs x input some = sym (input_there p clocks f given now base inputs are x input) ∙ some
+pub given_fits : (p : Program) → ProgramOnClocks p → (f : ℕ) (given : Row) → AreGiven (node_at p f) given → FitsClocks (node_at p f) true given
+given_fits p clocks f given are now base inputs x input some = sym (input_there p clocks f given now base inputs are x input) ∙ some
 
-pub given_whole : (p : Program) → Resolved p → ProgramOnClocks p → (f : ℕ) → f < length p.nodes → (given : Row) → AreGiven (node_at p f) given
+pub given_whole : (p : Program) → ProgramOnClocks p → (f : ℕ) (given : Row) → AreGiven (node_at p f) given
     → (now : Instant) (past : World) → is_present now ≡ true → take (node_at p f).inputs (row_of now) ≡ given → HasInputs p f now past
-given_whole p resolved clocks f lt given are now past base inputs =
+given_whole p clocks f given are now past base inputs =
     let g = node_at p f in
     below_all (λ x. MatchBool (nat_lt x g.inputs) (is_some (entry now x) ≡ is_on (clock_of g x) now) (Unit {0})) (length g.variables) (λ x within. at_input (nat_lt x g.inputs) x refl)
   where

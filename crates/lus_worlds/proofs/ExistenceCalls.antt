@@ -1,5 +1,5 @@
 -- What calls pass: as many inputs as the called nodes have, there only where the inputs' clocks are present.
-use Rattle.std.proofs.Common.{◌≡◌, ◌∙◌, ℕ, zero, suc, ◌+◌, ◌<◌, ◌∷◌, length, Option, Some, None, ap, refl, subst, arith, not-suc-le-zero}
+use Rattle.std.proofs.Common.{◌≡◌, ◌∙◌, ℕ, suc, ◌+◌, ◌<◌, ◌∷◌, length, Option, Some, None, ap, refl, subst, arith}
 use Rattle.lus_values.specs.Lists.{Each}
 use Rattle.lus_values.proofs.Lists.{below_all}
 use Rattle.lus_program.specs.declared.expr.Test.{Test}
@@ -16,7 +16,7 @@ use Rattle.lus_normal_form.specs.Computed.{HaveFormals, HasFormals}
 use Rattle.lus_normal_form.specs.Ready.{HasArguments, operand_size}
 use Rattle.lus_normal_form.proofs.HaveFormals.{all_declared, all_have_formals, call_arguments}
 use Rattle.lus_worlds.specs.Existing.{FitsClocks}
-use Rattle.lus_worlds.proofs.Passed.{inputs_are_variables}
+use Rattle.lus_worlds.proofs.Passed.{formals_at, inputs_are_variables}
 
 -- a node as its inputs see it: they test no outputs
 abbrev inputs_alone : Node → Node
@@ -25,14 +25,6 @@ inputs_alone g = record g { outputs = 0 }
 alone_declared : (g : Node) (x : ℕ) (o : Option Test) → IsDeclared g x o → IsDeclared (inputs_alone g) x o
 alone_declared g x None d = tt
 alone_declared g x (Some t) d = (d.0, (d.1.0, λ lt. let low : t.variable < g.inputs = d.1.0 (omega (arith, lt)) in omega (arith, low)))
-
--- the arguments from number m on name what the formals' clocks test
-formals_named : (g : Node) (args es : Operands) (m x : ℕ) → HaveFormals g args es m → x < operand_size es → Each (λ t. IsName (operand args t.variable)) (clock_of g (m + x))
-formals_named g args none m x h lt = absurd (not-suc-le-zero lt)
-formals_named g args (more e es) m zero h lt = let here : m ≡ m + 0 = omega arith in subst (λ n. Each (λ t. IsName (operand args t.variable)) (clock_of g n)) here h.1
-formals_named g args (more e es) m (suc x) h lt =
-    let there : suc m + x ≡ m + suc x = omega arith in
-    subst (λ n. Each (λ t. IsName (operand args t.variable)) (clock_of g n)) there (formals_named g args es (suc m) x h.2 (omega (arith, lt)))
 
 module _ (p : Program) where
   passed_size : (es : Operands) (g : Node) (args : Operands) (base : Clock) (m : ℕ) (now : Instant) (past : World) → length (inputs_given p es g args base m now past) ≡ operand_size es
@@ -62,7 +54,7 @@ module _ (p : Program) where
         let named = below_all (λ x. Each (λ t. IsName (operand args t.variable)) (clock_of f x)) (f.inputs + 0)
         (λ x lt.
         let first : 0 + x ≡ x = omega arith in
-        subst (λ n. Each (λ t. IsName (operand args t.variable)) (clock_of f n)) first (formals_named f args args 0 x formals (omega (arith, lt, size)))) in
+        subst (λ n. Each (λ t. IsName (operand args t.variable)) (clock_of f n)) first (formals_at f args args 0 x formals (omega (arith, lt, size)))) in
         (passed_size args f args base 0 now past ∙ size, λ j on given. inputs_on_clocks p alone args base now past j on (given ∙ alone_given args f args base 0 now past) declared (inputs_are_variables p resolved g) named)
 
     part_fits : (e : Part) → HasFormals p e × HasArguments p e → OfCall (AtBase p PassesFitting) e

@@ -32,7 +32,7 @@ module _ (p : Program) (orders : List (List ℕ)) (f : ℕ) (given : Row) (old :
     -- there is none that isn't found
     pub none_there : FindsAny p orders f given old None → (past : World) → KeepsBehind p old f past → ⊥
     none_there finds past keeps =
-        let there = attempt_exists p orders prepared f ready.1 true given are.count (given_fits p prepared.resolved prepared.clocks f ready.1 given are) past in
+        let there = attempt_exists p orders prepared f ready.1 true given are.count (given_fits p prepared.clocks f given are) past in
         finds prepared ready.1 there.now past (record { keeps = keeps; attempt = there.attempt; base = there.base }) there.inputs
 
     module _ (m : Moment) (finds : FindsAny p orders f given old (Some m)) (past : World) (keeps : KeepsBehind p old f past) where
@@ -42,7 +42,7 @@ module _ (p : Program) (orders : List (List ℕ)) (f : ℕ) (given : Row) (old :
 
       is_there : IsThere
       is_there =
-          let there = attempt_exists p orders prepared f ready.1 true given are.count (given_fits p prepared.resolved prepared.clocks f ready.1 given are) past in
+          let there = attempt_exists p orders prepared f ready.1 true given are.count (given_fits p prepared.clocks f given are) past in
           let found : IsFoundNext p f there.now past m = finds prepared ready.1 there.now past (record { keeps = keeps; attempt = there.attempt; base = there.base }) there.inputs in
           let present : is_present (instant_of m) ≡ true = ap is_present found.0 ∙ there.base in
           let inputs : take (node_at p f).inputs (row_of (instant_of m)) ≡ given = ap (λ i. take (node_at p f).inputs (row_of i)) found.0 ∙ there.inputs in
@@ -52,7 +52,7 @@ module _ (p : Program) (orders : List (List ℕ)) (f : ℕ) (given : Row) (old :
               attempt = found.1.attempt;
               present = present;
               inputs = inputs;
-              whole = given_whole p prepared.resolved prepared.clocks f ready.1 given are (instant_of m) past present inputs;
+              whole = given_whole p prepared.clocks f given are (instant_of m) past present inputs;
             };
           }
 
