@@ -95,7 +95,8 @@ fn next(
     match extend(alloc, program, orders, node, inputs.items(), old) {
         Ok(next) => Ok(Some(next)),
         Err(Stop::Memory) => Err(Memory),
-        Err(Stop::Fault(_) | Stop::Presence) => Ok(None),
+        Err(Stop::Fault(_)) => Ok(None),
+        Err(Stop::Presence) => Ok(None),
     }
 }
 
@@ -268,7 +269,7 @@ impl Window {
         picks: &[Pick],
         picked: &mut Vec<Row>,
     ) -> Result<(), Memory>
-            requires clocks { ProgramOnClocks (program_seen program.now) }
+        requires clocks { ProgramOnClocks (program_seen program.now) }
         ensures followed { let p = program_seen program.now in
             OnOk result ((f : ℕ) (h : List Entry) (c : ℕ) → HasFollowed p f h self.old → HasFollowed p f (h ++ entry_by c request.now reply.now ∷ []) self.new) }
         ensures picked { let p = program_seen program.now in

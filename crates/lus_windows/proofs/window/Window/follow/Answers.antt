@@ -33,7 +33,7 @@ returns c =
     let went = on_ok_weaker c.go_through.result (subst (λ os. GoesOn p old.node (map (λ order. order.items) os) rows picks old.reached c.go_through.new.reached before later) c.deref.ensures.value) c.go_through.ensures in
     record {
       followed = on_ok_weaker c.go_through.result
-          (λ goes f h n. follows p f old new r a (λ sure past slots k. goes_forth p old new r a rows c.accepted_rows.ensures picks before later goes c.requires sure f refl refl refl c.in_default.not-Done past k) h n)
+          (λ goes f h n. follows p f old new r a (λ sure past slots k. goes_forth p old new r a rows c.accepted_rows.ensures picks before later goes c.requires.clocks sure f refl refl refl c.in_default.not-Done past k) h n)
           went;
-      picked = on_ok_weaker c.go_through.result (λ goes. appends p old new r a rows c.accepted_rows.ensures picks before later goes c.requires) went;
+      picked = on_ok_weaker c.go_through.result (λ goes. appends p old new r a rows c.accepted_rows.ensures picks before later goes c.requires.clocks) went;
     }
