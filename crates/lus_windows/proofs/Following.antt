@@ -28,7 +28,7 @@ use Rattle.lus_windows.specs.declared.finding.Found.{Found}
 use Rattle.lus_windows.specs.declared.picks.Pick.{Pick}
 use Rattle.lus_windows.specs.declared.window.Reached.{Reached}
 use Rattle.lus_windows.specs.declared.window.Window.{Window}
-use Rattle.lus_windows.specs.Finding.{FaultsAt, HasFault}
+use Rattle.lus_windows.specs.Finding.{FaultsAt, HasFault, HasNone, NoneRefused}
 use Rattle.lus_windows.specs.Picks.{picked_at, accepted, ArePicked, IsOver, GoesOn, AppendsPicked}
 use Rattle.lus_windows.specs.Windows.{IsKept, IsReached, KeepsPast, HasFollowed, entry_by, has_slot, have_slots, is_lost, HaveNoStreams, orders_in}
 use Rattle.lus_windows.proofs.Rows.{joined_append}
@@ -63,11 +63,15 @@ module _ (sure : Bool) (p : Program) (f : ℕ) where
   pub kept_copy : (old m : Moment) (l : Lineage) → kept_of m ≡ kept_of old → IsKept sure p f l (Some old) → IsKept sure p f l (Some m)
   kept_copy old m l same k = (k.0, k.1, subst (λ h. HoldsBehind p h f k.0) (sym same) k.2)
 
--- a fault that is found behind what is kept is one behind each lineage that this is kept of
-pub found_behind : (Ready : Type 0) (p : Program) (f : ℕ) (rows : List Row) (m : Moment) (r : Reached) → r.moment ≡ Some m → (o : Option Found) → MatchOption o (Unit {0}) (λ g. Ready → HasFault p f rows m g.fault g.row)
-    → MatchOption o (Unit {0}) (λ g. (sure : Bool) (l : Lineage) → Ready → IsReached sure p f l r → FaultsAt p f l rows g.fault g.row)
-found_behind Ready p f rows m r e None h = tt
+-- what is found behind what is kept is found behind each lineage that this is kept of
+pub found_behind : (Ready : Type 0) (p : Program) (f : ℕ) (rows : List Row) (m : Moment) (r : Reached) → r.moment ≡ Some m → (o : Option Found) → MatchOption o (Ready → HasNone p f rows m) (λ g. Ready → HasFault p f rows m g.fault g.row)
+    → (sure : Bool) (l : Lineage) → Ready → IsReached sure p f l r → MatchOption o (NoneRefused sure p f l rows) (λ g. FaultsAt p f l rows g.fault g.row)
+found_behind Ready p f rows m r e None h = λ sure l ready k is w s. let own : IsKept sure p f l (Some m) = subst (IsKept sure p f l) e k in h ready l own.0 own.1 own.2
 found_behind Ready p f rows m r e (Some g) h = λ sure l ready k. let own : IsKept sure p f l (Some m) = subst (IsKept sure p f l) e k in h ready l own.0 own.1 own.2
+
+-- nor is there anything where nothing is kept
+pub none_behind_lost : (p : Program) (f : ℕ) (rows : List Row) (r : Reached) → r.moment ≡ None → (sure : Bool) (l : Lineage) → IsReached sure p f l r → NoneRefused sure p f l rows
+none_behind_lost p f rows r e sure l k is w s refused = let none : IsKept sure p f l None = subst (IsKept sure p f l) e k in none is w s
 
 module _ (p : Program) (f : ℕ) where
   -- where nothing goes on there are no streams

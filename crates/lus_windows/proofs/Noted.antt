@@ -27,17 +27,17 @@ module _ (p : Program) (f : ℕ) (names : Names) (instance : Text) (first : ℕ)
   -- an entry
   pub noted : (c : ℕ) (r : Request) (a : Reply) → ProgramOnClocks p
       → ((sure : Bool) (l : Lineage) → IsReady p (orders_in old.window) old.window.node → IsReached sure p old.window.node l old.window.reached
-      → TellsEntry p old.window.node names (string_bytes old.instance) (next_line old.line) l r a (string_bytes old.text) (string_bytes new.text))
+      → TellsEntry p old.window.node names (string_bytes old.instance) (next_line old.line) sure l r a (string_bytes old.text) (string_bytes new.text))
       → new.line ≡ next_line old.line → (HasFollowed p f h old.window → HasFollowed p f (h ++ entry_by c r a ∷ []) new.window)
       → HasNoted p f names instance first h old → HasNoted p f names instance first (h ++ entry_by c r a ∷ []) new
   noted c r a clocks tells line follows k =
       let node = k.followed.node in
       let here = tells (have_slots h) (lineage h) (ready p clocks (have_slots h) f (past_of h) old.window k.followed) (subst (λ g. IsReached (have_slots h) p g (lineage h) old.window.reached) (sym node) k.followed.keeps.now) in
-      let own : TellsEntry p f names (string_bytes old.instance) (next_line old.line) (lineage h) r a (string_bytes old.text) (string_bytes new.text) =
-      subst (λ g. TellsEntry p g names (string_bytes old.instance) (next_line old.line) (lineage h) r a (string_bytes old.text) (string_bytes new.text)) node here
+      let own : TellsEntry p f names (string_bytes old.instance) (next_line old.line) (have_slots h) (lineage h) r a (string_bytes old.text) (string_bytes new.text) =
+      subst (λ g. TellsEntry p g names (string_bytes old.instance) (next_line old.line) (have_slots h) (lineage h) r a (string_bytes old.text) (string_bytes new.text)) node here
       in
-      let told : TellsEntry p f names instance (next_line old.line) (lineage h) r a (string_bytes old.text) (string_bytes new.text) =
-      subst (λ i. TellsEntry p f names i (next_line old.line) (lineage h) r a (string_bytes old.text) (string_bytes new.text)) k.named own
+      let told : TellsEntry p f names instance (next_line old.line) (have_slots h) (lineage h) r a (string_bytes old.text) (string_bytes new.text) =
+      subst (λ i. TellsEntry p f names i (next_line old.line) (have_slots h) (lineage h) r a (string_bytes old.text) (string_bytes new.text)) k.named own
       in record {
         followed = follows k.followed;
         named = ap string_bytes named ∙ k.named;

@@ -3,7 +3,7 @@
 ghost use Rattle.std.specs.Prelude.{IfOk, MatchOption, map};
 ghost use Rattle.lus_program.specs.View.{program_seen};
 ghost use Rattle.lus_worlds.specs.Finding.{IsReady};
-ghost use Rattle.lus_windows.specs.Finding.{HasFault};
+ghost use Rattle.lus_windows.specs.Finding.{HasFault, HasNone};
 
 use lus_program::Program;
 use lus_values::{Memory, Row};
@@ -27,7 +27,8 @@ pub(crate) fn find(
     old: &Moment,
 ) -> Result<Option<Found>, Memory>
     ensures { let p = program_seen program.now in
-        IfOk result (λ o. MatchOption o (Unit {0}) (λ f. IsReady p (map (λ order. order.items) orders.now) node → HasFault p node rows.now old.now f.fault f.row)) }
+        let ready = IsReady p (map (λ order. order.items) orders.now) node in
+        IfOk result (λ o. MatchOption o (ready → HasNone p node rows.now old.now) (λ f. ready → HasFault p node rows.now old.now f.fault f.row)) }
 {
     let mut reached = keep(alloc, old)?;
     for (place, row) in rows.iter().enumerate() {

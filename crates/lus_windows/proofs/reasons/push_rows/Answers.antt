@@ -10,4 +10,6 @@ returns-in-Some c =
     on_ok_weaker c.push_found.result (λ says sure l ready k. inl (record { row = g.row; fault = g.fault; faults = faults sure l ready k; says = says })) c.push_found.ensures
 
 pub returns-in_ok-push_str-in-None : goal.returns-in_ok-push_str-in-None
-returns-in_ok-push_str-in-None c = λ sure l ready k. inr c.in_ok-push_str-in-None.ensures.bytes
+returns-in_ok-push_str-in-None c =
+    let none = rw c.in-None.is at c.in_ok-found.ensures in
+    λ sure l ready k. inr (c.in_ok-push_str-in-None.ensures.bytes, none sure l ready k)
