@@ -7,13 +7,13 @@ ghost use Rattle.lus_diagrams.specs.Columns.{given_rows, paired};
 use lus_requests::{Reply, Request};
 use lus_values::{Memory, Row, Value, copy_entry};
 use std::alloc::Global;
+use std::slice;
 
 fn push_copies(alloc: Global, entries: &mut Vec<Option<Value>>, row: &Row) -> Result<(), Memory>
     ensures { OnOk result (map entry_of entries.new.items ≡ map entry_of entries.old.items ++ row.now) }
 {
     for entry in row.items() {
-        let entry_copy = copy_entry(alloc, entry)?;
-        entries.push(entry_copy)?;
+        entries.push(copy_entry(alloc, entry)?)?;
     }
     Ok(())
 }
@@ -33,8 +33,7 @@ fn paired(alloc: Global, inputs: &[Row], outputs: &[Row]) -> Result<Vec<Row>, Me
 {
     let mut rows = Vec::new(alloc);
     for (input, output) in inputs.iter().zip(outputs) {
-        let row = joined(alloc, input, output)?;
-        rows.push(row)?;
+        rows.push(joined(alloc, input, output)?)?;
     }
     Ok(rows)
 }
@@ -45,10 +44,7 @@ pub fn given_rows(alloc: Global, request: &Request, reply: &Reply) -> Result<Vec
 {
     match (request, reply) {
         (Request::Step(inputs), Reply::Outputs(outputs)) => {
-            let mut rows = Vec::new(alloc);
-            let row = joined(alloc, inputs, outputs)?;
-            rows.push(row)?;
-            Ok(rows)
+            paired(alloc, slice::from_ref(inputs), slice::from_ref(outputs))
         }
         (Request::Burst(inputs), Reply::Rows(outputs)) => {
             paired(alloc, inputs.items(), outputs.items())

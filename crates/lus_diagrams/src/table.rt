@@ -19,19 +19,20 @@ pub struct Column {
     pub cells: Row,
 }
 
-/// A refused call: its line, and how many columns stand before it.
+/// A refused call: its line, and how many accepted instants stand before it.
 #[derive(Clone, Copy)]
 pub struct Refusal {
     pub line: u64,
-    pub before: usize,
+    pub behind: u64,
 }
 
-/// The table of a journal so far.
+/// The table of a journal so far, up to the line of this number, with so many accepted instants.
 #[derive(Drop)]
 pub struct Table {
     pub columns: Vec<Column>,
     pub refusals: Vec<Refusal>,
-    line: u64,
+    pub line: u64,
+    instants: u64,
     lineage: Lineage,
 }
 
@@ -78,11 +79,11 @@ fn push_instants(
 fn push_refusal(
     refusals: &mut Vec<Refusal>,
     line: u64,
-    before: usize,
+    behind: u64,
     reply: &Reply,
 ) -> Result<(), Memory> {
     if let Reply::Refused(_) = reply {
-        refusals.push(Refusal { line, before })?;
+        refusals.push(Refusal { line, behind })?;
     }
     Ok(())
 }
@@ -96,6 +97,7 @@ impl Table {
             columns: Vec::new(alloc),
             refusals: Vec::new(alloc),
             line,
+            instants: 0,
             lineage: Lineage {
                 count: 0,
                 saved: [0; 8],
@@ -121,9 +123,10 @@ impl Table {
         ensures { OnOk result ((es : List Noted) → HasNoted es self.old → HasNoted (es ++ noted request.now reply.now rows.items ∷ []) self.new) }
     {
         self.line = self.line.saturating_add(1);
-        push_refusal(&mut self.refusals, self.line, self.columns.len(), reply)?;
+        push_refusal(&mut self.refusals, self.line, self.instants, reply)?;
         let event = event_of(rows.len(), request, reply);
         push_event(alloc, &mut self.columns, self.line, event)?;
+        self.instants = self.instants.saturating_add(rows.len() as u64);
         self.lineage.count = push_instants(&mut self.columns, self.line, self.lineage.count, rows)?;
         self.lineage = lineage_behind(self.lineage, event);
         Ok(())

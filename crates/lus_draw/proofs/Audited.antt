@@ -19,7 +19,7 @@ use Rattle.lus_sketches.specs.declared.sketches.Failure.TheVariants as failures
 use Rattle.lus_sketches.proofs.Sketched.{lost_unlawful}
 use Rattle.lus_draw.specs.Drawings.{IsDrawingFault, IsUnsettled, audit_fault, failure_fault}
 use Rattle.lus_draw.specs.Gatherings.{AreDrawn, FailsIn, HasGathered}
-use Rattle.lus_draw.specs.declared.gathering.Drawn.{Drawn}
+use Rattle.lus_traces.specs.declared.trace.Trace.{Trace as Drawn}
 
 -- what holds of a result that is a value holds of the value
 pub when_ok : {X E : Type 0} (r : Result X E) (x : X) (P : X → Type 0) → r ≡ Ok x → IfOk r P → P x

@@ -10,7 +10,7 @@ use Rattle.lus_lawful.specs.Journals.{Journal}
 use Rattle.lus_sketches.specs.Selections.{Selection}
 use Rattle.lus_sketches.specs.Sketches.{IsFailure}
 use Rattle.lus_sketches.specs.declared.sketches.Failure.{Failure}
-use Rattle.lus_draw.specs.declared.gathering.Drawn.{Drawn}
+use Rattle.lus_traces.specs.declared.trace.Trace.{Trace as Drawn}
 use Rattle.lus_traces.specs.Pages.{line_seen, page_text, text_of, whole_lines}
 use Rattle.lus_traces.specs.declared.lines.Line as code
 use Rattle.lus_cli.specs.CommandLine.{Text}
@@ -19,18 +19,17 @@ use Rattle.lus_diagrams.specs.declared.table.Table.{Table}
 use Rattle.lus_lawful.specs.Journals.{entries_of}
 use Rattle.lus_sketches.specs.Sketches.{HasSketched, IsSketch, IsTable, picks_in}
 use Rattle.lus_sketches.specs.declared.sketches.Sketch.{Sketch}
-use Rattle.lus_traces.specs.Traces.{name_of}
+use Rattle.lus_traces.specs.Traces.{name_of, trace_of, trace_seen}
 use Rattle.lus_traces.specs.declared.trace.Signal.{Signal}
-use Rattle.lus_draw.specs.Drawings.{AreTraces, DrawsLines, texts, trace_of}
+use Rattle.lus_draw.specs.Drawings.{AreTraces, DrawsLines, texts}
 use Rattle.lus_draw.specs.Gatherings.{AreDrawn, FailsIn, HasGathered, IsDrawn}
 
 module _ (s : Selection) (p : Program) where
   -- one journal more
   pub drawn_next : (js : List Journal) (ds : List Drawn) (j : Journal) (d : Drawn) → AreDrawn s p js ds → IsDrawn s p j d → AreDrawn s p (js ++ j ∷ []) (ds ++ d ∷ [])
   drawn_next [] [] j d are is = (is, tt)
-  drawn_next [] (e ∷ ds) j d never is = absurd never
-  drawn_next (i ∷ js) [] j d never is = absurd never
   drawn_next (i ∷ js) (e ∷ ds) j d (first, are) is = (first, drawn_next js ds j d are is)
+  drawn_next _ _ j d never is = absurd never
 
   -- why one of journals isn't drawn says so of more
   fails_on : (js : List Journal) (j : Journal) (f : Failure) → FailsIn s p js f → FailsIn s p (js ++ j ∷ []) f
@@ -86,10 +85,8 @@ module _ (s : Selection) (p : Program) where
   -- the traces of a part
   pub traced : (part : Part) (js : List Journal) (ds : List Drawn) → AreDrawn s p js ds → AreTraces s p part js (map (trace_of part) ds)
   traced part [] [] are = tt
-  traced part [] (d ∷ ds) never = absurd never
-  traced part (j ∷ js) [] never = absurd never
-  traced part (j ∷ js) (d ∷ ds) (first, are) =
-      (record { whole = map column_seen d.table.columns.items; table = first; columns = refl }, traced part js ds are)
+  traced part (j ∷ js) (d ∷ ds) (first, are) = (record { whole = trace_seen d; table = first; cut = refl }, traced part js ds are)
+  traced part _ _ never = absurd never
 
 lines_texts : (ls : List code.Line) → texts (map line_seen ls) ≡ map text_of ls
 lines_texts [] = refl

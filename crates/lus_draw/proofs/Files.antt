@@ -23,25 +23,13 @@ module _ (read_fails : Known → Type 0) (journal : Known) where
   pub page_unread : (f : Fault) → IsReadingFault (IsLost read_fails journal) f → PageFails read_fails journal f
   page_unread faults.File lost = lost
   page_unread faults.Memory memory = tt
-  page_unread (faults.Program e) never = absurd never
-  page_unread (faults.Journal k) never = absurd never
-  page_unread (faults.Signal k) never = absurd never
-  page_unread (faults.Scripts e) never = absurd never
-  page_unread faults.Words never = absurd never
-  page_unread faults.Output never = absurd never
-  page_unread faults.Start never = absurd never
+  page_unread _ never = absurd never
 
   pub page_fails : (n : ℕ) (bytes : Bytes) → length bytes < n → WithFile journal (λ left. bytes ≡ take n left) → (f : Fault) → IsPageFault bytes f
       → PageFails read_fails journal f
   page_fails n bytes short read (faults.Journal k) cause = of_file journal n bytes short read (λ bs. BeginsJournal bs → ⊥) cause
   page_fails n bytes short read faults.Memory memory = tt
-  page_fails n bytes short read (faults.Signal k) never = absurd never
-  page_fails n bytes short read (faults.Program e) never = absurd never
-  page_fails n bytes short read (faults.Scripts e) never = absurd never
-  page_fails n bytes short read faults.Words never = absurd never
-  page_fails n bytes short read faults.File never = absurd never
-  page_fails n bytes short read faults.Output never = absurd never
-  page_fails n bytes short read faults.Start never = absurd never
+  page_fails n bytes short read _ never = absurd never
 
   module _ (program : Known) (d : Drawing) where
     -- a fault of the program
@@ -49,24 +37,13 @@ module _ (read_fails : Known → Type 0) (journal : Known) where
     program_fails faults.File lost = inl lost
     program_fails (faults.Program e) refused = refused
     program_fails faults.Memory memory = tt
-    program_fails (faults.Journal k) never = absurd never
-    program_fails (faults.Signal k) never = absurd never
-    program_fails (faults.Scripts e) never = absurd never
-    program_fails faults.Words never = absurd never
-    program_fails faults.Output never = absurd never
-    program_fails faults.Start never = absurd never
+    program_fails _ never = absurd never
 
     -- of reading the file of journals
     pub journal_unread : (f : Fault) → IsReadingFault (IsLost read_fails journal) f → DrawingFails read_fails program journal d f
     journal_unread faults.File lost = inr lost
     journal_unread faults.Memory memory = tt
-    journal_unread (faults.Program e) never = absurd never
-    journal_unread (faults.Journal k) never = absurd never
-    journal_unread (faults.Signal k) never = absurd never
-    journal_unread (faults.Scripts e) never = absurd never
-    journal_unread faults.Words never = absurd never
-    journal_unread faults.Output never = absurd never
-    journal_unread faults.Start never = absurd never
+    journal_unread _ never = absurd never
 
     -- and of what it has
     pub drawing_fails : (n : ℕ) (bytes : Bytes) → length bytes < n → WithFile journal (λ left. bytes ≡ take n left) → (p : Program) → IsOfFile program p → (f : Fault)
@@ -75,10 +52,5 @@ module _ (read_fails : Known → Type 0) (journal : Known) where
         (p, accepted, of_file journal n bytes short read (λ bs. IsJournalFault p bs k) cause)
     drawing_fails n bytes short read p accepted (faults.Signal k) cause =
         (p, accepted, of_file journal n bytes short read (λ bs. LacksSignal d.selection p bs k) cause)
-    drawing_fails n bytes short read p accepted faults.Words never = absurd never
     drawing_fails n bytes short read p accepted faults.Memory memory = tt
-    drawing_fails n bytes short read p accepted (faults.Program e) never = absurd never
-    drawing_fails n bytes short read p accepted (faults.Scripts e) never = absurd never
-    drawing_fails n bytes short read p accepted faults.File never = absurd never
-    drawing_fails n bytes short read p accepted faults.Output never = absurd never
-    drawing_fails n bytes short read p accepted faults.Start never = absurd never
+    drawing_fails n bytes short read p accepted _ never = absurd never

@@ -39,9 +39,8 @@ abbrev pub part_between : ℕ → ℕ → Option Part
 part_between from to = if nat_le 1 from && nat_le from to then Some (record { from = from; to = to }) else None
 
 abbrev pub part_by : Option ℕ → Option ℕ → Option Part
-part_by None to = None
-part_by (Some from) None = None
 part_by (Some from) (Some to) = part_between from to
+part_by _ _ = None
 
 abbrev pub part_in : List Row → Option Part
 part_in m = part_by (place_in 1 (first_of (codes "from") m)) (place_in (2 ^ 64 - 1) (first_of (codes "to") m))
@@ -51,11 +50,9 @@ is_whole p = (p.from == 1) && (p.to == 2 ^ 64 - 1)
 
 -- whether a format shows parts
 abbrev pub has_parts : Format → Bool
-has_parts formats.Text = true
-has_parts formats.Waves = true
 has_parts formats.Html = false
-has_parts formats.Csv = true
 has_parts formats.Vcd = false
+has_parts _ = true
 
 -- not all and some by name; all are those of the name `*`
 abbrev pub selected : Bool → Option Text → Option Selection
@@ -87,11 +84,7 @@ drawing d = if is_whole d.part || has_parts d.format then Some (drawing_of d) el
 -- without a program there is only a page, of all that journals say
 abbrev pub page : Format → Part → Selection → Text → Option Asked
 page formats.Html p formals journal = if is_whole p then Some (page_of journal) else None
-page formats.Html p (named names) journal = None
-page formats.Text p s journal = None
-page formats.Waves p s journal = None
-page formats.Csv p s journal = None
-page formats.Vcd p s journal = None
+page _ p s journal = None
 
 -- the first file is the program's where a second one is named, else that of the journals
 abbrev pub of_files : Format → Part → Selection → Text → Option Text → Option Asked
@@ -99,11 +92,8 @@ of_files f p s file None = page f p s file
 of_files f p s file (Some journal) = drawing (record { format = f; part = p; selection = s; program = file; journal = journal })
 
 abbrev pub chosen : Option Format → Option Part → Option Selection → Option Text → Option Text → Option Asked
-chosen None part selection file journal = None
-chosen (Some f) None selection file journal = None
-chosen (Some f) (Some p) None file journal = None
-chosen (Some f) (Some p) (Some s) None journal = None
 chosen (Some f) (Some p) (Some s) (Some file) journal = of_files f p s file journal
+chosen _ _ _ _ journal = None
 
 abbrev pub format_in : List Row → Option Format
 format_in m = format_of (is_set (codes "waves") m) (is_set (codes "html") m) (is_set (codes "csv") m) (is_set (codes "vcd") m)

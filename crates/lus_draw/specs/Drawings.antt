@@ -1,14 +1,13 @@
 -- What is drawn of the bytes of journals, and why nothing is.
-use Rattle.std.specs.Prelude.{◌≡◌, ◌⊎◌, ◌++◌, ℕ, List, [], ◌∷◌, map, codes, Option, Some, None, IsUtf8, string_bytes, ⊤}
+use Rattle.std.specs.Prelude.{◌≡◌, ◌⊎◌, ◌++◌, ℕ, List, [], ◌∷◌, map, codes, Option, Some, None, IsUtf8, ⊤}
 use Rattle.lus_values.specs.Names.{Names}
 use Rattle.lus_program.specs.Programs.{Program}
-use Rattle.lus_diagrams.specs.Columns.{Column}
-use Rattle.lus_diagrams.specs.ColumnView.{column_seen}
 use Rattle.lus_traces.specs.Parts.{part_of}
 use Rattle.lus_traces.specs.declared.parts.Part.{Part}
 use Rattle.lus_traces.specs.Pages.{Line, page_text, whole_lines}
 use Rattle.lus_traces.specs.Tables.{csv_text}
-use Rattle.lus_traces.specs.Traces.{Trace, name_of}
+use Rattle.lus_traces.specs.Traces.{Trace}
+use Rattle.lus_traces.specs.declared.trace.Trace.{Trace as Drawn}
 use Rattle.lus_lawful.specs.Audits.{HasAudited}
 use Rattle.lus_lawful.specs.Findings.{AreNone}
 use Rattle.lus_lawful.specs.Journals.{Journal}
@@ -23,7 +22,6 @@ use Rattle.lus_sketches.specs.declared.sketches.Failure.{Failure}
 use Rattle.lus_sketches.specs.declared.sketches.Failure.TheVariants as failures
 use Rattle.lus_draw.specs.CommandLine.{Drawing}
 use Rattle.lus_draw.specs.Gatherings.{AreDrawn, FailsIn, IsTableOf}
-use Rattle.lus_draw.specs.declared.gathering.Drawn.{Drawn}
 use Rattle.lus_draw.specs.declared.words.Format.{Format}
 use Rattle.lus_draw.specs.declared.words.Format.TheVariants as formats
 
@@ -31,16 +29,15 @@ use Rattle.lus_draw.specs.declared.words.Format.TheVariants as formats
 
 -- the trace of a part of a journal's table
 pub record IsTrace (s : Selection) (p : Program) (part : Part) (j : Journal) (t : Trace) : Type 0 where
-  pub whole : List Column
-  pub table : IsTableOf s p j t.instance t.names whole
-  pub columns : t.columns ≡ part_of part whole
+  pub whole : Trace
+  pub table : IsTableOf s p j whole
+  pub cut : t ≡ record whole { columns = part_of part whole.columns }
 
 -- journals have these traces, in their order
 abbrev pub AreTraces : Selection → Program → Part → List Journal → List Trace → Type 0
 AreTraces s p part [] [] = ⊤
-AreTraces s p part [] (t ∷ ts) = ⊥
-AreTraces s p part (j ∷ js) [] = ⊥
 AreTraces s p part (j ∷ js) (t ∷ ts) = IsTrace s p part j t × AreTraces s p part js ts
+AreTraces s p part _ _ = ⊥
 
 -- bytes begin with a text, which is all of them where they are one
 abbrev pub IsFrontOf : Text → Text → Type 0
@@ -55,11 +52,9 @@ DrawsLines text written = (ls : List Line) × (texts ls ≡ texts (whole_lines t
 
 -- what is written of a text of journals: of text, waves and a value change dump nothing is said
 abbrev pub IsShown : Format → Names → Text → List Trace → Text → Type 0
-IsShown formats.Text names text ts written = ⊤
-IsShown formats.Waves names text ts written = ⊤
 IsShown formats.Html names text ts written = DrawsLines text written
 IsShown formats.Csv names text ts written = written ≡ csv_text names ts
-IsShown formats.Vcd names text ts written = ⊤
+IsShown _ names text ts written = ⊤
 
 -- The bytes are journals that an audit finds lawful, perhaps with bytes behind their last line feed. Each has a trace, and this is written
 -- of them.
@@ -91,25 +86,14 @@ LacksSignal s p bytes place = (report : Text) × HasAudited p (λ js. FailsIn s 
 abbrev pub IsDrawingFault : Selection → Program → Text → Fault → Type 0
 IsDrawingFault s p bytes (faults.Journal n) = IsJournalFault p bytes n
 IsDrawingFault s p bytes (faults.Signal place) = LacksSignal s p bytes place
-IsDrawingFault s p bytes faults.Words = ⊥
 IsDrawingFault s p bytes faults.Memory = ⊤
-IsDrawingFault s p bytes (faults.Program e) = ⊥
-IsDrawingFault s p bytes (faults.Scripts e) = ⊥
-IsDrawingFault s p bytes faults.File = ⊥
-IsDrawingFault s p bytes faults.Output = ⊥
-IsDrawingFault s p bytes faults.Start = ⊥
+IsDrawingFault s p bytes _ = ⊥
 
 -- without a program the bytes don't begin as journals do
 abbrev pub IsPageFault : Text → Fault → Type 0
 IsPageFault bytes (faults.Journal n) = BeginsJournal bytes → ⊥
 IsPageFault bytes faults.Memory = ⊤
-IsPageFault bytes (faults.Signal place) = ⊥
-IsPageFault bytes (faults.Program e) = ⊥
-IsPageFault bytes (faults.Scripts e) = ⊥
-IsPageFault bytes faults.Words = ⊥
-IsPageFault bytes faults.File = ⊥
-IsPageFault bytes faults.Output = ⊥
-IsPageFault bytes faults.Start = ⊥
+IsPageFault bytes _ = ⊥
 
 abbrev pub audit_fault : AuditError → Fault
 audit_fault (errors.Line n) = faults.Journal n
@@ -127,14 +111,6 @@ abbrev pub IsUnsettled : Option ℕ → Option Failure → Fault → Type 0
 IsUnsettled (Some n) failure f = f ≡ faults.Journal n
 IsUnsettled None (Some e) f = f ≡ failure_fault e
 IsUnsettled None None f = ⊥
-
--- the trace that a part of what was drawn has
-abbrev pub trace_of : Part → Drawn → Trace
-trace_of part d = record {
-  instance = string_bytes d.heading.instance;
-  names = map name_of d.signals.items;
-  columns = part_of part (map column_seen d.table.columns.items);
-}
 
 abbrev pub IsGathered : Selection → Program → Text → List Drawn → Type 0
 IsGathered s p bytes ds = (report : Text) × HasAudited p (λ js. AreDrawn s p js ds) None (Some bytes) report

@@ -30,23 +30,15 @@ DrawingFails read_fails program journal d (faults.Journal n) =
     (p : Program) × IsOfFile program p × WithFile journal (λ bytes. IsJournalFault p bytes n)
 DrawingFails read_fails program journal d (faults.Signal place) =
     (p : Program) × IsOfFile program p × WithFile journal (λ bytes. LacksSignal d.selection p bytes place)
-DrawingFails read_fails program journal d faults.Words = ⊥
 DrawingFails read_fails program journal d faults.Memory = ⊤
-DrawingFails read_fails program journal d (faults.Scripts e) = ⊥
-DrawingFails read_fails program journal d faults.Output = ⊥
-DrawingFails read_fails program journal d faults.Start = ⊥
+DrawingFails read_fails program journal d _ = ⊥
 
 -- why there is no page of a file's lines: it is lost, or doesn't begin as journals do
 abbrev pub PageFails : (Known → Type 0) → Known → Fault → Type 0
 PageFails read_fails journal faults.File = IsLost read_fails journal
 PageFails read_fails journal (faults.Journal n) = WithFile journal (λ bytes. BeginsJournal bytes → ⊥)
 PageFails read_fails journal faults.Memory = ⊤
-PageFails read_fails journal (faults.Signal place) = ⊥
-PageFails read_fails journal (faults.Program e) = ⊥
-PageFails read_fails journal (faults.Scripts e) = ⊥
-PageFails read_fails journal faults.Words = ⊥
-PageFails read_fails journal faults.Output = ⊥
-PageFails read_fails journal faults.Start = ⊥
+PageFails read_fails journal _ = ⊥
 
 abbrev pub DrawFails : (Known → Type 0) → (Text → Known) → Asked → Fault → Type 0
 DrawFails read_fails known (page_of journal) f = PageFails read_fails (known journal) f

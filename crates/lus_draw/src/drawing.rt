@@ -5,13 +5,12 @@ ghost use Rattle.lus_values.specs.Text.{Begins};
 ghost use Rattle.std.specs.Arc.{arc_value};
 ghost use Rattle.lus_cli.specs.CodeSpecs.Codes.{program_of};
 ghost use Rattle.lus_cli.specs.MachineSpecs.Constructors.{names_of};
-ghost use Rattle.lus_traces.specs.Pages.{text_of};
-ghost use Rattle.lus_traces.specs.Traces.{trace_seen};
+ghost use Rattle.lus_traces.specs.Traces.{trace_of, trace_seen};
 ghost use Rattle.lus_sketches.specs.Selections.{selection_seen};
 ghost use Rattle.lus_draw.specs.CommandLine.{drawing_seen};
-ghost use Rattle.lus_draw.specs.Drawings.{Draws, DrawsLines, IsDrawingFault, IsFrontOf, IsGathered, IsLinePage, IsPageFault, IsShown, IsUnsettled, audit_fault, failure_fault, trace_of};
+ghost use Rattle.lus_draw.specs.Drawings.{Draws, DrawsLines, IsDrawingFault, IsFrontOf, IsGathered, IsLinePage, IsPageFault, IsShown, IsUnsettled, audit_fault, failure_fault};
 
-use crate::gathering::{Drawn, Gathering, Selects};
+use crate::gathering::{Gathering, Selects};
 use crate::words::{Drawing, Format};
 use lus_cli::Fault;
 use lus_cli::lus_host::{Memory, Names, Program};
@@ -22,12 +21,6 @@ use std::alloc::Global;
 use std::marker::Brand;
 use std::str;
 use std::sync::Arc;
-
-/// All instants of a journal.
-const WHOLE: Part = Part {
-    from: 1,
-    to: u64::MAX,
-};
 
 /// The fault of an audit that stopped. Reading of memory doesn't fail.
 fn audit_fault(error: AuditError) -> Fault
@@ -50,7 +43,7 @@ fn fault_of(failure: Failure) -> Fault
 }
 
 /// What was gathered of journals that an audit reported, if it found nothing wrong and nothing failed.
-fn settled<K: Selects>(report: &Report, gathering: Gathering<'_, K>) -> Result<Vec<Drawn>, Fault>
+fn settled<K: Selects>(report: &Report, gathering: Gathering<'_, K>) -> Result<Vec<Trace>, Fault>
     ensures drawn { IfOk result (λ v. (report.now.wrong ≡ None) × (gathering.entry.failure ≡ None) × (v.items ≡ gathering.entry.drawn.items)) }
     ensures fault { IfErr result (IsUnsettled report.now.wrong gathering.entry.failure) }
 {
@@ -69,7 +62,7 @@ fn gathered<K: Selects>(
     program: &Arc<Program>,
     selection: Selection<'_>,
     bytes: &[u8],
-) -> Result<Vec<Drawn>, Fault>
+) -> Result<Vec<Trace>, Fault>
     requires { selection_seen selection ≡ K.selection }
     ensures drawn { IfOk result (λ v. IsGathered K.selection (program_of (arc_value program.now)) bytes.now v.items) }
     ensures fault { IfErr result (λ f. IsDrawingFault K.selection (program_of (arc_value program.now)) bytes.now f) }
@@ -82,81 +75,49 @@ fn gathered<K: Selects>(
     }
 }
 
-/// The trace of a part of a journal.
-fn trace(alloc: Global, part: Part, one: Drawn) -> Result<Trace, Memory>
-    ensures { IfOk result (λ t. trace_seen t ≡ trace_of part one) }
-{
-    Ok(Trace::new(alloc, one.heading, part, one.signals, one.table)?)
-}
-
 /// The traces of a part of journals.
-fn traces(alloc: Global, part: Part, drawn: Vec<Drawn>) -> Result<Vec<Trace>, Memory>
+fn traces(alloc: Global, part: Part, drawn: Vec<Trace>) -> Result<Vec<Trace>, Memory>
     ensures { IfOk result (λ v. map trace_seen v.items ≡ map (trace_of part) drawn.items) }
 {
     let mut traces = Vec::new(alloc);
     for one in drawn {
-        traces.push(trace(alloc, part, one)?)?;
+        traces.push(one.part(alloc, part)?)?;
     }
     Ok(traces)
 }
 
-/// Adds the further lines of what is drawn of a journal.
-fn push_one(
-    alloc: Global,
-    names: &Names,
-    lines: &mut Vec<Line<'_>>,
-    one: Drawn,
-) -> Result<(), Memory>
-    ensures { map text_of lines.new.items ≡ map text_of lines.old.items }
-{
-    let trace = Trace::new(alloc, one.heading, WHOLE, one.signals, one.table)?;
-    push_further(alloc, names, lines, &one.formals, &trace)
-}
-
-/// Adds the further lines of what is drawn of journals.
-fn push_all(
-    alloc: Global,
-    names: &Names,
-    lines: &mut Vec<Line<'_>>,
-    drawn: Vec<Drawn>,
-) -> Result<(), Memory>
-    ensures { map text_of lines.new.items ≡ map text_of lines.old.items }
-{
-    for one in drawn {
-        push_one(alloc, names, lines, one)?;
-    }
-    Ok(())
-}
-
 /// A page of the lines of journals, with further ones for what is drawn.
-fn page(alloc: Global, names: &Names, journals: &str, drawn: Vec<Drawn>) -> Result<String, Memory>
+fn page(alloc: Global, names: &Names, journals: &str, drawn: &[Trace]) -> Result<String, Memory>
     ensures { IfOk result (λ s. DrawsLines journals.now (string_bytes s)) }
 {
     let mut lines = lines_of(alloc, journals)?;
-    push_all(alloc, names, &mut lines, drawn)?;
+    for trace in drawn {
+        push_further(alloc, names, &mut lines, trace)?;
+    }
     Ok(html(alloc, &lines)?)
 }
 
-/// What a format writes of journals, of which this is the text.
+/// What is written of journals, of which this is the text, in the format that is wanted.
 fn written(
     alloc: Global,
-    format: Format,
-    part: Part,
+    wanted: Drawing<'_>,
     names: &Names,
     journals: &str,
-    drawn: Vec<Drawn>,
+    drawn: Vec<Trace>,
 ) -> Result<String, Memory>
-    ensures { IfOk result (λ s. IsShown format names.now journals.now (map (trace_of part) drawn.items) (string_bytes s)) }
+    ensures { IfOk result (λ s. IsShown wanted.entry.format names.now journals.now (map (trace_of wanted.entry.part) drawn.items) (string_bytes s)) }
 {
-    match format {
-        Format::Html => page(alloc, names, journals, drawn),
+    let part = wanted.part;
+    match wanted.format {
+        Format::Html => page(alloc, names, journals, &drawn),
         Format::Text => {
             let lines = lines_of(alloc, journals)?;
             text(alloc, names, &lines, &traces(alloc, part, drawn)?)
         }
         Format::Waves => {
             let lines = lines_of(alloc, journals)?;
-            waves(alloc, names, &lines, &traces(alloc, part, drawn)?)
+            let traces = traces(alloc, part, drawn)?;
+            waves(alloc, names, &lines, part.from, &traces)
         }
         Format::Csv => csv(alloc, names, &traces(alloc, part, drawn)?),
         Format::Vcd => vcd(alloc, names, &traces(alloc, part, drawn)?),
@@ -184,14 +145,6 @@ fn text_in(bytes: &[u8]) -> &str
     }
 }
 
-/// A page of lines alone.
-fn plain_page(alloc: Global, journals: &str) -> Result<String, Memory>
-    ensures { IfOk result (λ s. DrawsLines journals.now (string_bytes s)) }
-{
-    let lines = lines_of(alloc, journals)?;
-    Ok(html(alloc, &lines)?)
-}
-
 /// What is drawn of bytes that are journals of a program's nodes.
 pub fn drawing(
     alloc: Global,
@@ -204,14 +157,7 @@ pub fn drawing(
 {
     let drawn = gathered::<Brand>(alloc, program, drawing.selection, bytes)?;
     let journals = text_in(bytes);
-    match written(
-        alloc,
-        drawing.format,
-        drawing.part,
-        program.names(),
-        journals,
-        drawn,
-    ) {
+    match written(alloc, drawing, program.names(), journals, drawn) {
         Ok(written) => Ok(written),
         Err(_) => Err(Fault::Memory),
     }
@@ -225,7 +171,7 @@ pub fn line_page(alloc: Global, bytes: &[u8]) -> Result<String, Fault>
     if !bytes.starts_with(b"instance ") {
         return Err(Fault::Journal(1));
     }
-    match plain_page(alloc, text_in(bytes)) {
+    match page(alloc, &Names::new(alloc), text_in(bytes), &[]) {
         Ok(page) => Ok(page),
         Err(_) => Err(Fault::Memory),
     }

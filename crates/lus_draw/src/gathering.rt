@@ -4,10 +4,9 @@ ghost use Rattle.std.specs.Prelude.{◌≡◌, [], None};
 ghost use Rattle.lus_sketches.specs.Selections.{selection_seen};
 
 use lus_cli::lus_host::{Memory, NodeId, Program, Reply, Request};
-use lus_diagrams::Table;
 use lus_lawful::{Observer, Observers};
 use lus_sketches::{Failure, Selection, Sketch, formals};
-use lus_traces::{Heading, Signal};
+use lus_traces::{Heading, Signal, Trace};
 use std::alloc::Global;
 use std::marker::{Brand, PhantomData};
 
@@ -52,22 +51,13 @@ impl<K: Selects> Observer for Sketching<K> {
     }
 }
 
-/// What is drawn of a journal that was read to its end, and the signals that its node's inputs and outputs are.
-#[derive(Drop)]
-pub struct Drawn {
-    pub heading: Heading,
-    pub formals: Vec<Signal>,
-    pub signals: Vec<Signal>,
-    pub table: Table,
-}
-
 /// What is drawn of the entries that a sketch has seen.
-fn drawn_of(sketch: Sketch, heading: Heading, formals: Vec<Signal>) -> Drawn
+fn traced(sketch: Sketch, heading: Heading, formals: Vec<Signal>) -> Trace
     ensures heading { result.heading ≡ heading }
     ensures signals { result.signals ≡ sketch.signals }
     ensures table { result.table ≡ sketch.table }
 {
-    Drawn {
+    Trace {
         heading,
         formals,
         signals: sketch.signals,
@@ -79,7 +69,7 @@ fn drawn_of(sketch: Sketch, heading: Heading, formals: Vec<Signal>) -> Drawn
 #[derive(Drop)]
 pub struct Gathering<'a, K: Selects> {
     selection: Selection<'a>,
-    pub drawn: Vec<Drawn>,
+    pub drawn: Vec<Trace>,
     pub failure: Option<Failure>,
     of: PhantomData<K>,
     ghost is: { selection_seen selection ≡ K.selection },
@@ -146,11 +136,15 @@ impl<K: Selects> Observers for Gathering<'_, K> {
             instance: String::from_str(alloc, instance)?,
             node: String::from_str(alloc, found.name.as_str())?,
             line: sketch.first,
-            ends_early: if is_whole { None } else { Some(sketch.line) },
+            ends_early: if is_whole {
+                None
+            } else {
+                Some(sketch.table.line)
+            },
         };
         let formals = formals(alloc, program.source(), program.names(), node.0)?;
         let failure = sketch.failure;
-        self.drawn.push(drawn_of(sketch, heading, formals))?;
+        self.drawn.push(traced(sketch, heading, formals))?;
         self.failure = self.failure.or(failure);
         Ok(())
     }

@@ -1,7 +1,7 @@
 -- Calls of nodes of a name, among parts.
 use Rattle.std.proofs.Common.{◌≡◌, ◌++◌, Bool, true, false, List, [], ◌∷◌, refl, ap, cond, map, filter, flat_map, if◌then◌else◌}
 use Rattle.std.specs.Str.{bytes_eq}
-use Rattle.lus_program.specs.Programs.{literal, variable, operate, pre, arrow, when, merge, call, Program, node_at}
+use Rattle.lus_program.specs.Programs.{call, Program, node_at}
 use Rattle.lus_streams.specs.Clocks.{Part, at}
 use Rattle.lus_streams.specs.Equations.{Site, sites_in}
 use Rattle.lus_values.specs.Names.{Text}
@@ -17,10 +17,4 @@ module _ (p : Program) (name : Text) where
   pub calls_are : (es : List Part) → flat_map (calls_at p name) es ≡ map called_by (filter (is_of p name) (sites_in p es))
   calls_are [] = refl
   calls_are (at k (call g c args) ∷ es) = one_call (bytes_eq (node_at p g).name name) _ _ _ (calls_are es)
-  calls_are (at k (literal v) ∷ es) = calls_are es
-  calls_are (at k (variable x) ∷ es) = calls_are es
-  calls_are (at k (operate o ds) ∷ es) = calls_are es
-  calls_are (at k (pre a) ∷ es) = calls_are es
-  calls_are (at k (arrow a b) ∷ es) = calls_are es
-  calls_are (at k (when t a) ∷ es) = calls_are es
-  calls_are (at k (merge x bs) ∷ es) = calls_are es
+  calls_are (_ ∷ es) = calls_are es

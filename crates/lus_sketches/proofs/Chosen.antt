@@ -37,7 +37,7 @@ same_item i [] d e lt = elim (not-suc-le-zero lt) [ ]
 same_item zero (y ∷ xs) d e lt = refl
 same_item (suc i) (y ∷ xs) d e lt = same_item i xs d e (le_of_suc-le-suc lt)
 
-map_both : {X Y : Type 0} (f : X → Y) (xs ys : List X) → map f (xs ++ ys) ≡ map f xs ++ map f ys
+pub map_both : {X Y : Type 0} (f : X → Y) (xs ys : List X) → map f (xs ++ ys) ≡ map f xs ++ map f ys
 map_both f [] ys = refl
 map_both f (x ∷ xs) ys = ap (λ l. f x ∷ l) (map_both f xs ys)
 

@@ -12,7 +12,6 @@ module _ (p : Program) (f : ℕ) where
   pub noted_next : (picks : Option (List Pick)) (before h : List Entry) (e : Entry) (ns : List Noted) (rows : List Row) → AreNoted p f picks before h ns
       → AreCells p f picks (before ++ h) e rows → AreNoted p f picks before (h ++ e ∷ []) (ns ++ noted e.request e.reply rows ∷ [])
   noted_next picks before [] e [] rows t cells = ((rows, subst (λ b. AreCells p f picks b e rows) (append-nil before) cells, refl), tt)
-  noted_next picks before [] e (n ∷ ns) rows never cells = absurd never
-  noted_next picks before (d ∷ h) e [] rows never cells = absurd never
   noted_next picks before (d ∷ h) e (n ∷ ns) rows (first, rest) cells =
       (first, noted_next picks (before ++ d ∷ []) h e ns rows rest (subst (λ b. AreCells p f picks b e rows) (sym (append_assoc before (d ∷ []) h)) cells))
+  noted_next picks before _ e _ rows never cells = absurd never

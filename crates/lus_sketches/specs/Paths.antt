@@ -15,16 +15,14 @@ use Rattle.lus_sketches.specs.declared.paths.Step as step_code
 
 -- counted from 0 what is counted from 1
 abbrev pub place_of : Option ℕ → Option ℕ
-place_of None = None
-place_of (Some zero) = None
 place_of (Some (suc n)) = Some n
+place_of _ = None
 
 -- a step: the name of a called node, and the place of the call among those of nodes of this name: `NODE#k` is the k-th, `NODE` the first
 abbrev pub step_of : List Text → Option (Text × ℕ)
-step_of [] = None
 step_of (name ∷ []) = Some (name, 0)
 step_of (name ∷ (digits ∷ [])) = option_map (λ n. (name, n)) (place_of (number_below (2 ^ 64) digits))
-step_of (name ∷ (digits ∷ (other ∷ more))) = None
+step_of _ = None
 
 abbrev pub step_seen : step_code.Step → Text × ℕ
 step_seen s = (s.name.now, s.place)

@@ -38,10 +38,9 @@ names_in list = slice_split (λ b. b == 44) list
 -- The inputs and outputs of node f have the entries' own values. What names choose is picked, under its paths.
 abbrev pub AreChosen : Program → ℕ → Selection → List Text → Option (List Pick) → Type 0
 AreChosen p f formals names None = names ≡ formal_names (node_at p f)
-AreChosen p f formals names (Some ks) = ⊥
-AreChosen p f (named list) names None = ⊥
 AreChosen p f (named list) names (Some ks) =
     (cs : List Chosen) × Choose p f (names_in list) cs × (names ≡ map (λ c. c.0) cs) × (map pick_seen ks ≡ map (λ c. c.1) cs)
+AreChosen p f _ names _ = ⊥
 
 -- a selection's name at a place is the first that leads nowhere from node f
 abbrev pub IsUnknown : Program → ℕ → Selection → ℕ → Type 0

@@ -30,10 +30,9 @@ module _ (p : Program) (f : ℕ) (picks : Option (List Pick)) where
   -- entries behind others, each with its cells
   abbrev pub AreNoted : List Entry → List Entry → List Noted → Type 0
   AreNoted before [] [] = ⊤
-  AreNoted before [] (n ∷ ns) = ⊥
-  AreNoted before (e ∷ es) [] = ⊥
   AreNoted before (e ∷ es) (n ∷ ns) =
       ((rows : List Row) × AreCells before e rows × (n ≡ noted e.request e.reply rows)) × AreNoted (before ++ e ∷ []) es ns
+  AreNoted before _ _ = ⊥
 
 -- A table of a history of node f: rows of these names, which are those that are selected, and columns.
 pub record IsTable (s : Selection) (p : Program) (f : ℕ) (h : List Entry) (names : List Text) (columns : List Column) : Type 0 where

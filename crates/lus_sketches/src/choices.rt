@@ -8,8 +8,9 @@ ghost use Rattle.lus_sketches.specs.Paths.{all_from, chosen_by, chosen_named, ch
 ghost use Rattle.lus_sketches.specs.Signals.{Choose, IsFirstUnknown, names_in};
 
 use crate::numbers::number_of;
-use crate::paths::{call_by, parts_between, variables_of};
+use crate::paths::{call_by, variables_of};
 use lus_program::{Program, Variable};
+use lus_traces::parts_between;
 use lus_values::Memory;
 use lus_windows::Pick;
 use std::alloc::{AllocError, Global};
@@ -167,16 +168,6 @@ fn chosen_named(
     }
 }
 
-/// Adds variables behind others.
-fn push_all(all: &mut Vec<Chosen>, more: Vec<Chosen>) -> Result<(), AllocError>
-    ensures { OnOk result (map chosen_seen all.new.items ≡ map chosen_seen all.old.items ++ map chosen_seen more.items) }
-{
-    for one in more {
-        all.push(one)?;
-    }
-    Ok(())
-}
-
 /// The variables that names choose from a node, in their order; or the place of the first that leads nowhere, from 1.
 pub(crate) fn chosen_all(
     alloc: Global,
@@ -190,10 +181,10 @@ pub(crate) fn chosen_all(
     let mut all = Vec::new(alloc);
     let names = parts_between(alloc, list, ',')?;
     for (place, name) in names.iter().enumerate() {
-        let Some(found) = chosen_named(alloc, program, node, name)? else {
+        let Some(mut found) = chosen_named(alloc, program, node, name)? else {
             return Ok(Err(place as u64 + 1));
         };
-        push_all(&mut all, found)?;
+        all.append(&mut found)?;
     }
     Ok(Ok(all))
 }

@@ -27,48 +27,31 @@ fn fields_of(program: &Program, kind: Kind) -> Option<&[Field]> {
 }
 
 /// Appends the lanes of a part of a signal, to which this way of fields leads, of a type whose structures nest at most so many levels.
-#[cycle(lanes)]
 fn push_lanes(
     alloc: Global,
     lanes: &mut Vec<Lane>,
     program: &Program,
     levels: usize,
     kind: Kind,
-    name: &str,
+    name: String,
     way: Vec<u32>,
 ) -> Result<(), Memory> {
     match fields_of(program, kind) {
         Some(fields) if levels > 0 => {
-            push_fields(alloc, lanes, program, levels - 1, fields, name, &way)
+            let mut place = 0u32;
+            for field in fields {
+                let own = format!(in alloc; "{name}.{}", field.name)?;
+                let mut further = Vec::new(alloc);
+                further.extend_from_slice(&way)?;
+                further.push(place)?;
+                push_lanes(alloc, lanes, program, levels - 1, field.kind, own, further)?;
+                place = place.saturating_add(1);
+            }
         }
         _ => {
-            let name = String::from_str(alloc, name)?;
             let kind = signal_kind(kind);
             lanes.push(Lane { name, way, kind })?;
-            Ok(())
         }
-    }
-}
-
-/// Appends the lanes of the fields of a structure, to which this way leads.
-#[cycle(lanes)]
-fn push_fields(
-    alloc: Global,
-    lanes: &mut Vec<Lane>,
-    program: &Program,
-    levels: usize,
-    fields: &[Field],
-    name: &str,
-    way: &[u32],
-) -> Result<(), Memory> {
-    let mut place = 0u32;
-    for field in fields {
-        let own = format!(in alloc; "{name}.{}", field.name)?;
-        let mut further = Vec::new(alloc);
-        further.extend_from_slice(way)?;
-        further.push(place)?;
-        push_lanes(alloc, lanes, program, levels, field.kind, &own, further)?;
-        place = place.saturating_add(1);
     }
     Ok(())
 }
@@ -81,14 +64,7 @@ pub(crate) fn lanes_of(
     name: &str,
 ) -> Result<Vec<Lane>, Memory> {
     let mut lanes = Vec::new(alloc);
-    push_lanes(
-        alloc,
-        &mut lanes,
-        program,
-        MOST_NESTING,
-        kind,
-        name,
-        Vec::new(alloc),
-    )?;
+    let (own, way) = (String::from_str(alloc, name)?, Vec::new(alloc));
+    push_lanes(alloc, &mut lanes, program, MOST_NESTING, kind, own, way)?;
     Ok(lanes)
 }

@@ -12,6 +12,7 @@ ghost use Rattle.lus_sketches.specs.Paths.{call_of, called_seen, calls_at, calls
 use crate::numbers::{number, number_of};
 use lus_parts::{Part, parts_of};
 use lus_program::{Form, Node, Program, Variable};
+use lus_traces::parts_between;
 use lus_values::Memory;
 use std::alloc::{AllocError, Global};
 
@@ -27,18 +28,6 @@ pub(crate) struct Called {
 struct Step<'a> {
     name: &'a str,
     place: usize,
-}
-
-/// The parts of a text between characters: one at least.
-pub(crate) fn parts_between<'a>(
-    alloc: Global,
-    text: &'a str,
-    mark: char,
-) -> Result<Vec<&'a str>, AllocError>
-    requires { mark < 128 }
-    ensures { IfOk result (λ v. map (λ t. t.now) v.items ≡ slice_split (λ b. b == mark) text.now) }
-{
-    text.split(mark).collect(alloc)
 }
 
 /// The variables of a node.

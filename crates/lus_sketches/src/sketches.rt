@@ -43,31 +43,10 @@ pub enum Failure {
 #[derive(Drop)]
 pub struct Sketch {
     pub first: u64,
-    pub line: u64,
     pub signals: Vec<Signal>,
     pub(crate) view: Option<View>,
     pub table: Table,
     pub failure: Option<Failure>,
-}
-
-/// The world of an instance before its first entry, where entries are picked.
-fn view_of(
-    alloc: Global,
-    program: &Program,
-    node: u32,
-    picks: Option<Vec<Pick>>,
-) -> Result<Option<View>, Memory>
-    requires resolved { Resolved (program_seen program.now) }
-    requires node { node < length (program_seen program.now).nodes }
-    requires needs { Each NeedsVariables (program_seen program.now).nodes }
-    requires narrow { Each IsNarrow (program_seen program.now).nodes }
-    ensures { IfOk result (λ o. BeginsView (program_seen program.now) node (option_map (λ ks. ks.items) picks) o) }
-{
-    let Some(picks) = picks else {
-        return Ok(None);
-    };
-    let window = Window::new(alloc, program, node)?;
-    Ok(Some(View { picks, window }))
 }
 
 /// The cells of each instant that an entry accepted: of a world those that are picked, else the entry's own. There are none of a world
@@ -115,17 +94,24 @@ impl Sketch {
     {
         let table = Table::new(alloc, first);
         match choose(alloc, program, names, node, selection)? {
-            Ok(Choice { signals, picks }) => Ok(Sketch {
-                first,
-                line: first,
-                signals,
-                view: view_of(alloc, program, node, picks)?,
-                table,
-                failure: None,
-            }),
+            Ok(Choice { signals, picks }) => {
+                let view = match picks {
+                    Some(picks) => {
+                        let window = Window::new(alloc, program, node)?;
+                        Some(View { picks, window })
+                    }
+                    None => None,
+                };
+                Ok(Sketch {
+                    first,
+                    signals,
+                    view,
+                    table,
+                    failure: None,
+                })
+            }
             Err(place) => Ok(Sketch {
                 first,
-                line: first,
                 signals: Vec::new(alloc),
                 view: None,
                 table,
@@ -148,14 +134,13 @@ impl Sketch {
             OnOk result ((s : PlainSelection) (f : ℕ) (h : List Entry) → HasSketched s p f h self.old
             → HasSketched s p f (h ++ entry_of request.now reply.now ∷ []) self.new) }
     {
-        self.line = self.line.saturating_add(1);
         if self.failure.is_some() {
             return Ok(());
         }
         match cells(alloc, program, &mut self.view, request, reply)? {
             Some(rows) => self.table.note(alloc, request, reply, rows),
             None => {
-                self.failure = Some(Failure::Lost(self.line));
+                self.failure = Some(Failure::Lost(self.table.line.saturating_add(1)));
                 Ok(())
             }
         }
@@ -165,7 +150,6 @@ impl Sketch {
     pub fn pass(&mut self)
         ensures { (s : PlainSelection) (p : PlainProgram) (f : ℕ) (h : List Entry) → HasSketched s p f h self.old → HasSketched s p f h self.new }
     {
-        self.line = self.line.saturating_add(1);
         self.table.pass();
     }
 }

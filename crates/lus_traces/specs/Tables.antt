@@ -1,5 +1,5 @@
 -- Tables as CSV (RFC 4180), with line feeds at the ends of lines.
-use Rattle.std.specs.Prelude.{◌==◌, ℕ, Bool, List, [], ◌∷◌, ◌++◌, Option, Some, None, flat_map, map, codes, if◌then◌else◌}
+use Rattle.std.specs.Prelude.{◌==◌, Bool, List, [], ◌∷◌, ◌++◌, Option, Some, None, flat_map, map, codes, if◌then◌else◌}
 use Rattle.std.specs.Fmt.{decimal}
 use Rattle.std.specs.List.{list_any, slice_split}
 use Rattle.lus_values.specs.Names.{Names, Text}
@@ -12,12 +12,9 @@ use Rattle.lus_traces.specs.Traces.{Trace}
 
 -- ---- cells and lines
 
--- a comma, a quote, or the end of a line
-abbrev pub is_special : ℕ → Bool
-is_special b = list_any (λ c. c == b) (codes ",\"\r\n")
-
+-- it has a comma, a quote, or the end of a line
 abbrev pub needs_quotes : Text → Bool
-needs_quotes t = list_any is_special t
+needs_quotes t = list_any (λ b. list_any (λ c. c == b) (codes ",\"\r\n")) t
 
 abbrev pub in_quotes : Text → Text
 in_quotes t = codes "\"" ++ t ++ codes "\""
@@ -61,15 +58,15 @@ cells_under names signals h row = event_cells (title_of h) signals
 abbrev pub others_text : Names → List Text → Column → Text
 others_text names signals c = flat_map following (cells_under names signals c.head c.cells)
 
-abbrev pub column_text : Names → Text → List Text → Column → Text
-column_text names instance signals c = cell_text instance ++ others_text names signals c ++ codes "\n"
+abbrev pub column_text : Names → Trace → Column → Text
+column_text names t c = cell_text t.instance ++ others_text names t.names c ++ codes "\n"
 
 unfoldable pub head_text : List Text → Text
 head_text signals = codes "instance name,instant number,event name" ++ flat_map following signals ++ codes "\n"
 
 -- a line of names, and one for each column of the journal's table
 unfoldable pub table_text : Names → Trace → Text
-table_text names t = head_text t.names ++ flat_map (column_text names t.instance t.names) t.columns
+table_text names t = head_text t.names ++ flat_map (column_text names t) t.columns
 
 abbrev pub next_table : Names → Trace → Text
 next_table names t = codes "\n" ++ table_text names t

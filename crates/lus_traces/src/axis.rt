@@ -3,9 +3,9 @@
 use crate::frames::Frame;
 use crate::lines::{Line, text_at};
 use crate::markup::push_escaped;
-use crate::refusals::Refused;
 use crate::time::Time;
 use crate::words::{push_word, width};
+use lus_diagrams::Refusal;
 use std::alloc::AllocError;
 
 /// From the top of an instance's waves to the numbers of its instants, to the line below them, and to the marks of refused calls.
@@ -85,7 +85,7 @@ pub(crate) fn push_refusals(
     out: &mut String,
     time: Time,
     lines: &[Line<'_>],
-    refusals: &[Refused],
+    refusals: &[Refusal],
     top: usize,
 ) -> Result<(), AllocError> {
     let y = top.saturating_add(REFUSALS);

@@ -6,7 +6,7 @@ ghost use Rattle.std.specs.List.{slice_split};
 use std::alloc::{AllocError, Global};
 
 /// The parts of a text between characters: always one more than there are such characters.
-pub(crate) fn parts(alloc: Global, text: &str, mark: char) -> Result<Vec<&str>, AllocError>
+pub fn parts_between(alloc: Global, text: &str, mark: char) -> Result<Vec<&str>, AllocError>
     requires { mark < 128 }
     ensures { IfOk result (λ v. map (λ t. t.now) v.items ≡ slice_split (λ b. b == mark) text.now) }
 {

@@ -1,7 +1,6 @@
 //! What stands in a journal at each time.
 
 use crate::titles::title_of;
-use crate::values::part_at;
 use lus_diagrams::{Column, Head};
 use lus_values::Value;
 use std::alloc::{AllocError, Global};
@@ -16,24 +15,19 @@ pub(crate) struct Frame<'a> {
 }
 
 impl<'a> Frame<'a> {
-    /// The value of a row, where it is present.
-    pub(crate) fn value(&self, row: usize) -> Option<&'a Value> {
-        self.cells.get(row)?.as_ref()
-    }
-
-    /// The part of a row's value that these places of fields lead to.
+    /// The part of a row's value that these places of fields lead to, where the value is present. Of a structure that is nil each part
+    /// is.
     pub(crate) fn part(&self, row: usize, way: &[u32]) -> Option<&'a Value> {
-        let value = self.value(row)?;
-        Some(part_at(value, way))
+        let mut part = self.cells.get(row)?.as_ref()?;
+        for place in way {
+            if let Value::Struct(fields) = part
+                && let Some(field) = fields.get(*place as usize)
+            {
+                part = field;
+            }
+        }
+        Some(part)
     }
-}
-
-/// Appends the name of an event, behind a comma if it is not the first.
-fn push_event(events: &mut String, title: &str) -> Result<(), AllocError> {
-    if !events.is_empty() {
-        events.push_str(",")?;
-    }
-    events.push_str(title)
 }
 
 /// The frames of a table: the beginning, each accepted instant, and the end.
@@ -54,8 +48,10 @@ pub(crate) fn frames_of(alloc: Global, columns: &[Column]) -> Result<Vec<Frame<'
             })?;
             events = String::new(alloc);
         } else {
-            let title = title_of(alloc, column.head)?;
-            push_event(&mut events, title.as_str())?;
+            if !events.is_empty() {
+                events.push_str(",")?;
+            }
+            events.push_str(&title_of(alloc, column.head)?)?;
         }
     }
     frames.push(Frame {

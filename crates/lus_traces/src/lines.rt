@@ -3,7 +3,7 @@
 ghost use Rattle.std.specs.Prelude.{◌≡◌, IfOk, map};
 ghost use Rattle.lus_traces.specs.Pages.{line_seen, whole_lines};
 
-use crate::cutting::parts;
+use crate::cutting::parts_between;
 use std::alloc::{AllocError, Global};
 
 /// A line of a file, and the lines that a page has behind it.
@@ -18,7 +18,7 @@ pub fn lines_of<'a>(alloc: Global, text: &'a str) -> Result<Vec<Line<'a>>, Alloc
     ensures { IfOk result (λ v. map line_seen v.items ≡ whole_lines text.now) }
 {
     let mut lines = Vec::new(alloc);
-    let parts = parts(alloc, text, '\n')?;
+    let parts = parts_between(alloc, text, '\n')?;
     let whole = parts.len().saturating_sub(1);
     for text in &parts[..whole] {
         lines.push(Line {
@@ -31,8 +31,6 @@ pub fn lines_of<'a>(alloc: Global, text: &'a str) -> Result<Vec<Line<'a>>, Alloc
 
 /// The text of a line, counted from 1.
 pub(crate) fn text_at<'a>(lines: &[Line<'a>], number: u64) -> &'a str {
-    match lines.get(number.saturating_sub(1) as usize) {
-        Some(line) => line.text,
-        None => "",
-    }
+    let line = lines.get(number.saturating_sub(1) as usize);
+    line.map_or("", |line| line.text)
 }

@@ -29,21 +29,14 @@ fn push_line(out: &mut String, line: &Line<'_>) -> Result<(), AllocError>
     Ok(())
 }
 
-fn push_lines(out: &mut String, lines: &[Line<'_>]) -> Result<(), AllocError>
-    ensures { OnOk result (string_bytes out.new ≡ string_bytes out.old ++ flat_map line_text (map line_seen lines.now)) }
-{
-    for line in lines {
-        push_line(out, line)?;
-    }
-    Ok(())
-}
-
 /// The page of a file of journals.
 pub fn html(alloc: Global, lines: &[Line<'_>]) -> Result<String, AllocError>
     ensures { IfOk result (λ s. string_bytes s ≡ page_text (map line_seen lines.now)) }
 {
     let mut out = String::from_str(alloc, OPENING)?;
-    push_lines(&mut out, lines)?;
+    for line in lines {
+        push_line(&mut out, line)?;
+    }
     out.push_str(READING)?;
     out.push_str(SHOWING)?;
     Ok(out)

@@ -20,14 +20,6 @@ pub(crate) fn is_instant(head: Head) -> bool
     matches!(head, Head::Instant(_))
 }
 
-/// How many of these columns are instants.
-pub(crate) fn instants_in(columns: &[Column]) -> usize {
-    columns
-        .iter()
-        .filter(|column| is_instant(column.head))
-        .count()
-}
-
 /// The columns of a part, with the events before its first instant and behind its last one.
 pub(crate) fn part_of(
     alloc: Global,

@@ -4,10 +4,9 @@ use crate::axis::{events_end, push_axis, push_events, push_refusals};
 use crate::frames::{Frame, frames_of};
 use crate::lanes::{LANE, push_lanes};
 use crate::lines::Line;
-use crate::parts::instants_in;
 use crate::time::Time;
 use crate::titles::push_early;
-use crate::trace::{Heading, Trace, is_local};
+use crate::trace::{Trace, is_local};
 use crate::words::push_word;
 use lus_values::{Memory, Names};
 use std::alloc::{AllocError, Global};
@@ -50,15 +49,6 @@ path{fill:none;stroke-width:14}.grid{stroke:#e2e8f0;stroke-width:8}.axis{stroke:
 const LOCALS: &str =
     "<style>.local{fill:#3f6212}@media (prefers-color-scheme:dark){.local{fill:#bef264}}</style>\n";
 
-/// How many lanes the signals of a trace have.
-fn lane_count(trace: &Trace) -> usize {
-    let mut count = 0usize;
-    for signal in &trace.signals {
-        count = count.saturating_add(signal.lanes.len());
-    }
-    count
-}
-
 /// Where time begins: behind the longest name of a lane, and every number.
 fn left_of(traces: &[Trace]) -> usize {
     let mut most = 4usize;
@@ -72,13 +62,6 @@ fn left_of(traces: &[Trace]) -> usize {
     most.saturating_mul(LETTER).saturating_add(BESIDE)
 }
 
-/// The title of an instance's waves.
-fn title_of(alloc: Global, heading: &Heading) -> Result<String, AllocError> {
-    let mut title = format!(in alloc; "{}: {}", heading.instance, heading.node)?;
-    push_early(&mut title, heading)?;
-    Ok(title)
-}
-
 /// An instance's waves: what is drawn, how high they are, and how wide with their title and the names of events.
 #[derive(Drop)]
 struct Drawn<'a> {
@@ -86,16 +69,21 @@ struct Drawn<'a> {
     title: String,
     frames: Vec<Frame<'a>>,
     time: Time,
-    lanes: usize,
     high: usize,
     wide: usize,
 }
 
-fn waves_of(alloc: Global, trace: &Trace, left: usize) -> Result<Drawn<'_>, AllocError> {
-    let title = title_of(alloc, &trace.heading)?;
-    let frames = frames_of(alloc, &trace.columns)?;
-    let time = Time::of(instants_in(&trace.columns), trace.part.from, left);
-    let lanes = lane_count(trace).saturating_mul(LANE);
+fn waves_of(alloc: Global, trace: &Trace, from: u64, left: usize) -> Result<Drawn<'_>, AllocError> {
+    let heading = &trace.heading;
+    let mut title = format!(in alloc; "{}: {}", heading.instance, heading.node)?;
+    push_early(&mut title, heading)?;
+    let frames = frames_of(alloc, &trace.table.columns)?;
+    // without the beginning and the end
+    let time = Time::of(frames.len().saturating_sub(2), from, left);
+    let mut high = HEAD + FOOT;
+    for signal in &trace.signals {
+        high = high.saturating_add(signal.lanes.len().saturating_mul(LANE));
+    }
     let wide = time
         .right()
         .max(title.len().saturating_mul(TITLE))
@@ -106,8 +94,7 @@ fn waves_of(alloc: Global, trace: &Trace, left: usize) -> Result<Drawn<'_>, Allo
         title,
         frames,
         time,
-        lanes,
-        high: lanes.saturating_add(HEAD + FOOT),
+        high,
         wide,
     })
 }
@@ -122,13 +109,13 @@ fn push_instance(
 ) -> Result<(), Memory> {
     let (time, frames) = (waves.time, waves.frames.as_slice());
     let lanes = top.saturating_add(HEAD);
-    let bottom = lanes.saturating_add(waves.lanes);
+    let bottom = top.saturating_add(waves.high).saturating_sub(FOOT);
     push_word(out, "title", 60, top.saturating_add(260), &waves.title)?;
     push_axis(out, time, top, bottom)?;
     let signals = &waves.trace.signals;
     push_lanes(alloc, out, names, signals, frames, time, lanes)?;
     push_events(out, time, frames, top, bottom)?;
-    push_refusals(out, time, lines, &waves.trace.refusals, top)?;
+    push_refusals(out, time, lines, &waves.trace.table.refusals, top)?;
     Ok(())
 }
 
@@ -154,18 +141,20 @@ fn push_head(out: &mut String, all: &[Drawn<'_>]) -> Result<(), AllocError> {
     Ok(())
 }
 
-/// A picture of the waves of instances, one below the other, as wide as their instants. The lines are those of the journals' file.
+/// A picture of the waves of instances, one below the other, as wide as their instants, of which the first has this place in its
+/// journal. The lines are those of the journals' file.
 pub fn waves(
     alloc: Global,
     names: &Names,
     lines: &[Line<'_>],
+    from: u64,
     traces: &[Trace],
 ) -> Result<String, Memory> {
     let mut out = String::new(alloc);
     let left = left_of(traces);
     let mut all = Vec::new(alloc);
     for trace in traces {
-        all.push(waves_of(alloc, trace, left)?)?;
+        all.push(waves_of(alloc, trace, from, left)?)?;
     }
     push_head(&mut out, &all)?;
     let mut top = 0usize;

@@ -23,10 +23,7 @@ fn number(value: &Value) -> i64 {
 }
 
 fn numbers(runs: &[Run<'_>]) -> Scale {
-    let Some(first) = runs.first() else {
-        return Scale::Numbers { least: 0, most: 0 };
-    };
-    let mut least = number(first.value);
+    let mut least = runs.first().map_or(0, |run| number(run.value));
     let mut most = least;
     for run in runs {
         least = least.min(number(run.value));

@@ -3,37 +3,29 @@
 ghost use Rattle.std.specs.Prelude.{◌≡◌, ◌++◌, [], IfOk, OnOk, flat_map, map, string_bytes};
 ghost use Rattle.lus_values.specs.View.{entry_of};
 ghost use Rattle.lus_diagrams.specs.ColumnView.{column_seen};
-ghost use Rattle.lus_traces.specs.Tables.{cell_text, column_text, csv_text, following, head_text, is_special, needs_quotes, next_table, others_text, quoted, shown, table_text};
+ghost use Rattle.lus_traces.specs.Tables.{cell_text, column_text, csv_text, following, head_text, needs_quotes, next_table, others_text, quoted, shown, table_text};
 ghost use Rattle.lus_traces.specs.Traces.{name_of, trace_seen};
 
-use crate::cutting::parts;
+use crate::cutting::parts_between;
 use crate::titles::title_of;
 use crate::trace::{Signal, Trace};
 use lus_diagrams::{Column, Head};
 use lus_values::{Memory, Names, Value, push_value};
 use std::alloc::{AllocError, Global};
 
-/// Whether a byte stands in a cell only between quotes.
-fn is_special(byte: u8) -> bool
-    ensures { result ≡ is_special byte }
-{
-    b",\"\r\n".contains(&byte)
-}
-
+/// Whether a text stands in a cell only between quotes.
 fn needs_quotes(text: &str) -> bool
     ensures { result ≡ needs_quotes text.now }
 {
-    text.as_bytes().iter().any(|byte| is_special(*byte))
+    text.as_bytes().iter().any(|byte| b",\"\r\n".contains(byte))
 }
 
 /// Appends a text between quotes, with each quote in it doubled.
 fn push_quoted(alloc: Global, out: &mut String, text: &str) -> Result<(), AllocError>
     ensures { OnOk result (string_bytes out.new ≡ string_bytes out.old ++ quoted text.now) }
 {
-    for part in &parts(alloc, text, '"')? {
-        out.push_str("\"")?;
-        out.push_str(part)?;
-        out.push_str("\"")?;
+    for part in &parts_between(alloc, text, '"')? {
+        write!(out, "\"{part}\"")?;
     }
     Ok(())
 }
@@ -54,15 +46,6 @@ fn push_next(alloc: Global, out: &mut String, text: &str) -> Result<(), AllocErr
 {
     out.push_str(",")?;
     push_cell(alloc, out, text)
-}
-
-fn push_names(alloc: Global, out: &mut String, signals: &[Signal]) -> Result<(), AllocError>
-    ensures { OnOk result (string_bytes out.new ≡ string_bytes out.old ++ flat_map following (map name_of signals.now)) }
-{
-    for signal in signals {
-        push_next(alloc, out, signal.name.as_str())?;
-    }
-    Ok(())
 }
 
 /// Appends an empty cell for each signal.
@@ -96,8 +79,7 @@ fn push_entries(
     ensures { OnOk result (string_bytes out.new ≡ string_bytes out.old ++ flat_map following (map (shown names.now) (map entry_of entries.now))) }
 {
     for entry in entries {
-        let text = shown(alloc, names, entry)?;
-        push_next(alloc, out, &text)?;
+        push_next(alloc, out, &shown(alloc, names, entry)?)?;
     }
     Ok(())
 }
@@ -131,7 +113,9 @@ fn push_head(alloc: Global, out: &mut String, signals: &[Signal]) -> Result<(), 
     ensures { OnOk result (string_bytes out.new ≡ string_bytes out.old ++ head_text (map name_of signals.now)) }
 {
     out.push_str("instance name,instant number,event name")?;
-    push_names(alloc, out, signals)?;
+    for signal in signals {
+        push_next(alloc, out, &signal.name)?;
+    }
     out.push_str("\n")
 }
 
@@ -140,32 +124,14 @@ fn push_column(
     alloc: Global,
     out: &mut String,
     names: &Names,
-    instance: &str,
-    signals: &[Signal],
+    trace: &Trace,
     column: &Column,
 ) -> Result<(), Memory>
-    ensures { OnOk result (string_bytes out.new ≡ string_bytes out.old ++ column_text names.now instance.now (map name_of signals.now) (column_seen column.now)) }
+    ensures { OnOk result (string_bytes out.new ≡ string_bytes out.old ++ column_text names.now (trace_seen trace.now) (column_seen column.now)) }
 {
-    push_cell(alloc, out, instance)?;
-    push_others(alloc, out, names, signals, column)?;
+    push_cell(alloc, out, &trace.heading.instance)?;
+    push_others(alloc, out, names, &trace.signals, column)?;
     out.push_str("\n")?;
-    Ok(())
-}
-
-fn push_columns(
-    alloc: Global,
-    out: &mut String,
-    names: &Names,
-    instance: &str,
-    signals: &[Signal],
-    columns: &[Column],
-) -> Result<(), Memory>
-    ensures { OnOk result (string_bytes out.new ≡ string_bytes out.old
-        ++ flat_map (column_text names.now instance.now (map name_of signals.now)) (map column_seen columns.now)) }
-{
-    for column in columns {
-        push_column(alloc, out, names, instance, signals, column)?;
-    }
     Ok(())
 }
 
@@ -175,22 +141,8 @@ fn push_table(alloc: Global, out: &mut String, names: &Names, trace: &Trace) -> 
     ensures { OnOk result (string_bytes out.new ≡ string_bytes out.old ++ table_text names.now (trace_seen trace.now)) }
 {
     push_head(alloc, out, &trace.signals)?;
-    let instance = trace.heading.instance.as_str();
-    push_columns(alloc, out, names, instance, &trace.signals, &trace.columns)
-}
-
-/// Appends tables, each behind an empty line.
-fn push_next_tables(
-    alloc: Global,
-    out: &mut String,
-    names: &Names,
-    traces: &[Trace],
-) -> Result<(), Memory>
-    ensures { OnOk result (string_bytes out.new ≡ string_bytes out.old ++ flat_map (next_table names.now) (map trace_seen traces.now)) }
-{
-    for trace in traces {
-        out.push_str("\n")?;
-        push_table(alloc, out, names, trace)?;
+    for column in &trace.table.columns {
+        push_column(alloc, out, names, trace, column)?;
     }
     Ok(())
 }
@@ -202,7 +154,10 @@ pub fn csv(alloc: Global, names: &Names, traces: &[Trace]) -> Result<String, Mem
     let mut out = String::new(alloc);
     if let [first, others @ ..] = traces {
         push_table(alloc, &mut out, names, first)?;
-        push_next_tables(alloc, &mut out, names, others)?;
+        for trace in others {
+            out.push_str("\n")?;
+            push_table(alloc, &mut out, names, trace)?;
+        }
     }
     Ok(out)
 }

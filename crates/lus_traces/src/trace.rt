@@ -1,13 +1,10 @@
 //! A journal's table with the names of its rows.
 
-ghost use Rattle.std.specs.Prelude.{◌≡◌, IfOk, map, string_bytes};
-ghost use Rattle.lus_diagrams.specs.ColumnView.{column_seen};
-ghost use Rattle.lus_traces.specs.Parts.{part_of};
-ghost use Rattle.lus_traces.specs.Traces.{name_of, trace_seen};
+ghost use Rattle.std.specs.Prelude.{◌≡◌, IfOk};
+ghost use Rattle.lus_traces.specs.Traces.{trace_of, trace_seen};
 
 use crate::parts::{Part, part_of};
-use crate::refusals::{Refused, refusals_of};
-use lus_diagrams::{Column, Table};
+use lus_diagrams::Table;
 use std::alloc::{AllocError, Global};
 
 /// What a signal's values are: truth values, numbers of 64 bits, or texts.
@@ -70,36 +67,30 @@ pub struct Heading {
     pub ends_early: Option<u64>,
 }
 
-/// A part of a journal's table, the signals that its rows are, and its refused calls.
+/// What is drawn of a journal: the signals that its node's inputs and outputs are, those that its rows are, and its table.
 #[derive(Drop)]
 pub struct Trace {
     pub heading: Heading,
-    pub part: Part,
+    pub formals: Vec<Signal>,
     pub signals: Vec<Signal>,
-    pub columns: Vec<Column>,
-    pub refusals: Vec<Refused>,
+    pub table: Table,
 }
 
 impl Trace {
-    /// The trace of a part of a table whose rows are these signals.
-    pub fn new(
-        alloc: Global,
-        heading: Heading,
-        part: Part,
-        signals: Vec<Signal>,
-        table: Table,
-    ) -> Result<Trace, AllocError>
-        ensures instance { IfOk result (λ t. (trace_seen t).instance ≡ string_bytes heading.instance) }
-        ensures names { IfOk result (λ t. (trace_seen t).names ≡ map name_of signals.items) }
-        ensures columns { IfOk result (λ t. (trace_seen t).columns ≡ part_of part (map column_seen table.columns.items)) }
+    /// A part of the trace: of refused calls those before its first instant, and up to the one behind its last.
+    pub fn part(self, alloc: Global, part: Part) -> Result<Trace, AllocError>
+        ensures { IfOk result (λ t. trace_seen t ≡ trace_of part self) }
     {
-        let refusals = refusals_of(alloc, part, &table)?;
+        let mut table = self.table;
+        table.columns = part_of(alloc, part, table.columns)?;
+        table.refusals.retain(|refusal| {
+            part.from <= refusal.behind.saturating_add(1) && refusal.behind <= part.to
+        });
         Ok(Trace {
-            heading,
-            part,
-            signals,
-            columns: part_of(alloc, part, table.columns)?,
-            refusals,
+            heading: self.heading,
+            formals: self.formals,
+            signals: self.signals,
+            table,
         })
     }
 }

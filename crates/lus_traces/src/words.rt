@@ -4,7 +4,7 @@ use crate::markup::push_escaped;
 use std::alloc::AllocError;
 
 /// How wide a character of a value is, in tenths of a pixel.
-pub(crate) const CHARACTER: usize = 66;
+const CHARACTER: usize = 66;
 
 /// How wide a text is, with the room beside it.
 pub(crate) fn width(text: &str) -> usize {

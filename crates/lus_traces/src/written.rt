@@ -1,36 +1,34 @@
 //! Traces as lines of text.
 
-ghost use Rattle.std.specs.Prelude.{◌≤◌, ◌<◌, length};
-
 use crate::lines::{Line, text_at};
-use crate::refusals::Refused;
+use crate::parts::is_instant;
 use crate::titles::{push_early, title_of};
 use crate::trace::{Signal, Trace};
 use crate::values::entry_text;
-use lus_diagrams::{Column, Head};
+use lus_diagrams::Column;
 use lus_values::{Memory, Names};
 use std::alloc::{AllocError, Global};
 
 /// How many characters a line has room for.
 const ROOM: usize = 100;
 
-/// A column as text: what stands above it, in its rows, and how wide the longest of these is.
+/// A column as text: what stands above it, what in its rows, and how wide the longest of these is.
 #[derive(Drop)]
 struct Written {
-    title: String,
     cells: Vec<String>,
     width: usize,
 }
 
-/// What stands in the rows of a column: a bar where it is no instant.
-fn cells_of(
+/// A column as text: a bar in each row where it is no instant.
+fn written_column(
     alloc: Global,
     names: &Names,
     signals: &[Signal],
     column: &Column,
-) -> Result<Vec<String>, Memory> {
+) -> Result<Written, Memory> {
     let mut cells = Vec::new(alloc);
-    if let Head::Instant(_) = column.head {
+    cells.push(title_of(alloc, column.head)?)?;
+    if is_instant(column.head) {
         for entry in column.cells.items() {
             cells.push(entry_text(alloc, names, entry.as_ref())?)?;
         }
@@ -39,83 +37,27 @@ fn cells_of(
             cells.push(String::from_str(alloc, "|")?)?;
         }
     }
-    Ok(cells)
-}
-
-fn written_column(
-    alloc: Global,
-    names: &Names,
-    signals: &[Signal],
-    column: &Column,
-) -> Result<Written, Memory> {
-    let title = title_of(alloc, column.head)?;
-    let cells = cells_of(alloc, names, signals, column)?;
-    let mut width = title.len();
+    let mut width = 0usize;
     for cell in &cells {
         width = width.max(cell.len());
     }
-    Ok(Written {
-        title,
-        cells,
-        width,
-    })
+    Ok(Written { cells, width })
 }
 
-fn push_blanks(out: &mut String, count: usize) -> Result<(), AllocError> {
-    for _ in 0..count {
-        out.push(' ')?;
-    }
-    Ok(())
-}
-
-/// Appends a text, and then blanks up to a width.
-fn push_left(out: &mut String, text: &str, width: usize) -> Result<(), AllocError> {
-    out.push_str(text)?;
-    push_blanks(out, width.saturating_sub(text.len()))
-}
-
-/// Appends two blanks, further ones, and then a text, up to a width.
-fn push_right(out: &mut String, text: &str, width: usize) -> Result<(), AllocError> {
-    push_blanks(out, width.saturating_sub(text.len()).saturating_add(2))?;
-    out.push_str(text)
-}
-
-/// Behind which column a line from this one on is full. It has one column at least.
-fn line_end(columns: &[Written], from: usize, room: usize) -> usize
-    requires { from < length columns.now }
-    ensures further { from < result }
-    ensures within { result ≤ length columns.now }
-{
-    let mut used = columns[from].width.saturating_add(2);
-    let mut end = from + 1;
-    while end < columns.len() {
-        used = used.saturating_add(columns[end].width).saturating_add(2);
-        if used > room {
-            break;
-        }
-        end += 1;
-    }
-    end
-}
-
-/// Appends a line of titles, and the rows below it.
+/// Appends a line of titles, and the rows below it. Labels, that of the titles first, stand before them, so wide.
 fn push_band(
     out: &mut String,
-    signals: &[Signal],
-    first: usize,
+    labels: &[&str],
+    wide: usize,
     columns: &[Written],
 ) -> Result<(), AllocError> {
     out.push_str("\n")?;
-    push_left(out, "instant", first)?;
-    for column in columns {
-        push_right(out, &column.title, column.width)?;
-    }
-    out.push_str("\n")?;
-    for (row, signal) in signals.iter().enumerate() {
-        push_left(out, &signal.label, first)?;
+    for (row, label) in labels.iter().enumerate() {
+        write!(out, "{label:<wide$}")?;
         for column in columns {
             if let Some(cell) = column.cells.get(row) {
-                push_right(out, cell, column.width)?;
+                let width = column.width;
+                write!(out, "  {cell:>width$}")?;
             }
         }
         out.push_str("\n")?;
@@ -123,33 +65,31 @@ fn push_band(
     Ok(())
 }
 
-fn push_bands(out: &mut String, signals: &[Signal], columns: &[Written]) -> Result<(), AllocError> {
-    let mut first = "instant".len();
-    for signal in signals {
-        first = first.max(signal.label.len());
-    }
-    let room = ROOM.saturating_sub(first);
-    let mut from = 0;
-    while from < columns.len() {
-        let end = line_end(columns, from, room);
-        push_band(out, signals, first, &columns[from..end])?;
-        from = end;
-    }
-    Ok(())
-}
-
-fn push_refused(
+/// Appends columns in as many bands as they need, each of one column at least.
+fn push_bands(
+    alloc: Global,
     out: &mut String,
-    lines: &[Line<'_>],
-    refusals: &[Refused],
+    signals: &[Signal],
+    columns: &[Written],
 ) -> Result<(), AllocError> {
-    if refusals.is_empty() {
-        return Ok(());
+    let mut labels: Vec<&str> = Vec::new(alloc);
+    labels.push("instant")?;
+    let mut wide = "instant".len();
+    for signal in signals {
+        labels.push(signal.label.as_str())?;
+        wide = wide.max(signal.label.len());
     }
-    out.push_str("\n")?;
-    for refusal in refusals {
-        out.push_str(text_at(lines, refusal.line))?;
-        out.push_str("\n")?;
+    let (mut from, mut used) = (0, wide);
+    for (place, column) in columns.iter().enumerate() {
+        let width = column.width.saturating_add(2);
+        if from < place && used.saturating_add(width) > ROOM {
+            push_band(out, &labels, wide, &columns[from..place])?;
+            (from, used) = (place, wide);
+        }
+        used = used.saturating_add(width);
+    }
+    if from < columns.len() {
+        push_band(out, &labels, wide, &columns[from..])?;
     }
     Ok(())
 }
@@ -168,11 +108,16 @@ fn push_trace(
     push_early(out, heading)?;
     out.push_str("\n")?;
     let mut columns = Vec::new(alloc);
-    for column in &trace.columns {
+    for column in &trace.table.columns {
         columns.push(written_column(alloc, names, &trace.signals, column)?)?;
     }
-    push_bands(out, &trace.signals, &columns)?;
-    push_refused(out, lines, &trace.refusals)?;
+    push_bands(alloc, out, &trace.signals, &columns)?;
+    if !trace.table.refusals.is_empty() {
+        out.push_str("\n")?;
+    }
+    for refusal in &trace.table.refusals {
+        write!(out, "{}\n", text_at(lines, refusal.line))?;
+    }
     Ok(())
 }
 

@@ -4,7 +4,8 @@ use Rattle.std.specs.Arc.{arc_value}
 use Rattle.lus_cli.specs.CodeSpecs.Codes.{program_of}
 use Rattle.lus_cli.specs.MachineSpecs.Constructors.{names_of}
 use Rattle.lus_draw.specs.CommandLine.{drawing_seen}
-use Rattle.lus_draw.specs.Drawings.{AreTraces, IsShown, trace_of}
+use Rattle.lus_traces.specs.Traces.{trace_of}
+use Rattle.lus_draw.specs.Drawings.{AreTraces, IsShown}
 use Rattle.lus_draw.specs.Gatherings.{AreDrawn}
 use Rattle.lus_draw.proofs.Audited.{audited_as}
 use Rattle.lus_draw.proofs.Drawn.{traced}

@@ -5,16 +5,12 @@ use Rattle.lus_cli.specs.CodeSpecs.Codes.{program_of}
 use Rattle.lus_draw.proofs.Audited.{all_drawn, from_nothing, unsettled_is, when_ok}
 use Rattle.lus_draw.proofs.drawing.gathered.Goals as goal
 
-pub returns-in-Ok-clause-drawn : goal.returns-in-Ok-clause-drawn
-returns-in-Ok-clause-drawn g c =
+pub returns-in-Ok : goal.returns-in-Ok
+returns-in-Ok g c =
     let s = g.K.Selects.selection in
     let p = program_of (arc_value c.args.program.now) in
     let audited = from_nothing s p _ _ _ _ _ _ _ c.new-gathering.ensures.failure c.new-gathering.ensures.drawn (when_ok c.audit.result c.in-Ok.report _ c.in-Ok.is c.audit.ensures.sound) in
-    IfOk-weaker c.settled.result _ _ (λ v so. (_, all_drawn s p _ _ _ v.items _ _ so.0 so.1 so.2 audited)) c.settled.ensures.drawn
-
-pub returns-in-Ok-clause-fault : goal.returns-in-Ok-clause-fault
-returns-in-Ok-clause-fault g c =
-    let s = g.K.Selects.selection in
-    let p = program_of (arc_value c.args.program.now) in
-    let audited = from_nothing s p _ _ _ _ _ _ _ c.new-gathering.ensures.failure c.new-gathering.ensures.drawn (when_ok c.audit.result c.in-Ok.report _ c.in-Ok.is c.audit.ensures.sound) in
-    IfErr-weaker c.settled.result _ _ (λ f so. unsettled_is s p c.args.bytes.now _ _ _ _ f so audited) c.settled.ensures.fault
+    record {
+      drawn = IfOk-weaker c.settled.result _ _ (λ v so. (_, all_drawn s p _ _ _ v.items _ _ so.0 so.1 so.2 audited)) c.settled.ensures.drawn;
+      fault = IfErr-weaker c.settled.result _ _ (λ f so. unsettled_is s p c.args.bytes.now _ _ _ _ f so audited) c.settled.ensures.fault;
+    }

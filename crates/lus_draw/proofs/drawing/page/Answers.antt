@@ -6,5 +6,5 @@ use Rattle.lus_draw.proofs.drawing.page.Goals as goal
 
 pub returns : goal.returns
 returns c =
-    page_drawn c.args.journals.now (string_bytes c.in_ok-html.field-0) c.in_ok-lines.lines.items c.push_all.new.lines.items c.in_ok-lines.ensures c.push_all.ensures
+    page_drawn c.args.journals.now (string_bytes c.in_ok-html.field-0) c.in_ok-lines.lines.items c.loop-trace.lines.items c.in_ok-lines.ensures c.loop-trace.invariant
     (subst (λ ls. string_bytes c.in_ok-html.field-0 ≡ page_text (map line_seen ls)) c.deref.ensures.value c.in_ok-html.ensures)

@@ -1,6 +1,6 @@
--- Each band takes a column at least.
-use Rattle.std.proofs.Common.{length, ◌-◌}
+-- The columns of the next band begin at one that is there.
+use Rattle.std.proofs.Common.{◌≤◌}
 use Rattle.lus_traces.proofs.written.push_bands.Given as goal
 
-abbrev pub decreases-loop-from : goal.decreases-loop-from
-decreases-loop-from l = length l.columns - l.from
+abbrev pub invariant-loop-place : goal.invariant-loop-place
+invariant-loop-place l = l.from ≤ l.place

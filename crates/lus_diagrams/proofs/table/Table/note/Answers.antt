@@ -10,7 +10,7 @@ pub returns : goal.returns
 returns c es old =
     let e = noted c.args.request.now c.args.reply.now c.args.rows.items in
     let l : Lineage = record { count = c.in_ok-self.field-0; saved = c.args.self.now.lineage.saved } in
-    let so_many : c.len-2.result ≡ length c.args.rows.items = omega (arith, c.args.rows.ok.0, c.args.rows.ok.1, c.len-2.ensures) in
+    let so_many : c.len.result ≡ length c.args.rows.items = omega (arith, c.args.rows.ok.0, c.args.rows.ok.1, c.len.ensures) in
     let event : c.event_of-event.result ≡ event_of e =
     c.event_of-event.ensures ∙ ap (λ n. event_between n c.args.request.now c.args.reply.now) so_many in
     goes_on c.args.self.now _ es e c.push_event.new.columns.items c.in_ok-self.field-0

@@ -3,7 +3,6 @@ use Rattle.std.proofs.Common.{◌∙◌, ◌++◌, ◌∷◌, [], option_map, re
 use Rattle.lus_program.specs.View.{program_seen}
 use Rattle.lus_play.specs.Plays.{entry_of}
 use Rattle.lus_sketches.specs.Sketches.{GivesCells, IsFailure, IsSketch}
-use Rattle.lus_sketches.specs.declared.sketches.Sketch.{Sketch}
 use Rattle.lus_sketches.proofs.Sketched.{drawn_last, drawn_on, failed_on, failure_more, if_ok, lost_now, sketched}
 use Rattle.lus_sketches.proofs.sketches.Sketch.see.Goals as goal
 
@@ -32,5 +31,4 @@ returns-then-is_some c =
     let p = program_seen c.args.program.now in
     let e = entry_of c.args.request.now c.args.reply.now in
     let old = c.args.self.now in
-    let new : Sketch = record old { line = c.saturating_add-self.result } in
-    λ s f h. failed_on (IsSketch s p f h old) (IsSketch s p f (h ++ e ∷ []) new) (IsFailure s p f h) (IsFailure s p f (h ++ e ∷ [])) old.failure (sym c.is_some.ensures ∙ c.if-is_some.true) (failure_more s p f h e)
+    λ s f h. failed_on (IsSketch s p f h old) (IsSketch s p f (h ++ e ∷ []) old) (IsFailure s p f h) (IsFailure s p f (h ++ e ∷ [])) old.failure (sym c.is_some.ensures ∙ c.if-is_some.true) (failure_more s p f h e)

@@ -1,7 +1,7 @@
 -- The parts are those of the bytes.
 use Rattle.std.proofs.lemmas.Iterator.Consumers.{map_from_collect}
 use Rattle.std.proofs.lemmas.Iterator.Splits.{YieldsList-from_str_split}
-use Rattle.lus_traces.proofs.cutting.parts.Goals as goal
+use Rattle.lus_traces.proofs.cutting.parts_between.Goals as goal
 
 pub returns : goal.returns
 returns c =

@@ -1,7 +1,0 @@
--- The lines have their texts.
-use Rattle.std.proofs.Common.{◌≡◌, map}
-use Rattle.lus_traces.specs.Pages.{text_of}
-use Rattle.lus_draw.proofs.drawing.push_all.Given as goal
-
-abbrev pub invariant-loop-one : goal.invariant-loop-one
-invariant-loop-one l = map text_of l.lines.items ≡ map text_of l.initial.lines.items

@@ -1,8 +1,0 @@
--- The tables so far stand behind the old text.
-use Rattle.std.proofs.Common.{◌≡◌, ◌++◌, flat_map, map, string_bytes, take}
-use Rattle.lus_traces.specs.Tables.{next_table}
-use Rattle.lus_traces.specs.Traces.{trace_seen}
-use Rattle.lus_traces.proofs.tables.push_next_tables.Given as goal
-
-abbrev pub invariant-loop-trace : goal.invariant-loop-trace
-invariant-loop-trace l = string_bytes l.out ≡ string_bytes l.initial.out ++ flat_map (next_table l.names) (map trace_seen (take l.trace-index l.traces))
