@@ -22,13 +22,14 @@ use Rattle.lus_worlds.specs.declared.moment.Moment.{Moment}
 use Rattle.lus_worlds.specs.Moments.{instant_of, kept_of, Holds as HoldsBehind, KeepsBehind}
 use Rattle.lus_worlds.specs.declared.world.Stop.{Stop}
 use Rattle.lus_worlds.specs.declared.world.Stop.TheVariants as stops
+use Rattle.lus_worlds.specs.Finding.{IsReady}
 use Rattle.lus_worlds.specs.Worlds.{HasNoFurther, IsFurther}
 use Rattle.lus_windows.specs.declared.finding.Found.{Found}
 use Rattle.lus_windows.specs.declared.picks.Pick.{Pick}
 use Rattle.lus_windows.specs.declared.window.Reached.{Reached}
 use Rattle.lus_windows.specs.declared.window.Window.{Window}
-use Rattle.lus_windows.specs.Finding.{FaultsAt, HasFault}
-use Rattle.lus_windows.specs.Picks.{picked_at, accepted, ArePicked, IsReady, IsOver, GoesOn, AppendsPicked}
+use Rattle.lus_windows.specs.Finding.{FaultsAt, HasFault, HasNone, NoneRefused}
+use Rattle.lus_windows.specs.Picks.{picked_at, accepted, ArePicked, IsOver, GoesOn, AppendsPicked}
 use Rattle.lus_windows.specs.Windows.{IsKept, IsReached, KeepsPast, HasFollowed, entry_by, has_slot, have_slots, is_lost, HaveNoStreams, orders_in}
 use Rattle.lus_windows.proofs.Rows.{joined_append}
 
@@ -62,11 +63,15 @@ module _ (sure : Bool) (p : Program) (f : ℕ) where
   pub kept_copy : (old m : Moment) (l : Lineage) → kept_of m ≡ kept_of old → IsKept sure p f l (Some old) → IsKept sure p f l (Some m)
   kept_copy old m l same k = (k.0, k.1, subst (λ h. HoldsBehind p h f k.0) (sym same) k.2)
 
--- a fault that is found behind what is kept is one behind each lineage that this is kept of
-pub found_behind : (p : Program) (f : ℕ) (rows : List Row) (m : Moment) (r : Reached) → r.moment ≡ Some m → (o : Option Found) → MatchOption o (Unit {0}) (λ g. HasFault p f rows m g.fault g.row)
-    → MatchOption o (Unit {0}) (λ g. (sure : Bool) (l : Lineage) → IsReached sure p f l r → FaultsAt p f l rows g.fault g.row)
-found_behind p f rows m r e None h = tt
-found_behind p f rows m r e (Some g) h = λ sure l k. let own : IsKept sure p f l (Some m) = subst (IsKept sure p f l) e k in h l own.0 own.1 own.2
+-- what is found behind what is kept is found behind each lineage that this is kept of
+pub found_behind : (Ready : Type 0) (p : Program) (f : ℕ) (rows : List Row) (m : Moment) (r : Reached) → r.moment ≡ Some m → (o : Option Found) → MatchOption o (Ready → HasNone p f rows m) (λ g. Ready → HasFault p f rows m g.fault g.row)
+    → (sure : Bool) (l : Lineage) → Ready → IsReached sure p f l r → MatchOption o (NoneRefused sure p f l rows) (λ g. FaultsAt p f l rows g.fault g.row)
+found_behind Ready p f rows m r e None h = λ sure l ready k is w s. let own : IsKept sure p f l (Some m) = subst (IsKept sure p f l) e k in h ready l own.0 own.1 own.2
+found_behind Ready p f rows m r e (Some g) h = λ sure l ready k. let own : IsKept sure p f l (Some m) = subst (IsKept sure p f l) e k in h ready l own.0 own.1 own.2
+
+-- nor is there anything where nothing is kept
+pub none_behind_lost : (p : Program) (f : ℕ) (rows : List Row) (r : Reached) → r.moment ≡ None → (sure : Bool) (l : Lineage) → IsReached sure p f l r → NoneRefused sure p f l rows
+none_behind_lost p f rows r e sure l k is w s refused = let none : IsKept sure p f l None = subst (IsKept sure p f l) e k in none is w s
 
 module _ (p : Program) (f : ℕ) where
   -- where nothing goes on there are no streams
@@ -76,11 +81,11 @@ module _ (p : Program) (f : ℕ) where
         let none : IsKept sure p f l None = subst (IsKept sure p f l) is k in
         let before = streams_past p f x l w s in none here before.1 before.3
 
-    pub over_stopped : (m : Moment) (stop : Stop) → old.moment ≡ Some m → (stop ≡ stops.Memory → ⊥) → HasNoFurther p f x m orders stop → IsOver p f orders x old
-    over_stopped m (stops.AtFault t) is some none = λ sure l ready k here w s.
-        let own : IsKept sure p f l (Some m) = subst (IsKept sure p f l) is k in none l own.0 w own.1 own.2 s
-    over_stopped m stops.Unsettled is some none = λ sure l ready k here w s.
-        let own : IsKept sure p f l (Some m) = subst (IsKept sure p f l) is k in none ready.0 ready.1 l own.0 w own.1 own.2 s
+    pub over_stopped : (m : Moment) (stop : Stop) → old.moment ≡ Some m → (stop ≡ stops.Memory → ⊥) → (IsReady p orders f → HasNoFurther p f x m stop) → IsOver p f orders x old
+    over_stopped m (stops.Fault t) is some none = λ sure l ready k here w s.
+        let own : IsKept sure p f l (Some m) = subst (IsKept sure p f l) is k in none ready l own.0 w own.1 own.2 s
+    over_stopped m stops.Presence is some none = λ sure l ready k here w s.
+        let own : IsKept sure p f l (Some m) = subst (IsKept sure p f l) is k in none ready l own.0 w own.1 own.2 s
     over_stopped m stops.Memory is some none = absurd (some refl)
 
   picked_append : (l : Lineage) (xs ys : List Row) (picks : List Pick) (ps qs : List Row)
@@ -105,24 +110,24 @@ module _ (p : Program) (f : ℕ) where
     }
 
     module _ (x : Row) (old new : Reached) (before after : List Row) where
-      goes_on : (o m : Moment) (row : Row) → old.moment ≡ Some o → new.moment ≡ Some m → IsFurther p f x o m
+      goes_on : (o m : Moment) (row : Row) → old.moment ≡ Some o → new.moment ≡ Some m → (IsReady p orders f → IsFurther p f x o m)
           → row ≡ map (picked_at (instant_of m)) picks → after ≡ before ++ row ∷ [] → GoesOn p f orders (x ∷ []) picks old new before after
       goes_on o m row was is further rows pushed = record {
-        reached = λ sure l ready k. subst (IsKept sure p f (x ∷ l)) (sym is) (kept_next sure p f x o m l further (subst (IsKept sure p f l) was k));
+        reached = λ sure l ready k. subst (IsKept sure p f (x ∷ l)) (sym is) (kept_next sure p f x o m l (further ready) (subst (IsKept sure p f l) was k));
         still = λ s. subst IsSome (sym was) refl;
         picked = row ∷ [];
         appended = pushed;
         are = λ s sure l ready k.
             let own : IsKept sure p f l (Some o) = subst (IsKept sure p f l) was k in
-            ((instant_of m, own.0, (further l own.0 own.1 own.2).0, rows), tt);
+            ((instant_of m, own.0, (further ready l own.0 own.1 own.2).0, rows), tt);
       }
 
-      by_case : (o : Option Moment) (m : Moment) (row : Row) → old.moment ≡ o → new.moment ≡ Some m → MatchOption o ⊥ (λ k. IsFurther p f x k m)
+      by_case : (o : Option Moment) (m : Moment) (row : Row) → old.moment ≡ o → new.moment ≡ Some m → MatchOption o ⊥ (λ k. IsReady p orders f → IsFurther p f x k m)
           → row ≡ map (picked_at (instant_of m)) picks → after ≡ before ++ row ∷ [] → GoesOn p f orders (x ∷ []) picks old new before after
       by_case None m row was is further rows pushed = absurd further
       by_case (Some o) m row was is further rows pushed = goes_on o m row was is further rows pushed
 
-      pub goes_found : (m : Moment) (row : Row) → new.moment ≡ Some m → MatchOption old.moment ⊥ (λ k. IsFurther p f x k m)
+      pub goes_found : (m : Moment) (row : Row) → new.moment ≡ Some m → MatchOption old.moment ⊥ (λ k. IsReady p orders f → IsFurther p f x k m)
           → row ≡ map (picked_at (instant_of m)) picks → after ≡ before ++ row ∷ [] → GoesOn p f orders (x ∷ []) picks old new before after
       goes_found m row is further rows pushed = by_case old.moment m row refl is further rows pushed
 
@@ -139,12 +144,13 @@ pub is_there : (o : Option Moment) → IsFalse (is_none o) → IsSome o
 is_there None h = absurd (cc)
 is_there (Some m) h = refl
 
+-- a window of a program on clocks has what its instants are found with
+pub ready : (p : Program) → ProgramOnClocks p → (sure : Bool) (f : ℕ) (past : Past) (w : Window) → KeepsPast sure p f past w → IsReady p (orders_in w) w.node
+ready p clocks sure f past w k =
+    (record { resolved = k.resolved; clocks = clocks; ordered = λ g lt. (k.orders.each g lt).order }, subst (λ n. n < length p.nodes) (sym k.node) k.within)
+
 module _ (p : Program) (old new : Window) (r : Request) (a : Reply) (rows : List Row) (same : rows ≡ accepted r a) (picks : List Pick) (before later : List Row)
     (goes : GoesOn p old.node (orders_in old) rows picks old.reached new.reached before later) (clocks : ProgramOnClocks p) where
-  ready : (sure : Bool) (f : ℕ) (past : Past) → KeepsPast sure p f past old → IsReady p old.node (orders_in old)
-  ready sure f past k =
-      (record { resolved = k.resolved; clocks = clocks; ordered = λ g lt. (k.orders.each g lt).order }, subst (λ n. n < length p.nodes) (sym k.node) k.within)
-
   -- what isn't done leads behind the rows that it has lived through
   pub goes_forth : (sure : Bool) (f : ℕ) → new.node ≡ old.node → new.orders ≡ old.orders → new.saved ≡ old.saved → (a ≡ Done → ⊥) → (past : Past) → KeepsPast sure p f past old
       → KeepsPast sure p f (after past r a) new
@@ -152,7 +158,7 @@ module _ (p : Program) (old new : Window) (r : Request) (a : Reply) (rows : List
       let own : IsReached sure p old.node past.lineage old.reached = subst (λ n. IsReached sure p n past.lineage old.reached) (sym k.node) k.keeps.now in
       let there : IsReached sure p f (joined (accepted r a) past.lineage) new.reached =
       subst (λ n. IsReached sure p n (joined (accepted r a) past.lineage) new.reached) k.node
-      (subst (λ s. IsReached sure p old.node (joined s past.lineage) new.reached) same (goes.reached sure past.lineage (ready sure f past k) own))
+      (subst (λ s. IsReached sure p old.node (joined s past.lineage) new.reached) same (goes.reached sure past.lineage (ready p clocks sure f past old k) own))
       in
       let kept : KeepsPast sure p f (record past { lineage = joined (accepted r a) past.lineage }) new = record {
         resolved = k.resolved;
@@ -174,7 +180,7 @@ module _ (p : Program) (old new : Window) (r : Request) (a : Reply) (rows : List
     are = λ kept f h k.
         let sure = have_slots h in
         let own : IsReached sure p old.node (lineage h) old.reached = subst (λ n. IsReached sure p n (lineage h) old.reached) (sym k.node) k.keeps.now in
-        let are = goes.are (is_there new.reached.moment kept) sure (lineage h) (ready sure f (past_of h) k) own in
+        let are = goes.are (is_there new.reached.moment kept) sure (lineage h) (ready p clocks sure f (past_of h) old k) own in
         subst (λ n. ArePicked p n (lineage h) (accepted r a) picks goes.picked) k.node (subst (λ s. ArePicked p old.node (lineage h) s picks goes.picked) same are);
   }
 

@@ -9,7 +9,7 @@ use Rattle.lus_requests.specs.declared.request.Reply.TheVariants.{Outputs, Rows,
 use Rattle.lus_requests.specs.declared.request.Entry.{Entry}
 use Rattle.lus_streams.specs.Streams.{World, Streams}
 use Rattle.lus_simulation.specs.Lineages.{Lineage}
-use Rattle.lus_history.specs.Pasts.{Past, beginning, saved_or, joined, after, after_all}
+use Rattle.lus_history.specs.Pasts.{Past, lineage, beginning, saved_or, joined, after, after_all}
 use Rattle.lus_history.specs.Replies.{slots, most_rows, GiveOutputs, AnswersRows, AnswersStep, misshapen, misplaced, answered, faulted, restore_reply, IsRightAfter}
 use Rattle.lus_history.specs.Histories.{History, empty, more}
 use Rattle.lus_windows.specs.Windows.{HaveNoStreams, has_slot, have_slots}
@@ -111,8 +111,11 @@ module _ (p : Program) (f : ℕ) where
       let rest = front_has (after past e.request e.reply) front behind (after_has past e.request e.reply has all.0) all.1 in
       (rest.0, (λ j. slot j && rest.1 j))
 
-  pub history_has_streams : (h front behind : List Entry) → History p f h → h ≡ front ++ behind → HaveNoStreams p f front → ⊥
-  history_has_streams h front behind is same none =
+  pub history_has : (h front behind : List Entry) → History p f h → h ≡ front ++ behind → Has (lineage front) × IsTrue (have_slots front)
+  history_has h front behind is same =
       let first : HasPast beginning = (([], record { satisfied = tt; always = tt; rows = refl }), λ n. tt) in
       let has = front_has beginning front behind first (subst (AllRight beginning) same (all_right h is)) in
-      none has.1 has.0.0.0 has.0.0.1
+      (has.0.0, has.1)
+
+  pub history_has_streams : (h front behind : List Entry) → History p f h → h ≡ front ++ behind → HaveNoStreams p f front → ⊥
+  history_has_streams h front behind is same none = let has = history_has h front behind is same in none has.1 has.0.0 has.0.1

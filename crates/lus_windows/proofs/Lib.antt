@@ -1,3 +1,4 @@
+pub mod Told
 pub mod Rows
 pub mod Walks
 pub mod Following

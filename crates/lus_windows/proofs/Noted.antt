@@ -2,14 +2,17 @@
 use Rattle.std.proofs.Common.{◌≡◌, ◌∙◌, ◌++◌, ℕ, Bool, List, [], ◌∷◌, string_bytes, sym, ap, subst}
 use Rattle.lus_values.specs.Names.{Names, Text}
 use Rattle.lus_program.specs.Programs.{Program}
+use Rattle.lus_streams.specs.OnClock.{ProgramOnClocks}
 use Rattle.lus_requests.specs.declared.request.Request.{Request}
 use Rattle.lus_requests.specs.declared.request.Reply.{Reply}
 use Rattle.lus_requests.specs.declared.request.Entry.{Entry}
 use Rattle.lus_simulation.specs.Lineages.{Lineage}
-use Rattle.lus_history.specs.Pasts.{lineage}
+use Rattle.lus_history.specs.Pasts.{lineage, past_of}
+use Rattle.lus_worlds.specs.Finding.{IsReady}
 use Rattle.lus_windows.specs.declared.reasons.Reasons.{Reasons}
 use Rattle.lus_windows.specs.Reasons.{TellsEntry, Tells, passes, notes, HasNoted, next_line}
-use Rattle.lus_windows.specs.Windows.{IsReached, HasFollowed, entry_by, have_slots}
+use Rattle.lus_windows.specs.Windows.{IsReached, HasFollowed, entry_by, have_slots, orders_in}
+use Rattle.lus_windows.proofs.Following.{ready}
 
 module _ (p : Program) (f : ℕ) (names : Names) (instance : Text) (first : ℕ) (h : List Entry) (old new : Reasons) (named : new.instance ≡ old.instance) where
   -- a line that is no entry
@@ -22,19 +25,19 @@ module _ (p : Program) (f : ℕ) (names : Names) (instance : Text) (first : ℕ)
   }
 
   -- an entry
-  pub noted : (c : ℕ) (r : Request) (a : Reply)
-      → ((sure : Bool) (l : Lineage) → IsReached sure p old.window.node l old.window.reached
-      → TellsEntry p old.window.node names (string_bytes old.instance) (next_line old.line) l r a (string_bytes old.text) (string_bytes new.text))
+  pub noted : (c : ℕ) (r : Request) (a : Reply) → ProgramOnClocks p
+      → ((sure : Bool) (l : Lineage) → IsReady p (orders_in old.window) old.window.node → IsReached sure p old.window.node l old.window.reached
+      → TellsEntry p old.window.node names (string_bytes old.instance) (next_line old.line) sure l r a (string_bytes old.text) (string_bytes new.text))
       → new.line ≡ next_line old.line → (HasFollowed p f h old.window → HasFollowed p f (h ++ entry_by c r a ∷ []) new.window)
       → HasNoted p f names instance first h old → HasNoted p f names instance first (h ++ entry_by c r a ∷ []) new
-  noted c r a tells line follows k =
+  noted c r a clocks tells line follows k =
       let node = k.followed.node in
-      let here = tells (have_slots h) (lineage h) (subst (λ g. IsReached (have_slots h) p g (lineage h) old.window.reached) (sym node) k.followed.keeps.now) in
-      let own : TellsEntry p f names (string_bytes old.instance) (next_line old.line) (lineage h) r a (string_bytes old.text) (string_bytes new.text) =
-      subst (λ g. TellsEntry p g names (string_bytes old.instance) (next_line old.line) (lineage h) r a (string_bytes old.text) (string_bytes new.text)) node here
+      let here = tells (have_slots h) (lineage h) (ready p clocks (have_slots h) f (past_of h) old.window k.followed) (subst (λ g. IsReached (have_slots h) p g (lineage h) old.window.reached) (sym node) k.followed.keeps.now) in
+      let own : TellsEntry p f names (string_bytes old.instance) (next_line old.line) (have_slots h) (lineage h) r a (string_bytes old.text) (string_bytes new.text) =
+      subst (λ g. TellsEntry p g names (string_bytes old.instance) (next_line old.line) (have_slots h) (lineage h) r a (string_bytes old.text) (string_bytes new.text)) node here
       in
-      let told : TellsEntry p f names instance (next_line old.line) (lineage h) r a (string_bytes old.text) (string_bytes new.text) =
-      subst (λ i. TellsEntry p f names i (next_line old.line) (lineage h) r a (string_bytes old.text) (string_bytes new.text)) k.named own
+      let told : TellsEntry p f names instance (next_line old.line) (have_slots h) (lineage h) r a (string_bytes old.text) (string_bytes new.text) =
+      subst (λ i. TellsEntry p f names i (next_line old.line) (have_slots h) (lineage h) r a (string_bytes old.text) (string_bytes new.text)) k.named own
       in record {
         followed = follows k.followed;
         named = ap string_bytes named ∙ k.named;

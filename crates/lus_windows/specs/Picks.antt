@@ -1,5 +1,5 @@
 -- Entries that are picked of the instants of a node and of those that it calls.
-use Rattle.std.specs.Prelude.{◌≡◌, ◌<◌, ◌++◌, ℕ, Bool, List, [], ◌∷◌, length, map, Option, IsSome, IsTrue, IsFalse}
+use Rattle.std.specs.Prelude.{◌≡◌, ◌++◌, ℕ, Bool, List, [], ◌∷◌, map, Option, IsSome, IsTrue, IsFalse}
 use Rattle.lus_values.specs.Values.{Value, Row}
 use Rattle.lus_program.specs.Programs.{Program}
 use Rattle.lus_requests.specs.declared.request.Request.{Request}
@@ -10,7 +10,7 @@ use Rattle.lus_requests.specs.declared.request.Entry.{Entry}
 use Rattle.lus_streams.specs.Streams.{Instant, World, Streams, entry, called_instant}
 use Rattle.lus_simulation.specs.Lineages.{Lineage, HasNoStreams}
 use Rattle.lus_history.specs.Pasts.{joined, lineage}
-use Rattle.lus_worlds.specs.Finding.{IsPrepared}
+use Rattle.lus_worlds.specs.Finding.{IsReady}
 use Rattle.lus_windows.specs.declared.picks.Pick.{Pick}
 use Rattle.lus_windows.specs.declared.window.Reached.{Reached}
 use Rattle.lus_windows.specs.declared.window.Window.{Window}
@@ -42,21 +42,17 @@ module _ (p : Program) (f : ℕ) where
   ArePicked l (i ∷ rows) picks (row ∷ picked) = IsPicked (i ∷ l) picks row × ArePicked (i ∷ l) rows picks picked
   ArePicked l _ picks _ = ⊥
 
-  -- node f of a resolved program on clocks, with an order of the variables of each node
-  abbrev pub IsReady : List (List ℕ) → Type 0
-  IsReady orders = IsPrepared p orders × (f < length p.nodes)
-
   -- there are no streams for these inputs behind what was reached
   abbrev pub IsOver : List (List ℕ) → Row → Reached → Type 0
-  IsOver orders x old = (sure : Bool) (l : Lineage) → IsReady orders → IsReached sure p f l old → IsTrue sure → HasNoStreams p f (x ∷ l)
+  IsOver orders x old = (sure : Bool) (l : Lineage) → IsReady p orders f → IsReached sure p f l old → IsTrue sure → HasNoStreams p f (x ∷ l)
 
   -- what was reached goes on behind these rows, and unless it is lost the picked entries of their instants were appended
   pub record GoesOn (orders : List (List ℕ)) (rows : List Row) (picks : List Pick) (old new : Reached) (before after : List Row) : Type 0 where
-    pub reached : (sure : Bool) (l : Lineage) → IsReady orders → IsReached sure p f l old → IsReached sure p f (joined rows l) new
+    pub reached : (sure : Bool) (l : Lineage) → IsReady p orders f → IsReached sure p f l old → IsReached sure p f (joined rows l) new
     pub still : IsSome new.moment → IsSome old.moment
     pub picked : List Row
     pub appended : after ≡ before ++ picked
-    pub are : IsSome new.moment → (sure : Bool) (l : Lineage) → IsReady orders → IsReached sure p f l old → ArePicked l rows picks picked
+    pub are : IsSome new.moment → (sure : Bool) (l : Lineage) → IsReady p orders f → IsReached sure p f l old → ArePicked l rows picks picked
 
 -- unless nothing is kept any more, the picked entries of each instant that an entry has were appended, whatever was followed before it
 pub record AppendsPicked (p : Program) (old new : Window) (request : Request) (reply : Reply) (picks : List Pick) (before after : List Row) : Type 0 where

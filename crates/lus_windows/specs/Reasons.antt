@@ -1,5 +1,5 @@
 -- Why the requests of an instance were refused.
-use Rattle.std.specs.Prelude.{◌≡◌, ◌⊎◌, ◌++◌, ◌+◌, ◌-◌, ◌^◌, ℕ, min, List, [], ◌∷◌, codes, string_bytes}
+use Rattle.std.specs.Prelude.{◌≡◌, ◌⊎◌, ◌++◌, ◌+◌, ◌-◌, ◌^◌, ℕ, Bool, min, List, [], ◌∷◌, codes, string_bytes}
 use Rattle.std.specs.Fmt.{decimal}
 use Rattle.lus_values.specs.Names.{Names, Text}
 use Rattle.lus_values.specs.Text.{Begins}
@@ -13,11 +13,12 @@ use Rattle.lus_requests.specs.declared.request.Entry.{Entry}
 use Rattle.lus_requests.specs.declared.request.Why.{Why}
 use Rattle.lus_requests.specs.declared.request.Why.TheVariants.{Shape, Presence, Fault, NoSave}
 use Rattle.lus_simulation.specs.Lineages.{Lineage}
+use Rattle.lus_history.specs.Histories.{History, Right}
 use Rattle.lus_history.specs.Pasts.{lineage}
 use Rattle.lus_worlds.specs.declared.moment.Fault.{Fault as NamedFault}
 use Rattle.lus_windows.specs.declared.reasons.Reasons.{Reasons}
-use Rattle.lus_windows.specs.Finding.{FaultsAt}
-use Rattle.lus_windows.specs.Windows.{HasFollowed}
+use Rattle.lus_windows.specs.Finding.{FaultsAt, NoneRefused}
+use Rattle.lus_windows.specs.Windows.{HasFollowed, have_slots}
 use Rattle.lus_windows.specs.Words.{SaysFault}
 
 -- the rows of a request for instants
@@ -42,30 +43,31 @@ module _ (p : Program) (f : ℕ) (names : Names) where
     pub faults : FaultsAt p f l rows fault row
     pub says : SaysBehind names fault old new
 
-  abbrev pub SaysRows : Lineage → List Row → (old new : Text) → Type 0
-  SaysRows l rows old new = TellsFault l rows old new ⊎ (new ≡ old ++ codes "which operation has no value can't be told")
+  -- or that it can't be told, which is so only where none is refused for a fault
+  abbrev pub SaysRows : Bool → Lineage → List Row → (old new : Text) → Type 0
+  SaysRows sure l rows old new = TellsFault l rows old new ⊎ ((new ≡ old ++ codes "which operation has no value can't be told") × NoneRefused sure p f l rows)
 
   -- why a request was refused behind a lineage: where it was for a fault, that fault
-  abbrev pub SaysRefused : Lineage → Request → Why → (old new : Text) → Type 0
-  SaysRefused l request Fault old new = SaysRows l (rows_in request) old new
-  SaysRefused l request Shape old new = Begins old new
-  SaysRefused l request Presence old new = Begins old new
-  SaysRefused l request NoSave old new = Begins old new
+  abbrev pub SaysRefused : Bool → Lineage → Request → Why → (old new : Text) → Type 0
+  SaysRefused sure l request Fault old new = SaysRows sure l (rows_in request) old new
+  SaysRefused sure l request Shape old new = Begins old new
+  SaysRefused sure l request Presence old new = Begins old new
+  SaysRefused sure l request NoSave old new = Begins old new
 
   -- a line was appended: which instance's request was refused on which line of the file, and why
-  pub record SaysLine (instance : Text) (number : ℕ) (l : Lineage) (request : Request) (why : Why) (old new : Text) : Type 0 where
+  pub record SaysLine (instance : Text) (number : ℕ) (sure : Bool) (l : Lineage) (request : Request) (why : Why) (old new : Text) : Type 0 where
     pub head : Text
     pub reason : Text
     pub headed : HasHead instance number old head
-    pub says : SaysRefused l request why head reason
+    pub says : SaysRefused sure l request why head reason
     pub ended : new ≡ reason ++ codes "\n"
 
   -- and nothing where it wasn't refused
-  abbrev pub TellsEntry : (instance : Text) (number : ℕ) → Lineage → Request → Reply → (old new : Text) → Type 0
-  TellsEntry instance number l request (Refused why) old new = SaysLine instance number l request why old new
-  TellsEntry instance number l request (Outputs o) old new = new ≡ old
-  TellsEntry instance number l request (Rows os) old new = new ≡ old
-  TellsEntry instance number l request Done old new = new ≡ old
+  abbrev pub TellsEntry : (instance : Text) (number : ℕ) → Bool → Lineage → Request → Reply → (old new : Text) → Type 0
+  TellsEntry instance number sure l request (Refused why) old new = SaysLine instance number sure l request why old new
+  TellsEntry instance number sure l request (Outputs o) old new = new ≡ old
+  TellsEntry instance number sure l request (Rows os) old new = new ≡ old
+  TellsEntry instance number sure l request Done old new = new ≡ old
 
 -- the number of the next line, as far as such numbers go
 abbrev pub next_line : ℕ → ℕ
@@ -77,7 +79,7 @@ pub data Tells (p : Program) (f : ℕ) (names : Names) (instance : Text) (first 
   begins : Tells p f names instance first [] first []
   passes : (h : List Entry) (number : ℕ) (text : Text) → Tells p f names instance first h number text → Tells p f names instance first h (next_line number) text
   notes : (h : List Entry) (e : Entry) (number : ℕ) (text new : Text) → Tells p f names instance first h number text
-      → TellsEntry p f names instance (next_line number) (lineage h) e.request e.reply text new
+      → TellsEntry p f names instance (next_line number) (have_slots h) (lineage h) e.request e.reply text new
       → Tells p f names instance first (h ++ e ∷ []) (next_line number) new
 
 -- what these entries leave was followed, and their reasons were told
@@ -85,3 +87,9 @@ pub record HasNoted (p : Program) (f : ℕ) (names : Names) (instance : Text) (f
   pub followed : HasFollowed p f h r.window
   pub named : string_bytes r.instance ≡ instance
   pub tells : Tells p f names instance first h r.line (string_bytes r.text)
+
+-- where a request is rightly refused for a fault behind a history, the fault is told
+abbrev pub FaultsAreTold : Type 0
+FaultsAreTold =
+    (p : Program) (f : ℕ) (names : Names) (h : List Entry) (request : Request) (old new : Text) → History p f h → Right p f h request (Refused Fault)
+    → SaysRows p f names (have_slots h) (lineage h) (rows_in request) old new → TellsFault p f names (lineage h) (rows_in request) old new

@@ -1,10 +1,9 @@
 //! Rows at which something is at fault.
 
-ghost use Rattle.std.specs.Prelude.{IfOk, MatchOption};
+ghost use Rattle.std.specs.Prelude.{IfOk, MatchOption, map};
 ghost use Rattle.lus_program.specs.View.{program_seen};
-ghost use Rattle.lus_streams.specs.OnClock.{ProgramOnClocks};
-ghost use Rattle.lus_streams.specs.Order.{IsCausal};
-ghost use Rattle.lus_windows.specs.Finding.{HasFault};
+ghost use Rattle.lus_worlds.specs.Finding.{IsReady};
+ghost use Rattle.lus_windows.specs.Finding.{HasFault, HasNone};
 
 use lus_program::Program;
 use lus_values::{Memory, Row};
@@ -27,16 +26,16 @@ pub(crate) fn find(
     rows: &[Row],
     old: &Moment,
 ) -> Result<Option<Found>, Memory>
-    requires causal { IsCausal (program_seen program.now) }
-    requires clocks { ProgramOnClocks (program_seen program.now) }
-    ensures { IfOk result (λ o. MatchOption o (Unit {0}) (λ f. HasFault (program_seen program.now) node rows.now old.now f.fault f.row)) }
+    ensures { let p = program_seen program.now in
+        let ready = IsReady p (map (λ order. order.items) orders.now) node in
+        IfOk result (λ o. MatchOption o (ready → HasNone p node rows.now old.now) (λ f. ready → HasFault p node rows.now old.now f.fault f.row)) }
 {
     let mut reached = keep(alloc, old)?;
     for (place, row) in rows.iter().enumerate() {
         match extend(alloc, program, orders, node, row.items(), &reached) {
             Ok(next) => reached = next,
-            Err(Stop::AtFault(fault)) => return Ok(Some(Found { fault, row: place })),
-            Err(Stop::Unsettled) => return Ok(None),
+            Err(Stop::Fault(fault)) => return Ok(Some(Found { fault, row: place })),
+            Err(Stop::Presence) => return Ok(None),
             Err(Stop::Memory) => return Err(Memory),
         }
     }

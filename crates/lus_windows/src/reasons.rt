@@ -9,12 +9,12 @@ ghost use Rattle.lus_program.specs.Resolved.{Resolved};
 ghost use Rattle.lus_program.specs.View.{program_seen};
 ghost use Rattle.lus_requests.specs.declared.request.Entry.{Entry};
 ghost use Rattle.lus_streams.specs.OnClock.{ProgramOnClocks};
-ghost use Rattle.lus_streams.specs.Order.{IsCausal};
 ghost use Rattle.lus_simulation.specs.Lineages.{Lineage};
 ghost use Rattle.lus_order.specs.Orders.{IsNarrow, NeedsVariables};
-ghost use Rattle.lus_windows.specs.Finding.{FaultsAt};
+ghost use Rattle.lus_worlds.specs.Finding.{IsReady};
+ghost use Rattle.lus_windows.specs.Finding.{FaultsAt, NoneRefused};
 ghost use Rattle.lus_windows.specs.Reasons.{HasHead, HasNoted, SaysBehind, SaysRefused, SaysRows, TellsEntry, rows_in};
-ghost use Rattle.lus_windows.specs.Windows.{IsReached, entry_by};
+ghost use Rattle.lus_windows.specs.Windows.{IsReached, entry_by, orders_in};
 
 use crate::faults::push_fault;
 use crate::finding::{Found, find};
@@ -56,11 +56,10 @@ fn find_behind(
     window: &Window,
     rows: &[Row],
 ) -> Result<Option<Found>, Memory>
-    requires causal { IsCausal (program_seen program.now) }
-    requires clocks { ProgramOnClocks (program_seen program.now) }
     ensures { let p = program_seen program.now in
         let f = window.now.node in
-        IfOk result (λ o. MatchOption o (Unit {0}) (λ g. (sure : Bool) (l : Lineage) → IsReached sure p f l window.now.reached → FaultsAt p f l rows.now g.fault g.row)) }
+        IfOk result (λ o. (sure : Bool) (l : Lineage) → IsReady p (orders_in window.now) f → IsReached sure p f l window.now.reached
+        → MatchOption o (NoneRefused sure p f l rows.now) (λ g. FaultsAt p f l rows.now g.fault g.row)) }
 {
     match &window.reached.moment {
         Some(moment) => find(alloc, program, &window.orders, window.node, rows, moment),
@@ -95,11 +94,9 @@ fn push_rows(
     window: &Window,
     rows: &[Row],
 ) -> Result<(), Memory>
-    requires causal { IsCausal (program_seen program.now) }
-    requires clocks { ProgramOnClocks (program_seen program.now) }
     ensures { let p = program_seen program.now in
         let f = window.now.node in
-        OnOk result ((sure : Bool) (l : Lineage) → IsReached sure p f l window.now.reached → SaysRows p f names.now l rows.now (string_bytes text.old) (string_bytes text.new)) }
+        OnOk result ((sure : Bool) (l : Lineage) → IsReady p (orders_in window.now) f → IsReached sure p f l window.now.reached → SaysRows p f names.now sure l rows.now (string_bytes text.old) (string_bytes text.new)) }
 {
     match find_behind(alloc, program, window, rows)? {
         Some(found) => {
@@ -173,11 +170,9 @@ fn push_refused(
     request: &Request,
     why: Why,
 ) -> Result<(), Memory>
-    requires causal { IsCausal (program_seen program.now) }
-    requires clocks { ProgramOnClocks (program_seen program.now) }
     ensures { let p = program_seen program.now in
         let f = window.now.node in
-        OnOk result ((sure : Bool) (l : Lineage) → IsReached sure p f l window.now.reached → SaysRefused p f names.now l request.now why (string_bytes text.old) (string_bytes text.new)) }
+        OnOk result ((sure : Bool) (l : Lineage) → IsReady p (orders_in window.now) f → IsReached sure p f l window.now.reached → SaysRefused p f names.now sure l request.now why (string_bytes text.old) (string_bytes text.new)) }
 {
     if let Why::Fault = why {
         push_rows(text, alloc, program, names, window, rows_of(request))
@@ -234,12 +229,10 @@ impl Reasons {
         request: &Request,
         reply: &Reply,
     ) -> Result<(), Memory>
-        requires causal { IsCausal (program_seen program.now) }
-        requires clocks { ProgramOnClocks (program_seen program.now) }
         ensures tells { let p = program_seen program.now in
             let f = self.old.window.node in
-            OnOk result ((sure : Bool) (l : Lineage) → IsReached sure p f l self.old.window.reached
-            → TellsEntry p f names.now (string_bytes self.old.instance) self.old.line l request.now reply.now (string_bytes self.old.text) (string_bytes self.new.text)) }
+            OnOk result ((sure : Bool) (l : Lineage) → IsReady p (orders_in self.old.window) f → IsReached sure p f l self.old.window.reached
+            → TellsEntry p f names.now (string_bytes self.old.instance) self.old.line sure l request.now reply.now (string_bytes self.old.text) (string_bytes self.new.text)) }
         ensures same { OnOk result (self.new ≡ record self.old { text = self.new.text }) }
     {
         let Reply::Refused(why) = reply else {
@@ -261,7 +254,6 @@ impl Reasons {
         request: &Request,
         reply: &Reply,
     ) -> Result<(), Memory>
-        requires causal { IsCausal (program_seen program.now) }
         requires clocks { ProgramOnClocks (program_seen program.now) }
         ensures { let p = program_seen program.now in
             OnOk result ((f : ℕ) (instance : Text) (first : ℕ) (h : List Entry) (c : ℕ) → HasNoted p f names.now instance first h self.old

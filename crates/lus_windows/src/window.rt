@@ -11,7 +11,7 @@ ghost use Rattle.lus_simulation.specs.Lineages.{Lineage};
 ghost use Rattle.lus_history.specs.Pasts.{Past, after};
 ghost use Rattle.lus_history.specs.Replies.{slots as slot_count};
 ghost use Rattle.lus_streams.specs.OnClock.{ProgramOnClocks};
-ghost use Rattle.lus_streams.specs.Order.{IsCausal};
+ghost use Rattle.lus_worlds.specs.Finding.{IsReady};
 ghost use Rattle.lus_worlds.specs.Worlds.{IsFurther};
 ghost use Rattle.lus_windows.specs.Picks.{AppendsPicked, GoesOn, IsOver, accepted};
 ghost use Rattle.lus_windows.specs.Windows.{HasFollowed, IsReached, KeepsPast, entry_by, has_slot, is_lost};
@@ -85,11 +85,9 @@ fn next(
     inputs: &Row,
     reached: &Reached,
 ) -> Result<Option<Moment>, Memory>
-    requires causal { IsCausal (program_seen program.now) }
-    requires clocks { ProgramOnClocks (program_seen program.now) }
     ensures { let p = program_seen program.now in
         IfOk result (λ o. MatchOption o (IsOver p node (map (λ order. order.items) orders.now) inputs.now reached.now)
-        (λ m. MatchOption reached.now.moment ⊥ (λ old. IsFurther p node inputs.now old m))) }
+        (λ m. MatchOption reached.now.moment ⊥ (λ old. IsReady p (map (λ order. order.items) orders.now) node → IsFurther p node inputs.now old m))) }
 {
     let Some(old) = &reached.moment else {
         return Ok(None);
@@ -97,8 +95,8 @@ fn next(
     match extend(alloc, program, orders, node, inputs.items(), old) {
         Ok(next) => Ok(Some(next)),
         Err(Stop::Memory) => Err(Memory),
-        Err(Stop::AtFault(_)) => Ok(None),
-        Err(Stop::Unsettled) => Ok(None),
+        Err(Stop::Fault(_)) => Ok(None),
+        Err(Stop::Presence) => Ok(None),
     }
 }
 
@@ -113,8 +111,6 @@ fn go_on(
     reached: &mut Reached,
     picked: &mut Vec<Row>,
 ) -> Result<(), Memory>
-    requires causal { IsCausal (program_seen program.now) }
-    requires clocks { ProgramOnClocks (program_seen program.now) }
     ensures { OnOk result (GoesOn (program_seen program.now) node (map (λ order. order.items) orders.now) (inputs.now ∷ []) picks.now reached.old reached.new picked.old.items picked.new.items) }
 {
     let instants = reached.instants.saturating_add(1);
@@ -149,8 +145,6 @@ fn go_through(
     reached: &mut Reached,
     picked: &mut Vec<Row>,
 ) -> Result<(), Memory>
-    requires causal { IsCausal (program_seen program.now) }
-    requires clocks { ProgramOnClocks (program_seen program.now) }
     ensures { OnOk result (GoesOn (program_seen program.now) node (map (λ order. order.items) orders.now) rows.now picks.now reached.old reached.new picked.old.items picked.new.items) }
 {
     for inputs in rows {
@@ -275,7 +269,6 @@ impl Window {
         picks: &[Pick],
         picked: &mut Vec<Row>,
     ) -> Result<(), Memory>
-        requires causal { IsCausal (program_seen program.now) }
         requires clocks { ProgramOnClocks (program_seen program.now) }
         ensures followed { let p = program_seen program.now in
             OnOk result ((f : ℕ) (h : List Entry) (c : ℕ) → HasFollowed p f h self.old → HasFollowed p f (h ++ entry_by c request.now reply.now ∷ []) self.new) }

@@ -8,14 +8,14 @@ use Rattle.lus_values.specs.Values.{Row, Value}
 use Rattle.lus_values.specs.View.{entry_of}
 use Rattle.lus_values.proofs.Lists.{below_at}
 use Rattle.lus_program.specs.Programs.{Expression, literal, variable, operate, pre, arrow, when, merge, call, Operands, numbered, all_numbered, Node, Program, node_at, empty_node}
-use Rattle.lus_streams.specs.Clocks.{Clock, at, base_of, clock_of}
+use Rattle.lus_streams.specs.Clocks.{Clock, Part, at, base_of, clock_of, parts}
 use Rattle.lus_streams.specs.Equations.{node_parts, Site, sites, sites_in}
 use Rattle.lus_streams.specs.OnClock.{IsOnClocks}
 use Rattle.lus_streams.specs.Order.{is_in, IsOrder, needed, HasNeedsFirst}
 use Rattle.lus_streams.specs.Streams.{Instant, Called, nobody, also, World, entry, row_of, instant, is_present, is_on}
 use Rattle.lus_streams.proofs.Calls.{OfCall, OfSite, AtBase, parts_of_sites}
 use Rattle.lus_streams.proofs.Lists.{each_in, each_implies, each_item, item_past, item_take, ext_item}
-use Rattle.lus_attempts.specs.Attempts.{EquationsFollow}
+use Rattle.lus_attempts.specs.Attempts.{IsAttempt}
 use Rattle.lus_normal_form.specs.Named.{Numbered}
 use Rattle.lus_parts.specs.declared.part.Part.{Part as StoredPart}
 use Rattle.lus_parts.specs.Nested.{AreNested, IsFollowed}
@@ -25,29 +25,29 @@ use Rattle.lus_reference.specs.Kept.{AreRowsFrom, Keeps}
 use Rattle.lus_reference.specs.Given.{callee}
 use Rattle.lus_reference.proofs.Drops.{dropped_map}
 use Rattle.lus_reference.proofs.Parts.{behind_nested, behind_stands}
+use Rattle.lus_reference.proofs.Recalled.{keeps_left}
 use Rattle.lus_worlds.specs.declared.finding.Found.{Found}
 use Rattle.lus_worlds.specs.declared.moment.Moment.{Moment}
 use Rattle.lus_worlds.specs.Finding.{call_places, has_run, called_by, HaveRun, IsFound, IsPrepared, IsSought, IsOf, RunsNode, RunsInTurn, FindsAll, IsFoundBy, IsOther, CallsHere, row_so_far, Finds}
-use Rattle.lus_worlds.specs.Fitting.{KeepsArguments, PassesAt}
+use Rattle.lus_worlds.specs.Passing.{KeepsArguments, PassesAt}
 use Rattle.lus_worlds.specs.Following.{IsMeant}
 use Rattle.lus_worlds.specs.Turns.{CanRunInTurn, below, turns_of}
-use Rattle.lus_worlds.specs.Moments.{kept_in, moments_in, kept_by, AllHold, instant_of, called_of, IsRefused, EachFits}
+use Rattle.lus_worlds.specs.Moments.{kept_in, moments_in, kept_by, AllHold, instant_of, called_of, IsNextAmong}
 use Rattle.lus_worlds.proofs.Among.{each_left_at, each_from}
-use Rattle.lus_worlds.proofs.Fits.{arguments_kept}
 use Rattle.lus_worlds.proofs.CallPlaces.{places_length, site_own}
 use Rattle.lus_worlds.proofs.Sites.{site_at, sites_numbered, each_before, each_only}
 use Rattle.lus_worlds.proofs.Turns.{turns_run, below_run, needs_before}
-use Rattle.lus_worlds.proofs.Sought.{run_past, so_far, found_rows, clock_same, given_same, none_ran, all_ran, all_fit}
+use Rattle.lus_worlds.proofs.Sought.{run_past, so_far, found_rows, clock_same, given_same, none_ran, all_ran}
 use Rattle.lus_worlds.proofs.Runs.{own_kept, calls_kept, own_follow, ran_none, ran_both, set_stays, set_found, meant_is, calls_attempt}
 
 -- there is a place for each call
-ran_length : (os : List (Option Moment)) (js : Called) (ss : List Site) → HaveRun os js ss → length os ≡ length ss
-ran_length [] nobody [] h = refl
-ran_length (o ∷ os) (also j js) (s ∷ ss) h = ap suc (ran_length os js ss h.1)
-ran_length [] nobody (s ∷ ss) h = absurd h
-ran_length [] (also j js) ss h = absurd h
-ran_length (o ∷ os) nobody ss h = absurd h
-ran_length (o ∷ os) (also j js) [] h = absurd h
+ran_length : (p : Program) (past : World) (os : List (Option Moment)) (js : Called) (ss : List Site) → HaveRun p past os js ss → length os ≡ length ss
+ran_length p past [] nobody [] h = refl
+ran_length p past (o ∷ os) (also j js) (s ∷ ss) h = ap suc (ran_length p past os js ss h.1)
+ran_length p past [] nobody (s ∷ ss) h = absurd h
+ran_length p past [] (also j js) ss h = absurd h
+ran_length p past (o ∷ os) nobody ss h = absurd h
+ran_length p past (o ∷ os) (also j js) [] h = absurd h
 
 -- what isn't this call
 pub other_number : (c : ℕ) (k : Clock) (n : ℕ) (e : Expression) → (n ≡ c → ⊥) → IsOther c (at k (numbered n e))
@@ -70,6 +70,13 @@ no_call c k n (when t a) h = tt
 no_call c k n (merge x bs) h = tt
 no_call c k n (call g d es) h = absurd (cc)
 
+-- what is kept of the arguments of the call at a part
+arguments_kept : (p : Program) (q : StoredPart) (g : ℕ) (es : Operands) (kept : Row) (past : World) (rest : List Part) → (let e = at q.clock.items (numbered q.number (call g 0 es)) in
+    IsFollowed p e (e ∷ rest) → Keeps p past (e ∷ rest) kept → KeepsArguments p q g es kept past)
+arguments_kept p q g es kept past rest followed keeps =
+    let e = at q.clock.items (numbered q.number (call g 0 es)) in
+    (keeps_left p past (parts p (call g q.number (all_numbered (suc q.number) es)) q.clock.items) followed.0 kept (subst (λ l. Keeps p past l kept) followed.1 keeps)).2
+
 -- what ran before stays, and each call whose number is past the last ran
 ran_now : (os : List (Option Moment)) (count : ℕ) → length os ≡ count → (before cs : List ℕ) → Each (λ d. has_run os d ≡ true) before → Each (λ d. d < count → IsTrue (is_in before d)) cs → Each (λ d. has_run os d ≡ true) cs
 ran_now os count e before cs ran h =
@@ -82,7 +89,7 @@ module _ (p : Program) (orders : List (List ℕ)) (present : Bool) (old : Moment
   Runs = RunsInTurn p orders present old parts
 
   pub run_none : (a : Found) → Runs [] a a
-  run_none a f now past before prepared are sought of can ran = (ran_none p f now a of, tt)
+  run_none a f now past before prepared are sought of can ran = (ran_none p f now past a of, tt)
 
   pub run_then : (c : ℕ) (cs : List ℕ) (a b d : Found) → Runs (c ∷ []) a b → Runs cs b d → Runs (c ∷ cs) a d
   run_then c cs a b d one rest f now past before prepared are sought of can ran =
@@ -91,19 +98,19 @@ module _ (p : Program) (orders : List (List ℕ)) (present : Bool) (old : Moment
       subst (λ v. CanRunInTurn (sites p (node_at p f)) (IsFound (map entry_of v.items) now) (c ∷ before) cs) (sym first.0.row) can.1 in
       let earlier = each_implies (λ m. has_run a.called.items m ≡ true) (λ m. has_run b.called.items m ≡ true) first.0.stays before ran in
       let second = rest f now past (c ∷ before) prepared are sought first.0.of later (first.1.0, earlier) in
-      (ran_both p f now a b d first.0 second.0, (second.0.stays c first.1.0, second.1))
+      (ran_both p f now past a b d first.0 second.0, (second.0.stays c first.1.0, second.1))
 
   pub run_already : (c : ℕ) (a : Found) → has_run a.called.items c ≡ true → Runs (c ∷ []) a a
-  run_already c a h f now past before prepared are sought of can ran = (ran_none p f now a of, (h, tt))
+  run_already c a h f now past before prepared are sought of can ran = (ran_none p f now past a of, (h, tt))
 
   -- a number past the last call
   pub run_past_last : (c : ℕ) (a : Found) → length (call_places parts 0) ≤ c → Runs (c ∷ []) a a
   run_past_last c a le f now past before prepared are sought of can ran =
       let all = sites p (node_at p f) in
-      let long = ran_length a.called.items (called_by now) all of.called in
+      let long = ran_length p past a.called.items (called_by now) all of.called in
       let count = places_length p parts 0 in
       let same : length (sites_in p (map part_of parts)) ≡ length all = ap (λ es. length (sites_in p es)) are in
-      (ran_none p f now a of, (run_past a.called.items c (omega (arith, le, long, count, same)), tt))
+      (ran_none p f now past a of, (run_past a.called.items c (omega (arith, le, long, count, same)), tt))
 
   -- the part at the place of a call is no other
   pub run_other : (c place : ℕ) (q : StoredPart) (a : Found) → slice_get (call_places parts 0) c ≡ Some place → slice_get parts place ≡ Some q → IsOther c (part_of q) → Runs (c ∷ []) a a
@@ -139,12 +146,12 @@ module _ (p : Program) (orders : List (List ℕ)) (present : Bool) (old : Moment
       (subst (λ l. Keeps p past (map part_of l) (drop i (kept_in old))) rest
       (behind_stands p present row a.rows.items i parts (kept_in old) now' past (record { base = sought.base; entries = refl; called = rows; keeps = keeps })).keeps) in
       let arguments : KeepsArguments p q g es kept past =
-      arguments_kept p present row [] q kept 0 g es past later
+      arguments_kept p q g es kept past later
       (subst (λ e. IsFollowed p (at k (numbered n e)) (at k (numbered n e) ∷ later)) seen followed)
       (subst (λ e. Keeps p past (at k (numbered n e) ∷ later) kept) seen left) in
       let passed = passes now' past sought.base refl rows arguments in
       let able = can.0 site among here.0 in
-      let called = ran_now os (length all) (ran_length os (called_by now) all of.called) before _ ran able.2 in
+      let called = ran_now os (length all) (ran_length p past os (called_by now) all of.called) before _ ran able.2 in
       let ran' = runs f now past site prepared sought of there refl
       (passed.0 ∙ clock_same p row os now past all of.called base able.0)
       (passed.1 ∙ given_same p row os now past all of.called (node_at p g) args base able.0 able.1 called) in
@@ -177,8 +184,8 @@ module _ (p : Program) (orders : List (List ℕ)) (present : Bool) (old : Moment
   -- the variables before are found
   abbrev pub FindsSoFar : Node → (order before : List ℕ) → (found found' : Found) → Type 0
   FindsSoFar g order before found found' =
-      (f : ℕ) (now : Instant) (past : World) → IsPrepared p orders → g ≡ node_at p f → IsOrder g (reverse order) → IsSought p f present old now past → IsOf p f now found
-      → IsOf p f now found' × Each (IsFound (map entry_of found'.row.items) now) (reverse before)
+      (f : ℕ) (now : Instant) (past : World) → IsPrepared p orders → g ≡ node_at p f → IsOrder g (reverse order) → IsSought p f present old now past → IsOf p f now past found
+      → IsOf p f now past found' × Each (IsFound (map entry_of found'.row.items) now) (reverse before)
 
   pub find_none : (g : Node) (order : List ℕ) (a : Found) → FindsSoFar g order [] a a
   find_none g order a f now past prepared node ordered sought of = (of, tt)
@@ -187,18 +194,18 @@ module _ (p : Program) (orders : List (List ℕ)) (present : Bool) (old : Moment
     abbrev own : Node
     own = node_at p f
 
-    width_of : (a : Found) → IsOf p f now a → length (map entry_of a.row.items) ≡ length own.variables
+    width_of : (a : Found) → IsOf p f now past a → length (map entry_of a.row.items) ≡ length own.variables
     width_of a of = length-map a.row.items entry_of ∙ of.width
 
     -- nothing is sought past the last variable
-    past_found : (a : Found) → IsOf p f now a → (x : ℕ) → length own.variables ≤ x → IsFound (map entry_of a.row.items) now x
+    past_found : (a : Found) → IsOf p f now past a → (x : ℕ) → length own.variables ≤ x → IsFound (map entry_of a.row.items) now x
     past_found a of x le =
         let follow = own_follow p f present old now past sought in
         let here : length (map entry_of a.row.items) ≤ x = omega (arith, width_of a of, le) in
         let there : length (row_of now) ≤ x = omega (arith, follow.width, le) in
         item_past None (map entry_of a.row.items) x here ∙ sym (item_past None (row_of now) x there)
 
-    variable_found : (x : ℕ) (d e : Found) (of : IsOf p f now d) → Each (IsFound (map entry_of d.row.items) now) (needed own x) → Each (λ c. has_run d.called.items c ≡ true) (turns_of own x)
+    variable_found : (x : ℕ) (d e : Found) (of : IsOf p f now past d) → Each (IsFound (map entry_of d.row.items) now) (needed own x) → Each (λ c. has_run d.called.items c ≡ true) (turns_of own x)
         → IsFoundBy p own x present (kept_in old) d.rows.items (map entry_of d.row.items) (map entry_of e.row.items)
         → (length (map entry_of e.row.items) ≡ length (map entry_of d.row.items)) × (IsFound (map entry_of e.row.items) now x) × ((y : ℕ) → IsFound (map entry_of d.row.items) now y → IsFound (map entry_of e.row.items) now y)
     variable_found x d e of needs turns by = ⊎_elim input other (cases_lt x own.inputs)
@@ -227,10 +234,10 @@ module _ (p : Program) (orders : List (List ℕ)) (present : Bool) (old : Moment
         other : own.inputs ≤ x → Goal (map entry_of e.row.items)
         other ge = let found = by.1 ge in subst Goal (sym found.2) (set ge found.0 found.1)
 
-    one_more : (order before rest : List ℕ) (x : ℕ) (parts : List StoredPart) (b d e : Found) → IsPrepared p orders → IsOrder own (reverse order) → IsOf p f now b → Each (IsFound (map entry_of b.row.items) now) (reverse before)
+    one_more : (order before rest : List ℕ) (x : ℕ) (parts : List StoredPart) (b d e : Found) → IsPrepared p orders → IsOrder own (reverse order) → IsOf p f now past b → Each (IsFound (map entry_of b.row.items) now) (reverse before)
         → order ≡ before ++ x ∷ rest → map part_of parts ≡ node_parts p own → RunsInTurn p orders present old parts (turns_of own x) b d → e.called ≡ d.called → e.rows ≡ d.rows
         → IsFoundBy p own x present (kept_in old) d.rows.items (map entry_of d.row.items) (map entry_of e.row.items)
-        → IsOf p f now e × Each (IsFound (map entry_of e.row.items) now) (reverse (before ++ x ∷ []))
+        → IsOf p f now past e × Each (IsFound (map entry_of e.row.items) now) (reverse (before ++ x ∷ []))
     one_more order before rest x parts b d e prepared ordered of found whole are runs called rows by =
         let P = IsFound (map entry_of b.row.items) now in
         let first = subst (λ l. HasNeedsFirst own (reverse l)) whole ordered.first in
@@ -247,15 +254,15 @@ module _ (p : Program) (orders : List (List ℕ)) (present : Bool) (old : Moment
             width = sym (length-map e.row.items entry_of) ∙ set.0 ∙ width_of d of';
             inputs = λ y lt. set.2 y (of'.inputs y lt);
             rows = ap (λ v. v.items) rows ∙ of'.rows ∙ ap (λ v. map row_so_far v.items) (sym called);
-            called = subst (λ v. HaveRun v.items (called_by now) (sites p own)) (sym called) of'.called;
+            called = subst (λ v. HaveRun p past v.items (called_by now) (sites p own)) (sym called) of'.called;
           },
           subst (Each (IsFound (map entry_of e.row.items) now)) (sym last)
               (set.1, each_implies (IsFound (map entry_of d.row.items) now) (IsFound (map entry_of e.row.items) now) set.2 (reverse before) found'),
         )
 
-    all_more : (order : List ℕ) (parts : List StoredPart) (b d : Found) → IsPrepared p orders → IsOrder own (reverse order) → IsOf p f now b → Each (IsFound (map entry_of b.row.items) now) (reverse order)
+    all_more : (order : List ℕ) (parts : List StoredPart) (b d : Found) → IsPrepared p orders → IsOrder own (reverse order) → IsOf p f now past b → Each (IsFound (map entry_of b.row.items) now) (reverse order)
         → map part_of parts ≡ node_parts p own → RunsInTurn p orders present old parts (below (length (moments_in old))) b d
-        → IsOf p f now d × ((x : ℕ) → IsFound (map entry_of d.row.items) now x) × ((c : ℕ) → has_run d.called.items c ≡ true)
+        → IsOf p f now past d × ((x : ℕ) → IsFound (map entry_of d.row.items) now x) × ((c : ℕ) → has_run d.called.items c ≡ true)
     all_more order parts b d prepared ordered of found are runs =
         let P = IsFound (map entry_of b.row.items) now in
         let all = sites p own in
@@ -266,7 +273,7 @@ module _ (p : Program) (orders : List (List ℕ)) (present : Bool) (old : Moment
         let can = below_run p all (each_before p prepared.resolved f) P every count [] (λ c le lt. let wrong : ⊥ = omega (arith, many, le, lt) in absurd wrong) in
         let ran = runs f now past [] prepared are sought of can tt in
         let os = d.called.items in
-        let long : length os ≡ length all = ran_length os (called_by now) all ran.0.of.called in (
+        let long : length os ≡ length all = ran_length p past os (called_by now) all ran.0.of.called in (
           ran.0.of,
           λ x. subst (λ v. IsFound (map entry_of v.items) now x) (sym ran.0.row) (every x),
           λ c. ⊎_elim (below_at (λ b. has_run os b ≡ true) count (each_below (λ b. has_run os b ≡ true) count ran.1) c) (λ le. run_past os c (omega (arith, long, many, le))) (cases_lt c count),
@@ -302,7 +309,7 @@ module _ (p : Program) (orders : List (List ℕ)) (f : ℕ) (present : Bool) (gi
       (length a.row.items ≡ length (node_at p f).variables) × ((x : ℕ) → x < length (node_at p f).variables → item None (map entry_of a.row.items) x ≡ item None given x)
       × (a.rows.items ≡ map row_so_far a.called.items) × (length a.called.items ≡ length (moments_in old)) × Each (λ o. o ≡ None) a.called.items
 
-  begun_is : (a : Found) → IsBegun a → (now : Instant) (past : World) → IsSought p f present old now past → take (node_at p f).inputs (row_of now) ≡ given → IsOf p f now a
+  begun_is : (a : Found) → IsBegun a → (now : Instant) (past : World) → IsSought p f present old now past → take (node_at p f).inputs (row_of now) ≡ given → IsOf p f now past a
   begun_is a begun now past sought fed =
       let g = node_at p f in
       let follow = own_follow p f present old now past sought in
@@ -324,36 +331,27 @@ module _ (p : Program) (orders : List (List ℕ)) (f : ℕ) (present : Bool) (gi
     FindsHere o = IsPrepared p orders → f < length p.nodes → Finds p f present given old o
 
     whole : IsPrepared p orders → f < length p.nodes → (now : Instant) (past : World) → IsSought p f present old now past → take (node_at p f).inputs (row_of now) ≡ given
-        → IsOf p f now d × ((x : ℕ) → IsFound (map entry_of d.row.items) now x) × ((c : ℕ) → has_run d.called.items c ≡ true)
+        → IsOf p f now past d × ((x : ℕ) → IsFound (map entry_of d.row.items) now x) × ((c : ℕ) → has_run d.called.items c ≡ true)
     whole prepared lt now past sought fed = finds f now past prepared refl (subst (λ l. IsOrder (node_at p f) (reverse l)) (sym is) (prepared.ordered f lt)) sought (begun_is a begun now past sought fed)
 
     pub some_missing : (c : ℕ) → has_run d.called.items c ≡ false → FindsHere None
     some_missing c missing prepared lt now past sought fed = true≢false (sym ((whole prepared lt now past sought fed).2 c) ∙ missing)
 
     module _ (ms : List Moment) (all : map (λ m. Some m) ms ≡ d.called.items) where
-      ran : (now : Instant) → IsOf p f now d → HaveRun (map (λ m. Some m) ms) (called_by now) (sites p (node_at p f))
-      ran now of = subst (λ l. HaveRun l (called_by now) (sites p (node_at p f))) (sym all) of.called
+      ran : (now : Instant) (past : World) → IsOf p f now past d → HaveRun p past (map (λ m. Some m) ms) (called_by now) (sites p (node_at p f))
+      ran now past of = subst (λ l. HaveRun p past l (called_by now) (sites p (node_at p f))) (sym all) of.called
 
-      same_row : (now : Instant) (past : World) → IsSought p f present old now past → IsOf p f now d → ((x : ℕ) → IsFound (map entry_of d.row.items) now x) → map entry_of d.row.items ≡ row_of now
+      same_row : (now : Instant) (past : World) → IsSought p f present old now past → IsOf p f now past d → ((x : ℕ) → IsFound (map entry_of d.row.items) now x) → map entry_of d.row.items ≡ row_of now
       same_row now past sought of found =
           ext_item None (map entry_of d.row.items) (row_of now) (length-map d.row.items entry_of ∙ of.width ∙ sym (own_follow p f present old now past sought).width) found
 
       parts_of_instant : (b : Bool) (row : Row) (js : Called) (now : Instant) → is_present now ≡ b → row ≡ row_of now → js ≡ called_by now → instant b row js ≡ now
       parts_of_instant b row js (instant b' row' js') e r k = λ i. instant (sym e i) (r i) (k i)
 
-      found_is : IsPrepared p orders → f < length p.nodes → (now : Instant) (past : World) → IsSought p f present old now past → take (node_at p f).inputs (row_of now) ≡ given
-          → IsOf p f now d × (instant present (map entry_of d.row.items) (called_of ms) ≡ now)
-      found_is prepared lt now past sought fed =
+      -- and closed, it is the next one
+      pub all_found : (m : Moment) → instant_of m ≡ instant present (map entry_of d.row.items) (called_of ms) → IsNextAmong p f ms old m → FindsHere (Some m)
+      all_found m made next prepared lt now past sought fed =
           let w = whole prepared lt now past sought fed in
-          (w.0, parts_of_instant present (map entry_of d.row.items) (called_of ms) now sought.base (same_row now past sought w.0 w.1) (all_ran p now past ms (called_by now) (sites p (node_at p f)) (ran now w.0)))
-
-      pub none_settled : IsRefused p f present (map entry_of d.row.items) ms old → FindsHere None
-      none_settled refused prepared lt now past sought fed =
-          let is' = found_is prepared lt now past sought fed in
-          let fits = all_fit p now past 0 ms (called_by now) (sites p (node_at p f)) (ran now is'.0) (calls_attempt p f present old now past sought) (sites_numbered p prepared.resolved f) in
-          refused past sought.keeps
-          (subst (λ i. EquationsFollow p (node_at p f) i past) (sym is'.1) (own_follow p f present old now past sought))
-          (subst (λ i. EachFits p 0 ms (sites p (node_at p f)) i past) (sym is'.1) fits)
-
-      pub one_settled : (m : Moment) → instant_of m ≡ instant present (map entry_of d.row.items) (called_of ms) → FindsHere (Some m)
-      one_settled m made prepared lt now past sought fed = made ∙ (found_is prepared lt now past sought fed).1
+          let ran' = all_ran p now past ms (called_by now) (sites p (node_at p f)) (ran now past w.0) in
+          let is : instant_of m ≡ now = made ∙ parts_of_instant present (map entry_of d.row.items) (called_of ms) now sought.base (same_row now past sought w.0 w.1) ran'.0 in
+          (is, next past prepared.resolved prepared.clocks sought.keeps (subst (λ i. IsAttempt p i f past) (sym is) sought.attempt) ran'.1)

@@ -4,13 +4,13 @@ pub mod Turns
 pub mod Sites
 pub mod CallPlaces
 pub mod Passed
-pub mod Fits
-pub mod Settled
-pub mod Followed
-pub mod Found
+pub mod Closed
 pub mod Begun
 pub mod Depths
 pub mod Worlds
 pub mod Sought
 pub mod Runs
 pub mod InOrder
+pub mod Existence
+pub mod ExistenceCalls
+pub mod ExistenceSteps

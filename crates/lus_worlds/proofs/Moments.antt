@@ -1,9 +1,11 @@
 -- Instants in a list, as contracts see them in an instant.
-use Rattle.std.proofs.Common.{◌≡◌, ℕ, zero, suc, ◌<◌, List, [], ◌∷◌, map, take, length, Some, refl, sym, ap, ◌∙◌, rules, slice_get, slice_index_or, not-suc-le-zero, le_of_suc-le-suc}
+use Rattle.std.proofs.Common.{◌≡◌, ℕ, zero, suc, ◌+◌, ◌<◌, Bool, List, [], ◌∷◌, map, length, Some, arith, refl, sym, ap, ◌∙◌, rules, slice_get, slice_index_or, not-suc-le-zero, le_of_suc-le-suc}
 use Rattle.lus_values.specs.Lists.{item}
+use Rattle.lus_values.specs.Values.{Row}
 use Rattle.lus_program.specs.Programs.{Program}
 use Rattle.lus_streams.specs.Equations.{Site}
-use Rattle.lus_streams.specs.Streams.{instant, also, World, row_of, called_at}
+use Rattle.lus_streams.specs.Streams.{instant, also, World, row_of, called_at, called_instant}
+use Rattle.lus_reference.specs.Kept.{AreRowsFrom}
 use Rattle.lus_worlds.specs.declared.moment.Moment.{Moment, Moment', Row_of-Moment, end_of-Moment, more_of-Moment, items-the_row-Moment, the_lemmas}
 use Rattle.lus_worlds.specs.Moments.{instant_of, called_in, called_of, present_in, row_in, kept_in, moments_in, Kept, AllKept, nothing, further, kept_with, kept_of, all_kept, kept_by, AllHold, EachKeeps}
 
@@ -17,10 +19,10 @@ all_kept_is (more_of-Moment j rest) = ap (further (kept_of j)) (all_kept_is rest
 
 -- an instant, and what is kept behind it, by its fields
 pub instant_seen : (m : Moment) → instant_of m ≡ instant (present_in m) (row_in m) (called_of (moments_in m))
-instant_seen (Moment' node present row kept complete verdict shape called) = search (rules, the_lemmas, called_is)
+instant_seen (Moment' present row kept fault shape called) = search (rules, the_lemmas, called_is)
 
 pub kept_seen : (m : Moment) → kept_of m ≡ kept_with (kept_in m) (kept_by (moments_in m))
-kept_seen (Moment' node present row kept complete verdict shape called) = search (rules, the_lemmas, all_kept_is)
+kept_seen (Moment' present row kept fault shape called) = search (rules, the_lemmas, all_kept_is)
 
 -- instants that keep the same, each, do so together
 abbrev all_of : List Kept → AllKept
@@ -55,6 +57,9 @@ rows_are [] n = refl
 rows_are (m ∷ ms) zero = row_is m
 rows_are (m ∷ ms) (suc n) = rows_are ms n
 
+pub called_rows : (present : Bool) (row : Row) (ms : List Moment) → AreRowsFrom (instant present row (called_of ms)) 0 (map row_in ms)
+called_rows present row ms n = let same : n ≡ 0 + n = omega arith in rows_are ms n ∙ ap (λ c. row_of (called_instant c (instant present row (called_of ms)))) same
+
 pub called_get : (ms : List Moment) (n : ℕ) (m : Moment) → slice_get ms n ≡ Some m → called_at (called_of ms) n ≡ instant_of m
 called_get [] n m h = absurd (cc)
 called_get (k ∷ ms) zero m h = let same : k ≡ m = cc in ap instant_of same
@@ -65,8 +70,3 @@ pub get_there : {X : Type 0} (xs : List X) (i : ℕ) (x : X) → i < length xs �
 get_there [] i x lt e = elim (not-suc-le-zero lt) [ ]
 get_there (y ∷ xs) zero x lt e = ap Some (sym e)
 get_there (y ∷ xs) (suc i) x lt e = get_there xs i x (le_of_suc-le-suc lt) e
-
-pub taken_map : {X Y : Type 0} (f : X → Y) (n : ℕ) (xs : List X) → map f (take n xs) ≡ take n (map f xs)
-taken_map f zero xs = refl
-taken_map f (suc n) [] = refl
-taken_map f (suc n) (x ∷ xs) = ap (λ l. f x ∷ l) (taken_map f n xs)

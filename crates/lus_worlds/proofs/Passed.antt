@@ -29,7 +29,7 @@ inputs_are_variables p resolved f x lt =
     wide (g ∷ fs) h = ((λ y below. let formals = h.0.formals in omega (arith, formals, below)), wide fs h.1)
 
 -- the arguments from number m on name what the formals' clocks test
-formals_at : (g : Node) (args es : Operands) (m x : ℕ) → HaveFormals g args es m → x < operand_size es → Each (λ t. IsName (operand args t.variable)) (clock_of g (m + x))
+pub formals_at : (g : Node) (args es : Operands) (m x : ℕ) → HaveFormals g args es m → x < operand_size es → Each (λ t. IsName (operand args t.variable)) (clock_of g (m + x))
 formals_at g args none m x h lt = absurd (not-suc-le-zero lt)
 formals_at g args (more e es) m zero h lt = let here : m ≡ m + 0 = omega arith in subst (λ n. Each (λ t. IsName (operand args t.variable)) (clock_of g n)) here h.1
 formals_at g args (more e es) m (suc x) h lt =

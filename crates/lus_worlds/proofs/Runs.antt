@@ -16,10 +16,10 @@ use Rattle.lus_reference.specs.Kept.{AreRowsFrom, Keeps}
 use Rattle.lus_reference.proofs.Parts.{on_is}
 use Rattle.lus_worlds.specs.declared.finding.Found.{Found}
 use Rattle.lus_worlds.specs.declared.moment.Moment.{Moment}
-use Rattle.lus_worlds.specs.Finding.{row_so_far, has_run, called_by, HaveRun, IsFound, IsPrepared, IsSought, IsOf, RanMore, Finds, RunsNode}
+use Rattle.lus_worlds.specs.Finding.{row_so_far, has_run, called_by, HaveRun, IsFound, IsFoundNext, IsPrepared, IsSought, IsOf, RanMore, Finds, RunsNode}
 use Rattle.lus_worlds.specs.Following.{IsMeant}
 use Rattle.lus_worlds.specs.Turns.{turns_of}
-use Rattle.lus_worlds.specs.Moments.{instant_of, node_in, row_in, kept_in, moments_in, kept_by, kept_with, Holds, AllHold, KeepsBehind}
+use Rattle.lus_worlds.specs.Moments.{row_in, kept_in, moments_in, kept_by, kept_with, Holds, AllHold, KeepsBehind}
 use Rattle.lus_worlds.proofs.Moments.{kept_seen}
 use Rattle.lus_worlds.proofs.Among.{map_set}
 use Rattle.lus_worlds.proofs.Sites.{each_is_node}
@@ -45,11 +45,11 @@ module _ (p : Program) (f : ℕ) (present : Bool) (old : Moment) (now : Instant)
   pub calls_attempt : EachAttempt p (called_by now) (sites p (node_at p f)) now past
   calls_attempt = (both now h.attempt).1
 
-pub ran_none : (p : Program) (f : ℕ) (now : Instant) (found : Found) → IsOf p f now found → RanMore p f now found found
-ran_none p f now found of = record { row = refl; stays = λ c h. h; of = of }
+pub ran_none : (p : Program) (f : ℕ) (now : Instant) (past : World) (found : Found) → IsOf p f now past found → RanMore p f now past found found
+ran_none p f now past found of = record { row = refl; stays = λ c h. h; of = of }
 
-pub ran_both : (p : Program) (f : ℕ) (now : Instant) (a b c : Found) → RanMore p f now a b → RanMore p f now b c → RanMore p f now a c
-ran_both p f now a b c g h = record { row = h.row ∙ g.row; stays = λ d r. h.stays d (g.stays d r); of = h.of }
+pub ran_both : (p : Program) (f : ℕ) (now : Instant) (past : World) (a b c : Found) → RanMore p f now past a b → RanMore p f now past b c → RanMore p f now past a c
+ran_both p f now past a b c g h = record { row = h.row ∙ g.row; stays = λ d r. h.stays d (g.stays d r); of = h.of }
 
 -- the node of a call was found
 module _ (p : Program) (orders : List (List ℕ)) (present : Bool) (old : Moment) (c g : ℕ) (on : Bool) (given : Row) (found : Found) where
@@ -83,13 +83,14 @@ module _ (p : Program) (orders : List (List ℕ)) (present : Bool) (old : Moment
     none_found finds found' f now past s prepared h of there node base inputs =
         absurd (finds prepared (callee_is_node prepared f s there node) (called_at (called_by now) c) (called_world s.number past) (call_sought f now past s h there node base) (call_given f now past s h there node inputs))
 
-    pub one_found : (m : Moment) → node_in m ≡ g → FindsWhere (Some m) → (found' : Found) → found'.called.items ≡ slice_set found.called.items c (Some m) → found'.row ≡ found.row → found'.rows.items ≡ slice_set found.rows.items c (row_in m)
+    pub one_found : (m : Moment) → FindsWhere (Some m) → (found' : Found) → found'.called.items ≡ slice_set found.called.items c (Some m) → found'.row ≡ found.row → found'.rows.items ≡ slice_set found.rows.items c (row_in m)
         → RunsNode p orders present old c g on given found found'
-    one_found m mnode finds found' called row rows f now past s prepared h of there node base inputs =
+    one_found m finds found' called row rows f now past s prepared h of there node base inputs =
         let j = called_at (called_by now) c in
-        let is : instant_of m ≡ j = finds prepared (callee_is_node prepared f s there node) j (called_world s.number past) (call_sought f now past s h there node base) (call_given f now past s h there node inputs) in
+        let is : IsFoundNext p g j (called_world s.number past) m = finds prepared (callee_is_node prepared f s there node) j (called_world s.number past) (call_sought f now past s h there node base) (call_given f now past s h there node inputs) in
         let os = found.called.items in
-        let ran : HaveRun (slice_set os c (Some m)) (called_by now) (sites p (node_at p f)) = run_more os (called_by now) (sites p (node_at p f)) c s m of.called there (mnode ∙ sym node) is in (
+        let ran : HaveRun p past (slice_set os c (Some m)) (called_by now) (sites p (node_at p f)) =
+        run_more p past os (called_by now) (sites p (node_at p f)) c s m of.called there (subst (λ n. IsFoundNext p n j (called_world s.number past) m) (sym node) is) in (
           record {
             row = row;
             stays = λ d r. subst (λ l. has_run l d ≡ true) (sym called) (run_stays os c d m r);
@@ -97,14 +98,14 @@ module _ (p : Program) (orders : List (List ℕ)) (present : Bool) (old : Moment
               width = ap (λ v. length v.items) row ∙ of.width;
               inputs = λ x lt. ap (λ v. item None (map entry_of v.items) x) row ∙ of.inputs x lt;
               rows = rows ∙ ap (λ l. slice_set l c (row_in m)) of.rows ∙ sym (map_set row_so_far os c (Some m)) ∙ ap (map row_so_far) (sym called);
-              called = subst (λ l. HaveRun l (called_by now) (sites p (node_at p f))) (sym called) ran;
+              called = subst (λ l. HaveRun p past l (called_by now) (sites p (node_at p f))) (sym called) ran;
             };
           },
           subst (λ l. has_run l c ≡ true) (sym called) (run_now os c m),
         )
 
   pub none_there : length found.called.items ≤ c → RunsNode p orders present old c g on given found found
-  none_there past_end f now past s prepared h of there node base inputs = (ran_none p f now found of, run_past found.called.items c past_end)
+  none_there past_end f now past s prepared h of there node base inputs = (ran_none p f now past found of, run_past found.called.items c past_end)
 
 -- one variable more
 pub set_stays : (row : Row) (now : Instant) (x : ℕ) (v : Option Value) → v ≡ entry now x → (y : ℕ) → IsFound row now y → IsFound (slice_set row x v) now y
@@ -122,7 +123,7 @@ set_found [] x v lt = absurd (omega (arith, lt))
 set_found (o ∷ row) zero v lt = refl
 set_found (o ∷ row) (suc x) v lt = set_found row x v (omega (arith, lt))
 
-module _ (p : Program) (f : ℕ) (present : Bool) (old : Moment) (now : Instant) (past : World) (h : IsSought p f present old now past) (found : Found) (of : IsOf p f now found) where
+module _ (p : Program) (f : ℕ) (present : Bool) (old : Moment) (now : Instant) (past : World) (h : IsSought p f present old now past) (found : Found) (of : IsOf p f now past found) where
   abbrev g : Node
   g = node_at p f
 

@@ -10,39 +10,39 @@ use Rattle.lus_streams.specs.Streams.{Instant, instant, Called, nobody, also, Wo
 use Rattle.lus_streams.proofs.Calls.{OfCall, OfSite, AtBase, parts_of_sites}
 use Rattle.lus_streams.proofs.Lists.{each_in, each_implies}
 use Rattle.lus_attempts.specs.Attempts.{IsAttempt, EachAttempt}
-use Rattle.lus_normal_form.specs.Named.{Numbered}
 use Rattle.lus_reference.specs.Kept.{AreRowsFrom}
 use Rattle.lus_reference.specs.Needed.{Agree, calls_now, all_calls_now}
 use Rattle.lus_reference.proofs.Needed.{needs_suffice}
 use Rattle.lus_worlds.specs.declared.moment.Moment.{Moment}
-use Rattle.lus_worlds.specs.Finding.{row_so_far, called_so_far, has_run, called_by, HaveRun, IsFound}
+use Rattle.lus_worlds.specs.Finding.{row_so_far, called_so_far, has_run, called_by, HaveRun, IsFound, IsFoundNext}
 use Rattle.lus_worlds.specs.Turns.{calls_in_turn, turns_in}
-use Rattle.lus_worlds.specs.Moments.{instant_of, called_of, node_in, kept_by, AllHold, KeepsBehind, EachFits}
+use Rattle.lus_worlds.specs.Moments.{called_of, kept_by, AllHold, KeepsBehind, EachNext}
 use Rattle.lus_worlds.proofs.Moments.{row_is}
 use Rattle.lus_worlds.proofs.Among.{each_among, each_from}
 use Rattle.lus_worlds.proofs.Turns.{now_in_turn}
 
 -- calls that ran
-pub ran_same : (os : List (Option Moment)) (js : Called) (ss : List Site) (c : ℕ) → HaveRun os js ss → has_run os c ≡ true → called_at (called_so_far os) c ≡ called_at js c
-ran_same [] nobody [] c h r = refl
-ran_same (None ∷ os) (also j js) (s ∷ ss) zero h r = absurd (true≢false (sym r))
-ran_same (Some m ∷ os) (also j js) (s ∷ ss) zero h r = h.0.1
-ran_same (None ∷ os) (also j js) (s ∷ ss) (suc c) h r = ran_same os js ss c h.1 r
-ran_same (Some m ∷ os) (also j js) (s ∷ ss) (suc c) h r = ran_same os js ss c h.1 r
-ran_same [] nobody (s ∷ ss) c h r = absurd h
-ran_same [] (also j js) ss c h r = absurd h
-ran_same (o ∷ os) nobody ss c h r = absurd h
-ran_same (o ∷ os) (also j js) [] c h r = absurd h
+pub ran_same : (p : Program) (past : World) (os : List (Option Moment)) (js : Called) (ss : List Site) (c : ℕ) → HaveRun p past os js ss → has_run os c ≡ true → called_at (called_so_far os) c ≡ called_at js c
+ran_same p past [] nobody [] c h r = refl
+ran_same p past (None ∷ os) (also j js) (s ∷ ss) zero h r = absurd (true≢false (sym r))
+ran_same p past (Some m ∷ os) (also j js) (s ∷ ss) zero h r = h.0.0
+ran_same p past (None ∷ os) (also j js) (s ∷ ss) (suc c) h r = ran_same p past os js ss c h.1 r
+ran_same p past (Some m ∷ os) (also j js) (s ∷ ss) (suc c) h r = ran_same p past os js ss c h.1 r
+ran_same p past [] nobody (s ∷ ss) c h r = absurd h
+ran_same p past [] (also j js) ss c h r = absurd h
+ran_same p past (o ∷ os) nobody ss c h r = absurd h
+ran_same p past (o ∷ os) (also j js) [] c h r = absurd h
 
 -- one call more
-pub run_more : (os : List (Option Moment)) (js : Called) (ss : List Site) (c : ℕ) (s : Site) (m : Moment) → HaveRun os js ss → slice_get ss c ≡ Some s → node_in m ≡ s.node → instant_of m ≡ called_at js c → HaveRun (slice_set os c (Some m)) js ss
-run_more [] nobody [] c s m h e n i = absurd (cc)
-run_more (o ∷ os) (also j js) (t ∷ ss) zero s m h e n i = let same : t ≡ s = cc in ((n ∙ ap (λ (z : Site). z.node) (sym same), i), h.1)
-run_more (o ∷ os) (also j js) (t ∷ ss) (suc c) s m h e n i = (h.0, run_more os js ss c s m h.1 e n i)
-run_more [] nobody (t ∷ ss) c s m h e n i = absurd h
-run_more [] (also j js) ss c s m h e n i = absurd h
-run_more (o ∷ os) nobody ss c s m h e n i = absurd h
-run_more (o ∷ os) (also j js) [] c s m h e n i = absurd h
+pub run_more : (p : Program) (past : World) (os : List (Option Moment)) (js : Called) (ss : List Site) (c : ℕ) (s : Site) (m : Moment) → HaveRun p past os js ss → slice_get ss c ≡ Some s
+    → IsFoundNext p s.node (called_at js c) (called_world s.number past) m → HaveRun p past (slice_set os c (Some m)) js ss
+run_more p past [] nobody [] c s m h e i = absurd (cc)
+run_more p past (o ∷ os) (also j js) (t ∷ ss) zero s m h e i = let same : t ≡ s = cc in (subst (λ (z : Site). IsFoundNext p z.node j (called_world z.number past) m) (sym same) i, h.1)
+run_more p past (o ∷ os) (also j js) (t ∷ ss) (suc c) s m h e i = (h.0, run_more p past os js ss c s m h.1 e i)
+run_more p past [] nobody (t ∷ ss) c s m h e i = absurd h
+run_more p past [] (also j js) ss c s m h e i = absurd h
+run_more p past (o ∷ os) nobody ss c s m h e i = absurd h
+run_more p past (o ∷ os) (also j js) [] c s m h e i = absurd h
 
 pub run_stays : (os : List (Option Moment)) (c d : ℕ) (m : Moment) → has_run os d ≡ true → has_run (slice_set os c (Some m)) d ≡ true
 run_stays [] c d m h = h
@@ -71,9 +71,9 @@ rows_of_found (Some m ∷ os) (suc c) = rows_of_found os c
 
 module _ (p : Program) (now : Instant) (past : World) where
   -- none ran yet
-  pub none_ran : (olds : List Moment) (os : List (Option Moment)) (js : Called) (ss : List Site) → AllHold p (kept_by olds) ss past → EachAttempt p js ss now past → length os ≡ length olds → Each (λ o. o ≡ None) os → HaveRun os js ss
+  pub none_ran : (olds : List Moment) (os : List (Option Moment)) (js : Called) (ss : List Site) → AllHold p (kept_by olds) ss past → EachAttempt p js ss now past → length os ≡ length olds → Each (λ o. o ≡ None) os → HaveRun p past os js ss
   none_ran [] [] nobody [] k h e n = tt
-  none_ran (old ∷ olds) (o ∷ os) (also j js) (s ∷ ss) k h e n = (subst (λ v. MatchOption v (Unit {0}) (λ m. (node_in m ≡ s.node) × (instant_of m ≡ j))) (sym n.0) tt, none_ran olds os js ss k.1 h.2 (omega (arith, e)) n.1)
+  none_ran (old ∷ olds) (o ∷ os) (also j js) (s ∷ ss) k h e n = (subst (λ v. MatchOption v (Unit {0}) (IsFoundNext p s.node j (called_world s.number past))) (sym n.0) tt, none_ran olds os js ss k.1 h.2 (omega (arith, e)) n.1)
   none_ran [] (o ∷ os) js ss k h e n = absurd (suc-ne-zero (length os) e)
   none_ran (old ∷ olds) [] js ss k h e n = absurd (suc-ne-zero (length olds) (sym e))
   none_ran [] [] nobody (s ∷ ss) k h e n = absurd h
@@ -84,21 +84,13 @@ module _ (p : Program) (now : Instant) (past : World) where
   none_ran (old ∷ olds) (o ∷ os) (also j js) [] k h e n = absurd k
 
   -- all ran
-  pub all_ran : (ms : List Moment) (js : Called) (ss : List Site) → HaveRun (map (λ m. Some m) ms) js ss → called_of ms ≡ js
-  all_ran [] nobody [] h = refl
-  all_ran (m ∷ ms) (also j js) (s ∷ ss) h = λ i. also (h.0.1 i) (all_ran ms js ss h.1 i)
+  pub all_ran : (ms : List Moment) (js : Called) (ss : List Site) → HaveRun p past (map (λ m. Some m) ms) js ss → (called_of ms ≡ js) × EachNext p ms ss past
+  all_ran [] nobody [] h = (refl, tt)
+  all_ran (m ∷ ms) (also j js) (s ∷ ss) h = let rest = all_ran ms js ss h.1 in ((λ i. also (h.0.0 i) (rest.0 i)), (h.0.1, rest.1))
   all_ran [] nobody (s ∷ ss) h = absurd h
   all_ran [] (also j js) ss h = absurd h
   all_ran (m ∷ ms) nobody ss h = absurd h
   all_ran (m ∷ ms) (also j js) [] h = absurd h
-
-  pub all_fit : (n : ℕ) (ms : List Moment) (js : Called) (ss : List Site) → HaveRun (map (λ m. Some m) ms) js ss → EachAttempt p js ss now past → Numbered n ss → EachFits p n ms ss now past
-  all_fit n [] nobody [] h a k = tt
-  all_fit n (m ∷ ms) (also j js) (s ∷ ss) h a k = (k.0, h.0.0, subst (λ i. IsFed p s i now past) (sym h.0.1) a.0, all_fit (suc n) ms js ss h.1 a.2 k.1)
-  all_fit n [] nobody (s ∷ ss) h a k = absurd h
-  all_fit n [] (also j js) ss h a k = absurd h
-  all_fit n (m ∷ ms) nobody ss h a k = absurd h
-  all_fit n (m ∷ ms) (also j js) [] h a k = absurd h
 
   -- an instant of a call is sought
   pub record SoughtCall (c : ℕ) (s : Site) (own : Moment) (j : Instant) : Type 0 where
@@ -131,9 +123,9 @@ module _ (p : Program) (row : Row) (os : List (Option Moment)) (now : Instant) (
   pub found_rows : AreRowsFrom so_far 0 (map row_so_far os)
   found_rows c = let same : c ≡ 0 + c = omega arith in rows_of_found os c ∙ ap (λ d. row_of (called_instant d so_far)) same
 
-  module _ (ss : List Site) (h : HaveRun os (called_by now) ss) where
+  module _ (ss : List Site) (h : HaveRun p past os (called_by now) ss) where
     call_same : (c : ℕ) → has_run os c ≡ true → called_instant c so_far ≡ called_instant c now
-    call_same c r = ran_same os (called_by now) ss c h r ∙ at_call now c
+    call_same c r = ran_same p past os (called_by now) ss c h r ∙ at_call now c
       where
         at_call : (i : Instant) (d : ℕ) → called_at (called_by i) d ≡ called_instant d i
         at_call (instant b r js) d = refl

@@ -10,7 +10,7 @@ use Rattle.lus_streams.specs.Clocks.{clock_of, Part, at}
 use Rattle.lus_streams.specs.Equations.{node_parts, Site, sites}
 use Rattle.lus_streams.specs.OnClock.{ProgramOnClocks}
 use Rattle.lus_streams.specs.Order.{IsOrder}
-use Rattle.lus_streams.specs.Streams.{Instant, instant, Called, nobody, also, World, is_present, row_of, entry, is_on, inputs_given}
+use Rattle.lus_streams.specs.Streams.{Instant, instant, Called, nobody, also, World, called_world, is_present, row_of, entry, is_on, inputs_given}
 use Rattle.lus_attempts.specs.Attempts.{IsAttempt}
 use Rattle.lus_reference.specs.Given.{callee}
 use Rattle.lus_worlds.specs.declared.finding.Found.{Found}
@@ -19,14 +19,7 @@ use Rattle.lus_parts.specs.declared.part.Part.{Part as StoredPart}
 use Rattle.lus_parts.specs.Parts.{part_of}
 use Rattle.lus_worlds.specs.Following.{IsMeant}
 use Rattle.lus_worlds.specs.Turns.{CanRunInTurn}
-use Rattle.lus_worlds.specs.Moments.{instant_of, node_in, row_in, Follows, KeepsBehind}
-
--- behind each of these one follows, or none was found yet
-abbrev pub MayFollow : Program → List Moment → List (Option Moment) → Type 0
-MayFollow p [] [] = Unit {0}
-MayFollow p [] (o ∷ os) = ⊥
-MayFollow p (old ∷ olds) [] = ⊥
-MayFollow p (old ∷ olds) (o ∷ os) = MatchOption o (Unit {0}) (Follows p old) × MayFollow p olds os
+use Rattle.lus_worlds.specs.Moments.{instant_of, row_in, IsNext, KeepsBehind}
 
 -- a call that did not run yet has neither a row nor an instant
 abbrev pub row_so_far : Option Moment → Row
@@ -48,11 +41,15 @@ has_run (o ∷ os) (suc c) = has_run os c
 abbrev pub called_by : Instant → Called
 called_by (instant b row js) = js
 
--- where a call ran, its instant is of the node that it calls, and the one that is sought
-abbrev pub HaveRun : List (Option Moment) → Called → List Site → Type 0
-HaveRun [] nobody [] = Unit {0}
-HaveRun (o ∷ os) (also j js) (s ∷ ss) = MatchOption o (Unit {0}) (λ m. (node_in m ≡ s.node) × (instant_of m ≡ j)) × HaveRun os js ss
-HaveRun _ _ _ = ⊥
+-- an instant is the one that is sought, and it is the next one of node f
+abbrev pub IsFoundNext : Program → ℕ → Instant → World → Moment → Type 0
+IsFoundNext p f now past m = (instant_of m ≡ now) × IsNext p m f past
+
+-- where a call ran, its instant is the one that is sought
+abbrev pub HaveRun : Program → World → List (Option Moment) → Called → List Site → Type 0
+HaveRun p past [] nobody [] = Unit {0}
+HaveRun p past (o ∷ os) (also j js) (s ∷ ss) = MatchOption o (Unit {0}) (IsFoundNext p s.node j (called_world s.number past)) × HaveRun p past os js ss
+HaveRun p past _ _ _ = ⊥
 
 -- the entry of a variable is the one that is sought
 abbrev pub IsFound : (row : Row) → Instant → ℕ → Type 0
@@ -64,6 +61,10 @@ pub record IsPrepared (p : Program) (orders : List (List ℕ)) : Type 0 where
   pub clocks : ProgramOnClocks p
   pub ordered : (f : ℕ) → f < length p.nodes → IsOrder (node_at p f) (reverse (item [] orders f))
 
+-- and node f is one of the program's
+abbrev pub IsReady : Program → List (List ℕ) → ℕ → Type 0
+IsReady p orders f = IsPrepared p orders × (f < length p.nodes)
+
 -- an instant of node f is sought: what the equations give behind this, with this base
 pub record IsSought (p : Program) (f : ℕ) (present : Bool) (old : Moment) (now : Instant) (past : World) : Type 0 where
   pub keeps : KeepsBehind p old f past
@@ -71,22 +72,22 @@ pub record IsSought (p : Program) (f : ℕ) (present : Bool) (old : Moment) (now
   pub base : is_present now ≡ present
 
 -- what was found so far is of the instant that is sought, and its inputs are there
-pub record IsOf (p : Program) (f : ℕ) (now : Instant) (found : Found) : Type 0 where
+pub record IsOf (p : Program) (f : ℕ) (now : Instant) (past : World) (found : Found) : Type 0 where
   pub width : length found.row.items ≡ length (node_at p f).variables
   pub inputs : (x : ℕ) → x < (node_at p f).inputs → IsFound (map entry_of found.row.items) now x
   pub rows : found.rows.items ≡ map row_so_far found.called.items
-  pub called : HaveRun found.called.items (called_by now) (sites p (node_at p f))
+  pub called : HaveRun p past found.called.items (called_by now) (sites p (node_at p f))
 
 -- more calls ran
-pub record RanMore (p : Program) (f : ℕ) (now : Instant) (old new : Found) : Type 0 where
+pub record RanMore (p : Program) (f : ℕ) (now : Instant) (past : World) (old new : Found) : Type 0 where
   pub row : new.row ≡ old.row
   pub stays : (c : ℕ) → has_run old.called.items c ≡ true → has_run new.called.items c ≡ true
-  pub of : IsOf p f now new
+  pub of : IsOf p f now past new
 
 -- whichever instant with this base and these inputs is sought is found
 abbrev pub Finds : Program → ℕ → Bool → (given : Row) → Moment → Option Moment → Type 0
 Finds p f present given old o =
-    (now : Instant) (past : World) → IsSought p f present old now past → take (node_at p f).inputs (row_of now) ≡ given → MatchOption o ⊥ (λ m. instant_of m ≡ now)
+    (now : Instant) (past : World) → IsSought p f present old now past → take (node_at p f).inputs (row_of now) ≡ given → MatchOption o ⊥ (IsFoundNext p f now past)
 
 -- variable x is found by its equation from these entries and these rows of calls; an input is as it was
 abbrev pub IsFoundBy : Program → Node → ℕ → Bool → (kept : Row) → List Row → (row row' : Row) → Type 0
@@ -103,22 +104,22 @@ module _ (p : Program) (orders : List (List ℕ)) (present : Bool) (old : Moment
   -- of whichever instant is sought, these calls run where they can run in turn behind those that ran
   abbrev pub RunsInTurn : List StoredPart → List ℕ → (found found' : Found) → Type 0
   RunsInTurn parts cs found found' =
-      (f : ℕ) (now : Instant) (past : World) (before : List ℕ) → IsPrepared p orders → map part_of parts ≡ node_parts p (node_at p f) → IsSought p f present old now past → IsOf p f now found
+      (f : ℕ) (now : Instant) (past : World) (before : List ℕ) → IsPrepared p orders → map part_of parts ≡ node_parts p (node_at p f) → IsSought p f present old now past → IsOf p f now past found
       → CanRunInTurn (sites p (node_at p f)) (IsFound (map entry_of found.row.items) now) before cs → Each (λ c. has_run found.called.items c ≡ true) before
-      → RanMore p f now found found' × Each (λ c. has_run found'.called.items c ≡ true) cs
+      → RanMore p f now past found found' × Each (λ c. has_run found'.called.items c ≡ true) cs
 
   -- the node of call c runs, with this base and these inputs, where they are those of the instant that is sought
   abbrev pub RunsNode : (c g : ℕ) → Bool → (given : Row) → (found found' : Found) → Type 0
   RunsNode c g on given found found' =
-      (f : ℕ) (now : Instant) (past : World) (s : Site) → IsPrepared p orders → IsSought p f present old now past → IsOf p f now found
+      (f : ℕ) (now : Instant) (past : World) (s : Site) → IsPrepared p orders → IsSought p f present old now past → IsOf p f now past found
       → slice_get (sites p (node_at p f)) c ≡ Some s → s.node ≡ g → on ≡ is_on s.base now → given ≡ inputs_given p s.args (node_at p g) s.args s.base 0 now past
-      → RanMore p f now found found' × (has_run found'.called.items c ≡ true)
+      → RanMore p f now past found found' × (has_run found'.called.items c ≡ true)
 
   -- all variables are found, and all calls ran
   abbrev pub FindsAll : Node → List ℕ → (found found' : Found) → Type 0
   FindsAll g order found found' =
-      (f : ℕ) (now : Instant) (past : World) → IsPrepared p orders → g ≡ node_at p f → IsOrder g (reverse order) → IsSought p f present old now past → IsOf p f now found
-      → IsOf p f now found' × ((x : ℕ) → IsFound (map entry_of found'.row.items) now x) × ((c : ℕ) → has_run found'.called.items c ≡ true)
+      (f : ℕ) (now : Instant) (past : World) → IsPrepared p orders → g ≡ node_at p f → IsOrder g (reverse order) → IsSought p f present old now past → IsOf p f now past found
+      → IsOf p f now past found' × ((x : ℕ) → IsFound (map entry_of found'.row.items) now x) × ((c : ℕ) → has_run found'.called.items c ≡ true)
 
 -- the places of the calls among parts, the first of which is at place i
 abbrev pub call_place : StoredPart → ℕ → List ℕ

@@ -1,8 +1,9 @@
 pub mod Moments
 pub mod Following
-pub mod Fitting
+pub mod Passing
 pub mod Judging
 pub mod Turns
 pub mod Finding
 pub mod Beginning
 pub mod Worlds
+pub mod Existing

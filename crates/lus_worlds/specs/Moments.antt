@@ -1,5 +1,5 @@
 -- Instants of nodes that the code holds, and what is kept behind them.
-use Rattle.std.specs.Prelude.{◌≡◌, ℕ, suc, Bool, true, false, List, [], ◌∷◌, Option, MatchOption}
+use Rattle.std.specs.Prelude.{◌≡◌, ℕ, Bool, List, [], ◌∷◌, Option, None, Some, MatchOption}
 use Rattle.std.specs.Option.{option_map}
 use Rattle.lus_values.specs.Values.{Row}
 use Rattle.lus_program.specs.Programs.{Program, node_at}
@@ -7,21 +7,19 @@ use Rattle.lus_program.specs.Resolved.{Resolved}
 use Rattle.lus_streams.specs.Clocks.{Part}
 use Rattle.lus_streams.specs.Equations.{node_parts, Site, sites}
 use Rattle.lus_streams.specs.OnClock.{ProgramOnClocks}
-use Rattle.lus_streams.specs.Streams.{Instant, instant, Called, nobody, also, World, called_instant, called_world, IsFed, IsInstant}
-use Rattle.lus_attempts.specs.Attempts.{EquationsFollow, IsAttempt, HasInputs, FaultAt}
+use Rattle.lus_streams.specs.Streams.{Instant, instant, Called, nobody, also, World, called_instant, called_world, IsInstant}
+use Rattle.lus_attempts.specs.Attempts.{IsAttempt, HasInputs, FaultAt}
 use Rattle.lus_parts.specs.declared.part.Part.{Part as StoredPart}
 use Rattle.lus_parts.specs.Parts.{part_of}
 use Rattle.lus_reference.specs.Causes.{Operation, operation_in, IsCause}
 use Rattle.lus_reference.specs.Kept.{Keeps}
 use Rattle.lus_worlds.specs.declared.moment.Fault.{Fault}
-use Rattle.lus_worlds.specs.declared.moment.Verdict.{Verdict}
-use Rattle.lus_worlds.specs.declared.moment.Verdict.TheVariants as verdicts
 use Rattle.lus_worlds.specs.declared.moment.Moment.{Moment, Moment', Row_of-Moment, end_of-Moment, more_of-Moment, out-Moment}
 
 -- an instant and the instants of the called nodes
 abbrev mutual
   pub instant_of : Moment → Instant
-  instant_of (Moment' node present row kept complete verdict shape called) = instant present row (called_in called)
+  instant_of (Moment' present row kept fault shape called) = instant present row (called_in called)
 
   pub called_in : {m : _} → Row_of-Moment m → Called
   called_in end_of-Moment = nobody
@@ -30,9 +28,6 @@ abbrev mutual
 abbrev pub called_of : List Moment → Called
 called_of [] = nobody
 called_of (j ∷ js) = also (instant_of j) (called_of js)
-
-abbrev pub node_in : Moment → ℕ
-node_in m = (out-Moment m).node
 
 abbrev pub present_in : Moment → Bool
 present_in m = (out-Moment m).present
@@ -46,11 +41,8 @@ row_in m = (out-Moment m).row
 abbrev pub moments_in : Moment → List Moment
 moments_in m = (out-Moment m).called.items
 
-abbrev pub verdict_in : Moment → Verdict
-verdict_in m = (out-Moment m).verdict
-
-abbrev pub complete_in : Moment → Bool
-complete_in m = (out-Moment m).complete
+abbrev pub fault_in : Moment → Option Fault
+fault_in m = (out-Moment m).fault
 
 abbrev pub cause_in : Fault → Option Operation
 cause_in t = option_map operation_in t.cause
@@ -66,7 +58,7 @@ mutual
 
 abbrev mutual
   pub kept_of : Moment → Kept
-  kept_of (Moment' node present row kept complete verdict shape called) = kept_with kept (all_kept called)
+  kept_of (Moment' present row kept fault shape called) = kept_with kept (all_kept called)
 
   pub all_kept : {m : _} → Row_of-Moment m → AllKept
   all_kept end_of-Moment = nothing
@@ -112,41 +104,25 @@ module _ (p : Program) where
     pub place : t.place ≡ part.expr.now.place
     pub cause : CausedAt (cause_in t) t.way.items (part_of part) now past
 
-  -- what is said of an instant of node f after a past, behind which this is kept: that an input is missing, only where one of the
-  -- node's own is, in a resolved program on clocks
-  abbrev pub IsSaid : Verdict → Moment → ℕ → World → Type 0
-  IsSaid verdicts.Sound m f past = IsInstant p (instant_of m) f past × KeepsBehind m f (instant_of m ∷ past)
-  IsSaid (verdicts.AtFault t) m f past = NamesFault t f (instant_of m) past
-  IsSaid verdicts.Lacking m f past = Resolved p → ProgramOnClocks p → HasInputs p f (instant_of m) past → ⊥
+  -- what is said of an instant of node f after a past: the fault that is named, or that it is one of streams, where its inputs are
+  -- there, and this is kept of the longer world
+  abbrev pub IsSaid : Option Fault → Moment → ℕ → World → Type 0
+  IsSaid None m f past = HasInputs p f (instant_of m) past → IsInstant p (instant_of m) f past × KeepsBehind m f (instant_of m ∷ past)
+  IsSaid (Some t) m f past = NamesFault t f (instant_of m) past
 
-  -- what the equations of node g give at an instant after a past, and what is said of it
-  pub record IsNext (m : Moment) (g : ℕ) (past : World) : Type 0 where
-    pub attempt : IsAttempt p (instant_of m) g past
-    pub complete : complete_in m ≡ true → HasInputs p g (instant_of m) past
-    pub lacking : complete_in m ≡ false → Resolved p → HasInputs p g (instant_of m) past → ⊥
-    pub said : IsSaid (verdict_in m) m g past
+  -- what the equations of node f give at an instant after a past, and what is said of it
+  pub record IsNext (m : Moment) (f : ℕ) (past : World) : Type 0 where
+    pub attempt : IsAttempt p (instant_of m) f past
+    pub said : IsSaid (fault_in m) m f past
 
-  -- the second is an instant of its node after each past of which the first is kept
-  abbrev pub Follows : Moment → Moment → Type 0
-  Follows old m = (past : World) → KeepsBehind old (node_in m) past → IsNext m (node_in m) past
+  -- each is the next of its call
+  abbrev pub EachNext : List Moment → List Site → World → Type 0
+  EachNext [] [] past = Unit {0}
+  EachNext [] (s ∷ ss) past = ⊥
+  EachNext (m ∷ ms) [] past = ⊥
+  EachNext (m ∷ ms) (s ∷ ss) past = IsNext m s.node (called_world s.number past) × EachNext ms ss past
 
-  -- one instant follows behind each
-  abbrev pub EachFollows : List Moment → List Moment → Type 0
-  EachFollows [] [] = Unit {0}
-  EachFollows [] (m ∷ ms) = ⊥
-  EachFollows (old ∷ olds) [] = ⊥
-  EachFollows (old ∷ olds) (m ∷ ms) = Follows old m × EachFollows olds ms
-
-  -- the instants from number n on are those of these calls
-  abbrev pub EachFits : ℕ → List Moment → List Site → Instant → World → Type 0
-  EachFits n [] [] now past = Unit {0}
-  EachFits n [] (s ∷ ss) now past = ⊥
-  EachFits n (m ∷ ms) [] now past = ⊥
-  EachFits n (m ∷ ms) (s ∷ ss) now past = (s.number ≡ n) × (node_in m ≡ s.node) × IsFed p s (instant_of m) now past × EachFits (suc n) ms ss now past
-
-  -- after no past of which this is kept these entries are what the equations of node g give and these instants those of its calls
-  abbrev pub IsRefused : ℕ → Bool → (row : Row) → List Moment → Moment → Type 0
-  IsRefused g present row ms old =
-      (past : World) → KeepsBehind old g past
-      → (let now = instant present row (called_of ms) in
-      EquationsFollow p (node_at p g) now past → EachFits 0 ms (sites p (node_at p g)) now past → ⊥)
+  -- behind what is kept of node f, an instant that its equations give is the next one, where each of these is the next of its call
+  abbrev pub IsNextAmong : ℕ → List Moment → (old m : Moment) → Type 0
+  IsNextAmong f ms old m =
+      (past : World) → Resolved p → ProgramOnClocks p → KeepsBehind old f past → IsAttempt p (instant_of m) f past → EachNext ms (sites p (node_at p f)) past → IsNext m f past

@@ -10,7 +10,7 @@ ghost use Rattle.lus_reference.specs.Given.{callee as callee_in};
 ghost use Rattle.lus_worlds.specs.Beginning.{Begins, IsWithin};
 ghost use Rattle.lus_worlds.specs.Moments.{EachKeeps, KeepsBehind};
 
-use crate::moment::{Moment, Verdict};
+use crate::moment::Moment;
 use lus_parts::{Part, parts_of};
 use lus_program::{Expr, Form, Program};
 use lus_values::{Memory, Row};
@@ -43,12 +43,10 @@ fn start_within(
             let parts = parts_of(alloc, program, node)?;
             match start_calls(alloc, program, depth - 1, &parts)? {
                 Some(called) => Ok(Some(Moment {
-                    node: number,
                     present: false,
                     row: Row::new(Vec::new(alloc)),
                     kept: Row::new(Vec::new(alloc)),
-                    complete: false,
-                    verdict: Verdict::Lacking,
+                    fault: None,
                     called,
                 })),
                 None => Ok(None),

@@ -1,6 +1,6 @@
-//! What is said of an instant: whether something is at fault in it, or an input is missing.
+//! Which part is at fault at an instant, in the node or in one that it calls.
 
-ghost use Rattle.std.specs.Prelude.{◌≡◌, ◌∷◌, IfOk, IsTrue, MatchOption, false, map};
+ghost use Rattle.std.specs.Prelude.{◌≡◌, ◌∷◌, IfOk, IsTrue, MatchOption, None, Some, false, map};
 ghost use Rattle.std.specs.Option.{option_map};
 ghost use Rattle.lus_program.specs.View.{program_seen};
 ghost use Rattle.lus_values.specs.View.{entry_of, value_of};
@@ -8,11 +8,10 @@ ghost use Rattle.lus_parts.specs.Nested.{AreNested};
 ghost use Rattle.lus_parts.specs.Parts.{part_of};
 ghost use Rattle.lus_reference.specs.Causes.{operation_in};
 ghost use Rattle.lus_reference.specs.Parts.{IsFaultOf};
-ghost use Rattle.lus_worlds.specs.Judging.{EachFaultless, EachSound, IsFault, IsFaultBelow, IsFaultHere, IsFaultless, IsVerdict, NoFaultHere, SomeLacks};
-ghost use Rattle.lus_worlds.specs.Moments.{cause_in, row_in, verdict_in};
-ghost use Rattle.lus_worlds.specs.declared.moment.Verdict.TheVariants as verdicts;
+ghost use Rattle.lus_worlds.specs.Judging.{EachFaultless, IsFault, IsFaultBelow, IsFaultHere, IsJudged, NoFaultHere};
+ghost use Rattle.lus_worlds.specs.Moments.{cause_in, fault_in, row_in};
 
-use crate::moment::{Fault, Moment, Verdict};
+use crate::moment::{Fault, Moment};
 use lus_parts::Part;
 use lus_program::Program;
 use lus_reference::{Operation, cause_in};
@@ -123,18 +122,17 @@ fn is_wanted(fault: &Fault, is_cause: bool) -> bool
 
 /// The fault of an instant, if it has one, or one with its cause, if that is wanted.
 fn fault_of(moment: &Moment, is_cause: bool) -> Option<&Fault>
-    ensures { MatchOption result (is_cause ≡ false → IsFaultless (verdict_in moment.now)) (λ t. verdict_in moment.now ≡ verdicts.AtFault t.now) }
+    ensures { MatchOption result (is_cause ≡ false → fault_in moment.now ≡ None) (λ t. fault_in moment.now ≡ Some t.now) }
 {
-    match &moment.verdict {
-        Verdict::Sound => None,
-        Verdict::Lacking => None,
-        Verdict::AtFault(fault) => {
+    match &moment.fault {
+        Some(fault) => {
             if is_wanted(fault, is_cause) {
                 Some(fault)
             } else {
                 None
             }
         }
+        None => None,
     }
 }
 
@@ -154,22 +152,6 @@ fn fault_among(alloc: Global, called: &[Moment], is_cause: bool) -> Result<Optio
         }
     }
     Ok(None)
-}
-
-/// Whether nothing is missing in these instants, at which nothing is at fault.
-fn all_sound(called: &[Moment]) -> bool
-    requires { EachFaultless called.now }
-    ensures sound { IsTrue result → EachSound called.now }
-    ensures lacks { result ≡ false → SomeLacks called.now }
-{
-    for moment in called {
-        match &moment.verdict {
-            Verdict::Sound => {}
-            Verdict::AtFault(_) => return false,
-            Verdict::Lacking => return false,
-        }
-    }
-    true
 }
 
 /// A cause of a part's fault, here or in a called node, or this fault, where none is found.
@@ -198,8 +180,8 @@ fn cause_of(
     }
 }
 
-/// What is said of an instant with these instants of called nodes, at which the part at this place is at fault, if one is: a part at
-/// fault, here or in them, a cause before others.
+/// The part that is at fault at an instant with these instants of called nodes, if one is: here, where the one at this place is, or
+/// in them; a cause before others.
 pub fn judge(
     alloc: Global,
     program: &Program,
@@ -209,32 +191,23 @@ pub fn judge(
     parts: &[Part<'_>],
     kept: &[Option<Value>],
     called: &[Moment],
-    complete: bool,
     fault: Option<usize>,
-) -> Result<Verdict, Memory>
+) -> Result<Option<Fault>, Memory>
     requires rows { rows.now ≡ map row_in called.now }
     requires nested { AreNested (program_seen program.now) (map part_of parts.now) }
     requires fault { IsFaultOf (program_seen program.now) present (map entry_of row.now) rows.now (map part_of parts.now) (map entry_of kept.now) fault }
-    ensures { IfOk result (IsVerdict (program_seen program.now) present (map entry_of row.now) parts.now (map entry_of kept.now) called.now complete) }
+    ensures { IfOk result (IsJudged (program_seen program.now) present (map entry_of row.now) parts.now (map entry_of kept.now) called.now) }
 {
     let here = fault_here(
         alloc, program, present, row, rows, parts, kept, called, fault,
     );
-    if let Some(fault) = here {
-        let cause = cause_of(
-            alloc, program, present, row, rows, parts, kept, called, fault,
-        )?;
-        return Ok(Verdict::AtFault(cause));
-    }
-    if let Some(fault) = fault_among(alloc, called, false)? {
-        return Ok(Verdict::AtFault(fault));
-    }
-    if !complete {
-        return Ok(Verdict::Lacking);
-    }
-    if all_sound(called) {
-        Ok(Verdict::Sound)
-    } else {
-        Ok(Verdict::Lacking)
+    match here {
+        Some(fault) => {
+            let cause = cause_of(
+                alloc, program, present, row, rows, parts, kept, called, fault,
+            )?;
+            Ok(Some(cause))
+        }
+        None => fault_among(alloc, called, false),
     }
 }

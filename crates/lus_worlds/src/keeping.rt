@@ -1,9 +1,9 @@
 //! Copies of what is kept.
 
 ghost use Rattle.std.specs.Prelude.{◌≡◌, IfOk};
-ghost use Rattle.lus_worlds.specs.Moments.{kept_by, kept_of, node_in};
+ghost use Rattle.lus_worlds.specs.Moments.{kept_by, kept_of};
 
-use crate::moment::{Moment, Verdict};
+use crate::moment::Moment;
 use lus_values::{Memory, Row};
 use std::alloc::Global;
 
@@ -15,12 +15,10 @@ pub fn keep(alloc: Global, moment: &Moment) -> Result<Moment, Memory>
     let kept = moment.kept.copy(alloc)?;
     let called = keep_all(alloc, &moment.called)?;
     Ok(Moment {
-        node: moment.node,
         present: false,
         row: Row::new(Vec::new(alloc)),
         kept,
-        complete: false,
-        verdict: Verdict::Lacking,
+        fault: None,
         called,
     })
 }

@@ -18,30 +18,17 @@ pub struct Fault {
     pub cause: Option<Operation>,
 }
 
-/// What is said of an instant of a node and of the nodes that it calls.
-#[derive(Drop)]
-pub enum Verdict {
-    /// Nothing is at fault, and no input is missing.
-    Sound,
-    AtFault(Fault),
-    /// An input is missing.
-    Lacking,
-}
-
 /// An instant of a node and of the nodes that it calls, and what is kept of them behind it.
 #[derive(Drop)]
 pub struct Moment {
-    /// The node's number in the program.
-    pub node: u32,
     /// Whether the node's base clock is present.
     pub present: bool,
     /// The entries of the node's variables.
     pub row: Row,
     /// What is kept of each part of the node's text.
     pub kept: Row,
-    /// Whether each input has an entry where its clock is present.
-    pub complete: bool,
-    pub verdict: Verdict,
+    /// A part at fault, in the node or in one that it calls, if there is one.
+    pub fault: Option<Fault>,
     /// The same instant of each node that it calls, by the calls' numbers.
     pub called: Vec<Moment>,
 }

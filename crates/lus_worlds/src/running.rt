@@ -6,16 +6,16 @@ ghost use Rattle.lus_parts.specs.Parts.{part_of};
 ghost use Rattle.lus_program.specs.View.{node_of, operands_of, program_seen};
 ghost use Rattle.lus_reference.specs.Placed.{ArePlaces};
 ghost use Rattle.lus_streams.specs.Equations.{node_parts};
-ghost use Rattle.lus_worlds.specs.Finding.{call_places, CallsHere, Finds, FindsAll, IsOther, IsPrepared, MayFollow, RunsInTurn, RunsNode};
-ghost use Rattle.lus_worlds.specs.Moments.{Follows, moments_in, node_in};
+ghost use Rattle.lus_worlds.specs.Finding.{call_places, CallsHere, Finds, FindsAll, IsOther, IsPrepared, RunsInTurn, RunsNode};
+ghost use Rattle.lus_worlds.specs.Moments.{moments_in};
 
 use crate::calling::sites_of;
+use crate::closing::close;
 use crate::entries::entries_from;
 use crate::finding::{Found, all_called, calls_of, last_first, order_at};
-use crate::fitting::pass_at;
 use crate::following::place_at;
 use crate::moment::Moment;
-use crate::settling::settle;
+use crate::passing::pass_at;
 use lus_parts::{Part, parts_of};
 use lus_program::{Expr, Form, Node, Program};
 use lus_reference::{Place, places_of};
@@ -33,8 +33,7 @@ pub fn attempt(
     inputs: &[Option<Value>],
     old: &Moment,
 ) -> Result<Option<Moment>, Memory>
-    ensures follows { IfOk result (λ o. MatchOption o (Unit {0}) (λ m. (node_in m ≡ number) × Follows (program_seen program.now) old.now m)) }
-    ensures finds { let p = program_seen program.now in
+    ensures { let p = program_seen program.now in
         IfOk result (λ o. IsPrepared p (map (λ order. order.items) orders.now) → number < length p.nodes → Finds p number present (map entry_of inputs.now) old.now o) }
 {
     match program.nodes.get(number as usize) {
@@ -49,9 +48,12 @@ pub fn attempt(
                 &mut found,
             )?;
             match all_called(alloc, found.called)? {
-                Some(called) => settle(
-                    alloc, program, number, node, &parts, &places, present, found.row, called, old,
-                ),
+                Some(called) => {
+                    let moment = close(
+                        alloc, program, number, node, &parts, present, found.row, called, old,
+                    )?;
+                    Ok(Some(moment))
+                }
                 None => Ok(None),
             }
         }
@@ -77,8 +79,8 @@ fn find(
     requires parts { map part_of parts.now ≡ node_parts (program_seen program.now) (node_of node.now) }
     requires places { ArePlaces node.now places.now }
     requires sites { sites.now ≡ call_places parts.now 0 }
-    requires may { MayFollow (program_seen program.now) (moments_in old.now) found.old.called.items }
-    ensures may { OnOk result (MayFollow (program_seen program.now) (moments_in old.now) found.new.called.items) }
+    requires count { length found.old.called.items ≡ length (moments_in old.now) }
+    ensures count { OnOk result (length found.new.called.items ≡ length (moments_in old.now)) }
     ensures all { OnOk result (FindsAll (program_seen program.now) (map (λ order. order.items) orders.now) present old.now (node_of node.now) order.now found.old found.new) }
 {
     for variable in order {
@@ -120,8 +122,8 @@ fn run_calls(
     found: &mut Found,
 ) -> Result<(), Memory>
     requires sites { sites.now ≡ call_places parts.now 0 }
-    requires may { MayFollow (program_seen program.now) (moments_in old.now) found.old.called.items }
-    ensures may { OnOk result (MayFollow (program_seen program.now) (moments_in old.now) found.new.called.items) }
+    requires count { length found.old.called.items ≡ length (moments_in old.now) }
+    ensures count { OnOk result (length found.new.called.items ≡ length (moments_in old.now)) }
     ensures run { OnOk result (RunsInTurn (program_seen program.now) (map (λ order. order.items) orders.now) present old.now parts.now calls.now found.old found.new) }
 {
     for call in calls {
@@ -146,8 +148,8 @@ fn run_call(
     found: &mut Found,
 ) -> Result<(), Memory>
     requires sites { sites.now ≡ call_places parts.now 0 }
-    requires may { MayFollow (program_seen program.now) (moments_in old.now) found.old.called.items }
-    ensures may { OnOk result (MayFollow (program_seen program.now) (moments_in old.now) found.new.called.items) }
+    requires count { length found.old.called.items ≡ length (moments_in old.now) }
+    ensures count { OnOk result (length found.new.called.items ≡ length (moments_in old.now)) }
     ensures runs { OnOk result (RunsInTurn (program_seen program.now) (map (λ order. order.items) orders.now) present old.now parts.now (call ∷ []) found.old found.new) }
 {
     if found.has(call) {
@@ -220,8 +222,8 @@ fn run_node(
     call: usize,
     found: &mut Found,
 ) -> Result<(), Memory>
-    requires { MayFollow (program_seen program.now) (moments_in old.now) found.old.called.items }
-    ensures may { OnOk result (MayFollow (program_seen program.now) (moments_in old.now) found.new.called.items) }
+    requires { length found.old.called.items ≡ length (moments_in old.now) }
+    ensures count { OnOk result (length found.new.called.items ≡ length (moments_in old.now)) }
     ensures runs { OnOk result ((present : Bool) → RunsNode (program_seen program.now) (map (λ order. order.items) orders.now) present old.now call called on (map entry_of inputs.now) found.old found.new) }
 {
     match old.called.get(call) {

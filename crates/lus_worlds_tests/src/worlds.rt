@@ -87,7 +87,7 @@ fn stops(alloc: Global, ordered: &Ordered, old: &Moment) -> Result<bool, Memory>
         given.items(),
         old,
     ) {
-        Err(Stop::AtFault(fault)) => {
+        Err(Stop::Fault(fault)) => {
             let here = fault.way.is_empty() && fault.place.line == 3 && fault.place.column == 7;
             Ok(here && is_division(&fault))
         }

@@ -1,5 +1,5 @@
 -- Calls go down, and one part more is begun.
-use Rattle.std.proofs.Common.{◌≡◌, ◌∙◌, false, ◌+◌, ◌≤◌, suc, [], ◌∷◌, drop, drop-cons, drop_of_length-le, length, map, sym, ap, subst, append-nil, arith, rules}
+use Rattle.std.proofs.Common.{◌≡◌, ◌∙◌, None, false, ◌+◌, ◌≤◌, suc, [], ◌∷◌, drop, drop-cons, drop_of_length-le, length, map, sym, ap, subst, append-nil, arith, rules}
 use Rattle.std.proofs.lemmas.Grind.{common_steps}
 use Rattle.lus_program.specs.Programs.{node_at}
 use Rattle.lus_values.specs.View.{entry_of}
@@ -7,7 +7,6 @@ use Rattle.lus_program.specs.View.{node_of, program_seen}
 use Rattle.lus_streams.specs.Equations.{node_parts, sites_in}
 use Rattle.lus_parts.specs.Parts.{part_of}
 use Rattle.lus_worlds.specs.declared.moment.Moment.{Moment, roll-Moment, the_lemmas}
-use Rattle.lus_worlds.specs.declared.moment.Verdict.TheVariants as verdicts
 use Rattle.lus_worlds.specs.Beginning.{Begins, IsWithin}
 use Rattle.lus_worlds.specs.Moments.{kept_in, moments_in, KeepsBehind, EachKeeps}
 use Rattle.lus_worlds.proofs.Begun.{all_begun, begun, begun_further, call_begins, other_begins, BegunFrom}
@@ -59,7 +58,7 @@ start_within-returns-in-Some-2 t c =
     let p = program_seen c.args.program.now in
     let g = c.args.number in
     let ms = c.in-Some-2.called.items in
-    let made : Moment = roll-Moment (record { node = g; present = false; row = c.new-in-Some-2.result; kept = c.new-in-Some-2-3.result; complete = false; verdict = verdicts.Lacking; called = c.in-Some-2.called }) in
+    let made : Moment = roll-Moment (record { present = false; row = c.new-in-Some-2.result; kept = c.new-in-Some-2-3.result; fault = None; called = c.in-Some-2.called }) in
     let ek : c.new-in-Some-2-3.result ≡ kept_in made = search (rules, the_lemmas) in
     let em : ms ≡ moments_in made = search (rules, the_lemmas) in
     let node_is : node_of c.in-Some.node.now ≡ node_at p g = first_of (search rules, grind (arith, common_steps)) in

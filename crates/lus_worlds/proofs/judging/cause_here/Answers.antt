@@ -14,8 +14,7 @@ use Rattle.lus_reference.specs.Causes.{IsCause, IsCauseOf, operation_in}
 use Rattle.lus_reference.specs.Kept.{AreRowsFrom}
 use Rattle.lus_reference.proofs.Parts.{item_there}
 use Rattle.lus_worlds.specs.Moments.{called_of}
-use Rattle.lus_worlds.proofs.Fits.{called_rows}
-use Rattle.lus_worlds.proofs.Moments.{get_there}
+use Rattle.lus_worlds.proofs.Moments.{called_rows, get_there}
 use Rattle.lus_worlds.proofs.judging.cause_here.Goals as goal
 
 pub returns-in-Some : goal.returns-in-Some
@@ -35,7 +34,7 @@ returns-in-Some c =
     let within : i < length (map part_of qs) = cause.within in
     let lt : i < length qs = omega (arith, length-map qs part_of, within) in
     let rest : drop i qs ≡ q ∷ drop (suc i) qs = drop-cons qs i q lt ∙ (λ j. sym c.index-parts-cause.is j ∷ drop (suc i) qs) in
-    let called : AreRowsFrom now 0 rows = subst (AreRowsFrom now 0) (sym c.requires.rows) (called_rows p b row ms) in
+    let called : AreRowsFrom now 0 rows = subst (AreRowsFrom now 0) (sym c.requires.rows) (called_rows b row ms) in
     record {
       part = q;
       number = i;

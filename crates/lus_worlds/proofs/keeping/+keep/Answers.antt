@@ -1,9 +1,8 @@
 -- What a copy keeps is what the instant keeps, and what its calls keep.
-use Rattle.std.proofs.Common.{◌≡◌, ◌∙◌, false, map, sym, ap, arith, rules}
+use Rattle.std.proofs.Common.{◌≡◌, ◌∙◌, None, false, map, sym, ap, arith, rules}
 use Rattle.std.proofs.lemmas.Grind.{common_steps}
 use Rattle.lus_worlds.specs.declared.moment.Moment.{Moment, roll-Moment, the_lemmas}
-use Rattle.lus_worlds.specs.declared.moment.Verdict.TheVariants as verdicts
-use Rattle.lus_worlds.specs.Moments.{kept_by, kept_in, kept_of, kept_with, moments_in, node_in}
+use Rattle.lus_worlds.specs.Moments.{kept_by, kept_in, kept_of, kept_with, moments_in}
 use Rattle.lus_worlds.proofs.Moments.{kept_seen, kept_alike}
 use Rattle.lus_worlds.proofs.keeping.+keep.Goals as goal
 
@@ -11,7 +10,7 @@ pub keep-returns : goal.keep-returns
 keep-returns t c =
     let m = c.args.moment.now in
     let ms = c.in_ok-called.called.items in
-    let made : Moment = roll-Moment (record { node = node_in m; present = false; row = c.new-2.result; kept = c.in_ok-kept.kept; complete = false; verdict = verdicts.Lacking; called = c.in_ok-called.called }) in
+    let made : Moment = roll-Moment (record { present = false; row = c.new-2.result; kept = c.in_ok-kept.kept; fault = None; called = c.in_ok-called.called }) in
     let ek : c.in_ok-kept.kept ≡ kept_in made = search (rules, the_lemmas) in
     let em : ms ≡ moments_in made = search (rules, the_lemmas) in
     let own : kept_in made ≡ kept_in m = sym ek ∙ c.in_ok-kept.ensures in

@@ -1,5 +1,5 @@
--- What was found so far follows and is what is sought, with one instant more, and where all are there.
-use Rattle.std.proofs.Common.{◌≡◌, ◌∙◌, ℕ, zero, suc, ◌+◌, ◌<◌, ◌≤◌, Bool, List, [], ◌∷◌, ◌++◌, Option, Some, None, Result, Ok, Err, IfOk, OnOk, MatchOption, drop, drop-cons, drop_of_length-le, get_or, take, length, map, refl, sym, ap, subst, slice_get, slice_set, arith, rules}
+-- What was found so far is what is sought, with one instant more, and where all are there.
+use Rattle.std.proofs.Common.{◌≡◌, ◌∙◌, ℕ, zero, suc, ◌+◌, ◌<◌, ◌≤◌, Bool, List, [], ◌∷◌, ◌++◌, Some, Result, Ok, Err, OnOk, drop, drop-cons, drop_of_length-le, get_or, take, length, map, refl, sym, ap, subst, slice_get, arith, rules}
 use Rattle.std.proofs.Math.ListN.{length-map}
 use Rattle.std.proofs.lemmas.Grind.{common_steps}
 use Rattle.std.proofs.lemmas.List.{take_all, take-append-drop}
@@ -12,13 +12,11 @@ use Rattle.lus_streams.specs.Equations.{node_parts}
 use Rattle.lus_parts.specs.Parts.{part_of}
 use Rattle.lus_reference.specs.Placed.{ArePlaces, place_of}
 use Rattle.lus_reference.proofs.Drops.{dropped_map}
-use Rattle.lus_worlds.specs.declared.moment.Moment.{Moment}
-use Rattle.lus_worlds.specs.Finding.{call_places, CallsHere, FindsAll, has_run, IsFoundBy, MayFollow, RunsInTurn, RunsNode}
-use Rattle.lus_worlds.specs.Fitting.{PassesAt}
-use Rattle.lus_worlds.specs.Moments.{kept_in, moments_in, Follows}
+use Rattle.lus_worlds.specs.Finding.{call_places, CallsHere, FindsAll, has_run, IsFoundBy, RunsInTurn, RunsNode}
+use Rattle.lus_worlds.specs.Passing.{PassesAt}
+use Rattle.lus_worlds.specs.Moments.{kept_in, moments_in}
 use Rattle.lus_worlds.specs.Turns.{below, turns_of}
-use Rattle.lus_worlds.proofs.Found.{all_follow, blank_may, may_length, may_set}
-use Rattle.lus_worlds.proofs.InOrder.{find_all, find_next, find_past, none_settled, one_settled, run_here, run_none, run_other, run_past_last, run_then, some_missing, FindsSoFar, IsBegun}
+use Rattle.lus_worlds.proofs.InOrder.{find_all, find_next, find_past, all_found, run_here, run_none, run_other, run_past_last, run_then, some_missing, FindsSoFar, IsBegun}
 use Rattle.lus_worlds.proofs.CallPlaces.{get_dropped, place_within}
 use Rattle.lus_worlds.proofs.Runs.{none_found, none_there, one_found}
 use Rattle.lus_worlds.proofs.running.+attempt.Goals as goal
@@ -28,13 +26,6 @@ take_more zero [] rest x e = absurd (cc)
 take_more (suc i) [] rest x e = absurd (cc)
 take_more zero (y ∷ ys) rest x e = let same : y ≡ x = cc in ap (λ z. z ∷ []) same
 take_more (suc i) (y ∷ ys) rest x e = ap (λ l. y ∷ l) (take_more i ys rest x e)
-
--- what is said of a result, from what each of its clauses says
-either_way : {E : Type 0} (r : Result (Option Moment) E) (P : Type 0) (M : Moment → Type 0) (F : Option Moment → Type 0) → (P → F None) → ((m : Moment) → M m → F (Some m))
-    → IfOk r (λ o. MatchOption o P (λ m. Unit {0})) → IfOk r (λ o. MatchOption o (Unit {0}) M) → IfOk r F
-either_way (Ok None) P M F none some p m = none p
-either_way (Ok (Some k)) P M F none some p m = some k m
-either_way (Err e) P M F none some p m = tt
 
 three : {T E P Q R S : Type 0} (r : Result T E) → (P → Q → R → S) → OnOk r P → OnOk r Q → OnOk r R → OnOk r S
 three (Ok x) f p q r = f p q r
@@ -49,18 +40,10 @@ attempt-find-requires t c =
     let places : ArePlaces c.in-Some.node.now c.deref-in-Some-3.result.now = subst (ArePlaces c.in-Some.node.now) (sym c.deref-in-Some-3.ensures.value) c.in_ok-places-in-Some.ensures in
     let sites : c.deref-in-Some-4.result.now ≡ call_places c.deref-in-Some-2.result.now 0 =
     c.deref-in-Some-4.ensures.value ∙ c.in_ok-sites-in-Some.ensures ∙ ap (λ l. call_places l 0) (c.deref-in-Some.ensures.value ∙ sym c.deref-in-Some-2.ensures.value) in
-    (omega arith, (parts, (places, (sites, blank_may (program_seen c.args.program.now) olds os count c.in_ok-found-in-Some.ensures.blank))))
+    (omega arith, (parts, (places, (sites, count))))
 
-pub attempt-settle-requires-clause-called : goal.attempt-settle-requires-clause-called
-attempt-settle-requires-clause-called t c =
-    let p = program_seen c.args.program.now in
-    let olds = moments_in c.args.old.now in
-    let ms = c.in-Some-2.called.items in
-    let whole : map (λ m. Some m) ms ≡ c.find.new.found.called.items = rw c.in-Some-2.is at c.in_ok-called-in-Some.ensures in
-    all_follow p olds ms (subst (MayFollow p olds) (sym whole) c.in_ok-find-in-Some.ensures.may)
-
-pub attempt-returns-in-Some-clause-finds : goal.attempt-returns-in-Some-clause-finds
-attempt-returns-in-Some-clause-finds t c =
+pub attempt-returns-in-Some : goal.attempt-returns-in-Some
+attempt-returns-in-Some t c =
     let p = program_seen c.args.program.now in
     let orders = map (λ order. order.items) c.args.orders.now in
     let f = c.args.number in
@@ -80,8 +63,8 @@ attempt-returns-in-Some-clause-finds t c =
     let missing : (n : ℕ) × (has_run d.called.items n ≡ _) = rw c.in-None-2.is at c.in_ok-called-in-Some.ensures in
     some_missing p orders f b given old c.order_at-order.result.now a d begun c.order_at-order.ensures finds missing.0 missing.1
 
-pub attempt-returns-in-Some-2-clause-finds : goal.attempt-returns-in-Some-2-clause-finds
-attempt-returns-in-Some-2-clause-finds t c =
+pub attempt-returns-in-Some-2 : goal.attempt-returns-in-Some-2
+attempt-returns-in-Some-2 t c =
     let p = program_seen c.args.program.now in
     let orders = map (λ order. order.items) c.args.orders.now in
     let f = c.args.number in
@@ -100,10 +83,7 @@ attempt-returns-in-Some-2-clause-finds t c =
     (c.in_ok-found-in-Some.ensures.width ∙ total, λ x lt. c.in_ok-found-in-Some.ensures.inputs x (subst (λ n. x < n) (sym total) lt), c.in_ok-found-in-Some.ensures.rows, count, c.in_ok-found-in-Some.ensures.blank) in
     let finds : FindsAll p orders b old (node_at p f) c.order_at-order.result.now a d = subst (λ g. FindsAll p orders b old g c.order_at-order.result.now a d) node_is c.in_ok-find-in-Some.ensures.all in
     let whole : map (λ m. Some m) ms ≡ d.called.items = rw c.in-Some-2.is at c.in_ok-called-in-Some.ensures in
-    either_way c.settle.result _ _ _
-    (none_settled p orders f b given old c.order_at-order.result.now a d begun c.order_at-order.ensures finds ms whole)
-    (one_settled p orders f b given old c.order_at-order.result.now a d begun c.order_at-order.ensures finds ms whole)
-    c.settle.ensures.refused c.settle.ensures.made
+    all_found p orders f b given old c.order_at-order.result.now a d begun c.order_at-order.ensures finds ms whole c.in_ok-moment-in-Some-2.moment c.in_ok-moment-in-Some-2.ensures.made c.in_ok-moment-in-Some-2.ensures.next
 
 pub find-loop-variable-preserved : goal.find-loop-variable-preserved
 find-loop-variable-preserved t c =
@@ -130,7 +110,7 @@ find-loop-variable-preserved t c =
     let by : IsFoundBy p g x b (kept_in old) d.rows.items (map entry_of d.row.items) (map entry_of e.row.items) =
     subst (λ k. IsFoundBy p g x b k d.rows.items (map entry_of d.row.items) (map entry_of e.row.items)) c.items.ensures c.in_ok-find_variable.ensures.row in
     record {
-      may = subst (λ v. MayFollow p (moments_in old) v.items) (sym c.in_ok-find_variable.ensures.called) c.in_ok-run_calls.ensures.may;
+      count = ap (λ v. length v.items) c.in_ok-find_variable.ensures.called ∙ c.in_ok-run_calls.ensures.count;
       found = subst (λ l. FindsSoFar p orders b old g xs l first e) (sym taken)
           (find_next p orders b old g xs (take i xs) (drop (suc i) xs) x qs first a d e c.loop-variable.invariant.found whole c.requires.parts runs c.in_ok-find_variable.ensures.called c.in_ok-find_variable.ensures.rows by);
     }
@@ -150,7 +130,7 @@ find-loop-variable-preserved-then-variable-places t c =
     let count = c.requires.places.count in
     let past : length g.variables ≤ x = omega (arith, count, length-map vs variable_of, c.if-variable-places.true) in
     record {
-      may = c.loop-variable.invariant.may;
+      count = c.loop-variable.invariant.count;
       found = subst (λ l. FindsSoFar p orders c.args.present c.args.old.now g xs l c.args.found.now c.loop-variable.found) (sym taken)
           (find_past p orders c.args.present c.args.old.now g xs (take i xs) x c.args.found.now c.loop-variable.found c.loop-variable.invariant.found past);
     }
@@ -190,7 +170,7 @@ run_calls-loop-call-preserved t c =
     let next : i + 1 ≡ suc i = omega arith in
     let rest : drop i cs ≡ x ∷ drop (suc i) cs = drop-cons cs i 0 c.loop-call-test.true in
     record {
-      may = c.in_ok-run_call.ensures.may;
+      count = c.in_ok-run_call.ensures.count;
       runs = λ found later.
           c.loop-call.invariant.runs found
           (subst (λ l. RunsInTurn p orders b old qs l a found) (sym rest)
@@ -275,9 +255,8 @@ run_call-returns-in_ok-passed-in-Some-clause-runs t c =
 
 pub run_node-add-requires : goal.run_node-add-requires
 run_node-add-requires t c =
-    let p = program_seen c.args.program.now in
     let olds = moments_in c.args.old.now in
-    let long : length c.args.found.now.called.items ≡ length olds = may_length p olds c.args.found.now.called.items c.requires in
+    let long : length c.args.found.now.called.items ≡ length olds = c.requires in
     let same : length c.deref.result.now ≡ length olds = ap length c.deref.ensures.value in
     let within : c.args.call < length c.deref.result.now = omega (arith, c.in-Some.ensures.lookup.3.0) in
     omega (arith, long, same, within)
@@ -300,7 +279,7 @@ run_node-returns-in-Some-2-clause-runs t c =
     let there : slice_get olds n ≡ Some own = subst (λ l. slice_get l n ≡ Some own) c.deref.ensures.value slot in
     let ran = rw c.in-Some-2.is at c.in_ok-moment-in-Some.ensures in
     three c.add.result
-    (λ called row rows present. one_found p orders present old n g on given a own there m ran.follows.0 ran.finds d called row rows)
+    (λ called row rows present. one_found p orders present old n g on given a own there m ran d called row rows)
     c.add.ensures.called c.add.ensures.row c.add.ensures.rows
 
 pub run_node-returns-in-None-2-clause-runs : goal.run_node-returns-in-None-2-clause-runs
@@ -315,7 +294,7 @@ run_node-returns-in-None-2-clause-runs t c =
     let slot : slice_get c.deref.result.now n ≡ Some own = slice_get_read c.deref.result.now (length c.deref.result.now) n own refl (omega (arith, c.in-Some.ensures.lookup.3.0)) c.in-Some.ensures.lookup.1 in
     let there : slice_get olds n ≡ Some own = subst (λ l. slice_get l n ≡ Some own) c.deref.ensures.value slot in
     let ran = rw c.in-None-2.is at c.in_ok-moment-in-Some.ensures in
-    λ present. none_found p orders present old n c.args.called c.args.on (map entry_of c.args.inputs.now) a own there ran.finds a
+    λ present. none_found p orders present old n c.args.called c.args.on (map entry_of c.args.inputs.now) a own there ran a
 
 pub run_node-returns-in-None-clause-runs : goal.run_node-returns-in-None-clause-runs
 run_node-returns-in-None-clause-runs t c =
@@ -325,22 +304,7 @@ run_node-returns-in-None-clause-runs t c =
     let olds = moments_in old in
     let a = c.args.found.now in
     let n = c.args.call in
-    let long : length a.called.items ≡ length olds = may_length p olds a.called.items c.requires in
+    let long : length a.called.items ≡ length olds = c.requires in
     let same : length c.deref.result.now ≡ length olds = ap length c.deref.ensures.value in
     let past : length c.deref.result.now ≤ n = first_of (search (rules, c.in-None.ensures.lookup), grind (arith, common_steps)) in
     λ present. none_there p orders present old n c.args.called c.args.on (map entry_of c.args.inputs.now) a (let le : length a.called.items ≤ n = omega (arith, long, same, past) in le)
-
-pub run_node-returns-in-Some-2-clause-may : goal.run_node-returns-in-Some-2-clause-may
-run_node-returns-in-Some-2-clause-may t c =
-    let p = program_seen c.args.program.now in
-    let olds = moments_in c.args.old.now in
-    let os = c.args.found.now.called.items in
-    let n = c.args.call in
-    let own = c.in-Some.own.now in
-    let m = c.in-Some-2.moment in
-    let slot : slice_get c.deref.result.now n ≡ Some own = slice_get_read c.deref.result.now (length c.deref.result.now) n own refl (omega (arith, c.in-Some.ensures.lookup.3.0)) c.in-Some.ensures.lookup.1 in
-    let there : slice_get olds n ≡ Some own = subst (λ l. slice_get l n ≡ Some own) c.deref.ensures.value slot in
-    let ran = rw c.in-Some-2.is at c.in_ok-moment-in-Some.ensures in
-    let follows : Follows p own m = ran.follows.1 in
-    let added : MayFollow p olds (slice_set os n (Some m)) = may_set p olds os n own m c.requires there follows in
-    on_ok_weaker c.add.result (λ e. subst (MayFollow p olds) (sym e) added) c.add.ensures.called

@@ -20,8 +20,8 @@ returns c =
     let same = c.in_ok-tell.ensures.same in
     let next = c.saturating_add-self.ensures in
     on_ok_weaker c.follow.result
-    (λ follow f instance first h n. noted p f names instance first h old new (ap (λ (s : Reasons). s.instance) same) n r a
-    (λ sure l reached. subst (λ b. TellsEntry p old.window.node names (string_bytes old.instance) b l r a (string_bytes old.text) (string_bytes told.text)) next (c.in_ok-tell.ensures.tells sure l reached))
+    (λ follow f instance first h n. noted p f names instance first h old new (ap (λ (s : Reasons). s.instance) same) n r a c.requires.clocks
+    (λ sure l ready reached. subst (λ b. TellsEntry p old.window.node names (string_bytes old.instance) b sure l r a (string_bytes old.text) (string_bytes told.text)) next (c.in_ok-tell.ensures.tells sure l ready reached))
     (ap (λ (s : Reasons). s.line) same ∙ next)
     (λ k. follow f h n (subst (HasFollowed p f h) (sym (ap (λ (s : Reasons). s.window) same)) k)))
     c.follow.ensures.followed

@@ -10,7 +10,7 @@ use Rattle.lus_reference.specs.Kept.{AreRowsFrom}
 use Rattle.lus_reference.proofs.Drops.{dropped, dropped_map}
 use Rattle.lus_reference.proofs.Parts.{on_is}
 use Rattle.lus_reference.proofs.Recalled.{rows_behind}
-use Rattle.lus_worlds.proofs.fitting.pass_at.Goals as goal
+use Rattle.lus_worlds.proofs.passing.pass_at.Goals as goal
 
 pub returns : goal.returns
 returns c =
