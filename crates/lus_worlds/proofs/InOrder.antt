@@ -100,9 +100,6 @@ module _ (p : Program) (orders : List (List ℕ)) (present : Bool) (old : Moment
       let second = rest f now past (c ∷ before) prepared are sought first.0.of later (first.1.0, earlier) in
       (ran_both p f now past a b d first.0 second.0, (second.0.stays c first.1.0, second.1))
 
-  pub run_already : (c : ℕ) (a : Found) → has_run a.called.items c ≡ true → Runs (c ∷ []) a a
-  run_already c a h f now past before prepared are sought of can ran = (ran_none p f now past a of, (h, tt))
-
   -- a number past the last call
   pub run_past_last : (c : ℕ) (a : Found) → length (call_places parts 0) ≤ c → Runs (c ∷ []) a a
   run_past_last c a le f now past before prepared are sought of can ran =
@@ -186,9 +183,6 @@ module _ (p : Program) (orders : List (List ℕ)) (present : Bool) (old : Moment
   FindsSoFar g order before found found' =
       (f : ℕ) (now : Instant) (past : World) → IsPrepared p orders → g ≡ node_at p f → IsOrder g (reverse order) → IsSought p f present old now past → IsOf p f now past found
       → IsOf p f now past found' × Each (IsFound (map entry_of found'.row.items) now) (reverse before)
-
-  pub find_none : (g : Node) (order : List ℕ) (a : Found) → FindsSoFar g order [] a a
-  find_none g order a f now past prepared node ordered sought of = (of, tt)
 
   module _ (f : ℕ) (now : Instant) (past : World) (sought : IsSought p f present old now past) where
     abbrev own : Node

@@ -37,12 +37,6 @@ pub kept_alike : (ms ns : List Moment) → map kept_of ms ≡ map kept_of ns →
 kept_alike ms ns same = kept_by_each ms ∙ ap all_of same ∙ sym (kept_by_each ns)
 
 module _ (p : Program) (past : World) where
-  pub each_keeps : (ms : List Moment) (ss : List Site) → AllHold p (kept_by ms) ss past → EachKeeps p ms ss past
-  each_keeps [] [] h = tt
-  each_keeps [] (s ∷ ss) h = absurd h
-  each_keeps (j ∷ js) [] h = absurd h
-  each_keeps (j ∷ js) (s ∷ ss) h = (h.0, each_keeps js ss h.1)
-
   pub all_hold : (ms : List Moment) (ss : List Site) → EachKeeps p ms ss past → AllHold p (kept_by ms) ss past
   all_hold [] [] h = tt
   all_hold [] (s ∷ ss) h = absurd h

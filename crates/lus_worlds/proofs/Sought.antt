@@ -1,13 +1,12 @@
 -- Instants that are sought: what was found so far agrees with them.
-use Rattle.std.proofs.Common.{◌≡◌, ◌∙◌, ℕ, zero, suc, ◌+◌, ◌≤◌, true, List, [], ◌∷◌, length, map, Contains, Option, Some, None, MatchOption, IsTrue, refl, sym, ap, subst, arith, suc-ne-zero, true≢false, slice_get, slice_set}
+use Rattle.std.proofs.Common.{◌≡◌, ◌∙◌, ℕ, zero, suc, ◌+◌, ◌≤◌, true, List, [], ◌∷◌, length, map, Option, Some, None, MatchOption, IsTrue, refl, sym, ap, subst, arith, suc-ne-zero, true≢false, slice_get, slice_set}
 use Rattle.lus_values.specs.Lists.{item, Each}
 use Rattle.lus_values.specs.Values.{Row}
 use Rattle.lus_program.specs.Programs.{call, Operands, Node, Program, node_at}
-use Rattle.lus_streams.specs.Clocks.{Clock, Part, at, base_of}
-use Rattle.lus_streams.specs.Equations.{Definition, given_by, Site, sites_in}
+use Rattle.lus_streams.specs.Clocks.{Clock}
+use Rattle.lus_streams.specs.Equations.{Definition, given_by, Site}
 use Rattle.lus_streams.specs.Order.{clock_variables, needs_all, needs_right, is_in}
 use Rattle.lus_streams.specs.Streams.{Instant, instant, Called, nobody, also, World, is_present, row_of, entry, called_at, called_instant, called_world, is_on, inputs_given, definition_value, IsFed}
-use Rattle.lus_streams.proofs.Calls.{OfCall, OfSite, AtBase, parts_of_sites}
 use Rattle.lus_streams.proofs.Lists.{each_in, each_implies}
 use Rattle.lus_attempts.specs.Attempts.{IsAttempt, EachAttempt}
 use Rattle.lus_reference.specs.Kept.{AreRowsFrom}
@@ -18,7 +17,6 @@ use Rattle.lus_worlds.specs.Finding.{row_so_far, called_so_far, has_run, called_
 use Rattle.lus_worlds.specs.Turns.{calls_in_turn, turns_in}
 use Rattle.lus_worlds.specs.Moments.{called_of, kept_by, AllHold, KeepsBehind, EachNext}
 use Rattle.lus_worlds.proofs.Moments.{row_is}
-use Rattle.lus_worlds.proofs.Among.{each_among, each_from}
 use Rattle.lus_worlds.proofs.Turns.{now_in_turn}
 
 -- calls that ran
@@ -149,9 +147,3 @@ module _ (p : Program) (row : Row) (os : List (Option Moment)) (now : Instant) (
         ap (λ j. entry j ((node_at p g).inputs + n)) (call_same c (ran (calls_in_turn (call g c args)) (calls_now (call g c args)) hc (now_in_turn (call g c args))).0)
     definition_same (Some (given_by e n xs k)) hn hc =
         (needs_suffice p so_far now past).values e k (agree (needs_right (Some (given_by e n xs k))) (calls_now e) hn (ran (calls_in_turn e) (calls_now e) hc (now_in_turn e)))
-
--- a part that is a call stands among the calls
-pub call_among : (p : Program) (es : List Part) (g c : ℕ) (args : Operands) (k : Clock) → Contains es (at k (call g c args)) → Contains (sites_in p es) (record { node = g; number = c; args = args; base = base_of (node_at p g) k })
-call_among p es g c args k among =
-    let Here : (g c : ℕ) → Operands → Clock → Type 0 = λ g c args base. Contains (sites_in p es) (record { node = g; number = c; args = args; base = base }) in
-    each_among (OfCall (AtBase p Here)) es (at k (call g c args)) (parts_of_sites p Here es (each_from (OfSite p Here) (sites_in p es) (λ s a. a))) among
