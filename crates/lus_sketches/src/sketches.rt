@@ -49,6 +49,26 @@ pub struct Sketch {
     pub failure: Option<Failure>,
 }
 
+/// The world of an instance before its first entry, where entries are picked.
+fn view_of(
+    alloc: Global,
+    program: &Program,
+    node: u32,
+    picks: Option<Vec<Pick>>,
+) -> Result<Option<View>, Memory>
+    requires resolved { Resolved (program_seen program.now) }
+    requires node { node < length (program_seen program.now).nodes }
+    requires needs { Each NeedsVariables (program_seen program.now).nodes }
+    requires narrow { Each IsNarrow (program_seen program.now).nodes }
+    ensures { IfOk result (λ o. BeginsView (program_seen program.now) node (option_map (λ ks. ks.items) picks) o) }
+{
+    let Some(picks) = picks else {
+        return Ok(None);
+    };
+    let window = Window::new(alloc, program, node)?;
+    Ok(Some(View { picks, window }))
+}
+
 /// The cells of each instant that an entry accepted: of a world those that are picked, else the entry's own. There are none of a world
 /// that is lost.
 fn cells(
@@ -94,22 +114,13 @@ impl Sketch {
     {
         let table = Table::new(alloc, first);
         match choose(alloc, program, names, node, selection)? {
-            Ok(Choice { signals, picks }) => {
-                let view = match picks {
-                    Some(picks) => {
-                        let window = Window::new(alloc, program, node)?;
-                        Some(View { picks, window })
-                    }
-                    None => None,
-                };
-                Ok(Sketch {
-                    first,
-                    signals,
-                    view,
-                    table,
-                    failure: None,
-                })
-            }
+            Ok(Choice { signals, picks }) => Ok(Sketch {
+                first,
+                signals,
+                view: view_of(alloc, program, node, picks)?,
+                table,
+                failure: None,
+            }),
             Err(place) => Ok(Sketch {
                 first,
                 signals: Vec::new(alloc),

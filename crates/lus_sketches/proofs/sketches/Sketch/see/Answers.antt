@@ -24,7 +24,7 @@ returns-in-None c =
     let r = c.args.reply.now in
     let old = c.args.self.now in
     let gives = subst (λ o. GivesCells p q r old.view c.cells.new.view (option_map (λ rows. rows.items) o)) c.in-None.is c.in_ok-rows.ensures in
-    λ s f h is. drawn_last (IsFailure s p f h) old.failure (sym c.is_some.ensures ∙ c.if-is_some.false) (lost_now s p f h q r old c.cells.new.view c.saturating_add-self.result gives) is
+    λ s f h is. drawn_last (IsFailure s p f h) old.failure (sym c.is_some.ensures ∙ c.if-is_some.false) (lost_now s p f h q r old c.cells.new.view 0 gives) is
 
 pub returns-then-is_some : goal.returns-then-is_some
 returns-then-is_some c =
