@@ -37,7 +37,8 @@ typedef enum {
     LUS_FULL = 3,     /* no entry was made: the history has 4,294,967,295 entries */
     LUS_REFUSED = 4,  /* the text is refused: see lus_refusal and lus_explain */
     LUS_NO_SUCH = 5,  /* there is none of this name or number */
-    LUS_VALUE = 6,    /* no entry was made: the inputs are no row of values, there is no such request, or a line is none of the next entry */
+    LUS_VALUE = 6,    /* nothing was done: the inputs are no row of values, there is no such request, a line is none of the next entry, or a
+                         name isn't one word */
     LUS_SHORT = 7,    /* done, but an array is too short: answer->count, or the like, says how long it has to be */
     LUS_HANDLE = 8,   /* nothing was done: wrong use of a handle, or a null pointer */
     LUS_SEATS = 9,    /* nothing was done: these aren't all seats of one instance */
@@ -140,11 +141,12 @@ lus_status lus_entries(lus_journal *, uint64_t *count);
 lus_status lus_entry_at(lus_journal *, uint64_t place, lus_entry *, lus_value *inputs, size_t n, lus_value *outputs, size_t room);
 
 /* The text of a journal, as `lus` prints it and `lus_draw` reads it, without a 0 behind it: `instance` is the instance's name,
- * `callers` are the callers' names in the order of their numbers, with a 0 behind each, `length` bytes in all. */
+ * `callers` are the callers' names in the order of their numbers, with a 0 behind each, `length` bytes in all. Names are words, as
+ * journals are read back with them: LUS_VALUE where one has a blank or a line feed. */
 lus_status lus_journal_text(lus_journal *, const char *instance, size_t instance_bytes, const char *callers, size_t length, char *text,
                             size_t room, uint64_t *bytes);
 
-/* The line of one entry in that text. */
+/* The line of one entry in that text; names as there. */
 lus_status lus_entry_text(lus_journal *, uint64_t place, const char *callers, size_t length, char *text, size_t room, uint64_t *bytes);
 
 /* A live instance of a node. It keeps its last entry and no other, so what it takes doesn't grow with its calls. It has no seats:
@@ -162,8 +164,8 @@ static inline lus_status lus_live_step(lus_live *live, const lus_value *inputs, 
 /* The last call's entry, until the next call; LUS_NO_SUCH before the first call, and behind a line that was replayed. */
 lus_status lus_live_entry(lus_live *, lus_entry *, lus_value *inputs, size_t n, lus_value *outputs, size_t room);
 
-/* The same entry as its line in a journal, with the name of its caller and a line feed. A journal is the line `instance NAME NODE`,
- * the lines of all entries, and where the instance ended the line `entries COUNT`. */
+/* The same entry as its line in a journal, with the name of its caller and a line feed: LUS_VALUE where that name has a blank or a line
+ * feed. A journal is the line `instance NAME NODE`, the lines of all entries, and where the instance ended the line `entries COUNT`. */
 lus_status lus_live_line(lus_live *, const char *caller, size_t length, char *text, size_t room, uint64_t *bytes);
 
 /* Makes the entry of a line, with its line feed, where it is the right next one: given each line of a journal, the instance is where

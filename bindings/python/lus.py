@@ -22,7 +22,7 @@ _OUTPUTS, _DONE, _NOT_DONE, _ROWS = range(1, 5)
 _WHY = ["", "shape", "presence", "fault", "nosave"]
 _REQUESTS = ["", "step", "reset", "save", "restore", "burst"]
 _STATUS = ["done", "another seat has the machine", "out of memory", "the history is full", "the text is refused",
-           "there is none of this name or number", "these are no values, or no line of the next entry", "an array is too short", "wrong use of a handle",
+           "there is none of this name or number", "these are no values, no line of the next entry, or no names that journals are read back with", "an array is too short", "wrong use of a handle",
            "these are not all seats of one instance", "the bytes are not UTF-8", "the line tells another reply than the instance gives"]
 
 
@@ -462,7 +462,8 @@ class Live(_Callable):
         return status
 
     def line(self, caller):
-        """The line of the last call's entry in a journal, with its line feed."""
+        """The line of the last call's entry in a journal, with its line feed. An Error of the status VALUE where the caller's name has a
+        blank or a line feed."""
         caller = caller.encode()
         with self._lock:
             return _text_of(_lus.lus_live_line, self._handle, caller, len(caller))
@@ -562,7 +563,10 @@ class Journal(_Owner):
         return (self[place] for place in range(len(self)))
 
     def text(self, instance, callers):
-        """The journal as `lus` prints it and `lus_draw` reads it."""
+        """The journal as `lus` prints it and `lus_draw` reads it. An Error of the status VALUE where a name has a blank, a line feed or,
+        of a caller, a 0."""
+        if any("\0" in name for name in callers):
+            raise Error(VALUE)
         instance = instance.encode()
         names = b"".join(name.encode() + b"\0" for name in callers)
         with self._lock:

@@ -7,8 +7,8 @@ from collections import deque
 from collections.abc import Callable, Iterable, Iterator
 from dataclasses import dataclass
 
-from engine import Engine, EngineError
-from lines import asked_by
+from engine import Denied, Engine, EngineError
+from lines import answered_by, is_busy
 
 log = logging.getLogger("fleet")
 
@@ -35,7 +35,7 @@ class Caller:
         self.connect, self.name, self.patience = connect, name, patience
         self.number = time.time_ns() // 1000 if first is None else first - 1
         self.open: dict[str, Open] = {}
-        self.asked_again = 0
+        self.asked_again = self.busy = 0
         self.engine = self.listening()
 
     def listening(self) -> Engine:
@@ -45,6 +45,8 @@ class Caller:
                 engine = self.connect()
                 engine.listen(self.name)
                 return engine
+            except Denied:
+                raise
             except (EngineError, OSError) as error:
                 log.warning("%s has no engine: %s", self.name, error)
                 time.sleep(RETRY_SECONDS)
@@ -67,6 +69,8 @@ class Caller:
         try:
             if lines:
                 self.engine.ask(lines)
+        except Denied:
+            raise
         except (EngineError, OSError) as error:
             self.begin_anew(error)
 
@@ -85,6 +89,8 @@ class Caller:
         self.send([each.line for each in late])
         try:
             heard = self.engine.hear(HEAR_SECONDS)
+        except Denied:
+            raise
         except (EngineError, OSError) as error:
             self.begin_anew(error)
             return []
@@ -92,11 +98,14 @@ class Caller:
 
     def closes(self, reply: str) -> bool:
         """Whether a reply, without its line feed, answers an open request, which is then closed."""
-        instance, client, number = asked_by(reply)
-        waits = self.open.get(instance)
-        if waits is None or waits.line.split(" ", 2)[1] != f"{client}.{number}":
+        answered = answered_by(reply)
+        waits = answered and self.open.get(answered.instance)
+        if not answered or not waits or waits.line.split(" ", 2)[1] != f"{answered.client}.{answered.number}":
             return False
-        del self.open[instance]
+        if is_busy(reply):
+            self.busy += 1
+            return False
+        del self.open[answered.instance]
         return True
 
     def replies(self, calls: Iterable[tuple[str, str]], most: int = 256) -> Iterator[str]:

@@ -1,5 +1,6 @@
 #!/usr/bin/python3
-"""A device that speaks MQTT to a fleet on NATS: it asks `lus/req/INSTANCE`, and hears replies at `lus/rep/CLIENT`.
+"""A device that speaks MQTT to a fleet on NATS: it asks `lus/req/CLIENT/INSTANCE`, and hears replies at
+`lus/rep/CLIENT/INSTANCE`.
 
     device.py HOST:PORT USER PASSWORD CLIENT INSTANCE     makes the calls of standard input, one in each line, and prints their replies
 """
@@ -32,11 +33,11 @@ class Device:
 
     def listen(self, *_: Any) -> None:
         """Subscribes anew at each connection."""
-        self.client.subscribe(f"lus/rep/{self.name}", qos=0)
+        self.client.subscribe(f"lus/rep/{self.name}/+", qos=0)
 
     def hear(self, _client: Any, _data: Any, message: Any) -> None:
-        reply = message.payload.decode()
-        if reply.split(" ", 3)[2] == self.asked:
+        reply = message.payload.decode(errors="replace")
+        if reply.split(" ")[2:3] == [self.asked]:
             self.reply = reply
             self.is_heard.set()
 
@@ -46,7 +47,7 @@ class Device:
         self.asked = f"{self.name}.{self.number}"
         self.is_heard.clear()
         while True:
-            self.client.publish(f"lus/req/{instance}", f"{self.asked} {call}", qos=0)
+            self.client.publish(f"lus/req/{self.name}/{instance}", f"{self.number} {call}", qos=0)
             if self.is_heard.wait(patience):
                 return self.reply
 

@@ -39,6 +39,7 @@ static const char cyclic[] = "node n(x: int) returns (y: int); var a: int; let y
 static void wrong_uses(lus_program *program, lus_seat *one) {
     lus_program other = LUS_NONE;
     lus_journal journal = LUS_NONE;
+    lus_live live = LUS_NONE;
     lus_seat two[2] = {LUS_NONE, LUS_NONE}, apart[2] = {LUS_NONE, LUS_NONE};
     lus_refusal refusal;
     lus_answer answer;
@@ -124,10 +125,20 @@ static void wrong_uses(lus_program *program, lus_seat *one) {
     GIVES(lus_entry_at(&journal, 0, &entry, &in, 1, &out, 1), LUS_NO_SUCH);
     GIVES(lus_entry_text(&journal, 0, "panel", 6, names, sizeof names, &bytes), LUS_NO_SUCH);
     GIVES(lus_journal_text(&journal, "\xff", 1, "panel", 6, names, sizeof names, &bytes), LUS_TEXT);
+    /* names with which no journal is read back */
+    GIVES(lus_entry_text(&journal, 0, "panel\0the clock", 16, names, sizeof names, &bytes), LUS_VALUE);
+    GIVES(lus_journal_text(&journal, "front door", 10, "panel", 6, names, sizeof names, &bytes), LUS_VALUE);
+    GIVES(lus_journal_text(&journal, "door", 4, "panel\n1 clock reset -> done", 28, names, sizeof names, &bytes), LUS_VALUE);
     MUST(lus_entries(&journal, &count));
     IS(count == 0);
     MUST(lus_free(&journal));
     GIVES(lus_free(&journal), LUS_HANDLE);
+    MUST(lus_live_open(program, 0, &live));
+    MUST(lus_live_step(&live, &passed, 1, &answer, &out, 1));
+    GIVES(lus_live_line(&live, "panel step(true) -> (1)\n2 clock", 31, names, sizeof names, &bytes), LUS_VALUE);
+    GIVES(lus_live_line(&live, "the panel", 9, names, sizeof names, &bytes), LUS_VALUE);
+    MUST(lus_live_line(&live, "#7", 2, names, 0, &bytes) == LUS_SHORT ? LUS_OK : LUS_VALUE); /* a word, and so a name */
+    MUST(lus_free(&live));
     printf("%d wrong uses, each behind which the counter is as it was\n", uses);
 }
 

@@ -61,6 +61,14 @@ assert two[1].step(passed=False) == {"count": 1} and two[1].count() == 2 and two
 journal = lus.close(two)
 assert len(journal) == 2 and journal[-1].outputs == {"count": 1} and [entry.caller for entry in journal[:2]] == [0, 1]
 raises(IndexError, journal.__getitem__, 2)
+for names in (["panel", "the clock"], ["panel", "clock\n"], ["panel", "clo\0ck"]):
+    raises(lus.VALUE, journal.text, "door", names)
+raises(lus.VALUE, journal.text, "front door", ["panel", "clock"])
+live = program.open_live("counter")
+live.step(passed=True)
+raises(lus.VALUE, live.line, "panel step(true) -> (1)\n2 clock")
+raises(lus.VALUE, live.line, "the panel")
+assert live.line("#7") == "1 #7 step(true) -> (1)\n"
 raises(lus.HANDLE, two[0].step, passed=True)
 assert one.count() == 4 and one.step(passed=True) == {"count": 2}
 print(uses, "wrong uses")

@@ -48,6 +48,21 @@ fn seats_of_one(program: &Program, uses: &mut Uses, one: &mut Seat) -> Result<()
     Ok(())
 }
 
+/// Names with which no journal is read back.
+fn names(program: &Program, uses: &mut Uses) -> Result<(), Error> {
+    let Ok(mut journal) = close(program.open(Node(0), 1)?) else { panic!("not all seats") };
+    for callers in [["panel", "the clock"], ["panel", "clock\n"], ["panel", "clo\0ck"]] {
+        uses.gives(journal.text("door", &callers), Error::Value);
+    }
+    uses.gives(journal.text("front door", &["panel"]), Error::Value);
+    let mut live = program.open_live(Node(0))?;
+    live.step(&passed(true))?;
+    uses.gives(live.line("panel step(true) -> (1)\n2 clock"), Error::Value);
+    uses.gives(live.line("the panel"), Error::Value);
+    assert_eq!(live.line("#7")?, "1 #7 step(true) -> (1)\n");
+    Ok(())
+}
+
 fn main() -> Result<(), Error> {
     let mut uses = Uses(0);
     let Err(Error::Refused(refusal)) = Program::new("node n(x: int) returns (y: int); var a: int; let y = a; a = y; tel")
@@ -78,6 +93,7 @@ fn main() -> Result<(), Error> {
     uses.refused(one.call(&Request::Save(8)), Why::Shape);
     uses.refused(one.call(&Request::Restore(3)), Why::NoSave);
     seats_of_one(&program, &mut uses, &mut one)?;
+    names(&program, &mut uses)?;
     println!("{} wrong uses", uses.0);
     let swap = program.node("swap")?;
     let Kind::Enum(light) = program.inputs(swap)?[1].kind else { panic!("no enumeration") };

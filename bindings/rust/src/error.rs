@@ -34,7 +34,7 @@ pub enum Error {
     Refused(Refusal),
     /// There is none of this name or number.
     NoSuch,
-    /// The inputs are no row of values, or a line is none of the next entry.
+    /// The inputs are no row of values, a line is none of the next entry, or journals aren't read back with such a name.
     Value,
     /// An instance with no seats, which there is not.
     Handle,
@@ -52,7 +52,7 @@ impl fmt::Display for Error {
             Error::Full => f.write_str("the history is full"),
             Error::Refused(refusal) => write!(f, "refused {refusal}"),
             Error::NoSuch => f.write_str("there is none of this name or number"),
-            Error::Value => f.write_str("the inputs are no row of values, or the line is none of the next entry"),
+            Error::Value => f.write_str("these are no values, no line of the next entry, or no names that journals are read back with"),
             Error::Handle => f.write_str("wrong use of a handle"),
             Error::Seats => f.write_str("these are not all seats of one instance"),
             Error::Wrong => f.write_str("the line tells another reply than the instance gives"),

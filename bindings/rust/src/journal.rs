@@ -55,8 +55,12 @@ impl Journal {
         Ok((0..count).map(|place| self.entry(place)))
     }
 
-    /// The text of the journal, as `lus` prints it and `lus_draw` reads it.
+    /// The text of the journal, as `lus` prints it and `lus_draw` reads it; `Error::Value` where a name has a blank, a line feed or, of a
+    /// caller, a 0.
     pub fn text(&mut self, instance: &str, callers: &[&str]) -> Result<String, Error> {
+        if callers.iter().any(|name| name.contains('\0')) {
+            return Err(Error::Value);
+        }
         let names: String = callers.iter().flat_map(|name| [*name, "\0"]).collect();
         let mut text = Vec::new();
         loop {

@@ -72,7 +72,7 @@ impl Live {
         })
     }
 
-    /// The same entry as its line in a journal, with its line feed.
+    /// The same entry as its line in a journal, with its line feed; `Error::Value` where the caller's name has a blank or a line feed.
     pub fn line(&mut self, caller: &str) -> Result<String, Error> {
         text_of(|bytes, room| unsafe {
             raw::lus_live_line(&mut self.handle, caller.as_ptr(), caller.len(), room.as_mut_ptr(), room.len(), bytes)

@@ -4,24 +4,34 @@ ghost use Rattle.std.specs.Prelude.{None, ⊤};
 
 use lus_devices::{Failure, Sink};
 use lus_live::Log;
-use std::fs::OpenOptions;
+use std::fs::{File, OpenOptions, TryLockError};
 use std::io::Write;
-use std::rt::Files;
 
-/// A file of the machine that is written on, once it is opened. Each write goes to the system at once.
+/// A file of the machine that is written on, once it is opened. Each write goes to the system at once. It is locked until the run ends, so
+/// that no two runs write on one journal.
 #[derive(Drop)]
-pub struct JournalFile<'a, R: Files> {
-    files: &'a R,
-    file: Option<R::File>,
+pub struct JournalFile<'a> {
+    rt: &'a HostRuntime,
+    file: Option<File>,
+    is_held: bool,
 }
 
-impl<'a, R: Files> JournalFile<'a, R> {
-    pub fn new(files: &'a R) -> JournalFile<'a, R> {
-        JournalFile { files, file: None }
+impl<'a> JournalFile<'a> {
+    pub fn new(rt: &'a HostRuntime) -> JournalFile<'a> {
+        JournalFile {
+            rt,
+            file: None,
+            is_held: false,
+        }
+    }
+
+    /// Whether it couldn't be opened since another run has it open.
+    pub fn is_held(&self) -> bool {
+        self.is_held
     }
 }
 
-impl<R: Files> Sink for JournalFile<'_, R> {
+impl Sink for JournalFile<'_> {
     ghost written = { λ _. None };
 
     ghost failures = { λ _. None };
@@ -34,18 +44,24 @@ impl<R: Files> Sink for JournalFile<'_, R> {
     }
 }
 
-impl<R: Files> Log for JournalFile<'_, R> {
+impl Log for JournalFile<'_> {
     ghost opens = { λ _ _ _. ⊤ };
 
     fn open(&mut self, name: &str) -> Result<(), Failure> {
         let mut how = OpenOptions::new();
-        how.append(true);
-        match how.open(self.files, name) {
-            Ok(file) => {
+        how.append(true).create(true);
+        let Ok(file) = how.open(self.rt, name) else {
+            return Err(Failure);
+        };
+        match file.try_lock() {
+            Ok(()) => {
                 self.file = Some(file);
                 Ok(())
             }
-            Err(_) => Err(Failure),
+            Err(error) => {
+                self.is_held = matches!(error, TryLockError::WouldBlock);
+                Err(Failure)
+            }
         }
     }
 }

@@ -11,7 +11,7 @@ use crate::files::name_unopened;
 use crate::journal::JournalFile;
 use crate::usage::introduce;
 use lus_cli::{Fault, command, tell};
-use lus_devices::{Disk, Input, Output, Sink};
+use lus_devices::{Disk, Input, Output, Sink, write_all};
 use lus_lines::Buffered;
 use lus_many::is_many;
 use std::collections::hash_map::RandomState;
@@ -75,7 +75,7 @@ fn live<O: Sink, F: Sink>(
 ) -> u8 {
     let mut lines = Buffered::new(Input(rt.stdin()));
     let mut log = JournalFile::new(rt);
-    lus_live::command(
+    let status = lus_live::command(
         rt.alloc(),
         &Disk(rt),
         words,
@@ -83,7 +83,11 @@ fn live<O: Sink, F: Sink>(
         &mut log,
         output,
         faults,
-    )
+    );
+    if log.is_held() {
+        let _ = write_all(faults, b"lus_live: another run writes to this journal\n");
+    }
+    status
 }
 
 /// Runs the tool of this name, but `lus` and `lus_bench`, which begin threads: its status.

@@ -2,11 +2,12 @@
 use Rattle.std.proofs.Common.{◌≡◌, ℕ, zero, suc, ◌+◌, ◌<◌, Bool, true, false, ◌&&◌, [], ◌∷◌, ◌++◌, length, take, Option, Some, None, is_some, refl, sym, ap, ap₂, ◌∙◌, subst, true≢false, arith}
 use Rattle.lus_values.specs.Lists.{item, Each, Below}
 use Rattle.lus_values.specs.Values.{Value}
-use Rattle.lus_program.specs.declared.expr.Test.{Test}
+use Rattle.lus_values.specs.declared.test.Test.{Test}
+use Rattle.lus_values.specs.Entries.{is_constructor}
 use Rattle.lus_program.specs.Programs.{Expression, variable, Operands, none, more, Node, Program}
 use Rattle.lus_streams.specs.Clocks.{Clock, clock_of, operand, renamed_test, renamed_clock, formal_clock}
 use Rattle.lus_streams.specs.OnClock.{IsDeclared, test_of, IsName, NamesFormals}
-use Rattle.lus_streams.specs.Streams.{Instant, World, is_present, row_of, entry, is_constructor, is_on, where_on, value, inputs_given}
+use Rattle.lus_streams.specs.Streams.{Instant, World, is_present, row_of, entry, is_on, where_on, value, inputs_given}
 use Rattle.lus_streams.proofs.Clocks.{chain_none}
 use Rattle.lus_streams.proofs.Lists.{below_at, item_take}
 

@@ -2,10 +2,11 @@
 use Rattle.std.proofs.Common.{◌≡◌, ℕ, ◌<◌, ◌≤◌, nat_lt, Bool, true, false, ◌&&◌, length, Option, Some, None, is_some, refl, sym, ap, ◌∙◌, subst, MatchBool, ⊎_elim, true≢false}
 use Rattle.std.proofs.lemmas.Bool.{cases_lt}
 use Rattle.lus_values.specs.Values.{Value}
+use Rattle.lus_values.specs.Entries.{is_constructor}
 use Rattle.lus_program.specs.Programs.{Node, Program, node_at}
 use Rattle.lus_streams.specs.Clocks.{clock_of}
 use Rattle.lus_streams.specs.Equations.{definition_of}
-use Rattle.lus_streams.specs.Streams.{Instant, instant, World, row_of, entry, is_constructor, holds, is_on, where_on, definition_value}
+use Rattle.lus_streams.specs.Streams.{Instant, instant, World, row_of, entry, holds, is_on, where_on, definition_value}
 use Rattle.lus_streams.proofs.Lists.{below_at, item_past}
 use Rattle.lus_attempts.specs.Attempts.{FollowsFaults, EquationsFollow}
 use Rattle.lus_attempts.specs.Laws.{NewestTestDecides}

@@ -1,12 +1,13 @@
 -- What the equations give after a past is unique, faults or none: as the instants of streams are.
 use Rattle.std.proofs.Common.{◌≡◌, ℕ, suc, ◌+◌, ◌<◌, ◌≤◌, nat_lt, Bool, true, false, ◌&&◌, List, [], ◌∷◌, length, take, drop, Option, Some, None, refl, sym, ap, ap₂, ◌∙◌, subst, MatchBool, is_some, ⊎_elim}
 use Rattle.std.proofs.lemmas.Bool.{ltb-true, cases_lt}
-use Rattle.lus_program.specs.declared.expr.Test.{Test}
+use Rattle.lus_values.specs.declared.test.Test.{Test}
 use Rattle.lus_program.specs.Programs.{Expression, literal, variable, operate, pre, arrow, when, merge, call, Operands, none, more, Node, Program, node_at}
 use Rattle.lus_values.specs.Lists.{item, Each}
 use Rattle.lus_values.specs.Operators.{apply}
+use Rattle.lus_values.specs.Entries.{is_constructor, with_operand, with_operands}
 use Rattle.lus_streams.specs.Clocks.{Clock, clock_of, Part, renamed_clock, formal_clock, base_of, branch_clock, parts, all_parts}
-use Rattle.lus_streams.specs.Streams.{Instant, instant, Called, nobody, also, World, is_present, row_of, entry, called_instant, called_world, is_constructor, is_on, at_last, with_operand, with_operands, where_on, value, values, branch, inputs_given, definition_value}
+use Rattle.lus_streams.specs.Streams.{Instant, instant, Called, nobody, also, World, is_present, row_of, entry, called_instant, called_world, is_on, at_last, where_on, value, values, branch, inputs_given, definition_value}
 use Rattle.lus_streams.proofs.Unique.{formal_variables, order_at, clocks_at}
 use Rattle.lus_attempts.specs.Attempts.{FollowsFaults, EquationsFollow, IsAttempt, EachAttempt}
 use Rattle.lus_streams.specs.Equations.{Definition, given_by, definition_of, node_parts, Site, sites}

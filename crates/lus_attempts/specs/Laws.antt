@@ -2,7 +2,7 @@
 use Rattle.std.specs.Prelude.{◌≡◌, ℕ, ◌<◌, true, List, ◌∷◌, length, take, is_some}
 use Rattle.lus_values.specs.Lists.{Below}
 use Rattle.lus_values.specs.Values.{Row}
-use Rattle.lus_program.specs.declared.expr.Test.{Test}
+use Rattle.lus_values.specs.declared.test.Test.{Test}
 use Rattle.lus_program.specs.Programs.{Node, Operands, Program, node_at}
 use Rattle.lus_streams.specs.Clocks.{Clock, clock_of, Part}
 use Rattle.lus_streams.specs.OnClock.{IsDeclared, NamesFormals, ProgramOnClocks, test_of}

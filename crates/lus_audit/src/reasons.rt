@@ -4,6 +4,7 @@ ghost use Rattle.lus_audit.specs.Reasons.{IsTold, TellsJournals};
 
 use lus_hosting::lus_lawful::{Observer, Observers};
 use lus_hosting::lus_live_instance::lus_machine::{NodeId, Program};
+use lus_printable::printable;
 use lus_requests::{Reply, Request};
 use lus_values::Memory;
 use lus_windows::Reasons;
@@ -55,7 +56,8 @@ impl Observers for Explanations {
         node: NodeId,
         line: u64,
     ) -> Result<Explained, Memory> {
-        let reasons = Reasons::new(alloc, program.source(), node.0, instance, line)?;
+        let shown = printable(alloc, instance.as_bytes())?;
+        let reasons = Reasons::new(alloc, program.source(), node.0, shown.as_str(), line)?;
         Ok(Explained { reasons })
     }
 

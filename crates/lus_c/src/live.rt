@@ -5,7 +5,7 @@ ghost use Rattle.lus_foreign_reports.specs.ForeignSpecs.Held.{IsOkay};
 ghost use Rattle.lus_foreign_reports.specs.ForeignSpecs.Opened.{HeldLacks};
 ghost use Rattle.lus_foreign_reports.specs.ForeignSpecs.Queries.{IsHandle, IsText};
 ghost use Rattle.lus_foreign_reports.specs.ForeignSpecs.Served.{IsEntered, IsFull, IsNone, IsValue, NoneSpelled};
-ghost use Rattle.lus_foreign_reports.specs.ForeignSpecs.Texts.{FoundIsTold, IsMemory};
+ghost use Rattle.lus_foreign_reports.specs.ForeignSpecs.Texts.{AreWords, FoundIsTold, IsMemory};
 ghost use Rattle.lus_foreign_reports.specs.ForeignSpecs.Lives.{HasNoNumber, HeldEntersLive, HeldOpensLive, HeldReplays, IsWrong, LastIsTold, LiveIsCounted, OfHeldLive};
 
 use lus_foreign_reports::lus_foreign::{self, Handle};
@@ -78,7 +78,7 @@ pub extern "C" fn lus_raw_live_entry(
     lus_foreign::live_entry(alloc, live, out, inputs, outputs)
 }
 
-/// The line of the last entry in the journal of the instance, where a call made it.
+/// The line of the last entry in the journal of the instance, where a call made it: `VALUE`, where the caller's name isn't one word.
 #[unsafe(no_mangle)]
 pub extern "C" fn lus_raw_live_line(
     alloc: Global,
@@ -87,9 +87,10 @@ pub extern "C" fn lus_raw_live_line(
     room: &mut [u8],
     bytes: &mut u64,
 ) -> u32
-    ensures told { IsUtf8 caller.now → OfHeldLive live.old.kept.held result (λ l. IsMemory result ⊎
+    ensures told { IsUtf8 caller.now → AreWords caller.now → OfHeldLive live.old.kept.held result (λ l. IsMemory result ⊎
         FoundIsTold (last_line caller.now l) result bytes.new room.old room.new) }
     ensures text { ¬ (IsUtf8 caller.now) → IsText result }
+    ensures value { IsUtf8 caller.now → ¬ (AreWords caller.now) → IsValue result }
     ensures same { live.new.kept.held ≡ live.old.kept.held }
 {
     lus_foreign::live_line(alloc, live, caller, room, bytes)

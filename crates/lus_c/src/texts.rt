@@ -1,7 +1,8 @@
 //! Texts of rows, of entries and of journals.
 ghost use Rattle.std.specs.Prelude.{◌≡◌, ◌⊎◌, IsUtf8};
 ghost use Rattle.lus_foreign_reports.specs.ForeignSpecs.Queries.{IsText, OfHeldProgram};
-ghost use Rattle.lus_foreign_reports.specs.ForeignSpecs.Texts.{FoundIsTold, IsMemory, OfHeldJournal, RowIsTold, closed_line, closed_text, names_behind};
+ghost use Rattle.lus_foreign_reports.specs.ForeignSpecs.Served.{IsValue};
+ghost use Rattle.lus_foreign_reports.specs.ForeignSpecs.Texts.{AreWords, FoundIsTold, IsMemory, OfHeldJournal, RowIsTold, closed_line, closed_text, names_behind};
 
 use lus_foreign_reports::lus_foreign::{self, Handle};
 use lus_leaves::Leaf;
@@ -23,7 +24,7 @@ pub extern "C" fn lus_raw_row_text(
     lus_foreign::row_text(alloc, handle, leaves, room, bytes)
 }
 
-/// The text of a journal, with the names of its instance and of its callers.
+/// The text of a journal, with the names of its instance and of its callers: `VALUE`, where a name isn't one word.
 #[unsafe(no_mangle)]
 pub extern "C" fn lus_raw_journal_text(
     alloc: Global,
@@ -33,15 +34,17 @@ pub extern "C" fn lus_raw_journal_text(
     room: &mut [u8],
     bytes: &mut u64,
 ) -> u32
-    ensures told { IsUtf8 instance.now × IsUtf8 callers.now → OfHeldJournal journal.old.kept.held result (λ c. IsMemory result ⊎
+    ensures told { IsUtf8 instance.now × IsUtf8 callers.now → AreWords instance.now × AreWords callers.now
+        → OfHeldJournal journal.old.kept.held result (λ c. IsMemory result ⊎
         FoundIsTold (closed_text instance.now (names_behind callers.now) c) result bytes.new room.old room.new) }
     ensures text { ¬ (IsUtf8 instance.now × IsUtf8 callers.now) → IsText result }
+    ensures value { IsUtf8 instance.now × IsUtf8 callers.now → ¬ (AreWords instance.now × AreWords callers.now) → IsValue result }
     ensures same { journal.new.kept.held ≡ journal.old.kept.held }
 {
     lus_foreign::journal_text(alloc, journal, instance, callers, room, bytes)
 }
 
-/// The line of an entry in a journal's text, by its place from 0.
+/// The line of an entry in a journal's text, by its place from 0: `VALUE`, where a caller's name isn't one word.
 #[unsafe(no_mangle)]
 pub extern "C" fn lus_raw_entry_text(
     alloc: Global,
@@ -51,9 +54,10 @@ pub extern "C" fn lus_raw_entry_text(
     room: &mut [u8],
     bytes: &mut u64,
 ) -> u32
-    ensures told { IsUtf8 callers.now → OfHeldJournal journal.old.kept.held result (λ c. IsMemory result ⊎
+    ensures told { IsUtf8 callers.now → AreWords callers.now → OfHeldJournal journal.old.kept.held result (λ c. IsMemory result ⊎
         FoundIsTold (closed_line (names_behind callers.now) c place) result bytes.new room.old room.new) }
     ensures text { ¬ (IsUtf8 callers.now) → IsText result }
+    ensures value { IsUtf8 callers.now → ¬ (AreWords callers.now) → IsValue result }
     ensures same { journal.new.kept.held ≡ journal.old.kept.held }
 {
     lus_foreign::entry_text(alloc, journal, place, callers, room, bytes)

@@ -4,7 +4,7 @@ use lus_clock_causes::clock_cause;
 use lus_faults::Finding;
 use lus_grammar::parse;
 use lus_limit_causes::{depth_cause, limit_cause};
-use lus_misreadings::misread;
+use lus_misreadings::{keeps_operators, misread};
 use lus_name_causes::name_cause;
 use lus_nil_causes::nil_cause;
 use lus_round_causes::{cycle_cause, recursion_cause};
@@ -22,7 +22,7 @@ fn of_tree(alloc: Global, source: &str, refusal: &Refusal) -> Result<Option<Find
     };
     match refusal.number {
         RefusalNumber::Name => name_cause(alloc, &tree, refusal),
-        RefusalNumber::Type => type_cause(alloc, source, &tree, refusal),
+        RefusalNumber::Type => type_cause(alloc, source, tree),
         RefusalNumber::Clock => clock_cause(alloc, source, &tree, refusal),
         RefusalNumber::Nil => nil_cause(alloc, source, &tree, refusal),
         RefusalNumber::Cycle => cycle_cause(alloc, source, &tree, refusal),
@@ -60,6 +60,56 @@ pub fn spelling_finding(
     }
 }
 
+/// The operators that a change may leave out that is told of a refusal with a number: the point between a type and its constructor, and
+/// the clock of a declaration.
+fn may_drop(number: RefusalNumber) -> &'static [&'static str] {
+    match number {
+        RefusalNumber::Name => &["."],
+        RefusalNumber::Clock => &["when", "not"],
+        _ => &[],
+    }
+}
+
+/// The operators that it may put in: those of branches, of clocks, of first values, and of memories.
+fn may_add(number: RefusalNumber) -> &'static [&'static str] {
+    match number {
+        RefusalNumber::Type | RefusalNumber::Nil => &["->"],
+        RefusalNumber::Clock => &["when", "not", "merge", "->"],
+        RefusalNumber::Cycle => &["pre", "->"],
+        _ => &[],
+    }
+}
+
+/// A finding, without its change of the source where that leaves out or puts in what it isn't about.
+fn gated(
+    alloc: Global,
+    source: &str,
+    number: RefusalNumber,
+    finding: Finding,
+) -> Result<Finding, AllocError> {
+    let is_kept = match &finding.edit {
+        Some(edit) => keeps_operators(alloc, source, edit, may_drop(number), may_add(number))?,
+        None => true,
+    };
+    if is_kept {
+        Ok(finding)
+    } else {
+        Ok(finding.with_edit(None))
+    }
+}
+
+/// What is said of the case of a refusal, where its change of the source leaves out and puts in only what it is about.
+fn of_meaning(
+    alloc: Global,
+    source: &str,
+    refusal: &Refusal,
+) -> Result<Option<Finding>, AllocError> {
+    match of_tree(alloc, source, refusal)? {
+        Some(finding) => Ok(Some(gated(alloc, source, refusal.number, finding)?)),
+        None => Ok(None),
+    }
+}
+
 /// What is said of the case of a refusal of a source that isn't shown by its spelling alone (`spelling_finding`); nothing where no more
 /// is known than its number and its place.
 pub fn finding_of(
@@ -71,6 +121,6 @@ pub fn finding_of(
         RefusalNumber::Lexical | RefusalNumber::Unsupported | RefusalNumber::Syntax => Ok(None),
         RefusalNumber::Limit => limit_cause(alloc, source, refusal),
         RefusalNumber::Memory => Ok(None),
-        _ => of_tree(alloc, source, refusal),
+        _ => of_meaning(alloc, source, refusal),
     }
 }

@@ -6,12 +6,13 @@ use Rattle.std.proofs.lemmas.Bool.{and_parts, and_from, eqb-true}
 use Rattle.lus_values.specs.Values.{Value, bool, int, enum, struct, nil, Row}
 use Rattle.lus_values.specs.Lists.{item, Each}
 use Rattle.lus_values.specs.Operators.{apply}
+use Rattle.lus_values.specs.Entries.{is_constructor, with_operand, with_operands, chosen}
 use Rattle.lus_program.specs.Programs.{Expression, literal, variable, operate, pre, arrow, when, merge, Operands, none, more, Node, Program}
 use Rattle.lus_streams.specs.Clocks.{Clock, Part, at, branch_clock, parts, all_parts}
-use Rattle.lus_streams.specs.Streams.{Instant, instant, Called, World, row_of, entry, is_constructor, holds, is_on, at_last, with_operand, with_operands, value, values, branch, HasValue}
+use Rattle.lus_streams.specs.Streams.{Instant, instant, Called, World, row_of, entry, holds, is_on, at_last, value, values, branch, HasValue}
 use Rattle.lus_streams.proofs.Lists.{each_left, each_right, each_append}
 use Rattle.lus_classes.specs.Classes.{Atom, constant, named, Code, fixed, fetch, compute, recall, choose, select, Codes, no_code, also_code, Memory, Class}
-use Rattle.lus_classes.specs.Steps.{chosen, Ask, run, runs, selected, atom_in}
+use Rattle.lus_classes.specs.Steps.{Ask, run, runs, selected, atom_in}
 use Rattle.lus_classes.specs.ClassesOf.{atom_expression, atom_code, AtomOn, Remembers, IsAtomCode, IsCode, AreCodes}
 use Rattle.lus_classes.specs.StandsFor.{never_on, CellsStand, FlagsStand}
 use Rattle.lus_classes.proofs.Options.{never, either, either_same, either_true}

@@ -11,4 +11,7 @@ pub mod Lawful
 pub mod Starts
 pub mod Following
 pub mod Examples
+pub mod OnClocks
+pub mod FormulaViews
+pub mod ShortTurns
 mod CallExamples

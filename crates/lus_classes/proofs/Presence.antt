@@ -5,10 +5,11 @@ use Rattle.std.proofs.lemmas.Bool.{ltb-false, le-ltb, MatchBool-at_false}
 use Rattle.std.proofs.lemmas.Option.{slice_get_within}
 use Rattle.lus_values.specs.Lists.{item}
 use Rattle.lus_values.specs.Values.{Row}
+use Rattle.lus_values.specs.Entries.{is_constructor}
 use Rattle.lus_program.specs.Programs.{Expression, Node, Program, node_at}
 use Rattle.lus_streams.specs.Clocks.{Clock, clock_of}
 use Rattle.lus_streams.specs.Equations.{Definition, given_by, definition_of, Site, sites}
-use Rattle.lus_streams.specs.Streams.{Instant, instant, Called, nobody, also, World, row_of, entry, called_at, called_instant, called_world, is_constructor, is_on, where_on, output, definition_value, HasValue, Follows, EquationsHold, IsFed, IsInstant, EachCall}
+use Rattle.lus_streams.specs.Streams.{Instant, instant, Called, nobody, also, World, row_of, entry, called_at, called_instant, called_world, is_on, where_on, output, definition_value, HasValue, Follows, EquationsHold, IsFed, IsInstant, EachCall}
 use Rattle.lus_streams.proofs.Lists.{below_at, item_take}
 use Rattle.lus_streams.proofs.Definitions.{RightParts, right_parts}
 use Rattle.lus_classes.specs.Classes.{Code, Call, Class, class_at}

@@ -3,10 +3,11 @@ use Rattle.std.proofs.Common.{◌≡◌, ℕ, zero, suc, ◌<◌, ◌&&◌, ◌+
 use Rattle.std.proofs.lemmas.Bool.{and_parts, and_right}
 use Rattle.lus_values.specs.Lists.{item, Each}
 use Rattle.lus_values.specs.Values.{Value, Row}
+use Rattle.lus_values.specs.Entries.{is_constructor}
 use Rattle.lus_program.specs.Programs.{Node}
 use Rattle.lus_streams.specs.Clocks.{Clock, clock_of}
 use Rattle.lus_streams.specs.Order.{clock_variables}
-use Rattle.lus_streams.specs.Streams.{Instant, instant, Called, entry, is_constructor, holds, is_on, where_on}
+use Rattle.lus_streams.specs.Streams.{Instant, instant, Called, entry, holds, is_on, where_on}
 use Rattle.lus_classes.specs.Steps.{is_on_row, first_row}
 use Rattle.lus_classes.proofs.Options.{never}
 

@@ -8,11 +8,11 @@ use Rattle.std.proofs.lemmas.Option.{option_and_then_some}
 use Rattle.lus_values.specs.Lists.{item, Each}
 use Rattle.lus_values.specs.Operators.{apply}
 use Rattle.lus_values.specs.Values.{Value, Row}
+use Rattle.lus_values.specs.Entries.{is_constructor, with_operand, with_operands, chosen}
 use Rattle.lus_streams.specs.Order.{clock_variables}
-use Rattle.lus_streams.specs.Streams.{is_constructor, with_operand, with_operands}
 use Rattle.lus_streams.proofs.Lists.{each_left, each_right, each_implies, item_past, ext_item}
 use Rattle.lus_classes.specs.Classes.{Code, fixed, fetch, compute, recall, choose, select, answer, Codes, no_code, also_code, Step, Class, clock_in, reads, reads_all, call_reads}
-use Rattle.lus_classes.specs.Steps.{chosen, answered, Ask, silent, run, runs, selected, guarded, entry_of, run_steps}
+use Rattle.lus_classes.specs.Steps.{answered, Ask, silent, run, runs, selected, guarded, entry_of, run_steps}
 use Rattle.lus_classes.specs.ClassesOf.{InTurn, IsTarget}
 use Rattle.lus_classes.proofs.Rows.{Agree, is_on_row_same}
 

@@ -4,3 +4,11 @@ pub mod Steps
 pub mod StandsFor
 pub mod ClassesOf
 pub mod Laws
+pub mod Played
+pub mod View
+pub mod Looks
+pub mod Places
+pub mod Parts
+pub mod Instants
+pub mod Turns
+pub mod Passing

@@ -1,6 +1,6 @@
 -- Clocks of calls, by their newest tests.
 use Rattle.std.proofs.Common.{◌≡◌, ℕ, Bool, true, [], ◌∷◌, ◌++◌, length, drop, Option, Some, None, refl, sym, ap, ◌∙◌, subst, suc-ne-zero, ⊎_elim, ◌⊎◌}
-use Rattle.lus_program.specs.declared.expr.Test.{Test}
+use Rattle.lus_values.specs.declared.test.Test.{Test}
 use Rattle.lus_program.specs.Programs.{Expression, variable, Operands, Node}
 use Rattle.lus_streams.specs.Clocks.{Clock, clock_of, operand, renamed_test, renamed_clock, formal_clock}
 use Rattle.lus_streams.specs.OnClock.{test_of}

@@ -2,7 +2,7 @@
 use Rattle.std.proofs.Common.{◌≡◌, ℕ, suc, Bool, true, false, ◌&&◌, List, [], ◌∷◌, Option, Some, refl, sym, ap, ◌∙◌, subst, true≢false}
 use Rattle.lus_values.specs.Lists.{item, Each}
 use Rattle.lus_program.specs.Programs.{Expression, call, Operands, Equation, Node, Program, node_at}
-use Rattle.lus_program.specs.declared.expr.Test.{Test}
+use Rattle.lus_values.specs.declared.test.Test.{Test}
 use Rattle.lus_streams.specs.Clocks.{Clock, clock_of, formal_clock, base_of, parts, all_parts}
 use Rattle.lus_streams.specs.Equations.{given_by, equation_clock}
 use Rattle.lus_streams.specs.OnClock.{test_of, actuals, OutputOn, DefinedOnClock, LeftOnClock, PartOnClock, RightOnClock}

@@ -1,7 +1,7 @@
 -- What the check of an expression computes is that its parts are on clocks.
 use Rattle.std.proofs.Common.{◌≡◌, ℕ, zero, suc, ◌+◌, true, List, [], ◌∷◌, length, drop, Option, Some, refl, sym, ap, ◌∙◌, subst, inl, inr, arith}
 use Rattle.lus_values.specs.Lists.{Each}
-use Rattle.lus_program.specs.declared.expr.Test.{Test}
+use Rattle.lus_values.specs.declared.test.Test.{Test}
 use Rattle.lus_program.specs.Programs.{Expression, literal, variable, operate, pre, arrow, when, merge, call, Operands, none, more, Node, Program, node_at}
 use Rattle.lus_streams.specs.Clocks.{Clock, clock_of, Part, operand, formal_clock, base_of, branch_clock, parts, all_parts}
 use Rattle.lus_streams.specs.OnClock.{test_of, actuals, OutputOn, PartOnClock}

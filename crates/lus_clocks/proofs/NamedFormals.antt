@@ -4,7 +4,7 @@ use Rattle.std.proofs.lemmas.Bool.{cases_lt}
 use Rattle.std.proofs.lemmas.List.{length-take}
 use Rattle.lus_values.specs.Lists.{item, Each}
 use Rattle.lus_values.proofs.Lists.{below_all}
-use Rattle.lus_program.specs.declared.expr.Test.{Test}
+use Rattle.lus_values.specs.declared.test.Test.{Test}
 use Rattle.lus_program.specs.Programs.{Expression, variable, Operands, Variable, Node, no_variable}
 use Rattle.lus_streams.specs.Clocks.{Clock, clock_of, operand}
 use Rattle.lus_streams.specs.OnClock.{IsName, NamesFormals, IsDeclared, MayTest, test_of}

@@ -2,7 +2,7 @@
 use Rattle.std.proofs.Common.{rules, ◌≡◌, ℕ, zero, suc, true, nat_eq, [], ◌∷◌, length, drop, Option, Some, None, refl, sym, ap, ◌∙◌, subst, true≢false, suc-ne-zero, ⊎_elim}
 use Rattle.std.proofs.lemmas.Bool.{eqb-true, cases_lt}
 use Rattle.lus_values.specs.Lists.{Below}
-use Rattle.lus_program.specs.declared.expr.Test.{Test}
+use Rattle.lus_values.specs.declared.test.Test.{Test}
 use Rattle.lus_program.specs.Programs.{Variable, Node, no_variable}
 use Rattle.lus_streams.specs.Clocks.{Clock, clock_of}
 use Rattle.lus_streams.specs.OnClock.{IsDeclared, test_of}

@@ -1,6 +1,6 @@
 -- One test of a call's clock: a formal that no variable stands for is skipped, another is one test of the clock.
 use Rattle.std.proofs.Common.{◌≡◌, ℕ, ◌&&◌, ◌∷◌, Option, Some, None, sym, ap, ◌∙◌}
-use Rattle.lus_program.specs.declared.expr.Test.{Test}
+use Rattle.lus_values.specs.declared.test.Test.{Test}
 use Rattle.lus_program.specs.Programs.{Node}
 use Rattle.lus_streams.specs.Clocks.{Clock}
 use Rattle.lus_streams.specs.OnClock.{test_of}

@@ -1,6 +1,6 @@
 -- The plain data of the clocks that the code holds.
 use Rattle.std.specs.Prelude.{Option, Some, None}
-use Rattle.lus_program.specs.declared.expr.Test.{Test}
+use Rattle.lus_values.specs.declared.test.Test.{Test}
 use Rattle.lus_clocks.specs.declared.clock.NewestTest.{NewestTest}
 
 abbrev pub test_in : NewestTest → Test

@@ -7,10 +7,11 @@ ghost use Rattle.lus_clocks.specs.Fitting.{all_declared, all_fit};
 
 use crate::declared::check_declared;
 use crate::equation::check_equations;
+use crate::fault::Misplaced;
 use lus_program::{Node, Program};
-use lus_syntax::{Place, Refusal, RefusalNumber};
+use lus_syntax::{Refusal, RefusalNumber};
 
-fn check_all_declared(nodes: &[Node]) -> Result<(), Place>
+fn check_all_declared(nodes: &[Node]) -> Result<(), Misplaced>
     ensures { is_ok result ≡ all_declared nodes.now }
 {
     for node in nodes {
@@ -19,7 +20,7 @@ fn check_all_declared(nodes: &[Node]) -> Result<(), Place>
     Ok(())
 }
 
-fn check_all_equations(program: &Program, nodes: &[Node]) -> Result<(), Place>
+fn check_all_equations(program: &Program, nodes: &[Node]) -> Result<(), Misplaced>
     ensures { is_ok result ≡ all_fit (program_seen program.now) nodes.now }
 {
     for node in nodes {
@@ -28,7 +29,7 @@ fn check_all_equations(program: &Program, nodes: &[Node]) -> Result<(), Place>
     Ok(())
 }
 
-fn check_program(program: &Program) -> Result<(), Place>
+fn check_program(program: &Program) -> Result<(), Misplaced>
     ensures { is_ok result ≡ (all_declared program.now.nodes.items && all_fit (program_seen program.now) program.now.nodes.items) }
 {
     check_all_declared(&program.nodes)?;
@@ -42,8 +43,19 @@ pub fn clocks_fit(program: &Program) -> Result<(), Refusal>
     ensures err { OnErr result (ProgramOnClocks (program_seen program.now) → ⊥) }
     ensures number { IfErr result (λ refusal. refusal.number ≡ RefusalNumber.Clock) }
 {
+    match judge_program(program) {
+        Ok(()) => Ok(()),
+        Err(fault) => Err(fault.refusal()),
+    }
+}
+
+/// As `clocks_fit`; says of a place why it isn't on its clock.
+pub fn judge_program(program: &Program) -> Result<(), Misplaced>
+    ensures ok { OnOk result (ProgramOnClocks (program_seen program.now)) }
+    ensures err { OnErr result (ProgramOnClocks (program_seen program.now) → ⊥) }
+{
     match check_program(program) {
         Ok(()) => Ok(()),
-        Err(place) => Err(Refusal::new(RefusalNumber::Clock, place.line, place.column)),
+        Err(fault) => Err(fault),
     }
 }

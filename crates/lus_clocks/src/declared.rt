@@ -5,8 +5,8 @@ ghost use Rattle.lus_program.specs.View.{node_of};
 ghost use Rattle.lus_clocks.specs.Fitting.{may_test as test_allowed, is_declared, are_declared};
 
 use crate::clock::depth_of;
+use crate::fault::{Misplaced, OffClock};
 use lus_program::{Node, Test};
-use lus_syntax::Place;
 
 /// An input is tested by an input, an output by an input or an output.
 fn may_test(node: &Node, variable: usize, tested: usize) -> bool
@@ -33,12 +33,15 @@ fn is_lawful(node: &Node, variable: usize, test: Option<Test>) -> bool
 }
 
 /// Fails at the declaration of a variable whose clock isn't lawful.
-pub fn check_declared(node: &Node) -> Result<(), Place>
+pub fn check_declared(node: &Node) -> Result<(), Misplaced>
     ensures { is_ok result ≡ are_declared (node_of node.now) 0 (node_of node.now).variables }
 {
     for (index, variable) in node.variables.iter().enumerate() {
         if !is_lawful(node, index, variable.test) {
-            return Err(variable.place);
+            return Err(Misplaced {
+                place: variable.place,
+                why: OffClock::Declared,
+            });
         }
     }
     Ok(())

@@ -10,10 +10,10 @@ ghost use Rattle.lus_clocks.specs.View.{clock_in};
 
 use crate::call::{base_of, follows_base, names_tested};
 use crate::clock::{NewestTest, clock_at, same_clock};
-use crate::expression::{check_arguments, check_expression, require};
+use crate::expression::{check_arguments, check_expression};
+use crate::fault::{Misplaced, OffClock, require};
 use crate::formals::{formals_at, inputs_at, variables_at};
 use lus_program::{Equation, Expr, Form, Node, Program};
-use lus_syntax::Place;
 
 /// The variables on the left are on the clock of the right side, which is no call.
 fn lefts_are_on(node: &Node, targets: &[u32], clock: Option<NewestTest>) -> bool
@@ -72,7 +72,7 @@ fn clock_of_first(node: &Node, targets: &[u32]) -> Option<NewestTest>
 }
 
 /// Fails at the first token of the right side, or of a part of it, where the equation isn't on clocks.
-fn check_equation(program: &Program, node: &Node, equation: &Equation) -> Result<(), Place>
+fn check_equation(program: &Program, node: &Node, equation: &Equation) -> Result<(), Misplaced>
     ensures { let f = node_of node.now in
         let xs = equation.now.targets.items in
         is_ok result ≡ equation_fits (program_seen program.now) f xs (expression_of equation.now.right) (test_of f (item 0 xs 0)) }
@@ -84,19 +84,28 @@ fn check_equation(program: &Program, node: &Node, equation: &Equation) -> Result
             let base = base_of(program, node, *called, clock);
             require(
                 outputs_are_on(program, node, *called, arguments, &equation.targets, base),
-                right.place,
+                Misplaced {
+                    place: right.place,
+                    why: OffClock::Output(*called, clock, base),
+                },
             )?;
             check_arguments(program, node, *called, arguments, base)
         }
         _ => {
-            require(lefts_are_on(node, &equation.targets, clock), right.place)?;
+            require(
+                lefts_are_on(node, &equation.targets, clock),
+                Misplaced {
+                    place: right.place,
+                    why: OffClock::Left(clock),
+                },
+            )?;
             check_expression(program, node, right, clock)
         }
     }
 }
 
 /// Fails where an equation of the node isn't on clocks.
-pub fn check_equations(program: &Program, node: &Node) -> Result<(), Place>
+pub fn check_equations(program: &Program, node: &Node) -> Result<(), Misplaced>
     ensures { is_ok result ≡ equations_fit (program_seen program.now) (node_of node.now) node.now.equations.items }
 {
     for equation in &node.equations {

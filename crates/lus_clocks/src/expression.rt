@@ -4,20 +4,31 @@ ghost use Rattle.std.specs.Prelude.{◌≡◌, [], is_ok};
 ghost use Rattle.lus_program.specs.Programs.{node_at};
 ghost use Rattle.lus_program.specs.View.{expression_of, node_of, operands_of, program_seen};
 ghost use Rattle.lus_streams.specs.OnClock.{actuals};
-ghost use Rattle.lus_clocks.specs.Fitting.{fits, operands_fit, branches_fit, arguments_fit, names_in, output_fits};
+ghost use Rattle.lus_clocks.specs.Fitting.{fits, operands_fit, branches_fit, arguments_fit, names_in, output_fits, same_test};
 ghost use Rattle.lus_clocks.specs.View.{clock_in};
 
 use crate::call::{argument_clock, base_of, follows_base, names_tested};
 use crate::clock::{NewestTest, clock_at, clock_on, same_clock};
+use crate::fault::{Misplaced, OffClock, require};
 use crate::formals::{formals_at, inputs_at, variables_at};
 use lus_program::{Expr, Form, Node, Program};
 use lus_syntax::Place;
 
-/// Fails at a place where a clock isn't as it has to be.
-pub fn require(holds: bool, place: Place) -> Result<(), Place>
-    ensures { is_ok result ≡ holds }
+/// Fails at a place that is on a clock, where it has to be on another one.
+fn require_same(
+    place: Place,
+    found: Option<NewestTest>,
+    wanted: Option<NewestTest>,
+) -> Result<(), Misplaced>
+    ensures { is_ok result ≡ same_test (clock_in found) (clock_in wanted) }
 {
-    if holds { Ok(()) } else { Err(place) }
+    require(
+        same_clock(found, wanted),
+        Misplaced {
+            place,
+            why: OffClock::Other(found, wanted),
+        },
+    )
 }
 
 /// Fails at the first token of a part that isn't on its clock, where the expression is on this one.
@@ -27,16 +38,14 @@ pub fn check_expression(
     node: &Node,
     expr: &Expr,
     clock: Option<NewestTest>,
-) -> Result<(), Place>
+) -> Result<(), Misplaced>
     ensures { is_ok result ≡ fits (program_seen program.now) (node_of node.now) (expression_of expr.now) (clock_in clock) }
 {
     match &expr.form {
         Form::Literal(_) => Ok(()),
         Form::Variable(variable) => {
-            require(
-                same_clock(clock_at(&node.variables, *variable as usize), clock),
-                expr.place,
-            )
+            let found = clock_at(&node.variables, *variable as usize);
+            require_same(expr.place, found, clock)
         }
         Form::Operate(_, operands) => check_operands(program, node, operands, clock),
         Form::Pre(operand) => check_expression(program, node, operand, clock),
@@ -45,7 +54,7 @@ pub fn check_expression(
             check_expression(program, node, later, clock)
         }
         Form::When(test, operand) => {
-            require(same_clock(clock_on(*test), clock), expr.place)?;
+            require_same(expr.place, clock_on(*test), clock)?;
             check_expression(
                 program,
                 node,
@@ -54,17 +63,18 @@ pub fn check_expression(
             )
         }
         Form::Merge(variable, branches) => {
-            require(
-                same_clock(clock_at(&node.variables, *variable as usize), clock),
-                expr.place,
-            )?;
+            let found = clock_at(&node.variables, *variable as usize);
+            require_same(expr.place, found, clock)?;
             check_branches(program, node, *variable, branches)
         }
         Form::Call(called, arguments) => {
             let base = base_of(program, node, *called, clock);
             require(
                 is_output(program, node, *called, arguments, base, clock),
-                expr.place,
+                Misplaced {
+                    place: expr.place,
+                    why: OffClock::Output(*called, clock, base),
+                },
             )?;
             check_arguments(program, node, *called, arguments, base)
         }
@@ -102,7 +112,7 @@ fn check_operands(
     node: &Node,
     operands: &[Expr],
     clock: Option<NewestTest>,
-) -> Result<(), Place>
+) -> Result<(), Misplaced>
     ensures { is_ok result ≡ operands_fit (program_seen program.now) (node_of node.now) (operands_of operands.now) (clock_in clock) }
 {
     for operand in operands {
@@ -118,7 +128,7 @@ fn check_branches(
     node: &Node,
     variable: u32,
     branches: &[Expr],
-) -> Result<(), Place>
+) -> Result<(), Misplaced>
     ensures { is_ok result ≡ branches_fit (program_seen program.now) (node_of node.now) (operands_of branches.now) variable 0 }
 {
     for (constructor, branch) in branches.iter().enumerate() {
@@ -139,7 +149,7 @@ pub fn check_arguments(
     called: u32,
     arguments: &[Expr],
     base: Option<NewestTest>,
-) -> Result<(), Place>
+) -> Result<(), Misplaced>
     ensures { let p = program_seen program.now in
         let args = operands_of arguments.now in
         is_ok result ≡ arguments_fit p (node_of node.now) args (node_at p called) (names_in (actuals args [])) (clock_in base) 0 }

@@ -1,6 +1,6 @@
 //! The checks as passes over a typed source. Contracts see what they give as its program.
 
-ghost use Rattle.std.specs.Prelude.{◌≡◌, IfOk, IfErr, OnOk};
+ghost use Rattle.std.specs.Prelude.{◌≡◌, IfOk, IfErr, OnErr, OnOk};
 ghost use Rattle.lus_syntax.specs.declared.refusal.RefusalNumber.TheVariants as numbers;
 ghost use Rattle.lus_program.specs.View.{program_seen};
 ghost use Rattle.lus_streams.specs.OnClock.{ProgramOnClocks};
@@ -9,10 +9,12 @@ ghost use Rattle.lus_program.specs.Refusals.{RefusesFor};
 ghost use Rattle.lus_program.specs.Resolved.{Resolved};
 ghost use Rattle.lus_program.specs.Sound.{IsLimited};
 
-use crate::checking::clocks_fit;
-use crate::flagging::flags_fit;
-use lus_program::{Program, Sound, Typed};
+use crate::checking::judge_program;
+use crate::fault::{Misplaced, Unflagged};
+use crate::flagging::judge_flags;
+use lus_program::{Program, Sound};
 use lus_syntax::Refusal;
+use lus_types::Typed;
 use std::alloc::Global;
 use std::marker::Model;
 
@@ -65,10 +67,22 @@ pub fn check_clocks(typed: Typed) -> Result<Clocked, Refusal>
     ensures ok { OnOk result (ProgramOnClocks (program_seen typed.program)) }
     ensures refused { IfErr result (λ e. (ProgramOnClocks (program_seen typed.program) → ⊥) × (e.number ≡ numbers.Clock)) }
 {
+    match judge_clocks(typed) {
+        Ok(clocked) => Ok(clocked),
+        Err(fault) => Err(fault.refusal()),
+    }
+}
+
+/// As `check_clocks`; says of a place why it isn't on its clock.
+pub fn judge_clocks(typed: Typed) -> Result<Clocked, Misplaced>
+    ensures same { IfOk result (λ clocked. clocked ≡ typed.program) }
+    ensures ok { OnOk result (ProgramOnClocks (program_seen typed.program)) }
+    ensures refused { OnErr result (ProgramOnClocks (program_seen typed.program) → ⊥) }
+{
     let sound = typed.into_sound();
-    match clocks_fit(sound.program()) {
+    match judge_program(sound.program()) {
         Ok(()) => Ok(Clocked { sound }),
-        Err(refusal) => Err(refusal),
+        Err(fault) => Err(fault),
     }
 }
 
@@ -122,8 +136,20 @@ pub fn check_nil(alloc: Global, clocked: Clocked) -> Result<Initialised, Refusal
     ensures ok { OnOk result (IsFlagged (program_seen clocked)) }
     ensures refused { IfErr result (RefusesFor numbers.Nil (IsFlagged (program_seen clocked))) }
 {
-    match flags_fit(alloc, clocked.program()) {
+    match judge_nil(alloc, clocked) {
+        Ok(initialised) => Ok(initialised),
+        Err(fault) => Err(fault.refusal),
+    }
+}
+
+/// As `check_nil`; says of a refusal what mustn't be nil.
+pub fn judge_nil(alloc: Global, clocked: Clocked) -> Result<Initialised, Unflagged>
+    ensures same { IfOk result (λ initialised. initialised ≡ clocked) }
+    ensures ok { OnOk result (IsFlagged (program_seen clocked)) }
+    ensures refused { IfErr result (λ e. RefusesFor numbers.Nil (IsFlagged (program_seen clocked)) e.refusal) }
+{
+    match judge_flags(alloc, clocked.program()) {
         Ok(()) => Ok(Initialised { clocked }),
-        Err(refusal) => Err(refusal),
+        Err(fault) => Err(fault),
     }
 }

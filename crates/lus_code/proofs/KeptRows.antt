@@ -7,7 +7,7 @@ use Rattle.lus_values.specs.Lists.{item, Each}
 use Rattle.lus_values.proofs.Lists.{below_at, each_at}
 use Rattle.lus_program.specs.declared.types.Kind.{Kind}
 use Rattle.lus_program.specs.declared.types.Kind.TheVariants as kinds
-use Rattle.lus_program.specs.declared.expr.Test.{Test}
+use Rattle.lus_values.specs.declared.test.Test.{Test}
 use Rattle.lus_program.specs.Programs.{Expression, literal, variable, operate, pre, arrow, when, merge, call, Operands, none, more, Equation, Node, Program, node_at, empty_node}
 use Rattle.lus_streams.specs.Clocks.{Clock, Part, at, formal_clock, base_of, branch_clock, parts, all_parts}
 use Rattle.lus_streams.specs.Equations.{Site, sites, sites_in, site_first, node_parts, equation_parts, equation_clock}
@@ -18,7 +18,7 @@ use Rattle.lus_normal_form.specs.NormalForm.{StandsFor}
 use Rattle.lus_normal_form.specs.NormalNodes.{AreSites, IsNormalOf, memories, all_memories, firsts, all_firsts, count_rights, node_memories, node_firsts}
 use Rattle.lus_instructions.specs.declared.class.Call.{Call}
 use Rattle.lus_instructions.specs.declared.class.Class.{Class}
-use Rattle.lus_instructions.specs.View.{call_of, class_of}
+use Rattle.lus_classes.specs.View.{call_of, class_of}
 use Rattle.lus_cells.specs.Cells.{AreStateCells, HaveLeaves, expression_cells, operand_cells, kind_leaves, leaves_given, node_cells}
 use Rattle.lus_places.specs.Few.{AreFew, KeepTo}
 use Rattle.lus_turns.specs.Turned.{HaveOneLeft}

@@ -15,7 +15,7 @@ use Rattle.lus_simulation.specs.Nesting.{depth_of}
 use Rattle.lus_simulation.proofs.Nested.{calls_nested}
 use Rattle.lus_instructions.specs.declared.class.Call.{Call}
 use Rattle.lus_instructions.specs.declared.class.Class.{Class}
-use Rattle.lus_instructions.specs.View.{class_of, classes_of, clock_from}
+use Rattle.lus_classes.specs.View.{class_of, classes_of, clock_from}
 use Rattle.lus_places.specs.Shaped.{AreNested, CanAllBePlaced, CallsClass}
 use Rattle.lus_turns.specs.Turned.{CallsNode, IsTurned}
 use Rattle.lus_code.specs.Made.{AreFirstTurned, AreTurned, HasSource}

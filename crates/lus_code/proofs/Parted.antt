@@ -2,7 +2,7 @@
 use Rattle.std.proofs.Common.{◌≡◌, zero, suc, List, [], ◌∷◌, ◌++◌, length, refl, sym, subst, arith, Vec, Global}
 use Rattle.lus_instructions.specs.declared.class.Class.{Class}
 use Rattle.lus_instructions.specs.declared.class.Part.{Part}
-use Rattle.lus_instructions.specs.Parts.{AreParts}
+use Rattle.lus_classes.specs.Parts.{AreParts}
 use Rattle.lus_places.specs.Placing.{KeepSteps}
 use Rattle.lus_framed_code.specs.Made.{HaveParts}
 

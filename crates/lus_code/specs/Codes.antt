@@ -8,7 +8,7 @@ use Rattle.lus_order.specs.OrderedPrograms.{OrderedProgram}
 use Rattle.lus_simulation.specs.Codes.{AreCodeOf}
 use Rattle.lus_frames.specs.declared.class.Class.{Class as Framed}
 use Rattle.lus_instructions.specs.declared.class.Class.{Class as StoredClass}
-use Rattle.lus_instructions.specs.View.{classes_of}
+use Rattle.lus_classes.specs.View.{classes_of}
 use Rattle.lus_keeping.specs.declared.plan.Plan.{Plan}
 
 pub record ProgramCode : Type 0 where

@@ -10,7 +10,7 @@ use Rattle.lus_simulation.specs.Lineages.{HasLived, outputs_of}
 use Rattle.lus_simulation.specs.LineageLaws.{FaultsAreExact, StepsTo}
 use Rattle.lus_simulation.specs.Nesting.{depth_of}
 use Rattle.lus_frames.specs.Classes.{AreFramed}
-use Rattle.lus_instructions.specs.Turns.{AreReady}
+use Rattle.lus_classes.specs.Turns.{AreReady}
 use Rattle.lus_places.specs.Few.{AreAsLong}
 use Rattle.lus_cells.specs.Cells.{AreStateCells}
 use Rattle.lus_framed_code.specs.Alike.{MakeInstants}

@@ -8,6 +8,8 @@ use Rattle.lus_editing.specs.declared.answers.Problem.TheVariants as problems
 -- the codes of errors, which are negative, without their minus
 abbrev pub problem_code : Problem → ℕ
 problem_code problems.Parse = 32700
+problem_code problems.Head = 32700
+problem_code problems.Long = 32600
 problem_code problems.Request = 32600
 problem_code problems.Method = 32601
 problem_code problems.Parameters = 32602
@@ -19,6 +21,8 @@ problem_code problems.OtherProgram = 32803
 -- the same in words
 abbrev pub problem_message : Problem → Text
 problem_message problems.Parse = codes "the message is no JSON"
+problem_message problems.Head = codes "the head of the message doesn't say how many bytes it has"
+problem_message problems.Long = codes "the message has more than 16777216 bytes"
 problem_message problems.Request = codes "the message is no request that can be done now"
 problem_message problems.Method = codes "this server has no such method"
 problem_message problems.Parameters = codes "the method can't take these parameters"

@@ -71,3 +71,7 @@ sent_by method None = None
 sent_by method (Some d) =
     if bytes_eq method (codes "textDocument/didOpen") then opened_of d
     else (if bytes_eq method (codes "textDocument/didChange") then changed_of d else None)
+
+-- the name that parameters give in place of another one
+abbrev pub new_name_of : Data → Option Text
+new_name_of d = option_and_then as_str (get (codes "newName") d)

@@ -22,19 +22,32 @@ fn first_line(alloc: Global, source: &str, edit: &Edit) -> Result<String, AllocE
     }
 }
 
-/// Appends the action that makes a change of the document of a name.
+/// Whether a finding only guesses what is meant, as its note then says.
+fn is_guess(finding: &Finding) -> bool {
+    match &finding.note {
+        Some(note) => note.starts_with("Perhaps ") || note.starts_with("Did you mean "),
+        None => false,
+    }
+}
+
+/// Appends the action that makes a change of the document of a name. It is preferred unless it only guesses.
 fn push_action(
     alloc: Global,
     text: &mut String,
     uri: &str,
     source: &str,
     edit: &Edit,
+    is_guess: bool,
 ) -> Result<(), AllocError> {
     let line = first_line(alloc, source, edit)?;
     let title = format!(in alloc; "write: {line}")?;
     text.push_str("{\"title\":")?;
     push_string(alloc, text, title.as_str())?;
-    text.push_str(",\"kind\":\"quickfix\",\"isPreferred\":true,\"edit\":{\"changes\":{")?;
+    let is_preferred = !is_guess;
+    write!(
+        text,
+        ",\"kind\":\"quickfix\",\"isPreferred\":{is_preferred},\"edit\":{{\"changes\":{{"
+    )?;
     push_string(alloc, text, uri)?;
     text.push_str(":[{\"range\":")?;
     push_range(text, source, edit.byte, edit.length)?;
@@ -85,7 +98,7 @@ fn push_near(
         if text.len() > 1 {
             text.push_str(",")?;
         }
-        push_action(alloc, text, uri, source, edit)?;
+        push_action(alloc, text, uri, source, edit, is_guess(finding))?;
     }
     Ok(())
 }

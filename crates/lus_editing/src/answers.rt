@@ -10,6 +10,10 @@ use std::alloc::{AllocError, Global};
 pub(crate) enum Problem {
     /// The message is no JSON.
     Parse,
+    /// Its head doesn't say how many bytes it has.
+    Head,
+    /// It has too many bytes.
+    Long,
     /// It is no request, or one that comes behind `shutdown`.
     Request,
     /// There is no such method.
@@ -32,8 +36,8 @@ impl Problem {
         ensures { result ≡ problem_code self }
     {
         match self {
-            Problem::Parse => 32700,
-            Problem::Request => 32600,
+            Problem::Parse | Problem::Head => 32700,
+            Problem::Request | Problem::Long => 32600,
             Problem::Method => 32601,
             Problem::Parameters => 32602,
             Problem::Early => 32002,
@@ -47,6 +51,8 @@ impl Problem {
     {
         match self {
             Problem::Parse => "the message is no JSON",
+            Problem::Head => "the head of the message doesn't say how many bytes it has",
+            Problem::Long => "the message has more than 16777216 bytes",
             Problem::Request => "the message is no request that can be done now",
             Problem::Method => "this server has no such method",
             Problem::Parameters => "the method can't take these parameters",

@@ -1,6 +1,6 @@
 //! What a server asks of a compiler.
 
-ghost use Rattle.std.specs.Prelude.{IfOk, map};
+ghost use Rattle.std.specs.Prelude.{IfOk, map, string_bytes};
 ghost use Rattle.lus_editing.specs.Diagnostics.{AreFaults};
 
 use lus_further::Told;
@@ -30,6 +30,9 @@ pub trait Compiler {
 
     ghost refuses: { List ℕ → Refusal → Type 0 };
 
+    // That a text is a source with a new name in place of the one at a byte.
+    ghost renames: { List ℕ → ℕ → List ℕ → List ℕ → Type 0 };
+
     /// The faults of a source, the one that it is refused for first; none where it is accepted.
     fn faults(&self, alloc: Global, source: &str) -> Result<Vec<Told>, AllocError>
         ensures { IfOk result (λ told. AreFaults accepts refuses source.now (map (λ t. t.refusal) told.items)) };
@@ -37,14 +40,16 @@ pub trait Compiler {
     /// What an accepted source is warned of, in the order of its text.
     fn warnings(&self, alloc: Global, source: &str) -> Result<Vec<Warning>, AllocError>;
 
-    /// Why the declared name that stands at a byte of a source, or ends there, can't be replaced by another one; nothing where it can.
-    fn rename_problem(
+    /// A source with another name in place of the declared one that stands at a byte of it, or ends there, wherever that is named; or why
+    /// it can't be replaced.
+    fn renamed(
         &self,
         alloc: Global,
         source: &str,
         byte: usize,
         name: &str,
-    ) -> Result<Option<RenameProblem>, AllocError>;
+    ) -> Result<Result<String, RenameProblem>, AllocError>
+        ensures { IfOk result (λ r. IfOk r (λ made. renames source.now byte name.now (string_bytes made))) };
 
     /// What the declaration of the name at a place of a source doesn't say of it: of a variable whether it may be nil, of a node its state
     /// size; nothing of other names, and where the source is refused before that is known.

@@ -5,11 +5,13 @@ ghost use Rattle.lus_devices.specs.Devices.{WritesBeginning, with_text};
 ghost use Rattle.lus_framing.specs.Frames.{frame_text};
 ghost use Rattle.lus_editing.specs.Conversations.{HasSaid, WritesFrames};
 
+use crate::answers::fault;
 use crate::compiler::Compiler;
+use crate::inbox::{Inbox, Incoming};
 use crate::server::Server;
 use crate::serving::serve;
 use lus_devices::{Failure, Sink, Source};
-use lus_framing::{FrameError, push_frame, read_frame, write_frame};
+use lus_framing::{FrameError, push_frame, write_frame};
 use std::alloc::{AllocError, Global};
 use thiserror::Error;
 
@@ -64,26 +66,39 @@ fn say<O: Sink>(alloc: Global, output: &mut O, said: &str) -> Result<(), Convers
     Ok(())
 }
 
-/// Serves a message, and writes what there is to say to it.
+/// Serves what comes, and gives what there is to say to it.
+fn respond<C: Compiler>(
+    alloc: Global,
+    compiler: &C,
+    server: &mut Server,
+    incoming: &Incoming,
+) -> Result<Option<String>, AllocError> {
+    match incoming {
+        Incoming::Message(message) => serve(alloc, compiler, server, message),
+        Incoming::Fault(problem) => Ok(Some(fault(alloc, "null", *problem)?)),
+    }
+}
+
+/// Serves what comes, and writes what there is to say to it.
 fn exchange<C: Compiler, O: Sink>(
     alloc: Global,
     compiler: &C,
     server: &mut Server,
-    message: &[u8],
+    incoming: &Incoming,
     output: &mut O,
 ) -> Result<(), ConversationError>
     ensures whole { OnOk result (HasSaid (O.written output.old) (O.written output.new)) }
     ensures beginning { OnErr result (WritesFrames (O.written output.old) (O.written output.new)) }
 {
-    let answer = serve(alloc, compiler, server, message)?;
+    let answer = respond(alloc, compiler, server, incoming)?;
     match &answer {
         Some(said) => say(alloc, output, said.as_str()),
         None => Ok(()),
     }
 }
 
-/// Reads messages and serves each before the next is read, until the editor says that the process is to end, or the input ends.
-/// Gives the status to end with. All that is written is messages in their frames, each whole but for the last where a write failed.
+/// Reads messages and serves them in their order, until the editor says that the process is to end, or the input ends; of changes of a
+/// document that wait behind one another only the last is served. Gives the status to end with. All that is written is messages in their frames, each whole but for the last where a write failed.
 pub fn converse<C: Compiler, I: Source, O: Sink>(
     alloc: Global,
     compiler: &C,
@@ -93,13 +108,13 @@ pub fn converse<C: Compiler, I: Source, O: Sink>(
     ensures { WritesFrames (O.written output.old) (O.written output.new) }
 {
     let mut server = Server::new(alloc);
-    let mut line = Vec::new(alloc);
+    let mut inbox = Inbox::new(alloc, input);
     for _turn in 0..u64::MAX {
-        let read = read_frame(alloc, input, &mut line)?;
-        let Some(message) = read else {
+        let read = inbox.next(alloc)?;
+        let Some(incoming) = read else {
             return Ok(1);
         };
-        exchange(alloc, compiler, &mut server, &message, output)?;
+        exchange(alloc, compiler, &mut server, &incoming, output)?;
         if let Some(status) = server.status() {
             return Ok(status);
         }

@@ -51,8 +51,23 @@ fn push_related(
     text.push_str("}")
 }
 
-/// What is said of a fault in words: its sentence, the note, and the variables of a cycle, each on a line.
-fn message_of(alloc: Global, told: &Told) -> Result<String, AllocError> {
+/// Appends the further places of a fault, each on a line.
+fn push_places(message: &mut String, related: &[Related]) -> Result<(), AllocError> {
+    for place in related {
+        let start = place.span.start;
+        let label = &place.label;
+        write!(
+            message,
+            "\nline {}, column {}: {label}",
+            start.line, start.column
+        )?;
+    }
+    Ok(())
+}
+
+/// What is said of a fault in words: its sentence, the note, and the variables of a cycle, each on a line, and its further places, if the
+/// editor doesn't show them.
+fn message_of(told: &Told, shows_related: bool) -> Result<String, AllocError> {
     let mut message = told.finding.sentence.clone()?;
     if let Some(note) = &told.finding.note {
         write!(message, "\n{note}")?;
@@ -60,6 +75,9 @@ fn message_of(alloc: Global, told: &Told) -> Result<String, AllocError> {
     let cycle = &told.refusal.cycle;
     if !cycle.names().is_empty() {
         write!(message, "\n{cycle}")?;
+    }
+    if !shows_related {
+        push_places(&mut message, &told.finding.related)?;
     }
     Ok(message)
 }
@@ -70,6 +88,7 @@ fn push_members(
     text: &mut String,
     sent: Sent<'_>,
     told: &Told,
+    shows_related: bool,
 ) -> Result<(), AllocError> {
     let finding = &told.finding;
     let position = finding.position(&told.refusal);
@@ -77,7 +96,7 @@ fn push_members(
     text.push_str(",\"severity\":1,\"range\":")?;
     push_range(text, sent.text, byte, finding.length)?;
     text.push_str(",\"message\":")?;
-    let message = message_of(alloc, told)?;
+    let message = message_of(told, shows_related)?;
     push_string(alloc, text, message.as_str())?;
     text.push_str(",\"relatedInformation\":[")?;
     for (place, related) in finding.related.iter().enumerate() {
@@ -106,13 +125,14 @@ fn further_text(
     sent: Sent<'_>,
     told: &Told,
     others: &[Told],
+    shows_related: bool,
 ) -> Result<String, AllocError> {
     let mut text = String::new(alloc);
-    push_members(alloc, &mut text, sent, told)?;
+    push_members(alloc, &mut text, sent, told, shows_related)?;
     for other in others {
         text.push_str(",")?;
         push_refusal(&mut text, &other.refusal)?;
-        push_members(alloc, &mut text, sent, other)?;
+        push_members(alloc, &mut text, sent, other, shows_related)?;
     }
     Ok(text)
 }
@@ -163,10 +183,11 @@ fn published_faults(
     sent: Sent<'_>,
     first: &Told,
     others: &[Told],
+    shows_related: bool,
 ) -> Result<String, AllocError>
     ensures { IfOk result (λ t. IsSaidOf (sent_seen sent.entry) (first.now.refusal ∷ map (λ t. t.refusal) others.now) (string_bytes t)) }
 {
-    let more = further_text(alloc, sent, first, others)?;
+    let more = further_text(alloc, sent, first, others, shows_related)?;
     let diagnostics = first_diagnostic(alloc, &first.refusal, more.as_str())?;
     notification(alloc, sent, diagnostics.as_str())
 }
@@ -189,11 +210,12 @@ pub(crate) fn published(
     sent: Sent<'_>,
     faults: &[Told],
     warnings: &[Warning],
+    shows_related: bool,
 ) -> Result<String, AllocError>
     ensures { IfOk result (λ t. IsSaidOf (sent_seen sent.entry) (map (λ t. t.refusal) faults.now) (string_bytes t)) }
 {
     match faults.split_first() {
-        Some((first, others)) => published_faults(alloc, sent, first, others),
+        Some((first, others)) => published_faults(alloc, sent, first, others, shows_related),
         None => published_warnings(alloc, sent, warnings),
     }
 }

@@ -8,6 +8,7 @@ mod compiler;
 mod conversation;
 mod diagnostics;
 mod formatting;
+mod inbox;
 mod messages;
 mod queries;
 mod renames;

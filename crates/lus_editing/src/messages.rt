@@ -1,11 +1,14 @@
 //! What messages ask.
 
-ghost use Rattle.std.specs.Prelude.{◌≡◌, option_map};
+ghost use Rattle.std.specs.Prelude.{◌≡◌, IfOk, option_map};
+ghost use Rattle.std.specs.Str.{IsUtf8};
+ghost use Rattle.serde_json.specs.Read.{read};
 ghost use Rattle.serde_json.specs.View.{items_view, view};
-ghost use Rattle.lus_editing.specs.Messages.{changed_of, changed_text, document_of, id_of, last_change, last_of, method_of, opened_of, opened_text, parameters_of, sent_by, sent_of, sent_seen, text_of, uri_of, version_of};
+ghost use Rattle.lus_editing.specs.Messages.{changed_of, changed_text, document_of, id_of, last_change, last_of, method_of, new_name_of, opened_of, opened_text, parameters_of, sent_by, sent_of, sent_seen, text_of, uri_of, version_of};
 
 use lus_queries::Spot;
 use serde_json::Value;
+use std::alloc::{AllocError, Global};
 
 /// A text that an editor sends, with its name and its version.
 #[derive(Clone, Copy)]
@@ -13,6 +16,17 @@ pub(crate) struct Sent<'v> {
     pub uri: &'v str,
     pub version: i64,
     pub text: &'v str,
+}
+
+/// The value that a message is, if it is JSON.
+pub(crate) fn parse(alloc: Global, message: &[u8]) -> Result<Option<Value>, AllocError>
+    ensures { IfOk result (λ o. IsUtf8 message.now → read message.now ≡ option_map view o) }
+{
+    match Value::from_slice(alloc, message) {
+        Ok(value) => Ok(Some(value)),
+        Err(error) if error.is_memory() => Err(AllocError),
+        Err(_) => Ok(None),
+    }
 }
 
 /// The method that a message names.
@@ -166,8 +180,11 @@ pub(crate) fn range_of(parameters: &Value) -> Option<(Spot, Spot)> {
 }
 
 /// The name that parameters give in place of another one.
-pub(crate) fn new_name_of(parameters: &Value) -> Option<&str> {
-    parameters.get("newName")?.as_str()
+pub(crate) fn new_name_of(parameters: &Value) -> Option<&str>
+    ensures { option_map (λ t. t.now) result ≡ new_name_of (view parameters.now) }
+{
+    let name = parameters.get("newName")?;
+    name.as_str()
 }
 
 /// Whether references are asked for with the declaration, if the parameters say so.
@@ -175,5 +192,23 @@ pub(crate) fn has_declaration(parameters: &Value) -> Option<bool> {
     parameters
         .get("context")?
         .get("includeDeclaration")?
+        .as_bool()
+}
+
+/// The name of the document that a message changes, if it is a notification that does so.
+pub(crate) fn changed_document(message: &Value) -> Option<&str> {
+    if id_of(message).is_some() || method_of(message)? != "textDocument/didChange" {
+        return None;
+    }
+    Some(changed(parameters_of(message)?)?.uri)
+}
+
+/// Whether an editor shows the further places of a diagnostic, if its parameters say so.
+pub(crate) fn shows_related(parameters: &Value) -> Option<bool> {
+    parameters
+        .get("capabilities")?
+        .get("textDocument")?
+        .get("publishDiagnostics")?
+        .get("relatedInformation")?
         .as_bool()
 }

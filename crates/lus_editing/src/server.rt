@@ -29,6 +29,8 @@ pub(crate) struct Document {
 #[derive(Drop)]
 pub struct Server {
     pub(crate) stage: Stage,
+    /// Whether the editor shows the further places of a diagnostic.
+    pub(crate) shows_related: bool,
     pub(crate) documents: IndexMap<String, Document>,
 }
 
@@ -37,6 +39,7 @@ impl Server {
     pub fn new(alloc: Global) -> Server {
         Server {
             stage: Stage::Fresh,
+            shows_related: false,
             documents: IndexMap::new(alloc),
         }
     }

@@ -15,7 +15,9 @@ use crate::capabilities::CAPABILITIES;
 use crate::compiler::Compiler;
 use crate::diagnostics::{closed, published};
 use crate::formatting::formatted;
-use crate::messages::{Sent, id_of, method_of, parameters_of, sent_by, uri_of};
+use crate::messages::{
+    Sent, id_of, method_of, parameters_of, parse, sent_by, shows_related, uri_of,
+};
 use crate::queries::{queried, query_of};
 use crate::renames::renamed;
 use crate::server::{Document, Server, Stage};
@@ -48,6 +50,7 @@ fn outcome<C: Compiler>(
     match method {
         "initialize" => {
             server.stage = Stage::Running;
+            server.shows_related = parameters.and_then(shows_related).unwrap_or(false);
             Ok(Ok(String::from_str(alloc, CAPABILITIES)?))
         }
         "shutdown" => {
@@ -124,7 +127,7 @@ fn take<C: Compiler>(
 {
     let faults = compiler.faults(alloc, sent.text)?;
     let warnings = warnings_beside(alloc, compiler, sent.text, &faults)?;
-    let said = published(alloc, sent, &faults, &warnings)?;
+    let said = published(alloc, sent, &faults, &warnings, server.shows_related)?;
     let text = String::from_str(alloc, sent.text)?;
     let document = Document {
         text,
@@ -247,17 +250,6 @@ fn serve_value<C: Compiler>(
     match method_of(message) {
         Some(method) => serve_named(alloc, compiler, server, method, message),
         None => serve_nameless(alloc, message),
-    }
-}
-
-/// The value that a message is, if it is JSON.
-fn parse(alloc: Global, message: &[u8]) -> Result<Option<Value>, AllocError>
-    ensures { IfOk result (λ o. IsUtf8 message.now → read message.now ≡ option_map view o) }
-{
-    match Value::from_slice(alloc, message) {
-        Ok(value) => Ok(Some(value)),
-        Err(error) if error.is_memory() => Err(AllocError),
-        Err(_) => Ok(None),
     }
 }
 

@@ -68,8 +68,8 @@ fn push_warning(
 {
     let message = message_of(warning)?;
     let name = warning.kind.as_str();
-    let from = lines.spot(warning.span.start);
-    let to = lines.spot(warning.span.end());
+    let from = lines.spot(warning.span.start.byte);
+    let to = lines.spot(warning.span.end().byte);
     push_warned(alloc, text, name, from, to, message.as_str())
 }
 

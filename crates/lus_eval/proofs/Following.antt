@@ -11,7 +11,7 @@ use Rattle.lus_classes.specs.Classes.{clock_in}
 use Rattle.lus_classes.specs.Steps.{is_on_row}
 use Rattle.lus_classes.specs.ClassesOf.{IsClassOf}
 use Rattle.lus_instructions.specs.declared.class.Class.{Class}
-use Rattle.lus_instructions.specs.View.{clock_from, class_of}
+use Rattle.lus_classes.specs.View.{clock_from, class_of}
 use Rattle.lus_code.specs.SimulationSpecs.Fitting.{has_shape, has_presence, all_below, same_truth}
 use Rattle.lus_code.specs.SimulationSpecs.LineageLaws.{StepsTo, EndsStreams}
 use Rattle.lus_code.specs.SimulationSpecs.Lineages.{outputs_of}

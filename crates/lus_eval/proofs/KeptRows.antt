@@ -1,5 +1,5 @@
 -- What an instance keeps, as contracts see it.
-use Rattle.std.proofs.Common.{◌≡◌, ◌∙◌, ◌+◌, ◌<◌, ◌≤◌, ℕ, List, [], Some, sym, ap, subst, true, length, arith}
+use Rattle.std.proofs.Common.{◌≡◌, ◌∙◌, ◌+◌, ◌<◌, ◌≤◌, ℕ, List, [], ◌∷◌, Some, refl, sym, ap, subst, true, length, map, replicate, arith}
 use Rattle.std.specs.Prelude.{slice_get}
 use Rattle.std.proofs.lemmas.List.{length-map}
 use Rattle.std.proofs.lemmas.Option.{slice_get_within, same_Some}
@@ -12,7 +12,7 @@ use Rattle.lus_program.specs.View.{node_of, program_seen}
 use Rattle.lus_code.proofs.OrderProofs.Nodes.{node_here}
 use Rattle.lus_frames.specs.declared.class.Class.{Class as Framed}
 use Rattle.lus_instructions.specs.declared.class.Class.{Class}
-use Rattle.lus_instructions.specs.Places.{state_in}
+use Rattle.lus_classes.specs.Places.{state_in}
 use Rattle.lus_code.specs.SimulationSpecs.Nesting.{depth_of}
 use Rattle.lus_code.specs.SimulationSpecs.Lineages.{Lineage, HasLived}
 use Rattle.lus_code.proofs.SimulationProofs.Lived.{resets_lived}
@@ -22,7 +22,7 @@ use Rattle.lus_code.specs.Correct.{IsCorrect}
 use Rattle.lus_running.specs.declared.instance.Instance.{Instance}
 use Rattle.lus_running.specs.Instances as instances
 use Rattle.lus_running.specs.Instances.{seen}
-use Rattle.lus_running.proofs.Placed.{resets_state}
+use Rattle.lus_running.proofs.Placed.{fresh_state, resets_state}
 use Rattle.lus_eval.specs.Objects.{Kept, kept_by, IsEven, IsObjectOf, IsReset, MakesStep, ObjectLived, state_of}
 
 module _ (c : ProgramCode) (classes : List Class) (framed : List Framed) (same : classes ≡ c.classes) (coded : framed ≡ c.framed) (o : Instance) where
@@ -100,6 +100,24 @@ reset_lived c f o o' lineage is lived = record {
   shaped = reset_shaped c o o' is lived.shaped;
   lived = subst (λ (s : State). HasLived (program_of c) (plain_classes c) s f []) (sym (is.state c)) (resets_lived (program_of c) (plain_classes c) (state_of c o) f lineage lived.lived);
 }
+
+all_one : {X : Type 0} (x : X) (xs : List X) → map (λ y. x) xs ≡ replicate (length xs) x
+all_one x [] = refl
+all_one x (y ∷ ys) = ap (λ zs. x ∷ zs) (all_one x ys)
+
+-- an object of correct code that is set back has lived through nothing, whatever it kept
+pub reset_starts : (c : ProgramCode) → IsCorrect c → (o o' : Instance) → instances.IsReset (seen o) (seen o') → IsObjectOf c (kept_by o) → ObjectLived c o.node (kept_by o') []
+reset_starts c correct o o' h shaped =
+    let d = depth_of (program_of c) in
+    let e = shaped.class.extent in
+    let cells : (seen o').cells ≡ replicate e.cells nil = h.cells ∙ all_one nil (seen o).cells ∙ ap (λ n. replicate n nil) shaped.cells in
+    let firsts : (seen o').firsts ≡ replicate e.firsts true = h.firsts ∙ all_one true (seen o).firsts ∙ ap (λ n. replicate n true) shaped.firsts in
+    let start = (λ j. state_in c.classes d (h.node j) (cells j) (firsts j)) ∙ fresh_state c.classes correct.ready d o.node shaped.class shaped.found (correct.nested o.node) in
+    record {
+      node = h.node;
+      shaped = reset_shaped c (kept_by o) (kept_by o') (reset_kept o o' h) shaped;
+      lived = subst (λ (s : State). HasLived (program_of c) (plain_classes c) s o.node []) (sym start) (correct.starts o.node);
+    }
 
 -- objects of a node have rows as long
 pub same_room : (c : ProgramCode) (o o' : Kept) → IsObjectOf c o → IsObjectOf c o' → o'.node ≡ o.node → o'.room ≡ o.room

@@ -12,13 +12,13 @@ use Rattle.lus_classes.specs.ClassesOf.{IsCall, AreCalls, IsClassOf}
 use Rattle.lus_classes.proofs.Passing.{arguments_on_clocks}
 use Rattle.lus_instructions.specs.declared.class.Call.{Call}
 use Rattle.lus_instructions.specs.declared.class.Class.{Class}
-use Rattle.lus_instructions.specs.View.{argument_of, call_of, clock_from, class_of, classes_of}
+use Rattle.lus_classes.specs.View.{argument_of, call_of, clock_from, class_of, classes_of}
 use Rattle.lus_code.specs.Codes.{IsCodeOf}
 use Rattle.lus_running.specs.Fits.{InputsTestInputs, OfClass}
 use Rattle.lus_running.specs.OnClocks.{PassesOnClock, PassOnClocks}
 use Rattle.lus_running.proofs.Placed.{class_found}
 use Rattle.lus_running.proofs.ShortSteps.{passed_length, past_end}
-use Rattle.lus_instructions.proofs.ShortTurns.{whole_clock_at}
+use Rattle.lus_classes.proofs.ShortTurns.{whole_clock_at}
 
 module _ (p : Program) (classes : List Class) (code : IsCodeOf p (classes_of classes)) where
   belongs : (g : ℕ) (c : Class) → slice_get classes g ≡ Some c → IsClassOf code.0 (node_at code.0 g) (class_of c)

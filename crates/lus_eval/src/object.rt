@@ -4,6 +4,7 @@ ghost use Rattle.std.specs.Prelude.{ℕ, ◌≡◌, ◌↔◌, ◌<◌, [], IsTr
 ghost use Rattle.lus_code.specs.SimulationSpecs.Fitting.{has_shape, has_presence};
 ghost use Rattle.lus_code.specs.SimulationSpecs.Lineages.{Lineage};
 ghost use Rattle.lus_code.specs.Codes.{ProgramCode, program_of};
+ghost use Rattle.lus_code.specs.Correct.{IsCorrect};
 ghost use Rattle.lus_eval.specs.Objects.{IsFault, IsReset, IsObjectOf, MakesStep, ObjectLived};
 
 use crate::copying::row_twice;
@@ -113,11 +114,13 @@ impl Object {
         }
     }
 
-    /// As it was when it was fresh: whatever inputs it has lived through, it has lived through none. Takes no memory.
+    /// As it was when it was fresh: whatever inputs it has lived through, or whatever it keeps as an object of some code, it has
+    /// lived through none. Takes no memory.
     pub fn reset(&mut self)
         ensures back { IsReset self.old self.new }
         ensures lived { (code : ProgramCode) (f : ℕ) (lineage : Lineage)
             → ObjectLived code f self.old lineage → ObjectLived code f self.new [] }
+        ensures fits { (code : ProgramCode) → IsCorrect code → IsObjectOf code self.old → ObjectLived code self.old.node self.new [] }
     {
         self.instance.reset();
     }

@@ -5,7 +5,7 @@ use Rattle.std.specs.Arc.{arc_value}
 use Rattle.lus_syntax.specs.Lexemes.{Text}
 use Rattle.lus_values.specs.Names.{name_of}
 use Rattle.lus_program.specs.Programs.{Program, Node, Variable, Field}
-use Rattle.lus_program.specs.declared.expr.Test.{Test}
+use Rattle.lus_values.specs.declared.test.Test.{Test}
 use Rattle.lus_program.specs.declared.types.Kind.{Kind}
 use Rattle.lus_program.specs.declared.types.Kind.TheVariants.{Bool, Int, Enum, Struct}
 use Rattle.lus_program.specs.Kinds.{fields_in}

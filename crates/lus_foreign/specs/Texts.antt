@@ -1,12 +1,13 @@
 -- The texts that C is told.
-use Rattle.std.specs.Prelude.{◌≡◌, ◌==◌, ◌+◌, ℕ, List, Option, Some, None, IsTrue, length, nat_lt, slice_get, if◌then◌else◌}
+use Rattle.std.specs.Prelude.{◌≡◌, ◌==◌, ◌+◌, ℕ, true, List, Option, Some, None, IsTrue, length, nat_lt, slice_get, if◌then◌else◌}
 use Rattle.std.specs.Option.{option_map}
-use Rattle.std.specs.List.{slice_split}
+use Rattle.std.specs.List.{list_all, slice_split}
 use Rattle.std.specs.Arc.{arc_value}
 use Rattle.lus_syntax.specs.Lexemes.{Text}
 use Rattle.lus_values.specs.Values.{Row}
 use Rattle.lus_program.specs.Programs.{Program, Node}
 use Rattle.lus_devices.specs.Journals.{Journal, row_text, line_text, journal_text}
+use Rattle.lus_asked.specs.Asked.{is_unbroken}
 use Rattle.lus_leaves.specs.declared.leaf.Leaf.{Leaf}
 use Rattle.lus_leaves.specs.Fits.{RowFits}
 use Rattle.lus_leaves.specs.Leaves.{row_leaves}
@@ -54,6 +55,10 @@ FoundIsTold (Some text) status bytes olds news = TextIsTold text status bytes ol
 pub record RowIsTold (p : Program) (leaves : List Leaf) (status bytes : ℕ) (olds news : Text) : Type 0 where
   pub told : (row : Row) → RowFits row → row_leaves row ≡ leaves → TextIsTold (row_text (names_of p) row) status bytes olds news
   pub none : ((row : Row) → RowFits row → row_leaves row ≡ leaves → ⊥) → IsValue status
+
+-- names that journals are read back with: each is one word, without a blank or a line feed
+abbrev pub AreWords : Text → Type 0
+AreWords names = list_all is_unbroken names ≡ true
 
 -- the names in a text that has a 0 behind each
 abbrev pub names_behind : Text → List Text

@@ -10,14 +10,14 @@ ghost use Rattle.lus_foreign.specs.Held.{IsOkay};
 ghost use Rattle.lus_foreign.specs.Opened.{ContentLacks, HeldLacks};
 ghost use Rattle.lus_foreign.specs.Queries.{IsHandle, IsText};
 ghost use Rattle.lus_foreign.specs.Served.{IsEntered, IsFull, IsNone, IsValue, NoneSpelled};
-ghost use Rattle.lus_foreign.specs.Texts.{FoundIsTold, IsMemory};
+ghost use Rattle.lus_foreign.specs.Texts.{AreWords, FoundIsTold, IsMemory};
 ghost use Rattle.lus_foreign.specs.Lives.{ContentEntersLive, ContentOpenedLive, ContentReplays, HeldEntersLive, HeldOpensLive, HeldReplays};
 ghost use Rattle.lus_foreign.specs.Lives.{EntersLive, HasNoNumber, IsWrong, LastIsTold, LiveIsCounted, OfHeldLive, OfLive};
 
 use crate::content::Content;
 use crate::handle::Handle;
 use crate::status::{FULL, HANDLE, MEMORY, NONE, OK, TEXT, VALUE, WRONG};
-use crate::texts::write_text;
+use crate::texts::{are_words, write_text};
 use crate::{calls, journals};
 use lus_leaves::{Answer, EntryOut, Leaf, request_of};
 use lus_live_node::{LiveNode, Verdict};
@@ -264,7 +264,7 @@ fn line_in(alloc: Global, content: &Content, caller: &str, room: &mut [u8], byte
     }
 }
 
-/// The line of the last entry in the journal of the instance, where a call made it.
+/// The line of the last entry in the journal of the instance, where a call made it: `VALUE`, where the caller's name isn't one word.
 pub fn live_line(
     alloc: Global,
     live: &mut Handle,
@@ -272,14 +272,18 @@ pub fn live_line(
     room: &mut [u8],
     bytes: &mut u64,
 ) -> u32
-    ensures told { IsUtf8 caller.now → OfHeldLive live.old.kept.held result (λ l. IsMemory result ⊎
+    ensures told { IsUtf8 caller.now → AreWords caller.now → OfHeldLive live.old.kept.held result (λ l. IsMemory result ⊎
         FoundIsTold (last_line caller.now l) result bytes.new room.old room.new) }
     ensures text { ¬ (IsUtf8 caller.now) → IsText result }
+    ensures value { IsUtf8 caller.now → ¬ (AreWords caller.now) → IsValue result }
     ensures same { live.new.kept.held ≡ live.old.kept.held }
 {
     let Ok(caller) = str::from_utf8(caller) else {
         return TEXT;
     };
+    if !are_words(caller) {
+        return VALUE;
+    }
     let Some(content) = live.take(alloc) else {
         return HANDLE;
     };

@@ -1,8 +1,11 @@
 //! Texts of rows, of entries and of journals.
 ghost use Rattle.std.specs.Prelude.{◌≡◌, ◌⊎◌, IsUtf8, IfOk, map, string_bytes};
+ghost use Rattle.std.specs.List.{list_all};
+ghost use Rattle.lus_asked.specs.Asked.{is_unbroken};
 ghost use Rattle.lus_foreign.specs.Held.{IsOkay};
 ghost use Rattle.lus_foreign.specs.Queries.{IsText, OfHeldProgram, OfProgram};
-ghost use Rattle.lus_foreign.specs.Texts.{FoundIsTold, IsMemory, OfHeldJournal, OfJournal, RowIsTold, TextIsTold};
+ghost use Rattle.lus_foreign.specs.Served.{IsValue};
+ghost use Rattle.lus_foreign.specs.Texts.{AreWords, FoundIsTold, IsMemory, OfHeldJournal, OfJournal, RowIsTold, TextIsTold};
 ghost use Rattle.lus_foreign.specs.Texts.{closed_line, closed_text, names_behind};
 
 use crate::content::Content;
@@ -25,6 +28,16 @@ pub fn write_text(room: &mut [u8], bytes: &mut u64, text: &[u8]) -> u32
     }
     room[..text.len()].copy_from_slice(text);
     OK
+}
+
+/// Whether names are words, with which journals are read back.
+pub(crate) fn are_words(names: &str) -> bool
+    ensures { result ≡ list_all is_unbroken names.now }
+{
+    names
+        .as_bytes()
+        .iter()
+        .all(|byte| *byte != b' ' && *byte != b'\n')
 }
 
 /// The parts of a text that has a 0 behind each.
@@ -122,7 +135,7 @@ fn journal_text_in(
     }
 }
 
-/// The text of a journal, with the names of its instance and of its callers.
+/// The text of a journal, with the names of its instance and of its callers: `VALUE`, where a name isn't one word.
 pub fn journal_text(
     alloc: Global,
     journal: &mut Handle,
@@ -131,9 +144,11 @@ pub fn journal_text(
     room: &mut [u8],
     bytes: &mut u64,
 ) -> u32
-    ensures told { IsUtf8 instance.now × IsUtf8 callers.now → OfHeldJournal journal.old.kept.held result (λ c. IsMemory result ⊎
+    ensures told { IsUtf8 instance.now × IsUtf8 callers.now → AreWords instance.now × AreWords callers.now
+        → OfHeldJournal journal.old.kept.held result (λ c. IsMemory result ⊎
         FoundIsTold (closed_text instance.now (names_behind callers.now) c) result bytes.new room.old room.new) }
     ensures text { ¬ (IsUtf8 instance.now × IsUtf8 callers.now) → IsText result }
+    ensures value { IsUtf8 instance.now × IsUtf8 callers.now → ¬ (AreWords instance.now × AreWords callers.now) → IsValue result }
     ensures same { journal.new.kept.held ≡ journal.old.kept.held }
 {
     let Ok(instance) = str::from_utf8(instance) else {
@@ -142,6 +157,9 @@ pub fn journal_text(
     let Ok(callers) = str::from_utf8(callers) else {
         return TEXT;
     };
+    if !are_words(instance) || !are_words(callers) {
+        return VALUE;
+    }
     let Some(content) = journal.take(alloc) else {
         return HANDLE;
     };
@@ -179,7 +197,7 @@ fn entry_text_in(
     }
 }
 
-/// The line of an entry in a journal's text, by its place from 0.
+/// The line of an entry in a journal's text, by its place from 0: `VALUE`, where a caller's name isn't one word.
 pub fn entry_text(
     alloc: Global,
     journal: &mut Handle,
@@ -188,14 +206,18 @@ pub fn entry_text(
     room: &mut [u8],
     bytes: &mut u64,
 ) -> u32
-    ensures told { IsUtf8 callers.now → OfHeldJournal journal.old.kept.held result (λ c. IsMemory result ⊎
+    ensures told { IsUtf8 callers.now → AreWords callers.now → OfHeldJournal journal.old.kept.held result (λ c. IsMemory result ⊎
         FoundIsTold (closed_line (names_behind callers.now) c place) result bytes.new room.old room.new) }
     ensures text { ¬ (IsUtf8 callers.now) → IsText result }
+    ensures value { IsUtf8 callers.now → ¬ (AreWords callers.now) → IsValue result }
     ensures same { journal.new.kept.held ≡ journal.old.kept.held }
 {
     let Ok(callers) = str::from_utf8(callers) else {
         return TEXT;
     };
+    if !are_words(callers) {
+        return VALUE;
+    }
     let Some(content) = journal.take(alloc) else {
         return HANDLE;
     };

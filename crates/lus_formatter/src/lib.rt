@@ -6,5 +6,5 @@ mod replacing;
 mod shell;
 mod words;
 
-pub use replacing::Replace;
+pub use replacing::{Replace, Unreplaced};
 pub use shell::command;

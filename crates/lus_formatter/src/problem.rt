@@ -1,5 +1,6 @@
 //! Why a file isn't laid out.
 
+use crate::replacing::Unreplaced;
 use lus_devices::ReadError;
 use lus_format::FormatError;
 use lus_syntax::{Refusal, RefusalNumber};
@@ -14,8 +15,12 @@ pub enum Problem {
     Layout,
     #[error("error file")]
     File,
+    #[error("error file: it may not be written, and stays as it is")]
+    Locked,
     #[error("error output")]
     Output,
+    #[error("error output: it may be half written, and the file {0} has its whole new text")]
+    Begun(String),
     #[error("error memory")]
     Memory,
 }
@@ -25,7 +30,7 @@ impl Problem {
     pub fn status(&self) -> u8 {
         match self {
             Problem::Refused(_) | Problem::Layout => 1,
-            Problem::File | Problem::Output => 3,
+            Problem::File | Problem::Locked | Problem::Output | Problem::Begun(_) => 3,
             Problem::Memory => 4,
         }
     }
@@ -54,6 +59,16 @@ impl From<ReadError> for Problem {
         match error {
             ReadError::Read => Problem::File,
             ReadError::Memory => Problem::Memory,
+        }
+    }
+}
+
+impl From<Unreplaced> for Problem {
+    fn from(error: Unreplaced) -> Problem {
+        match error {
+            Unreplaced::Locked => Problem::Locked,
+            Unreplaced::Failed => Problem::Output,
+            Unreplaced::Begun(beside) => Problem::Begun(beside),
         }
     }
 }

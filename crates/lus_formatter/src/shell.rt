@@ -61,8 +61,8 @@ fn perform<D: Replace, I: Source, O: Sink>(
     } else if is_changed && mode == Mode::Check {
         write_text(output, name)?;
         write_text(output, "\n")?;
-    } else if is_changed && folder.replace(alloc, name, made.as_bytes()).is_err() {
-        return Err(Problem::Output);
+    } else if is_changed {
+        folder.replace(alloc, name, made.as_bytes())?;
     }
     Ok(is_changed)
 }

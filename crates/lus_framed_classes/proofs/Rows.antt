@@ -4,7 +4,7 @@ use Rattle.std.proofs.Math.Seq.{drop-append_seam, take-append_seam}
 use Rattle.std.proofs.lemmas.List.{drop-drop, length-drop, length-take-le}
 use Rattle.lus_values.specs.Lists.{item}
 use Rattle.lus_values.specs.Values.{Row}
-use Rattle.lus_instructions.specs.Places.{part}
+use Rattle.lus_classes.specs.Places.{part}
 
 module _ {X : Type 0} where
   pub front_of : (n : ℕ) (a b : List X) → n ≡ length a → take n (a ++ b) ≡ a

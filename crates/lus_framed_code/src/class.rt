@@ -1,7 +1,7 @@
 //! The code of one class with calls.
 
 ghost use Rattle.std.specs.Prelude.{◌≡◌, IfOk};
-ghost use Rattle.lus_instructions.specs.Parts.{AreParts};
+ghost use Rattle.lus_classes.specs.Parts.{AreParts};
 ghost use Rattle.lus_framed_code.specs.Emission.{own_layout as own_places};
 ghost use Rattle.lus_framed_code.specs.Made.{IsMadeOf};
 

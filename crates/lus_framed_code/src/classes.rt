@@ -4,7 +4,7 @@ ghost use Rattle.std.specs.Prelude.{◌≡◌, ◌≢◌, ◌<◌, ℕ, IfOk, So
 ghost use Rattle.lus_graph.specs.Ways.{IsOrder};
 ghost use Rattle.lus_frames.specs.Bounds.{AreBound};
 ghost use Rattle.lus_frames.specs.Classes.{AreFramed};
-ghost use Rattle.lus_instructions.specs.Turns.{AreReady};
+ghost use Rattle.lus_classes.specs.Turns.{AreReady};
 ghost use Rattle.lus_places.specs.Shaped.{class_uses};
 ghost use Rattle.lus_framed_classes.specs.Code.{HaveCode};
 ghost use Rattle.lus_framed_code.specs.Made.{HaveParts};

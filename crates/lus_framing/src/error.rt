@@ -14,8 +14,9 @@ pub enum FrameError {
     Memory,
     #[error("the head of a message doesn't say how many bytes follow")]
     Head,
+    /// The head of a message was read that has so many bytes.
     #[error("a message has too many bytes")]
-    Long,
+    Long(usize),
     #[error("the input ends in a message")]
     End,
 }

@@ -19,7 +19,7 @@ pub const MOST_MESSAGE_BYTES: usize = 16777216;
 const MOST_LINES: u32 = 16;
 
 /// The name of the field that says how many bytes follow, with the colon and the blank behind it.
-const NAME: &[u8] = b"Content-Length: ";
+pub(crate) const NAME: &[u8] = b"Content-Length: ";
 
 /// The number that digits write.
 fn number_in(digits: &[u8]) -> Option<usize>
@@ -86,8 +86,9 @@ fn read_head<S: Source>(source: &mut S, line: &mut Vec<u8>) -> Result<Option<usi
     for number in 0..MOST_LINES {
         match read_line(source, line)? {
             Reading::Line => {}
+            Reading::Long => return Err(FrameError::Head),
             Reading::End if number == 0 => return Ok(None),
-            _ => return Err(FrameError::Head),
+            Reading::Unfinished | Reading::End => return Err(FrameError::End),
         }
         if is_blank(line) {
             return match length {
@@ -119,7 +120,8 @@ fn read_body<S: Source>(alloc: Global, source: &mut S, length: usize) -> Result<
 }
 
 /// Reads a message: a head, and as many bytes behind it as the head says. Nothing where the input ends before a head. No memory is
-/// taken for a message of more than `MOST_MESSAGE_BYTES` bytes. Behind an error nothing more can be read.
+/// taken for a message of more than `MOST_MESSAGE_BYTES` bytes, whose head alone is read then. Behind a head that doesn't say how many
+/// bytes follow it isn't known where the next one begins.
 pub fn read_frame<S: Source>(
     alloc: Global,
     source: &mut S,
@@ -131,7 +133,7 @@ pub fn read_frame<S: Source>(
         return Ok(None);
     };
     if length > MOST_MESSAGE_BYTES {
-        return Err(FrameError::Long);
+        return Err(FrameError::Long(length));
     }
     let message = read_body(alloc, source, length)?;
     if message.len() < length {

@@ -5,12 +5,12 @@ use lus_code::{Code, translate};
 use lus_frames::{Class as Framed, Order};
 use lus_grammar::parse;
 use lus_instructions::{Call, Extent, Located};
-use lus_normal::{has_few_parts, normalise};
+use lus_normal::normalise;
 use lus_order::order;
 use lus_program::NodeId;
-use lus_syntax::{Refusal, RefusalNumber, lex};
+use lus_syntax::{Refusal, lex};
 use lus_types::check_types;
-use std::alloc::Global;
+use std::alloc::{AllocError, Global};
 use std::test::Fail;
 
 /// The code of a text.
@@ -21,9 +21,6 @@ fn code_of(alloc: Global, text: &str) -> Result<Code, Refusal> {
     let clocked = check_clocks(typed)?;
     let initialised = check_nil(alloc, clocked)?;
     let ordered = order(alloc, initialised)?;
-    if !has_few_parts(ordered.program()) {
-        return Err(Refusal::new(RefusalNumber::Limit, 1, 1));
-    }
     let normal = normalise(alloc, ordered)?;
     translate(alloc, normal)
 }
@@ -53,6 +50,52 @@ fn are_apart(calls: &[Call]) -> bool {
         }
         _ => false,
     }
+}
+
+/// A counter, and a node that calls it on a clock.
+const SAMPLED: &str =
+    "node t() returns (n: int); let n = 0 -> pre n + 1; tel node o(c: bool) returns (y: int when c); let y = t(); tel";
+
+/// A sum, and a node that counts and calls it on a clock.
+const BESIDE: &str =
+    "node s(x: int) returns (y: int); let y = x + (0 -> pre y); tel node q(c: bool; x: int when c) returns (y: int when c; z: int); let y = s(x); z = 0 -> pre z + 1; tel";
+
+/// A node with a memory, and further nodes of which each calls the one before it twice.
+fn doubled(alloc: Global, times: u32) -> Result<String, AllocError> {
+    let first = "node c0(x: int) returns (y: int); let y = 0 -> pre x; tel\n";
+    let mut text = String::from_str(alloc, first)?;
+    for number in 0..times {
+        let next = number.saturating_add(1);
+        let node = format!(in alloc;
+            "node c{next}(x: int) returns (y: int); let y = c{number}(x) + c{number}(x); tel\n"
+        )?;
+        text.push_str(&node)?;
+    }
+    Ok(text)
+}
+
+/// Whether the last of so many nodes has so many state cells.
+fn has_cells(code: &Code, nodes: u32, cells: u32) -> bool {
+    0 < nodes && code.nodes() == nodes && code.cells(NodeId(nodes - 1)) == cells
+}
+
+#[test]
+fn state_cells_are_counted(rt: HostRuntime) -> Result<(), Fail> {
+    let alloc = rt.alloc();
+    let text = doubled(alloc, 15)?;
+    match (
+        code_of(alloc, SAMPLED),
+        code_of(alloc, BESIDE),
+        code_of(alloc, &text),
+    ) {
+        (Ok(sampled), Ok(beside), Ok(doubled)) => {
+            assert!(&rt; has_cells(&sampled, 2, 2));
+            assert!(&rt; has_cells(&beside, 2, 4));
+            assert!(&rt; has_cells(&doubled, 16, 65536));
+        }
+        _ => panic!(rt; "refused"),
+    }
+    Ok(())
 }
 
 fn has_parts_apart(code: &Code) -> bool {

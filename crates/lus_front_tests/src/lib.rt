@@ -1,5 +1,5 @@
-//! Tests of what is below machines: values, orders, tokens, clocks, normal forms, the code of small programs, replies, and what C reads
-//! and writes. In one crate above them all, since a crate with tests is proved twice, and its start is as dear as ten tests. Which texts
+//! Tests of what is below machines: values, orders, tokens, clocks, normal forms, the code of small programs, the worlds of the reference,
+//! replies, and what C reads and writes. In one crate above them all, since a crate with tests is proved twice, and its start is as dear as ten tests. Which texts
 //! are read, and what operators give in programs, is tested by `rows/`, of which nothing is proved anew.
 #![tactic(auto)]
 
@@ -23,3 +23,9 @@ mod replies;
 mod tokens;
 #[cfg(test)]
 mod values;
+#[cfg(test)]
+mod windows;
+#[cfg(test)]
+mod words;
+#[cfg(test)]
+mod worlds;

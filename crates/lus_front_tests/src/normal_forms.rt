@@ -2,11 +2,10 @@
 
 use lus_clocks::{check_clocks, check_nil, clocks_fit, flags_fit};
 use lus_grammar::parse;
-use lus_normal::{Normal, has_few_parts, normalise};
+use lus_normal::{Normal, normalise};
 use lus_order::order;
 use lus_program::{Equation, Expr, Form, Node, NodeId, Program, Variable};
-use lus_promises::counts_of;
-use lus_syntax::{Refusal, RefusalNumber, lex};
+use lus_syntax::{Refusal, lex};
 use lus_types::{Typed, check_types};
 use lus_values::{Op, Operator, Value};
 use std::alloc::Global;
@@ -27,9 +26,6 @@ fn normal_of(alloc: Global, text: &str) -> Result<Normal, Refusal> {
     flags_fit(alloc, clocked.program())?;
     let initialised = check_nil(alloc, clocked)?;
     let ordered = order(alloc, initialised)?;
-    if !has_few_parts(ordered.program()) {
-        return Err(Refusal::new(RefusalNumber::Limit, 1, 1));
-    }
     normalise(alloc, ordered)
 }
 
@@ -104,8 +100,8 @@ fn are_counted(normal: &Normal, case: &Case) -> bool {
     if case.node >= normal.nodes() {
         return false;
     }
-    let counts = counts_of(normal, NodeId(case.node));
-    counts.memories == case.memories && counts.firsts == case.firsts
+    let node = NodeId(case.node);
+    normal.memories(node) == case.memories && normal.firsts(node) == case.firsts
 }
 
 #[test]

@@ -1,7 +1,7 @@
 //! Values, rows and names: printed texts, and that calls succeed. A call that only ever wants memory fails its test.
 
 use lus_requests::Rows;
-use lus_values::{Memory, Names, Op, Row, Value, copy, fits_op, print, push_value, same};
+use lus_values::{Items, Memory, Names, Op, Row, Value, copy, fits_op, print, push_value, same};
 use std::alloc::Global;
 use std::test::Fail;
 
@@ -129,6 +129,15 @@ fn rows_back(alloc: Global) -> Result<usize, Memory> {
     rows.push(half_a_row(alloc)?)?;
     rows.push(half_a_row(alloc)?)?;
     Ok(Rows::new(rows).into_items().len())
+}
+
+#[test]
+fn rows_give_their_entries_back(rt: HostRuntime) -> Result<(), Fail> {
+    let one = Row::one(Some(Value::Int(7))).into_items();
+    assert!(rt; matches!(&one, Items::One(Some(Value::Int(7)))));
+    let none = Row::new(Vec::new(rt.alloc())).into_items();
+    assert!(rt; matches!(&none, Items::Many(entries) if entries.is_empty()));
+    Ok(())
 }
 
 #[test]

@@ -18,9 +18,8 @@ use crate::operators::{
 };
 use crate::parts::{lead, tail, turn};
 use crate::primaries::{dots, sampled, truth};
-use crate::shape::primary_shape;
 use crate::trees;
-use lus_spelling::Form;
+use lus_spelling::{Form, primary_shape};
 use lus_syntax::{Expr, Infix, ListOperator, Name, Part, Span, Symbol, Token, TokenKind, Word};
 use std::alloc::Global;
 

@@ -12,7 +12,6 @@ mod operators;
 mod parts;
 mod primaries;
 mod program;
-mod shape;
 mod trees;
 mod types;
 mod variables;

@@ -1,8 +1,10 @@
 //! Machines.
 ghost use Rattle.std.specs.Prelude.{◌≡◌, [], IfOk};
 
-use crate::requests::{SUM, SUMS, again, burst, gives_three, is_done, is_sum, step};
-use lus_host::{CallError, Machine, Reply, Request, compile};
+use crate::requests::{
+    Made, SUM, SUMS, again, burst, gives_three, is_done, is_history, is_sum, step,
+};
+use lus_host::{CallError, Entry, Machine, Reply, Request, compile};
 use lus_values::Memory;
 use std::alloc::Global;
 use std::sync::Arc;
@@ -22,7 +24,21 @@ pub(crate) fn a_machine(alloc: Global) -> Result<Machine, Memory>
     Machine::new(alloc, program, SUM)
 }
 
-/// The reply to a call, or to the same call again where memory was out; none where the first left more than there was, or the second is
+/// The calls that are made.
+const CALLS: [Made; 5] = [
+    Made::Step(1, 1),
+    Made::Save(0),
+    Made::Step(5, 6),
+    Made::Restore(0),
+    Made::Burst([2, 3, 4], [3, 6, 10]),
+];
+
+/// Whether a history has so many of them, the first.
+fn has_first(entries: &[Entry], count: usize) -> bool {
+    count <= CALLS.len() && is_history(entries, &CALLS[..count])
+}
+
+/// The reply to a call, or to the same call again where memory was out; none where the first left another history, or the second is
 /// refused memory too.
 fn answered(machine: &mut Machine, request: &Request) -> Option<Reply> {
     let entries = machine.history().len();
@@ -30,7 +46,7 @@ fn answered(machine: &mut Machine, request: &Request) -> Option<Reply> {
         Ok(reply) => Some(reply),
         Err(CallError::Full) => None,
         Err(CallError::Memory) => {
-            if machine.history().len() != entries {
+            if !has_first(machine.history(), entries) {
                 return None;
             }
             machine.call(0, request).ok()
@@ -48,7 +64,7 @@ fn are_answered(machine: &mut Machine, one: &Request, five: &Request, three: &Re
         Some(reply) => gives_three(&reply, [3, 6, 10]),
         None => false,
     };
-    (stepped && saved) && (stepped_on && restored) && last && machine.history().len() == 5
+    (stepped && saved) && (stepped_on && restored) && last && is_history(machine.history(), &CALLS)
 }
 
 /// Whether calls are answered; memory may be out before the first is made.
@@ -58,7 +74,7 @@ fn is_played(alloc: Global) -> Result<bool, Memory> {
     let five = step(alloc, 5)?;
     let three = burst(alloc, [2, 3, 4])?;
     let right = are_answered(&mut machine, &one, &five, &three);
-    Ok(right && machine.into_history().len() == 5)
+    Ok(right && is_history(&machine.into_history(), &CALLS))
 }
 
 #[test]

@@ -1,6 +1,6 @@
 //! What is asked of an instance, and what is replied.
 
-use lus_host::{NodeId, Reply, Request, Rows};
+use lus_host::{Entry, NodeId, Reply, Request, Rows};
 use lus_values::{Memory, Row, Value};
 use std::alloc::Global;
 
@@ -55,18 +55,60 @@ fn gives(reply: &Reply, number: i64) -> bool {
     }
 }
 
-/// Whether a reply is these outputs of three rows.
-pub(crate) fn gives_three(reply: &Reply, numbers: [i64; 3]) -> bool {
+fn are_numbers(rows: &Rows, numbers: [i64; 3]) -> bool {
     let [one, two, three] = numbers;
-    match reply {
-        Reply::Rows(rows) => match rows.items() {
-            [first, second, third] => {
-                is_number(first, one) && is_number(second, two) && is_number(third, three)
-            }
-            _ => false,
-        },
+    match rows.items() {
+        [first, second, third] => {
+            is_number(first, one) && is_number(second, two) && is_number(third, three)
+        }
         _ => false,
     }
+}
+
+/// Whether a reply is these outputs of three rows.
+pub(crate) fn gives_three(reply: &Reply, numbers: [i64; 3]) -> bool {
+    match reply {
+        Reply::Rows(rows) => are_numbers(rows, numbers),
+        _ => false,
+    }
+}
+
+/// A call with its reply, as a history has it.
+#[derive(Clone, Copy)]
+pub(crate) enum Made {
+    /// An input, and the sum that it gives.
+    Step(i64, i64),
+    Save(u64),
+    Restore(u64),
+    /// Inputs, and their sums.
+    Burst([i64; 3], [i64; 3]),
+}
+
+fn is_entry(entry: &Entry, made: Made) -> bool {
+    match (&entry.request, made) {
+        (Request::Step(row), Made::Step(input, sum)) => {
+            is_number(row, input) && gives(&entry.reply, sum)
+        }
+        (Request::Save(slot), Made::Save(wanted)) => {
+            *slot == wanted && matches!(entry.reply, Reply::Done)
+        }
+        (Request::Restore(slot), Made::Restore(wanted)) => {
+            *slot == wanted && matches!(entry.reply, Reply::Done)
+        }
+        (Request::Burst(rows), Made::Burst(inputs, sums)) => {
+            are_numbers(rows, inputs) && gives_three(&entry.reply, sums)
+        }
+        _ => false,
+    }
+}
+
+/// Whether a history has these calls and no others, in this order.
+pub(crate) fn is_history(entries: &[Entry], made: &[Made]) -> bool {
+    entries.len() == made.len()
+        && entries
+            .iter()
+            .zip(made)
+            .all(|(entry, made)| is_entry(entry, *made))
 }
 
 /// Whether a call was answered, by this output.

@@ -2,12 +2,22 @@
 ghost use Rattle.std.specs.Prelude.{◌≡◌, IfOk, IfSome};
 
 use crate::machines::a_machine;
-use crate::requests::{again, is_done, is_sum, step};
+use crate::requests::{Made, again, is_done, is_history, is_sum, step};
 use lus_host::{CallError, Reply, Request, Seat, SeatNode, Strangers, TryError};
 use lus_values::Memory;
 use std::alloc::Global;
 use std::sync::Wait;
 use std::test::Fail;
+
+/// The calls that are made.
+const CALLS: [Made; 6] = [
+    Made::Step(2, 2),
+    Made::Step(2, 4),
+    Made::Save(0),
+    Made::Save(1),
+    Made::Restore(0),
+    Made::Restore(1),
+];
 
 /// A node and its two seats.
 fn a_node(alloc: Global) -> Result<(SeatNode, Seat, Seat), Memory>
@@ -115,7 +125,7 @@ fn is_played<R: Wait>(rt: &R, alloc: Global) -> Result<bool, Memory> {
     seats.push_reserved(first);
     seats.push_reserved(second);
     match node.close(seats) {
-        Ok(journal) => Ok(right && journal.entries.len() == 6),
+        Ok(journal) => Ok(right && is_history(&journal.entries, &CALLS)),
         Err(strangers) => {
             let Strangers { node: _, seats: _ } = strangers;
             Ok(false)

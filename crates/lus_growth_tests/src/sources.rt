@@ -1,7 +1,8 @@
 //! Sources that are compiled and scripts that are read.
 
 use crate::requests::{SUMS, again};
-use lus_host::{Fits, Program, ScriptRefusal, compile, read_scripts};
+use lus_host::{Fits, Formal, NodeId, Program, ScriptRefusal, compile, read_scripts};
+use lus_program::Kind;
 use lus_syntax::{Refusal, RefusalNumber};
 use lus_values::Memory;
 use std::alloc::Global;
@@ -26,9 +27,38 @@ fn answer(alloc: Global, text: &str) -> Result<Result<Program, Refusal>, Memory>
     }
 }
 
+/// Whether a variable has this name, this type, and is there where the first variable is this constructor, or always.
+fn is(variable: &Formal, name: &str, kind: Kind, constructor: Option<u32>) -> bool {
+    let is_there = match (variable.test, constructor) {
+        (None, None) => true,
+        (Some(test), Some(wanted)) => test.variable == 0 && test.constructor == wanted,
+        _ => false,
+    };
+    variable.name.as_str() == name && variable.kind == kind && is_there
+}
+
+/// Whether a program shows all that `CHOICES` declares.
+fn has_choices(program: &Program) -> bool {
+    let node = NodeId(0);
+    if program.nodes() != 1 || program.node("g") != Some(node) || !program.has(node) {
+        return false;
+    }
+    let names = program.names();
+    let are_there = match (program.inputs(node), program.outputs(node)) {
+        ([k, a, b], [y]) => {
+            is(k, "k", Kind::Enum(0), None)
+                && is(a, "a", Kind::Int, Some(0))
+                && is(b, "b", Kind::Int, Some(1))
+                && is(y, "y", Kind::Int, None)
+        }
+        _ => false,
+    };
+    are_there && names.find("A") == Some((0, 0)) && names.find("B") == Some((0, 1))
+}
+
 fn is_accepted(alloc: Global, text: &str) -> Result<bool, Memory> {
     match answer(alloc, text)? {
-        Ok(program) => Ok(program.nodes() == 1),
+        Ok(program) => Ok(has_choices(&program)),
         Err(_) => Ok(false),
     }
 }

@@ -6,11 +6,11 @@ use crate::requests::{SUM, SUMS, again, row};
 use lus_clocks::{check_clocks, check_nil};
 use lus_eval::Object;
 use lus_eval::lus_code::{Code, translate};
-use lus_eval::lus_normal::{Normal, has_few_parts, normalise};
+use lus_eval::lus_normal::{Normal, normalise};
 use lus_eval::lus_order::order;
 use lus_grammar::parse;
 use lus_host::{Program, compile};
-use lus_syntax::{Refusal, RefusalNumber, lex};
+use lus_syntax::{Refusal, lex};
 use lus_types::check_types;
 use lus_values::{Memory, Op, Row, Value, apply, fits_op, same};
 use std::alloc::Global;
@@ -41,9 +41,6 @@ fn normal_of(alloc: Global) -> Result<Normal, Refusal> {
     let typed = check_types(alloc, parse(alloc, &tokens)?)?;
     let initialised = check_nil(alloc, check_clocks(typed)?)?;
     let ordered = order(alloc, initialised)?;
-    if !has_few_parts(ordered.program()) {
-        return Err(Refusal::new(RefusalNumber::Limit, 1, 1));
-    }
     normalise(alloc, ordered)
 }
 

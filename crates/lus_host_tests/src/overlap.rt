@@ -6,7 +6,7 @@ use std::test::Fail;
 use std::thread;
 
 /// A gate at which two callers meet; then the first one waits until the second one is answered. A wait ends after a million
-/// turns at most, and is then late. (The gate of `lus_callers_tests` would be a second way down to all below `lus_callers`.)
+/// turns at most, and is then late.
 #[derive(Drop)]
 struct SecondFirst {
     signs: AtomicU64,

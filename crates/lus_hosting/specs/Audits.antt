@@ -9,6 +9,7 @@ use Rattle.lus_devices.specs.Devices.{AtEnd, Bytes, with_front}
 use Rattle.lus_asked.specs.Asked.{IsCaller, IsSpelled}
 use Rattle.lus_lines.specs.Lines.{IsLast, IsPlain, IsWholeLine}
 use Rattle.lus_play.specs.Plays.{ended}
+use Rattle.lus_printable.specs.Printable.{printable}
 use Rattle.lus_replay.specs.Replays.{BeginsAsked}
 use Rattle.lus_live_instance.specs.MachineSpecs.Constructors.{names_of}
 use Rattle.lus_live_instance.specs.MachineSpecs.HistorySpecs.Histories.{History}
@@ -60,7 +61,7 @@ IsLogLine (LogNote t) = IsNote t × IsPlain t
 abbrev pub AreLawful : Program → ℕ → List Logged → Type 0
 AreLawful p f log = (name : Text) → History p f (entries_of name log)
 
--- ---- what an audit reports
+-- ---- what an audit reports, in which lines stand as they may be printed
 
 -- of a lawful log, how many entries it has
 abbrev pub lawful_log_text : List Logged → Text
@@ -68,7 +69,7 @@ lawful_log_text log = codes "entries " ++ decimal (length log) ++ codes " lawful
 
 -- of the nth line, which isn't the right one
 abbrev pub wrong_log_text : ℕ → Text → Text → Text
-wrong_log_text n line right = codes "line " ++ decimal n ++ codes "\nwritten " ++ line ++ codes "right   " ++ right
+wrong_log_text n line right = codes "line " ++ decimal n ++ codes "\nwritten " ++ printable line ++ codes "right   " ++ printable right
 
 -- all that is left is a lawful log, which is reported
 pub record IsLawfulLog (p : Program) (f : ℕ) (left : Option Bytes) (report : Text) : Type 0 where

@@ -21,6 +21,7 @@ use lus_devices::Source;
 use lus_lawful::AuditError;
 use lus_lines::{Whole, read_whole_line};
 use lus_live_instance::lus_machine::{NodeId, Program};
+use lus_printable::push_printable;
 use lus_replay::Verdict;
 use lus_values::Memory;
 use std::alloc::Global;
@@ -169,9 +170,9 @@ fn wrong_report(alloc: Global, number: u64, line: &[u8], right: &str) -> Result<
     text.extend_from_slice(b"line ")?;
     text.extend_from_slice(Buffer::new().format(number).as_bytes())?;
     text.extend_from_slice(b"\nwritten ")?;
-    text.extend_from_slice(line)?;
+    push_printable(alloc, &mut text, line)?;
     text.extend_from_slice(b"right   ")?;
-    text.extend_from_slice(right.as_bytes())?;
+    push_printable(alloc, &mut text, right.as_bytes())?;
     Ok(LogReport {
         is_lawful: false,
         text,

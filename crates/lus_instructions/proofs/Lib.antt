@@ -4,10 +4,5 @@ pub mod Operands
 pub mod Tallying
 pub mod Putting
 pub mod Following
-pub mod Going
 pub mod Growing
-pub mod Longer
 pub mod LocatedSteps
-pub mod OnClocks
-pub mod FormulaViews
-pub mod ShortTurns

@@ -2,14 +2,6 @@ pub mod Words
 pub mod Applied
 pub mod Seeing
 pub mod Executed
-pub mod Played
 pub mod Locations
 pub mod Followed
 pub mod Tallied
-pub mod View
-pub mod Looks
-pub mod Places
-pub mod Parts
-pub mod Instants
-pub mod Turns
-pub mod Passing

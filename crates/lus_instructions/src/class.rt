@@ -5,7 +5,7 @@ ghost use Rattle.lus_values.specs.Lists.{item};
 
 use crate::formula::{Atom, Formula};
 use crate::instruction::Instruction;
-use lus_program::Test;
+use lus_values::Test;
 
 /// A variable that a call gives, and the variable of the called node that it gives.
 #[derive(Clone, Copy, PartialEq, Eq, Debug)]

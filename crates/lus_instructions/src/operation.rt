@@ -5,7 +5,7 @@ ghost use Rattle.lus_values.specs.Operators.{apply, choose, project};
 ghost use Rattle.lus_values.specs.Values.{bool};
 ghost use Rattle.lus_values.specs.declared.operator.Operator.TheVariants.{Compute, Field, If};
 ghost use Rattle.lus_values.specs.View.{entry_of, value_of};
-ghost use Rattle.lus_classes.specs.Steps.{chosen};
+ghost use Rattle.lus_values.specs.Entries.{chosen};
 ghost use Rattle.lus_instructions.specs.Applied.{applied};
 ghost use Rattle.lus_instructions.specs.Words.{entry_in};
 ghost use Rattle.lus_instructions.specs.Seeing.{entry_seen};

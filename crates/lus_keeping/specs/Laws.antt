@@ -4,7 +4,7 @@ use Rattle.lus_frames.specs.Classes.{AreFramed}
 use Rattle.lus_frames.specs.Likeness.{HaveLike}
 use Rattle.lus_frames.specs.declared.class.Class.{Class as Framed}
 use Rattle.lus_instructions.specs.declared.class.Class.{Class}
-use Rattle.lus_instructions.specs.Places.{HasRoom}
+use Rattle.lus_classes.specs.Places.{HasRoom}
 use Rattle.lus_framed_classes.specs.Code.{HaveCode}
 use Rattle.lus_keeping.specs.Keeping.{HaveFrames}
 

@@ -3,8 +3,8 @@
 ghost use Rattle.std.specs.Prelude.{◌≡◌, IfOk, None, length, map};
 ghost use Rattle.lus_values.specs.Lists.{item};
 ghost use Rattle.lus_classes.specs.Steps.{atom_in, cells_after, flags_after, is_on_row};
-ghost use Rattle.lus_instructions.specs.Looks.{newest, short_memory};
-ghost use Rattle.lus_instructions.specs.View.{atom_of};
+ghost use Rattle.lus_classes.specs.Looks.{newest, short_memory};
+ghost use Rattle.lus_classes.specs.View.{atom_of};
 ghost use Rattle.lus_instructions.specs.Followed.{cell_of};
 
 use crate::presence::is_on;

@@ -2,7 +2,7 @@
 
 ghost use Rattle.std.specs.Prelude.{◌≡◌, map};
 ghost use Rattle.lus_classes.specs.Steps.{is_on_row};
-ghost use Rattle.lus_instructions.specs.Looks.{newest};
+ghost use Rattle.lus_classes.specs.Looks.{newest};
 ghost use Rattle.lus_frames.specs.Classes.{looks};
 ghost use Rattle.lus_instructions.specs.Executed.{holds_in};
 

@@ -4,8 +4,8 @@ ghost use Rattle.std.specs.Prelude.{◌≡◌, ◌≤◌, IfOk, Some, length, ma
 ghost use Rattle.lus_values.specs.Lists.{Each};
 ghost use Rattle.lus_classes.specs.States.{WithinDepth};
 ghost use Rattle.lus_frames.specs.Classes.{looks};
-ghost use Rattle.lus_instructions.specs.Turns.{CallsWithin};
-ghost use Rattle.lus_instructions.specs.View.{classes_of};
+ghost use Rattle.lus_classes.specs.Turns.{CallsWithin};
+ghost use Rattle.lus_classes.specs.View.{classes_of};
 ghost use Rattle.lus_framed_classes.specs.InRows.{class_rows, part_of, parts_kept, rows_kept, with_part};
 ghost use Rattle.lus_keeping.specs.Keeping.{CanKeep, CanKeepCall, CanKeepCalls, HaveFrames, IsLong, rows_of};
 ghost use Rattle.lus_keeping.specs.Plans.{ArePlans};

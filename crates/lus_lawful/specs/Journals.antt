@@ -8,6 +8,7 @@ use Rattle.lus_requests.specs.declared.request.Entry.{Entry}
 use Rattle.lus_lines.specs.Lines.{IsPlain}
 use Rattle.lus_live_instance.specs.MachineSpecs.Formals.{node_named}
 use Rattle.lus_live_instance.specs.MachineSpecs.HistorySpecs.Histories.{History}
+use Rattle.lus_printable.specs.Printable.{printable}
 use Rattle.lus_replay.specs.Replays.{IsItem, Item, ends_counted, entry_said, items_text, saids_of}
 
 -- the journal of an instance: its name, that of its node, and what is behind its first line
@@ -54,14 +55,14 @@ abbrev pub is_whole : Journal → Text → Bool
 is_whole j [] = ends_counted j.items
 is_whole j (b ∷ tail) = false
 
--- ---- reports
+-- ---- reports, in which names and lines stand as they may be printed
 
 abbrev pub early_text : Text → ℕ → Text
-early_text instance n = instance ++ codes " lawful, ends early at line " ++ decimal n ++ codes "\n"
+early_text instance n = printable instance ++ codes " lawful, ends early at line " ++ decimal n ++ codes "\n"
 
 -- what is reported of a lawful journal that is whole, or whose last line is the nth of all
 abbrev pub lawful_text : Text → Bool → ℕ → Text
-lawful_text instance true n = instance ++ codes " lawful\n"
+lawful_text instance true n = printable instance ++ codes " lawful\n"
 lawful_text instance false n = early_text instance n
 
 -- the same of a journal behind so many lines, with what stands behind it
@@ -75,4 +76,5 @@ reports lines (j ∷ js) tail = journal_report lines j (tail_before js tail) ++ 
 
 -- what is reported of the nth line of all, which isn't the right one
 abbrev pub wrong_text : Text → ℕ → Text → Text → Text
-wrong_text instance n line right = instance ++ codes " line " ++ decimal n ++ codes "\nwritten " ++ line ++ codes "right   " ++ right
+wrong_text instance n line right =
+    printable instance ++ codes " line " ++ decimal n ++ codes "\nwritten " ++ printable line ++ codes "right   " ++ printable right

@@ -128,7 +128,7 @@ fn pass_journal<O: Observers>(
     ensures outside { IfErr result IsOutside }
 {
     observers.end(alloc, program, instance, node, observer, is_whole)?;
-    push_lawful(report, instance, is_whole, line)?;
+    push_lawful(alloc, report, instance, is_whole, line)?;
     Ok(())
 }
 
@@ -182,7 +182,7 @@ fn audit_journal<S: Source, O: Observers>(
         }
         Ending::Wrong => {
             let number = lines_behind(behind, 1)?;
-            push_wrong(report, name, number, line, &right)?;
+            push_wrong(alloc, report, name, number, line, &right)?;
             Ok(Turn::Wrong(number))
         }
         Ending::NoEntry => Err(AuditError::Line(lines_behind(behind, 1)?)),

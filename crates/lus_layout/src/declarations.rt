@@ -208,11 +208,14 @@ impl Page<'_> {
         let end = self.on_line(first, right.first, 2, 4);
         let start = self.step(right.first, end, 4);
         let behind = right.behind.saturating_add(1);
-        if self.is_flat(first, behind) && self.fits(right.first, right.behind, start, 1) {
+        let is_broken = self.is_broken(right.first);
+        let is_short = self.is_flat(first, behind)
+            && self.fits(right.first, right.behind, start, 1);
+        if is_short && !is_broken {
             self.on_line(right.first, behind, start, 4);
             return;
         }
-        let is_own = self.wants_own_line(place, start);
+        let is_own = is_broken || self.wants_own_line(place, start);
         self.place_right(place, start, is_own);
     }
 

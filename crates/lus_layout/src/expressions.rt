@@ -1,36 +1,8 @@
 //! Expressions, on a line where they fit, else over several. Each function gives the column behind what it places.
 
 use crate::page::Page;
-use crate::shapes::{Form, Shape, is_one_chain};
+use crate::shapes::{Form, Role, Shape, goes_on, opens};
 use lus_syntax::Infix;
-
-/// What an expression is placed as.
-#[derive(Clone, Copy)]
-enum Role {
-    /// By itself.
-    Alone,
-    /// The front of a chain, which is broken.
-    Front(Infix),
-    /// Behind the `else` of an `if` that begins at this column.
-    Else(u32),
-}
-
-/// Whether an expression is broken since what it is a part of is.
-fn goes_on(role: Role, form: Form) -> bool {
-    match (role, form) {
-        (Role::Front(operator), Form::Chain(other)) => is_one_chain(operator, other),
-        (Role::Else(_), Form::If) => true,
-        _ => false,
-    }
-}
-
-/// Whether an expression over several lines begins with a bracket or a merge.
-fn opens(form: Form) -> bool {
-    matches!(
-        form,
-        Form::Parentheses | Form::List | Form::Structure | Form::Merge
-    )
-}
 
 impl Page<'_> {
     fn fits_shape(&self, shape: Shape, column: u32, tail: u32) -> bool {
@@ -67,7 +39,7 @@ impl Page<'_> {
             Form::Prefixed => self.place_prefixed(place, column, base, tail, depth),
             Form::Parentheses => self.place_parentheses(place, column, tail, depth),
             Form::Chain(operator) => self.place_chain(place, operator, column, tail, depth),
-            Form::Arrow => self.place_arrow(place, column, tail, depth),
+            Form::Arrow => self.place_arrow(place, column, base, tail, depth),
             Form::When => self.place_when(place, column, depth),
             Form::If => self.place_if(place, column, role, tail, depth),
             Form::Merge => self.place_merge(place, column, base, tail, depth),
@@ -162,7 +134,7 @@ impl Page<'_> {
 
     /// What is behind an arrow goes on on its line where it begins with an `if`, a `merge` or a bracket, or fits there.
     #[cycle(place)]
-    fn place_arrow(&mut self, place: usize, column: u32, tail: u32, depth: u32) -> u32 {
+    fn place_arrow(&mut self, place: usize, column: u32, base: u32, tail: u32, depth: u32) -> u32 {
         let Some(depth) = depth.checked_sub(1) else {
             return column;
         };
@@ -177,13 +149,28 @@ impl Page<'_> {
             } else {
                 before.next.saturating_add(1)
             };
-            end = self.place_behind(before.behind, operand, end, column, tail, depth);
+            end = if self.is_broken(self.shape(operand).first) {
+                self.word(before.behind, end, column);
+                self.place_low(operand, base.saturating_add(2), tail, depth)
+            } else {
+                self.place_behind(before.behind, operand, end, column, tail, depth)
+            };
             if is_last {
                 return end;
             }
             before = self.shape(operand);
         }
         end
+    }
+
+    /// What stands on lines of its own, from a column on.
+    #[cycle(place)]
+    fn place_low(&mut self, place: usize, column: u32, tail: u32, depth: u32) -> u32 {
+        let Some(depth) = depth.checked_sub(1) else {
+            return column;
+        };
+        self.new_line(self.shape(place).first, column);
+        self.place(place, column, column, tail, Role::Alone, depth)
     }
 
     /// An arrow, and the operand behind it.
@@ -385,8 +372,10 @@ impl Page<'_> {
         let end = self.on_line(first, value.first, column, low);
         let start = self.step(value.first, end, low);
         let is_if = value.form == Form::If && self.fits_head(value, start);
-        let stays = is_if || self.fits_shape(value, start, tail) || self.opens_well(value, start);
-        let (start, base) = if !stays {
+        let may_stay = is_if
+            || self.fits_shape(value, start, tail)
+            || self.opens_well(value, start);
+        let (start, base) = if !may_stay || self.is_broken(value.first) {
             (self.new_line(value.first, low), low)
         } else if value.form == Form::Merge {
             (start, column)
@@ -404,8 +393,17 @@ impl Page<'_> {
         };
         let shape = self.shape(place);
         let operand = place.saturating_add(1);
-        let mut end = self.place(operand, column, base, tail, Role::Alone, depth);
-        for at in self.shape(operand).behind..shape.behind {
+        let point = self.shape(operand).behind;
+        let name = self.columns(point, shape.behind);
+        let mut end = self.place(
+            operand,
+            column,
+            base,
+            tail.saturating_add(name),
+            Role::Alone,
+            depth,
+        );
+        for at in point..shape.behind {
             end = self.word(at, end, base);
         }
         end

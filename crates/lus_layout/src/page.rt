@@ -16,6 +16,8 @@ pub struct Gap {
     pub is_tight: bool,
     /// A comment before it ends its line.
     pub has_line: bool,
+    /// The author began a new line before it, or before a comment before it.
+    pub is_broken: bool,
     /// The column of a new line, if one begins.
     pub line: Option<u32>,
     /// The column of a line that a comment makes, and of comments on lines of their own.
@@ -34,6 +36,7 @@ impl Gap {
         comments: 0,
         is_tight: true,
         has_line: false,
+        is_broken: false,
         line: None,
         within: 0,
         may_part: false,
@@ -144,7 +147,10 @@ fn may_stay_broken(tokens: &[Token<'_>], at: usize) -> bool {
         return true;
     }
     let before = kind_at(tokens, at.wrapping_sub(1));
-    if is_word(before, Word::Var) || is_symbol(before, Symbol::OpenBrace) {
+    if is_word(before, Word::Var)
+        || is_symbol(before, Symbol::OpenBrace)
+        || is_symbol(before, Symbol::Arrow)
+    {
         return true;
     }
     is_symbol(here, Symbol::Open) && is_word(kind_at(tokens, at.wrapping_sub(2)), Word::Merge)
@@ -155,6 +161,7 @@ fn gap_of(tokens: &[Token<'_>], at: usize, item: &Item, comments: &[Comment]) ->
     let mut gap = Gap {
         columns: item.columns(),
         is_tight: is_tight(tokens, at),
+        is_broken: item.begins_line,
         ..Gap::NONE
     };
     for comment in comments {
@@ -259,6 +266,11 @@ impl<'t> Page<'t> {
         let end = self.sums.get(behind).copied().unwrap_or(0);
         end.saturating_sub(start)
             .saturating_sub(self.gap(first).before())
+    }
+
+    /// Whether the author began a new line with a token, which counts.
+    pub fn is_broken(&self, at: usize) -> bool {
+        self.gap(at).is_broken && !self.is_trial
     }
 
     /// Whether these tokens may stand on one line.

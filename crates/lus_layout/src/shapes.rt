@@ -44,6 +44,34 @@ pub fn is_one_chain(left: Infix, right: Infix) -> bool {
     }
 }
 
+/// What an expression is placed as.
+#[derive(Clone, Copy)]
+pub enum Role {
+    /// By itself.
+    Alone,
+    /// The front of a chain, which is broken.
+    Front(Infix),
+    /// Behind the `else` of an `if` that begins at this column.
+    Else(u32),
+}
+
+/// Whether an expression is broken since what it is a part of is.
+pub fn goes_on(role: Role, form: Form) -> bool {
+    match (role, form) {
+        (Role::Front(operator), Form::Chain(other)) => is_one_chain(operator, other),
+        (Role::Else(_), Form::If) => true,
+        _ => false,
+    }
+}
+
+/// Whether an expression over several lines begins with a bracket or a merge.
+pub fn opens(form: Form) -> bool {
+    matches!(
+        form,
+        Form::Parentheses | Form::List | Form::Structure | Form::Merge
+    )
+}
+
 /// A walk over the tokens of expressions.
 #[derive(Drop)]
 struct Walk<'t> {

@@ -13,6 +13,21 @@ struct Writer<'s> {
     source: &'s [u8],
     text: Vec<u8>,
     line: usize,
+    has_returns: bool,
+}
+
+/// Whether lines end with a carriage return and a line feed: as those within comments do, which stay, else as the first line does.
+fn has_returns(source: &[u8], comments: &[Comment]) -> bool {
+    for comment in comments {
+        let text = source.get(comment.start..comment.end).unwrap_or(b"");
+        if let Some(at) = text.iter().position(|byte| *byte == b'\n') {
+            return text.get(at.wrapping_sub(1)) == Some(&b'\r');
+        }
+    }
+    match source.iter().position(|byte| *byte == b'\n') {
+        Some(at) => source.get(at.wrapping_sub(1)) == Some(&b'\r'),
+        None => false,
+    }
 }
 
 impl Writer<'_> {
@@ -21,13 +36,26 @@ impl Writer<'_> {
         self.line >= self.text.len()
     }
 
+    /// Whether an empty line stands before the last one.
+    fn is_parted(&self) -> bool {
+        self.text.ends_with(b"\n\n") || self.text.ends_with(b"\n\r\n")
+    }
+
+    fn feed(&mut self) -> Result<(), AllocError> {
+        if self.has_returns {
+            self.text.push(b'\r')?;
+        }
+        self.text.push(b'\n')?;
+        Ok(())
+    }
+
     /// Ends the line if something stands on it. An empty line follows where it is wanted, but neither first nor twice.
     fn end_line(&mut self, wants_empty: bool) -> Result<(), AllocError> {
         if !self.is_fresh() {
-            self.text.push(b'\n')?;
+            self.feed()?;
         }
-        if wants_empty && !self.text.is_empty() && !self.text.ends_with(b"\n\n") {
-            self.text.push(b'\n')?;
+        if wants_empty && !self.text.is_empty() && !self.is_parted() {
+            self.feed()?;
         }
         self.line = self.text.len();
         Ok(())
@@ -153,6 +181,7 @@ pub fn laid_out(
         source,
         text: Vec::new(alloc),
         line: 0,
+        has_returns: has_returns(source, &comments),
     };
     for (gap, item) in page.gaps.iter().zip(&items) {
         let own = comments.get(item.first..item.behind).unwrap_or(&[]);

@@ -11,7 +11,7 @@ pub trait Log: Sink {
     // It was this, and was opened by this name.
     ghost opens: { Self → List ℕ → Self → Type 0 };
 
-    /// Opens the file of this name, which is there.
+    /// Opens the file of this name, or makes an empty one. Fails where another run has it open so.
     fn open(&mut self, name: &str) -> Result<(), Failure>
         ensures opened { OnOk result (opens self.old name.now self.new) }
         ensures written { Self.written self.new ≡ Self.written self.old }

@@ -2,7 +2,9 @@
 
 use itoa::Buffer;
 use lus_devices::{Sink, write_all};
+use lus_printable::printable;
 use lus_told::lus_live_instance::Start;
+use std::alloc::Global;
 
 fn tell_all<F: Sink>(faults: &mut F, pieces: &[&[u8]]) {
     for piece in pieces {
@@ -10,17 +12,22 @@ fn tell_all<F: Sink>(faults: &mut F, pieces: &[&[u8]]) {
     }
 }
 
-/// Shows a line, which may have no line feed.
-fn tell_line<F: Sink>(faults: &mut F, line: &[u8]) {
-    let _ = write_all(faults, line);
+/// Shows a line as it may be printed. It may have no line feed, and then gets one.
+fn tell_line<F: Sink>(alloc: Global, faults: &mut F, line: &[u8]) {
+    if let Ok(shown) = printable(alloc, line) {
+        let _ = write_all(faults, shown.as_bytes());
+    }
     if !line.ends_with(b"\n") {
         let _ = write_all(faults, b"\n");
     }
 }
 
 /// Says what is written and what would be right.
-pub(crate) fn tell_wrong<F: Sink>(faults: &mut F, line: &[u8], right: &[u8]) {
-    tell_all(faults, &[b"written ", line, b"right   ", right]);
+pub(crate) fn tell_wrong<F: Sink>(alloc: Global, faults: &mut F, line: &[u8], right: &[u8]) {
+    tell_all(faults, &[b"written "]);
+    tell_line(alloc, faults, line);
+    tell_all(faults, &[b"right   "]);
+    tell_line(alloc, faults, right);
 }
 
 /// Says that the line of this number was cut short, where it was.
@@ -34,7 +41,13 @@ pub(crate) fn tell_start<F: Sink>(faults: &mut F, start: Start) {
 }
 
 /// Says what the line of this number isn't, in the journal of an instance that is named like its node, and shows it.
-pub(crate) fn tell_no_entry<F: Sink>(faults: &mut F, name: &str, number: u64, line: &[u8]) {
+pub(crate) fn tell_no_entry<F: Sink>(
+    alloc: Global,
+    faults: &mut F,
+    name: &str,
+    number: u64,
+    line: &[u8],
+) {
     if number == 1 {
         let name = name.as_bytes();
         let head = b"note: the first line isn't `instance ";
@@ -46,5 +59,5 @@ pub(crate) fn tell_no_entry<F: Sink>(faults: &mut F, name: &str, number: u64, li
     } else {
         tell_all(faults, &[b"note: this is no entry: "]);
     }
-    tell_line(faults, line);
+    tell_line(alloc, faults, line);
 }

@@ -29,6 +29,7 @@ use std::sync::Arc;
 
 /// Why the journal of a node isn't gone on from. The line that isn't right is shown, a wrong reply beside the right one.
 fn refuse<F: Sink>(
+    alloc: Global,
     error: RecoveryError,
     name: &str,
     line: &[u8],
@@ -40,11 +41,11 @@ fn refuse<F: Sink>(
 {
     match error {
         RecoveryError::Line(number) => {
-            tell_no_entry(faults, name, number, line);
+            tell_no_entry(alloc, faults, name, number, line);
             Fault::Journal(number)
         }
         RecoveryError::Wrong(number) => {
-            tell_wrong(faults, line, right);
+            tell_wrong(alloc, faults, line, right);
             Fault::Journal(number)
         }
         RecoveryError::Read => Fault::File,
@@ -88,7 +89,7 @@ fn recover_file<D: Folder, F: Sink>(
         &mut right,
     ) {
         Ok(recovered) => Ok(recovered),
-        Err(error) => Err(refuse(error, name, &line, right.as_bytes(), faults)),
+        Err(error) => Err(refuse(alloc, error, name, &line, right.as_bytes(), faults)),
     }
 }
 
@@ -116,7 +117,7 @@ fn go_on<D: Folder, S: Source, O: Sink, F: Sink>(
     Ok(resume_live(alloc, program, node, who, recovered, input, output, faults))
 }
 
-/// Reads a journal, replays it, opens it to go on in it, and plays the lines of the input behind it.
+/// Opens a journal to go on in it, reads and replays it, and plays the lines of the input behind it.
 fn log_behind<D: Folder, S: Source, L: Log, O: Sink, F: Sink>(
     alloc: Global,
     folder: &D,
@@ -137,10 +138,11 @@ fn log_behind<D: Folder, S: Source, L: Log, O: Sink, F: Sink>(
     ensures quiet { IfErr result (λ f. IsQuiet f
         (change (F.written faults.old) (F.written faults.new) (F.failures faults.old) (F.failures faults.new))) }
 {
-    let recovered = recover_file(alloc, folder, program, node, who.node, journal, faults)?;
+    // (nobody else writes on it from here on, so what is replayed is all of it)
     let Ok(()) = log.open(journal) else {
         return Err(Fault::File);
     };
+    let recovered = recover_file(alloc, folder, program, node, who.node, journal, faults)?;
     tell_start(faults, recovered.start);
     Ok(log_json(
         alloc, program, node, who, recovered, input, log, output, faults,

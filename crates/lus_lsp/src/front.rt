@@ -46,11 +46,14 @@ fn faults_of(alloc: Global, bytes: &[u8]) -> Result<Vec<Told>, AllocError>
 }
 
 impl Compiler for Front {
+    ghost use Rattle.lus_lsp.specs.Renames.{Renames};
     ghost use Rattle.lus_lsp.specs.Verdicts.{IsAccepted, IsRefused};
 
     ghost accepts = { IsAccepted };
 
     ghost refuses = { IsRefused };
+
+    ghost renames = { Renames };
 
     fn faults(&self, alloc: Global, source: &str) -> Result<Vec<Told>, AllocError> {
         faults_of(alloc, source.as_bytes())
@@ -64,21 +67,21 @@ impl Compiler for Front {
         }
     }
 
-    fn rename_problem(
+    fn renamed(
         &self,
         alloc: Global,
         source: &str,
         byte: usize,
         name: &str,
-    ) -> Result<Option<RenameProblem>, AllocError> {
+    ) -> Result<Result<String, RenameProblem>, AllocError> {
         match renamed(alloc, source, byte, name) {
-            Ok(_made) => Ok(None),
-            Err(RenameError::NoName) => Ok(Some(RenameProblem::NoName)),
-            Err(RenameError::NotAName) => Ok(Some(RenameProblem::NotAName)),
+            Ok(made) => Ok(Ok(made)),
+            Err(RenameError::NoName) => Ok(Err(RenameProblem::NoName)),
+            Err(RenameError::NotAName) => Ok(Err(RenameProblem::NotAName)),
             Err(RenameError::Refused(refusal)) if refusal.number == RefusalNumber::Memory => {
                 Err(AllocError)
             }
-            Err(_) => Ok(Some(RenameProblem::OtherProgram)),
+            Err(_) => Ok(Err(RenameProblem::OtherProgram)),
         }
     }
 

@@ -26,7 +26,7 @@ fn fault_of(error: ConversationError) -> Fault {
 }
 
 /// Serves an editor over two devices until it says that the process is to end, or its input ends, and gives the status: 0 where the
-/// editor shut the server down before, 1 where it didn't, 2 for words that the command doesn't take, 3 where the input has no whole
+/// editor shut the server down before, 1 where it didn't, 2 for words that the command doesn't take, 3 where the input ends in a
 /// message or a device fails, and 4 out of memory. The output is given messages in their frames, each whole but for the last where a
 /// write failed.
 pub fn command<I: Source, O: Sink, F: Sink>(

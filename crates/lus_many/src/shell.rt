@@ -18,6 +18,7 @@ use lus_devices::{Folder, Sink, Source, write_all};
 use lus_hosting::lus_live_instance::Score;
 use lus_hosting::lus_live_instance::lus_machine::{NodeId, Program};
 use lus_hosting::{HostError, host_log};
+use lus_printable::printable;
 use std::alloc::Global;
 use std::collections::hash_map::RandomState;
 use std::sync::Arc;
@@ -29,18 +30,24 @@ struct Wrong {
     right: String,
 }
 
-/// Says what is written and what would be right. What can't be written changes nothing.
-fn tell_wrong<F: Sink>(error: HostError, wrong: &Wrong, faults: &mut F) {
+/// Says words, and what a line has as it may be printed. What can't be written changes nothing.
+fn tell_line<F: Sink>(alloc: Global, words: &[u8], line: &[u8], faults: &mut F) {
+    let _ = write_all(faults, words);
+    if let Ok(shown) = printable(alloc, line) {
+        let _ = write_all(faults, shown.as_bytes());
+    }
+}
+
+/// Says what is written and what would be right.
+fn tell_wrong<F: Sink>(alloc: Global, error: HostError, wrong: &Wrong, faults: &mut F) {
     match error {
         HostError::Wrong(_) => {
-            let _ = write_all(faults, b"written ");
-            let _ = write_all(faults, &wrong.line);
-            let _ = write_all(faults, b"\nright   ");
-            let _ = write_all(faults, wrong.right.as_bytes());
+            tell_line(alloc, b"written ", &wrong.line, faults);
+            tell_line(alloc, b"\nright   ", wrong.right.as_bytes(), faults);
         }
         HostError::Line(_) => {
-            let _ = write_all(faults, b"note: this isn't the next entry of its instance: ");
-            let _ = write_all(faults, &wrong.line);
+            let words = b"note: this isn't the next entry of its instance: ";
+            tell_line(alloc, words, &wrong.line, faults);
             let _ = write_all(faults, b"\n");
         }
         _ => {}
@@ -172,7 +179,7 @@ pub fn command<D: Folder, S: Source, O: Sink, F: Sink>(
     ) {
         Ok(Ok(score)) => lines_status(score.refused),
         Ok(Err(error)) => {
-            tell_wrong(error, &wrong, faults);
+            tell_wrong(alloc, error, &wrong, faults);
             tell(faults, fault_of(error))
         }
         Err(fault) => tell(faults, fault),

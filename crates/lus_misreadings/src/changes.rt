@@ -110,7 +110,7 @@ fn told_by(alloc: Global, fault: &Fault<'_>, teller: Teller) -> Result<Option<Ed
     match teller {
         Teller::Rule(sentence) => told_by_rule(alloc, fault, sentence),
         Teller::Mix => match mix_at(alloc, fault)? {
-            Some(mix) => Ok(Some(mix.edit)),
+            Some(mix) => Ok(mix.edit),
             None => Ok(None),
         },
     }

@@ -3,6 +3,7 @@
 use crate::changes::helping;
 use crate::edits::edit_at;
 use crate::fault::Fault;
+use crate::gate::{About, line_from, words_in};
 use crate::saying::noted;
 use crate::words::is_of_word;
 use lus_faults::{Edit, Finding, bytes_at};
@@ -74,16 +75,46 @@ fn note_on(meant: Meant<'_>) -> &'static str {
     }
 }
 
-/// The change that writes what a comment at a byte is meant as.
-fn change_to(alloc: Global, meant: Meant<'_>, byte: usize) -> Result<Option<Edit>, AllocError> {
+/// What is written for the signs of a comment, and for the word behind them, and how many bytes it takes the place of.
+fn written_for(alloc: Global, meant: Meant<'_>) -> Result<Option<(String, usize)>, AllocError> {
     match meant {
-        Meant::Arrow => Ok(Some(edit_at(byte, 3, String::from_str(alloc, "->")?))),
+        Meant::Arrow => Ok(Some((String::from_str(alloc, "->")?, 3))),
         Meant::Countdown => Ok(None),
         Meant::Negative(word) => {
             let text = format!(in alloc; "- (-{word})")?;
-            Ok(Some(edit_at(byte, word.len().saturating_add(2), text)))
+            Ok(Some((text, word.len().saturating_add(2))))
         }
     }
+}
+
+/// A text and another one behind it, with a blank between.
+fn followed(alloc: Global, text: &str, rest: &str) -> Result<String, AllocError> {
+    format!(in alloc; "{text} {rest}")
+}
+
+/// What puts in the words of a line.
+fn about_line(alloc: Global, line: &str) -> Result<About<'_>, AllocError> {
+    Ok(About {
+        drops: Vec::new(alloc),
+        adds: words_in(alloc, line)?,
+        moves: false,
+    })
+}
+
+/// The change that writes what a comment at a byte is meant as. It puts in what the comment holds.
+fn change_to(
+    alloc: Global,
+    fault: &Fault<'_>,
+    meant: Meant<'_>,
+    byte: usize,
+) -> Result<Option<Edit>, AllocError> {
+    let Some((text, length)) = written_for(alloc, meant)? else {
+        return Ok(None);
+    };
+    let end = byte.saturating_add(length);
+    let line = followed(alloc, text.as_str(), line_from(fault.source, end))?;
+    let about = about_line(alloc, line.as_str())?;
+    edit_at(alloc, fault, (byte, end), text, &about)
 }
 
 /// The change that writes what a comment is meant as, if it helps.
@@ -93,7 +124,7 @@ fn change_of(
     meant: Meant<'_>,
     byte: usize,
 ) -> Result<Option<Edit>, AllocError> {
-    let edit = change_to(alloc, meant, byte)?;
+    let edit = change_to(alloc, fault, meant, byte)?;
     helping(alloc, fault.source, edit, fault.number)
 }
 

@@ -1,6 +1,7 @@
-//! Changes of a source, with the blanks that people write.
+//! Changes of a source, with the blanks that people write. Each passes the gate.
 
 use crate::fault::{Fault, Range, is_name, is_sign};
+use crate::gate::{About, about_marks, passing};
 use crate::words::{is_any, is_of_word};
 use lus_faults::{Edit, bytes_at};
 use lus_syntax::Token;
@@ -68,6 +69,7 @@ pub fn edit_of(
     fault: &Fault<'_>,
     range: Range,
     text: &str,
+    about: &About<'_>,
 ) -> Result<Option<Edit>, AllocError> {
     let Some((byte, to)) = bytes_for(fault, range, text) else {
         return Ok(None);
@@ -76,11 +78,8 @@ pub fn edit_of(
     let written = inner.as_bytes();
     let left = blank_between(byte_before(fault.source, byte), written.first());
     let right = blank_between(written.last(), fault.source.as_bytes().get(to));
-    Ok(Some(Edit {
-        byte,
-        length: to.saturating_sub(byte),
-        text: format!(in alloc; "{left}{inner}{right}")?,
-    }))
+    let text = format!(in alloc; "{left}{inner}{right}")?;
+    edit_at(alloc, fault, (byte, to), text, about)
 }
 
 /// The bytes of tokens, with the blanks on one of their sides where that joins no words.
@@ -101,13 +100,16 @@ fn bytes_without(fault: &Fault<'_>, range: Range) -> Option<(usize, usize)> {
 }
 
 /// The change that leaves out tokens, with the blanks on one of their sides where that joins no words.
-pub fn without(alloc: Global, fault: &Fault<'_>, range: Range) -> Option<Edit> {
-    let (byte, end) = bytes_without(fault, range)?;
-    Some(Edit {
-        byte,
-        length: end.saturating_sub(byte),
-        text: String::new(alloc),
-    })
+pub fn without(
+    alloc: Global,
+    fault: &Fault<'_>,
+    range: Range,
+    about: &About<'_>,
+) -> Result<Option<Edit>, AllocError> {
+    match bytes_without(fault, range) {
+        Some(bytes) => edit_at(alloc, fault, bytes, String::new(alloc), about),
+        None => Ok(None),
+    }
 }
 
 /// The blank that a missing token has before it, behind the token there.
@@ -147,16 +149,26 @@ pub fn with_missing(
     fault: &Fault<'_>,
     missing: &str,
     before: &Token,
-) -> Result<Edit, AllocError> {
+) -> Result<Option<Edit>, AllocError> {
     let end = before.span.end().byte;
     let to = end_for(fault, missing, end);
     let front = front_of(missing, before);
     let rear = rear_of(fault, missing, end);
     let text = format!(in alloc; "{front}{missing}{rear}")?;
-    Ok(edit_at(end, to.saturating_sub(end), text))
+    let mut about = about_marks(alloc);
+    about.adds.push(missing)?;
+    edit_at(alloc, fault, (end, to), text, &about)
 }
 
-/// The change that puts a text before a byte, or in the place of so many.
-pub fn edit_at(byte: usize, length: usize, text: String) -> Edit {
-    Edit { byte, length, text }
+/// The change that puts a text in the place of bytes, if it passes the gate.
+pub fn edit_at(
+    alloc: Global,
+    fault: &Fault<'_>,
+    bytes: (usize, usize),
+    text: String,
+    about: &About<'_>,
+) -> Result<Option<Edit>, AllocError> {
+    let (byte, end) = bytes;
+    let length = end.saturating_sub(byte);
+    passing(alloc, fault.source, Edit { byte, length, text }, about)
 }

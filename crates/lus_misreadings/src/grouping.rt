@@ -2,9 +2,12 @@
 
 use crate::edits::edit_at;
 use crate::fault::{Fault, Range};
+use crate::gate::{about_marks, words_in};
+use crate::places::is_equated;
 use crate::trial::token_of;
-use crate::words::{ORDERS, RECKONERS, compares, is_any, is_infix, leads};
+use crate::words::{EQUALITIES, ORDERS, RECKONERS, compares, is_any, is_infix, leads};
 use lus_faults::Edit;
+use lus_proposals::{Operator, groups, may_end, operator_before, operators_in, strength_behind};
 use lus_syntax::{Symbol, Token, TokenKind};
 use std::alloc::{AllocError, Global};
 
@@ -13,12 +16,12 @@ const MOST_BEFORE: usize = 200;
 
 const MOST_PLACES: usize = 12;
 
-/// What is said of a mix of operators, and the change that has more read.
+/// What is said of a mix of operators, and the change that has more read, if there is one that groups as the operators bind.
 #[derive(Drop)]
 pub struct Mix {
     pub sentence: String,
     pub note: &'static str,
-    pub edit: Edit,
+    pub edit: Option<Edit>,
 }
 
 /// What a token is to the parentheses and braces round it, seen from the fault.
@@ -92,10 +95,49 @@ fn push_enclosed<'t>(others: &mut Vec<Token<'t>>, tokens: &[Token<'t>]) -> Resul
     Ok(())
 }
 
-/// Whether the tokens are read further with parentheses round some of them.
+/// Whether an equals sign at a place is that of an equation, or of a field of a structure.
+fn defines(fault: &Fault<'_>, place: usize) -> bool {
+    let is_first = match place.checked_sub(2) {
+        Some(opening) => is_any(fault.text(opening), &["{"]),
+        None => true,
+    };
+    is_any(fault.text(place), &["="]) && (is_first || !is_equated(fault, place))
+}
+
+/// The operator at a place, if one stands there.
+fn operator_at(fault: &Fault<'_>, place: usize) -> Option<Operator> {
+    if defines(fault, place) {
+        return None;
+    }
+    operator_before(fault.text(place.checked_sub(1)?), fault.text(place))
+}
+
+/// Whether parentheses round some tokens group as the operators bind. Right behind an operand they would be those of a call.
+fn groups_as_bound(alloc: Global, fault: &Fault<'_>, range: Range) -> Result<bool, AllocError> {
+    let (from, to) = range;
+    if may_end(lead_of(fault, from)) {
+        return Ok(false);
+    }
+    let mut words = Vec::new(alloc);
+    for place in from..to {
+        words.push(fault.text(place))?;
+    }
+    let before = match from.checked_sub(1) {
+        Some(place) => operator_at(fault, place),
+        None => None,
+    };
+    let inside = operators_in(alloc, &words)?;
+    let behind = match operator_at(fault, to) {
+        Some(operator) if !operator.is_prefix => Some(operator),
+        _ => None,
+    };
+    Ok(groups(before, &inside, behind))
+}
+
+/// Whether the tokens are read further with parentheses round some of them, which group as the operators bind.
 fn helps(alloc: Global, fault: &Fault<'_>, range: Range) -> Result<bool, AllocError> {
     let (from, to) = range;
-    if from >= to {
+    if from >= to || !groups_as_bound(alloc, fault, range)? {
         return Ok(false);
     }
     let mut others = Vec::new(alloc);
@@ -141,24 +183,13 @@ fn takes_all(lead: &str) -> bool {
     is_any(lead, &["fby", "->", "=>", "then", "else"])
 }
 
-/// How close an operator holds its operands together, least first, where readers agree on it.
-fn closeness(text: &str) -> usize {
-    match text {
-        "and" => 2,
-        "or" | "xor" => 1,
-        _ if is_any(text, &RECKONERS) => 4,
-        _ if compares(text) => 3,
-        _ => 0,
-    }
-}
-
 /// Whether a `when` samples the nearest operand alone: another operand of its expression is sampled by itself, or the operator
 /// behind its clock is a closer one than that before the operand.
 fn samples_nearest(fault: &Fault<'_>, openings: &[usize], closings: &[usize]) -> bool {
     let lead = lead_of(fault, nearest(openings));
     let start = openings.last().copied().unwrap_or(fault.place);
     let is_closer = match closings.first() {
-        Some(place) => closeness(fault.text(*place)) > closeness(lead),
+        Some(place) => strength_behind(fault.text(*place)) > strength_behind(lead),
         None => false,
     };
     is_infix(lead) && (is_closer || fault.follows_from(start, "when"))
@@ -219,14 +250,21 @@ fn grouping(
             return Ok(range);
         }
     }
-    helping(alloc, fault, openings, &[fault.place], false)
+    let range = helping(alloc, fault, openings, &[fault.place], false)?;
+    if range.is_some() {
+        return Ok(range);
+    }
+    helping(alloc, fault, openings, &closings, false)
 }
 
-/// The place behind a comparison of order, where nothing but sums and products stands from there up to the fault.
+/// The place behind a comparison, where nothing but sums and products stands from there up to the fault, and whether the fault is
+/// another one of its kind.
 fn compared_from(fault: &Fault<'_>, openings: &[usize]) -> Option<usize> {
     for from in openings {
         let lead = lead_of(fault, *from);
-        if is_any(lead, &ORDERS) {
+        let is_chain = is_any(lead, &ORDERS) && is_any(fault.found(), &ORDERS)
+            || is_any(lead, &["="]) && is_any(fault.found(), &["="]);
+        if is_chain {
             return Some(*from);
         }
         if !is_any(lead, &RECKONERS) {
@@ -236,7 +274,16 @@ fn compared_from(fault: &Fault<'_>, openings: &[usize]) -> Option<usize> {
     None
 }
 
-/// What is said of two comparisons of order in a row: what stands between them is compared twice.
+/// The note on two comparisons in a row.
+fn note_on_chain(fault: &Fault<'_>) -> &'static str {
+    if is_any(fault.found(), &EQUALITIES) {
+        "Perhaps both are meant to hold: join two comparisons with `and`."
+    } else {
+        "Join two comparisons with `and`."
+    }
+}
+
+/// What is said of two comparisons in a row: what stands between them is compared twice.
 fn chained(
     alloc: Global,
     fault: &Fault<'_>,
@@ -246,40 +293,64 @@ fn chained(
         return Ok(None);
     };
     let operand = fault.text_of((from, fault.place));
-    if operand.is_empty() || !is_any(fault.found(), &ORDERS) {
+    if operand.is_empty() {
         return Ok(None);
     }
     let text = format!(in alloc; "and {operand} ")?;
+    let mut about = about_marks(alloc);
+    about.adds = words_in(alloc, operand)?;
+    about.adds.push("and")?;
+    let byte = found.span.start.byte;
     Ok(Some(Mix {
         sentence: String::from_str(alloc, "comparisons cannot be chained")?,
-        note: "Join two comparisons with `and`.",
-        edit: edit_at(found.span.start.byte, 0, text),
+        note: note_on_chain(fault),
+        edit: edit_at(alloc, fault, (byte, byte), text, &about)?,
     }))
 }
 
-/// What is said of operators that parentheses round some tokens part: of both, or of the one that needs them for itself.
+/// The sentence on operators that need parentheses: on both, or on the one that needs them for itself.
+fn sentence_on(alloc: Global, fault: &Fault<'_>, openings: &[usize]) -> Result<String, AllocError> {
+    let other = lead_of(fault, nearest(openings));
+    let found = fault.found();
+    if leads(other) {
+        format!(in alloc; "`{other}` and `{found}` cannot be mixed without parentheses")
+    } else {
+        format!(in alloc; "`{found}` needs parentheses here")
+    }
+}
+
+/// What is said of operators that parentheses round some tokens part.
 fn parted(
     alloc: Global,
     fault: &Fault<'_>,
     openings: &[usize],
     range: Range,
 ) -> Result<Option<Mix>, AllocError> {
-    let Some((start, end)) = fault.bytes_of(range) else {
+    let Some(bytes) = fault.bytes_of(range) else {
         return Ok(None);
-    };
-    let other = lead_of(fault, nearest(openings));
-    let found = fault.found();
-    let sentence = if leads(other) {
-        format!(in alloc; "`{other}` and `{found}` cannot be mixed without parentheses")?
-    } else {
-        format!(in alloc; "`{found}` needs parentheses here")?
     };
     let inner = fault.text_of(range);
     let text = format!(in alloc; "({inner})")?;
     Ok(Some(Mix {
-        sentence,
+        sentence: sentence_on(alloc, fault, openings)?,
         note: "Add parentheses to say how the operators group.",
-        edit: edit_at(start, end.saturating_sub(start), text),
+        edit: edit_at(alloc, fault, bytes, text, &about_marks(alloc))?,
+    }))
+}
+
+/// What is said of two comparisons that no parentheses part as they bind.
+fn unparted(
+    alloc: Global,
+    fault: &Fault<'_>,
+    openings: &[usize],
+) -> Result<Option<Mix>, AllocError> {
+    if !compares(fault.found()) || !compares(lead_of(fault, nearest(openings))) {
+        return Ok(None);
+    }
+    Ok(Some(Mix {
+        sentence: sentence_on(alloc, fault, openings)?,
+        note: "Add parentheses to say how the operators group.",
+        edit: None,
     }))
 }
 
@@ -292,6 +363,6 @@ pub fn mix_at(alloc: Global, fault: &Fault<'_>) -> Result<Option<Mix>, AllocErro
     }
     match grouping(alloc, fault, &openings)? {
         Some(range) => parted(alloc, fault, &openings, range),
-        None => Ok(None),
+        None => unparted(alloc, fault, &openings),
     }
 }

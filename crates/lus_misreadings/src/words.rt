@@ -6,7 +6,7 @@ use lus_faults::slice_of;
 /// The comparisons of order, and the other ones.
 pub static ORDERS: [&str; 4] = ["<", "<=", ">", ">="];
 
-static EQUALITIES: [&str; 2] = ["=", "<>"];
+pub static EQUALITIES: [&str; 2] = ["=", "<>"];
 
 /// What reckons with integers.
 pub static RECKONERS: [&str; 6] = ["+", "-", "*", "/", "div", "mod"];
@@ -51,20 +51,27 @@ pub fn is_variable(fault: &Fault<'_>, name: &str) -> bool {
     false
 }
 
-/// Whether a text is a type: one that needs no declaration, or one that is declared.
-pub fn is_type(fault: &Fault<'_>, name: &str) -> bool {
-    if is_any(name, &["int", "bool"]) {
-        return true;
-    }
+/// Whether a name is declared behind one of some words.
+fn is_declared(fault: &Fault<'_>, name: &str, words: &[&str]) -> bool {
     let mut is_behind = false;
     for token in fault.all {
         let text = slice_of(fault.source, token.span);
         if is_behind && text == name && is_name(Some(token)) {
             return true;
         }
-        is_behind = is_any(text, &["type"]);
+        is_behind = is_any(text, words);
     }
     false
+}
+
+/// Whether a text is a type: one that needs no declaration, or one that is declared.
+pub fn is_type(fault: &Fault<'_>, name: &str) -> bool {
+    is_any(name, &["int", "bool"]) || is_declared(fault, name, &["type"])
+}
+
+/// Whether a text is the name of a node.
+pub fn is_node(fault: &Fault<'_>, name: &str) -> bool {
+    is_declared(fault, name, &["node", "function"])
 }
 
 /// Whether a text behind a number makes no number of the language: a power, a base, or a sign between digits.

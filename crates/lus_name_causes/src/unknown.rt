@@ -142,6 +142,16 @@ fn note_on(found: Use<'_>) -> &'static str {
     }
 }
 
+/// The first of some names that is another one but for capitals.
+fn written_otherwise<'n>(text: &str, names: &[&'n str]) -> Option<&'n str> {
+    for name in names {
+        if name.eq_ignore_ascii_case(text) {
+            return Some(*name);
+        }
+    }
+    None
+}
+
 /// What is said of a name that nothing declares, in a node or outside, with the nearest of the names that could be meant.
 pub fn unknown<'t>(
     alloc: Global,
@@ -167,7 +177,10 @@ pub fn unknown<'t>(
         return Ok(Some(said));
     }
     let names = candidates(alloc, tree, node, found.purpose)?;
-    let meant = nearest(alloc, text, &names)?;
+    let meant = match written_otherwise(text, &names) {
+        Some(name) => Some(name),
+        None => nearest(alloc, text, &names)?,
+    };
     if meant.is_none() {
         return Ok(Some(said));
     }

@@ -6,7 +6,7 @@ use Rattle.std.specs.Prelude.{option_map, slice_get}
 use Rattle.std.specs.Option.{option_and_then}
 use Rattle.lus_values.specs.Lists.{item, Each}
 use Rattle.lus_syntax.specs.Limits.{most_variables, most_constructors}
-use Rattle.lus_program.specs.declared.expr.Test.{Test}
+use Rattle.lus_values.specs.declared.test.Test.{Test}
 use Rattle.lus_program.specs.declared.types.Kind.{Kind}
 use Rattle.lus_program.specs.declared.types.Kind.TheVariants as kinds
 use Rattle.lus_program.specs.declared.node.Equation.{Equation as StoredEquation}

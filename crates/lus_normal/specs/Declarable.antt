@@ -1,7 +1,7 @@
 -- Parts for which the code can declare a variable.
 use Rattle.std.specs.Prelude.{◌≡◌, ◌^◌, ◌<◌, List, Option, Some, None}
 use Rattle.lus_values.specs.Lists.{Each}
-use Rattle.lus_program.specs.declared.expr.Test.{Test}
+use Rattle.lus_values.specs.declared.test.Test.{Test}
 use Rattle.lus_program.specs.declared.types.Kind.{Kind}
 use Rattle.lus_program.specs.Programs.{Node, Program}
 use Rattle.lus_program.specs.Resolved.{kind_in}

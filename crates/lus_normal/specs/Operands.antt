@@ -1,6 +1,6 @@
 -- Where the code lets expressions stand, and on which clocks.
 use Rattle.std.specs.Prelude.{ℕ, List, [], Option}
-use Rattle.lus_program.specs.declared.expr.Test.{Test}
+use Rattle.lus_values.specs.declared.test.Test.{Test}
 use Rattle.lus_program.specs.declared.expr.Expr.{Expr}
 use Rattle.lus_program.specs.declared.node.Program.{Program as StoredProgram}
 use Rattle.lus_program.specs.Programs.{node_at}

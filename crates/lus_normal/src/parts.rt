@@ -49,8 +49,8 @@ fn node_parts(node: &Node) -> u32
     total
 }
 
-/// Whether `normalise` can number the parts of a program. The program of a text that isn't too long always has so few.
-pub fn has_few_parts(program: &Program) -> bool
+/// Whether the parts of a program can be numbered. The program of a text that isn't too long always has so few.
+pub(crate) fn has_few_parts(program: &Program) -> bool
     ensures { IsTrue result ↔ HasFewParts (program_seen program.now) }
 {
     let mut total: u32 = 0;

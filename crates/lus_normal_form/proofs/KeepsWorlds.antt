@@ -6,9 +6,10 @@ use Rattle.std.proofs.Math.Seq.{take-append_seam}
 use Rattle.lus_values.specs.Values.{Value, Row}
 use Rattle.lus_program.specs.Programs.{Expression, Operands, none, more, Node, Program, node_at}
 use Rattle.lus_values.specs.Lists.{item, Each}
+use Rattle.lus_values.specs.Entries.{is_constructor}
 use Rattle.lus_streams.specs.Clocks.{Clock, clock_of, Part, at, formal_clock, parts, all_parts}
 use Rattle.lus_streams.specs.Equations.{definition_of, node_parts, Site, sites}
-use Rattle.lus_streams.specs.Streams.{Instant, instant, Called, nobody, also, World, is_present, row_of, entry, called_instant, called_world, is_constructor, is_on, where_on, value, inputs_given, definition_value, Follows, EquationsHold, IsFed, IsInstant, EachCall, Satisfies, Streams}
+use Rattle.lus_streams.specs.Streams.{Instant, instant, Called, nobody, also, World, is_present, row_of, entry, called_instant, called_world, is_on, where_on, value, inputs_given, definition_value, Follows, EquationsHold, IsFed, IsInstant, EachCall, Satisfies, Streams}
 use Rattle.lus_streams.specs.Order.{clock_variables}
 use Rattle.lus_normal_form.specs.NormalNodes.{EachFrom, AreSites, IsNormalOf}
 use Rattle.lus_normal_form.specs.Forms.{Operand, is_taken}

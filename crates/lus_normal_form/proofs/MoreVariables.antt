@@ -4,7 +4,7 @@ use Rattle.std.proofs.Common.{◌≡◌, ℕ, zero, suc, ◌+◌, ◌<◌, List,
 use Rattle.std.proofs.lemmas.Bool.{cases_lt}
 use Rattle.std.proofs.lemmas.List.{length-append}
 use Rattle.lus_values.specs.Lists.{item, Each, Below}
-use Rattle.lus_program.specs.declared.expr.Test.{Test}
+use Rattle.lus_values.specs.declared.test.Test.{Test}
 use Rattle.lus_program.specs.Programs.{Variable, Node, Program, no_variable}
 use Rattle.lus_streams.specs.Clocks.{Clock, chain, clock_of}
 use Rattle.lus_streams.specs.OnClock.{IsDeclared, test_of, IsOnClocks}

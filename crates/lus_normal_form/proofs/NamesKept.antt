@@ -1,7 +1,7 @@
 -- The variables that the normal form of a right side names are the node's, at each of its parts.
 use Rattle.std.proofs.Common.{sym, subst, ℕ, suc, ◌<◌, Bool, true, false, List, ◌++◌, drop, Option, Some, None}
 use Rattle.lus_values.specs.Lists.{Each}
-use Rattle.lus_program.specs.declared.expr.Test.{Test}
+use Rattle.lus_values.specs.declared.test.Test.{Test}
 use Rattle.lus_program.specs.Programs.{Expression, literal, variable, operate, pre, arrow, when, merge, call, Operands, none, more, Node, Program, node_at}
 use Rattle.lus_streams.specs.Clocks.{Clock, Part, formal_clock, base_of, branch_clock, parts, all_parts}
 use Rattle.lus_streams.specs.Equations.{Definition, given_by}

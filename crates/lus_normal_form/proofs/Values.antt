@@ -4,9 +4,10 @@ use Rattle.lus_values.specs.Values.{Value}
 use Rattle.lus_program.specs.Programs.{Expression, literal, variable, operate, pre, arrow, when, merge, call, Operands, none, more, Program}
 use Rattle.lus_values.specs.Lists.{Each}
 use Rattle.lus_values.specs.Operators.{apply}
+use Rattle.lus_values.specs.Entries.{is_constructor, with_operand, with_operands}
 use Rattle.lus_streams.specs.Clocks.{Clock, Part, branch_clock, parts, all_parts}
 use Rattle.lus_streams.specs.Equations.{given_by}
-use Rattle.lus_streams.specs.Streams.{Instant, World, is_present, entry, is_constructor, holds, is_on, at_last, with_operand, with_operands, output, value, values, branch, definition_value}
+use Rattle.lus_streams.specs.Streams.{Instant, World, is_present, entry, holds, is_on, at_last, output, value, values, branch, definition_value}
 use Rattle.lus_streams.specs.Order.{clock_variables}
 use Rattle.lus_normal_form.specs.Forms.{Inside, Operand, is_taken}
 use Rattle.lus_normal_form.specs.NormalForm.{Stands, IsRight, AreNormal}

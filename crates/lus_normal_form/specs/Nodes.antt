@@ -1,7 +1,7 @@
 -- A node that is made from another by taking operands and calls out of its right sides, without the program that it is made
 -- for: its variables stay, and one more for each part that is taken out is declared with the newest test of the part's clock.
 use Rattle.std.specs.Prelude.{◌≡◌, List, [], ◌∷◌, ◌++◌, map, length, Option, Some, None}
-use Rattle.lus_program.specs.declared.expr.Test.{Test}
+use Rattle.lus_values.specs.declared.test.Test.{Test}
 use Rattle.lus_program.specs.Programs.{Variable, Node, Program}
 use Rattle.lus_streams.specs.Clocks.{Clock, Part, at}
 use Rattle.lus_normal_form.specs.Forms.{normal_equations}

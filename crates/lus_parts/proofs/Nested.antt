@@ -7,7 +7,7 @@ use Rattle.lus_parts.specs.Nested.{AreNested}
 
 module _ (p : Program) where
   mutual
-    parts_nested : (e : Expression) (k : Clock) (rest : List Part) → AreNested p rest → AreNested p (parts p e k ++ rest)
+    pub parts_nested : (e : Expression) (k : Clock) (rest : List Part) → AreNested p rest → AreNested p (parts p e k ++ rest)
     parts_nested (literal v) k rest h = ((rest, refl), h)
     parts_nested (variable x) k rest h = ((rest, refl), h)
     parts_nested (operate o es) k rest h = ((rest, refl), all_parts_nested es (λ m. k) 0 rest h)
@@ -18,7 +18,7 @@ module _ (p : Program) where
     parts_nested (merge x bs) k rest h = ((rest, refl), all_parts_nested bs (branch_clock x k) 0 rest h)
     parts_nested (call g c args) k rest h = ((rest, refl), all_parts_nested args (formal_clock (node_at p g) args (base_of (node_at p g) k)) 0 rest h)
 
-    all_parts_nested : (es : Operands) (ks : ℕ → Clock) (m : ℕ) (rest : List Part) → AreNested p rest → AreNested p (all_parts p es ks m ++ rest)
+    pub all_parts_nested : (es : Operands) (ks : ℕ → Clock) (m : ℕ) (rest : List Part) → AreNested p rest → AreNested p (all_parts p es ks m ++ rest)
     all_parts_nested none ks m rest h = h
     all_parts_nested (more e es) ks m rest h =
         let others = all_parts p es ks (suc m) in

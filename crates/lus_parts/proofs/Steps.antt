@@ -5,7 +5,7 @@ use Rattle.lus_streams.specs.Clocks.{Clock, Part, at, parts}
 
 module _ (p : Program) where
   -- an expression stands before the parts in it
-  first_part : (e : Expression) (k : Clock) → parts p e k ≡ at k e ∷ drop 1 (parts p e k)
+  pub first_part : (e : Expression) (k : Clock) → parts p e k ≡ at k e ∷ drop 1 (parts p e k)
   first_part (literal v) k = refl
   first_part (variable x) k = refl
   first_part (operate o es) k = refl

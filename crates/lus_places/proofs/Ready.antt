@@ -6,9 +6,9 @@ use Rattle.lus_classes.specs.ClassesOf.{InTurn}
 use Rattle.lus_instructions.specs.declared.class.Call.{Call}
 use Rattle.lus_instructions.specs.declared.class.Class.{Class}
 use Rattle.lus_instructions.specs.declared.class.Extent.{Extent}
-use Rattle.lus_instructions.specs.Places.{HasRoom, InOrder, IsPart}
-use Rattle.lus_instructions.specs.Turns.{AreMaking, AreReady, GivesSome, HasTurns, IsReady}
-use Rattle.lus_instructions.specs.View.{class_of, steps_of}
+use Rattle.lus_classes.specs.Places.{HasRoom, InOrder, IsPart}
+use Rattle.lus_classes.specs.Turns.{AreMaking, AreReady, GivesSome, HasTurns, IsReady}
+use Rattle.lus_classes.specs.View.{class_of, steps_of}
 use Rattle.lus_places.specs.Placing.{no_room, together, placed_calls, parts_end, room_with, EndsWithin, IsPlaced, KeepSteps}
 use Rattle.lus_places.specs.Shaped.{CanAllBePlaced, CallsClass, CanBePlaced}
 use Rattle.lus_places.proofs.Placed.{placed_are_well}

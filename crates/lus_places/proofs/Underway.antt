@@ -10,7 +10,7 @@ use Rattle.lus_graph.proofs.Steps.{no_item, one_item}
 use Rattle.lus_instructions.specs.declared.class.Call.{Call}
 use Rattle.lus_instructions.specs.declared.class.Class.{Class}
 use Rattle.lus_instructions.specs.declared.class.Extent.{Extent}
-use Rattle.lus_instructions.specs.View.{call_of, class_of, classes_of}
+use Rattle.lus_classes.specs.View.{call_of, class_of, classes_of}
 use Rattle.lus_places.specs.Placing.{no_room, together, placed_calls, parts_end, room_with, IsPlaced}
 use Rattle.lus_places.specs.Shaped.{CanAllBePlaced, CallsClass, class_uses, nodes_of}
 use Rattle.lus_places.proofs.CallOrders.{each_called, next_at, used_nodes}

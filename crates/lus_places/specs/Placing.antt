@@ -5,7 +5,7 @@ use Rattle.lus_values.specs.Lists.{item, Each}
 use Rattle.lus_instructions.specs.declared.class.Extent.{Extent}
 use Rattle.lus_instructions.specs.declared.class.Call.{Call}
 use Rattle.lus_instructions.specs.declared.class.Class.{Class}
-use Rattle.lus_instructions.specs.Places.{InOrder}
+use Rattle.lus_classes.specs.Places.{InOrder}
 
 -- room for nothing
 abbrev pub no_room : Extent

@@ -6,7 +6,7 @@ use Rattle.lus_classes.specs.Classes.{Class as PlainClass}
 use Rattle.lus_classes.specs.States.{WithinDepth}
 use Rattle.lus_instructions.specs.declared.class.Call.{Call}
 use Rattle.lus_instructions.specs.declared.class.Class.{Class}
-use Rattle.lus_instructions.specs.Turns.{HasTurns}
+use Rattle.lus_classes.specs.Turns.{HasTurns}
 
 -- a call is of one of the classes, and has an argument for each of its inputs
 pub record CallsClass (classes : List Class) (q : Call) : Type 0 where

@@ -2,8 +2,8 @@
 
 ghost use Rattle.std.specs.Prelude.{◌≡◌, ℕ, List, map, IfOk, OnOk};
 ghost use Rattle.lus_graph.specs.Walks.{uses_of};
-ghost use Rattle.lus_instructions.specs.Turns.{AreReady};
-ghost use Rattle.lus_instructions.specs.View.{classes_of};
+ghost use Rattle.lus_classes.specs.Turns.{AreReady};
+ghost use Rattle.lus_classes.specs.View.{classes_of};
 ghost use Rattle.lus_places.specs.Few.{AreAsLong, AreFew, KeepTo};
 ghost use Rattle.lus_places.specs.Placing.{KeepSteps};
 ghost use Rattle.lus_places.specs.Shaped.{AreNested, CanAllBePlaced, IsCallOrder, class_uses};

@@ -7,5 +7,6 @@ pub mod TypedParts
 pub mod Calls
 pub mod KindsGiven
 pub mod Numbering
+pub mod Literals
 pub mod Fields
 pub mod OneTable

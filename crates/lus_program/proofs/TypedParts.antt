@@ -4,7 +4,7 @@ use Rattle.std.proofs.Math.ListN.{length-map}
 use Rattle.std.specs.Prelude.{option_map}
 use Rattle.std.specs.Option.{option_and_then}
 use Rattle.lus_values.specs.declared.operator.Operator.{Operator}
-use Rattle.lus_program.specs.declared.expr.Test.{Test}
+use Rattle.lus_values.specs.declared.test.Test.{Test}
 use Rattle.lus_program.specs.declared.types.Kind.{Kind}
 use Rattle.lus_program.specs.Programs.{Expression, variable, operate, arrow, when, merge, call, Operands, more, Equation, Node, Program}
 use Rattle.lus_program.specs.Kinds.{where_true, alike, the_one}

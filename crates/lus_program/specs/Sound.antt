@@ -1,5 +1,6 @@
--- What a typed program keeps: it is resolved, no structure has itself among its fields, directly or round, each has one, and there
--- are no more nodes, nor is a node or type larger, than a source may declare. Passes after types rely on this, and on nothing of the tree.
+-- What a typed program keeps: it is resolved, each constructor in its text is declared, its types are what they are named as, no
+-- structure has itself among its fields, directly or round, each has one, and there are no more nodes, nor is a node or type larger,
+-- than a source may declare. Passes after types rely on this, and on nothing of the tree.
 use Rattle.std.specs.Prelude.{◌<◌, ◌≤◌, ℕ, List, [], ◌∷◌, map, flat_map, length}
 use Rattle.lus_values.specs.Lists.{Each}
 use Rattle.lus_graph.specs.Ways.{Uses, HasNoWayBack, IsOrder}
@@ -8,6 +9,8 @@ use Rattle.lus_program.specs.declared.types.Kind.{Kind}
 use Rattle.lus_program.specs.declared.types.Kind.TheVariants as kinds
 use Rattle.lus_program.specs.Programs.{Declared, alias, enumeration, structure, Program}
 use Rattle.lus_program.specs.Kinds.{constructors_in}
+use Rattle.lus_program.specs.Literals.{HasDeclaredLiterals}
+use Rattle.lus_program.specs.NamedKinds.{KindsAreNamedRight}
 use Rattle.lus_program.specs.Resolved.{Resolved, program_uses}
 use Rattle.lus_program.specs.Leaves.{AreTheLeaves}
 
@@ -41,12 +44,20 @@ HaveFields p = Each HasFields p.types
 
 pub record IsSound (p : Program) : Type 0 where
   pub resolved : Resolved p
+  pub literals : HasDeclaredLiterals p
+  pub kinds : KindsAreNamedRight p
   pub loopless : HasNoWayBack (type_uses p)
   pub fields : HaveFields p
   pub limited : IsLimited p
 
--- what was found of a sound program: an order in which the nodes that one calls stand before it, and the leaves of its types
+-- things have an order in which what one uses stands before it
+abbrev pub HaveOrder : Uses → Type 0
+HaveOrder uses = (order : List ℕ) × IsOrder uses order
+
+-- what was found of a sound program: an order in which the nodes that one calls stand before it, that there is one of its types, and
+-- the leaves of these
 pub record AreFound (p : Program) (nodes leaves : List ℕ) : Type 0 where
   pub sound : IsSound p
   pub order : IsOrder (program_uses p) nodes
+  pub types : HaveOrder (type_uses p)
   pub leaves_are : AreTheLeaves p leaves

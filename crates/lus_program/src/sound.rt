@@ -4,8 +4,10 @@ ghost use Rattle.std.specs.Prelude.{◌≡◌};
 ghost use Rattle.lus_graph.specs.Ways.{HasNoWayBack, IsOrder};
 ghost use Rattle.lus_program.specs.View.{program_seen};
 ghost use Rattle.lus_program.specs.Leaves.{AreTheLeaves};
+ghost use Rattle.lus_program.specs.Literals.{HasDeclaredLiterals};
 ghost use Rattle.lus_program.specs.Resolved.{Resolved, program_uses};
-ghost use Rattle.lus_program.specs.Sound.{AreFound, HaveFields, IsLimited, type_uses};
+ghost use Rattle.lus_program.specs.NamedKinds.{KindsAreNamedRight};
+ghost use Rattle.lus_program.specs.Sound.{AreFound, HaveFields, HaveOrder, IsLimited, type_uses};
 
 use crate::node::Program;
 use std::marker::Model;
@@ -51,6 +53,9 @@ impl Sound {
     pub fn program(&self) -> &Program
         ensures same { result.now ≡ self.now }
         ensures resolved { Resolved (program_seen result.now) }
+        ensures literals { HasDeclaredLiterals (program_seen result.now) }
+        ensures kinds { KindsAreNamedRight (program_seen result.now) }
+        ensures types { HaveOrder (type_uses (program_seen result.now)) }
         ensures loopless { HasNoWayBack (type_uses (program_seen result.now)) }
         ensures fields { HaveFields (program_seen result.now) }
         ensures limited { IsLimited (program_seen result.now) }

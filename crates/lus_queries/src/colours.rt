@@ -1,6 +1,6 @@
 //! The colours of a text (semantic tokens).
 
-use crate::places::{Spot, units_at};
+use crate::places::{START, Spot, past};
 use lus_edits::piece_len;
 use lus_occurrences::{Declared, Names, Occurrence, Use, names_of};
 use lus_syntax::{Symbol, Token, TokenKind, Word};
@@ -147,27 +147,21 @@ impl Painter {
         Ok(())
     }
 
-    /// Goes behind a byte.
-    fn pass(&mut self, byte: u8) {
-        if byte == b'\n' {
-            self.at.line = self.at.line.saturating_add(1);
-            self.at.character = 0;
-        } else {
-            self.at.character = self.at.character.saturating_add(units_at(byte));
-        }
-    }
-
-    /// Paints a comment, line by line.
-    fn comment(&mut self, piece: &[u8]) -> Result<(), AllocError> {
+    /// Paints a comment of so many bytes, line by line.
+    fn comment(&mut self, text: &[u8], length: usize) -> Result<(), AllocError> {
         let mut from = self.at;
-        for byte in piece {
-            if *byte == b'\n' {
+        let mut rest = text;
+        for _painted in 0..length {
+            let Some((byte, behind)) = rest.split_first() else {
+                break;
+            };
+            let next = past(self.at, *byte, behind);
+            if next.line > self.at.line {
                 self.paint(from, Colour::Comment, 0)?;
-                self.pass(*byte);
-                from = self.at;
-            } else {
-                self.pass(*byte);
+                from = next;
             }
+            self.at = next;
+            rest = behind;
         }
         self.paint(from, Colour::Comment, 0)
     }
@@ -178,8 +172,8 @@ impl Painter {
         while let Some(length) = piece_len(rest) {
             let (piece, after) = rest.split_at(length);
             match piece {
-                [byte] => self.pass(*byte),
-                _ => self.comment(piece)?,
+                [byte] => self.at = past(self.at, *byte, after),
+                _ => self.comment(rest, length)?,
             }
             rest = after;
         }
@@ -201,13 +195,9 @@ impl Painter {
 pub fn semantic_tokens(alloc: Global, source: &str) -> Result<String, AllocError> {
     let names = names_of(alloc, source)?;
     let bytes = source.as_bytes();
-    let start = Spot {
-        line: 0,
-        character: 0,
-    };
     let mut painter = Painter {
-        at: start,
-        last: start,
+        at: START,
+        last: START,
         data: String::new(alloc),
     };
     let mut at = 0;

@@ -3,6 +3,7 @@
 //! the Language Server Protocol 3.17, in JSON.
 #![tactic(auto)]
 
+mod changes;
 mod colours;
 mod completion;
 mod hovering;
@@ -12,11 +13,12 @@ mod places;
 mod renames;
 mod signature;
 
+pub use changes::Change;
 pub use colours::semantic_tokens;
 pub use completion::completions;
 pub use hovering::{Fact, declared_at, hover};
 pub use occurrences::{definition, highlights, references};
 pub use outline::{folds, symbols};
 pub use places::{Lines, Spot, lines_of, spot_at};
-pub use renames::{renamable, renaming};
+pub use renames::{edits, renamable};
 pub use signature::signature_help;

@@ -168,6 +168,7 @@ pub fn symbols(alloc: Global, source: &str) -> Result<String, AllocError> {
 
 /// The lines of a text that can be folded: those of each node, and of each type and constant of several lines (`FoldingRange`).
 pub fn folds(alloc: Global, source: &str) -> Result<String, AllocError> {
+    let lines = lines_of(alloc, source)?;
     let names = names_of(alloc, source)?;
     let mut text = String::from_str(alloc, "[")?;
     let mut is_first = true;
@@ -176,8 +177,8 @@ pub fn folds(alloc: Global, source: &str) -> Result<String, AllocError> {
             continue;
         };
         let (from, to) = extent_of(&names, *declaration, span);
-        let start = from.line.saturating_sub(1);
-        let end = to.line.saturating_sub(1);
+        let start = lines.spot(from.byte).line;
+        let end = lines.spot(to.byte).line;
         if start < end {
             let comma = if is_first { "" } else { "," };
             write!(text, "{comma}{{\"startLine\":{start},\"endLine\":{end}}}")?;

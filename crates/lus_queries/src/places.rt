@@ -1,5 +1,8 @@
 //! Positions in a text as editors count them.
 
+ghost use Rattle.std.specs.Prelude.{◌≡◌, ◌+◌, ◌*◌, ◌<◌, ◌≤◌, ◌^◌, length};
+ghost use Rattle.lus_queries.specs.Spots.{begins_with_feed, ends_line, past, spot_after, spot_of, units_at};
+
 use lus_syntax::{Place, Span};
 use std::alloc::{AllocError, Global};
 
@@ -10,16 +13,16 @@ pub struct Spot {
     pub character: usize,
 }
 
-/// The lines of a text: where each begins, and where the characters are that take two units of UTF-16.
-#[derive(Drop)]
-pub struct Lines<'t> {
-    text: &'t str,
-    starts: Vec<usize>,
-    pairs: Vec<usize>,
-}
+/// The spot at which a text begins.
+pub(crate) const START: Spot = Spot {
+    line: 0,
+    character: 0,
+};
 
 /// How many units of UTF-16 the character takes that begins with a byte of UTF-8; none where no character begins.
-pub(crate) fn units_at(byte: u8) -> usize {
+fn units_at(byte: u8) -> usize
+    ensures { result ≡ units_at byte }
+{
     if byte < 128 {
         1
     } else if byte < 192 {
@@ -31,75 +34,140 @@ pub(crate) fn units_at(byte: u8) -> usize {
     }
 }
 
-/// The lines of a text.
-pub fn lines_of(alloc: Global, text: &str) -> Result<Lines<'_>, AllocError> {
-    let mut starts = Vec::new(alloc);
-    let mut pairs = Vec::new(alloc);
-    starts.push(0)?;
-    for (place, byte) in text.as_bytes().iter().enumerate() {
-        if *byte == b'\n' {
-            starts.push(place.saturating_add(1))?;
-        } else if *byte >= 240 {
-            pairs.push(place)?;
-        }
+fn begins_with_feed(bytes: &[u8]) -> bool
+    ensures { result ≡ begins_with_feed bytes.now }
+{
+    match bytes {
+        [first, ..] => *first == b'\n',
+        [] => false,
     }
-    Ok(Lines {
-        text,
-        starts,
-        pairs,
-    })
 }
 
-/// The spot of a byte of a text, or of its end.
-pub fn spot_at(text: &str, byte: usize) -> Spot {
-    let mut spot = Spot {
-        line: 0,
-        character: 0,
-    };
-    for (place, found) in text.as_bytes().iter().enumerate() {
-        if place >= byte {
+/// Whether a line ends with a byte that others follow: a line feed, or a carriage return that none follows.
+fn ends_line(byte: u8, behind: &[u8]) -> bool
+    ensures { result ≡ ends_line byte behind.now }
+{
+    byte == b'\n' || (byte == b'\r' && !begins_with_feed(behind))
+}
+
+/// The spot behind a byte that others follow.
+pub(crate) fn past(spot: Spot, byte: u8, behind: &[u8]) -> Spot
+    ensures { spot.line + 1 < 2 ^ 64 → spot.character + 2 < 2 ^ 64 → result ≡ past spot byte behind.now }
+{
+    if ends_line(byte, behind) {
+        Spot {
+            line: spot.line.saturating_add(1),
+            character: 0,
+        }
+    } else {
+        Spot {
+            line: spot.line,
+            character: spot.character.saturating_add(units_at(byte)),
+        }
+    }
+}
+
+/// The spot so many bytes on, or that at the end.
+pub(crate) fn spot_after(from: Spot, bytes: &[u8], count: usize) -> Spot
+    requires line { from.line + length bytes.now < 2 ^ 64 }
+    requires character { from.character + 2 * length bytes.now < 2 ^ 64 }
+    ensures { result ≡ spot_after from count bytes.now }
+{
+    let mut spot = from;
+    let mut rest = bytes;
+    for _passed in 0..count {
+        let Some((byte, behind)) = rest.split_first() else {
             return spot;
-        }
-        if *found == b'\n' {
-            spot.line = spot.line.saturating_add(1);
-            spot.character = 0;
-        } else {
-            spot.character = spot.character.saturating_add(units_at(*found));
-        }
+        };
+        spot = past(spot, *byte, behind);
+        rest = behind;
     }
     spot
 }
 
-/// How many of some bytes in their order stand before one.
-fn count_before(bytes: &[usize], behind: usize) -> usize {
-    bytes.partition_point(|byte| *byte < behind)
+/// The spot of a byte of a text, or of its end.
+pub fn spot_at(text: &str, byte: usize) -> Spot
+    ensures { result ≡ spot_of text.now byte }
+{
+    spot_after(START, text.as_bytes(), byte)
+}
+
+/// How many bytes stand between the marks of a text.
+const STRIDE: usize = 64;
+
+/// A text, with the spots of each 64th byte of it.
+#[derive(Drop)]
+pub struct Lines<'t> {
+    text: &'t str,
+    marks: Vec<Spot>,
+}
+
+/// The spot that one place leads to from another, where it is the second from the start.
+fn joined(from: Spot, on: Spot) -> Spot {
+    if on.line == 0 {
+        Spot {
+            line: from.line,
+            character: from.character.saturating_add(on.character),
+        }
+    } else {
+        Spot {
+            line: from.line.saturating_add(on.line),
+            character: on.character,
+        }
+    }
+}
+
+/// The lines of a text.
+pub fn lines_of(alloc: Global, text: &str) -> Result<Lines<'_>, AllocError> {
+    let mut marks = Vec::new(alloc);
+    let mut mark = START;
+    let mut rest = text.as_bytes();
+    marks.push(mark)?;
+    while rest.len() >= STRIDE {
+        mark = joined(mark, spot_after(START, rest, STRIDE));
+        marks.push(mark)?;
+        rest = &rest[STRIDE..];
+    }
+    Ok(Lines { text, marks })
+}
+
+/// Whether a mark stands before a spot or at it.
+fn is_before(mark: Spot, spot: Spot) -> bool {
+    mark.line < spot.line || (mark.line == spot.line && mark.character <= spot.character)
 }
 
 impl Lines<'_> {
-    /// The spot of a place of the text.
-    pub fn spot(&self, place: Place) -> Spot {
-        let line = place.line.saturating_sub(1);
-        let start = self.starts.get(line).copied().unwrap_or(0);
-        let pairs = count_before(&self.pairs, place.byte);
-        let pairs = pairs.saturating_sub(count_before(&self.pairs, start));
-        Spot {
-            line,
-            character: place.column.saturating_sub(1).saturating_add(pairs),
+    /// A mark, and what stands behind it.
+    fn mark(&self, place: usize) -> (Spot, &[u8]) {
+        let start = place.saturating_mul(STRIDE);
+        match (self.marks.get(place), self.text.as_bytes().get(start..)) {
+            (Some(mark), Some(rest)) => (*mark, rest),
+            _ => (START, b""),
         }
+    }
+
+    /// The spot of a byte of the text, or of its end.
+    pub fn spot(&self, byte: usize) -> Spot {
+        let byte = byte.min(self.text.len());
+        let (mark, rest) = self.mark(byte / STRIDE);
+        joined(mark, spot_after(START, rest, byte % STRIDE))
     }
 
     /// The byte of a spot; the end of its line or of the text where there is no such spot.
     pub fn byte_at(&self, spot: Spot) -> usize {
-        let Some(start) = self.starts.get(spot.line).copied() else {
-            return self.text.len();
-        };
-        let mut units = 0usize;
-        for (place, byte) in self.text.as_bytes().iter().enumerate().skip(start) {
-            let own = units_at(*byte);
-            if *byte == b'\n' || own > 0 && units >= spot.character {
-                return place;
+        let before = self.marks.partition_point(|mark| is_before(*mark, spot));
+        let place = before.saturating_sub(1);
+        let (mut here, mut rest) = self.mark(place);
+        let mut at = place.saturating_mul(STRIDE);
+        while let Some((byte, behind)) = rest.split_first() {
+            let is_end = *byte == b'\n' || *byte == b'\r';
+            let is_reached = units_at(*byte) > 0 && here.character >= spot.character;
+            if here.line >= spot.line && (is_end || is_reached) {
+                return at;
             }
-            units = units.saturating_add(own);
+            here = past(here, *byte, behind);
+            at = at.saturating_add(1);
+            rest = behind;
         }
         self.text.len()
     }
@@ -112,8 +180,8 @@ pub(crate) fn push_range(
     from: Place,
     to: Place,
 ) -> Result<(), AllocError> {
-    let start = lines.spot(from);
-    let end = lines.spot(to);
+    let start = lines.spot(from.byte);
+    let end = lines.spot(to.byte);
     write!(
         text,
         "{{\"start\":{{\"line\":{},\"character\":{}}},\"end\":{{\"line\":{},\"character\":{}}}}}",

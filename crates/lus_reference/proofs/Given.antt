@@ -1,71 +1,70 @@
--- Definitions of variables and what calls pass, from what is kept.
-use Rattle.std.proofs.Common.{◌≡◌, ℕ, suc, ◌+◌, List, [], ◌∷◌, drop, Option, Some, None, refl, sym, ap, ap₂, ◌∙◌, arith}
+-- Definitions of variables and what calls pass, from the values of parts.
+use Rattle.std.proofs.Common.{◌≡◌, length, ℕ, suc, List, [], ◌∷◌, ◌++◌, drop, take, map, Some, None, refl, sym, ap, ap₂, ◌∙◌, subst, append-nil}
+use Rattle.std.proofs.Math.Seq.{take-append_seam}
 use Rattle.lus_values.specs.Lists.{item}
-use Rattle.lus_values.specs.Values.{Value, Row}
-use Rattle.lus_program.specs.Parts.{parts as count}
-use Rattle.lus_program.specs.Programs.{Expression, call, Operands, none, more, calls, numbered, all_numbered, Node, Program, node_at}
-use Rattle.lus_program.specs.View.{expression_of, equations_from}
-use Rattle.lus_program.specs.declared.node.Equation.{Equation as StoredEquation}
-use Rattle.lus_streams.specs.Clocks.{Clock, formal_clock, clock_of, parts, all_parts}
-use Rattle.lus_streams.specs.Equations.{Definition, given_by, place_in, definition_in, equation_parts}
-use Rattle.lus_streams.specs.Streams.{Instant, World, is_present, row_of, called_instant, where_on, inputs_given, definition_value}
-use Rattle.lus_reference.specs.Given.{right_recalled, passed}
+use Rattle.lus_values.specs.Values.{Row}
+use Rattle.lus_program.specs.Parts.{parts as count, parts_all as all_count}
+use Rattle.lus_program.specs.Programs.{Expression, literal, variable, operate, pre, arrow, when, merge, call, Operands, none, more, numbered, all_numbered, Node, Program}
+use Rattle.lus_streams.specs.Clocks.{Clock, Part, at, formal_clock, parts, all_parts}
+use Rattle.lus_streams.specs.Equations.{given_by}
+use Rattle.lus_streams.specs.Streams.{Instant, World, is_present, row_of, where_on, value, output, inputs_given, definition_value}
+use Rattle.lus_parts.proofs.Nested.{parts_nested, all_parts_nested}
+use Rattle.lus_parts.specs.Nested.{AreNested}
+use Rattle.lus_reference.specs.Given.{callee, passed}
 use Rattle.lus_reference.specs.Kept.{AreRowsFrom, Keeps}
+use Rattle.lus_reference.specs.Made.{AreValues, roots, value_in}
+use Rattle.lus_reference.proofs.Made.{all_at, all_counted, all_roots, counted, keeps_left, keeps_past, roots_at}
 use Rattle.lus_reference.proofs.Parts.{on_is}
-use Rattle.lus_reference.proofs.Recalled.{item_behind, keeps_left, keeps_behind, rows_behind, recalled_is_value}
-
--- what the equations give for a variable
-module _ (p : Program) (row : Row) where
-  abbrev pub defined : List StoredEquation → ℕ → Row → List Row → Option Value
-  defined [] x kept rows = None
-  defined (q ∷ qs) x kept rows =
-      elim (place_in x q.targets.items 0) [
-        | Some n ↦ right_recalled p row (expression_of q.right) n kept rows
-        | None ↦ defined qs x (drop (count (expression_of q.right)) kept) (drop (calls (expression_of q.right)) rows)
-      ]
-
-  pub defined_here : (q : StoredEquation) (qs : List StoredEquation) (x n : ℕ) (kept : Row) (rows : List Row) → place_in x q.targets.items 0 ≡ Some n → right_recalled p row (expression_of q.right) n kept rows ≡ defined (q ∷ qs) x kept rows
-  defined_here q qs x n kept rows h =
-      sym (ap (λ o. elim o [ Some n ↦ right_recalled p row (expression_of q.right) n kept rows | None ↦ defined qs x (drop (count (expression_of q.right)) kept) (drop (calls (expression_of q.right)) rows) ]) h)
-
-  pub defined_later : (q : StoredEquation) (qs : List StoredEquation) (x : ℕ) (kept : Row) (rows : List Row) → place_in x q.targets.items 0 ≡ None
-      → defined qs x (drop (count (expression_of q.right)) kept) (drop (calls (expression_of q.right)) rows) ≡ defined (q ∷ qs) x kept rows
-  defined_later q qs x kept rows h =
-      sym (ap (λ o. elim o [ Some n ↦ right_recalled p row (expression_of q.right) n kept rows | None ↦ defined qs x (drop (count (expression_of q.right)) kept) (drop (calls (expression_of q.right)) rows) ]) h)
 
 module _ (p : Program) (now : Instant) (past : World) where
-  right_is : (e : Expression) (n m : ℕ) (xs : List ℕ) (k : Clock) (kept : Row) (rows : List Row) → Keeps p past (parts p (numbered n e) k) kept → AreRowsFrom now n rows
-      → right_recalled p (row_of now) e m kept rows ≡ definition_value p (Some (given_by (numbered n e) m xs k)) now past
-  right_is (call g c args) n m xs k kept rows h r =
-      let inputs = (node_at p g).inputs in
-      let first : n + 0 ≡ n = omega arith in
-      item_behind None inputs m (item [] rows 0) ∙ ap (λ l. item None l (inputs + m)) (r 0) ∙ ap (λ i. item None (row_of (called_instant i now)) (inputs + m)) first
-  right_is e n m xs k kept rows h r = recalled_is_value p now past e n k kept rows h r
+  -- what a right side gives: of a call its output, else its value
+  pub called_is : (e : Expression) (g n t : ℕ) (xs : List ℕ) (k : Clock) → callee e ≡ Some g → output p g n t now ≡ definition_value p (Some (given_by (numbered n e) t xs k)) now past
+  called_is (call h c args) g n t xs k e = let same : g ≡ h = cc in ap (λ d. output p d n t now) same
+  called_is (literal v) g n t xs k e = absurd (cc)
+  called_is (variable x) g n t xs k e = absurd (cc)
+  called_is (operate o es) g n t xs k e = absurd (cc)
+  called_is (pre a) g n t xs k e = absurd (cc)
+  called_is (arrow a b) g n t xs k e = absurd (cc)
+  called_is (when c a) g n t xs k e = absurd (cc)
+  called_is (merge x bs) g n t xs k e = absurd (cc)
 
-  chosen : (o : Option ℕ) (a : ℕ → Option Value) (b : Option Value) (d : ℕ → Definition) (later : Option Definition) → ((n : ℕ) → a n ≡ definition_value p (Some (d n)) now past) → b ≡ definition_value p later now past
-      → elim o [ Some n ↦ a n | None ↦ b ] ≡ definition_value p (elim o [ None ↦ later | Some n ↦ Some (d n) ]) now past
-  chosen (Some n) a b d later h g = h n
-  chosen None a b d later h g = g
+  pub other_is : (e : Expression) (n t : ℕ) (xs : List ℕ) (k : Clock) → callee e ≡ None → value p (numbered n e) k now past ≡ definition_value p (Some (given_by (numbered n e) t xs k)) now past
+  other_is (call h c args) n t xs k e = absurd (cc)
+  other_is (literal v) n t xs k e = refl
+  other_is (variable x) n t xs k e = refl
+  other_is (operate o es) n t xs k e = refl
+  other_is (pre a) n t xs k e = refl
+  other_is (arrow a b) n t xs k e = refl
+  other_is (when c a) n t xs k e = refl
+  other_is (merge x bs) n t xs k e = refl
 
-  pub defined_is : (f : Node) (qs : List StoredEquation) (n x : ℕ) (kept : Row) (rows : List Row) → Keeps p past (equation_parts p f (equations_from n qs)) kept → AreRowsFrom now n rows
-      → defined p (row_of now) qs x kept rows ≡ definition_value p (definition_in f (equations_from n qs) x) now past
-  defined_is f [] n x kept rows h r = refl
-  defined_is f (q ∷ qs) n x kept rows h r =
-      let e = expression_of q.right in
-      let xs = q.targets.items in
-      let k = clock_of f (item 0 xs 0) in
-      let others = equation_parts p f (equations_from (n + calls e) qs) in
-      chosen (place_in x xs 0) (λ m. right_recalled p (row_of now) e m kept rows) (defined p (row_of now) qs x (drop (count e) kept) (drop (calls e) rows))
-      (λ m. given_by (numbered n e) m xs k) (definition_in f (equations_from (n + calls e) qs) x)
-      (λ m. right_is e n m xs k kept rows (keeps_left p past (parts p (numbered n e) k) others kept h) r)
-      (defined_is f qs (n + calls e) x (drop (count e) kept) (drop (calls e) rows) (keeps_behind p past e n k others kept h) (rows_behind p now past n (calls e) rows r))
+  -- values of the outermost of so many parts, which stand at a place
+  values_are : (rows : List Row) (own : List Part) → AreNested p (own ++ []) → (c : ℕ) → length own ≡ c → (es : List Part) (m : ℕ) (kept vs : Row) (rest : List Part) → drop m es ≡ own ++ rest
+      → AreRowsFrom now 0 rows → Keeps p past es kept → AreValues p (row_of now) rows (take c (drop m es)) (drop m kept) vs → vs ≡ map (value_in p now past) (roots own)
+  values_are rows own nested c long es m kept vs rest there called keeps h =
+      let taken : take c (drop m es) ≡ own = ap₂ take (sym long) there ∙ take-append_seam own rest in
+      let kept_own : Keeps p past own (drop m kept) = keeps_left p past own rest (drop m kept) (subst (λ l. Keeps p past l (drop m kept)) there (keeps_past p past m es kept keeps)) in
+      subst (λ l. AreValues p (row_of now) rows l (drop m kept) vs) taken h now past refl called kept_own (subst (AreNested p) (append-nil own) nested)
 
-  pub passed_are : (es : Operands) (g : Node) (args : Operands) (base : Clock) (n m : ℕ) (kept : Row) (rows : List Row) → Keeps p past (all_parts p (all_numbered n es) (formal_clock g args base) m) kept → AreRowsFrom now n rows
-      → passed p (is_present now) (row_of now) (formal_clock g args base) es m kept rows ≡ inputs_given p (all_numbered n es) g args base m now past
-  passed_are none g args base n m kept rows h r = refl
-  passed_are (more e es) g args base n m kept rows h r =
+  -- the value of an expression, whose parts stand at a place
+  pub value_at_is : (rows : List Row) (e : Expression) (n : ℕ) (k : Clock) (es : List Part) (m : ℕ) (kept vs : Row) (rest : List Part) → drop m es ≡ parts p (numbered n e) k ++ rest
+      → AreRowsFrom now 0 rows → Keeps p past es kept → AreValues p (row_of now) rows (take (count e) (drop m es)) (drop m kept) vs → item None vs 0 ≡ value p (numbered n e) k now past
+  value_at_is rows e n k es m kept vs rest there called keeps h =
+      let own = parts p (numbered n e) k in
+      let first : roots own ≡ at k (numbered n e) ∷ [] = ap roots (sym (append-nil own)) ∙ roots_at p (numbered n e) k [] in
+      ap (λ l. item None l 0) (values_are rows own (parts_nested p (numbered n e) k [] tt) (count e) (counted p e n k) es m kept vs rest there called keeps h ∙ ap (map (value_in p now past)) first)
+
+  -- values of the arguments of a call, whose parts stand at a place
+  pub arguments_are : (rows : List Row) (args : Operands) (n : ℕ) (ks : ℕ → Clock) (es : List Part) (m : ℕ) (kept vs : Row) (rest : List Part) → drop m es ≡ all_parts p (all_numbered n args) ks 0 ++ rest
+      → AreRowsFrom now 0 rows → Keeps p past es kept → AreValues p (row_of now) rows (take (all_count args) (drop m es)) (drop m kept) vs → vs ≡ map (value_in p now past) (all_at (all_numbered n args) ks 0)
+  arguments_are rows args n ks es m kept vs rest there called keeps h =
+      let xs = all_numbered n args in
+      let first : roots (all_parts p xs ks 0) ≡ all_at xs ks 0 = ap roots (sym (append-nil (all_parts p xs ks 0))) ∙ all_roots p xs ks 0 [] ∙ append-nil (all_at xs ks 0) in
+      values_are rows (all_parts p xs ks 0) (all_parts_nested p xs ks 0 [] tt) (all_count args) (all_counted p args n ks 0) es m kept vs rest there called keeps h ∙ ap (map (value_in p now past)) first
+
+  pub passed_are : (es : Operands) (g : Node) (args : Operands) (base : Clock) (m : ℕ)
+      → passed (is_present now) (row_of now) (formal_clock g args base) m (map (value_in p now past) (all_at es (formal_clock g args base) m)) ≡ inputs_given p es g args base m now past
+  passed_are none g args base m = refl
+  passed_are (more e es) g args base m =
       let k = formal_clock g args base m in
-      let others = all_parts p (all_numbered (n + calls e) es) (formal_clock g args base) (suc m) in
-      ap₂ ◌∷◌
-      (ap₂ where_on (sym (on_is k now)) (recalled_is_value p now past e n k kept rows (keeps_left p past (parts p (numbered n e) k) others kept h) r))
-      (passed_are es g args base (n + calls e) (suc m) (drop (count e) kept) (drop (calls e) rows) (keeps_behind p past e n k others kept h) (rows_behind p now past n (calls e) rows r))
+      ap₂ ◌∷◌ (ap (λ b. where_on b (value p e k now past)) (sym (on_is k now))) (passed_are es g args base (suc m))

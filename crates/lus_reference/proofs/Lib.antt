@@ -1,10 +1,9 @@
 pub mod Drops
-pub mod Recalled
+pub mod Made
+pub mod Stacks
 pub mod Onward
-pub mod Steps
 pub mod Parts
 pub mod Given
 pub mod Placed
 pub mod Needed
 pub mod Examples
-pub mod Causes

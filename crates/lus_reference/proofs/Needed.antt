@@ -2,10 +2,11 @@
 use Rattle.std.proofs.Common.{◌≡◌, ℕ, suc, ◌+◌, drop, true, false, ◌&&◌, [], ◌∷◌, refl, ap, ap₂}
 use Rattle.lus_values.specs.Lists.{Each}
 use Rattle.lus_values.specs.Operators.{apply}
+use Rattle.lus_values.specs.Entries.{is_constructor, with_operand, with_operands}
 use Rattle.lus_program.specs.Programs.{Expression, literal, variable, operate, pre, arrow, when, merge, call, Operands, none, more, Node, Program, node_at}
 use Rattle.lus_streams.specs.Clocks.{Clock, formal_clock}
 use Rattle.lus_streams.specs.Order.{needs, needs_all, clock_variables}
-use Rattle.lus_streams.specs.Streams.{Instant, World, is_present, entry, called_instant, is_constructor, is_on, at_last, with_operand, with_operands, where_on, value, values, branch, inputs_given}
+use Rattle.lus_streams.specs.Streams.{Instant, World, is_present, entry, called_instant, is_on, at_last, where_on, value, values, branch, inputs_given}
 use Rattle.lus_streams.proofs.Lists.{each_left, each_right}
 use Rattle.lus_streams.proofs.Unique.{formal_variables}
 use Rattle.lus_reference.specs.Needed.{calls_now, all_calls_now, NeedsSuffice}

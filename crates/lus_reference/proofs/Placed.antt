@@ -1,19 +1,18 @@
 -- What stands at the place of what defines a variable, and the places that are found one after another.
 use Rattle.std.proofs.Common.{◌≡◌, ℕ, zero, suc, ◌+◌, ◌<◌, ◌≤◌, nat_eq, Bool, true, false, List, [], ◌∷◌, ◌++◌, drop, length, Option, Some, None, if◌then◌else◌, refl, sym, ap, ◌∙◌, subst, arith, slice_get, slice_set}
+use Rattle.std.proofs.Math.Seq.{drop-append_seam}
 use Rattle.std.proofs.lemmas.Bool.Decides.{nat_tests}
 use Rattle.lus_values.specs.Lists.{item}
-use Rattle.lus_values.specs.Values.{Row}
 use Rattle.lus_program.specs.Parts.{parts as count}
 use Rattle.lus_program.specs.Programs.{calls, numbered, Node, Program}
 use Rattle.lus_program.specs.View.{expression_of, equations_from}
 use Rattle.lus_program.specs.declared.node.Equation.{Equation as StoredEquation}
-use Rattle.lus_streams.specs.Clocks.{clock_of}
-use Rattle.lus_streams.specs.Equations.{given_by, place_in, definition_in}
+use Rattle.lus_streams.specs.Clocks.{Part, clock_of, parts as parts_in}
+use Rattle.lus_streams.specs.Equations.{given_by, place_in, definition_in, equation_parts}
 use Rattle.lus_reference.specs.declared.places.Place.{Place}
-use Rattle.lus_reference.specs.Given.{right_recalled}
 use Rattle.lus_reference.specs.Placed.{placed_in, blank, set_first, set_targets}
 use Rattle.lus_reference.proofs.Drops.{dropped}
-use Rattle.lus_reference.proofs.Given.{defined, defined_here, defined_later}
+use Rattle.lus_reference.proofs.Made.{counted}
 
 abbrev placed_at : (i m n t : ℕ) → Place
 placed_at i m n t = record { equation = i; parts = m; calls = n; target = t }
@@ -22,13 +21,12 @@ placed_at i m n t = record { equation = i; parts = m; calls = n; target = t }
 pub record IsAtPlace (f : Node) (qs : List StoredEquation) (x i m n : ℕ) (k : Place) : Type 0 where
   pub index : ℕ
   pub behind_parts : ℕ
-  pub behind_calls : ℕ
   pub equation : StoredEquation
   pub there : slice_get qs index ≡ Some equation
   pub at_equation : k.equation ≡ i + index
   pub at_parts : k.parts ≡ m + behind_parts
-  pub at_calls : k.calls ≡ n + behind_calls
-  pub value : (p : Program) (row kept : Row) (rows : List Row) → defined p row qs x kept rows ≡ right_recalled p row (expression_of equation.right) k.target (drop behind_parts kept) (drop behind_calls rows)
+  pub parts : (p : Program) → (rest : List Part)
+      × (drop behind_parts (equation_parts p f (equations_from n qs)) ≡ parts_in p (numbered k.calls (expression_of equation.right)) (clock_of f (item 0 equation.targets.items 0)) ++ rest)
   pub definition : definition_in f (equations_from n qs) x ≡ Some (given_by (numbered k.calls (expression_of equation.right)) k.target equation.targets.items (clock_of f (item 0 equation.targets.items 0)))
 
 module _ (f : Node) where
@@ -47,13 +45,11 @@ module _ (f : Node) where
   at_first q qs x i m n t e = record {
     index = 0;
     behind_parts = 0;
-    behind_calls = 0;
     equation = q;
     there = refl;
     at_equation = omega arith;
     at_parts = omega arith;
-    at_calls = omega arith;
-    value = λ p row kept rows. sym (defined_here p row q qs x t kept rows e);
+    parts = λ p. (equation_parts p f (equations_from (n + calls (expression_of q.right)) qs), refl);
     definition = definition_by q qs x n (Some t) e;
   }
 
@@ -61,23 +57,20 @@ module _ (f : Node) where
       → IsAtPlace f qs x (suc i) (m + count (expression_of q.right)) (n + calls (expression_of q.right)) k → IsAtPlace f (q ∷ qs) x i m n k
   further q qs x i m n k e r =
       let e' = expression_of q.right in
-      let own = expression_of r.equation.right in
       let at_equation = r.at_equation in
       let at_parts = r.at_parts in
-      let at_calls = r.at_calls in
       record {
         index = suc r.index;
         behind_parts = count e' + r.behind_parts;
-        behind_calls = calls e' + r.behind_calls;
         equation = r.equation;
         there = r.there;
         at_equation = omega (arith, at_equation);
         at_parts = omega (arith, at_parts);
-        at_calls = omega (arith, at_calls);
-        value = λ p row kept rows.
-            sym (defined_later p row q qs x kept rows e)
-            ∙ r.value p row (drop (count e') kept) (drop (calls e') rows)
-            ∙ (λ j. right_recalled p row own k.target (sym (dropped (count e') r.behind_parts kept) j) (sym (dropped (calls e') r.behind_calls rows) j));
+        parts = λ p.
+            let first = parts_in p (numbered n e') (clock_of f (item 0 q.targets.items 0)) in
+            let later = equation_parts p f (equations_from (n + calls e') qs) in
+            let behind : drop (count e') (first ++ later) ≡ later = ap (λ m. drop m (first ++ later)) (sym (counted p e' n (clock_of f (item 0 q.targets.items 0)))) ∙ drop-append_seam first later in
+            ((r.parts p).0, dropped (count e') r.behind_parts (first ++ later) ∙ ap (drop r.behind_parts) behind ∙ (r.parts p).1);
         definition = definition_by q qs x n None e ∙ r.definition;
       }
 
@@ -98,19 +91,17 @@ module _ (f : Node) where
 
   -- nothing defines a variable without a place
   abbrev DefinesNone : List StoredEquation → (x n : ℕ) → Type 0
-  DefinesNone qs x n = ((p : Program) (row kept : Row) (rows : List Row) → defined p row qs x kept rows ≡ None) × (definition_in f (equations_from n qs) x ≡ None)
+  DefinesNone qs x n = definition_in f (equations_from n qs) x ≡ None
 
   none_first : (q : StoredEquation) (qs : List StoredEquation) (x i m n : ℕ) (o : Option ℕ)
       → (placed_in qs x (suc i) (m + count (expression_of q.right)) (n + calls (expression_of q.right)) ≡ None → DefinesNone qs x (n + calls (expression_of q.right)))
       → place_in x q.targets.items 0 ≡ o → placed_in (q ∷ qs) x i m n ≡ None → DefinesNone (q ∷ qs) x n
   none_first q qs x i m n (Some t) later e h = let is : Some (placed_at i m n t) ≡ None = sym (placed_by q qs x i m n (Some t) e) ∙ h in absurd (cc)
   none_first q qs x i m n None later e h =
-      let e' = expression_of q.right in
-      let r = later (sym (placed_by q qs x i m n None e) ∙ h) in
-      (λ p row kept rows. sym (defined_later p row q qs x kept rows e) ∙ r.0 p row (drop (count e') kept) (drop (calls e') rows), definition_by q qs x n None e ∙ r.1)
+      definition_by q qs x n None e ∙ later (sym (placed_by q qs x i m n None e) ∙ h)
 
   pub not_placed : (qs : List StoredEquation) (x i m n : ℕ) → placed_in qs x i m n ≡ None → DefinesNone qs x n
-  not_placed [] x i m n h = (λ p row kept rows. refl, refl)
+  not_placed [] x i m n h = refl
   not_placed (q ∷ qs) x i m n h = none_first q qs x i m n (place_in x q.targets.items 0) (not_placed qs x (suc i) (m + count (expression_of q.right)) (n + calls (expression_of q.right))) refl h
 
 -- the first of two places
@@ -255,13 +246,17 @@ module _ (f : Node) (qs : List StoredEquation) (x : ℕ) (k : Place) (h : placed
     is_own : q ≡ own.equation
     is_own = let same : Some q ≡ Some own.equation = sym there ∙ stands in cc
 
-    pub defined_at : (p : Program) (row kept : Row) (rows : List Row) → right_recalled p row (expression_of q.right) k.target (drop k.parts kept) (drop k.calls rows) ≡ defined p row qs x kept rows
-    defined_at p row kept rows =
+    pub parts_there : (p : Program) → (rest : List Part)
+        × (drop k.parts (equation_parts p f (equations_from 0 qs)) ≡ parts_in p (numbered k.calls (expression_of q.right)) (clock_of f (item 0 q.targets.items 0)) ++ rest)
+    parts_there p =
         let a = own.at_parts in
-        let b = own.at_calls in
         let m : k.parts ≡ own.behind_parts = omega (arith, a) in
-        let n : k.calls ≡ own.behind_calls = omega (arith, b) in
-        (λ j. right_recalled p row (expression_of (is_own j).right) k.target (drop (m j) kept) (drop (n j) rows)) ∙ sym (own.value p row kept rows)
+        let there = own.parts p in (
+          there.0,
+          ap (λ i. drop i (equation_parts p f (equations_from 0 qs))) m
+              ∙ there.1
+              ∙ ap (λ (r : StoredEquation). parts_in p (numbered k.calls (expression_of r.right)) (clock_of f (item 0 r.targets.items 0)) ++ there.0) (sym is_own),
+        )
 
     pub definition_at : definition_in f (equations_from 0 qs) x ≡ Some (given_by (numbered k.calls (expression_of q.right)) k.target q.targets.items (clock_of f (item 0 q.targets.items 0)))
     definition_at = own.definition ∙ (λ j. Some (given_by (numbered k.calls (expression_of (sym is_own j).right)) k.target (sym is_own j).targets.items (clock_of f (item 0 (sym is_own j).targets.items 0))))

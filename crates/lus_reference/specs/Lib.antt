@@ -1,5 +1,5 @@
 pub mod Kept
-pub mod Parts
+pub mod Made
 pub mod Given
 pub mod Placed
 pub mod Needed

@@ -1,20 +1,14 @@
-//! Causes of faults: operations that have no value on the values of their operands.
+//! Faults, and their causes: operations that have no value on the values of their operands.
 
-ghost use Rattle.std.specs.Prelude.{◌≡◌, IfOk, MatchOption, drop, map};
+ghost use Rattle.std.specs.Prelude.{◌≡◌, ◌⊎◌, IfOk, IsSome, IsTrue, MatchOption, map};
 ghost use Rattle.std.specs.Option.{option_map};
-ghost use Rattle.lus_program.specs.View.{expression_of, program_seen};
+ghost use Rattle.lus_program.specs.View.{expression_of};
 ghost use Rattle.lus_values.specs.View.{entry_of};
-ghost use Rattle.lus_parts.specs.Nested.{AreNested};
-ghost use Rattle.lus_parts.specs.Parts.{part_of};
-ghost use Rattle.lus_reference.specs.Causes.{IsCauseOf, operation_in, operation_recalled};
+ghost use Rattle.lus_reference.specs.Causes.{IsFaultBy, operation_in, operation_on};
 
-use crate::entries::entries_from;
-use crate::renewal::{is_whole, rows_from};
-use crate::skipping::behind_first;
-use crate::value::values_at;
-use lus_parts::Part;
-use lus_program::{Form, Program};
-use lus_values::{Memory, Operator, Row, Value};
+use crate::value::gathered;
+use lus_program::{Expr, Form};
+use lus_values::{Memory, Operator, Value};
 use std::alloc::Global;
 
 /// An operation, and the values that its operands have.
@@ -24,62 +18,61 @@ pub struct Operation {
     pub operands: Vec<Value>,
 }
 
-/// A part that is at fault though its operands all have values: its place among the parts, and its operation.
+/// A part at fault: its place among the parts, and its operation, if its operands all have values.
 #[derive(Drop)]
-pub struct Cause {
+pub struct AtFault {
     pub place: usize,
-    pub operation: Operation,
+    pub operation: Option<Operation>,
 }
 
-/// The operation that a part is, if its operands all have values.
-fn operation_at(
+/// The operation that an expression is, if its operands all have values.
+fn operation_of(
     alloc: Global,
-    program: &Program,
-    row: &[Option<Value>],
-    rows: &[Row],
-    part: &Part<'_>,
-    kept: &[Option<Value>],
+    expr: &Expr,
+    operands: &[Option<Value>],
 ) -> Result<Option<Operation>, Memory>
-    ensures { IfOk result (λ o. option_map operation_in o ≡ operation_recalled (program_seen program.now) (map entry_of row.now) (expression_of part.now.expr.now) (map entry_of kept.now) (drop part.now.number rows.now)) }
+    ensures { IfOk result (λ o. option_map operation_in o ≡ operation_on (expression_of expr.now) (map entry_of operands.now)) }
 {
-    match &part.expr.form {
-        Form::Operate(operator, operands) => {
-            let rest = behind_first(kept);
-            let own = rows_from(rows, part.number);
-            match values_at(alloc, program, row, operands, rest, own)? {
-                Some(values) => Ok(Some(Operation {
-                    operator: *operator,
-                    operands: values,
-                })),
-                None => Ok(None),
-            }
-        }
+    match &expr.form {
+        Form::Operate(operator, _) => match gathered(alloc, operands)? {
+            Some(values) => Ok(Some(Operation {
+                operator: *operator,
+                operands: values,
+            })),
+            None => Ok(None),
+        },
         _ => Ok(None),
     }
 }
 
-/// The first part that is at fault though its operands all have values, if there is one.
-pub fn cause_in(
-    alloc: Global,
-    program: &Program,
-    present: bool,
-    row: &[Option<Value>],
-    rows: &[Row],
-    parts: &[Part<'_>],
-    kept: &[Option<Value>],
-) -> Result<Option<Cause>, Memory>
-    requires { AreNested (program_seen program.now) (map part_of parts.now) }
-    ensures { IfOk result (λ o. MatchOption o (Unit {0}) (IsCauseOf (program_seen program.now) present (map entry_of row.now) rows.now (map part_of parts.now) (map entry_of kept.now))) }
+/// Whether the operands of a part at fault all have values.
+fn is_cause(fault: &Option<AtFault>) -> bool
+    ensures { IsTrue result → IsSome fault.now }
 {
-    for (place, part) in parts.iter().enumerate() {
-        let earlier = entries_from(kept, place);
-        let whole = is_whole(alloc, program, present, row, rows, part, earlier)?;
-        if !whole {
-            let found = operation_at(alloc, program, row, rows, part, earlier)?;
-            if let Some(operation) = found {
-                return Ok(Some(Cause { place, operation }));
-            }
-        }
+    match fault {
+        Some(found) => found.operation.is_some(),
+        None => false,
     }
-    Ok(None)
+}
+
+/// An expression at this place, where it is at fault, or another fault; one whose operands all have values before others.
+pub fn fault_or(
+    alloc: Global,
+    at_fault: bool,
+    place: usize,
+    expr: &Expr,
+    operands: &[Option<Value>],
+    other: Option<AtFault>,
+) -> Result<Option<AtFault>, Memory>
+    ensures { let own = IsFaultBy (expression_of expr.now) (map entry_of operands.now) place in
+        IfOk result (λ o. ((o ≡ other) × (IsTrue at_fault → IsSome other)) ⊎ (IsTrue at_fault × MatchOption o ⊥ own)) }
+{
+    if !at_fault {
+        return Ok(other);
+    }
+    let operation = operation_of(alloc, expr, operands)?;
+    if operation.is_none() && is_cause(&other) {
+        return Ok(other);
+    }
+    Ok(Some(AtFault { place, operation }))
 }

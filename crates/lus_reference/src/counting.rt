@@ -57,7 +57,7 @@ pub fn count(expr: &Expr, before: Counts) -> Result<Counts, Memory>
 
 /// How many stand before what follows operands.
 #[cycle(counts)]
-fn count_all(operands: &[Expr], before: Counts) -> Result<Counts, Memory>
+pub fn count_all(operands: &[Expr], before: Counts) -> Result<Counts, Memory>
     ensures parts { IfOk result (λ n. n.parts ≡ before.parts + parts_all (operands_of operands.now)) }
     ensures calls { IfOk result (λ n. n.calls ≡ before.calls + all_calls (operands_of operands.now)) }
 {

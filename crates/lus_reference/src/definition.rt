@@ -3,20 +3,23 @@
 ghost use Rattle.std.specs.Prelude.{◌≡◌, ℕ, IfOk, map};
 ghost use Rattle.lus_program.specs.View.{expression_of, node_of, program_seen};
 ghost use Rattle.lus_values.specs.View.{entry_of};
-ghost use Rattle.lus_reference.specs.Given.{IsDefinedAt, callee, output_recalled, right_recalled};
+ghost use Rattle.lus_streams.specs.Equations.{node_parts};
+ghost use Rattle.lus_parts.specs.Parts.{part_of};
+ghost use Rattle.lus_reference.specs.Given.{IsDefinedAt, IsValueAt, callee};
 ghost use Rattle.lus_reference.specs.Placed.{place_of};
 
-use crate::entries::{entries_from, entry_at};
+use crate::counting::{Counts, count};
+use crate::entries::entry_at;
 use crate::places::Place;
-use crate::renewal::rows_from;
-use crate::value::value_at;
-use lus_clocks::inputs_at;
+use crate::value::output_at;
+use crate::values::values_at;
+use lus_parts::Part;
 use lus_program::{Expr, Form, Node, Program};
 use lus_values::{Memory, Row, Value};
 use std::alloc::Global;
 
 /// The node that an expression calls, if it is a call.
-fn callee(expr: &Expr) -> Option<u32>
+pub fn callee(expr: &Expr) -> Option<u32>
     ensures { result ≡ callee (expression_of expr.now) }
 {
     match &expr.form {
@@ -25,41 +28,22 @@ fn callee(expr: &Expr) -> Option<u32>
     }
 }
 
-/// An output of the first of these calls, which is one of this node.
-fn output_at(
-    alloc: Global,
-    program: &Program,
-    called: u32,
-    place: usize,
-    rows: &[Row],
-) -> Result<Option<Value>, Memory>
-    ensures { IfOk result (λ v. entry_of v ≡ output_recalled (program_seen program.now) called place rows.now) }
-{
-    match rows.first() {
-        Some(row) => {
-            let inputs = inputs_at(program, called) as usize;
-            entry_at(alloc, entries_from(row.items(), inputs), place)
-        }
-        None => Ok(None),
-    }
-}
-
-/// What a right side gives for the variable at this place on its left.
-fn right_at(
+/// The value of an expression, if it has one, from the parts of its node, where it stands at a place, and from what is kept of them.
+fn value_at(
     alloc: Global,
     program: &Program,
     row: &[Option<Value>],
-    right: &Expr,
+    rows: &[Row],
+    expr: &Expr,
+    parts: &[Part<'_>],
     place: usize,
     kept: &[Option<Value>],
-    rows: &[Row],
 ) -> Result<Option<Value>, Memory>
-    ensures { IfOk result (λ v. entry_of v ≡ right_recalled (program_seen program.now) (map entry_of row.now) (expression_of right.now) place (map entry_of kept.now) rows.now) }
+    ensures { IfOk result (λ v. IsValueAt (program_seen program.now) (map entry_of row.now) rows.now (expression_of expr.now) (map part_of parts.now) place (map entry_of kept.now) (entry_of v)) }
 {
-    match callee(right) {
-        Some(called) => output_at(alloc, program, called, place, rows),
-        None => value_at(alloc, program, row, right, kept, rows),
-    }
+    let size = count(expr, Counts { parts: 0, calls: 0 })?;
+    let values = values_at(alloc, program, row, rows, parts, place, size.parts, kept)?;
+    entry_at(alloc, &values, 0)
 }
 
 /// The value by its definition of a variable with this place, if it has one, at an instant at which its clock is present: from the
@@ -69,28 +53,30 @@ pub fn define(
     program: &Program,
     row: &[Option<Value>],
     node: &Node,
+    parts: &[Part<'_>],
     place: Option<Place>,
     kept: &[Option<Value>],
     rows: &[Row],
 ) -> Result<Option<Value>, Memory>
+    requires { map part_of parts.now ≡ node_parts (program_seen program.now) (node_of node.now) }
     ensures { IfOk result (λ v. (x : ℕ) → place ≡ place_of node.now x → IsDefinedAt (program_seen program.now) (map entry_of row.now) (node_of node.now) x (map entry_of kept.now) rows.now (entry_of v)) }
 {
-    match place {
-        Some(at) => match node.equations.get(at.equation) {
-            Some(equation) => {
-                let parts = entries_from(kept, at.parts);
-                let calls = rows_from(rows, at.calls);
-                right_at(
-                    alloc,
-                    program,
-                    row,
-                    &equation.right,
-                    at.target,
-                    parts,
-                    calls,
-                )
-            }
-            None => Ok(None),
+    let Some(at) = place else {
+        return Ok(None);
+    };
+    match node.equations.get(at.equation) {
+        Some(equation) => match callee(&equation.right) {
+            Some(called) => output_at(alloc, program, called, at.calls, at.target, rows),
+            None => value_at(
+                alloc,
+                program,
+                row,
+                rows,
+                &equation.right,
+                parts,
+                at.parts,
+                kept,
+            ),
         },
         None => Ok(None),
     }

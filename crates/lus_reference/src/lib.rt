@@ -8,19 +8,18 @@ mod cause;
 mod counting;
 mod definition;
 mod entries;
-mod evaluation;
 mod passing;
 mod places;
 mod renewal;
-mod skipping;
 mod value;
+mod values;
 
-pub use cause::{Cause, Operation, cause_in};
-pub use definition::define;
-pub use evaluation::evaluate;
+pub use cause::{AtFault, Operation};
+pub use definition::{callee, define};
+pub use entries::{entry_at, has_entry};
 pub use passing::pass;
 pub use places::{Place, places_of};
-pub use renewal::{Renewed, is_on, renew, rows_from};
+pub use renewal::{Renewed, is_on, renew};
 
 /// Nothing is kept before the first instant; after an instant without a fault the values of the parts on present clocks are.
 pub fn values_are_kept()

@@ -7,8 +7,6 @@ mod naming;
 mod proposing;
 mod renaming;
 mod taken;
-#[cfg(test)]
-mod tests;
 
 pub use error::RenameError;
 pub use renaming::renamed;

@@ -3,7 +3,7 @@ use Rattle.std.proofs.Common.{◌≡◌, ◌∙◌, ℕ, zero, suc, ◌≤◌, [
 use Rattle.std.proofs.lemmas.List.{take_all}
 use Rattle.lus_values.specs.Lists.{item}
 use Rattle.lus_values.specs.Values.{Row}
-use Rattle.lus_instructions.specs.Instants.{Begins}
+use Rattle.lus_classes.specs.Instants.{Begins}
 use Rattle.lus_running.specs.Instants.{forgotten, placed}
 use Rattle.lus_running.proofs.Placing.{forgotten_item, none_placed}
 

@@ -4,17 +4,17 @@ use Rattle.std.proofs.lemmas.Bool.{and_parts}
 use Rattle.lus_values.specs.Lists.{item}
 use Rattle.lus_values.specs.Values.{Row}
 use Rattle.lus_values.proofs.Lists.{each_found}
-use Rattle.lus_program.specs.declared.expr.Test.{Test}
+use Rattle.lus_values.specs.declared.test.Test.{Test}
 use Rattle.lus_classes.specs.Steps.{is_on_row}
 use Rattle.lus_instructions.specs.Executed.{holds_in}
-use Rattle.lus_instructions.specs.Played.{GivenOnClocks}
-use Rattle.lus_instructions.proofs.OnClocks.{has_entry}
+use Rattle.lus_classes.specs.Played.{GivenOnClocks}
+use Rattle.lus_classes.proofs.OnClocks.{has_entry}
 use Rattle.lus_instructions.specs.declared.class.Call.{Call}
 use Rattle.lus_instructions.specs.declared.class.Class.{Class}
-use Rattle.lus_instructions.specs.Looks.{newest, short_of}
-use Rattle.lus_instructions.specs.Passing.{PassGiven}
-use Rattle.lus_instructions.specs.View.{chain_in, clock_from}
-use Rattle.lus_instructions.proofs.ShortTurns.{short_clock_at}
+use Rattle.lus_classes.specs.Looks.{newest, short_of}
+use Rattle.lus_classes.specs.Passing.{PassGiven}
+use Rattle.lus_classes.specs.View.{chain_in, clock_from}
+use Rattle.lus_classes.proofs.ShortTurns.{short_clock_at}
 use Rattle.lus_running.specs.Fits.{OfClass}
 use Rattle.lus_running.specs.OnClocks.{PassOnClocks, PassesOnClock, PresentOnClock}
 use Rattle.lus_running.proofs.OneLook.{both_true, one_look}

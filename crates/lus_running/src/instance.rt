@@ -2,8 +2,8 @@
 
 ghost use Rattle.std.specs.Prelude.{◌≡◌, ◌↔◌, ◌<◌, IsTrue, suc, IfOk, OnErr, OnOk, length};
 ghost use Rattle.lus_classes.specs.States.{WithinDepth};
-ghost use Rattle.lus_instructions.specs.Turns.{AreReady};
-ghost use Rattle.lus_instructions.specs.View.{classes_of};
+ghost use Rattle.lus_classes.specs.Turns.{AreReady};
+ghost use Rattle.lus_classes.specs.View.{classes_of};
 ghost use Rattle.lus_keeping.specs.Keeping.{HaveFrames};
 ghost use Rattle.lus_running.specs.Fits.{FitsPresence, OfClass};
 ghost use Rattle.lus_running.specs.Instances.{HasFormals, HasRowsOfClass, IsBack, IsCopy, IsFresh, IsReset, KeepsSame, LeavesBehind};

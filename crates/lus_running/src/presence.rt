@@ -4,7 +4,7 @@
 ghost use Rattle.std.specs.Prelude.{◌≡◌, map};
 ghost use Rattle.lus_classes.specs.Classes.{clock_in};
 ghost use Rattle.lus_classes.specs.Steps.{is_on_row};
-ghost use Rattle.lus_instructions.specs.Looks.{newest, short_of};
+ghost use Rattle.lus_classes.specs.Looks.{newest, short_of};
 ghost use Rattle.lus_instructions.specs.Executed.{holds_in};
 
 use lus_instructions::{Class, Held, found_at};

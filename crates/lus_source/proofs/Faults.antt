@@ -8,7 +8,7 @@ use Rattle.lus_source.specs.ScopeView.{Faulty}
 
 pub faulty_by : {P Q : Type 0} → (P → Q) → (e : Fault) → Faulty P e → Faulty Q e
 faulty_by f faults.Memory h = tt
-faulty_by f (faults.At place) h = f h
+faulty_by f (faults.At place cause) h = f h
 
 -- what is passed on, whatever would hold of a value
 pub passed_on : {T P Q : Type 0} (A : T → Type 0) → (P → Q) → (r : Result T Fault) (e : Fault) → IsErrAnd r (λ y. y ≡ e) → Faulty P e → MatchResult r A (Faulty Q)

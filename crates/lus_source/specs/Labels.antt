@@ -7,7 +7,7 @@ use Rattle.lus_syntax.specs.Limits.{most_fields}
 use Rattle.lus_syntax.specs.Lexemes.{Text}
 use Rattle.lus_syntax.specs.Trees.{Label, Constructor, Boolean, Test, Holds, Fails, Is, Lead, Of, Branch, Parts, End, More}
 use Rattle.lus_values.specs.Values.{Value, enum}
-use Rattle.lus_program.specs.declared.expr.Test.{Test as PlacedTest}
+use Rattle.lus_values.specs.declared.test.Test.{Test as PlacedTest}
 use Rattle.lus_program.specs.declared.types.Kind.{Kind}
 use Rattle.lus_program.specs.declared.types.Kind.TheVariants as kinds
 use Rattle.lus_program.specs.Programs.{Declared, Field as DeclaredField}

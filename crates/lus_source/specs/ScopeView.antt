@@ -18,7 +18,7 @@ use Rattle.lus_source.specs.Tables.{placed}
 -- a fault at a place comes only where the fact holds
 abbrev pub Faulty : Type 0 → Fault → Type 0
 Faulty fact faults.Memory = Unit {0}
-Faulty fact (faults.At place) = fact
+Faulty fact (faults.At place cause) = fact
 
 -- what is given shows that the fact holds, and a fault at a place that it doesn't
 abbrev pub Judged : {T : Type 0} → Result T Fault → Type 0 → Type 0
@@ -31,7 +31,7 @@ Tested result test = MatchResult result (λ _. test ≡ true) (Faulty (test ≡ 
 -- the number of a fault in a pass that refuses by this one
 abbrev pub number_of : RefusalNumber → Fault → RefusalNumber
 number_of n faults.Memory = numbers.Memory
-number_of n (faults.At place) = n
+number_of n (faults.At place cause) = n
 
 abbrev pub signature_of : StoredSignature → Signature
 signature_of g = record { place = g.place; kind = g.kind; inputs = g.inputs.items; outputs = g.outputs.items }

@@ -10,11 +10,11 @@ ghost use Rattle.lus_program.specs.Refusals.{RefusesFor};
 ghost use Rattle.lus_source.specs.Tables.{groups};
 ghost use Rattle.lus_source.specs.Limits.{AreLeft};
 
-use crate::fault::Fault;
+use crate::fault::{Cause, Fault, Rejected};
 use crate::naming::Naming;
 use lus_syntax::{
     Definition, MOST_CONSTRUCTORS, MOST_DECLARATIONS, MOST_FIELDS, MOST_VARIABLES, Node, Place,
-    Refusal, RefusalNumber, Tree,
+    RefusalNumber, Tree,
 };
 use std::marker::Model;
 
@@ -74,14 +74,14 @@ impl Drop for Counted {
 
 /// Checks that a source declares no more than the limits admit. The place is that of a name past a limit, or of the type or
 /// the node that has too much.
-pub fn check_counts(tree: Tree) -> Result<Counted, Refusal>
+pub fn check_counts(tree: Tree) -> Result<Counted, Rejected>
     ensures same { IfOk result (λ counted. counted ≡ tree) }
     ensures ok { OnOk result (IsCounted (tree_seen tree)) }
-    ensures refused { IfErr result (RefusesFor numbers.Limit (IsCounted (tree_seen tree))) }
+    ensures refused { IfErr result (λ e. RefusesFor numbers.Limit (IsCounted (tree_seen tree)) e.refusal) }
 {
     match counts_fit(&tree) {
         Ok(()) => Ok(Counted::new(tree)),
-        Err(place) => Err(Fault::At(place).refusal(RefusalNumber::Limit)),
+        Err(place) => Err(Fault::At(place, Cause::Unsaid).rejected(RefusalNumber::Limit)),
     }
 }
 

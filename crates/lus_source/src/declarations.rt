@@ -9,7 +9,7 @@ ghost use Rattle.lus_source.specs.NameView.{known_seen, texts};
 ghost use Rattle.lus_source.specs.Parts.{AreDistinct};
 ghost use Rattle.lus_values.specs.Lists.{Each};
 
-use crate::fault::{Fault, refuse};
+use crate::fault::{Cause, Fault, refuse};
 use crate::names::Names;
 use crate::naming::{Constructors, Own, check_distinct, declare_all, first};
 use crate::using::{first_unknown, unknown_type};
@@ -27,7 +27,7 @@ pub fn declared(alloc: Global, tree: &Tree) -> Result<Names, Fault>
     declare_all::<Own, TypeDeclaration>(&mut names.types, &tree.types)?;
     declare_all(&mut names.constants, &tree.constants)?;
     declare_all::<Constructors, TypeDeclaration>(&mut names.constructors, &tree.types)?;
-    refuse(doubled_value(&names.constants, tree))?;
+    refuse(doubled_value(&names.constants, tree), Cause::Twice)?;
     declare_all(&mut names.nodes, &tree.nodes)?;
     Ok(names)
 }
@@ -73,10 +73,10 @@ fn check_definition(alloc: Global, names: &Names, definition: &Definition) -> Re
     ensures { Judged result (DefinitionNamed (known_seen names.now).types (definition_seen definition.now)) }
 {
     match definition {
-        Definition::Alias(name) => refuse(unknown_type(&names.types, name)),
+        Definition::Alias(name) => refuse(unknown_type(&names.types, name), Cause::Unknown),
         Definition::Enumeration(_) => Ok(()),
         Definition::Structure(fields) => {
-            refuse(first_unknown(names, fields))?;
+            refuse(first_unknown(names, fields), Cause::Unknown)?;
             check_distinct(alloc, fields)
         }
     }

@@ -9,7 +9,7 @@ ghost use Rattle.lus_source.specs.ScopeView.{Faulty};
 ghost use Rattle.lus_source.specs.NameView.{texts};
 ghost use Rattle.lus_source.specs.Parts.{LeftsNamed};
 
-use crate::fault::{Fault, refuse};
+use crate::fault::{Cause, Fault, refuse};
 use crate::naming::{absent, declare_all};
 use crate::nodes::declare_defined;
 use indexmap::IndexSet;
@@ -22,7 +22,7 @@ pub fn check_lefts(table: &mut IndexSet<String>, node: &Node) -> Result<(), Faul
     ensures refused { let f = node_seen node.now in
         IfErr result (Faulty (Distinct (names_in (groups f)) → LeftsNamed f → ⊥)) }
 {
-    refuse(without_left(node))?;
+    refuse(without_left(node), Cause::Unsaid)?;
     table.clear();
     check_defined(table, node)?;
     table.clear();
@@ -38,7 +38,7 @@ fn check_defined(defined: &mut IndexSet<String>, node: &Node) -> Result<(), Faul
         IfErr result (Faulty (all_new before (defined_names f) ≡ true → list_all (is_in (before ++ defined_names f)) (left_names f) ≡ true → ⊥)) }
 {
     declare_defined(defined, node)?;
-    refuse(absent(defined, &node.equations))
+    refuse(absent(defined, &node.equations), Cause::Undefinable)
 }
 
 /// Adds the left sides to a table, which then has each output and each local.
@@ -51,7 +51,10 @@ fn check_whole(left: &mut IndexSet<String>, node: &Node) -> Result<(), Fault>
         IfErr result (Faulty (all_new before (left_names f) ≡ true → list_all (is_in (before ++ left_names f)) (defined_names f) ≡ true → ⊥)) }
 {
     declare_all(left, &node.equations)?;
-    refuse(absent(left, &node.outputs).or(absent(left, &node.locals)))
+    refuse(
+        absent(left, &node.outputs).or(absent(left, &node.locals)),
+        Cause::Undefined,
+    )
 }
 
 /// The name of a node that has an equation with nothing on its left: such an equation comes from no text, and has no place of

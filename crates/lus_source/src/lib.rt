@@ -23,7 +23,7 @@ mod values;
 
 pub use counts::{Counted, check_counts};
 pub use entries::{Constructor, Placed, Signature};
-pub use fault::Fault;
+pub use fault::{Cause, Fault, Member, Rejected, Whole};
 pub use loopless::{Loopless, check_recursion};
 pub use named::{Named, check_names};
 pub use places::{Places, Spaces, find};

@@ -5,20 +5,21 @@ ghost use Rattle.lus_graph.specs.Ways.{IsOrder, HasNoWayBack};
 ghost use Rattle.lus_syntax.specs.declared.refusal.RefusalNumber.TheVariants as numbers;
 ghost use Rattle.lus_syntax.specs.View.{tree_seen};
 ghost use Rattle.lus_program.specs.Refusals.{RefusesFor};
+ghost use Rattle.lus_program.specs.Sound.{HaveOrder};
 ghost use Rattle.lus_source.specs.Loopless.{Loopless as IsLoopless, node_uses as calls_of_nodes, type_names as names_of_types, type_uses as uses_of_types};
 ghost use Rattle.lus_source.specs.Named.{Named as IsNamed};
 ghost use Rattle.lus_source.specs.ScopeView.{Judged, Faulty};
 ghost use Rattle.lus_source.specs.Sized.{Counted as IsCounted};
 
 use crate::declarations::declared;
-use crate::fault::Fault;
+use crate::fault::{Cause, Fault, Rejected};
 use crate::named::Named;
 use crate::nodes::declare_variables;
 use crate::places::Places;
 use crate::uses::{node_uses, type_uses};
 use crate::using::first_unknown;
 use lus_graph::{GraphError, order_of};
-use lus_syntax::{Node, Place, Refusal, RefusalNumber, Tree};
+use lus_syntax::{Node, Place, RefusalNumber, Tree};
 use std::alloc::Global;
 use std::marker::Model;
 
@@ -89,6 +90,7 @@ impl Loopless {
     pub fn into_parts(self) -> (Tree, Vec<usize>)
         ensures tree { result.0 ≡ self }
         ensures nodes { IsOrder (calls_of_nodes (tree_seen self)) result.1.items }
+        ensures types { HaveOrder (uses_of_types (tree_seen self)) }
     {
         let Loopless {
             named,
@@ -111,14 +113,14 @@ impl Drop for Loopless {
 }
 
 /// Checks that nothing leads back to itself; a refusal stands at a type's name, or at a call's.
-pub fn check_recursion(alloc: Global, named: Named) -> Result<Loopless, Refusal>
+pub fn check_recursion(alloc: Global, named: Named) -> Result<Loopless, Rejected>
     ensures same { IfOk result (λ loopless. loopless ≡ named) }
     ensures ok { OnOk result (IsLoopless (tree_seen named)) }
-    ensures refused { IfErr result (RefusesFor numbers.Recursion (IsLoopless (tree_seen named))) }
+    ensures refused { IfErr result (λ e. RefusesFor numbers.Recursion (IsLoopless (tree_seen named)) e.refusal) }
 {
     match ordered(alloc, named) {
         Ok(loopless) => Ok(loopless),
-        Err(fault) => Err(fault.refusal(RefusalNumber::Recursion)),
+        Err(fault) => Err(fault.rejected(RefusalNumber::Recursion)),
     }
 }
 
@@ -146,7 +148,10 @@ pub fn order_of_types(alloc: Global, named: &Named) -> Result<Vec<usize>, Fault>
     match order_of(alloc, &uses) {
         Ok(order) => Ok(order),
         Err(GraphError::Memory) => Err(Fault::Memory),
-        Err(GraphError::Cycle(cycle)) => Err(Fault::At(place_of_type(named.tree(), &cycle))),
+        Err(GraphError::Cycle(cycle)) => {
+            let place = place_of_type(named.tree(), &cycle);
+            Err(Fault::At(place, Cause::Unsaid))
+        },
     }
 }
 
@@ -184,17 +189,17 @@ fn place_of_type(tree: &Tree, cycle: &[usize]) -> Place {
 /// The fault at the call by which the first node of a cycle leads to the next.
 fn fault_at_call(alloc: Global, tree: &Tree, cycle: &[usize]) -> Fault {
     let Some(first) = cycle.first() else {
-        return Fault::At(FIRST_PLACE);
+        return Fault::At(FIRST_PLACE, Cause::Unsaid);
     };
     let next = cycle.get(1).unwrap_or(first);
     let Some(caller) = tree.nodes.get(*first) else {
-        return Fault::At(FIRST_PLACE);
+        return Fault::At(FIRST_PLACE, Cause::Unsaid);
     };
     let Some(called) = tree.nodes.get(*next) else {
-        return Fault::At(FIRST_PLACE);
+        return Fault::At(FIRST_PLACE, Cause::Unsaid);
     };
     match place_of_call(alloc, tree, caller, &called.name.text) {
-        Ok(place) => Fault::At(place),
+        Ok(place) => Fault::At(place, Cause::Unsaid),
         Err(fault) => fault,
     }
 }

@@ -14,12 +14,12 @@ ghost use Rattle.lus_source.specs.Tables.{groups, node_at};
 
 use crate::counts::Counted;
 use crate::declarations::{check_definitions, declared};
-use crate::fault::{Fault, refuse};
+use crate::fault::{Cause, Fault, Rejected, refuse};
 use crate::names::Names;
 use crate::nodes::check_nodes;
 use crate::places::{Places, Spaces};
 use crate::using::first_unknown;
-use lus_syntax::{Refusal, RefusalNumber, Tree};
+use lus_syntax::{RefusalNumber, Tree};
 use std::alloc::Global;
 use std::marker::Model;
 
@@ -113,14 +113,14 @@ impl Drop for Named {
 /// Checks the names of a source. A fault stands at the name: a doubled one where it is declared again, an unknown one where it
 /// is used, an output or a local without an equation where it is declared, an equation with nothing on its left at its node's
 /// name.
-pub fn check_names(alloc: Global, counted: Counted) -> Result<Named, Refusal>
+pub fn check_names(alloc: Global, counted: Counted) -> Result<Named, Rejected>
     ensures same { IfOk result (λ named. named ≡ counted) }
     ensures ok { OnOk result (IsNamed (tree_seen counted)) }
-    ensures refused { IfErr result (RefusesFor numbers.Name (IsNamed (tree_seen counted))) }
+    ensures refused { IfErr result (λ e. RefusesFor numbers.Name (IsNamed (tree_seen counted)) e.refusal) }
 {
     match with_names(alloc, counted) {
         Ok(named) => Ok(named),
-        Err(fault) => Err(fault.refusal(RefusalNumber::Name)),
+        Err(fault) => Err(fault.rejected(RefusalNumber::Name)),
     }
 }
 
@@ -148,6 +148,6 @@ fn check_uses(alloc: Global, names: &mut Names, counted: &Counted) -> Result<Vec
 {
     let tree = counted.tree();
     check_definitions(alloc, names, &tree.types)?;
-    refuse(first_unknown(names, &tree.constants))?;
+    refuse(first_unknown(names, &tree.constants), Cause::Unknown)?;
     check_nodes(alloc, names, &tree.nodes)
 }

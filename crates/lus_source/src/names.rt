@@ -8,7 +8,7 @@ ghost use Rattle.lus_source.specs.Named.{is_in, all_new, knows, knows_parts};
 ghost use Rattle.lus_source.specs.NameView.{texts, known_seen};
 ghost use Rattle.lus_source.specs.ScopeView.{Tested};
 
-use crate::fault::Fault;
+use crate::fault::{Cause, Fault};
 use crate::places::{Places, Spaces};
 use indexmap::IndexSet;
 use lus_syntax::{Expr, Label, Lead, Name, Part, Place, Test};
@@ -70,7 +70,7 @@ pub fn declare(table: &mut IndexSet<String>, names: &[Name]) -> Result<(), Fault
     for name in names {
         let (_, is_new) = table.insert_full(name.text.clone()?)?;
         if !is_new {
-            return Err(Fault::At(name.span.start));
+            return Err(Fault::At(name.span.start, Cause::Twice));
         }
     }
     Ok(())

@@ -11,7 +11,7 @@ ghost use Rattle.lus_source.specs.Sized.{variable_count};
 ghost use Rattle.lus_source.specs.NameView.{known_seen, texts};
 ghost use Rattle.lus_source.specs.Parts.{in_node, node_known};
 
-use crate::fault::{Fault, refuse};
+use crate::fault::{Cause, Fault, refuse};
 use crate::left::check_lefts;
 use crate::names::Names;
 use crate::naming::declare_all;
@@ -46,7 +46,7 @@ fn check_node(alloc: Global, names: &mut Names, node: &Node) -> Result<Places, F
     ensures variables { IfOk result (λ own. own ≡ names_in (groups (node_seen node.now))) }
 {
     declare_variables(&mut names.variables, node)?;
-    refuse(unknown_in_node(names, node))?;
+    refuse(unknown_in_node(names, node), Cause::Unknown)?;
     let variables = Places::new(mem::replace(&mut names.variables, IndexSet::new(alloc)));
     check_lefts(&mut names.variables, node)?;
     names.variables.clear();

@@ -18,27 +18,27 @@ ghost use Rattle.lus_graph.specs.Walks.{uses_of};
 ghost use Rattle.lus_graph.specs.Ways.{used, IsOrder};
 ghost use Rattle.lus_graph.specs.Along.{IsFilled, within};
 
-use crate::fault::Fault;
+use crate::fault::{Cause, Fault, Rejected};
 use crate::loopless::Loopless;
 use crate::tabled::Tabled;
 use crate::uses::node_uses;
 use lus_graph::{Rule, along};
 use lus_program::{Declared, Field, Kind};
 use lus_syntax::{
-    MOST_CALLS_DEEP, MOST_LEAVES, MOST_NESTING, Name, Node, Refusal, RefusalNumber, TypeDeclaration,
+    MOST_CALLS_DEEP, MOST_LEAVES, MOST_NESTING, Name, Node, RefusalNumber, TypeDeclaration,
 };
 use std::alloc::Global;
 
 /// Checks leaves and nesting of types and call depth of nodes against the limits, and gives the leaves. A refusal stands at the
 /// declared name.
-pub fn check_sizes(alloc: Global, tabled: &Tabled) -> Result<Vec<u32>, Refusal>
+pub fn check_sizes(alloc: Global, tabled: &Tabled) -> Result<Vec<u32>, Rejected>
     ensures leaves { IfOk result (λ leaves. AreTheLeaves (program_of (tree_seen tabled.now)) leaves.items) }
     ensures ok { OnOk result (Bounded (tree_seen tabled.now)) }
-    ensures refused { IfErr result (RefusesFor numbers.Limit (Bounded (tree_seen tabled.now))) }
+    ensures refused { IfErr result (λ e. RefusesFor numbers.Limit (Bounded (tree_seen tabled.now)) e.refusal) }
 {
     match sizes(alloc, tabled) {
         Ok(leaves) => Ok(leaves),
-        Err(fault) => Err(fault.refusal(RefusalNumber::Limit)),
+        Err(fault) => Err(fault.rejected(RefusalNumber::Limit)),
     }
 }
 
@@ -268,7 +268,7 @@ pub fn measured<R: Rule<u32>, T: HasName>(
     let unknown = vec![in alloc; 0u32; things.len()]?;
     match along(rule, order, unknown) {
         Ok(table) => Ok(table),
-        Err(thing) => Err(Fault::At(things[thing].name().span.start)),
+        Err(thing) => Err(Fault::At(things[thing].name().span.start, Cause::Unsaid)),
     }
 }
 

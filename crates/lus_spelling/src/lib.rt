@@ -8,9 +8,11 @@ ghost use Rattle.lus_spelling.specs.Declarations.{SpellsProgram};
 
 mod form;
 mod mixing;
+mod shape;
 
 pub use form::Form;
 pub use mixing::Mixing;
+pub use shape::primary_shape;
 
 /// Tokens spell at most one tree.
 #[tactic(auto, using(crate::proofs::CompleteDeclarations::one_tree))]

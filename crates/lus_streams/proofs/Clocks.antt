@@ -1,7 +1,7 @@
 -- One step of a variable's clock, and the operands that clocks of outputs are renamed after.
 use Rattle.std.proofs.Common.{◌≡◌, ℕ, zero, suc, List, [], ◌∷◌, Option, Some, None, refl, ap, ◌∙◌}
 use Rattle.lus_values.specs.Lists.{item}
-use Rattle.lus_program.specs.declared.expr.Test.{Test}
+use Rattle.lus_values.specs.declared.test.Test.{Test}
 use Rattle.lus_program.specs.Programs.{Operands, none, more, Variable, no_variable}
 use Rattle.lus_streams.specs.Clocks.{Clock, chain}
 use Rattle.lus_streams.specs.OnClock.{actuals}

@@ -4,10 +4,11 @@ use Rattle.lus_values.specs.Values.{Value, nil, Row}
 use Rattle.lus_program.specs.Programs.{Expression, literal, variable, operate, pre, arrow, when, merge, call, Operands, none, more, Equation, Node, Program, node_at, empty_node}
 use Rattle.lus_values.specs.Lists.{Each, Below}
 use Rattle.lus_values.specs.Operators.{apply}
+use Rattle.lus_values.specs.Entries.{with_operand, with_operands}
 use Rattle.lus_streams.specs.Clocks.{Clock, clock_of, Part, at, formal_clock, base_of, branch_clock, parts, all_parts}
 use Rattle.lus_streams.specs.Equations.{Definition, given_by, equation_clock, definition_of, equation_parts, node_parts, Site, sites}
 use Rattle.lus_streams.specs.OnClock.{DefinedOnClock, PartOnClock, RightOnClock, IsOnClocks}
-use Rattle.lus_streams.specs.Streams.{Instant, instant, Called, nobody, also, World, row_of, entry, called_instant, called_world, holds, is_on, at_last, with_operand, with_operands, where_on, output, value, values, branch, inputs_given, definition_value, Follows, EquationsHold, IsInstant, EachCall, Satisfies}
+use Rattle.lus_streams.specs.Streams.{Instant, instant, Called, nobody, also, World, row_of, entry, called_instant, called_world, holds, is_on, at_last, where_on, output, value, values, branch, inputs_given, definition_value, Follows, EquationsHold, IsInstant, EachCall, Satisfies}
 use Rattle.lus_streams.specs.Throughout.{Throughout, ThroughoutCalls}
 use Rattle.lus_streams.specs.Order.{needs, needs_all, clock_variables, needs_right, needed, HasOrder}
 use Rattle.lus_streams.specs.Flags.{IsNilFree, flag, greatest, Required, DefinedFlag, AreFlagsOf, was_on, FlagHolds, PartFlagHolds, FlagsHold, OutputIs, HasOutput, CallsHaveOutputs}

@@ -4,11 +4,12 @@ use Rattle.lus_values.specs.declared.operator.Op.TheVariants.{Add, Divide}
 use Rattle.lus_values.specs.declared.operator.Operator.TheVariants.{Compute}
 use Rattle.lus_values.specs.Lists.{item}
 use Rattle.lus_values.specs.Operators.{apply}
+use Rattle.lus_values.specs.Entries.{with_operand, with_operands}
 use Rattle.lus_program.specs.Programs.{variable, operate, pre, arrow, merge, Node}
 use Rattle.lus_streams.specs.OnClock.{IsOnClocks, ProgramOnClocks}
 use Rattle.lus_streams.specs.Order.{IsOrder, HasOrder, IsCausal, needed, is_in}
 use Rattle.lus_streams.specs.Flags.{AreFlagsOf}
-use Rattle.lus_streams.specs.Streams.{instant, World, Streams, with_operand, with_operands, value}
+use Rattle.lus_streams.specs.Streams.{instant, World, Streams, value}
 use Rattle.lus_streams.proofs.Examples.{plain, tested, equation, node, program, two, number, some, truth, counter, counted, restarted, summed, summed_at, sum_at_limit, sampled, counted_on, merged, divided_late, divided_early, divided_by_past, divided_by_past_at, nil_divides_without_fault}
 use Rattle.lus_streams.proofs.Lists.{item_take}
 use Rattle.lus_streams.proofs.Orders.{no_cycle}

@@ -1,13 +1,14 @@
 -- Streams are unique.
 use Rattle.std.proofs.Common.{◌≡◌, ℕ, zero, suc, ◌+◌, ◌<◌, ◌≤◌, nat_lt, Bool, true, false, ◌&&◌, List, [], ◌∷◌, map, length, take, drop, Option, Some, None, refl, sym, ap, ap₂, ◌∙◌, subst, IsTrue, MatchBool, is_some, ⊎_elim, suc-ne-zero}
 use Rattle.std.proofs.lemmas.Bool.{ltb-true, cases_lt}
-use Rattle.lus_program.specs.declared.expr.Test.{Test}
+use Rattle.lus_values.specs.declared.test.Test.{Test}
 use Rattle.lus_program.specs.Programs.{Expression, literal, variable, operate, pre, arrow, when, merge, call, Operands, none, more, Node, Program, node_at, empty_node}
 use Rattle.lus_values.specs.Lists.{item, Each}
 use Rattle.lus_values.specs.Operators.{apply}
 use Rattle.lus_streams.specs.Clocks.{Clock, clock_of, Part, operand, renamed_clock, renamed_test, formal_clock, base_of, branch_clock, parts, all_parts}
 use Rattle.lus_values.specs.Values.{Row}
-use Rattle.lus_streams.specs.Streams.{Instant, instant, Called, nobody, also, World, is_present, row_of, entry, called_instant, called_world, is_constructor, is_on, at_last, with_operand, with_operands, where_on, value, values, branch, inputs_given, definition_value, Follows, EquationsHold, IsInstant, EachCall, Satisfies, Streams}
+use Rattle.lus_values.specs.Entries.{is_constructor, with_operand, with_operands}
+use Rattle.lus_streams.specs.Streams.{Instant, instant, Called, nobody, also, World, is_present, row_of, entry, called_instant, called_world, is_on, at_last, where_on, value, values, branch, inputs_given, definition_value, Follows, EquationsHold, IsInstant, EachCall, Satisfies, Streams}
 use Rattle.lus_streams.specs.Equations.{Definition, given_by, definition_of, node_parts, Site, sites}
 use Rattle.lus_streams.specs.OnClock.{actuals, DefinedOnClock, IsOnClocks, ProgramOnClocks}
 use Rattle.lus_streams.specs.Order.{needs, needs_all, clock_variables, needs_right, needed, HasOrder, IsCausal}

@@ -1,7 +1,7 @@
 -- Which programs are on clocks (Lustre V6 reference manual, "Clocks").
 use Rattle.std.specs.Prelude.{◌≡◌, ℕ, suc, ◌+◌, ◌<◌, List, [], ◌∷◌, ◌++◌, length, Option, Some, None}
 use Rattle.lus_values.specs.Lists.{item, Each, Below}
-use Rattle.lus_program.specs.declared.expr.Test.{Test}
+use Rattle.lus_values.specs.declared.test.Test.{Test}
 use Rattle.lus_program.specs.Programs.{Expression, variable, when, merge, call, Operands, none, more, Equation, Node, Program, no_variable, node_at}
 use Rattle.lus_streams.specs.Clocks.{Clock, clock_of, Part, at, operand, renamed_clock, base_of, parts}
 use Rattle.lus_streams.specs.Equations.{Definition, given_by, equation_clock}

@@ -3,7 +3,8 @@
 use Rattle.std.specs.Prelude.{◌≡◌, ℕ, zero, suc, ◌+◌, drop, Bool, true, false, ◌&&◌, nat_eq, nat_lt, List, [], ◌∷◌, map, length, take, Option, Some, None, is_some, IsSome, IsTrue, MatchBool, if◌then◌else◌}
 use Rattle.lus_values.specs.Lists.{item, Each, Below}
 use Rattle.lus_values.specs.Operators.{apply}
-use Rattle.lus_values.specs.Values.{Value, bool, enum, nil, Row}
+use Rattle.lus_values.specs.Values.{Value, nil, Row}
+use Rattle.lus_values.specs.Entries.{is_constructor, with_operand, with_operands}
 use Rattle.lus_program.specs.Programs.{Expression, literal, variable, operate, pre, arrow, when, merge, call, Operands, none, more, Node, Program, node_at}
 use Rattle.lus_streams.specs.Clocks.{Clock, clock_of, Part, at, formal_clock}
 use Rattle.lus_streams.specs.Equations.{Definition, given_by, definition_of, node_parts, Site, sites}
@@ -47,12 +48,6 @@ called_instant c (instant b row js) = called_at js c
 abbrev pub called_world : ℕ → World → World
 called_world c w = map (called_instant c) w
 
--- a value is this constructor; of a truth value, 0 is false and 1 is true
-abbrev pub is_constructor : ℕ → Option Value → Bool
-is_constructor c (Some (bool b)) = nat_eq c (if b then 1 else 0)
-is_constructor c (Some (enum t d)) = nat_eq c d
-is_constructor c _ = false
-
 -- variable x holds constructor c
 abbrev pub holds : ℕ → ℕ → Instant → Bool
 holds x c i = is_constructor c (entry i x)
@@ -66,16 +61,6 @@ is_on (t ∷ k) i = holds t.variable t.constructor i && is_on k i
 abbrev pub at_last : {X : Type 0} → Clock → World → X → (Instant → World → X) → X
 at_last k [] d f = d
 at_last k (i ∷ past) d f = elim (is_on k i) [ true ↦ f i past | false ↦ at_last k past d f ]
-
--- one more operand: where either has no value, they have none
-abbrev pub with_operand : Option Value → Option (List Value) → Option (List Value)
-with_operand None vs = None
-with_operand (Some v) None = None
-with_operand (Some v) (Some vs) = Some (v ∷ vs)
-
-abbrev pub with_operands : (List Value → Option Value) → Option (List Value) → Option Value
-with_operands f None = None
-with_operands f (Some vs) = f vs
 
 -- an entry is absent where its clock is
 abbrev pub where_on : Bool → Option Value → Option Value

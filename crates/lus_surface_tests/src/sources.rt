@@ -2,7 +2,7 @@
 
 use lus_clocks::{Clocked, Initialised, check_clocks, check_nil};
 use lus_eval::lus_code::{Code, translate};
-use lus_eval::lus_normal::{Normal, has_few_parts, normalise};
+use lus_eval::lus_normal::{Normal, normalise};
 use lus_eval::lus_order::{Ordered, order};
 use lus_grammar::parse;
 use lus_syntax::{NodeId, Refusal, RefusalNumber, Span, Token, Tree, lex};
@@ -60,13 +60,9 @@ pub fn ordered_of(alloc: Global, initialised: Initialised) -> Result<Ordered, Re
     order(alloc, initialised)
 }
 
-/// The program, in normal form, where its parts are few enough.
-pub fn normal_of(alloc: Global, ordered: Ordered) -> Option<Result<Normal, Refusal>> {
-    if has_few_parts(ordered.program()) {
-        Some(normalise(alloc, ordered))
-    } else {
-        None
-    }
+/// The program, in normal form.
+pub fn normal_of(alloc: Global, ordered: Ordered) -> Result<Normal, Refusal> {
+    normalise(alloc, ordered)
 }
 
 /// The code of a program.

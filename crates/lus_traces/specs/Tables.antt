@@ -5,6 +5,7 @@ use Rattle.std.specs.List.{list_any, slice_split}
 use Rattle.lus_values.specs.Names.{Names, Text}
 use Rattle.lus_values.specs.Text.{text_of}
 use Rattle.lus_values.specs.Values.{Row, Value}
+use Rattle.lus_printable.specs.Printable.{printable}
 use Rattle.lus_diagrams.specs.Columns.{Column}
 use Rattle.lus_diagrams.specs.declared.lineage.Head.{Head}
 use Rattle.lus_diagrams.specs.declared.lineage.Head.TheVariants.{Instant, Burst, Reset, Save, Restore}
@@ -29,7 +30,7 @@ cell_text t = if needs_quotes t then quoted t else t
 abbrev pub following : Text → Text
 following t = codes "," ++ cell_text t
 
--- ---- tables: behind the instance's name come the number of an instant, the name of an event, and the values
+-- ---- tables: behind the instance's name, as it may be printed, come the number of an instant, the name of an event, and the values
 
 abbrev pub title_of : Head → Text
 title_of (Instant n) = decimal n
@@ -58,8 +59,12 @@ cells_under names signals h row = event_cells (title_of h) signals
 abbrev pub others_text : Names → List Text → Column → Text
 others_text names signals c = flat_map following (cells_under names signals c.head c.cells)
 
+-- behind the instance's name
+abbrev pub named_text : Names → Text → List Text → Column → Text
+named_text names instance signals c = cell_text instance ++ others_text names signals c ++ codes "\n"
+
 abbrev pub column_text : Names → Trace → Column → Text
-column_text names t c = cell_text t.instance ++ others_text names t.names c ++ codes "\n"
+column_text names t c = named_text names (printable t.instance) t.names c
 
 unfoldable pub head_text : List Text → Text
 head_text signals = codes "instance name,instant number,event name" ++ flat_map following signals ++ codes "\n"

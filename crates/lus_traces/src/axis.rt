@@ -6,7 +6,8 @@ use crate::markup::push_escaped;
 use crate::time::Time;
 use crate::words::{push_word, width};
 use lus_diagrams::Refusal;
-use std::alloc::AllocError;
+use lus_printable::printable;
+use std::alloc::{AllocError, Global};
 
 /// From the top of an instance's waves to the numbers of its instants, to the line below them, and to the marks of refused calls.
 const NUMBERS: usize = 520;
@@ -82,6 +83,7 @@ pub(crate) fn push_events(
 
 /// Appends a red mark above the lanes where calls were refused, with their lines of the journal as its title.
 pub(crate) fn push_refusals(
+    alloc: Global,
     out: &mut String,
     time: Time,
     lines: &[Line<'_>],
@@ -104,7 +106,8 @@ pub(crate) fn push_refusals(
             )?;
             last = Some(refusal.behind);
         }
-        push_escaped(out, text_at(lines, refusal.line))?;
+        let line = printable(alloc, text_at(lines, refusal.line).as_bytes())?;
+        push_escaped(out, &line)?;
     }
     if last.is_some() {
         out.push_str("</title></path>\n")?;

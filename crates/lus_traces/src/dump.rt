@@ -7,6 +7,7 @@ use crate::runs::runs_of;
 use crate::scopes::push_way;
 use crate::trace::{SignalKind, Trace};
 use crate::values::{entry_text, same_entry};
+use lus_printable::printable;
 use lus_values::{Memory, Names, Value};
 use std::alloc::{AllocError, Global};
 
@@ -74,7 +75,8 @@ fn push_signals(alloc: Global, out: &mut String, scope: &Scope<'_>) -> Result<()
 /// Appends the declarations of an instance: the number of the instant, an event and its name, and below the node's name its signals.
 fn push_scope(alloc: Global, out: &mut String, scope: &Scope<'_>) -> Result<(), AllocError> {
     let (number, heading) = (scope.number, &scope.trace.heading);
-    write!(out, "$scope module {} $end\n", heading.instance)?;
+    let instance = printable(alloc, heading.instance.as_bytes())?;
+    write!(out, "$scope module {instance} $end\n")?;
     write!(out, "$var integer 64 n{number} instant $end\n")?;
     write!(out, "$var event 1 e{number} event $end\n")?;
     write!(out, "$var string 1 t{number} events $end\n")?;

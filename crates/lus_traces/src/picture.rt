@@ -8,6 +8,7 @@ use crate::time::Time;
 use crate::titles::push_early;
 use crate::trace::{Trace, is_local};
 use crate::words::push_word;
+use lus_printable::printable;
 use lus_values::{Memory, Names};
 use std::alloc::{AllocError, Global};
 
@@ -75,7 +76,8 @@ struct Drawn<'a> {
 
 fn waves_of(alloc: Global, trace: &Trace, from: u64, left: usize) -> Result<Drawn<'_>, AllocError> {
     let heading = &trace.heading;
-    let mut title = format!(in alloc; "{}: {}", heading.instance, heading.node)?;
+    let instance = printable(alloc, heading.instance.as_bytes())?;
+    let mut title = format!(in alloc; "{instance}: {}", heading.node)?;
     push_early(&mut title, heading)?;
     let frames = frames_of(alloc, &trace.table.columns)?;
     // without the beginning and the end
@@ -115,7 +117,7 @@ fn push_instance(
     let signals = &waves.trace.signals;
     push_lanes(alloc, out, names, signals, frames, time, lanes)?;
     push_events(out, time, frames, top, bottom)?;
-    push_refusals(out, time, lines, &waves.trace.table.refusals, top)?;
+    push_refusals(alloc, out, time, lines, &waves.trace.table.refusals, top)?;
     Ok(())
 }
 

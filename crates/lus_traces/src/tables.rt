@@ -3,13 +3,14 @@
 ghost use Rattle.std.specs.Prelude.{◌≡◌, ◌++◌, [], IfOk, OnOk, flat_map, map, string_bytes};
 ghost use Rattle.lus_values.specs.View.{entry_of};
 ghost use Rattle.lus_diagrams.specs.ColumnView.{column_seen};
-ghost use Rattle.lus_traces.specs.Tables.{cell_text, column_text, csv_text, following, head_text, needs_quotes, next_table, others_text, quoted, shown, table_text};
+ghost use Rattle.lus_traces.specs.Tables.{cell_text, csv_text, following, head_text, named_text, needs_quotes, next_table, others_text, quoted, shown, table_text};
 ghost use Rattle.lus_traces.specs.Traces.{name_of, trace_seen};
 
 use crate::cutting::parts_between;
 use crate::titles::title_of;
 use crate::trace::{Signal, Trace};
 use lus_diagrams::{Column, Head};
+use lus_printable::printable;
 use lus_values::{Memory, Names, Value, push_value};
 use std::alloc::{AllocError, Global};
 
@@ -119,18 +120,19 @@ fn push_head(alloc: Global, out: &mut String, signals: &[Signal]) -> Result<(), 
     out.push_str("\n")
 }
 
-/// Appends the line of a column.
+/// Appends the line of a column, behind the instance's name.
 fn push_column(
     alloc: Global,
     out: &mut String,
     names: &Names,
-    trace: &Trace,
+    instance: &str,
+    signals: &[Signal],
     column: &Column,
 ) -> Result<(), Memory>
-    ensures { OnOk result (string_bytes out.new ≡ string_bytes out.old ++ column_text names.now (trace_seen trace.now) (column_seen column.now)) }
+    ensures { OnOk result (string_bytes out.new ≡ string_bytes out.old ++ named_text names.now instance.now (map name_of signals.now) (column_seen column.now)) }
 {
-    push_cell(alloc, out, &trace.heading.instance)?;
-    push_others(alloc, out, names, &trace.signals, column)?;
+    push_cell(alloc, out, instance)?;
+    push_others(alloc, out, names, signals, column)?;
     out.push_str("\n")?;
     Ok(())
 }
@@ -141,8 +143,9 @@ fn push_table(alloc: Global, out: &mut String, names: &Names, trace: &Trace) -> 
     ensures { OnOk result (string_bytes out.new ≡ string_bytes out.old ++ table_text names.now (trace_seen trace.now)) }
 {
     push_head(alloc, out, &trace.signals)?;
+    let instance = printable(alloc, trace.heading.instance.as_bytes())?;
     for column in &trace.table.columns {
-        push_column(alloc, out, names, trace, column)?;
+        push_column(alloc, out, names, &instance, &trace.signals, column)?;
     }
     Ok(())
 }

@@ -6,6 +6,7 @@ use crate::titles::{push_early, title_of};
 use crate::trace::{Signal, Trace};
 use crate::values::entry_text;
 use lus_diagrams::Column;
+use lus_printable::printable;
 use lus_values::{Memory, Names};
 use std::alloc::{AllocError, Global};
 
@@ -104,7 +105,8 @@ fn push_trace(
     trace: &Trace,
 ) -> Result<(), Memory> {
     let heading = &trace.heading;
-    write!(out, "instance {} {}", heading.instance, heading.node)?;
+    let instance = printable(alloc, heading.instance.as_bytes())?;
+    write!(out, "instance {instance} {}", heading.node)?;
     push_early(out, heading)?;
     out.push_str("\n")?;
     let mut columns = Vec::new(alloc);
@@ -116,7 +118,8 @@ fn push_trace(
         out.push_str("\n")?;
     }
     for refusal in &trace.table.refusals {
-        write!(out, "{}\n", text_at(lines, refusal.line))?;
+        let line = printable(alloc, text_at(lines, refusal.line).as_bytes())?;
+        write!(out, "{line}\n")?;
     }
     Ok(())
 }

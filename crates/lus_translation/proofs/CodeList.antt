@@ -7,7 +7,7 @@ use Rattle.lus_program.specs.View.{expression_of, operands_of}
 use Rattle.lus_streams.specs.Clocks.{Clock}
 use Rattle.lus_instructions.specs.declared.formula.Formula.{Formula}
 use Rattle.lus_classes.specs.Classes.{Code, also_code}
-use Rattle.lus_instructions.specs.View.{code_of, codes_of}
+use Rattle.lus_classes.specs.View.{code_of, codes_of}
 use Rattle.lus_translation.specs.declared.kept.Kept.{Kept}
 use Rattle.lus_translation.specs.Forms.{all_kept_cells, all_kept_firsts, code_list, codes_form, kept_cells, kept_firsts}
 use Rattle.lus_translation.specs.Building.{IsCodeFrom, KeepsCells, KeepsFirsts, next_cell, next_first}

@@ -5,7 +5,7 @@ use Rattle.lus_program.specs.Programs.{Expression, literal, Program}
 use Rattle.lus_streams.specs.Clocks.{Clock}
 use Rattle.lus_classes.specs.Classes.{Code, Step, Call}
 use Rattle.lus_instructions.specs.declared.class.Step.{Step as StoredStep}
-use Rattle.lus_instructions.specs.View.{steps_in, steps_of}
+use Rattle.lus_classes.specs.View.{steps_in, steps_of}
 use Rattle.lus_translation.specs.Forms.{call_first, code_form, given_steps, kept_cells, kept_firsts}
 
 pub steps_pushed : (ss : List StoredStep) (s : StoredStep) → steps_of (ss ++ s ∷ []) ≡ steps_of ss ++ steps_in s

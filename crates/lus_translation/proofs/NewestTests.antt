@@ -3,7 +3,7 @@ use Rattle.std.proofs.Common.{◌≡◌, ◌∙◌, ℕ, zero, suc, ◌+◌, ◌
 use Rattle.std.proofs.Math.ListN.{get_or-map, length-map}
 use Rattle.std.proofs.lemmas.Simd.{map-map}
 use Rattle.lus_values.specs.Lists.{item, Each}
-use Rattle.lus_program.specs.declared.expr.Test.{Test}
+use Rattle.lus_values.specs.declared.test.Test.{Test}
 use Rattle.lus_program.specs.declared.node.Variable.{Variable as StoredVariable}
 use Rattle.lus_program.specs.Programs.{Variable, Node, no_variable}
 use Rattle.lus_program.specs.View.{variable_of}
@@ -17,7 +17,7 @@ use Rattle.lus_instructions.specs.declared.class.Cell.{Cell}
 use Rattle.lus_instructions.specs.declared.class.Argument.{Argument as StoredArgument}
 use Rattle.lus_instructions.specs.declared.class.Call.{Call as StoredCall}
 use Rattle.lus_instructions.specs.declared.class.Class.{Class as StoredClass}
-use Rattle.lus_instructions.specs.View.{chain_in, clock_from, memory_of, argument_of, call_of, class_of}
+use Rattle.lus_classes.specs.View.{chain_in, clock_from, memory_of, argument_of, call_of, class_of}
 use Rattle.lus_translation.specs.Forms.{all_clocks, class_form, numbers_form}
 use Rattle.lus_translation.specs.Laws.{IsFittingRight, NewestSuffice}
 use Rattle.lus_translation.specs.Newest.{newest, Tested, TestedCall, cell_seen, argument_seen, call_seen, tested_memory, tested_argument, tested_call, HasNewest}

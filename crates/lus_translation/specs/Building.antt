@@ -12,7 +12,7 @@ use Rattle.lus_streams.specs.Clocks.{Clock, chain, clock_of, branch_clock}
 use Rattle.lus_classes.specs.Classes.{Argument, Call, Class, Memory, Step}
 use Rattle.lus_instructions.specs.declared.class.Call.{Call as StoredCall}
 use Rattle.lus_instructions.specs.declared.formula.Formula.{Formula}
-use Rattle.lus_instructions.specs.View.{code_of, steps_of}
+use Rattle.lus_classes.specs.View.{code_of, steps_of}
 use Rattle.lus_translation.specs.declared.kept.Kept.{Kept}
 use Rattle.lus_translation.specs.declared.steps.Built.{Built}
 use Rattle.lus_translation.specs.declared.turn.Turn.{Turn as StoredTurn}

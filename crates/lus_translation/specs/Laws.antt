@@ -15,7 +15,7 @@ use Rattle.lus_normal_form.specs.Named.{Known, GivesOutput, Uses}
 use Rattle.lus_normal_form.specs.Computed.{HaveFormals}
 use Rattle.lus_normal_form.specs.Ready.{Declared, IsReady, operand_size}
 use Rattle.lus_instructions.specs.declared.class.Class.{Class as StoredClass}
-use Rattle.lus_instructions.specs.View.{class_of}
+use Rattle.lus_classes.specs.View.{class_of}
 use Rattle.lus_translation.specs.Newest.{HasNewest}
 use Rattle.lus_translation.specs.Forms.{Turn, class_form, code_form, call_form, calls_form, kept_cells, kept_firsts, numbers_form}
 

@@ -1,6 +1,6 @@
 -- What a class keeps of whole clocks: their newest tests.
 use Rattle.std.specs.Prelude.{◌≡◌, ℕ, List, [], ◌∷◌, map, Option, Some, None}
-use Rattle.lus_program.specs.declared.expr.Test.{Test}
+use Rattle.lus_values.specs.declared.test.Test.{Test}
 use Rattle.lus_program.specs.Programs.{Variable, Node}
 use Rattle.lus_streams.specs.Clocks.{Clock}
 use Rattle.lus_classes.specs.Classes.{Atom, Memory, Argument, Call, Class}
@@ -8,7 +8,7 @@ use Rattle.lus_instructions.specs.declared.class.Cell.{Cell}
 use Rattle.lus_instructions.specs.declared.class.Argument.{Argument as StoredArgument}
 use Rattle.lus_instructions.specs.declared.class.Call.{Call as StoredCall}
 use Rattle.lus_instructions.specs.declared.class.Class.{Class as StoredClass}
-use Rattle.lus_instructions.specs.View.{atom_of, steps_of}
+use Rattle.lus_classes.specs.View.{atom_of, steps_of}
 
 abbrev pub newest : Clock → Option Test
 newest [] = None

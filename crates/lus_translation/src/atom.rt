@@ -2,7 +2,7 @@
 
 ghost use Rattle.std.specs.Prelude.{◌≡◌, IfOk};
 ghost use Rattle.lus_program.specs.View.{expression_of};
-ghost use Rattle.lus_instructions.specs.View.{atom_of as atom_in, code_of as code_in};
+ghost use Rattle.lus_classes.specs.View.{atom_of as atom_in, code_of as code_in};
 ghost use Rattle.lus_classes.specs.ClassesOf.{atom_code};
 ghost use Rattle.lus_translation.specs.Forms.{atom_form};
 

@@ -3,7 +3,7 @@
 ghost use Rattle.std.specs.Prelude.{◌≡◌, Some, [], IfOk, OnOk, length};
 ghost use Rattle.lus_program.specs.View.{node_of};
 ghost use Rattle.lus_values.specs.Lists.{Each};
-ghost use Rattle.lus_instructions.specs.Parts.{AreParts};
+ghost use Rattle.lus_classes.specs.Parts.{AreParts};
 ghost use Rattle.lus_translation.specs.Making.{GivesAny};
 ghost use Rattle.lus_translation.specs.Newest.{HasNewest};
 ghost use Rattle.lus_translation.specs.Forms.{equation_cells, equation_firsts};

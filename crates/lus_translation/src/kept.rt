@@ -1,7 +1,7 @@
 //! What a class keeps from one instant to the next, numbered as it is met.
 
 ghost use Rattle.std.specs.Prelude.{◌≡◌, ◌∷◌, ◌++◌, [], IfOk, OnOk, map};
-ghost use Rattle.lus_instructions.specs.View.{atom_of as atom_in};
+ghost use Rattle.lus_classes.specs.View.{atom_of as atom_in};
 ghost use Rattle.lus_translation.specs.Building.{next_cell, next_first};
 ghost use Rattle.lus_translation.specs.Newest.{Tested, cell_seen};
 

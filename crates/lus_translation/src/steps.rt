@@ -3,7 +3,7 @@
 ghost use Rattle.std.specs.Prelude.{◌≡◌, IfOk, OnOk, map};
 ghost use Rattle.lus_program.specs.View.{expression_of};
 ghost use Rattle.lus_streams.specs.Equations.{place_in};
-ghost use Rattle.lus_instructions.specs.View.{taken};
+ghost use Rattle.lus_classes.specs.View.{taken};
 ghost use Rattle.lus_values.specs.Lists.{Each};
 ghost use Rattle.lus_translation.specs.Making.{GivesAny};
 ghost use Rattle.lus_translation.specs.Forms.{answers_form, given_cells, given_firsts, turn_cells, turn_firsts};

@@ -10,7 +10,7 @@ use Rattle.lus_program.specs.View.{equations_from}
 use Rattle.lus_streams.specs.Clocks.{Clock}
 use Rattle.lus_streams.specs.Equations.{Definition, given_by, definition_of, equation_clock, Site, sites}
 use Rattle.lus_streams.proofs.Lists.{each_left, each_right}
-use Rattle.lus_program.specs.declared.expr.Test.{Test}
+use Rattle.lus_values.specs.declared.test.Test.{Test}
 use Rattle.lus_classes.specs.Classes.{Atom, constant, named, Class, answer, Step, Call}
 use Rattle.lus_classes.specs.ClassesOf.{IsClassOf, IsCode, IsCovered, IsSource, IsStep, AreCalls, InTurn, atom_code}
 use Rattle.lus_normal_form.specs.NormalForm.{IsSimpleRight}
@@ -21,8 +21,8 @@ use Rattle.lus_instructions.specs.declared.class.Class.{Class as StoredClass}
 use Rattle.lus_instructions.specs.declared.class.Target.{Target}
 use Rattle.lus_instructions.specs.declared.class.Step.{Step as StoredStep}
 use Rattle.lus_instructions.specs.declared.class.Step.TheVariants as steps
-use Rattle.lus_instructions.specs.Turns.{AreMaking, GivesSome}
-use Rattle.lus_instructions.specs.View.{argument_of, call_of, class_of, code_of, steps_of, taken}
+use Rattle.lus_classes.specs.Turns.{AreMaking, GivesSome}
+use Rattle.lus_classes.specs.View.{argument_of, call_of, class_of, code_of, steps_of, taken}
 use Rattle.lus_translation.specs.Forms.{calls_form, numbers_form}
 use Rattle.lus_translation.specs.Making.{GivesAny}
 use Rattle.lus_translation.proofs.Numbered.{stored_calls, calls_stored}

@@ -16,7 +16,7 @@ use Rattle.lus_normal_form.specs.Ready.{IsReady}
 use Rattle.lus_translation.specs.Forms.{kept_cells, all_kept_cells, kept_firsts, all_kept_firsts, given_cells, given_firsts, turn_cells, turn_firsts, equation_cells, equation_firsts, Turn, cells_at, firsts_at, all_cells, all_firsts as firsts_in_all, numbers_form}
 use Rattle.lus_translation.specs.Orders.{InOrder, IsGivenBy, IsTurn, AreTurns, in_turn}
 use Rattle.lus_instructions.specs.declared.class.Class.{Class as StoredClass}
-use Rattle.lus_instructions.specs.View.{class_of, clock_from, memory_of}
+use Rattle.lus_classes.specs.View.{class_of, clock_from, memory_of}
 use Rattle.lus_translation.specs.Forms.{class_form}
 use Rattle.lus_turns.specs.Turned.{HasOneLeft, HaveOneLeft, KeepsFew}
 use Rattle.lus_turns.proofs.StoredEquations.{stored_at}

@@ -6,8 +6,8 @@ use Rattle.lus_classes.specs.ClassesOf.{IsClassOf}
 use Rattle.lus_normal_form.specs.NormalNodes.{node_memories, node_firsts}
 use Rattle.lus_instructions.specs.declared.class.Call.{Call}
 use Rattle.lus_instructions.specs.declared.class.Class.{Class}
-use Rattle.lus_instructions.specs.Turns.{HasTurns}
-use Rattle.lus_instructions.specs.View.{class_of}
+use Rattle.lus_classes.specs.Turns.{HasTurns}
+use Rattle.lus_classes.specs.View.{class_of}
 
 -- a call is of a node of the program, and has an argument for each of its inputs
 pub record CallsNode (p : Program) (q : Call) : Type 0 where

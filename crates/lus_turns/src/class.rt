@@ -3,7 +3,7 @@
 ghost use Rattle.std.specs.Prelude.{IfOk};
 ghost use Rattle.lus_program.specs.View.{node_of, program_seen};
 ghost use Rattle.lus_order.specs.Orders.{OrdersVariables};
-ghost use Rattle.lus_instructions.specs.Parts.{AreParts};
+ghost use Rattle.lus_classes.specs.Parts.{AreParts};
 ghost use Rattle.lus_turns.specs.Turned.{IsTurned};
 ghost use Rattle.lus_normal_form.specs.Ready.{IsReady};
 ghost use Rattle.lus_normal_form.specs.Ready.{IsDefined};

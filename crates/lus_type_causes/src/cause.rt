@@ -1,127 +1,118 @@
-//! The first fault of types in a source.
+//! The first fault of types in a source, and what is said of it.
 
-use crate::clash::{Clash, finding_of, told_at};
-use crate::equations::check_equation;
+use crate::clashes::clash;
+use crate::declared::{constant, test, value, values};
 use crate::given::Given;
-use crate::memory::check_memory;
-use crate::merges::check_test;
-use crate::phrase::Phrase;
-use crate::redeclaring::{Redeclared, declaration_at_fault, told_of};
-use crate::scope::Scope;
-use lus_faults::{Finding, Sought};
-use lus_syntax::{Group, Literal, Node, Refusal, Span, Tree};
+use crate::members::{arguments, counted, memory, results, unknown_member};
+use crate::redeclaring::with_declaration;
+use crate::said::{Said, finding_of};
+use lus_faults::{Finding, expressions_in, start_of};
+use lus_source::{
+    Cause, Fault, Loopless, Tabled, Whole, check_counts, check_names, check_recursion, enter,
+    tables,
+};
+use lus_syntax::{Expr, Place, Tree};
+use lus_types::program;
 use std::alloc::{AllocError, Global};
-use std::cell::Cell;
 
-/// Where a constant's value stands.
-fn literal_span(value: &Literal) -> Span {
-    match value {
-        Literal::Number(_, span) => *span,
-        Literal::Negative(minus, _, number) => Span {
-            start: minus.start,
-            length: number.end().byte.saturating_sub(minus.start.byte),
-        },
-        Literal::Truth(_, span) => *span,
-        Literal::Constructor(name) => name.span,
+/// What is said of an expression, its operands aside, if it is the one that is meant.
+fn said_of<'t>(given: Given<'t>, expr: &'t Expr, cause: Cause) -> Option<Said<'t>> {
+    match (cause, expr) {
+        (Cause::Lacks(kind), _) => unknown_member(given, expr, kind),
+        (Cause::Remembers, _) => memory(given, expr),
+        _ if !given.is_at(start_of(expr)) => None,
+        (Cause::Clash(whole, wanted, found), _) => clash(given, expr, whole, wanted, found),
+        (Cause::Times(of, times, first), _) => counted(given, expr, of, times, first),
+        (Cause::Count(_, wanted, found, lacking), Expr::Call(name, _)) => {
+            arguments(given, name, wanted, found, lacking)
+        }
+        (Cause::Results(count), Expr::Call(name, _)) => results(given, name, count),
+        _ => None,
     }
 }
 
-/// What is said of the first constant whose type isn't that of its value.
-fn wrong_constant<'t>(scope: &Scope<'t>) -> Option<Clash<'t>> {
-    let tree = scope.tree;
-    for constant in &tree.constants {
-        if let Some(name) = &constant.type_name {
-            let wanted = scope.of_type(name);
-            let kind = scope.of_literal(&constant.value);
-            if wanted.differs(kind) {
-                let sentence = Phrase::new(
-                    "the constant `{}` has type `{}`, but its value has type `{}`",
-                    constant.name.text.as_str(),
-                    wanted.name(tree),
-                    kind.name(tree),
-                );
-                return Some(told_at(literal_span(&constant.value), sentence));
+/// What is said of the first of a node's expressions that is meant.
+fn in_node<'t>(given: Given<'t>, cause: Cause) -> Result<Option<Said<'t>>, AllocError> {
+    for equation in given.equations() {
+        for expr in &expressions_in(given.alloc, &equation.right)? {
+            let said = said_of(given, expr, cause);
+            if said.is_some() {
+                return Ok(said);
             }
         }
     }
-    None
+    Ok(None)
 }
 
-/// Tells where a declared clock doesn't fit its variable.
-fn check_groups<'t>(given: Given<'_, 't>, groups: &'t [Group]) {
-    for group in groups {
-        if let Some(test) = &group.test {
-            check_test(given, test);
+/// What is said of a fault, by its cause.
+fn said_by<'t>(given: Given<'t>, cause: Cause) -> Result<Option<Said<'t>>, AllocError> {
+    match cause {
+        Cause::Clash(Whole::Constant, wanted, found) => Ok(constant(given, wanted.kind, found)),
+        Cause::Clash(Whole::Equation, wanted, found) => Ok(value(given, wanted, found)),
+        Cause::Count(Whole::Equation, wanted, found, _) => Ok(values(given, wanted, found)),
+        Cause::Clock(variable) => Ok(test(given, variable)),
+        _ => in_node(given, cause),
+    }
+}
+
+/// The place among the nodes of the last one whose name doesn't stand behind a place.
+fn node_at(tree: &Tree, place: Place) -> usize {
+    let mut found = 0;
+    for (number, node) in tree.nodes.iter().enumerate() {
+        if node.name.span.start.byte <= place.byte {
+            found = number;
         }
     }
+    found
 }
 
-/// What is said of the first fault of a node.
-fn first_fault<'t>(
-    alloc: Global,
-    source: &'t str,
-    scope: &Scope<'t>,
-    node: &'t Node,
-) -> Result<Option<Clash<'t>>, AllocError> {
-    let told = Cell::new(None);
-    let given = Given {
-        source,
-        scope,
-        node,
-        told: &told,
-    };
-    check_groups(given, &node.inputs);
-    check_groups(given, &node.outputs);
-    check_groups(given, &node.locals);
-    for equation in &node.equations {
-        check_equation(given, equation);
-    }
-    check_memory(alloc, given)?;
-    Ok(told.get())
-}
-
-/// What is said of the first fault of types in a source: of the constants, else of the node at a place; and the variables that it comes
-/// from, where their declared type is wrong.
-fn first_clash<'t>(
-    alloc: Global,
-    source: &'t str,
-    scope: &mut Scope<'t>,
-    node: Option<&'t Node>,
-) -> Result<Option<(Clash<'t>, Option<Redeclared<'t>>)>, AllocError> {
-    scope.fill(node)?;
-    if let Some(clash) = wrong_constant(scope) {
-        return Ok(Some((clash, None)));
-    }
-    let Some(node) = node else {
-        return Ok(None);
-    };
-    match first_fault(alloc, source, scope, node)? {
-        Some(clash) => Ok(Some((
-            clash,
-            declaration_at_fault(alloc, source, scope, node, &clash)?,
-        ))),
-        None => Ok(None),
-    }
-}
-
-/// What is said of a fault of types, where it is found again at its place: of the constants, then of the node there.
-pub fn type_cause(
+/// What is said of a fault at a place of a source.
+fn finding_at(
     alloc: Global,
     source: &str,
-    tree: &Tree,
-    refusal: &Refusal,
+    tabled: &Tabled<'_>,
+    place: Place,
+    cause: Cause,
 ) -> Result<Option<Finding>, AllocError> {
-    let sought = Sought::of(refusal);
-    let mut scope = Scope::new(alloc, tree);
-    match first_clash(alloc, source, &mut scope, sought.node(tree)) {
-        Ok(Some((clash, other))) if clash.is_at(sought) => {
-            let finding = finding_of(alloc, &clash)?;
-            Ok(Some(match other {
-                Some(other) => told_of(alloc, source, tree, finding, other)?,
-                None => finding,
-            }))
+    let tree = tabled.loopless.tree();
+    let number = node_at(tree, place);
+    let given = Given {
+        alloc,
+        source,
+        tree,
+        node: tree.nodes.get(number),
+        place,
+    };
+    let Some(said) = said_by(given, cause)? else {
+        return Ok(None);
+    };
+    let finding = finding_of(given, &said)?;
+    match said.suspect {
+        Some(suspect) if number < tree.nodes.len() => {
+            let scope = enter(tabled, number);
+            Ok(Some(with_declaration(given, &scope, finding, suspect)?))
         }
-        Ok(_) => Ok(None),
-        Err(error) => Err(error),
+        _ => Ok(Some(finding)),
+    }
+}
+
+/// A source whose names are right and in which nothing leads back to itself, if it is one.
+fn loopless(alloc: Global, tree: Tree) -> Option<Loopless> {
+    let counted = check_counts(tree).ok()?;
+    let named = check_names(alloc, counted).ok()?;
+    check_recursion(alloc, named).ok()
+}
+
+/// What is said of a source that the check of types refuses.
+pub fn type_cause(alloc: Global, source: &str, tree: Tree) -> Result<Option<Finding>, AllocError> {
+    let Some(loopless) = loopless(alloc, tree) else {
+        return Ok(None);
+    };
+    let (Ok(given), Ok(tabled)) = (tables(alloc, &loopless), tables(alloc, &loopless)) else {
+        return Ok(None);
+    };
+    match program(alloc, given) {
+        Err(Fault::At(place, cause)) => finding_at(alloc, source, &tabled, place, cause),
+        _ => Ok(None),
     }
 }

@@ -1,81 +1,62 @@
-//! What types are inferred from, and the types of expressions.
+//! Where a fault of types is.
 
-use crate::clash::Clash;
-use crate::kinds::Kind;
-use crate::operators::infix_form;
-use crate::scope::Scope;
-use crate::structures::field_of;
-use lus_syntax::{Expr, Name, Node, Prefix};
-use std::cell::Cell;
+use crate::kinds::name_of;
+use crate::said::Words;
+use lus_program::Kind;
+use lus_syntax::{Equation, Name, Node, Place, Tree};
+use std::alloc::Global;
 
-/// What types are inferred from, and what is said of the first fault.
+/// The source, the node and the place of a fault of types. A constant may stand where there is no node.
 #[derive(Clone, Copy)]
-pub struct Given<'c, 't> {
+pub struct Given<'t> {
+    pub alloc: Global,
     pub source: &'t str,
-    pub scope: &'c Scope<'t>,
-    pub node: &'t Node,
-    pub told: &'c Cell<Option<Clash<'t>>>,
+    pub tree: &'t Tree,
+    pub node: Option<&'t Node>,
+    pub place: Place,
 }
 
-impl<'t> Given<'_, 't> {
-    /// Keeps what is said of a fault, if it is the first.
-    pub fn tell(self, clash: Clash<'t>) {
-        if self.told.get().is_none() {
-            self.told.set(Some(clash));
-        }
+impl<'t> Given<'t> {
+    /// Whether the fault is at a place.
+    pub fn is_at(self, place: Place) -> bool {
+        place.byte == self.place.byte
     }
 
-    /// The type of an expression.
-    pub fn kind(self, expr: &Expr) -> Kind {
-        kind_of(self.scope, expr)
+    /// The equations of the node.
+    pub fn equations(self) -> &'t [Equation] {
+        match self.node {
+            Some(node) => node.equations.as_slice(),
+            None => &[],
+        }
     }
 
     /// The name of a type.
     pub fn name(self, kind: Kind) -> &'t str {
-        kind.name(self.scope.tree)
+        name_of(self.tree, kind)
     }
-}
 
-/// The type of the one output of a call's node.
-fn kind_of_call(scope: &Scope<'_>, name: &Name) -> Kind {
-    match scope.called(name) {
-        Some(node) => match scope.variable_at(&node.outputs, 0) {
-            Some((_, kind)) => kind,
-            None => Kind::Unknown,
-        },
-        None => Kind::Unknown,
+    /// The names of the type that is wanted and of the one that is found; no other words yet.
+    pub fn words(self, wanted: Kind, found: Kind) -> Words<'t> {
+        Words {
+            owner: "",
+            member: "",
+            wanted: self.name(wanted),
+            found: self.name(found),
+            own: "",
+            other: "",
+            first: "",
+            place: 0,
+            number: 0,
+            count: 0,
+        }
     }
-}
 
-/// The type of a field of a value.
-fn kind_of_field(scope: &Scope<'_>, kind: Kind, name: &Name) -> Kind {
-    match field_of(scope, kind, name.text.as_str()) {
-        Some((_, kind)) => kind,
-        None => Kind::Unknown,
-    }
-}
-
-/// The type of an expression, which is that of an operand for some.
-#[cycle(kinds)]
-fn kind_of(scope: &Scope<'_>, expr: &Expr) -> Kind {
-    match expr {
-        Expr::Number(_, _) | Expr::Unary(Prefix::Negate, _, _) => Kind::Int,
-        Expr::Truth(_, _) | Expr::Variadic(_, _, _) | Expr::Unary(Prefix::Not, _, _) => Kind::Bool,
-        Expr::Name(name) => scope.of_name(name),
-        Expr::Call(name, _) => kind_of_call(scope, name),
-        Expr::Structure(name, _) => scope.of_structure(name),
-        Expr::Merge(_, _, parts) => match parts.first() {
-            Some(part) => kind_of(scope, &part.value),
-            None => Kind::Unknown,
-        },
-        Expr::Field(operand, name) => kind_of_field(scope, kind_of(scope, operand), name),
-        Expr::Binary(op, left, _) => match infix_form(*op).2 {
-            Some(kind) => kind,
-            None => kind_of(scope, left),
-        },
-        Expr::Parentheses(_, operand)
-        | Expr::When(operand, _)
-        | Expr::Unary(Prefix::Pre, _, operand)
-        | Expr::If(_, _, operand, _) => kind_of(scope, operand),
+    /// The node that a call names.
+    pub fn called(self, name: &Name) -> Option<&'t Node> {
+        let text = name.text.as_str();
+        self.tree
+            .nodes
+            .iter()
+            .find(|node| node.name.text.as_str() == text)
     }
 }

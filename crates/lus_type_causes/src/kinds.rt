@@ -1,82 +1,113 @@
-//! Types of a source.
+//! Types as a source declares them.
 
-use lus_syntax::{Definition, Group, Name, Tree};
+use lus_program::Kind;
+use lus_syntax::{Definition, Fields, Group, Label, Lead, Name, Part, Tree, TypeDeclaration};
 
-/// A type: `bool`, `int`, or the enumeration or structure that a declaration stands for, by its place. What isn't known is no fault
-/// here.
-#[derive(Clone, Copy, PartialEq, Eq)]
-pub enum Kind {
-    Bool,
-    Int,
-    Declared(usize),
-    Unknown,
-}
-
-impl Kind {
-    /// The type as it is declared.
-    pub fn name(self, tree: &Tree) -> &str {
-        match self {
-            Kind::Bool => "bool",
-            Kind::Int => "int",
-            Kind::Declared(place) => match tree.types.get(place) {
-                Some(declaration) => declaration.name.text.as_str(),
-                None => "?",
-            },
-            Kind::Unknown => "?",
-        }
-    }
-
-    /// Whether two types differ, as far as they are known.
-    pub fn differs(self, other: Kind) -> bool {
-        self != Kind::Unknown && other != Kind::Unknown && self != other
-    }
-
-    /// The constructors of an enumeration; no other type has any.
-    pub fn constructors(self, tree: &Tree) -> &[Name] {
-        let Kind::Declared(place) = self else {
-            return &[];
-        };
-        match tree.types.get(place) {
-            Some(declaration) => match &declaration.definition {
-                Definition::Enumeration(names) => names.as_slice(),
-                _ => &[],
-            },
-            None => &[],
-        }
-    }
-
-    /// A value of the type: `false`, `0` or the first constructor; none of a structure.
-    pub fn value(self, tree: &Tree) -> Option<&str> {
-        match self {
-            Kind::Bool => Some("false"),
-            Kind::Int => Some("0"),
-            _ => Some(self.constructors(tree).first()?.text.as_str()),
-        }
-    }
-
-    /// Whether this is a type of clocks that has a label.
-    pub fn has_label(self, tree: &Tree, text: &str) -> bool {
-        if self == Kind::Bool {
-            return text == "true" || text == "false";
-        }
-        has_name(self.constructors(tree), text)
+/// The declaration of a type; none of `bool` and `int`.
+pub fn declaration(tree: &Tree, kind: Kind) -> Option<&TypeDeclaration> {
+    match kind {
+        Kind::Bool | Kind::Int => None,
+        Kind::Enum(place) | Kind::Struct(place) => tree.types.get(place as usize),
     }
 }
 
-fn has_name(names: &[Name], text: &str) -> bool {
-    for name in names {
-        if name.text.as_str() == text {
-            return true;
-        }
+/// The name of a type.
+pub fn name_of(tree: &Tree, kind: Kind) -> &str {
+    match declaration(tree, kind) {
+        Some(declaration) => declaration.name.text.as_str(),
+        None if kind == Kind::Bool => "bool",
+        None => "int",
     }
-    false
 }
 
-/// How many variables groups declare.
-pub fn count_of(groups: &[Group]) -> usize {
-    let mut count = 0usize;
+/// The constructors of an enumeration; no other type has any.
+pub fn constructors(tree: &Tree, kind: Kind) -> &[Name] {
+    match declaration(tree, kind) {
+        Some(declaration) => match &declaration.definition {
+            Definition::Enumeration(names) => names.as_slice(),
+            _ => &[],
+        },
+        None => &[],
+    }
+}
+
+/// The fields of a structure; no other type has any.
+pub fn fields(tree: &Tree, kind: Kind) -> &[Fields] {
+    match declaration(tree, kind) {
+        Some(declaration) => match &declaration.definition {
+            Definition::Structure(groups) => groups.as_slice(),
+            _ => &[],
+        },
+        None => &[],
+    }
+}
+
+/// The field of a number.
+pub fn field_at(groups: &[Fields], number: usize) -> Option<&Name> {
+    let mut left = number;
     for group in groups {
-        count = count.saturating_add(group.names.len());
+        if let Some(name) = group.names.get(left) {
+            return Some(name);
+        }
+        left = left.saturating_sub(group.names.len());
     }
-    count
+    None
+}
+
+/// The variable of a number, among groups.
+pub fn variable_at(groups: &[Group], number: usize) -> Option<&Name> {
+    let mut left = number;
+    for group in groups {
+        if let Some(name) = group.names.get(left) {
+            return Some(name);
+        }
+        left = left.saturating_sub(group.names.len());
+    }
+    None
+}
+
+/// A value of a type: `false`, `0` or the first constructor; none of a structure.
+pub fn value(tree: &Tree, kind: Kind) -> Option<&str> {
+    match kind {
+        Kind::Bool => Some("false"),
+        Kind::Int => Some("0"),
+        _ => Some(constructors(tree, kind).first()?.text.as_str()),
+    }
+}
+
+/// The label of a number, of an enumeration or of `bool`.
+pub fn label_at(tree: &Tree, kind: Kind, number: usize) -> &str {
+    match constructors(tree, kind).get(number) {
+        Some(name) => name.text.as_str(),
+        None if number == 0 => "false",
+        None => "true",
+    }
+}
+
+/// The text of a label.
+pub fn label_text(label: &Label) -> &str {
+    match label {
+        Label::Constructor(name) => name.text.as_str(),
+        Label::Truth(true, _) => "true",
+        Label::Truth(false, _) => "false",
+    }
+}
+
+/// The field or the label that a part names.
+pub fn lead_text(part: &Part) -> &str {
+    match &part.lead {
+        Lead::Plain => "",
+        Lead::Field(name) => name.text.as_str(),
+        Lead::Branch(_, label) => label_text(label),
+    }
+}
+
+/// The first part that names a field or a label.
+pub fn part_named<'t>(parts: &'t [Part], text: &str) -> Option<&'t Part> {
+    parts.iter().find(|part| lead_text(part) == text)
+}
+
+/// Whether a name is among some.
+pub fn has_name(names: &[Name], text: &str) -> bool {
+    names.iter().any(|name| name.text.as_str() == text)
 }

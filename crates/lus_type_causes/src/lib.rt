@@ -1,19 +1,16 @@
-//! What is said of types, counts, labels or fields that disagree.
+//! What is said of types, counts, labels or fields that disagree, by what the compiler's check had in hand.
 #![tactic(auto)]
 
 mod cause;
-mod checking;
-mod clash;
-mod equations;
+mod clashes;
+mod declared;
 mod given;
 mod kinds;
-mod memory;
-mod merges;
+mod members;
 mod operators;
-mod phrase;
 mod redeclaring;
 mod repair;
-mod scope;
-mod structures;
+mod rows;
+mod said;
 
 pub use cause::type_cause;

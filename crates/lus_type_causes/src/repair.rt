@@ -1,6 +1,6 @@
 //! Changes of the text that mend a fault of types.
 
-use crate::merges::times;
+use crate::kinds::part_named;
 use lus_faults::{Edit, nearest};
 use lus_syntax::{Fields, Name, Part};
 use std::alloc::{AllocError, Global};
@@ -51,7 +51,7 @@ fn field_edit(alloc: Global, name: &Name, groups: &[Fields]) -> Result<Option<Ed
 /// Appends the branch of a label, if there is none.
 fn push_branch(text: &mut String, lacking: Lacking<'_>, label: &str) -> Result<(), AllocError> {
     let value = lacking.value;
-    if times(lacking.parts, label) == 0 {
+    if part_named(lacking.parts, label).is_none() {
         write!(text, " ({label} -> {value})")?;
     }
     Ok(())

@@ -4,6 +4,8 @@ pub mod Lefts
 pub mod NodesMeant
 pub mod CallsNamed
 pub mod Limited
+pub mod LiteralsMeant
+pub mod KindsMeant
 pub mod ProgramsMeant
 mod Examples
 pub mod Weights

@@ -7,7 +7,7 @@ use Rattle.lus_syntax.specs.Trees as tree
 use Rattle.lus_syntax.specs.Trees.{Group, Tree}
 use Rattle.lus_values.specs.Lists.{Each}
 use Rattle.lus_values.proofs.Equalities.{and_left, and_right, and_true}
-use Rattle.lus_program.specs.declared.expr.Test.{Test}
+use Rattle.lus_values.specs.declared.test.Test.{Test}
 use Rattle.lus_program.specs.Programs.{Node, calls}
 use Rattle.lus_source.specs.Heads.{heads, head}
 use Rattle.lus_source.specs.Scopes.{Scope}

@@ -3,7 +3,7 @@ use Rattle.std.specs.Prelude.{Bool, true, IsTrue, List, Option, Some, None, flat
 use Rattle.std.specs.List.{list_all}
 use Rattle.lus_syntax.specs.Trees.{Named, Constant, Group, Node as SourceNode}
 use Rattle.lus_values.specs.Lists.{Each}
-use Rattle.lus_program.specs.declared.expr.Test.{Test}
+use Rattle.lus_values.specs.declared.test.Test.{Test}
 use Rattle.lus_program.specs.Programs.{Node, Variable}
 use Rattle.lus_program.specs.Resolved.{test_fits}
 use Rattle.lus_source.specs.Heads.{heads, head}

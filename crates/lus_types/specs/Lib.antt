@@ -1,3 +1,4 @@
 pub mod ByScope
 pub mod Laws
 pub mod Wholes
+pub mod TypedPrograms

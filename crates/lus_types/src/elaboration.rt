@@ -10,7 +10,7 @@ mod operators;
 mod parts;
 mod purity;
 
-pub use equations::equation;
-pub use forms::{clock_variable, test};
-pub use kinds::{same, value_kind};
+pub use equations::{equation, misfits};
+pub use forms::{clock_variable, misclocked, test};
+pub use kinds::{member, same, value_kind};
 pub use purity::memory;

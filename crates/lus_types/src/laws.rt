@@ -9,9 +9,9 @@ ghost use Rattle.lus_program.specs.Parts.{program_parts};
 ghost use Rattle.lus_source.specs.Meaning.{program_of};
 ghost use Rattle.lus_types.specs.Laws.{MeantProgramsAreSound};
 
-/// The program that a well-formed tree means is sound: its nodes are well typed, each output and local is defined once, no
-/// node calls itself and no structure has itself among its fields, directly or round, each structure has a field, and there
-/// are no more nodes, nor is a node or type larger, than a source may declare.
+/// The program that a well-formed tree means is sound: its nodes are well typed, each output and local is defined once, each
+/// constructor in its text is declared, its types are what they are named as, no node calls itself and no structure has itself among its fields, directly or
+/// round, each structure has a field, and there are no more nodes, nor is a node or type larger, than a source may declare.
 pub fn sound()
     ensures { MeantProgramsAreSound }
 {}

@@ -14,9 +14,9 @@ ghost use Rattle.lus_source.specs.ScopeView.{Judged, Tested, scope_of};
 ghost use Rattle.lus_types.specs.Wholes.{EquationTyped};
 ghost use Rattle.lus_types.specs.ByScope.{IsTypedIn, group_fits, maybe_fits, node_in as node_by, variables_in};
 
-use crate::elaboration::{clock_variable, equation, memory, test};
+use crate::elaboration::{clock_variable, equation, memory, misclocked, test};
 use lus_program::{Equation, Node, Test, Variable};
-use lus_source::{Fault, Scope, Tabled, enter, kind_of_name};
+use lus_source::{Cause, Fault, Scope, Tabled, enter, kind_of_name};
 use lus_syntax::{
     Equation as SourceEquation, Group, Node as SourceNode, NodeKind, Place, Test as SourceTest,
 };
@@ -32,7 +32,7 @@ fn group_test(scope: &Scope, source: &Option<SourceTest>) -> Result<Option<Test>
         None => Ok(None),
         Some(source) => match test(scope, source) {
             Some(found) => Ok(Some(found)),
-            None => Err(Fault::At(clock_variable(source).span.start)),
+            None => Err(Fault::At(clock_variable(source).span.start, misclocked(scope, source))),
         },
     }
 }
@@ -135,7 +135,7 @@ fn check_memory(scope: &Scope, kind: NodeKind, sources: &[SourceEquation]) -> Re
     match kind {
         NodeKind::Node => Ok(()),
         NodeKind::Function => match memory_in(scope, sources) {
-            Some(place) => Err(Fault::At(place)),
+            Some(place) => Err(Fault::At(place, Cause::Remembers)),
             None => Ok(()),
         },
     }

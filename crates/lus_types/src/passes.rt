@@ -13,24 +13,24 @@ ghost use Rattle.lus_source.specs.ScopeView.{Judged};
 use crate::constants::check_constants;
 use crate::nodes::node;
 use lus_program::{Node, Program};
-use lus_source::{Fault, Tabled};
-use lus_syntax::{Refusal, RefusalNumber};
+use lus_source::{Fault, Rejected, Tabled};
+use lus_syntax::RefusalNumber;
 use std::alloc::Global;
 
 /// Checks types, and gives the program that the source means.
-pub fn types(alloc: Global, tabled: Tabled<'_>) -> Result<Program, Refusal>
+pub fn types(alloc: Global, tabled: Tabled<'_>) -> Result<Program, Rejected>
     ensures ok { OnOk result (IsTyped (tree_seen tabled.entry)) }
     ensures means { IfOk result (λ q. program_seen q ≡ program_of (tree_seen tabled.entry)) }
-    ensures refused { IfErr result (RefusesFor numbers.Type (IsTyped (tree_seen tabled.entry))) }
+    ensures refused { IfErr result (λ e. RefusesFor numbers.Type (IsTyped (tree_seen tabled.entry)) e.refusal) }
 {
     match program(alloc, tabled) {
         Ok(program) => Ok(program),
-        Err(fault) => Err(fault.refusal(RefusalNumber::Type)),
+        Err(fault) => Err(fault.rejected(RefusalNumber::Type)),
     }
 }
 
 /// The program that a source means, where it is well typed.
-fn program(alloc: Global, tabled: Tabled<'_>) -> Result<Program, Fault>
+pub fn program(alloc: Global, tabled: Tabled<'_>) -> Result<Program, Fault>
     ensures typed { Judged result (IsTyped (tree_seen tabled.entry)) }
     ensures means { IfOk result (λ q. program_seen q ≡ program_of (tree_seen tabled.entry)) }
 {

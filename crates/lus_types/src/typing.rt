@@ -8,8 +8,9 @@ ghost use Rattle.lus_source.specs.Meaning.{program_of};
 ghost use Rattle.lus_source.specs.Refusals.{FirstFails, WellFormed};
 
 use crate::passes::types;
-use lus_program::{Sound, Typed};
-use lus_source::{check_counts, check_names, check_recursion, check_sizes, tables};
+use crate::typed::Typed;
+use lus_program::Sound;
+use lus_source::{Rejected, check_counts, check_names, check_recursion, check_sizes, tables};
 use lus_syntax::{Refusal, Tree};
 use std::alloc::Global;
 
@@ -21,6 +22,19 @@ pub fn check_types(alloc: Global, tree: Tree) -> Result<Typed, Refusal>
     ensures same { IfOk result (λ typed. typed.tree ≡ tree) }
     ensures means { IfOk result (λ typed. program_seen typed.program ≡ program_of (tree_seen tree)) }
     ensures refused { IfErr result (λ e. e.number ≢ numbers.Memory → FirstFails (tree_seen tree) e.number) }
+{
+    match judge_types(alloc, tree) {
+        Ok(typed) => Ok(typed),
+        Err(rejected) => Err(rejected.refusal),
+    }
+}
+
+/// As `check_types`; says of a refusal why.
+pub fn judge_types(alloc: Global, tree: Tree) -> Result<Typed, Rejected>
+    ensures ok { OnOk result (WellFormed (tree_seen tree)) }
+    ensures same { IfOk result (λ typed. typed.tree ≡ tree) }
+    ensures means { IfOk result (λ typed. program_seen typed.program ≡ program_of (tree_seen tree)) }
+    ensures refused { IfErr result (λ e. e.refusal.number ≢ numbers.Memory → FirstFails (tree_seen tree) e.refusal.number) }
 {
     let counted = check_counts(tree)?;
     let named = check_names(alloc, counted)?;

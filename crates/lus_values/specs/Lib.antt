@@ -1,5 +1,6 @@
 pub mod Lists
 pub mod Values
+pub mod Entries
 pub mod Integers
 pub mod Equality
 pub mod Operators

@@ -8,6 +8,7 @@ mod memory;
 mod names;
 mod operator;
 mod row;
+mod test;
 mod text;
 mod value;
 
@@ -17,6 +18,7 @@ pub use fitting::fits_op;
 pub use memory::Memory;
 pub use names::Names;
 pub use operator::{Op, Operator, Shape};
-pub use row::{Row, copy_entry};
+pub use row::{Items, Row, copy_entry};
+pub use test::Test;
 pub use text::{print, push_value};
 pub use value::{Value, copy};

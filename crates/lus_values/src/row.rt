@@ -2,6 +2,7 @@
 
 ghost use Rattle.std.specs.Prelude.{◌≡◌, ◌∷◌, [], IfOk, map};
 ghost use Rattle.lus_values.specs.View.{entry_of};
+ghost use Rattle.lus_values.specs.Rows.{items_in};
 
 use crate::memory::Memory;
 use crate::value::{Value, copy};
@@ -11,7 +12,7 @@ use std::slice;
 
 /// The entries of a row. One alone takes no memory of its own.
 #[derive(Drop)]
-enum Items {
+pub enum Items {
     One(Option<Value>),
     Many(Vec<Option<Value>>),
 }
@@ -60,6 +61,13 @@ impl Row {
             Items::One(entry) => slice::from_ref(entry),
             Items::Many(entries) => entries.as_slice(),
         }
+    }
+
+    /// The entries themselves, as the row has them. No memory is taken.
+    pub fn into_items(self) -> Items
+        ensures { items_in result ≡ self }
+    {
+        self.items
     }
 
     /// An equal row.

@@ -23,6 +23,8 @@ pub enum Kind {
     ConstantClock,
     /// A comparison that is always true, or always false.
     ConstantComparison,
+    /// An operation that never has a value.
+    ConstantFault,
 }
 
 impl Kind {
@@ -38,6 +40,7 @@ impl Kind {
             Kind::UnguardedDivision => "unguarded_division",
             Kind::ConstantClock => "constant_clock",
             Kind::ConstantComparison => "constant_comparison",
+            Kind::ConstantFault => "constant_fault",
         }
     }
 }

@@ -4,6 +4,7 @@
 mod branches;
 mod clocks;
 mod comparisons;
+mod faults;
 mod guards;
 mod kind;
 mod known;

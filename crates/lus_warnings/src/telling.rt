@@ -1,7 +1,8 @@
 //! Warnings as a text for people.
 
 use crate::warning::Warning;
-use lus_faults::{Lines, lines_of, push_finding, push_marked};
+use lus_citing::{push_finding, push_marked};
+use lus_faults::{Lines, lines_of};
 use std::alloc::{AllocError, Global};
 
 /// The most warnings that are shown with their lines.
@@ -28,7 +29,7 @@ fn push_warning(
     if let Some(shown) = lines.line(line) {
         push_marked(alloc, text, shown, column, warning.span.length)?;
     }
-    push_finding(alloc, text, name, source, &warning.finding)
+    push_finding(alloc, text, name, source, lines, &warning.finding)
 }
 
 /// Appends how many warnings aren't shown.

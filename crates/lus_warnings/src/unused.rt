@@ -2,7 +2,8 @@
 //!
 //! A declaration is one that nothing uses if its name stands once among the tokens in which it could be used: of a type, a constant or
 //! a node those of the source, of a variable those from its node's name to the next node's. So none is told that has a use; what has
-//! the name of something else in the same tokens may not be told.
+//! the name of something else in the same tokens may not be told, nor is a local variable whose equation defines one with a use beside
+//! it, as that of a call with several results may.
 
 ghost use Rattle.std.specs.Prelude.{◌≡◌, All, IfOk, IsTrue};
 ghost use Rattle.std.specs.List.{filter};
@@ -11,6 +12,7 @@ ghost use Rattle.lus_warnings.specs.Uses.{is_idle_by, is_unused};
 use crate::kind::Kind;
 use crate::scope::{Without, node_from, tokens_without};
 use crate::table::{Names, has_repeated, is_idle, is_repeated, names_among};
+use indexmap::IndexSet;
 use lus_syntax::{Constant, Definition, Group, Name, Node, Token, Tree, TypeDeclaration};
 use std::alloc::{AllocError, Global};
 
@@ -174,7 +176,33 @@ fn as_memory<'t>(read: &Names<'_>, found: Declaration<'t>) -> Declaration<'t> {
     found
 }
 
-/// The local variables of a node that nothing but their own equations uses.
+/// The names of the variables that stand on the left of an equation beside others than these.
+fn names_beside<'t>(
+    alloc: Global,
+    node: &'t Node,
+    unused: &[Declaration<'t>],
+) -> Result<IndexSet<&'t str>, AllocError> {
+    let mut names = IndexSet::new(alloc);
+    for local in unused {
+        names.insert(local.name.text.as_str())?;
+    }
+    let mut beside = IndexSet::new(alloc);
+    for equation in &node.equations {
+        if !equation
+            .left
+            .iter()
+            .all(|left| names.contains(&left.text.as_str()))
+        {
+            for left in &equation.left {
+                beside.insert(left.text.as_str())?;
+            }
+        }
+    }
+    Ok(beside)
+}
+
+/// The local variables of a node that can be left out with their equations: nothing but these uses them, nor another variable that they
+/// define.
 fn unused_locals<'t>(
     alloc: Global,
     tokens: &[Token<'_>],
@@ -182,7 +210,10 @@ fn unused_locals<'t>(
 ) -> Result<Vec<Declaration<'t>>, AllocError> {
     let locals = variables_in(alloc, Kind::UnusedLocal, &node.locals)?;
     let others = tokens_without(alloc, Without::Own, tokens, &node.equations)?;
-    unused_among(alloc, &others, &locals)
+    let mut unused = unused_among(alloc, &others, &locals)?;
+    let beside = names_beside(alloc, node, &unused)?;
+    unused.retain(|local| !beside.contains(&local.name.text.as_str()));
+    Ok(unused)
 }
 
 /// How often names stand among the tokens of a node, but for left sides.

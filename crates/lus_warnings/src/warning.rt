@@ -3,6 +3,7 @@
 use crate::branches::{Division, Divisions, divisions_in, unguarded_division};
 use crate::clocks::{AllFixed, FixedTest, constant_clock, fixed_by, fixed_in, sampling};
 use crate::comparisons::{Comparison, comparison_in, constant_comparison};
+use crate::faults::{Fault, constant_fault, fault_in};
 use crate::kind::Kind;
 use crate::known::{Scope, Values, values_by_name};
 use crate::unused::{Declaration, unused_in};
@@ -89,6 +90,7 @@ enum Cause<'t> {
     Division(Division<'t>),
     Comparison(Comparison<'t>),
     Clock(FixedTest<'t>),
+    Fault(Fault<'t>),
 }
 
 /// Appends the clocks of some groups that are always the same.
@@ -119,6 +121,9 @@ fn push_expressions<'t>(
     for inner in &expressions_in(alloc, expr)? {
         if let Some(comparison) = comparison_in(source, scope, inner) {
             found.push(Cause::Comparison(comparison))?;
+        }
+        if let Some(fault) = fault_in(scope, inner) {
+            found.push(Cause::Fault(fault))?;
         }
         if let Some(clock) = sampling(fixed, inner) {
             found.push(Cause::Clock(clock))?;
@@ -226,6 +231,7 @@ fn warning_of(alloc: Global, source: &str, cause: Cause<'_>) -> Result<Warning, 
         Cause::Division(division) => unguarded_division(alloc, source, division),
         Cause::Comparison(comparison) => constant_comparison(alloc, source, comparison),
         Cause::Clock(clock) => constant_clock(alloc, clock),
+        Cause::Fault(fault) => constant_fault(alloc, source, fault),
     }
 }
 

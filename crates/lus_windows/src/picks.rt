@@ -1,13 +1,13 @@
 //! Entries that are picked of instants.
 
 ghost use Rattle.std.specs.Prelude.{◌≡◌, IfOk, map};
-ghost use Rattle.lus_values.specs.Lists.{item};
 ghost use Rattle.lus_values.specs.View.{entry_of};
 ghost use Rattle.lus_streams.specs.Streams.{entry};
 ghost use Rattle.lus_worlds.specs.Moments.{instant_of};
 ghost use Rattle.lus_windows.specs.Picks.{instant_at, picked_at};
 
-use lus_values::{Memory, Row, Value, copy_entry};
+use lus_reference::entry_at;
+use lus_values::{Memory, Row, Value};
 use lus_worlds::Moment;
 use std::alloc::Global;
 
@@ -16,16 +16,6 @@ use std::alloc::Global;
 pub struct Pick {
     pub way: Vec<u32>,
     pub variable: u32,
-}
-
-/// The entry at a place of a row; past the end there is none.
-fn entry_at(alloc: Global, row: &[Option<Value>], place: usize) -> Result<Option<Value>, Memory>
-    ensures { IfOk result (λ e. entry_of e ≡ item None (map entry_of row.now) place) }
-{
-    match row.get(place) {
-        Some(found) => copy_entry(alloc, found),
-        None => Ok(None),
-    }
 }
 
 /// What a variable holds at an instant, in the node that a way of calls leads to.

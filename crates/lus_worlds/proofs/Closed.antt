@@ -15,8 +15,7 @@ use Rattle.lus_normal_form.specs.Named.{Numbered}
 use Rattle.lus_parts.specs.declared.part.Part.{Part as StoredPart}
 use Rattle.lus_parts.specs.Parts.{part_of}
 use Rattle.lus_reference.specs.Causes.{Operation}
-use Rattle.lus_reference.specs.Kept.{Keeps}
-use Rattle.lus_reference.specs.Parts.{StandsAt, DoesRenew}
+use Rattle.lus_reference.specs.Kept.{Keeps, StandsAt, DoesRenew}
 use Rattle.lus_reference.proofs.Onward.{keeps_on}
 use Rattle.lus_worlds.specs.declared.moment.Fault.{Fault}
 use Rattle.lus_worlds.specs.declared.moment.Moment.{Moment}

@@ -2,7 +2,7 @@
 use Rattle.std.proofs.Common.{◌≡◌, ◌∙◌, ℕ, suc, ◌+◌, ◌<◌, ◌∷◌, length, Option, Some, None, ap, refl, subst, arith}
 use Rattle.lus_values.specs.Lists.{Each}
 use Rattle.lus_values.proofs.Lists.{below_all}
-use Rattle.lus_program.specs.declared.expr.Test.{Test}
+use Rattle.lus_values.specs.declared.test.Test.{Test}
 use Rattle.lus_program.specs.Programs.{call, Operands, none, more, Node, Program, empty_node, node_at}
 use Rattle.lus_program.specs.Resolved.{Resolved}
 use Rattle.lus_streams.specs.Clocks.{Clock, clock_of, Part, at, operand, base_of, formal_clock}

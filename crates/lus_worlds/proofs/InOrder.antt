@@ -1,5 +1,5 @@
 -- Calls that run one behind another, and variables that are found one behind another, up to all.
-use Rattle.std.proofs.Common.{◌≡◌, ◌∙◌, ℕ, zero, suc, ◌<◌, ◌≤◌, Bool, true, false, List, [], ◌∷◌, ◌++◌, drop, length, map, reverse, take, Contains, IsTrue, Option, Some, None, refl, sym, ap, subst, arith, ⊎_elim, slice_get, slice_set, true≢false}
+use Rattle.std.proofs.Common.{◌≡◌, ◌∙◌, ℕ, zero, suc, ◌+◌, ◌<◌, ◌≤◌, Bool, true, false, List, [], ◌∷◌, ◌++◌, drop, length, map, reverse, take, Contains, IsTrue, Option, Some, None, refl, sym, ap, subst, arith, ⊎_elim, slice_get, slice_set, true≢false}
 use Rattle.std.proofs.Math.ListN.{length-map}
 use Rattle.std.proofs.lemmas.Bool.{cases_lt}
 use Rattle.std.proofs.lemmas.List.{reverse-append}
@@ -8,7 +8,7 @@ use Rattle.lus_values.specs.Values.{Row, Value}
 use Rattle.lus_values.specs.View.{entry_of}
 use Rattle.lus_values.proofs.Lists.{below_at}
 use Rattle.lus_program.specs.Programs.{Expression, literal, variable, operate, pre, arrow, when, merge, call, Operands, numbered, all_numbered, Node, Program, node_at, empty_node}
-use Rattle.lus_streams.specs.Clocks.{Clock, Part, at, base_of, clock_of, parts}
+use Rattle.lus_streams.specs.Clocks.{Clock, at, base_of, clock_of}
 use Rattle.lus_streams.specs.Equations.{node_parts, Site, sites, sites_in}
 use Rattle.lus_streams.specs.OnClock.{IsOnClocks}
 use Rattle.lus_streams.specs.Order.{is_in, IsOrder, needed, HasNeedsFirst}
@@ -23,9 +23,8 @@ use Rattle.lus_parts.specs.Parts.{part_of}
 use Rattle.lus_parts.proofs.Nested.{node_nested}
 use Rattle.lus_reference.specs.Kept.{AreRowsFrom, Keeps}
 use Rattle.lus_reference.specs.Given.{callee}
-use Rattle.lus_reference.proofs.Drops.{dropped_map}
-use Rattle.lus_reference.proofs.Parts.{behind_nested, behind_stands}
-use Rattle.lus_reference.proofs.Recalled.{keeps_left}
+use Rattle.lus_reference.proofs.Drops.{dropped, dropped_map}
+use Rattle.lus_reference.proofs.Parts.{behind_nested}
 use Rattle.lus_worlds.specs.declared.finding.Found.{Found}
 use Rattle.lus_worlds.specs.declared.moment.Moment.{Moment}
 use Rattle.lus_worlds.specs.Finding.{call_places, has_run, called_by, HaveRun, IsFound, IsPrepared, IsSought, IsOf, RunsNode, RunsInTurn, FindsAll, IsFoundBy, IsOther, CallsHere, row_so_far, Finds}
@@ -70,13 +69,6 @@ no_call c k n (when t a) h = tt
 no_call c k n (merge x bs) h = tt
 no_call c k n (call g d es) h = absurd (cc)
 
--- what is kept of the arguments of the call at a part
-arguments_kept : (p : Program) (q : StoredPart) (g : ℕ) (es : Operands) (kept : Row) (past : World) (rest : List Part) → (let e = at q.clock.items (numbered q.number (call g 0 es)) in
-    IsFollowed p e (e ∷ rest) → Keeps p past (e ∷ rest) kept → KeepsArguments p q g es kept past)
-arguments_kept p q g es kept past rest followed keeps =
-    let e = at q.clock.items (numbered q.number (call g 0 es)) in
-    (keeps_left p past (parts p (call g q.number (all_numbered (suc q.number) es)) q.clock.items) followed.0 kept (subst (λ l. Keeps p past l kept) followed.1 keeps)).2
-
 -- what ran before stays, and each call whose number is past the last ran
 ran_now : (os : List (Option Moment)) (count : ℕ) → length os ≡ count → (before cs : List ℕ) → Each (λ d. has_run os d ≡ true) before → Each (λ d. d < count → IsTrue (is_in before d)) cs → Each (λ d. has_run os d ≡ true) cs
 ran_now os count e before cs ran h =
@@ -115,9 +107,9 @@ module _ (p : Program) (orders : List (List ℕ)) (present : Bool) (old : Moment
       absurd (site_own p parts c place q (subst (λ es. Numbered 0 (sites_in p es)) (sym are) (sites_numbered p prepared.resolved f)) h there other)
 
   -- a call that stands at a part
-  pub run_here : (c g i : ℕ) (es : Operands) (q : StoredPart) (a b : Found) (on : Bool) (kept given : Row) → drop i parts ≡ q ∷ drop (suc i) parts → CallsHere c q g es → kept ≡ drop i (kept_in old)
-      → PassesAt p present (map entry_of a.row.items) a.rows.items q g es kept on given → RunsNode p orders present old c g on given a b → Runs (c ∷ []) a b
-  run_here c g i es q a b on kept given rest here behind passes runs f now past before prepared are sought of can ran =
+  pub run_here : (c g i : ℕ) (es : Operands) (q : StoredPart) (a b : Found) (on : Bool) (given : Row) → drop i parts ≡ q ∷ drop (suc i) parts → CallsHere c q g es
+      → PassesAt p present (map entry_of a.row.items) a.rows.items q g es (map part_of parts) (i + 1) (kept_in old) on given → RunsNode p orders present old c g on given a b → Runs (c ∷ []) a b
+  run_here c g i es q a b on given rest here passes runs f now past before prepared are sought of can ran =
       let all = sites p (node_at p f) in
       let os = a.called.items in
       let row = map entry_of a.row.items in
@@ -138,14 +130,9 @@ module _ (p : Program) (orders : List (List ℕ)) (present : Bool) (old : Moment
       let now' = so_far p row os now past in
       let rows : AreRowsFrom now' 0 a.rows.items = subst (AreRowsFrom now' 0) (sym of.rows) (found_rows p row os now past) in
       let keeps : Keeps p past (map part_of parts) (kept_in old) = subst (λ l. Keeps p past l (kept_in old)) (sym are) (own_kept p f present old now past sought) in
-      let left : Keeps p past (part_of q ∷ later) kept =
-      subst (Keeps p past (part_of q ∷ later)) (sym behind)
-      (subst (λ l. Keeps p past (map part_of l) (drop i (kept_in old))) rest
-      (behind_stands p present row a.rows.items i parts (kept_in old) now' past (record { base = sought.base; entries = refl; called = rows; keeps = keeps })).keeps) in
-      let arguments : KeepsArguments p q g es kept past =
-      arguments_kept p q g es kept past later
-      (subst (λ e. IsFollowed p (at k (numbered n e)) (at k (numbered n e) ∷ later)) seen followed)
-      (subst (λ e. Keeps p past (at k (numbered n e) ∷ later) kept) seen left) in
+      let own : IsFollowed p (at k (numbered n (call g 0 es))) (at k (numbered n (call g 0 es)) ∷ later) = subst (λ e. IsFollowed p (at k (numbered n e)) (at k (numbered n e) ∷ later)) seen followed in
+      let behind : drop (i + 1) (map part_of parts) ≡ later = dropped i 1 (map part_of parts) ∙ ap (drop 1) first in
+      let arguments : KeepsArguments p q g es (map part_of parts) (i + 1) (kept_in old) past = ((own.0, behind ∙ ap (drop 1) own.1), keeps) in
       let passed = passes now' past sought.base refl rows arguments in
       let able = can.0 site among here.0 in
       let called = ran_now os (length all) (ran_length p past os (called_by now) all of.called) before _ ran able.2 in

@@ -5,7 +5,7 @@ use Rattle.std.proofs.lemmas.Bool.Decides.{nat_tests}
 use Rattle.std.proofs.lemmas.List.{reverse-append}
 use Rattle.lus_values.specs.Lists.{Each}
 use Rattle.lus_program.specs.Programs.{Expression, literal, variable, operate, pre, arrow, when, merge, call, Operands, none, more, calls, numbered, all_numbered, Equation, Node, Program, node_at}
-use Rattle.lus_program.specs.declared.expr.Test.{Test}
+use Rattle.lus_values.specs.declared.test.Test.{Test}
 use Rattle.lus_program.specs.Resolved.{AreNumbered}
 use Rattle.lus_streams.specs.Clocks.{Clock, Part, clock_of, formal_clock, base_of, branch_clock, renamed_clock, parts, all_parts}
 use Rattle.lus_streams.specs.Equations.{Definition, given_by, definition_of, equation_clock, equation_parts, node_parts, Site, sites}

@@ -12,7 +12,8 @@ ghost use Rattle.lus_worlds.specs.Moments.{EachKeeps, KeepsBehind};
 
 use crate::moment::Moment;
 use lus_parts::{Part, parts_of};
-use lus_program::{Expr, Form, Program};
+use lus_program::Program;
+use lus_reference::callee;
 use lus_values::{Memory, Row};
 use std::alloc::Global;
 
@@ -99,15 +100,5 @@ fn start_call(
             None => Ok(false),
         },
         None => Ok(true),
-    }
-}
-
-/// The node that an expression calls, if it is a call.
-pub fn callee(expr: &Expr) -> Option<u32>
-    ensures { result ≡ callee_in (expression_of expr.now) }
-{
-    match &expr.form {
-        Form::Call(node, _) => Some(*node),
-        _ => None,
     }
 }

@@ -3,8 +3,8 @@
 ghost use Rattle.std.specs.Prelude.{◌≡◌, ◌++◌, IfOk, OnOk};
 ghost use Rattle.lus_worlds.specs.Finding.{call_place, call_places};
 
-use crate::beginning::callee;
 use lus_parts::Part;
+use lus_reference::callee;
 use lus_values::Memory;
 use std::alloc::Global;
 

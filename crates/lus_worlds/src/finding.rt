@@ -3,6 +3,8 @@
 ghost use Rattle.std.specs.Prelude.{◌≡◌, ◌<◌, ◌+◌, ◌++◌, ℕ, [], IfOk, IsTrue, MatchOption, OnOk, false, is_some, length, map, slice_set, true};
 ghost use Rattle.lus_program.specs.Programs.{all_calls, all_numbered, calls, numbered};
 ghost use Rattle.lus_program.specs.View.{expression_of, node_of, operands_of, program_seen};
+ghost use Rattle.lus_streams.specs.Equations.{node_parts};
+ghost use Rattle.lus_parts.specs.Parts.{part_of};
 ghost use Rattle.lus_reference.specs.Placed.{place_of};
 ghost use Rattle.lus_worlds.specs.Finding.{IsFoundBy, has_run, row_so_far, unless};
 ghost use Rattle.lus_worlds.specs.Moments.{row_in};
@@ -12,10 +14,10 @@ ghost use Rattle.lus_values.specs.View.{entry_of};
 
 use crate::following::meant;
 use crate::moment::Moment;
-use lus_parts::clock_of;
+use lus_parts::{Part, clock_of};
 use lus_program::{Expr, Form, Node, Program};
-use lus_reference::{Place, is_on};
-use lus_values::{Memory, Row, Value, copy_entry};
+use lus_reference::{Place, entry_at, is_on};
+use lus_values::{Memory, Row, Value};
 use std::alloc::Global;
 
 /// The entries of a node's variables, the instants of the nodes that it calls, and their rows; what isn't found yet is absent.
@@ -70,12 +72,14 @@ impl Found {
         alloc: Global,
         program: &Program,
         node: &Node,
+        parts: &[Part<'_>],
         variable: u32,
         place: Option<Place>,
         present: bool,
         kept: &[Option<Value>],
     ) -> Result<(), Memory>
-        requires { place ≡ place_of node.now variable }
+        requires place { place ≡ place_of node.now variable }
+        requires parts { map part_of parts.now ≡ node_parts (program_seen program.now) (node_of node.now) }
         ensures called { OnOk result (self.new.called ≡ self.old.called) }
         ensures rows { OnOk result (self.new.rows ≡ self.old.rows) }
         ensures row { OnOk result (IsFoundBy (program_seen program.now) (node_of node.now) variable present (map entry_of kept.now) self.old.rows.items (map entry_of self.old.row.items) (map entry_of self.new.row.items)) }
@@ -85,7 +89,9 @@ impl Found {
         }
         let clock = clock_of(alloc, &node.variables, variable)?;
         let on = is_on(&clock, present, &self.row);
-        let value = meant(alloc, program, &self.row, node, place, on, kept, &self.rows)?;
+        let value = meant(
+            alloc, program, &self.row, node, parts, place, on, kept, &self.rows,
+        )?;
         self.set(variable as usize, value);
         Ok(())
     }
@@ -125,16 +131,6 @@ pub fn all_called(alloc: Global, called: Vec<Option<Moment>>) -> Result<Option<V
         }
     }
     Ok(Some(all))
-}
-
-/// The entry at a place; past the end there is nothing.
-fn entry_at(alloc: Global, row: &[Option<Value>], place: usize) -> Result<Option<Value>, Memory>
-    ensures { IfOk result (λ e. entry_of e ≡ item None (map entry_of row.now) place) }
-{
-    match row.get(place) {
-        Some(entry) => copy_entry(alloc, entry),
-        None => Ok(None),
-    }
 }
 
 /// Appends the numbers of the calls of an expression, a call behind those in its arguments, which are numbered from a number on; of

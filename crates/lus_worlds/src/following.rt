@@ -5,14 +5,15 @@ ghost use Rattle.lus_values.specs.Lists.{item};
 ghost use Rattle.lus_program.specs.Programs.{node_at};
 ghost use Rattle.lus_program.specs.View.{node_of, program_seen};
 ghost use Rattle.lus_values.specs.View.{entry_of};
+ghost use Rattle.lus_streams.specs.Equations.{node_parts};
+ghost use Rattle.lus_parts.specs.Parts.{part_of};
 ghost use Rattle.lus_reference.specs.Placed.{place_of};
 ghost use Rattle.lus_worlds.specs.Existing.{AreGiven};
 ghost use Rattle.lus_worlds.specs.Following.{IsGiven, IsMeant};
 
-use crate::entries::has_entry;
-use lus_parts::clock_of;
+use lus_parts::{Part, clock_of};
 use lus_program::{Node, Program};
-use lus_reference::{Place, define, is_on};
+use lus_reference::{Place, define, has_entry, is_on};
 use lus_values::{Memory, Row, Value};
 use std::alloc::Global;
 
@@ -22,15 +23,17 @@ pub fn meant(
     program: &Program,
     row: &[Option<Value>],
     node: &Node,
+    parts: &[Part<'_>],
     place: Option<Place>,
     on: bool,
     kept: &[Option<Value>],
     rows: &[Row],
 ) -> Result<Option<Value>, Memory>
+    requires { map part_of parts.now ≡ node_parts (program_seen program.now) (node_of node.now) }
     ensures { IfOk result (λ v. (x : ℕ) → place ≡ place_of node.now x → IsMeant (program_seen program.now) (map entry_of row.now) (node_of node.now) x on (map entry_of kept.now) rows.now (entry_of v)) }
 {
     if on {
-        define(alloc, program, row, node, place, kept, rows)
+        define(alloc, program, row, node, parts, place, kept, rows)
     } else {
         Ok(None)
     }

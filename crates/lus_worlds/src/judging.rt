@@ -1,20 +1,18 @@
 //! Which part is at fault at an instant, in the node or in one that it calls.
 
-ghost use Rattle.std.specs.Prelude.{◌≡◌, ◌∷◌, IfOk, IsTrue, MatchOption, None, Some, false, map};
+ghost use Rattle.std.specs.Prelude.{◌≡◌, ◌⊎◌, ◌∷◌, IfOk, IsTrue, MatchOption, None, Some, false, map};
 ghost use Rattle.std.specs.Option.{option_map};
 ghost use Rattle.lus_program.specs.View.{program_seen};
 ghost use Rattle.lus_values.specs.View.{entry_of, value_of};
-ghost use Rattle.lus_parts.specs.Nested.{AreNested};
 ghost use Rattle.lus_parts.specs.Parts.{part_of};
-ghost use Rattle.lus_reference.specs.Causes.{operation_in};
-ghost use Rattle.lus_reference.specs.Parts.{IsFaultOf};
-ghost use Rattle.lus_worlds.specs.Judging.{EachFaultless, IsFault, IsFaultBelow, IsFaultHere, IsJudged, NoFaultHere};
+ghost use Rattle.lus_reference.specs.Causes.{IsFaultOf, operation_in};
+ghost use Rattle.lus_worlds.specs.Judging.{EachFaultless, IsFaultBelow, IsFaultHere, IsJudged, NoFaultHere};
 ghost use Rattle.lus_worlds.specs.Moments.{cause_in, fault_in, row_in};
 
 use crate::moment::{Fault, Moment};
 use lus_parts::Part;
 use lus_program::Program;
-use lus_reference::{Operation, cause_in};
+use lus_reference::{AtFault, Operation};
 use lus_values::{Memory, Row, Value, copy};
 use std::alloc::Global;
 
@@ -60,32 +58,7 @@ fn fault_below(alloc: Global, number: u32, fault: &Fault) -> Result<Fault, Memor
     })
 }
 
-/// The first cause among the parts of a node, of which one is at fault, if there is one.
-fn cause_here(
-    alloc: Global,
-    program: &Program,
-    present: bool,
-    row: &[Option<Value>],
-    rows: &[Row],
-    parts: &[Part<'_>],
-    kept: &[Option<Value>],
-    called: &[Moment],
-) -> Result<Option<Fault>, Memory>
-    requires rows { rows.now ≡ map row_in called.now }
-    requires nested { AreNested (program_seen program.now) (map part_of parts.now) }
-    ensures { IfOk result (λ o. MatchOption o (Unit {0}) (IsFaultHere (program_seen program.now) present (map entry_of row.now) parts.now (map entry_of kept.now) called.now)) }
-{
-    match cause_in(alloc, program, present, row, rows, parts, kept)? {
-        Some(cause) => Ok(Some(Fault {
-            way: Vec::new(alloc),
-            place: parts[cause.place].expr.place,
-            cause: Some(cause.operation),
-        })),
-        None => Ok(None),
-    }
-}
-
-/// The part of a node at this place, which is at fault, if one is.
+/// The part of a node that is at fault, if one is.
 fn fault_here(
     alloc: Global,
     program: &Program,
@@ -95,7 +68,7 @@ fn fault_here(
     parts: &[Part<'_>],
     kept: &[Option<Value>],
     called: &[Moment],
-    fault: Option<usize>,
+    fault: Option<AtFault>,
 ) -> Option<Fault>
     requires rows { rows.now ≡ map row_in called.now }
     requires fault { IsFaultOf (program_seen program.now) present (map entry_of row.now) rows.now (map part_of parts.now) (map entry_of kept.now) fault }
@@ -104,10 +77,10 @@ fn fault_here(
         MatchOption result (NoFaultHere p present now parts.now (map entry_of kept.now) called.now) (IsFaultHere p present now parts.now (map entry_of kept.now) called.now) }
 {
     match fault {
-        Some(place) => Some(Fault {
+        Some(found) => Some(Fault {
             way: Vec::new(alloc),
-            place: parts[place].expr.place,
-            cause: None,
+            place: parts[found.place].expr.place,
+            cause: found.operation,
         }),
         None => None,
     }
@@ -154,25 +127,12 @@ fn fault_among(alloc: Global, called: &[Moment], is_cause: bool) -> Result<Optio
     Ok(None)
 }
 
-/// A cause of a part's fault, here or in a called node, or this fault, where none is found.
-fn cause_of(
-    alloc: Global,
-    program: &Program,
-    present: bool,
-    row: &[Option<Value>],
-    rows: &[Row],
-    parts: &[Part<'_>],
-    kept: &[Option<Value>],
-    called: &[Moment],
-    fault: Fault,
-) -> Result<Fault, Memory>
-    requires rows { rows.now ≡ map row_in called.now }
-    requires nested { AreNested (program_seen program.now) (map part_of parts.now) }
-    requires fault { IsFaultHere (program_seen program.now) present (map entry_of row.now) parts.now (map entry_of kept.now) called.now fault }
-    ensures { IfOk result (IsFault (program_seen program.now) present (map entry_of row.now) parts.now (map entry_of kept.now) called.now) }
+/// This fault, where it is a cause or none is found in a called node; else that cause.
+fn cause_of(alloc: Global, called: &[Moment], fault: Fault) -> Result<Fault, Memory>
+    ensures { IfOk result (λ t. (t ≡ fault) ⊎ IsFaultBelow called.now t) }
 {
-    if let Some(cause) = cause_here(alloc, program, present, row, rows, parts, kept, called)? {
-        return Ok(cause);
+    if fault.cause.is_some() {
+        return Ok(fault);
     }
     match fault_among(alloc, called, true)? {
         Some(cause) => Ok(cause),
@@ -180,8 +140,8 @@ fn cause_of(
     }
 }
 
-/// The part that is at fault at an instant with these instants of called nodes, if one is: here, where the one at this place is, or
-/// in them; a cause before others.
+/// The part that is at fault at an instant with these instants of called nodes, if one is: this one here, or one in them; a cause
+/// before others.
 pub fn judge(
     alloc: Global,
     program: &Program,
@@ -191,10 +151,9 @@ pub fn judge(
     parts: &[Part<'_>],
     kept: &[Option<Value>],
     called: &[Moment],
-    fault: Option<usize>,
+    fault: Option<AtFault>,
 ) -> Result<Option<Fault>, Memory>
     requires rows { rows.now ≡ map row_in called.now }
-    requires nested { AreNested (program_seen program.now) (map part_of parts.now) }
     requires fault { IsFaultOf (program_seen program.now) present (map entry_of row.now) rows.now (map part_of parts.now) (map entry_of kept.now) fault }
     ensures { IfOk result (IsJudged (program_seen program.now) present (map entry_of row.now) parts.now (map entry_of kept.now) called.now) }
 {
@@ -202,12 +161,7 @@ pub fn judge(
         alloc, program, present, row, rows, parts, kept, called, fault,
     );
     match here {
-        Some(fault) => {
-            let cause = cause_of(
-                alloc, program, present, row, rows, parts, kept, called, fault,
-            )?;
-            Ok(Some(cause))
-        }
+        Some(fault) => Ok(Some(cause_of(alloc, called, fault)?)),
         None => fault_among(alloc, called, false),
     }
 }

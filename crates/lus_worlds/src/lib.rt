@@ -4,7 +4,6 @@
 mod beginning;
 mod calling;
 mod closing;
-mod entries;
 mod finding;
 mod following;
 mod judging;

@@ -3,12 +3,12 @@
 ghost use Rattle.std.specs.Prelude.{IfOk, map};
 ghost use Rattle.lus_program.specs.View.{operands_of, program_seen};
 ghost use Rattle.lus_values.specs.View.{entry_of};
+ghost use Rattle.lus_parts.specs.Parts.{part_of};
 ghost use Rattle.lus_worlds.specs.Passing.{PassesAt};
 
-use crate::entries::entries_from;
 use lus_parts::{Part, base_of};
 use lus_program::{Expr, Program};
-use lus_reference::{is_on, pass, rows_from};
+use lus_reference::{is_on, pass};
 use lus_values::{Memory, Row, Value};
 use std::alloc::Global;
 
@@ -19,7 +19,7 @@ pub struct Passed {
     pub inputs: Vec<Option<Value>>,
 }
 
-/// What the call at a part passes.
+/// What the call at a part passes, which stands before this place among the parts of its node.
 pub fn pass_at(
     alloc: Global,
     program: &Program,
@@ -29,24 +29,16 @@ pub fn pass_at(
     part: &Part<'_>,
     called: u32,
     arguments: &[Expr],
+    parts: &[Part<'_>],
+    behind: usize,
     kept: &[Option<Value>],
 ) -> Result<Passed, Memory>
-    ensures { IfOk result (λ v. PassesAt (program_seen program.now) present (map entry_of row.now) rows.now part.now called (operands_of arguments.now) (map entry_of kept.now) v.on (map entry_of v.inputs.items)) }
+    ensures { IfOk result (λ v. PassesAt (program_seen program.now) present (map entry_of row.now) rows.now part.now called (operands_of arguments.now) (map part_of parts.now) behind (map entry_of kept.now) v.on (map entry_of v.inputs.items)) }
 {
     let base = base_of(alloc, program, called, &part.clock)?;
     let on = is_on(&base, present, row);
-    let own = rows_from(rows, part.number);
-    let behind = rows_from(own, 1);
     let inputs = pass(
-        alloc,
-        program,
-        present,
-        row,
-        called,
-        arguments,
-        &base,
-        entries_from(kept, 1),
-        behind,
+        alloc, program, present, row, rows, called, arguments, &base, parts, behind, kept,
     )?;
     Ok(Passed { on, inputs })
 }

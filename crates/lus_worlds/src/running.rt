@@ -11,7 +11,6 @@ ghost use Rattle.lus_worlds.specs.Moments.{moments_in};
 
 use crate::calling::sites_of;
 use crate::closing::close;
-use crate::entries::entries_from;
 use crate::finding::{Found, all_called, calls_of, last_first, order_at};
 use crate::following::place_at;
 use crate::moment::Moment;
@@ -96,6 +95,7 @@ fn find(
             alloc,
             program,
             node,
+            parts,
             *variable,
             place,
             present,
@@ -165,7 +165,6 @@ fn run_call(
     let part = &parts[place];
     match call_at(part, call) {
         Some((called, arguments)) => {
-            let kept = entries_from(old.kept.items(), place);
             let passed = pass_at(
                 alloc,
                 program,
@@ -175,7 +174,9 @@ fn run_call(
                 part,
                 called,
                 arguments,
-                kept,
+                parts,
+                place + 1,
+                old.kept.items(),
             )?;
             run_node(
                 alloc,

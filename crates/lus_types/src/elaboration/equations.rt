@@ -12,9 +12,9 @@ ghost use Rattle.lus_types.specs.Wholes.{EquationTyped, GivesTo, Take};
 
 use crate::elaboration::expressions::{elaborate, whole_call};
 use crate::elaboration::forms::place_of;
-use crate::elaboration::kinds::same;
+use crate::elaboration::kinds::{member, same};
 use lus_program::{Equation, Expr, Kind};
-use lus_source::{Fault, Scope};
+use lus_source::{Cause, Fault, Scope, Whole};
 use lus_syntax::{Equation as SourceEquation, Expr as Source, Name, Place};
 use std::alloc::{AllocError, Global};
 
@@ -41,6 +41,22 @@ fn take(scope: &Scope, targets: &[u32], kinds: &[Kind]) -> bool
     }
 }
 
+/// Why variables don't take values of these types.
+fn mistaken(scope: &Scope, targets: &[u32], kinds: &[Kind]) -> Cause {
+    if targets.len() != kinds.len() {
+        return Cause::Count(Whole::Equation, targets.len(), kinds.len(), None);
+    }
+    for (place, target) in targets.iter().enumerate() {
+        if let Some(wanted) = scope.variable_kind(*target)
+            && let Some(found) = kinds.get(place)
+            && !same(wanted, *found)
+        {
+            return Cause::Clash(Whole::Equation, member(place, wanted), *found);
+        }
+    }
+    Cause::Unsaid
+}
+
 /// A right side that gives what these variables have; a call there may have several outputs. The fault is at `place`
 /// where it gives something else.
 pub fn right_side(
@@ -64,7 +80,7 @@ pub fn right_side(
             if take(scope, targets, outputs) {
                 Ok(expr)
             } else {
-                Err(Fault::At(place))
+                Err(Fault::At(place, mistaken(scope, targets, outputs)))
             }
         }
         Source::Number(_, _)
@@ -82,7 +98,7 @@ pub fn right_side(
             if take(scope, targets, &[whole.kind]) {
                 Ok(whole.expr)
             } else {
-                Err(Fault::At(place))
+                Err(Fault::At(place, mistaken(scope, targets, &[whole.kind])))
             }
         }
     }
@@ -128,4 +144,21 @@ pub fn equation(alloc: Global, scope: &Scope, source: &SourceEquation) -> Result
         places,
         right: Box::into_inner(right),
     })
+}
+
+/// Of each of some equations, whether its types disagree.
+pub fn misfits(
+    alloc: Global,
+    scope: &Scope,
+    sources: &[SourceEquation],
+) -> Result<Vec<bool>, AllocError> {
+    let mut misfits = Vec::new(alloc);
+    for source in sources {
+        match equation(alloc, scope, source) {
+            Ok(_) => misfits.push(false)?,
+            Err(Fault::At(_, _)) => misfits.push(true)?,
+            Err(Fault::Memory) => return Err(AllocError),
+        }
+    }
+    Ok(misfits)
 }

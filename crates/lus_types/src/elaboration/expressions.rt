@@ -12,12 +12,14 @@ ghost use Rattle.lus_types.specs.Wholes.{AllMean, IsElaborated, given_by, parts_
 
 use crate::elaboration::arrangement::arranged;
 use crate::elaboration::forms::{Elaborated, boxed, literal, named, place_of, sampled};
-use crate::elaboration::kinds::merged;
+use crate::elaboration::kinds::{member, merged, same};
 use crate::elaboration::operands::Operands;
 use crate::elaboration::operators::{chosen, infixed, operated, prefixed, projected};
-use crate::elaboration::parts::{Members, are_arguments, called, list_operation, member_places};
+use crate::elaboration::parts::{
+    Members, are_arguments, called, list_operation, member_places, miscalled, miscounted,
+};
 use lus_program::{Expr, Form, Kind};
-use lus_source::{Fault, Scope};
+use lus_source::{Cause, Fault, Scope, Whole};
 use lus_syntax::{Expr as Source, Infix, ListOperator, Name, Part, Place};
 use lus_values::{Operator, Value};
 use std::alloc::Global;
@@ -117,7 +119,7 @@ pub fn whole_call<'a>(
     let (exprs, kinds) = operands.into_parts();
     let place = name.span.start;
     let Some((node, outputs)) = called(scope, name, arguments, &kinds) else {
-        return Err(Fault::At(place));
+        return Err(Fault::At(place, miscalled(scope, name, &kinds)));
     };
     let expr = boxed(alloc, place, Form::Call(node, exprs))?;
     Ok((expr, outputs))
@@ -133,7 +135,7 @@ fn call(alloc: Global, scope: &Scope, name: &Name, arguments: &[Part]) -> Result
     let (expr, outputs) = whole_call(alloc, scope, name, arguments)?;
     match outputs {
         [kind] => Ok(Elaborated { expr, kind: *kind }),
-        _ => Err(Fault::At(name.span.start)),
+        _ => Err(Fault::At(name.span.start, Cause::Results(outputs.len()))),
     }
 }
 
@@ -153,10 +155,34 @@ fn variadic(
     let operands = elaborate_all(alloc, scope, arguments)?;
     let (exprs, kinds) = operands.into_parts();
     if !are_arguments(arguments) {
-        return Err(Fault::At(place));
+        return Err(Fault::At(place, Cause::Unsaid));
     }
     let operator = Operator::Compute(list_operation(op));
     operated(alloc, scope, place, operator, &kinds, exprs)
+}
+
+/// Why branches of these types aren't merged.
+fn unmerged(branches: &[Expr], kinds: &[Kind]) -> Cause {
+    let (Some(first), Some(kind)) = (branches.first(), kinds.first()) else {
+        return Cause::Unsaid;
+    };
+    for (place, branch) in branches.iter().enumerate() {
+        if let Some(other) = kinds.get(place)
+            && !same(*kind, *other)
+        {
+            let whole = Whole::Merge(first.place, branch.place);
+            return Cause::Clash(whole, member(place, *kind), *other);
+        }
+    }
+    Cause::Unsaid
+}
+
+/// Why a name isn't that of a structure.
+fn unstructured(scope: &Scope, name: &Name) -> Cause {
+    match scope.kind(&name.text) {
+        Some(kind) => Cause::Lacks(kind),
+        None => Cause::Unsaid,
+    }
 }
 
 /// A merge: each constructor of its variable's type stands exactly once, and the branches are of one type.
@@ -174,16 +200,25 @@ fn merge(
 {
     let operands = elaborate_all(alloc, scope, branches)?;
     let Some(clock) = scope.variable(&variable.text) else {
-        return Err(Fault::At(variable.span.start));
+        return Err(Fault::At(variable.span.start, Cause::Unsaid));
     };
     let places = member_places(alloc, scope, Members::Constructors, clock.kind, branches)?;
     let size = scope.size_of(clock.kind);
+    let first = operands.kinds.first().copied();
     let Some(operands) = arranged(size, places, operands) else {
-        return Err(Fault::At(place));
+        let cause = miscounted(
+            scope,
+            Members::Constructors,
+            clock.kind,
+            branches,
+            size,
+            first,
+        );
+        return Err(Fault::At(place, cause));
     };
     let (exprs, kinds) = operands.into_parts();
     let Some(kind) = merged(scope, clock.place, &kinds) else {
-        return Err(Fault::At(place));
+        return Err(Fault::At(place, unmerged(&exprs, &kinds)));
     };
     let expr = boxed(alloc, place, Form::Merge(clock.place, exprs))?;
     Ok(Elaborated { expr, kind })
@@ -204,13 +239,14 @@ fn structure(
     let operands = elaborate_all(alloc, scope, fields)?;
     let place = name.span.start;
     let Some(Kind::Struct(declaration)) = scope.kind(&name.text) else {
-        return Err(Fault::At(place));
+        return Err(Fault::At(place, unstructured(scope, name)));
     };
     let kind = Kind::Struct(declaration);
     let places = member_places(alloc, scope, Members::Fields, kind, fields)?;
     let size = scope.fields_of(kind).len();
     let Some(operands) = arranged(size, places, operands) else {
-        return Err(Fault::At(place));
+        let cause = miscounted(scope, Members::Fields, kind, fields, size, None);
+        return Err(Fault::At(place, cause));
     };
     let (exprs, kinds) = operands.into_parts();
     let operator = Operator::Structure(declaration);

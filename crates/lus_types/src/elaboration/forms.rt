@@ -13,9 +13,9 @@ ghost use Rattle.lus_source.specs.Meaning.{name_meant, test_meant, where_found};
 ghost use Rattle.lus_source.specs.ScopeView.{scope_of};
 ghost use Rattle.lus_types.specs.Wholes.{Elaborates, IsElaborated, Means};
 
-use crate::elaboration::kinds::{same, test_fits, value_kind};
+use crate::elaboration::kinds::{member, same, test_fits, value_kind};
 use lus_program::{Expr, Form, Kind, Test};
-use lus_source::{Fault, Scope};
+use lus_source::{Cause, Fault, Scope};
 use lus_syntax::{Expr as Source, Label, Name, Place, Test as SourceTest};
 use lus_values::Value;
 use std::alloc::{AllocError, Global};
@@ -58,7 +58,7 @@ pub fn literal(alloc: Global, place: Place, value: Value) -> Result<Elaborated, 
     ensures { Elaborates result (kind_of_value (value_of value)) (literal_meant (value_of value)) }
 {
     let Some(kind) = value_kind(&value) else {
-        return Err(Fault::At(place));
+        return Err(Fault::At(place, Cause::Unsaid));
     };
     let expr = boxed(alloc, place, Form::Literal(value))?;
     Ok(Elaborated { expr, kind })
@@ -72,14 +72,14 @@ pub fn named(alloc: Global, scope: &Scope, name: &Name) -> Result<Elaborated, Fa
     let place = name.span.start;
     if let Some(variable) = scope.variable(&name.text) {
         let Some(kind) = scope.variable_kind(variable.place) else {
-            return Err(Fault::At(place));
+            return Err(Fault::At(place, Cause::Unsaid));
         };
         let expr = boxed(alloc, place, Form::Variable(variable.place))?;
         return Ok(Elaborated { expr, kind });
     }
     match scope.value(alloc, &name.text)? {
         Some(value) => literal(alloc, place, value),
-        None => Err(Fault::At(place)),
+        None => Err(Fault::At(place, Cause::Unsaid)),
     }
 }
 
@@ -146,6 +146,14 @@ pub fn test(scope: &Scope, source: &SourceTest) -> Option<Test>
     test_fits(scope, test).then_some(test)
 }
 
+/// Why a test doesn't fit.
+pub fn misclocked(scope: &Scope, source: &SourceTest) -> Cause {
+    match scope.variable(&clock_variable(source).text) {
+        Some(variable) => Cause::Clock(member(variable.place as usize, variable.kind)),
+        None => Cause::Unsaid,
+    }
+}
+
 /// `when`
 pub fn sampled(
     alloc: Global,
@@ -160,7 +168,7 @@ pub fn sampled(
 {
     let Elaborated { expr, kind } = operand;
     let Some(found) = test(scope, source) else {
-        return Err(Fault::At(clock_variable(source).span.start));
+        return Err(Fault::At(clock_variable(source).span.start, misclocked(scope, source)));
     };
     let expr = boxed(alloc, place, Form::When(found, expr))?;
     Ok(Elaborated { expr, kind })

@@ -11,7 +11,7 @@ ghost use Rattle.lus_source.specs.ScopeView.{scope_of};
 ghost use Rattle.lus_values.specs.View.{value_of};
 
 use lus_program::{Field, Kind, Test, operation_kind};
-use lus_source::Scope;
+use lus_source::{Cause, Member, Scope, Whole};
 use lus_values::{Op, Operator, Shape, Value};
 
 pub fn same(left: Kind, right: Kind) -> bool
@@ -35,6 +35,36 @@ pub fn all_same(left: &[Kind], right: &[Kind]) -> bool
             [] => false,
             [other, right @ ..] => same(*one, *other) && all_same(left, right),
         },
+    }
+}
+
+/// A part by its number, and a type.
+pub fn member(number: usize, kind: Kind) -> Member {
+    Member { number, kind }
+}
+
+/// Where the first of some parts stands that hasn't the type that is wanted, else how many there are in both.
+fn first_unlike(wanted: &[Kind], found: &[Kind]) -> usize {
+    for (number, (one, other)) in wanted.iter().zip(found.iter()).enumerate() {
+        if !same(*one, *other) {
+            return number;
+        }
+    }
+    wanted.len().min(found.len())
+}
+
+/// Why parts of some types don't stand where others are wanted.
+pub fn unlike(whole: Whole, wanted: &[Kind], found: &[Kind]) -> Cause {
+    let number = first_unlike(wanted, found);
+    match (wanted.get(number), found.get(number)) {
+        (Some(kind), Some(other)) if wanted.len() == found.len() => {
+            Cause::Clash(whole, member(number, *kind), *other)
+        }
+        (Some(kind), _) if wanted.len() > found.len() => {
+            let lacking = Some(member(number, *kind));
+            Cause::Count(whole, wanted.len(), found.len(), lacking)
+        }
+        _ => Cause::Count(whole, wanted.len(), found.len(), None),
     }
 }
 

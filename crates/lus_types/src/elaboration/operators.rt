@@ -13,12 +13,80 @@ ghost use Rattle.lus_source.specs.ScopeView.{scope_of};
 ghost use Rattle.lus_types.specs.Wholes.{Elaborates, IsElaborated, Means, meaning};
 
 use crate::elaboration::forms::{Elaborated, boxed};
-use crate::elaboration::kinds::{alike, operator_kind};
+use crate::elaboration::kinds::{alike, member, operator_kind, same, unlike};
 use lus_program::{Expr, Form, Kind};
-use lus_source::{Fault, Scope, field};
+use lus_source::{Cause, Fault, Scope, Whole, field};
 use lus_syntax::{Infix, Name, Place, Prefix};
-use lus_values::{Op, Operator};
+use lus_values::{Op, Operator, Shape};
 use std::alloc::Global;
+
+/// Where the last of some operands begins.
+fn last_place(place: Place, operands: &[Expr]) -> Place {
+    match operands.last() {
+        Some(last) => last.place,
+        None => place,
+    }
+}
+
+/// Why two values that have to be of one type aren't, of which the last begins at this place.
+fn different(last: Place, first: Kind, second: Kind) -> Cause {
+    Cause::Clash(Whole::Alike(last), member(1, first), second)
+}
+
+/// Why some operands, of which the last begins at this place, aren't truth values.
+fn untrue(last: Place, kinds: &[Kind]) -> Cause {
+    for (place, kind) in kinds.iter().enumerate() {
+        if !same(Kind::Bool, *kind) {
+            return Cause::Clash(Whole::Operator(last), member(place, Kind::Bool), *kind);
+        }
+    }
+    Cause::Unsaid
+}
+
+/// Why an operation of this shape doesn't take operands of these types.
+fn uncomputed(shape: Shape, last: Place, kinds: &[Kind]) -> Cause {
+    let whole = Whole::Operator(last);
+    match shape {
+        Shape::Int => unlike(whole, &[Kind::Int], kinds),
+        Shape::Ints | Shape::Comparison => unlike(whole, &[Kind::Int, Kind::Int], kinds),
+        Shape::Bool | Shape::Bools | Shape::Count => untrue(last, kinds),
+        Shape::Alike => match kinds {
+            [left, right] => different(last, *left, *right),
+            _ => Cause::Unsaid,
+        },
+    }
+}
+
+/// Why values of these types don't fit the fields of a structure.
+fn unfit(scope: &Scope, structure: Kind, kinds: &[Kind]) -> Cause {
+    for (place, field) in scope.fields_of(structure).iter().enumerate() {
+        if let Some(found) = kinds.get(place)
+            && !same(field.kind, *found)
+        {
+            let whole = Whole::Structure(structure);
+            return Cause::Clash(whole, member(place, field.kind), *found);
+        }
+    }
+    Cause::Unsaid
+}
+
+/// Why an operator doesn't take operands of these types, of which the last begins at this place.
+fn misapplied(scope: &Scope, operator: Operator, last: Place, kinds: &[Kind]) -> Cause {
+    match operator {
+        Operator::Compute(operation) => uncomputed(operation.shape(), last, kinds),
+        Operator::If => match kinds {
+            [Kind::Bool, left, right] => different(last, *left, *right),
+            [condition, ..] => Cause::Clash(
+                Whole::Operator(last),
+                member(0, Kind::Bool),
+                *condition,
+            ),
+            [] => Cause::Unsaid,
+        },
+        Operator::Structure(declaration) => unfit(scope, Kind::Struct(declaration), kinds),
+        Operator::Field(_) => Cause::Unsaid,
+    }
+}
 
 /// An operator on operands of these types.
 pub fn operated(
@@ -33,7 +101,8 @@ pub fn operated(
         Elaborates result kind (operate operator (operands_of operands.items)) }
 {
     let Some(kind) = operator_kind(scope, operator, kinds) else {
-        return Err(Fault::At(place));
+        let last = last_place(place, &operands);
+        return Err(Fault::At(place, misapplied(scope, operator, last, kinds)));
     };
     let expr = boxed(alloc, place, Form::Operate(operator, operands))?;
     Ok(Elaborated { expr, kind })
@@ -67,7 +136,7 @@ pub fn projected(
         (a : Expression) → Means s operand a → IsElaborated s result (field_meant s (kind_by s a) (name_seen name.now).text a) }
 {
     let Some(found) = field(scope.fields_of(operand.kind), &name.text) else {
-        return Err(Fault::At(name.span.start));
+        return Err(Fault::At(name.span.start, Cause::Lacks(operand.kind)));
     };
     on_one(alloc, scope, place, Operator::Field(found.place), operand)
 }
@@ -159,7 +228,7 @@ fn arrow(
     ensures { Elaborates result (kind_of_alike first.kind later.kind) (arrow_meant (meaning first) (meaning later)) }
 {
     let Some(kind) = alike(first.kind, later.kind) else {
-        return Err(Fault::At(place));
+        return Err(Fault::At(place, different(later.expr.place, first.kind, later.kind)));
     };
     let expr = boxed(alloc, place, Form::Arrow(first.expr, later.expr))?;
     Ok(Elaborated { expr, kind })

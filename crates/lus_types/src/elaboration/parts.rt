@@ -7,9 +7,9 @@ ghost use Rattle.lus_source.specs.ScopeView.{scope_of};
 ghost use Rattle.lus_types.specs.Wholes.{Finds, called as called_node, member_place as place_of_member, member_places as places_of_members, parts_seen};
 
 use crate::elaboration::forms::{label_place, place_of};
-use crate::elaboration::kinds::results;
+use crate::elaboration::kinds::{member, results, unlike};
 use lus_program::Kind;
-use lus_source::{Fault, Scope, field};
+use lus_source::{Cause, Fault, Scope, Whole, field};
 use lus_syntax::{Label, Lead, ListOperator, Name, Part, Place};
 use lus_values::Op;
 use std::alloc::Global;
@@ -45,6 +45,14 @@ pub fn called<'a>(
     }
 }
 
+/// Why a node isn't called with arguments of these types.
+pub fn miscalled(scope: &Scope, name: &Name, kinds: &[Kind]) -> Cause {
+    match scope.node(&name.text) {
+        Some(node) => unlike(Whole::Call, &node.inputs, kinds),
+        None => Cause::Unsaid,
+    }
+}
+
 /// The operation of an operator before a list.
 pub fn list_operation(op: ListOperator) -> Op
     ensures { result ≡ operation_of_list op }
@@ -75,6 +83,43 @@ fn member_place(scope: &Scope, members: Members, kind: Kind, lead: &Lead) -> Opt
     }
 }
 
+/// How many parts name the member at a place.
+fn times(scope: &Scope, members: Members, kind: Kind, parts: &[Part], place: usize) -> usize {
+    let mut times = 0usize;
+    for part in parts {
+        if let Some(found) = member_place(scope, members, kind, &part.lead)
+            && found as usize == place
+        {
+            times = times.saturating_add(1);
+        }
+    }
+    times
+}
+
+/// Which of so many members isn't named exactly once by parts, the first of which has this type: one that is named several times, else
+/// one that isn't named.
+pub fn miscounted(
+    scope: &Scope,
+    members: Members,
+    kind: Kind,
+    parts: &[Part],
+    count: usize,
+    first: Option<Kind>,
+) -> Cause {
+    let mut cause = Cause::Unsaid;
+    for place in 0..count {
+        let times = times(scope, members, kind, parts, place);
+        let found = Cause::Times(member(place, kind), times, first);
+        if times > 1 {
+            return found;
+        }
+        if times == 0 && cause == Cause::Unsaid {
+            cause = found;
+        }
+    }
+    cause
+}
+
 /// The places of what parts name.
 pub fn member_places(
     alloc: Global,
@@ -89,7 +134,7 @@ pub fn member_places(
     let mut places = Vec::new(alloc);
     for part in parts {
         let Some(place) = member_place(scope, members, kind, &part.lead) else {
-            return Err(Fault::At(part_place(part)));
+            return Err(Fault::At(part_place(part), Cause::Lacks(kind)));
         };
         places.push(place)?;
     }

@@ -10,9 +10,9 @@ check_expression-returns-in-Operate t c =
     let e : expression_of c.args.expr.now ≡ _ = ap expression_in c.in-Operate.is ∙ seen_operate c.in-Operate.field-0 c.in-Operate.operands in
     rw e (search rules)
 
-pub check_expression-returns-in_ok-require-in-Merge :
-    goal.check_expression-returns-in_ok-require-in-Merge
-check_expression-returns-in_ok-require-in-Merge t c =
+pub check_expression-returns-in_ok-require_same-in-Merge :
+    goal.check_expression-returns-in_ok-require_same-in-Merge
+check_expression-returns-in_ok-require_same-in-Merge t c =
     let e : expression_of c.args.expr.now ≡ _ = ap expression_in c.in-Merge.is ∙ seen_merge c.in-Merge.variable c.in-Merge.branches in
     rw e (grind (arith, common_steps))
 

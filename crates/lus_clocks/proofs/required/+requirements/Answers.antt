@@ -25,11 +25,11 @@ check_meets-returns-in_ok-check_flagless-in-Merge t c =
 pub check_meets-returns-in_err-check_flagless-in-Call :
     goal.check_meets-returns-in_err-check_flagless-in-Call
 check_meets-returns-in_err-check_flagless-in-Call t c =
-    let e : expression_of c.args.expr.now ≡ _ = ap expression_in c.in-Call.is ∙ seen_call c.in-Call.field-0 c.in-Call.arguments in
+    let e : expression_of c.args.expr.now ≡ _ = ap expression_in c.in-Call.is ∙ seen_call c.in-Call.called c.in-Call.arguments in
     rw e (grind (arith, common_steps))
 
 pub check_meets-returns-in_ok-check_flagless-in-Call :
     goal.check_meets-returns-in_ok-check_flagless-in-Call
 check_meets-returns-in_ok-check_flagless-in-Call t c =
-    let e : expression_of c.args.expr.now ≡ _ = ap expression_in c.in-Call.is ∙ seen_call c.in-Call.field-0 c.in-Call.arguments in
+    let e : expression_of c.args.expr.now ≡ _ = ap expression_in c.in-Call.is ∙ seen_call c.in-Call.called c.in-Call.arguments in
     rw e (grind (arith, common_steps))

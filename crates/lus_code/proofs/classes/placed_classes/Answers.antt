@@ -2,7 +2,7 @@ use Rattle.std.proofs.Common.{◌≡◌, ◌∙◌, length, sym, ap, subst}
 use Rattle.std.proofs.lemmas.List.{with_items_is}
 use Rattle.lus_program.specs.View.{program_seen}
 use Rattle.lus_classes.specs.ClassesOf.{AreClassesOf}
-use Rattle.lus_instructions.specs.View.{classes_of}
+use Rattle.lus_classes.specs.View.{classes_of}
 use Rattle.lus_places.specs.Few.{AreAsLong, AreFew, KeepTo}
 use Rattle.lus_places.specs.Placing.{KeepSteps}
 use Rattle.lus_places.specs.Shaped.{AreNested, CanAllBePlaced, IsCallOrder}

@@ -7,7 +7,7 @@ use Rattle.lus_syntax.specs.Limits.{most_cells}
 use Rattle.lus_streams.proofs.Lists.{each_item}
 use Rattle.lus_cells.specs.Cells.{AreStateCells, HaveLeaves}
 use Rattle.lus_order.specs.OrderedPrograms.{OrderedProgram}
-use Rattle.lus_instructions.specs.View.{classes_of}
+use Rattle.lus_classes.specs.View.{classes_of}
 use Rattle.lus_simulation.specs.Codes.{AreCodeOf}
 use Rattle.lus_simulation.specs.Nesting.{depth_of}
 use Rattle.lus_simulation.proofs.FittingRows.{rows_that_fit}

@@ -4,9 +4,9 @@ use Rattle.std.specs.Prelude.{slice_get}
 use Rattle.lus_program.specs.Programs.{Node, node_at}
 use Rattle.lus_classes.specs.States.{WithinDepth}
 use Rattle.lus_instructions.specs.declared.class.Class.{Class}
-use Rattle.lus_instructions.specs.Turns.{AreReady}
+use Rattle.lus_classes.specs.Turns.{AreReady}
 use Rattle.lus_frames.specs.declared.class.Class.{Class as Framed}
-use Rattle.lus_instructions.specs.View.{classes_of}
+use Rattle.lus_classes.specs.View.{classes_of}
 use Rattle.lus_keeping.specs.declared.plan.Plan.{Plan}
 use Rattle.lus_code.specs.SimulationSpecs.LineageLaws.{EndsStreams}
 use Rattle.lus_code.specs.SimulationSpecs.Nesting.{depth_of}

@@ -6,7 +6,7 @@ use Rattle.lus_graph.specs.Ways.{IsOrder}
 use Rattle.lus_frames.specs.declared.class.Class.{Class as Framed}
 use Rattle.lus_instructions.specs.declared.class.Class.{Class}
 use Rattle.lus_instructions.specs.declared.class.Part.{Part}
-use Rattle.lus_instructions.specs.Parts.{AreParts}
+use Rattle.lus_classes.specs.Parts.{AreParts}
 use Rattle.lus_places.specs.Shaped.{class_uses, nodes_of}
 use Rattle.lus_framed_code.specs.Made.{IsMadeOf}
 use Rattle.lus_framed_code.proofs.Underway.{IsUnderway, all_bound, all_code, all_framed, next_parts, underway_first, underway_step}

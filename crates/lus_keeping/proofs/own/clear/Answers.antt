@@ -1,7 +1,7 @@
 use Rattle.std.proofs.Common.{◌≡◌, ◌∙◌, sym, ap, map, ◌<◌, ◌≤◌, length, slice_set, slice_index_or, add-one, arith, true, false, None}
 use Rattle.std.proofs.lemmas.List.{length-map, get_or-map}
 use Rattle.lus_classes.specs.Steps.{flags_after, is_on_row}
-use Rattle.lus_instructions.specs.Looks.{newest}
+use Rattle.lus_classes.specs.Looks.{newest}
 use Rattle.lus_keeping.proofs.InPlace.{flag_cleared, flag_stays, none_behind}
 use Rattle.lus_keeping.proofs.own.clear.Goals as goal
 

@@ -1,5 +1,5 @@
 use Rattle.std.proofs.Common.{◌≡◌, map}
-use Rattle.lus_instructions.specs.Looks.{newest}
+use Rattle.lus_classes.specs.Looks.{newest}
 use Rattle.lus_keeping.proofs.InPlace.{flags_up_to}
 use Rattle.lus_keeping.proofs.own.clear.Given as goal
 

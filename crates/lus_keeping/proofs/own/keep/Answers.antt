@@ -3,7 +3,7 @@ use Rattle.std.proofs.lemmas.List.{map-set, length-map, get_or-map}
 use Rattle.lus_values.specs.Values.{nil}
 use Rattle.lus_classes.specs.Steps.{atom_in, cells_after, is_on_row}
 use Rattle.lus_instructions.specs.Followed.{cell_of}
-use Rattle.lus_instructions.specs.Looks.{newest, short_memory}
+use Rattle.lus_classes.specs.Looks.{newest, short_memory}
 use Rattle.lus_keeping.proofs.InPlace.{cell_stays, cell_taken, cells_up_to, none_behind}
 use Rattle.lus_keeping.proofs.own.keep.Goals as goal
 

@@ -1,6 +1,6 @@
 use Rattle.std.proofs.Common.{◌≡◌, map}
 use Rattle.lus_instructions.specs.Followed.{cell_of}
-use Rattle.lus_instructions.specs.Looks.{short_memory}
+use Rattle.lus_classes.specs.Looks.{short_memory}
 use Rattle.lus_keeping.proofs.InPlace.{cells_up_to}
 use Rattle.lus_keeping.proofs.own.keep.Given as goal
 

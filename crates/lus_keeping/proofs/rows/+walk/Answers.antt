@@ -13,9 +13,9 @@ use Rattle.lus_instructions.specs.declared.class.Call.{Call}
 use Rattle.lus_instructions.specs.declared.class.Cell.{Cell}
 use Rattle.lus_instructions.specs.declared.class.Class.{Class}
 use Rattle.lus_instructions.specs.declared.class.Extent.{Extent}
-use Rattle.lus_instructions.specs.Instants.{Parts}
-use Rattle.lus_instructions.specs.Looks.{newest, short_memory}
-use Rattle.lus_instructions.specs.View.{classes_of}
+use Rattle.lus_classes.specs.Instants.{Parts}
+use Rattle.lus_classes.specs.Looks.{newest, short_memory}
+use Rattle.lus_classes.specs.View.{classes_of}
 use Rattle.lus_framed_classes.specs.InRows.{parts_kept, rows_kept}
 use Rattle.lus_keeping.specs.Keeping.{CanKeepCall, CanKeepCalls, rows_of}
 use Rattle.lus_keeping.specs.Plans.{runs}

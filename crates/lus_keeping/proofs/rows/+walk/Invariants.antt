@@ -1,6 +1,6 @@
 use Rattle.std.proofs.Common.{◌≡◌, ◌+◌, ◌*◌, ℕ, drop, map}
 use Rattle.lus_values.specs.Values.{Row}
-use Rattle.lus_instructions.specs.Instants.{Parts}
+use Rattle.lus_classes.specs.Instants.{Parts}
 use Rattle.lus_framed_classes.specs.InRows.{parts_kept, rows_kept}
 use Rattle.lus_keeping.specs.Keeping.{rows_of}
 use Rattle.lus_keeping.proofs.rows.+walk.Given as goal

@@ -1,6 +1,7 @@
 -- The pieces, one behind another.
 use Rattle.std.proofs.Common.{◌≡◌, ◌∙◌, ◌++◌, ap, append_assoc}
 use Rattle.lus_values.specs.Names.{Text}
+use Rattle.lus_printable.specs.Printable.{printable}
 use Rattle.lus_lawful.proofs.texts.push_early.Goals as goal
 
 pieces : (r i l d end a b first second third last : Text) → first ≡ r ++ a → a ≡ i → second ≡ first ++ l → third ≡ second ++ b → b ≡ d
@@ -13,5 +14,5 @@ pieces r i l d end a b first second third last one name two three number four =
 
 pub returns : goal.returns
 returns c =
-    pieces _ _ _ _ _ _ _ _ _ _ _ c.in_ok-extend_from_slice.ensures.items c.as_bytes.ensures.value c.in_ok-extend_from_slice-2.ensures.items
-    c.in_ok-extend_from_slice-3.ensures.items (c.as_bytes-2.ensures.value ∙ c.format.ensures.text) c.in_ok-extend_from_slice-4.ensures.items
+    pieces _ _ _ _ _ _ _ _ _ _ _ c.in_ok-push_printable.ensures (ap printable c.as_bytes.ensures.value) c.in_ok-extend_from_slice.ensures.items
+    c.in_ok-extend_from_slice-2.ensures.items (c.as_bytes-2.ensures.value ∙ c.format.ensures.text) c.in_ok-extend_from_slice-3.ensures.items

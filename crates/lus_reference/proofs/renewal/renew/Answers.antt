@@ -1,58 +1,70 @@
 -- One part more, and all of them.
-use Rattle.std.proofs.Common.{◌≡◌, ◌∙◌, suc, ◌+◌, ◌≤◌, [], ◌∷◌, ◌++◌, sym, ap, subst, drop, drop-cons, drop_of_length-le, length, map, append_assoc, append-nil, arith}
-use Rattle.std.proofs.lemmas.List.{map-append}
+use Rattle.std.proofs.Common.{◌≡◌, ◌∙◌, ◌⊎◌, IsSome, IsTrue, MatchOption, suc, ◌+◌, ◌-◌, ◌<◌, ◌∷◌, ◌&&◌, is_none, drop, drop-cons, length, map, None, sym, ap, ap₂, subst, arith}
+use Rattle.lus_values.specs.Lists.{item}
 use Rattle.lus_values.specs.View.{entry_of}
-use Rattle.lus_program.specs.View.{program_seen}
-use Rattle.lus_reference.specs.Parts.{first_fault, has_value, kept_next}
-use Rattle.lus_reference.proofs.Drops.{dropped, dropped_map}
-use Rattle.lus_reference.proofs.Parts.{all_next, all_renewed, fault_next, fault_of_all, FaultSoFar}
+use Rattle.lus_program.specs.Programs.{numbered}
+use Rattle.lus_program.specs.View.{expression_of, program_seen}
+use Rattle.lus_streams.specs.Streams.{instant, is_on, nobody}
+use Rattle.lus_reference.specs.Made.{made, stack_of}
+use Rattle.lus_reference.specs.Causes.{IsFaultBy}
+use Rattle.lus_reference.specs.Kept.{kept_next}
+use Rattle.lus_reference.proofs.Drops.{dropped_map}
+use Rattle.lus_reference.proofs.Parts.{IsRenewedFrom, renewed_begun, renewed_next}
+use Rattle.lus_reference.proofs.Stacks.{stack_more}
 use Rattle.lus_reference.proofs.renewal.renew.Goals as goal
 
-pub loop-place-preserved : goal.loop-place-preserved
-loop-place-preserved c =
+pub loop-behind-init : goal.loop-behind-init
+loop-behind-init c =
+    let qs = c.args.parts.now in
+    renewed_begun (program_seen c.args.program.now) c.args.present (map entry_of c.args.row.now) c.args.rows.now qs (map entry_of c.args.kept.now) (length qs - 0)
+    (stack_of c.new-stack.result.items) (stack_of c.new-next.result.items) (omega arith) (ap stack_of c.new-stack.ensures.items) (ap stack_of c.new-next.ensures.items)
+
+pub loop-behind-preserved : goal.loop-behind-preserved
+loop-behind-preserved c =
     let p = program_seen c.args.program.now in
+    let b = c.args.present in
     let row = map entry_of c.args.row.now in
     let rows = c.args.rows.now in
     let kept = map entry_of c.args.kept.now in
     let qs = c.args.parts.now in
-    let i = c.loop-place.place in
+    let j = c.loop-behind.behind in
+    let i = length qs - 1 - j in
     let q = c.index-parts-place.result in
-    let next : i + 1 ≡ suc i = omega arith in
-    let rest : drop i qs ≡ q ∷ drop (suc i) qs = drop-cons qs i q c.loop-place-test.true ∙ (λ j. sym c.index-parts-place.is j ∷ drop (suc i) qs) in
-    let old = map entry_of c.loop-place.next.items in
+    let vs = stack_of c.loop-behind.stack.items in
+    let ws = stack_of c.loop-behind.next.items in
+    let left : length qs - (j + 1) ≡ i = omega (arith, c.loop-behind-test.true) in
+    let first : length qs - j ≡ suc i = omega (arith, c.loop-behind-test.true) in
+    let lt : i < length qs = omega (arith, c.loop-behind-test.true) in
+    let rest : drop i qs ≡ q ∷ drop (suc i) qs = drop-cons qs i q lt ∙ (λ k. sym c.index-parts-place.is k ∷ drop (suc i) qs) in
     let behind : map entry_of c.entries_from-earlier.result.now ≡ drop i kept = ap (map entry_of) c.entries_from-earlier.ensures ∙ dropped_map entry_of i c.args.kept.now in
-    let v = c.in_ok-renewed.renewed.entry in
-    let whole = c.in_ok-renewed.renewed.whole in
-    let own : entry_of v ≡ kept_next p c.args.present row rows q (drop i kept) = c.in_ok-renewed.ensures.entry ∙ ap (kept_next p c.args.present row rows q) behind in
-    let has : whole ≡ has_value p c.args.present row rows q (drop i kept) = c.in_ok-renewed.ensures.whole ∙ ap (has_value p c.args.present row rows q) behind in
-    let pushed : map entry_of c.push.new.self.items ≡ old ++ entry_of v ∷ [] = ap (map entry_of) c.in_ok-push.ensures.items ∙ map-append entry_of c.loop-place.next.items (v ∷ []) in
-    let one_more : drop (i + 1) kept ≡ drop 1 (drop i kept) = dropped i 1 kept in
-    let later = all_next p c.args.present row rows (drop (suc i) qs) (drop 1 (drop i kept)) in
-    record {
-      next =
-          (λ j. pushed j ++ all_next p c.args.present row rows (drop (next j) qs) (one_more j))
-          ∙ append_assoc old (entry_of v ∷ []) later
-          ∙ ap (λ o. old ++ o ∷ later) own
-          ∙ ap (λ l. old ++ all_next p c.args.present row rows l (drop i kept)) (sym rest)
-          ∙ c.loop-place.invariant.next;
-      fault =
-          subst (λ o. FaultSoFar p c.args.present row rows qs kept (i + 1) o) (sym c.first_fault-fault.ensures)
-          (subst (λ n. FaultSoFar p c.args.present row rows qs kept n (first_fault c.loop-place.fault whole i)) (sym next)
-          (fault_next p c.args.present row rows qs kept i q c.loop-place.fault whole rest c.requires has c.loop-place.invariant.fault));
-    }
+    let so_far : IsRenewedFrom p b row rows qs kept (suc i) vs ws c.loop-behind.fault =
+    subst (λ m. IsRenewedFrom p b row rows qs kept m vs ws c.loop-behind.fault) first c.loop-behind.invariant in
+    let os = map entry_of c.in_ok-made.made.operands.items in
+    let v = c.in_ok-made.made.value in
+    let w = c.in_ok-entry.entry in
+    let e = numbered q.number (expression_of q.expr.now) in
+    let is : entry_of v ≡ made p row rows e os (item None (drop i kept) 1) = c.in_ok-made.ensures.value ∙ ap (λ l. made p row rows e os (item None l 1)) behind in
+    let on_is = c.is_on-on.ensures ∙ ap (λ k. is_on k (instant b row nobody)) c.deref.ensures.value in
+    renewed_next p b row rows qs kept i q rest c.requires vs ws c.loop-behind.fault so_far os (entry_of v) c.in_ok-made.ensures.operands is
+    (length qs - (j + 1)) (stack_of c.push-in-loop-behind.new.self.items) (stack_of c.push.new.self.items) (stack_of c.make.new.stack.items) (entry_of w) c.is_at_fault-at_fault.result c.in_ok-fault.fault
+    left
+    (ap stack_of c.in_ok-push-2.ensures.items ∙ stack_more c.make.new.stack.items v)
+    (ap stack_of c.in_ok-push.ensures.items ∙ stack_more c.loop-behind.next.items w)
+    c.in_ok-made.ensures.left
+    (c.in_ok-entry.ensures ∙ ap₂ (λ o l. kept_next o (entry_of v) (item None l 0)) on_is behind)
+    (c.is_at_fault-at_fault.ensures ∙ ap (λ o. o && is_none (entry_of v)) on_is)
+    (subst (λ l. ((c.in_ok-fault.fault ≡ c.loop-behind.fault) × (IsTrue c.is_at_fault-at_fault.result → IsSome c.loop-behind.fault)) ⊎ (IsTrue c.is_at_fault-at_fault.result × MatchOption c.in_ok-fault.fault ⊥ (IsFaultBy (expression_of q.expr.now) (map entry_of l) i)))
+    c.deref-in-loop-behind.ensures.value c.in_ok-fault.ensures)
 
 pub returns : goal.returns
 returns c =
     let p = program_seen c.args.program.now in
+    let b = c.args.present in
     let row = map entry_of c.args.row.now in
     let rows = c.args.rows.now in
     let kept = map entry_of c.args.kept.now in
     let qs = c.args.parts.now in
-    let old = map entry_of c.loop-place.next.items in
-    let done : drop c.loop-place.place qs ≡ [] = drop_of_length-le qs (let le : length qs ≤ c.loop-place.place = omega arith in le) in
-    let all : old ≡ all_next p c.args.present row rows qs kept =
-    sym (append-nil old) ∙ ap (λ l. old ++ all_next p c.args.present row rows l (drop c.loop-place.place kept)) (sym done) ∙ c.loop-place.invariant.next in
-    record {
-      kept = λ now past s. all ∙ all_renewed p c.args.present row rows qs kept now past c.requires s;
-      fault = fault_of_all p c.args.present row rows qs kept c.loop-place.place c.loop-place.fault done c.requires c.loop-place.invariant.fault;
-    }
+    let none : length qs - c.loop-behind.behind ≡ 0 = omega (arith, c.loop-behind-test.false) in
+    let all : IsRenewedFrom p b row rows qs kept 0 (stack_of c.loop-behind.stack.items) (stack_of c.loop-behind.next.items) c.loop-behind.fault =
+    subst (λ m. IsRenewedFrom p b row rows qs kept m (stack_of c.loop-behind.stack.items) (stack_of c.loop-behind.next.items) c.loop-behind.fault) none c.loop-behind.invariant in
+    record { kept = λ now past s. ap (map entry_of) c.reverse.ensures.items ∙ all.kept now past s; fault = all.fault }

@@ -1,8 +1,8 @@
 use Rattle.std.proofs.Common.{◌∙◌, None, arith, sym, ap, map}
 use Rattle.lus_values.specs.Lists.{item}
 use Rattle.lus_classes.specs.Steps.{is_on_row}
-use Rattle.lus_instructions.specs.Looks.{newest}
-use Rattle.lus_instructions.proofs.ShortTurns.{short_clock_at}
+use Rattle.lus_classes.specs.Looks.{newest}
+use Rattle.lus_classes.proofs.ShortTurns.{short_clock_at}
 use Rattle.lus_running.proofs.presence.is_present.Goals as goal
 
 pub returns-in-Some : goal.returns-in-Some

@@ -8,7 +8,7 @@ use Rattle.lus_source.proofs.loopless.order_of_nodes.Goals as goal
 
 any_fault : {P : Type 0} → P → (e : Fault) → Faulty P e
 any_fault p faults.Memory = tt
-any_fault p (faults.At place) = p
+any_fault p (faults.At place cause) = p
 
 pub returns-clause-refused : goal.returns-clause-refused
 returns-clause-refused c = any_fault (λ none.

@@ -2,7 +2,7 @@ use Rattle.std.proofs.Common.{◌≡◌, ◌∙◌, ◌++◌, None, map, length,
 use Rattle.std.proofs.lemmas.Option.{slice_get_past}
 use Rattle.lus_values.specs.Lists.{item}
 use Rattle.lus_program.specs.View.{node_of, program_seen}
-use Rattle.lus_instructions.specs.View.{steps_of}
+use Rattle.lus_classes.specs.View.{steps_of}
 use Rattle.lus_translation.specs.Forms.{equation_cells, equation_firsts, equation_steps}
 use Rattle.lus_translation.specs.Building.{next_cell, next_first}
 use Rattle.lus_translation.specs.Newest.{cell_seen, newest, tested_memory}

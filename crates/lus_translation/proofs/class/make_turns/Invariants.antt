@@ -1,6 +1,6 @@
 use Rattle.std.proofs.Common.{◌≡◌, ◌++◌, map, drop, length}
 use Rattle.lus_program.specs.View.{node_of, program_seen}
-use Rattle.lus_instructions.specs.View.{steps_of}
+use Rattle.lus_classes.specs.View.{steps_of}
 use Rattle.lus_values.specs.Lists.{Each}
 use Rattle.lus_translation.specs.Making.{GivesAny}
 use Rattle.lus_translation.specs.Forms.{all_cells, all_firsts, all_steps}

@@ -3,7 +3,7 @@ use Rattle.lus_program.specs.View.{expression_of, expression_in}
 use Rattle.lus_program.proofs.OperandViews.{seen_operate, seen_merge}
 use Rattle.lus_streams.specs.Clocks.{branch_clock}
 use Rattle.lus_classes.specs.Classes.{compute, select}
-use Rattle.lus_instructions.proofs.FormulaViews.{seen_compute, seen_select}
+use Rattle.lus_classes.proofs.FormulaViews.{seen_compute, seen_select}
 use Rattle.lus_translation.specs.Forms.{code_list, one_clock}
 use Rattle.lus_translation.proofs.CodeList.{codes_listed, one_more_made}
 use Rattle.lus_translation.proofs.code.+codes.Goals as goal

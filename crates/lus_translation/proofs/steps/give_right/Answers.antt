@@ -1,6 +1,6 @@
 use Rattle.std.proofs.Common.{◌≡◌, ◌∙◌, ◌+◌, ◌<◌, ◌++◌, ◌∷◌, [], suc, map, drop, length, get_or, sym, ap, subst, arith, drop-cons}
 use Rattle.lus_program.specs.View.{expression_of}
-use Rattle.lus_instructions.specs.View.{steps_of}
+use Rattle.lus_classes.specs.View.{steps_of}
 use Rattle.lus_instructions.specs.declared.class.Step.TheVariants as variants
 use Rattle.lus_values.specs.Lists.{Each}
 use Rattle.lus_streams.proofs.Lists.{each_append}

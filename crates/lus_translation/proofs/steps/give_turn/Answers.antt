@@ -1,7 +1,7 @@
 use Rattle.std.proofs.Common.{◌≡◌, ◌∙◌, ◌++◌, ap}
 use Rattle.lus_program.specs.View.{expression_of, expression_in}
 use Rattle.lus_program.proofs.OperandViews.{seen_call}
-use Rattle.lus_instructions.specs.View.{steps_of}
+use Rattle.lus_classes.specs.View.{steps_of}
 use Rattle.lus_instructions.specs.declared.class.Step.TheVariants as variants
 use Rattle.lus_translation.specs.Forms.{answers_form}
 use Rattle.lus_translation.proofs.Giving.{steps_pushed}

@@ -1,5 +1,5 @@
 use Rattle.std.proofs.Common.{◌≡◌, ◌++◌, ℕ, map, drop}
-use Rattle.lus_instructions.specs.View.{taken}
+use Rattle.lus_classes.specs.View.{taken}
 use Rattle.lus_translation.specs.Forms.{answers_form}
 use Rattle.lus_translation.proofs.steps.targets_of.Given as goal
 

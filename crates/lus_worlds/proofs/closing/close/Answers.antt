@@ -8,7 +8,7 @@ use Rattle.lus_streams.specs.Streams.{instant}
 use Rattle.lus_parts.specs.Nested.{AreNested}
 use Rattle.lus_parts.specs.Parts.{part_of}
 use Rattle.lus_parts.proofs.Nested.{node_nested}
-use Rattle.lus_reference.specs.Parts.{DoesRenew}
+use Rattle.lus_reference.specs.Kept.{DoesRenew}
 use Rattle.lus_worlds.specs.declared.moment.Moment.{Moment, roll-Moment, the_lemmas}
 use Rattle.lus_worlds.specs.Judging.{IsJudged}
 use Rattle.lus_worlds.specs.Moments.{called_of, present_in, row_in, kept_in, fault_in, moments_in}
@@ -22,11 +22,6 @@ moved P {a} {a'} {b} {b'} {c} {c'} {d} {d'} e f g h x = subst (λ v. P v b' c' d
 
 pub renew-requires : goal.renew-requires
 renew-requires c =
-    let p = program_seen c.args.program.now in
-    subst (AreNested p) (sym c.requires.parts) (node_nested p (node_of c.args.node.now))
-
-pub judge-requires-clause-nested : goal.judge-requires-clause-nested
-judge-requires-clause-nested c =
     let p = program_seen c.args.program.now in
     subst (AreNested p) (sym c.requires.parts) (node_nested p (node_of c.args.node.now))
 

@@ -32,4 +32,4 @@ returns-in-None-get c =
     λ x h. absurd (equation_within f qs x k (sym h ∙ c.in-Some.is) (subst (λ l. length l ≤ n) c.deref.ensures.value past))
 
 pub returns-in-None : goal.returns-in-None
-returns-in-None c = λ x h. c.new-calls.ensures.items ∙ sym (ap turns_in (not_placed (node_of c.args.node.now) c.args.node.now.equations.items x 0 0 0 (sym h ∙ c.in-None.is)).1)
+returns-in-None c = λ x h. c.new-calls.ensures.items ∙ sym (ap turns_in (not_placed (node_of c.args.node.now) c.args.node.now.equations.items x 0 0 0 (sym h ∙ c.in-None.is)))

@@ -11,7 +11,6 @@ use Rattle.lus_program.specs.View.{node_of, operands_of, program_seen, variable_
 use Rattle.lus_streams.specs.Equations.{node_parts}
 use Rattle.lus_parts.specs.Parts.{part_of}
 use Rattle.lus_reference.specs.Placed.{ArePlaces, place_of}
-use Rattle.lus_reference.proofs.Drops.{dropped_map}
 use Rattle.lus_worlds.specs.Finding.{call_places, CallsHere, FindsAll, has_run, IsFoundBy, RunsInTurn, RunsNode}
 use Rattle.lus_worlds.specs.Passing.{PassesAt}
 use Rattle.lus_worlds.specs.Moments.{kept_in, moments_in}
@@ -239,18 +238,18 @@ run_call-returns-in_ok-passed-in-Some-clause-runs t c =
     let g = c.in-Some.called in
     let es = operands_of c.in-Some.arguments.now in
     let on = c.in_ok-passed-in-Some.passed.on in
-    let kept = map entry_of c.entries_from-kept.result.now in
     let given = map entry_of c.deref-in-Some-2.result.now in
     let rest : drop i qs ≡ q ∷ drop (suc i) qs = drop-cons qs i q (omega arith) ∙ (λ j. sym c.index-parts-place.is j ∷ drop (suc i) qs) in
     let here : CallsHere n q g es = c.in-Some.ensures in
-    let behind : kept ≡ drop i (kept_in old) = ap (map entry_of) c.entries_from-kept.ensures ∙ dropped_map entry_of i c.items.result.now ∙ ap (drop i) c.items.ensures in
-    let pass0 : PassesAt p b (map entry_of c.deref.result.now) c.deref-in-Some.result.now q g es kept on (map entry_of c.in_ok-passed-in-Some.passed.inputs.items) = c.in_ok-passed-in-Some.ensures in
-    let pass1 = subst (λ l. PassesAt p b (map entry_of l) c.deref-in-Some.result.now q g es kept on (map entry_of c.in_ok-passed-in-Some.passed.inputs.items)) c.deref.ensures.value pass0 in
-    let pass2 = subst (λ l. PassesAt p b (map entry_of a.row.items) l q g es kept on (map entry_of c.in_ok-passed-in-Some.passed.inputs.items)) c.deref-in-Some.ensures.value pass1 in
-    let passes : PassesAt p b (map entry_of a.row.items) a.rows.items q g es kept on given =
-    subst (λ l. PassesAt p b (map entry_of a.row.items) a.rows.items q g es kept on (map entry_of l)) (sym c.deref-in-Some-2.ensures.value) pass2 in
+    let ps = map part_of qs in
+    let pass0 : PassesAt p b (map entry_of c.deref.result.now) c.deref-in-Some.result.now q g es ps (i + 1) (kept_in old) on (map entry_of c.in_ok-passed-in-Some.passed.inputs.items) =
+    subst (λ l. PassesAt p b (map entry_of c.deref.result.now) c.deref-in-Some.result.now q g es ps (i + 1) l on (map entry_of c.in_ok-passed-in-Some.passed.inputs.items)) c.items.ensures c.in_ok-passed-in-Some.ensures in
+    let pass1 = subst (λ l. PassesAt p b (map entry_of l) c.deref-in-Some.result.now q g es ps (i + 1) (kept_in old) on (map entry_of c.in_ok-passed-in-Some.passed.inputs.items)) c.deref.ensures.value pass0 in
+    let pass2 = subst (λ l. PassesAt p b (map entry_of a.row.items) l q g es ps (i + 1) (kept_in old) on (map entry_of c.in_ok-passed-in-Some.passed.inputs.items)) c.deref-in-Some.ensures.value pass1 in
+    let passes : PassesAt p b (map entry_of a.row.items) a.rows.items q g es ps (i + 1) (kept_in old) on given =
+    subst (λ l. PassesAt p b (map entry_of a.row.items) a.rows.items q g es ps (i + 1) (kept_in old) on (map entry_of l)) (sym c.deref-in-Some-2.ensures.value) pass2 in
     on_ok_weaker c.run_node.result
-    (λ (run : (present : Bool) → RunsNode p orders present old n g on given a d). run_here p orders b old qs n g i es q a d on kept given rest here behind passes (run b))
+    (λ (run : (present : Bool) → RunsNode p orders present old n g on given a d). run_here p orders b old qs n g i es q a d on given rest here passes (run b))
     c.run_node.ensures.runs
 
 pub run_node-add-requires : goal.run_node-add-requires

@@ -1,7 +1,7 @@
 use Rattle.std.proofs.Common.{List, sym, subst, []}
 use Rattle.lus_classes.specs.States.{State}
 use Rattle.lus_instructions.specs.declared.class.Class.{Class}
-use Rattle.lus_instructions.specs.Turns.{AreReady}
+use Rattle.lus_classes.specs.Turns.{AreReady}
 use Rattle.lus_frames.specs.declared.class.Class.{Class as Framed}
 use Rattle.lus_keeping.specs.Keeping.{HaveFrames}
 use Rattle.lus_code.specs.SimulationSpecs.Lineages.{HasLived}

@@ -48,3 +48,6 @@ decreases-place_branch l = l.depth
 
 abbrev pub decreases-place_field : goal.decreases-place_field
 decreases-place_field l = l.depth
+
+abbrev pub decreases-place_low : goal.decreases-place_low
+decreases-place_low l = l.depth

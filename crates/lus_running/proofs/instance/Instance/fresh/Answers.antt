@@ -2,7 +2,7 @@ use Rattle.std.proofs.Common.{◌≡◌, ◌∙◌, sym, ap₂, subst, slice_get
 use Rattle.std.proofs.lemmas.Option.{slice_get_read}
 use Rattle.lus_frames.specs.declared.class.Class.{Class as Framed}
 use Rattle.lus_instructions.specs.declared.class.Class.{Class}
-use Rattle.lus_instructions.specs.Places.{state_in}
+use Rattle.lus_classes.specs.Places.{state_in}
 use Rattle.lus_instructions.specs.Words.{entry_in}
 use Rattle.lus_running.specs.Instances.{IsNew, rows_seen}
 use Rattle.lus_running.proofs.Placed.{fresh_state}

@@ -5,7 +5,7 @@ use Rattle.lus_classes.specs.States.{WithinDepth}
 use Rattle.lus_classes.specs.Steps.{step}
 use Rattle.lus_values.specs.Lists.{Each}
 use Rattle.lus_instructions.specs.declared.class.Class.{Class}
-use Rattle.lus_instructions.specs.View.{classes_of}
+use Rattle.lus_classes.specs.View.{classes_of}
 use Rattle.lus_running.specs.Instances.{Answers, seen, seen_in, state_of}
 use Rattle.lus_running.proofs.Placed.{class_found}
 use Rattle.lus_running.specs.Stopped.{error_of}

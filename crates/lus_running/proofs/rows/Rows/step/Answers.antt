@@ -2,12 +2,12 @@ use Rattle.std.proofs.Common.{◌≡◌, ◌∙◌, suc, sym, ap, subst, map, le
 use Rattle.std.specs.Prelude.{OnErr, OnOk}
 use Rattle.std.proofs.lemmas.List.{length-map}
 use Rattle.lus_classes.specs.Steps.{step}
-use Rattle.lus_instructions.specs.Instants.{class_state, instant_in}
-use Rattle.lus_instructions.specs.Places.{state_in}
-use Rattle.lus_instructions.specs.View.{classes_of}
-use Rattle.lus_instructions.specs.Looks.{short_of}
+use Rattle.lus_classes.specs.Instants.{class_state, instant_in}
+use Rattle.lus_classes.specs.Places.{state_in}
+use Rattle.lus_classes.specs.View.{classes_of}
+use Rattle.lus_classes.specs.Looks.{short_of}
 use Rattle.lus_instructions.specs.Followed.{cell_of}
-use Rattle.lus_instructions.specs.Played.{GivenOnClocks}
+use Rattle.lus_classes.specs.Played.{GivenOnClocks}
 use Rattle.lus_values.specs.Values.{Row}
 use Rattle.lus_values.specs.View.{entry_of}
 use Rattle.lus_running.specs.Answering.{Reaches}

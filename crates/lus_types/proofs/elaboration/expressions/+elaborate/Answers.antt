@@ -78,7 +78,7 @@ merge-returns t c =
     let out = rw c.size_of-size.ensures at c.in-Some-arranged.ensures in
     let is = merge_is s (name_seen c.args.variable.now).text parts (all_meant s parts) clock c.in_ok-places.places.items (sym found) c.in_ok-places.ensures.places out.once in
     let ordered = out.arranged s (all_meant s parts) c.in_ok-operands.ensures.elaborated in
-    let typed = rw (c.deref-2.ensures.value, c.into_parts-exprs.ensures) at c.in-Some-merged.ensures in
+    let typed = rw (c.deref-3.ensures.value, c.into_parts-exprs.ensures) at c.in-Some-merged.ensures in
     rw is (rw ordered.0 (sym typed), c.in_ok-expr.ensures ∙ stored_merge clock.place c.into_parts-exprs.result.0 ∙ rw c.into_parts-exprs.ensures (ap (merge clock.place) ordered.1))
 
 pub structure-returns-in_err-operands : goal.structure-returns-in_err-operands

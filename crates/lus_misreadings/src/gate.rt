@@ -1,0 +1,184 @@
+//! The gate that each change passes: it keeps the words of the source but for those that its rule is about.
+
+use crate::readable::readable;
+use crate::trial::tokens_of;
+use lus_faults::{Edit, bytes_at, edited};
+use lus_proposals::{count, is_operator, keeps, rearranges};
+use lus_syntax::Span;
+use std::alloc::{AllocError, Global};
+
+/// What a rule is about: the words that its change leaves out and puts in, and whether it moves the others.
+#[derive(Drop)]
+pub struct About<'w> {
+    pub drops: Vec<&'w str>,
+    pub adds: Vec<&'w str>,
+    pub moves: bool,
+}
+
+/// What is about marks alone.
+pub fn about_marks<'w>(alloc: Global) -> About<'w> {
+    About {
+        drops: Vec::new(alloc),
+        adds: Vec::new(alloc),
+        moves: false,
+    }
+}
+
+/// What puts in a word in place of another one.
+pub fn about_word<'w>(
+    alloc: Global,
+    found: &'w str,
+    word: &'w str,
+) -> Result<About<'w>, AllocError> {
+    let mut about = about_marks(alloc);
+    about.drops.push(found)?;
+    about.adds.push(word)?;
+    Ok(about)
+}
+
+/// The text of a token, also of one that stands for a part of a character.
+fn word_at(text: &str, span: Span) -> &str {
+    let start = span.start.byte;
+    let end = start.saturating_add(span.length);
+    for further in 0..4usize {
+        if let Some(word) = bytes_at(text, start, end.saturating_add(further)) {
+            return word;
+        }
+    }
+    ""
+}
+
+/// The texts of the tokens of a text, and of what no token is made of.
+pub fn words_in(alloc: Global, text: &str) -> Result<Vec<&str>, AllocError> {
+    let readable = readable(alloc, text)?;
+    let mut words = Vec::new(alloc);
+    for token in &tokens_of(alloc, readable.as_str()) {
+        words.push(word_at(text, token.span))?;
+    }
+    Ok(words)
+}
+
+/// What stands from a byte of a text up to the end of its line.
+pub fn line_from(text: &str, byte: usize) -> &str {
+    let rest = bytes_at(text, byte, text.len()).unwrap_or("");
+    rest.lines().next().unwrap_or("")
+}
+
+/// The byte at which the line of a byte begins.
+fn line_start(text: &str, byte: usize) -> usize {
+    let mut start = 0;
+    for (place, letter) in text.as_bytes().iter().enumerate() {
+        if place >= byte {
+            return start;
+        }
+        if *letter == b'\n' {
+            start = place.saturating_add(1);
+        }
+    }
+    start
+}
+
+/// The lines of a text that so many bytes from one on stand in.
+fn lines_of(text: &str, byte: usize, length: usize) -> &str {
+    let end = byte.saturating_add(length);
+    let behind = end.saturating_add(line_from(text, end).len());
+    bytes_at(text, line_start(text, byte), behind).unwrap_or("")
+}
+
+/// The words of the lines that a change of a source is on, before it and behind it: those of the second text are of the changed source.
+fn words_of<'t>(
+    alloc: Global,
+    source: &'t str,
+    changed: &'t str,
+    edit: &Edit,
+) -> Result<(Vec<&'t str>, Vec<&'t str>), AllocError> {
+    let before = words_in(alloc, lines_of(source, edit.byte, edit.length))?;
+    let behind = words_in(alloc, lines_of(changed, edit.byte, edit.text.len()))?;
+    Ok((before, behind))
+}
+
+/// Whether a change of a source keeps its words but for those that its rule is about.
+fn is_kept(
+    alloc: Global,
+    source: &str,
+    edit: &Edit,
+    about: &About<'_>,
+) -> Result<bool, AllocError> {
+    let Some(changed) = edited(alloc, source, edit)? else {
+        return Ok(false);
+    };
+    let (before, behind) = words_of(alloc, source, changed.as_str(), edit)?;
+    if about.moves {
+        Ok(rearranges(&before, &behind, &about.drops, &about.adds))
+    } else {
+        keeps(alloc, &before, &behind, &about.drops, &about.adds)
+    }
+}
+
+/// A change of a source that keeps its words but for those that its rule is about, and no other.
+pub fn passing(
+    alloc: Global,
+    source: &str,
+    edit: Edit,
+    about: &About<'_>,
+) -> Result<Option<Edit>, AllocError> {
+    if is_kept(alloc, source, &edit, about)? {
+        Ok(Some(edit))
+    } else {
+        Ok(None)
+    }
+}
+
+/// The words that stand more often among some than among others, each as much more often.
+fn further<'w>(
+    alloc: Global,
+    words: &[&'w str],
+    others: &[&str],
+) -> Result<Vec<&'w str>, AllocError> {
+    let mut found = Vec::new(alloc);
+    for (place, word) in words.iter().enumerate() {
+        let before = words.get(..place).unwrap_or(&[]);
+        if count(word, before) >= count(word, others) {
+            found.push(*word)?;
+        }
+    }
+    Ok(found)
+}
+
+/// Whether each of some words is a name, a value or a mark, or one of the operators that are allowed.
+fn are_allowed(words: &[&str], operators: &[&str]) -> bool {
+    words
+        .iter()
+        .all(|word| !is_operator(word) || operators.contains(word))
+}
+
+/// Whether a number is among some words.
+fn has_number(words: &[&str]) -> bool {
+    words.iter().any(|word| match word.as_bytes().first() {
+        Some(letter) => letter.is_ascii_digit(),
+        None => false,
+    })
+}
+
+/// Whether a change of a source that spells a program leaves out no number and no operator but for some, and puts in no operator but for
+/// others.
+pub fn keeps_operators(
+    alloc: Global,
+    source: &str,
+    edit: &Edit,
+    drops: &[&str],
+    adds: &[&str],
+) -> Result<bool, AllocError> {
+    let Some(changed) = edited(alloc, source, edit)? else {
+        return Ok(false);
+    };
+    let (before, behind) = words_of(alloc, source, changed.as_str(), edit)?;
+    let gone = further(alloc, &before, &behind)?;
+    let new = further(alloc, &behind, &before)?;
+    Ok(
+        are_allowed(&gone, drops)
+            && !has_number(&gone)
+            && are_allowed(&new, adds)
+            && rearranges(&before, &behind, &gone, &new),
+    )
+}

@@ -1,0 +1,4 @@
+mod Same
+mod Steps
+mod Examples
+mod Readings

@@ -1,0 +1,4 @@
+pub mod Words
+pub mod Kept
+pub mod Binding
+pub mod Readings

@@ -1,0 +1,9 @@
+-- Less is left at each mark.
+use Rattle.std.proofs.Common.{◌≤◌, length}
+use Rattle.lus_queries.proofs.places.lines_of.Given as goal
+
+abbrev pub invariant-loop-rest : goal.invariant-loop-rest
+invariant-loop-rest l = length l.rest ≤ length l.text
+
+abbrev pub decreases-loop-rest : goal.decreases-loop-rest
+decreases-loop-rest l = length l.rest

@@ -1,0 +1,6 @@
+-- Each part is behind those before it.
+use Rattle.std.proofs.Common.{append_assoc, rules}
+use Rattle.lus_queries.proofs.renames.workspace_edit.Goals as goal
+
+pub returns : goal.returns
+returns c = search (rules, append_assoc)

@@ -1,0 +1,104 @@
+//! Constants, tests of clocks, and what equations give.
+
+use crate::given::Given;
+use crate::kinds::{constructors, variable_at};
+use crate::said::{Said, Words};
+use lus_faults::{extent_of, start_of, variable_named};
+use lus_program::Kind;
+use lus_source::Member;
+use lus_syntax::{Equation, Literal, Name, Node, Span};
+
+/// Where a constant's value stands.
+fn literal_span(value: &Literal) -> Span {
+    match value {
+        Literal::Number(_, span) | Literal::Truth(_, span) => *span,
+        Literal::Negative(minus, _, number) => Span {
+            start: minus.start,
+            length: number.end().byte.saturating_sub(minus.start.byte),
+        },
+        Literal::Constructor(name) => name.span,
+    }
+}
+
+/// A constant whose type isn't that of its value.
+pub fn constant<'t>(given: Given<'t>, wanted: Kind, found: Kind) -> Option<Said<'t>> {
+    for constant in &given.tree.constants {
+        let span = literal_span(&constant.value);
+        if given.is_at(span.start) {
+            let words = Words {
+                owner: &constant.name.text,
+                ..given.words(wanted, found)
+            };
+            return Some(Said::of("constant", span, words));
+        }
+    }
+    None
+}
+
+/// The variable of a number, in a node.
+fn variable_of(node: &Node, number: usize) -> Option<&Name> {
+    let mut left = number;
+    for groups in [&node.inputs, &node.outputs, &node.locals] {
+        if let Some(name) = variable_at(groups, left) {
+            return Some(name);
+        }
+        for group in groups {
+            left = left.saturating_sub(group.names.len());
+        }
+    }
+    None
+}
+
+/// A test that doesn't fit its variable.
+pub fn test<'t>(given: Given<'t>, variable: Member) -> Option<Said<'t>> {
+    let name = variable_of(given.node?, variable.number)?;
+    let words = Words {
+        member: &name.text,
+        ..given.words(variable.kind, variable.kind)
+    };
+    Some(match constructors(given.tree, variable.kind).first() {
+        Some(first) => {
+            let words = Words {
+                first: &first.text,
+                ..words
+            };
+            Said::of("labelled", name.span, words)
+        }
+        None => Said::of("clock", name.span, words),
+    })
+}
+
+/// The equation whose right side begins at the fault's place.
+fn equation_at<'t>(given: Given<'t>) -> Option<&'t Equation> {
+    given
+        .equations()
+        .iter()
+        .find(|equation| given.is_at(start_of(&equation.right)))
+}
+
+/// A right side that has another type than its variable.
+pub fn value<'t>(given: Given<'t>, wanted: Member, found: Kind) -> Option<Said<'t>> {
+    let equation = equation_at(given)?;
+    let left = equation.left.get(wanted.number)?;
+    let words = Words {
+        member: &left.text,
+        ..given.words(wanted.kind, found)
+    };
+    let span = extent_of(given.source, &equation.right);
+    Some(Said {
+        declared: Some(variable_named(given.node?, &left.text)?.name),
+        suspect: Some((left, found)),
+        ..Said::of("value", span, words)
+    })
+}
+
+/// A right side that gives another count of values than there are variables.
+pub fn values<'t>(given: Given<'t>, number: usize, count: usize) -> Option<Said<'t>> {
+    let span = extent_of(given.source, &equation_at(given)?.right);
+    let words = Words {
+        number,
+        count,
+        ..given.words(Kind::Bool, Kind::Bool)
+    };
+    Some(Said::of("values", span, words))
+}

@@ -1,0 +1,46 @@
+//! What is said of faults of types. A row is its key, the sentence and the note, in which words stand in braces.
+
+const ROWS: &str = "
+constant | the constant `{owner}` has type `{wanted}`, but its value has type `{found}`
+value | `{member}` has type `{wanted}`, but its equation has type `{found}`
+argument | argument {number} of `{owner}`, `{member}`, has type `{wanted}`, found `{found}`
+field | the field `{member}` has type `{wanted}`, found `{found}`
+operand | `{owner}` expects `{wanted}`, found `{found}`
+alike | `{owner}` expects two values of the same type, found `{wanted}` and `{found}`
+branches | the branches of the `merge` have different types, `{wanted}` and `{found}`
+condition | - | A number is not a condition. Compare it, as in `x <> 0`.
+reckoned | - | To get a number from a `bool`, write `if c then 1 else 0`.
+tested | - | A constructor is not a condition. Compare with it, as in `x = On`.
+ordered | - | Constructors are not numbers, and have no order. Compare them with `=` or `<>`.
+structured | - | A structure is not an operand. Use its fields, as in `p.x`.
+foreign | - | `{member}` is a constructor of `{own}`. Those of `{other}` are `{first}` and the others of its declaration.
+values | variables on the left: {number}; values on the right: {count} | Only a call returns several values, one for each output. Write an equation for each variable.
+arguments | `{owner}` takes {number} arguments, found {count}
+one | `{owner}` takes {number} argument, found {count}
+lacking | `{owner}` takes {number} arguments, found {count}: missing `{member}: {wanted}` | Arguments are in the order of the inputs: this one is number {place}.
+results | `{owner}` returns {count} values, expected one | A call with several results is alone on the right of an equation, as in `(a, b) = f(x);`.
+label | type `{wanted}` has no constructor `{member}`
+missing | missing branch `{member}` of type `{found}` | A `merge` has one branch for each constructor, or for `true` and `false`, in any order.
+repeated | {count} branches have the label `{member}` | A `merge` has one branch for each constructor, or for `true` and `false`, in any order.
+nameless | `{wanted}` has no field `{member}`
+fieldless | a value of type `{wanted}` has no fields
+constructor | a value of type `{wanted}` has no fields | A constructor is written alone: `{member}`. To test for it, compare, as in `x = {member}`.
+unset | missing field `{member}` | A structure gives each field exactly once, in any order.
+reset | the field `{member}` has {count} values | A structure gives each field exactly once, in any order.
+clock | this clock does not fit `{member}`, which has type `{wanted}` | A clock is a `bool`, as in `when c` and `when not c`, or an enumeration, as in `when A(k)`.
+labelled | this clock does not fit `{member}`, which has type `{wanted}` | Write `when {first}({member})`.
+memory | the function `{owner}` cannot use `{member}` | A function has no memory: it cannot use `pre`, `->` or `fby`, nor call a node. Declare it as a `node`.
+calls | the function `{owner}` calls the node `{member}` | A function has no memory: it cannot use `pre`, `->` or `fby`, nor call a node. Declare it as a `node`.
+";
+
+/// The sentence and the note of a row.
+pub fn row(key: &str) -> (&'static str, &'static str) {
+    for line in ROWS.lines() {
+        if let Some((own, rest)) = line.split_once(" | ")
+            && own == key
+        {
+            return rest.split_once(" | ").unwrap_or((rest, ""));
+        }
+    }
+    ("", "")
+}
