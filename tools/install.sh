@@ -1,6 +1,7 @@
 #!/bin/sh
-# ./install.sh PREFIX: copies the program into PREFIX/bin, links its other names to it, and copies their pages into PREFIX/share/man/man1, the library and its header into
-# PREFIX/lib and PREFIX/include, and documents, examples and editors' files into PREFIX/share/lus. It overwrites an older version.
+# ./install.sh PREFIX: copies the program into PREFIX/bin, links its other names to it, and copies their pages into PREFIX/share/man/man1,
+# the library and its header into PREFIX/lib and PREFIX/include, and documents, examples, editors' files and hosts of fleets into
+# PREFIX/share/lus. It overwrites an older version.
 set -eu
 if [ $# != 1 ]; then
     echo "usage: ./install.sh PREFIX" >&2
@@ -54,7 +55,7 @@ for folder in ftdetect ftplugin indent syntax compiler lua; do
     put 644 "share/vim/vimfiles/$folder" "$here/editors/vim/$folder"/*
 done
 put 644 share/emacs/site-lisp "$here"/editors/emacs/*.el
-for folder in docs examples editors; do
+for folder in docs examples editors integrations; do
     rm -rf "$prefix/share/lus/$folder"
     cp -R "$here/$folder" "$prefix/share/lus/$folder"
 done
