@@ -5,6 +5,7 @@
 
 mod files;
 mod journal;
+mod sections;
 mod usage;
 
 use crate::files::name_unopened;

@@ -1,5 +1,7 @@
-//! What the tools for people say of themselves: a usage text and a version. `lus` itself takes no such words.
+//! What the tools for people say of themselves: a usage text, a version, and what an error's number means. `lus` itself takes no such
+//! arguments.
 
+use crate::sections::section_of;
 use lus_cli::{Fault, tell};
 use lus_devices::{Failure, Sink, write_all};
 
@@ -7,6 +9,7 @@ const VERSION: &str = " 0.1.0\n";
 
 const EXPLAIN: &str = "usage: lus_explain [--json] [--warnings] PROGRAM [SCRIPTS]
        lus_explain --script NODE PROGRAM
+       lus_explain --error NUMBER
 
 Says why a program, or its scripts, are rejected, and what to write; of an accepted program
 its types and nodes. It runs nothing.
@@ -14,6 +17,7 @@ its types and nodes. It runs nothing.
   --json         an object of JSON for each error, on a line of its own
   --warnings     also what an accepted program's author can hardly have meant
   --script NODE  scripts to begin from, for an instance of NODE
+  --error NUMBER what E1 to E11 and S1 to S6 mean, or `warnings`, and what to do
 
 Status: 0 accepted, 1 the program is rejected, 2 the scripts, 3 a file or the output fails, 4 out of memory.
 ";
@@ -34,7 +38,7 @@ const DRAW: &str = "usage: lus_draw [--html | --waves | --csv | --vcd] [--from N
                 [--all | --signals NAMES] PROGRAM JOURNAL
        lus_draw --html JOURNAL
 
-Draws journals that lus or lus_live wrote, if they are lawful: as a chronogram, or
+Draws journals that lus or lus_live wrote, if they are valid: as a chronogram, or
 
   --html     as a page for a browser, with signals over time, a cursor and a zoom
   --waves    as a timing diagram (SVG)
@@ -53,11 +57,11 @@ Says whether each reply of a journal is the right one to its request, after thos
 by a new run of the program: `NAME lawful` for each instance, or the first wrong line with
 the right one.
 
-  --why  why each request of a lawful journal that was refused is: which input, its type or
+  --why  why each request of a valid journal that was refused is: which input, its type or
          clock; or which operation has no value, with its operands and its place
   --many a log of instances of NODE, which `lus_live --many` wrote
 
-Status: 0 lawful, 1 the program is rejected, 2 a wrong line, or no journal,
+Status: 0 valid, 1 the program is rejected, 2 a wrong line, or no journal,
 3 a file or the output fails, 4 out of memory.
 ";
 
@@ -103,6 +107,24 @@ fn usage_of(tool: &str) -> Option<&'static str> {
     }
 }
 
+const NUMBERS: &str =
+    "lus_explain: the numbers are E1 to E11 and S1 to S6, and there is `warnings`\n";
+
+/// The section of docs/ERRORS.md that `--error NUMBER` asks for. Where there is none, it is said beside the faults which there are.
+fn section_asked<F: Sink>(tool: &str, words: &[String], faults: &mut F) -> Option<&'static str> {
+    let [flag, number] = words else {
+        return None;
+    };
+    if tool != "lus_explain" || flag.as_str() != "--error" {
+        return None;
+    }
+    let section = section_of(number.as_str());
+    if section.is_none() {
+        let _ = write_all(faults, NUMBERS.as_bytes());
+    }
+    section
+}
+
 /// The status where an answer was written, or told as a fault.
 fn status_of<F: Sink>(written: Result<(), Failure>, faults: &mut F) -> u8 {
     match written {
@@ -111,8 +133,8 @@ fn status_of<F: Sink>(written: Result<(), Failure>, faults: &mut F) -> u8 {
     }
 }
 
-/// Answers `--help` and `--version` of a tool for people, and gives the status. Without words its usage is written beside the
-/// faults, and the tool goes on to refuse them.
+/// Answers `--help` and `--version` of a tool for people and `--error` of `lus_explain`, and gives the status. Without arguments its
+/// usage is written beside the faults, and the tool goes on to refuse them.
 pub fn introduce<O: Sink, F: Sink>(
     tool: &str,
     words: &[String],
@@ -124,6 +146,9 @@ pub fn introduce<O: Sink, F: Sink>(
         let _ = write_all(faults, usage.as_bytes());
         return None;
     };
+    if let Some(section) = section_asked(tool, words, faults) {
+        return Some(status_of(write_all(output, section.as_bytes()), faults));
+    }
     if words.len() > 1 {
         return None;
     }
