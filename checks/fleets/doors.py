@@ -5,7 +5,7 @@ import http.client
 import socket
 import subprocess
 import time
-from collections.abc import Iterator
+from collections.abc import Iterable
 from contextlib import closing
 
 from servers import free_port, wait_for
@@ -43,7 +43,7 @@ class DoorTrial(Trial):
         self.close_door()
         super().stop()
 
-    def put(self, path: str, body: bytes | Iterator[bytes], token: str = "word-c0") -> tuple[int, str]:
+    def put(self, path: str, body: bytes | Iterable[bytes], token: str = "word-c0") -> tuple[int, str]:
         """What is answered: the status and the text."""
         with closing(http.client.HTTPConnection("127.0.0.1", self.port, timeout=120)) as link:
             link.request("PUT", path, body, {"Authorization": f"Bearer {token}"})
