@@ -80,9 +80,11 @@ class DoorTrial(Trial):
         self.expect(f"who puts a request again hears the same: {again}", again == (200, last))
         status, text = self.put_until(path, b"oops")
         self.expect(f"what is no call is told so: {status} {text}", status == 422 and text.startswith(f"{self.name}_0 # c0."))
-        for what, wanted, at, body in (("a body that is too long", 413, path, b" " * LONG), ("another path", 400, "/kitchen", b"[18,19,22]"),
-                                       ("no name", 400, "/kitchen/7up.1", b"[18,19,22]"), ("two lines", 400, path, b"[18,19,22]\n[18,19,22]"),
-                                       ("a body of no known length", 411, path, iter([b"[18,19,22]"]))):
+        odd: list[tuple[str, int, str, bytes | Iterable[bytes]]] = [
+            ("a body that is too long", 413, path, b" " * LONG), ("another path", 400, "/kitchen", b"[18,19,22]"),
+            ("no name", 400, "/kitchen/7up.1", b"[18,19,22]"), ("two lines", 400, path, b"[18,19,22]\n[18,19,22]"),
+            ("a body of no known length", 411, path, iter([b"[18,19,22]"]))]
+        for what, wanted, at, body in odd:
             got = self.put(at, body)
             self.expect(f"{what} is refused: {got}", got[0] == wanted)
         got = self.put(path, b"[18,19,22]", "word-c1")
