@@ -1,33 +1,25 @@
-//! The calls of `lus.h`.
-use std::ptr;
+//! The calls of `lus.h`, as they are: that page says what each asks of its callers. The crate `lus` is for hosts.
+#![no_std]
+#![allow(clippy::missing_safety_doc)]
+use core::ptr;
 
-/// A handle of the library. It is moved, never copied, and let go with its owner.
+/// `LUS_VERSION`: a library with another `lus_version` has other calls.
+pub const VERSION: u32 = 1;
+
+/// A handle of any kind, which only the calls read and write.
 #[repr(C)]
-pub(crate) struct Handle {
-    live: u64,
-    kept: *mut u8,
+pub struct Handle {
+    pub live: u64,
+    pub kept: *mut u8,
 }
-
-// SAFETY: the library asks that a handle is in one place and given to one call at a time, and that it goes to another thread behind
-// a start or join of a thread, a lock or a channel. A `Handle` is moved and never copied, a call has it by `&mut`, and safe Rust hands
-// values to threads in no other way. It isn't `Sync`: two threads that have it by `&` have no call that takes it so.
-unsafe impl Send for Handle {}
 
 impl Handle {
-    pub(crate) const NONE: Handle = Handle { live: 0, kept: ptr::null_mut() };
-}
-
-impl Drop for Handle {
-    fn drop(&mut self) {
-        if self.live != 0 {
-            unsafe { lus_free(self) };
-        }
-    }
+    pub const NONE: Handle = Handle { live: 0, kept: ptr::null_mut() };
 }
 
 #[repr(C)]
 #[derive(Clone, Copy, Default)]
-pub(crate) struct Leaf {
+pub struct Leaf {
     pub kind: u32,
     pub of: u32,
     pub number: i64,
@@ -35,7 +27,7 @@ pub(crate) struct Leaf {
 
 #[repr(C)]
 #[derive(Default)]
-pub(crate) struct Answer {
+pub struct Answer {
     pub kind: u32,
     pub why: u32,
     pub count: u64,
@@ -43,7 +35,7 @@ pub(crate) struct Answer {
 
 #[repr(C)]
 #[derive(Default)]
-pub(crate) struct Refused {
+pub struct Refused {
     pub number: u32,
     pub line: u32,
     pub column: u32,
@@ -53,7 +45,7 @@ pub(crate) struct Refused {
 
 #[repr(C)]
 #[derive(Default)]
-pub(crate) struct Formal {
+pub struct Formal {
     pub kind: u32,
     pub of: u32,
     pub clocked: u32,
@@ -63,7 +55,7 @@ pub(crate) struct Formal {
 
 #[repr(C)]
 #[derive(Default)]
-pub(crate) struct Entered {
+pub struct Entered {
     pub caller: u32,
     pub request: u32,
     pub slot: u64,
@@ -74,8 +66,9 @@ pub(crate) struct Entered {
 }
 
 unsafe extern "C" {
-    pub(crate) fn lus_compile(text: *const u8, n: usize, out: &mut Handle, why: &mut Refused, names: *mut u8, room: usize) -> u32;
-    pub(crate) fn lus_explain(
+    pub fn lus_version() -> u32;
+    pub fn lus_compile(text: *const u8, n: usize, out: &mut Handle, why: &mut Refused, names: *mut u8, room: usize) -> u32;
+    pub fn lus_explain(
         text: *const u8,
         n: usize,
         name: *const u8,
@@ -84,15 +77,15 @@ unsafe extern "C" {
         room: usize,
         bytes: &mut u64,
     ) -> u32;
-    pub(crate) fn lus_nodes(program: &mut Handle, count: &mut u32) -> u32;
-    pub(crate) fn lus_node_name(program: &mut Handle, node: u32, bytes: &mut u64, name: *mut u8, room: usize) -> u32;
-    pub(crate) fn lus_formals(program: &mut Handle, node: u32, inputs: &mut u32, outputs: &mut u32) -> u32;
-    pub(crate) fn lus_input(program: &mut Handle, node: u32, place: u32, out: &mut Formal, name: *mut u8, room: usize) -> u32;
-    pub(crate) fn lus_output(program: &mut Handle, node: u32, place: u32, out: &mut Formal, name: *mut u8, room: usize) -> u32;
-    pub(crate) fn lus_field(program: &mut Handle, of: u32, place: u32, out: &mut Formal, name: *mut u8, room: usize) -> u32;
-    pub(crate) fn lus_constructor(program: &mut Handle, of: u32, number: u32, bytes: &mut u64, name: *mut u8, room: usize) -> u32;
-    pub(crate) fn lus_open(program: &mut Handle, node: u32, seats: *mut Handle, count: u32) -> u32;
-    pub(crate) fn lus_try_call(
+    pub fn lus_nodes(program: &mut Handle, count: &mut u32) -> u32;
+    pub fn lus_node_name(program: &mut Handle, node: u32, bytes: &mut u64, name: *mut u8, room: usize) -> u32;
+    pub fn lus_formals(program: &mut Handle, node: u32, inputs: &mut u32, outputs: &mut u32) -> u32;
+    pub fn lus_input(program: &mut Handle, node: u32, place: u32, out: &mut Formal, name: *mut u8, room: usize) -> u32;
+    pub fn lus_output(program: &mut Handle, node: u32, place: u32, out: &mut Formal, name: *mut u8, room: usize) -> u32;
+    pub fn lus_field(program: &mut Handle, of: u32, place: u32, out: &mut Formal, name: *mut u8, room: usize) -> u32;
+    pub fn lus_constructor(program: &mut Handle, of: u32, number: u32, bytes: &mut u64, name: *mut u8, room: usize) -> u32;
+    pub fn lus_open(program: &mut Handle, node: u32, seats: *mut Handle, count: u32) -> u32;
+    pub fn lus_try_call(
         seat: &mut Handle,
         request: u32,
         slot: u64,
@@ -102,15 +95,15 @@ unsafe extern "C" {
         outputs: *mut Leaf,
         room: usize,
     ) -> u32;
-    pub(crate) fn lus_outputs(seat: &mut Handle, answer: &mut Answer, outputs: *mut Leaf, room: usize) -> u32;
-    pub(crate) fn lus_count(seat: &mut Handle, count: &mut u64) -> u32;
-    pub(crate) fn lus_number(seat: &mut Handle, number: &mut u32) -> u32;
-    pub(crate) fn lus_meet(first: &mut Handle, second: &mut Handle) -> u32;
-    pub(crate) fn lus_hold(seat: &mut Handle, count: &mut u64) -> u32;
-    pub(crate) fn lus_release(seat: &mut Handle) -> u32;
-    pub(crate) fn lus_close(seats: *mut Handle, count: u32, journal: &mut Handle) -> u32;
-    pub(crate) fn lus_entries(journal: &mut Handle, count: &mut u64) -> u32;
-    pub(crate) fn lus_entry_at(
+    pub fn lus_outputs(seat: &mut Handle, answer: &mut Answer, outputs: *mut Leaf, room: usize) -> u32;
+    pub fn lus_count(seat: &mut Handle, count: &mut u64) -> u32;
+    pub fn lus_number(seat: &mut Handle, number: &mut u32) -> u32;
+    pub fn lus_meet(first: &mut Handle, second: &mut Handle) -> u32;
+    pub fn lus_hold(seat: &mut Handle, count: &mut u64) -> u32;
+    pub fn lus_release(seat: &mut Handle) -> u32;
+    pub fn lus_close(seats: *mut Handle, count: u32, journal: &mut Handle) -> u32;
+    pub fn lus_entries(journal: &mut Handle, count: &mut u64) -> u32;
+    pub fn lus_entry_at(
         journal: &mut Handle,
         place: u64,
         entry: &mut Entered,
@@ -119,7 +112,7 @@ unsafe extern "C" {
         outputs: *mut Leaf,
         room: usize,
     ) -> u32;
-    pub(crate) fn lus_journal_text(
+    pub fn lus_journal_text(
         journal: &mut Handle,
         instance: *const u8,
         instance_bytes: usize,
@@ -129,8 +122,8 @@ unsafe extern "C" {
         room: usize,
         bytes: &mut u64,
     ) -> u32;
-    pub(crate) fn lus_live_open(program: &mut Handle, node: u32, live: &mut Handle) -> u32;
-    pub(crate) fn lus_live_call(
+    pub fn lus_live_open(program: &mut Handle, node: u32, live: &mut Handle) -> u32;
+    pub fn lus_live_call(
         live: &mut Handle,
         request: u32,
         slot: u64,
@@ -140,8 +133,8 @@ unsafe extern "C" {
         outputs: *mut Leaf,
         room: usize,
     ) -> u32;
-    pub(crate) fn lus_live_replay(live: &mut Handle, line: *const u8, bytes: usize) -> u32;
-    pub(crate) fn lus_live_entry(
+    pub fn lus_live_replay(live: &mut Handle, line: *const u8, bytes: usize) -> u32;
+    pub fn lus_live_entry(
         live: &mut Handle,
         entry: &mut Entered,
         inputs: *mut Leaf,
@@ -149,7 +142,7 @@ unsafe extern "C" {
         outputs: *mut Leaf,
         room: usize,
     ) -> u32;
-    pub(crate) fn lus_live_line(
+    pub fn lus_live_line(
         live: &mut Handle,
         caller: *const u8,
         length: usize,
@@ -157,6 +150,6 @@ unsafe extern "C" {
         room: usize,
         bytes: &mut u64,
     ) -> u32;
-    pub(crate) fn lus_live_count(live: &mut Handle, count: &mut u64) -> u32;
-    pub(crate) fn lus_free(handle: &mut Handle) -> u32;
+    pub fn lus_live_count(live: &mut Handle, count: &mut u64) -> u32;
+    pub fn lus_free(handle: &mut Handle) -> u32;
 }
