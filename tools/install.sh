@@ -34,9 +34,15 @@ for page in "$here"/man/*.1; do
 done
 if [ -d "$here/bindings" ]; then
     put 644 lib "$here"/bindings/*.a
-    put 755 lib "$here"/bindings/*.so
+    for library in "$here"/bindings/liblus.so.*; do
+        put 755 lib "$library"
+        ln -sf "$(basename "$library")" "$prefix/lib/liblus.so"
+    done
     put 644 include "$here"/bindings/*.h
-    put 644 share/lus/python "$here"/bindings/*.py
+    put 644 lib/pkgconfig "$here"/bindings/lus.pc
+    sed -i 's|^prefix=.*|prefix=${pcfiledir}/../..|; s|^libdir=.*|libdir=${prefix}/lib|; s|^includedir=.*|includedir=${prefix}/include|' \
+        "$prefix/lib/pkgconfig/lus.pc"
+    put 644 share/lus/python "$here"/bindings/*.py "$here"/bindings/*.whl
     if [ -d "$prefix/share/lus/python" ]; then
         # (lus.py looks for it there)
         ln -sf ../../../lib/liblus.so "$prefix/share/lus/python/liblus.so"

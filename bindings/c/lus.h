@@ -1,15 +1,15 @@
 /* lus.h: Lustre V6 programs, and instances of their nodes that several threads call, each by a seat of its own.
  *
- * Link liblus.a. Nothing here waits, sleeps or starts a thread.
+ * Link liblus.a, or liblus.so, whose number is that of LUS_VERSION. Nothing here waits, sleeps or starts a thread.
  *
- * Handles. A handle is a struct of the caller's that starts as {0} (or LUS_NONE) and is then only given to these calls: never
- * copied, read or written. A handle is given to one call at a time. It may go to another thread where a lock, a thread's
- * start or join, or a sequentially consistent atomic orders that; so each thread has its own seat, and seats of one instance
- * are called at the same time. `lus_free` lets any handle go; a freed handle is {0} again.
+ * Handles. A handle is a struct of the caller's that starts as LUS_NONE (zeros) and is then only given to these calls: never
+ * copied, read or written. Each kind of handle is a type of its own. A handle is given to one call at a time. It may go to another
+ * thread where a lock, a thread's start or join, or a sequentially consistent atomic orders that; so each thread has its own seat,
+ * and seats of one instance are called at the same time. `lus_free` lets any handle go; a freed handle is LUS_NONE again.
  *
- * Wrong use. A null pointer, an empty handle, a handle of another kind and an output handle that isn't empty give LUS_HANDLE,
- * and nothing is done. What can't be seen is the caller's: that a pointer points to a handle, an array is as long as is said,
- * a handle is no copy, no two calls have one at a time, and arguments of one call don't overlap. */
+ * Wrong use. A null pointer, an empty handle, a handle of another kind behind a cast and an output handle that isn't empty give
+ * LUS_HANDLE, and nothing is done. What can't be seen is the caller's: that a pointer points to a handle, an array is as long as is
+ * said, a handle is no copy, no two calls have one at a time, and arguments of one call don't overlap. */
 #ifndef LUS_H
 #define LUS_H
 
@@ -20,15 +20,16 @@
 extern "C" {
 #endif
 
+/* The number of these calls: another one has others, or other structs. */
 #define LUS_VERSION 1
 
-typedef struct { uint64_t live; void *kept; } lus_handle;
-typedef lus_handle lus_program; /* an accepted program */
-typedef lus_handle lus_seat;    /* a caller's place at an instance of a node */
-typedef lus_handle lus_journal; /* the entries of an instance that was closed */
-typedef lus_handle lus_live;    /* an instance whose entries are handed out, and not kept */
+typedef struct { uint64_t live; void *kept; } lus_handle; /* what each handle has; not for callers */
+typedef struct { lus_handle own; } lus_program;           /* an accepted program */
+typedef struct { lus_handle own; } lus_seat;              /* a caller's place at an instance of a node */
+typedef struct { lus_handle own; } lus_journal;           /* the entries of an instance that was closed */
+typedef struct { lus_handle own; } lus_live;              /* an instance whose entries are handed out, and not kept */
 
-#define LUS_NONE {0, 0}
+#define LUS_NONE {{0, 0}}
 
 typedef enum {
     LUS_OK = 0,
@@ -81,6 +82,9 @@ typedef struct {
     uint32_t reply, why;
     uint64_t inputs, outputs;
 } lus_entry;
+
+/* The LUS_VERSION of the library. A host that isn't compiled with it, as one that loads it at run time, compares it with its own. */
+uint32_t lus_version(void);
 
 /* The program of a text of `bytes` bytes. `refusal` may be null, and `names` where `room` is 0. */
 lus_status lus_compile(const char *text, size_t bytes, lus_program *program, lus_refusal *refusal, char *names, size_t room);
@@ -173,7 +177,8 @@ lus_status lus_live_line(lus_live *, const char *caller, size_t length, char *te
 lus_status lus_live_replay(lus_live *, const char *line, size_t bytes);
 lus_status lus_live_count(lus_live *, uint64_t *entries);
 
-lus_status lus_free(lus_handle *);
+/* Lets a handle of any kind go. */
+lus_status lus_free(void *handle);
 
 #ifdef __cplusplus
 }

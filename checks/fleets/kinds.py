@@ -4,13 +4,15 @@ from __future__ import annotations
 from dataclasses import replace
 
 from cases import DeviceTrial, FullTrial, HostileTrial, LongTrial, LoseTrial, OddTrial, PoisonTrial, RestartTrial
+from doors import DoorTrial
 from ends import EndTrial, MetricsTrial
 from parts import AgainTrial, CutTrial, FollowTrial, KeptTrial, LeaseTrial, MisreadTrial, RogueTrial
 from trials import Plan
 
 KINDS = {"odd": OddTrial, "device": DeviceTrial, "restarted": RestartTrial, "lost": LoseTrial, "hostile": HostileTrial,
          "poison": PoisonTrial, "full": FullTrial, "ends": EndTrial, "metrics": MetricsTrial, "long": LongTrial, "follow": FollowTrial,
-         "cut": CutTrial, "misread": MisreadTrial, "kept": KeptTrial, "leases": LeaseTrial, "again": AgainTrial, "rogue": RogueTrial}
+         "cut": CutTrial, "misread": MisreadTrial, "kept": KeptTrial, "leases": LeaseTrial, "again": AgainTrial, "rogue": RogueTrial,
+         "door": DoorTrial}
 CALM = Plan("never", strikes=0)
 SLOW = Plan("slow", partitions=1, instances=300, past=300, strikes=1)
 GAP = Plan("gap", partitions=1, instances=300, past=300, strikes=1)
@@ -24,11 +26,12 @@ HOSTILE = replace(CALM, others=("evil",))
 POISON = replace(CALM, others=("evil",), instances=30)
 LOST = Plan("killed", strikes=2)
 DEVICE = Plan("killed", clients=3, strikes=2)
+DOOR = Plan("killed", strikes=2)
 PLANS = {name: Plan(name) for name in ("taken", "stepped", "appended", "settled", "killed", "mute", "broken")}
 PLANS |= {"hostless": Plan("hostless", strikes=2), "replay": Plan("replay", partitions=1, past=40), "asleep": ASLEEP, "rogue": Plan("rogue", workers=4), "cut": Plan("cut", strikes=2), "slow": SLOW,
           "gap": GAP, "kept": KEPT, "follow": FOLLOW, "leases": LEASES, "again": AGAIN, "misread": MISREAD, "hostile": HOSTILE,
           "poison": POISON, "full": replace(CALM, waiting=20, others=("early",)), "ends": CALM,
-          "metrics": replace(CALM, partitions=1, lease=6.0)}
+          "metrics": replace(CALM, partitions=1, lease=6.0), "door": DOOR}
 PLANS_OF = {
     "NATS": {"odd": Plan("short", clients=1, strikes=0), "lost": LOST,
              "forgotten": Plan("forgotten", partitions=1, instances=300, past=300, strikes=1)},

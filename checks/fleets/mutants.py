@@ -5,7 +5,7 @@ import re
 from dataclasses import dataclass, replace
 from pathlib import Path
 
-from kinds import AGAIN, ASLEEP, CALM, FOLLOW, GAP, HOSTILE, KEPT, LEASES, LOST, MISREAD, POISON, SLOW
+from kinds import AGAIN, ASLEEP, CALM, DOOR, FOLLOW, GAP, HOSTILE, KEPT, LEASES, LOST, MISREAD, POISON, SLOW
 from trials import FLEET, Plan
 
 
@@ -83,6 +83,8 @@ MUTANTS = [
            "poison"),
     Mutant("what ends hosts isn't given up", "service.py", "self.blamed[request.key] >= MOST_BLAMES", "self.blamed[request.key] < 0",
            POISON, "hosts of a worker at most", "poison"),
+    Mutant("a door looks at no token", "http_door.py", "if self.tokens is None:", "if True:", replace(DOOR, strikes=0), "another's token is refused",
+           "door"),
 ]
 MUTANTS_OF = {
     "NATS": [

@@ -30,6 +30,10 @@ static void give(lus_status got, lus_status want, const char *call) {
 }
 #define GIVES(call, want) give(call, want, #call)
 
+/* A handle of another kind, which no compiler takes without a cast. */
+#define AS(kind, handle) ((kind *)(void *)(handle))
+#define EMPTY(handle) (memcmp(&(handle), &(lus_handle){0, 0}, sizeof(lus_handle)) == 0)
+
 static const char text[] = "type pair = struct { a: int; b: bool }; type light = enum { Red, Green };\n"
     "node counter(passed: bool) returns (count: int); let count = (0 -> pre count) + (if passed then 1 else 0); tel\n"
     "node swap(p: pair; l: light) returns (q: pair; m: light);\n"
@@ -65,7 +69,7 @@ static void wrong_uses(lus_program *program, lus_seat *one) {
     GIVES(lus_compile("\xff", 1, &other, 0, 0, 0), LUS_TEXT);
     GIVES(lus_compile(0, 5, &other, 0, 0, 0), LUS_HANDLE);
     GIVES(lus_compile(text, sizeof text - 1, program, 0, 0, 0), LUS_HANDLE);
-    IS(!other.live);
+    IS(EMPTY(other));
     /* names and numbers */
     GIVES(lus_node(program, "nothing", 7, &number), LUS_NO_SUCH);
     GIVES(lus_formals(program, 7, &number, &refusal.line), LUS_NO_SUCH);
@@ -76,17 +80,17 @@ static void wrong_uses(lus_program *program, lus_seat *one) {
     GIVES(lus_open(program, 7, two, 2), LUS_NO_SUCH);
     GIVES(lus_open(program, 0, two, 0), LUS_HANDLE);
     GIVES(lus_open(program, 0, one, 1), LUS_HANDLE);
-    IS(!two[0].live && !two[1].live);
+    IS(EMPTY(two[0]) && EMPTY(two[1]));
     /* handles of another kind, or empty */
-    GIVES(lus_try_step(program, &passed, 1, &answer, &out, 1), LUS_HANDLE);
-    GIVES(lus_try_step(&other, &passed, 1, &answer, &out, 1), LUS_HANDLE);
+    GIVES(lus_try_step(AS(lus_seat, program), &passed, 1, &answer, &out, 1), LUS_HANDLE);
+    GIVES(lus_try_step(AS(lus_seat, &other), &passed, 1, &answer, &out, 1), LUS_HANDLE);
     GIVES(lus_try_step(0, &passed, 1, &answer, &out, 1), LUS_HANDLE);
-    GIVES(lus_nodes(one, &number), LUS_HANDLE);
-    GIVES(lus_entries(one, &count), LUS_HANDLE);
+    GIVES(lus_nodes(AS(lus_program, one), &number), LUS_HANDLE);
+    GIVES(lus_entries(AS(lus_journal, one), &count), LUS_HANDLE);
     GIVES(lus_release(one), LUS_HANDLE);
-    GIVES(lus_hold(program, &count), LUS_HANDLE);
-    GIVES(lus_outputs(program, &answer, &out, 1), LUS_HANDLE);
-    GIVES(lus_meet(one, program), LUS_HANDLE);
+    GIVES(lus_hold(AS(lus_seat, program), &count), LUS_HANDLE);
+    GIVES(lus_outputs(AS(lus_seat, program), &answer, &out, 1), LUS_HANDLE);
+    GIVES(lus_meet(one, AS(lus_seat, program)), LUS_HANDLE);
     GIVES(lus_free(&other), LUS_HANDLE);
     /* values and requests that are none */
     lus_value structure = {LUS_STRUCT, 0, 3}, two_true = {LUS_BOOL, 0, 2}, nil = {5, 0, 0}, typed = {LUS_BOOL, 1, 1};
@@ -103,7 +107,7 @@ static void wrong_uses(lus_program *program, lus_seat *one) {
     /* seats that aren't all of one instance */
     MUST(lus_open(program, 0, two, 2));
     GIVES(lus_close(two, 1, &journal), LUS_SEATS);
-    GIVES(lus_close(two, 2, program), LUS_HANDLE);
+    GIVES(lus_close(two, 2, AS(lus_journal, program)), LUS_HANDLE);
     GIVES(lus_meet(&two[0], one), LUS_SEATS);
     GIVES(lus_meet(&two[0], &two[0]), LUS_HANDLE);
     MUST(lus_open(program, 0, &apart[0], 1));
@@ -236,6 +240,7 @@ int main(void) {
     lus_answer answer;
     char lines[512];
     uint64_t bytes;
+    IS(lus_version() == LUS_VERSION);
     MUST(lus_compile(text, sizeof text - 1, &program, 0, 0, 0));
     MUST(lus_open(&program, 0, &one, 1));
     MUST(lus_try_step(&one, &passed, 1, &answer, &out, 1));

@@ -18,8 +18,8 @@ static void must(lus_status status) {
 }
 
 // A handle that is let go with its owner.
-struct Owner {
-    lus_handle handle = LUS_NONE;
+template <typename Handle> struct Owner {
+    Handle handle = LUS_NONE;
     Owner() = default;
     Owner(const Owner &) = delete;
     ~Owner() { lus_free(&handle); }
@@ -54,7 +54,10 @@ static void compile(const std::string &name, const std::string &text, lus_progra
 }
 
 int main() {
-    Owner program, seat, journal, live;
+    Owner<lus_program> program;
+    Owner<lus_seat> seat;
+    Owner<lus_journal> journal;
+    Owner<lus_live> live;
     uint32_t node;
     try {
         compile("wrong.lus", "node n(x: int) returns (y: int); let y = z; tel", program.handle);

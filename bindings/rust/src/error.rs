@@ -24,6 +24,7 @@ impl fmt::Display for Refusal {
 
 /// Why a call gave nothing. No entry was made.
 #[derive(Clone, Debug, PartialEq, Eq)]
+#[non_exhaustive]
 pub enum Error {
     /// Another seat has the machine, which has so many entries.
     Busy(u64),

@@ -98,6 +98,7 @@ impl Program {
 
     /// The program of a text; where it is refused, the explanation says this name before the place.
     pub fn with_name(name: &str, text: &str) -> Result<Program, Error> {
+        assert_eq!(unsafe { raw::lus_version() }, raw::VERSION, "liblus.a has another version");
         let (mut handle, mut why) = (Handle::NONE, Refused::default());
         let mut names = vec![0; 1024];
         loop {
@@ -213,7 +214,7 @@ impl Program {
     /// An instance of a node, with a seat for each of so many callers, which have the numbers from 0 on.
     pub fn open(&self, node: Node, seats: u32) -> Result<Vec<Seat>, Error> {
         let mut handles: Vec<Handle> = (0..seats).map(|_| Handle::NONE).collect();
-        check(unsafe { raw::lus_open(&mut self.handle(), node.0, handles.as_mut_ptr(), seats) }, 0)?;
+        check(unsafe { raw::lus_open(&mut self.handle(), node.0, handles.as_mut_ptr().cast(), seats) }, 0)?;
         Ok(handles.into_iter().map(Seat::new).collect())
     }
 

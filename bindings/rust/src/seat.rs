@@ -120,7 +120,7 @@ impl HeldSeat {
 pub fn close(seats: Vec<Seat>) -> Result<Journal, (Vec<Seat>, Error)> {
     let (mut handles, rooms): (Vec<Handle>, Vec<Vec<Leaf>>) = seats.into_iter().map(|seat| (seat.handle, seat.outputs)).unzip();
     let mut journal = Handle::NONE;
-    let status = unsafe { raw::lus_close(handles.as_mut_ptr(), handles.len() as u32, &mut journal) };
+    let status = unsafe { raw::lus_close(handles.as_mut_ptr().cast(), handles.len() as u32, &mut journal) };
     match check(status, 0) {
         Ok(()) => Ok(Journal::new(journal)),
         Err(error) => {

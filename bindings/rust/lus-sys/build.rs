@@ -1,4 +1,4 @@
-//! Links liblus.a, which lies beside Cargo.toml, or in the folder that LUS_LIB names.
+//! Links liblus.a, which lies beside this crate's Cargo.toml, or in the folder that LUS_LIB names.
 fn main() {
     let folder = std::env::var("LUS_LIB").unwrap_or_else(|_| std::env::var("CARGO_MANIFEST_DIR").unwrap());
     println!("cargo:rerun-if-env-changed=LUS_LIB");
