@@ -7,10 +7,12 @@ mod files;
 mod journal;
 mod sections;
 mod usage;
+mod wrong_line;
 
-use crate::files::name_unopened;
+use crate::files::{is_for_people, name_unopened};
 use crate::journal::JournalFile;
 use crate::usage::introduce;
+use crate::wrong_line::{Told, explain_line};
 use lus_cli::{Fault, command, tell};
 use lus_devices::{Disk, Input, Output, Sink, write_all};
 use lus_lines::Buffered;
@@ -119,6 +121,26 @@ fn run<O: Sink, F: Sink>(
     Some(status)
 }
 
+/// The same, of a tool of which more is said behind the line of a fault: which file it is, and what is wrong with the line of a journal.
+fn run_for_people<O: Sink, F: Sink>(
+    rt: &HostRuntime,
+    tool: &str,
+    words: &[String],
+    output: &mut O,
+    faults: &mut F,
+) -> Option<u8> {
+    let mut told = Told::new(rt.alloc(), faults);
+    let status = run(rt, tool, words, output, &mut told);
+    let line = told.journal_line();
+    if status == Some(FILE_FAILED) {
+        name_unopened(rt, rt.alloc(), tool, words, faults);
+    }
+    if let Some(number) = line {
+        explain_line(rt, rt.alloc(), tool, words, number, faults);
+    }
+    status
+}
+
 fn main(rt: HostRuntime) -> ExitCode {
     let mut output = Output(rt.stdout());
     let mut faults = Output(rt.stderr());
@@ -130,13 +152,14 @@ fn main(rt: HostRuntime) -> ExitCode {
     if let Some(status) = introduce(tool, words, &mut output, &mut faults) {
         return ExitCode::from(status);
     }
-    let status = match run(&rt, tool, words, &mut output, &mut faults) {
+    let status = if is_for_people(tool) {
+        run_for_people(&rt, tool, words, &mut output, &mut faults)
+    } else {
+        run(&rt, tool, words, &mut output, &mut faults)
+    };
+    ExitCode::from(match status {
         Some(status) => status,
         None if tool == "lus_bench" => lus_bench::command(&rt, words),
         None => command(&rt, rt.alloc(), words, &mut output, &mut faults),
-    };
-    if status == FILE_FAILED {
-        name_unopened(&rt, tool, words, &mut faults);
-    }
-    ExitCode::from(status)
+    })
 }
