@@ -1,24 +1,14 @@
-#!/usr/bin/env python3
-"""Run the acceptance rows of the folder this file lies in against a `lus`.
-
-    run_rows PATH_TO_LUS [--upto STAGE] [--only TEXT] [--limit SECONDS]
-    run_rows --list [--upto STAGE]
-
-Without --upto the stage is the one in the file STAGE, which the project has
-reached. README.md beside this file says how a row is written."""
-
-import argparse
+"""The acceptance rows of rows/*.json, whose README says how a row is written."""
 import json
 import re
 import subprocess
-import sys
 import tempfile
 from pathlib import Path
 
-HERE = Path(__file__).resolve().parent
-LAST_STAGE = 16
+from lib.check import LIMIT, TOP
+
 KEYS = {
-    "name", "shows", "from", "until",
+    "name", "shows",
     "source", "check", "calls", "scripts", "fronts", "table", "words", "folders", "stdout_to",
     "stdout", "journal", "accepted", "merged", "stderr", "status",
 }
@@ -99,7 +89,7 @@ def scripts_bytes(row, source):
     return spell(scripts)
 
 
-def cases(row):
+def files_of(row):
     """Each pair of files that the row is run with: one, or one for each front."""
     source = spell(row["source"]) if "source" in row else None
     scripts = scripts_bytes(row, source)
@@ -175,25 +165,14 @@ def stdout_differs(row, source, got):
     return None if lines[len(replies) + 1:] == tail else f"at the end {tail[0]}"
 
 
-def line_pattern(line):
-    """A line of standard error; {17..64} is any number from 17 to 64, {*} any from 1."""
-    parts = re.split(r"(\{\*\}|\{\d+\.\.\d+\})", line)
-    ranges = [part[1:-1] for part in parts[1::2]]
-    pattern = "".join(r"([1-9][0-9]*)" if index % 2 else re.escape(part)
-                      for index, part in enumerate(parts))
-    return re.compile(pattern + "\n"), ranges
-
-
 def line_fits(line, got):
-    pattern, ranges = line_pattern(line)
-    match = pattern.fullmatch(got)
-    if not match:
-        return False
-    for number, span in zip(match.groups(), ranges):
-        low, high = span.split("..") if span != "*" else ("1", number)
-        if not int(low) <= int(number) <= int(high):
-            return False
-    return True
+    """Whether a line of standard error is the one of a row, in which {17..64} is any number from 17 to 64, {*} any from 1."""
+    parts = re.split(r"(\{\*\}|\{\d+\.\.\d+\})", line)
+    pattern = "".join(r"([1-9][0-9]*)" if index % 2 else re.escape(part) for index, part in enumerate(parts))
+    match = re.fullmatch(pattern + "\n", got)
+    spans = [part[1:-1].split("..") for part in parts[1::2]]
+    return match is not None and all(span == ["*"] or int(span[0]) <= int(number) <= int(span[1])
+                                     for number, span in zip(match.groups(), spans))
 
 
 def stderr_differs(row, got):
@@ -204,11 +183,13 @@ def stderr_differs(row, got):
     return None if any(line_fits(line, got) for line in lines) else " or ".join(lines)
 
 
-# Running
+def shorten(text, most=600):
+    text = text.rstrip("\n")
+    return repr(text) if len(text) <= most else repr(text[:most]) + f" .. ({len(text)} characters)"
 
 
-def run_case(program, row, source, scripts, limit):
-    """The differences of one run: pairs of what was expected and what came."""
+def differences(program, row, source, scripts):
+    """What was expected of one run, and what came."""
     with tempfile.TemporaryDirectory(prefix="rows-") as folder:
         for name, content in (("program.lus", source), ("scripts.json", scripts)):
             if content is not None:
@@ -217,13 +198,10 @@ def run_case(program, row, source, scripts, limit):
             (Path(folder) / name).mkdir()
         sink = open(row["stdout_to"], "wb") if "stdout_to" in row else None
         try:
-            done = subprocess.run([program, *words(row)], cwd=folder, timeout=limit,
-                                  stdin=subprocess.DEVNULL, stdout=sink or subprocess.PIPE,
-                                  stderr=subprocess.PIPE)
+            done = subprocess.run([program, *words(row)], cwd=folder, timeout=LIMIT, stdin=subprocess.DEVNULL,
+                                  stdout=sink or subprocess.PIPE, stderr=subprocess.PIPE)
         except subprocess.TimeoutExpired:
-            return [("an end", f"none within {limit} seconds")]
-        except OSError as error:
-            return [("a program that starts", str(error))]
+            return [f"  expected an end, and none came within {LIMIT:.0f} seconds"]
         finally:
             if sink:
                 sink.close()
@@ -232,52 +210,36 @@ def run_case(program, row, source, scripts, limit):
     found = []
     expected = stdout_differs(row, source, stdout)
     if expected is not None:
-        found.append((f"output {shorten(expected)}", shorten(stdout)))
+        found.append(f"  expected output {shorten(expected)}\n  got {shorten(stdout)}")
     expected = stderr_differs(row, stderr)
     if expected is not None:
-        found.append((f"fault's line {expected}", shorten(stderr)))
+        found.append(f"  expected the error's line {expected}\n  got {shorten(stderr)}")
     if done.returncode != row.get("status", 0):
-        found.append((f"status {row.get('status', 0)}", done.returncode))
+        found.append(f"  expected status {row.get('status', 0)}, got {done.returncode}")
     return found
 
 
-def shorten(text, most=600):
-    text = text.rstrip("\n")
-    return repr(text) if len(text) <= most else repr(text[:most]) + f" .. ({len(text)} characters)"
+class Row:
+    """A row, which is right or differs; it is worked out by hand, so nothing that comes is written into its file."""
 
+    def __init__(self, file, row, lus):
+        self.file, self.row, self.lus, self.found = file, row, lus, []
 
-def run_row(program, row, limit):
-    """True where the row passes; prints its first difference otherwise."""
-    for entry, line in lines_of_table(row):
-        for case, source, scripts in cases(line):
-            found = run_case(program, line, source, scripts, limit)
-            if found:
-                print(f"{row['name']}{entry}{case}")
-                for expected, got in found:
-                    print(f"  expected {expected}\n  got      {got}")
-                return False
-    return True
+    def label(self):
+        return f"{self.file.relative_to(TOP)}: {self.row['name']}"
 
+    def run(self, _environment):
+        """Runs the row up to its first difference."""
+        for entry, line in lines_of_table(self.row):
+            for case, source, scripts in files_of(line):
+                self.found = differences(str(self.lus), line, source, scripts)
+                if self.found:
+                    self.found.insert(0, f"{self.row['name']}{entry}{case}")
+                    return False
+        return True
 
-# Rows
-
-
-def stage(label):
-    """The number of a stage, from 0, at which no row holds yet, to LAST_STAGE."""
-    match = re.fullmatch(r"(0|[1-9][0-9]?)", str(label))
-    if not match or int(match.group(1)) > LAST_STAGE:
-        raise BadRow(f"no stage: {label}")
-    return int(match.group(1))
-
-
-def reached():
-    """The stage that the project has reached."""
-    return (HERE / "STAGE").read_text("ascii").strip()
-
-
-def stages(row):
-    """The first and the last stage at which the row holds."""
-    return stage(row["from"]), stage(row.get("until", LAST_STAGE))
+    def difference(self):
+        return self.found
 
 
 def checked_name(row, seen):
@@ -288,52 +250,15 @@ def checked_name(row, seen):
         raise BadRow(f"{name}: two rows of one name")
     if set(row) - KEYS:
         raise BadRow(f"{name}: unknown keys {sorted(set(row) - KEYS)}")
-    if "from" not in row:
-        raise BadRow(f"{name}: no stage")
-    first, last = stages(row)
-    if last < first:
-        raise BadRow(f"{name}: ends before it begins")
     if ("stderr" in row) != (row.get("status", 0) != 0):
         raise BadRow(f"{name}: a fault's line goes with a status other than 0")
     return name
 
 
-def load_rows():
-    rows, seen = [], set()
-    for path in sorted(HERE.glob("*.json")):
+def rows_of(lus):
+    """Each row, for a `lus`."""
+    seen = set()
+    for path in sorted((TOP / "rows").glob("*.json")):
         for row in json.loads(path.read_text("utf-8")):
             seen.add(checked_name(row, seen))
-            rows.append(row)
-    return rows
-
-
-def main():
-    reader = argparse.ArgumentParser(description="Run the acceptance rows against a `lus`.")
-    reader.add_argument("program", nargs="?", help="the path of `lus`")
-    reader.add_argument("--upto", default=reached(), help="the stage that has been reached")
-    reader.add_argument("--only", default="", help="rows with this text in their name")
-    reader.add_argument("--limit", type=float, default=20.0, help="seconds for one run")
-    reader.add_argument("--list", action="store_true", help="list the rows and run none")
-    options = reader.parse_args()
-    try:
-        upto = stage(options.upto)
-        rows = [row for row in load_rows()
-                if stages(row)[0] <= upto <= stages(row)[1] and options.only in row["name"]]
-    except (BadRow, json.JSONDecodeError) as error:
-        print(f"rows: {error}", file=sys.stderr)
-        return 2
-    if options.list:
-        for row in sorted(rows, key=lambda row: stages(row)):
-            span = str(row["from"]) + (f" to {row['until']}" if "until" in row else "")
-            print(f"{span:8} {row['name']:45} {row.get('shows', '')}".rstrip())
-        return 0
-    if options.program is None:
-        reader.error("the path of `lus` is wanted")
-    program = str(Path(options.program).resolve())
-    failed = sum(not run_row(program, row, options.limit) for row in rows)
-    print(f"{len(rows) - failed} passed, {failed} failed")
-    return 1 if failed or not rows else 0
-
-
-if __name__ == "__main__":
-    sys.exit(main())
+            yield Row(path, row, lus.absolute())
