@@ -132,6 +132,7 @@ fn run_for_people<O: Sink, F: Sink>(
     let mut told = Told::new(rt.alloc(), faults);
     let status = run(rt, tool, words, output, &mut told);
     let line = told.journal_line();
+    drop(told);
     if status == Some(FILE_FAILED) {
         name_unopened(rt, rt.alloc(), tool, words, faults);
     }
