@@ -241,3 +241,28 @@ class LongTrial(Trial):
             self.heard = self.replies(caller, [(f"{self.name}_0", f'{{"burst":[{rows}]}}')])
         size, wanted = sum(map(len, fetched)), sum(map(len, self.heard))
         self.expect(f"a client fetches its reply alone: {size} bytes for {wanted}", size < 2 * wanted)
+
+
+class PartsTrial(Trial):
+    """A trial on PostgreSQL of a log of long texts. It is fetched in parts: one that came at once would keep a worker's other thread from
+    renewing the lease."""
+
+    def run(self) -> str:
+        from engine_postgres import READ_BYTES
+        self.folder.mkdir()
+        steady(self.prepare)
+        texts, fetched = [b"x" * (READ_BYTES // 4)] * 12, list[int]()
+        with closing(connect(self.url)) as link:
+            for position, text in enumerate(texts):
+                link.append(0, position, text)
+            take = link.rows  # type: ignore[attr-defined]
+
+            def counted(*words: object) -> Any:
+                rows = take(*words)
+                fetched.append(sum(len(text) for _, text in rows))
+                return rows
+
+            link.rows = counted  # type: ignore[attr-defined]
+            self.expect("a log is read whole", [text for _, text in link.read(0, 0, len(texts))] == texts)
+        self.expect(f"a log is fetched in parts: {fetched}", max(fetched) <= READ_BYTES)
+        return ""

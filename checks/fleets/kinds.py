@@ -3,7 +3,7 @@ from __future__ import annotations
 
 from dataclasses import replace
 
-from cases import DeviceTrial, FullTrial, HostileTrial, LongTrial, LoseTrial, OddTrial, PoisonTrial, RestartTrial
+from cases import DeviceTrial, FullTrial, HostileTrial, LongTrial, LoseTrial, OddTrial, PartsTrial, PoisonTrial, RestartTrial
 from doors import DoorTrial
 from ends import EndTrial, MetricsTrial
 from parts import AgainTrial, CutTrial, FollowTrial, KeptTrial, LeaseTrial, MisreadTrial, RogueTrial
@@ -12,7 +12,7 @@ from trials import Plan
 KINDS = {"odd": OddTrial, "device": DeviceTrial, "restarted": RestartTrial, "lost": LoseTrial, "hostile": HostileTrial,
          "poison": PoisonTrial, "full": FullTrial, "ends": EndTrial, "metrics": MetricsTrial, "long": LongTrial, "follow": FollowTrial,
          "cut": CutTrial, "misread": MisreadTrial, "kept": KeptTrial, "leases": LeaseTrial, "again": AgainTrial, "rogue": RogueTrial,
-         "door": DoorTrial}
+         "door": DoorTrial, "parts": PartsTrial}
 CALM = Plan("never", strikes=0)
 SLOW = Plan("slow", partitions=1, instances=300, past=300, strikes=1)
 GAP = Plan("gap", partitions=1, instances=300, past=300, strikes=1)
@@ -35,5 +35,5 @@ PLANS |= {"hostless": Plan("hostless", strikes=2), "replay": Plan("replay", part
 PLANS_OF = {
     "NATS": {"odd": Plan("short", clients=1, strikes=0), "lost": LOST,
              "forgotten": Plan("forgotten", partitions=1, instances=300, past=300, strikes=1)},
-    "PostgreSQL": {"long": replace(CALM, partitions=1, clients=1, past=200)}}
+    "PostgreSQL": {"long": replace(CALM, partitions=1, clients=1, past=200), "parts": replace(CALM, partitions=1)}}
 RESTARTED = {"restarted": Plan("killed", partitions=1, requests=100, strikes=6, past=40)}

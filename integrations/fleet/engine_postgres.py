@@ -19,6 +19,7 @@ from lines import BUSY, MOST_BYTES, answered_by
 ANSWER_SECONDS = 8.0
 LONGEST_NOTE = 7900  # bytes of a notification; PostgreSQL takes 7,999
 MOST_ROWS = 512
+READ_BYTES = 1 << 20  # at once: while psycopg2 takes rows no other thread runs, not even one that renews a lease
 MOST_DEAD = 1000
 TABLES = """
 create table fleet (partitions int not null, lease interval not null, copies int not null, program text not null, node text not null,
@@ -124,8 +125,9 @@ class PostgresEngine:
 
     def read(self, partition: int, behind: int, last: int) -> Iterator[tuple[int, bytes]]:
         while behind < last:
-            rows = self.rows("select position, text from log where p = %s and position > %s order by position limit %s", partition, behind,
-                             MOST_ROWS)
+            rows = self.rows("select position, text from (select position, text, sum(octet_length(text)) over (order by position) size "
+                             "from (select * from log where p = %s and position > %s order by position limit %s) few) sized "
+                             "where size - octet_length(text) < %s order by position", partition, behind, MOST_ROWS, READ_BYTES)
             for position, text in rows or [(0, "")]:
                 if position != behind + 1:
                     raise EngineError(f"the log of partition {partition} gives position {position} behind {behind}")
