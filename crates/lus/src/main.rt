@@ -5,10 +5,12 @@
 
 mod files;
 mod journal;
+mod lines;
 mod usage;
 
 use crate::files::name_unopened;
 use crate::journal::JournalFile;
+use crate::lines::tell_line;
 use crate::usage::introduce;
 use lus_cli::{Fault, command, tell};
 use lus_devices::{Disk, Input, Output, Sink, write_all};
@@ -19,7 +21,10 @@ use std::env;
 use std::io::ErrorKind;
 use std::process::ExitCode;
 
-/// The status of a file that couldn't be read, or an output that couldn't be written.
+/// The status of a journal with a line that isn't right, among others, and of a file that couldn't be read, or an output that couldn't be
+/// written.
+const LINE_WRONG: u8 = 2;
+
 const FILE_FAILED: u8 = 3;
 
 /// The name under which the program was called, and the words behind it. Words that are no text are unknown arguments.
@@ -134,8 +139,10 @@ fn main(rt: HostRuntime) -> ExitCode {
         None if tool == "lus_bench" => lus_bench::command(&rt, words),
         None => command(&rt, rt.alloc(), words, &mut output, &mut faults),
     };
-    if status == FILE_FAILED {
-        name_unopened(&rt, tool, words, &mut faults);
+    match status {
+        LINE_WRONG => tell_line(&rt, rt.alloc(), tool, words, &mut faults),
+        FILE_FAILED => name_unopened(&rt, tool, words, &mut faults),
+        _ => {}
     }
     ExitCode::from(status)
 }

@@ -6,7 +6,9 @@ mod log_words;
 mod logs;
 mod reasons;
 mod shell;
+mod telling;
 mod words;
 
 pub use logs::command_many;
 pub use shell::command;
+pub use telling::tell_wrong_line;
