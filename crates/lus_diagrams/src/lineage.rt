@@ -1,7 +1,8 @@
 //! The number of each instant in its lineage: the instants since a reset, a restore going back to its save's.
 
-ghost use Rattle.std.specs.Prelude.{◌≡◌};
+ghost use Rattle.std.specs.Prelude.{◌≡◌, IfSome, false};
 ghost use Rattle.lus_diagrams.specs.Columns.{event_between, lineage_behind};
+ghost use Rattle.lus_diagrams.specs.Parts.{is_instant};
 
 use lus_requests::{Reply, Request};
 
@@ -25,7 +26,8 @@ pub(crate) struct Lineage {
 
 /// The event of an entry that accepted so many instants, if it is one.
 pub(crate) fn event_of(instants: usize, request: &Request, reply: &Reply) -> Option<Head>
-    ensures { result ≡ event_between instants request.now reply.now }
+    ensures event { result ≡ event_between instants request.now reply.now }
+    ensures between { IfSome result (λ head. is_instant head ≡ false) }
 {
     match (request, reply) {
         (Request::Burst(_), Reply::Rows(_)) => Some(Head::Burst(instants as u64)),

@@ -1,5 +1,6 @@
 -- What an audit finds, of what was gathered.
-use Rattle.std.proofs.Common.{◌≡◌, ◌++◌, arith, inl, inr, refl, subst, suc, sym, ℕ, List, [], ◌∷◌, Option, Some, None}
+use Rattle.std.proofs.Common.{◌≡◌, ◌∙◌, ◌++◌, ap, arith, inl, inr, refl, subst, suc, sym, true, false, ℕ, Bool, List, [], ◌∷◌, Option, Some, None}
+use Rattle.std.proofs.lemmas.Bool.{true≢false}
 use Rattle.std.specs.Prelude.{⊤, IfOk, Ok, Result}
 use Rattle.std.specs.List.{All}
 use Rattle.lus_program.specs.Programs.{Program}
@@ -17,13 +18,26 @@ use Rattle.lus_sketches.specs.Selections.{Selection}
 use Rattle.lus_sketches.specs.declared.sketches.Failure.{Failure}
 use Rattle.lus_sketches.specs.declared.sketches.Failure.TheVariants as failures
 use Rattle.lus_sketches.proofs.Sketched.{lost_unlawful}
-use Rattle.lus_draw.specs.Drawings.{IsDrawingFault, IsUnsettled, audit_fault, failure_fault}
-use Rattle.lus_draw.specs.Gatherings.{AreDrawn, FailsIn, HasGathered}
-use Rattle.lus_traces.specs.declared.trace.Trace.{Trace as Drawn}
+use Rattle.lus_values.specs.Names.{Names}
+use Rattle.lus_diagrams.specs.declared.parts.Part.{Part}
+use Rattle.lus_traces.specs.Tables.{joined}
+use Rattle.lus_traces.specs.Traces.{Trace}
+use Rattle.lus_cli.specs.declared.fault.Fault.TheVariants as faults
+use Rattle.lus_draw.specs.Drawings.{DrawsLines, IsDrawingFault, IsJoined, IsShown, IsUnsettled, audit_fault, ended, failure_fault, is_page}
+use Rattle.lus_draw.specs.Gatherings.{AreDrawn, AreTables, FailsIn, HasGathered}
+use Rattle.lus_draw.specs.declared.words.Format.{Format}
+use Rattle.lus_draw.specs.declared.words.Format.TheVariants as formats
 
 -- what holds of a result that is a value holds of the value
 pub when_ok : {X E : Type 0} (r : Result X E) (x : X) (P : X → Type 0) → r ≡ Ok x → IfOk r P → P x
 when_ok r x P is holds = subst (λ q. IfOk q P) is holds
+
+no_tables : (f : Format) {names : Names} → AreTables f names [] []
+no_tables formats.Csv = refl
+no_tables formats.Text = tt
+no_tables formats.Waves = tt
+no_tables formats.Html = tt
+no_tables formats.Vcd = tt
 
 module _ (p : Program) (Old New : List Journal → Type 0) (on : (js : List Journal) → Old js → New js) where
   lawful_as : (tail : Text) (left later : Option Bytes) (lines : ℕ) (report : Text) → AreLawful p Old tail left later lines report → AreLawful p New tail left later lines report
@@ -43,32 +57,56 @@ module _ (p : Program) (Old New : List Journal → Type 0) (on : (js : List Jour
   audited_as (Some n) left report (mid, later, lines, lawful, wrong, are, is, reported) =
       (mid, later, lines, lawful, wrong, lawful_as [] left mid lines lawful are, is, reported)
 
-module _ (s : Selection) (p : Program) where
+-- what is gathered of lawful journals may name what there is of them
+pub audited_some : (p : Program) (A : Type 0) (Of : A → List Journal → Type 0) (left : Option Bytes) (report : Text)
+    → HasAudited p (λ js. (a : A) × Of a js) None left report → (a : A) × HasAudited p (Of a) None left report
+audited_some p A Of left report (tail, mid, end, lines, are, last) = (
+  are.gathered.0,
+  tail,
+  mid,
+  end,
+  lines,
+  record {
+    journals = are.journals;
+    lawful = are.lawful;
+    gathered = are.gathered.1;
+    tailed = are.tailed;
+    read = are.read;
+    counted = are.counted;
+    reported = are.reported;
+  },
+  last,
+)
+
+module _ (s : Selection) (p : Program) (part : Part) (f : Format) where
+  none_drawn_yet : AreDrawn s p part f [] []
+  none_drawn_yet = record { traces = []; are = tt; written = no_tables f }
+
   -- what journals are drawn behind nothing
-  abbrev pub GathersAll : Option Failure → List Drawn → List Journal → Type 0
-  GathersAll failure ds = Gathers (λ js. HasGathered s p js None []) (λ js. HasGathered s p js failure ds)
+  abbrev pub GathersAll : Option Failure → List Text → List Journal → Type 0
+  GathersAll failure tables = Gathers (λ js. HasGathered s p part f js None []) (λ js. HasGathered s p part f js failure tables)
 
   -- before the audit nothing was drawn
-  pub from_nothing : (before failure : Option Failure) (old ds : List Drawn) (wrong : Option ℕ) (left : Option Bytes) (report : Text) → before ≡ None
-      → old ≡ [] → HasAudited p (Gathers (λ js. HasGathered s p js before old) (λ js. HasGathered s p js failure ds)) wrong left report
-      → HasAudited p (GathersAll failure ds) wrong left report
-  from_nothing before failure old ds wrong left report none empty audited =
-      subst (λ o. HasAudited p (Gathers (λ js. HasGathered s p js None o) (λ js. HasGathered s p js failure ds)) wrong left report) empty
-      (subst (λ b. HasAudited p (Gathers (λ js. HasGathered s p js b old) (λ js. HasGathered s p js failure ds)) wrong left report) none audited)
+  pub from_nothing : (before failure : Option Failure) (old tables : List Text) (wrong : Option ℕ) (left : Option Bytes) (report : Text) → before ≡ None
+      → old ≡ [] → HasAudited p (Gathers (λ js. HasGathered s p part f js before old) (λ js. HasGathered s p part f js failure tables)) wrong left report
+      → HasAudited p (GathersAll failure tables) wrong left report
+  from_nothing before failure old tables wrong left report none empty audited =
+      subst (λ o. HasAudited p (Gathers (λ js. HasGathered s p part f js None o) (λ js. HasGathered s p part f js failure tables)) wrong left report) empty
+      (subst (λ b. HasAudited p (Gathers (λ js. HasGathered s p part f js b old) (λ js. HasGathered s p part f js failure tables)) wrong left report) none audited)
 
   -- of all lawful journals something is drawn
-  pub all_drawn : (wrong : Option ℕ) (failure : Option Failure) (ds items : List Drawn) (left : Option Bytes) (report : Text) → wrong ≡ None
-      → failure ≡ None → items ≡ ds → HasAudited p (GathersAll failure ds) wrong left report → HasAudited p (λ js. AreDrawn s p js items) None left report
-  all_drawn wrong failure ds items left report right drawn same audited =
-      let whole = subst (λ w. HasAudited p (GathersAll failure ds) w left report) right audited in
-      let none_failed = subst (λ f. HasAudited p (GathersAll f ds) None left report) drawn whole in
-      let are = audited_as p (GathersAll None ds) (λ js. AreDrawn s p js ds) (λ js g. g.behind [] tt) None left report none_failed in
-      subst (λ v. HasAudited p (λ js. AreDrawn s p js v) None left report) (sym same) are
+  pub all_drawn : (wrong : Option ℕ) (failure : Option Failure) (tables : List Text) (left : Option Bytes) (report : Text) → wrong ≡ None
+      → failure ≡ None → HasAudited p (GathersAll failure tables) wrong left report → HasAudited p (λ js. AreDrawn s p part f js tables) None left report
+  all_drawn wrong failure tables left report right drawn audited =
+      let whole = subst (λ w. HasAudited p (GathersAll failure tables) w left report) right audited in
+      let none_failed = subst (λ e. HasAudited p (GathersAll e tables) None left report) drawn whole in
+      audited_as p (GathersAll None tables) (λ js. AreDrawn s p part f js tables) (λ js g. g.behind [] none_drawn_yet) None left report none_failed
 
   -- or it is known why nothing is
-  none_drawn : (ds : List Drawn) (failure : Failure) (left : Option Bytes) (report : Text)
-      → HasAudited p (GathersAll (Some failure) ds) None left report → HasAudited p (λ js. FailsIn s p js failure) None left report
-  none_drawn ds failure left report = audited_as p (GathersAll (Some failure) ds) (λ js. FailsIn s p js failure) (λ js g. g.behind [] tt) None left report
+  none_drawn : (tables : List Text) (failure : Failure) (left : Option Bytes) (report : Text)
+      → HasAudited p (GathersAll (Some failure) tables) None left report → HasAudited p (λ js. FailsIn s p js failure) None left report
+  none_drawn tables failure left report =
+      audited_as p (GathersAll (Some failure) tables) (λ js. FailsIn s p js failure) (λ js g. g.behind [] none_drawn_yet) None left report
 
   lawful_in : (before behind : List Journal) (j : Journal) → All (IsLawfulJournal p) (before ++ j ∷ behind) → IsLawfulJournal p j
   lawful_in [] behind j all = all 0 j (omega arith)
@@ -79,24 +117,56 @@ module _ (s : Selection) (p : Program) where
   none_lost js n all failed =
       let is = lawful_in failed.before failed.behind failed.journal (subst (All (IsLawfulJournal p)) failed.stands all) in
       let same : is.node ≡ failed.node = let named = is.named in let again = failed.named in cc in
-      lost_unlawful s p failed.node (entries_of failed.journal) n (subst (λ f. History p f (entries_of failed.journal)) same is.lawful) failed.fails
+      lost_unlawful s p failed.node (entries_of failed.journal) n (subst (λ g. History p g (entries_of failed.journal)) same is.lawful) failed.fails
 
-  module _ (bytes : Text) where
-    failure_is : (failure : Failure) (report : Text) → HasAudited p (λ js. FailsIn s p js failure) None (Some bytes) report
-        → IsDrawingFault s p bytes (failure_fault failure)
+  module _ (left : Option Bytes) where
+    failure_is : (failure : Failure) (report : Text) → HasAudited p (λ js. FailsIn s p js failure) None left report
+        → IsDrawingFault s p ⊤ left (failure_fault failure)
     failure_is (failures.Unknown n) report audited = (report, audited)
     failure_is (failures.Lost n) report (tail, mid, end, lines, lawful, last) = absurd (none_lost lawful.journals n lawful.lawful lawful.gathered)
 
-    pub unsettled_is : (wrong : Option ℕ) (failure : Option Failure) (ds : List Drawn) (report : Text) (f : Fault) → IsUnsettled wrong failure f
-        → HasAudited p (GathersAll failure ds) wrong (Some bytes) report → IsDrawingFault s p bytes f
-    unsettled_is (Some n) failure ds report f is audited =
-        let found = audited_as p (GathersAll failure ds) (λ js. ⊤) (λ js g. tt) (Some n) (Some bytes) report audited in
-        subst (IsDrawingFault s p bytes) (sym is) (inr (report, found))
-    unsettled_is None (Some e) ds report f is audited =
-        subst (IsDrawingFault s p bytes) (sym is) (failure_is e report (none_drawn ds e (Some bytes) report audited))
-    unsettled_is None None ds report f never audited = absurd never
+    pub unsettled_is : (wrong : Option ℕ) (failure : Option Failure) (tables : List Text) (report : Text) (e : Fault) → IsUnsettled wrong failure e
+        → HasAudited p (GathersAll failure tables) wrong left report → IsDrawingFault s p ⊤ left e
+    unsettled_is (Some n) failure tables report e is audited =
+        let found = audited_as p (GathersAll failure tables) (λ js. ⊤) (λ js g. tt) (Some n) left report audited in
+        subst (IsDrawingFault s p ⊤ left) (sym is) (inr (report, found))
+    unsettled_is None (Some w) tables report e is audited =
+        subst (IsDrawingFault s p ⊤ left) (sym is) (failure_is w report (none_drawn tables w left report audited))
+    unsettled_is None None tables report e never audited = absurd never
 
-    pub audit_is : (e : AuditError) → BlamesIf (AreNone p (Some bytes)) e → IsDrawingFault s p bytes (audit_fault e)
+    pub audit_is : (e : AuditError) → BlamesIf (AreNone p left) e → IsDrawingFault s p ⊤ left (audit_fault e)
     audit_is (errors.Line n) blames = inl (blames n refl)
     audit_is errors.Read blames = tt
     audit_is errors.Memory blames = tt
+
+    -- a device that hasn't failed wasn't lost
+    pub ended_is : (Failed : Type 0) (e : Fault) (has_failed : Bool) → (has_failed ≡ true → Failed) → IsDrawingFault s p ⊤ left e
+        → IsDrawingFault s p Failed left (ended e has_failed)
+    ended_is Failed faults.File true so is = so refl
+    ended_is Failed faults.File false so is = tt
+    ended_is Failed (faults.Journal n) has_failed so is = is
+    ended_is Failed (faults.Signal n) has_failed so is = is
+    ended_is Failed faults.Memory has_failed so is = is
+    ended_is Failed faults.Words has_failed so is = absurd is
+    ended_is Failed faults.Output has_failed so is = absurd is
+    ended_is Failed faults.Start has_failed so is = absurd is
+    ended_is Failed (faults.Program r) has_failed so is = absurd is
+    ended_is Failed (faults.Scripts r) has_failed so is = absurd is
+
+-- ---- what is written
+
+-- of another format than a page
+pub shown_of : (f : Format) (names : Names) (text : Text) (ts : List Trace) (tables : List Text) (written : Text) → is_page f ≡ false → AreTables f names ts tables
+    → IsJoined f tables written → IsShown f names text ts written
+shown_of formats.Csv names text ts tables written no are is = is ∙ ap joined are
+shown_of formats.Html names text ts tables written no are is = absurd (true≢false no)
+shown_of formats.Text names text ts tables written no are is = tt
+shown_of formats.Waves names text ts tables written no are is = tt
+shown_of formats.Vcd names text ts tables written no are is = tt
+
+pub page_of : (f : Format) (names : Names) (text : Text) (ts : List Trace) (written : Text) → is_page f ≡ true → DrawsLines text written → IsShown f names text ts written
+page_of formats.Html names text ts written yes is = is
+page_of formats.Csv names text ts written yes is = absurd (true≢false (sym yes))
+page_of formats.Text names text ts written yes is = tt
+page_of formats.Waves names text ts written yes is = tt
+page_of formats.Vcd names text ts written yes is = tt

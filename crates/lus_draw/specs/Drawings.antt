@@ -1,13 +1,11 @@
 -- What is drawn of the bytes of journals, and why nothing is.
-use Rattle.std.specs.Prelude.{◌≡◌, ◌⊎◌, ◌++◌, ℕ, List, [], ◌∷◌, map, codes, Option, Some, None, IsUtf8, ⊤}
+use Rattle.std.specs.Prelude.{◌≡◌, ◌⊎◌, ◌++◌, ℕ, Bool, true, false, List, [], ◌∷◌, map, codes, Option, Some, None, IsUtf8, ⊤}
 use Rattle.lus_values.specs.Names.{Names}
 use Rattle.lus_program.specs.Programs.{Program}
-use Rattle.lus_traces.specs.Parts.{part_of}
-use Rattle.lus_traces.specs.declared.parts.Part.{Part}
+use Rattle.lus_diagrams.specs.declared.parts.Part.{Part}
 use Rattle.lus_traces.specs.Pages.{Line, page_text, whole_lines}
-use Rattle.lus_traces.specs.Tables.{csv_text}
+use Rattle.lus_traces.specs.Tables.{csv_text, joined}
 use Rattle.lus_traces.specs.Traces.{Trace}
-use Rattle.lus_traces.specs.declared.trace.Trace.{Trace as Drawn}
 use Rattle.lus_lawful.specs.Audits.{HasAudited}
 use Rattle.lus_lawful.specs.Findings.{AreNone}
 use Rattle.lus_lawful.specs.Journals.{Journal}
@@ -21,23 +19,11 @@ use Rattle.lus_sketches.specs.Selections.{Selection}
 use Rattle.lus_sketches.specs.declared.sketches.Failure.{Failure}
 use Rattle.lus_sketches.specs.declared.sketches.Failure.TheVariants as failures
 use Rattle.lus_draw.specs.CommandLine.{Drawing}
-use Rattle.lus_draw.specs.Gatherings.{AreDrawn, FailsIn, IsTableOf}
+use Rattle.lus_draw.specs.Gatherings.{AreDrawn, AreTraces, FailsIn}
 use Rattle.lus_draw.specs.declared.words.Format.{Format}
 use Rattle.lus_draw.specs.declared.words.Format.TheVariants as formats
 
 -- ---- what is written
-
--- the trace of a part of a journal's table
-pub record IsTrace (s : Selection) (p : Program) (part : Part) (j : Journal) (t : Trace) : Type 0 where
-  pub whole : Trace
-  pub table : IsTableOf s p j whole
-  pub cut : t ≡ record whole { columns = part_of part whole.columns }
-
--- journals have these traces, in their order
-abbrev pub AreTraces : Selection → Program → Part → List Journal → List Trace → Type 0
-AreTraces s p part [] [] = ⊤
-AreTraces s p part (j ∷ js) (t ∷ ts) = IsTrace s p part j t × AreTraces s p part js ts
-AreTraces s p part _ _ = ⊥
 
 -- bytes begin with a text, which is all of them where they are one
 abbrev pub IsFrontOf : Text → Text → Type 0
@@ -76,18 +62,20 @@ IsLinePage bytes written = (text : Text) × IsFrontOf bytes text × DrawsLines t
 -- ---- why nothing is
 
 -- line n is none of a journal there, of journals that can be read back; or it isn't the right one
-abbrev pub IsJournalFault : Program → Text → ℕ → Type 0
-IsJournalFault p bytes n = AreNone p (Some bytes) ⊎ ((report : Text) × HasAudited p (λ js. ⊤) (Some n) (Some bytes) report)
+abbrev pub IsJournalFault : Program → Option Text → ℕ → Type 0
+IsJournalFault p left n = AreNone p left ⊎ ((report : Text) × HasAudited p (λ js. ⊤) (Some n) left report)
 
 -- of journals that an audit finds lawful one is of a node from which the signal at this place leads nowhere, as the first
-abbrev pub LacksSignal : Selection → Program → Text → ℕ → Type 0
-LacksSignal s p bytes place = (report : Text) × HasAudited p (λ js. FailsIn s p js (failures.Unknown place)) None (Some bytes) report
+abbrev pub LacksSignal : Selection → Program → Option Text → ℕ → Type 0
+LacksSignal s p left place = (report : Text) × HasAudited p (λ js. FailsIn s p js (failures.Unknown place)) None left report
 
-abbrev pub IsDrawingFault : Selection → Program → Text → Fault → Type 0
-IsDrawingFault s p bytes (faults.Journal n) = IsJournalFault p bytes n
-IsDrawingFault s p bytes (faults.Signal place) = LacksSignal s p bytes place
-IsDrawingFault s p bytes faults.Memory = ⊤
-IsDrawingFault s p bytes _ = ⊥
+-- the device that gives what is left failed where this holds
+abbrev pub IsDrawingFault : Selection → Program → Type 0 → Option Text → Fault → Type 0
+IsDrawingFault s p Failed left (faults.Journal n) = IsJournalFault p left n
+IsDrawingFault s p Failed left (faults.Signal place) = LacksSignal s p left place
+IsDrawingFault s p Failed left faults.File = Failed
+IsDrawingFault s p Failed left faults.Memory = ⊤
+IsDrawingFault s p Failed left _ = ⊥
 
 -- without a program the bytes don't begin as journals do
 abbrev pub IsPageFault : Text → Fault → Type 0
@@ -97,8 +85,13 @@ IsPageFault bytes _ = ⊥
 
 abbrev pub audit_fault : AuditError → Fault
 audit_fault (errors.Line n) = faults.Journal n
-audit_fault errors.Read = faults.Memory
+audit_fault errors.Read = faults.File
 audit_fault errors.Memory = faults.Memory
+
+-- a device that hasn't failed wasn't lost
+abbrev pub ended : Fault → Bool → Fault
+ended faults.File false = faults.Memory
+ended f has_failed = f
 
 abbrev pub failure_fault : Failure → Fault
 failure_fault (failures.Unknown place) = faults.Signal place
@@ -112,5 +105,21 @@ IsUnsettled (Some n) failure f = f ≡ faults.Journal n
 IsUnsettled None (Some e) f = f ≡ failure_fault e
 IsUnsettled None None f = ⊥
 
-abbrev pub IsGathered : Selection → Program → Text → List Drawn → Type 0
-IsGathered s p bytes ds = (report : Text) × HasAudited p (λ js. AreDrawn s p js ds) None (Some bytes) report
+abbrev pub IsGathered : Selection → Program → Part → Format → Option Text → List Text → Type 0
+IsGathered s p part f left tables = (report : Text) × HasAudited p (λ js. AreDrawn s p part f js tables) None left report
+
+-- as CSV, tables are joined
+abbrev pub IsJoined : Format → List Text → Text → Type 0
+IsJoined formats.Csv tables written = written ≡ joined tables
+IsJoined _ tables written = ⊤
+
+abbrev pub is_page : Format → Bool
+is_page formats.Html = true
+is_page _ = false
+
+-- journals that are left, perhaps with bytes behind their last line feed, are lawful, and this is written of them, which is no page
+pub record DrawsLeft (p : Program) (d : Drawing) (left : Option Text) (written : Text) : Type 0 where
+  pub traces : List Trace
+  pub report : Text
+  pub audited : HasAudited p (λ js. AreTraces d.selection p d.part js traces) None left report
+  pub shown : (text : Text) → IsShown d.format (names_of p) text traces written

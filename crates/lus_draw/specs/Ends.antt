@@ -1,5 +1,5 @@
 -- How drawing ends: what was drawn of the files, or which fault ended it.
-use Rattle.std.specs.Prelude.{◌⊎◌, Result, ⊤}
+use Rattle.std.specs.Prelude.{◌⊎◌, Result, Some, ⊤}
 use Rattle.lus_program.specs.Programs.{Program}
 use Rattle.lus_devices.specs.Folders.{Known, WithFile}
 use Rattle.lus_cli.specs.HostSpecs.Sources.{ProgramRefused}
@@ -21,15 +21,23 @@ abbrev pub IsDrawn : (Text → Known) → Asked → Text → Type 0
 IsDrawn known (page_of journal) drawn = WithFile (known journal) (λ bytes. IsLinePage bytes drawn)
 IsDrawn known (drawing_of d) drawn = IsDrawing (known d.program) (known d.journal) d drawn
 
+-- why the journals of a file aren't drawn: it is lost, they are at fault, or one is of a node that lacks a signal
+abbrev pub JournalFails : (Known → Type 0) → Known → Program → Drawing → Fault → Type 0
+JournalFails read_fails journal p d faults.File = IsLost read_fails journal
+JournalFails read_fails journal p d (faults.Journal n) = WithFile journal (λ bytes. IsJournalFault p (Some bytes) n)
+JournalFails read_fails journal p d (faults.Signal place) = WithFile journal (λ bytes. LacksSignal d.selection p (Some bytes) place)
+JournalFails read_fails journal p d faults.Memory = ⊤
+JournalFails read_fails journal p d _ = ⊥
+
 -- why journals aren't drawn: a file is lost, or the program is refused; or it is accepted, and the journals are at fault, or one is of a
 -- node that lacks a signal
 abbrev pub DrawingFails : (Known → Type 0) → Known → Known → Drawing → Fault → Type 0
 DrawingFails read_fails program journal d faults.File = IsLost read_fails program ⊎ IsLost read_fails journal
 DrawingFails read_fails program journal d (faults.Program e) = WithFile program (λ text. ProgramRefused text e)
 DrawingFails read_fails program journal d (faults.Journal n) =
-    (p : Program) × IsOfFile program p × WithFile journal (λ bytes. IsJournalFault p bytes n)
+    (p : Program) × IsOfFile program p × WithFile journal (λ bytes. IsJournalFault p (Some bytes) n)
 DrawingFails read_fails program journal d (faults.Signal place) =
-    (p : Program) × IsOfFile program p × WithFile journal (λ bytes. LacksSignal d.selection p bytes place)
+    (p : Program) × IsOfFile program p × WithFile journal (λ bytes. LacksSignal d.selection p (Some bytes) place)
 DrawingFails read_fails program journal d faults.Memory = ⊤
 DrawingFails read_fails program journal d _ = ⊥
 

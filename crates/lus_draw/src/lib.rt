@@ -5,6 +5,7 @@
 
 mod drawing;
 mod gathering;
+mod refused;
 mod shell;
 mod words;
 

@@ -1,19 +1,59 @@
 //! The command line over a folder.
 
-ghost use Rattle.std.specs.Prelude.{◌≡◌, IfErr, IfOk, map, string_bytes};
+ghost use Rattle.std.specs.Prelude.{◌≡◌, IfErr, IfOk, false, map, string_bytes, true};
+ghost use Rattle.std.specs.Arc.{arc_value};
 ghost use Rattle.lus_cli.specs.Changes.{change};
 ghost use Rattle.lus_cli.specs.Ends.{AskedEnds, Ends, ReadFails, SaysEnds};
+ghost use Rattle.lus_cli.specs.CodeSpecs.Codes.{program_of};
 ghost use Rattle.lus_draw.specs.CommandLine.{asked, drawing_seen, task_seen};
-ghost use Rattle.lus_draw.specs.Ends.{DrawFails, DrawingFails, IsDrawing, IsDrawn, PageFails, TaskEnds};
-ghost use Rattle.lus_draw.specs.Drawings.{IsLinePage};
+ghost use Rattle.lus_draw.specs.Ends.{DrawFails, DrawingFails, IsDrawing, IsDrawn, JournalFails, PageFails, TaskEnds};
+ghost use Rattle.lus_draw.specs.Drawings.{Draws, IsLinePage, is_page};
 ghost use Rattle.lus_devices.specs.Folders.{WithFile};
 
-use crate::drawing::{drawing, line_page};
+use crate::drawing::{drawing, is_page, journal_page, line_page};
 use crate::words::{Drawing, Task, read_words};
+use lus_cli::lus_host::Program;
 use lus_cli::{Fault, read_file, read_program, tell};
 use lus_devices::{Folder, Sink, write_all};
 use std::alloc::Global;
+use std::marker::Brand;
 use std::sync::Arc;
+
+/// A page of the journals of a file, of a program's nodes.
+fn draw_page<D: Folder>(
+    alloc: Global,
+    folder: &D,
+    task: Drawing<'_>,
+    program: &Arc<Program>,
+) -> Result<String, Fault>
+    requires { is_page task.format ≡ true }
+    ensures drawn { IfOk result (λ s. WithFile (D.known folder.now task.entry.journal.now)
+        (λ bytes. Draws (program_of (arc_value program.now)) (drawing_seen task.entry) bytes (string_bytes s))) }
+    ensures fault { IfErr result (λ f. JournalFails (ReadFails D.File D.File.left D.File.failures) (D.known folder.now task.entry.journal.now)
+        (program_of (arc_value program.now)) (drawing_seen task.entry) f) }
+{
+    let bytes = read_file(alloc, folder, task.journal, usize::MAX)?;
+    journal_page(alloc, task, program, &bytes)
+}
+
+/// Draws the journals of a file, of a program's nodes, as it is read.
+fn draw_read<D: Folder>(
+    alloc: Global,
+    folder: &D,
+    task: Drawing<'_>,
+    program: &Arc<Program>,
+) -> Result<String, Fault>
+    requires { is_page task.format ≡ false }
+    ensures drawn { IfOk result (λ s. WithFile (D.known folder.now task.entry.journal.now)
+        (λ bytes. Draws (program_of (arc_value program.now)) (drawing_seen task.entry) bytes (string_bytes s))) }
+    ensures fault { IfErr result (λ f. JournalFails (ReadFails D.File D.File.left D.File.failures) (D.known folder.now task.entry.journal.now)
+        (program_of (arc_value program.now)) (drawing_seen task.entry) f) }
+{
+    let Ok(journal) = folder.open(task.journal) else {
+        return Err(Fault::File);
+    };
+    drawing::<_, Brand>(alloc, task, program, journal)
+}
 
 /// Draws the journals of a file, of nodes of the program of another.
 fn draw_journals<D: Folder>(alloc: Global, folder: &D, task: Drawing<'_>) -> Result<String, Fault>
@@ -26,8 +66,11 @@ fn draw_journals<D: Folder>(alloc: Global, folder: &D, task: Drawing<'_>) -> Res
     let Ok(program) = Arc::new(alloc, program) else {
         return Err(Fault::Memory);
     };
-    let bytes = read_file(alloc, folder, task.journal, usize::MAX)?;
-    drawing(alloc, task, &program, &bytes)
+    if is_page(task.format) {
+        draw_page(alloc, folder, task, &program)
+    } else {
+        draw_read(alloc, folder, task, &program)
+    }
 }
 
 /// Draws the lines of a file of journals.

@@ -1,5 +1,5 @@
 -- What is drawn behind one entry more.
-use Rattle.std.proofs.Common.{◌≡◌, ◌∙◌, ◌++◌, ◌∷◌, ℕ, true, false, List, [], Option, Some, None, IsSome, MatchOption, is_some, map, ap, append_assoc, append-nil, subst, sym}
+use Rattle.std.proofs.Common.{◌≡◌, ◌∙◌, ◌++◌, ◌∷◌, ℕ, true, false, List, [], Option, Some, None, IsSome, MatchOption, is_some, map, ap, append_assoc, append-nil, refl, subst, sym}
 use Rattle.std.proofs.Common.{Result, Ok, Err, OnOk}
 use Rattle.std.proofs.lemmas.Bool.{true≢false}
 use Rattle.lus_values.specs.Names.{Text}
@@ -10,14 +10,14 @@ use Rattle.lus_requests.specs.declared.request.Reply.{Reply}
 use Rattle.lus_requests.specs.declared.request.Request.{Request}
 use Rattle.lus_history.specs.Histories.{History}
 use Rattle.lus_play.specs.Plays.{entry_of}
-use Rattle.lus_diagrams.specs.Columns.{Noted, noted}
+use Rattle.lus_diagrams.specs.Columns.{Column, Noted, noted}
 use Rattle.lus_diagrams.specs.Tables.{HasNoted}
 use Rattle.lus_traces.specs.Traces.{name_of}
 use Rattle.lus_windows.specs.declared.picks.Pick.{Pick}
 use Rattle.lus_windows.proofs.Lawful.{history_has_streams}
 use Rattle.lus_sketches.specs.Selections.{IsPicked, Selection}
 use Rattle.lus_sketches.specs.Signals.{AreChosen}
-use Rattle.lus_sketches.specs.Sketches.{AreNoted, GivesCells, IsFailure, IsSketch, picks_in}
+use Rattle.lus_sketches.specs.Sketches.{AreNoted, GivesCells, IsFailure, IsSketch, Stays, picks_in}
 use Rattle.lus_sketches.specs.declared.sketches.Failure.{Failure}
 use Rattle.lus_sketches.specs.declared.sketches.Failure.TheVariants as failures
 use Rattle.lus_sketches.specs.declared.sketches.View.{View}
@@ -38,6 +38,19 @@ drawn_last P (Some w) none on is = absurd (true≢false none)
 pub failed_on : (A B : Type 0) (P Q : Failure → Type 0) (o : Option Failure) → is_some o ≡ true → ((w : Failure) → P w → Q w) → MatchOption o A P → MatchOption o B Q
 failed_on A B P Q None some on is = absurd (true≢false (sym some))
 failed_on A B P Q (Some w) some on is = on w is
+
+-- what was drawn may be said otherwise
+pub drawn_as : {A B : Type 0} (P : Failure → Type 0) (o : Option Failure) → (A → B) → MatchOption o A P → MatchOption o B P
+drawn_as P None on is = on is
+drawn_as P (Some w) on is = is
+
+pub stays : (o : Option Failure) → Stays o o
+stays None = tt
+stays (Some w) = refl
+
+pub none_stays : (o new : Option Failure) → is_some o ≡ false → Stays o new
+none_stays None new none = tt
+none_stays (Some w) new none = absurd (true≢false none)
 
 pub if_ok : {A E P Q : Type 0} (r : Result A E) → (P → Q) → OnOk r P → OnOk r Q
 if_ok (Ok x) on is = on is
@@ -61,9 +74,9 @@ module _ (s : Selection) (p : Program) (f : ℕ) where
     },
   )
 
-  pub lost_now : (h : List Entry) (q : Request) (r : Reply) (k : Sketch) (new : Option View) (n : ℕ) → GivesCells p q r k.view new None → IsSketch s p f h k
+  pub lost_now : (h : List Entry) (q : Request) (r : Reply) (k : Sketch) (new : Option View) (n : ℕ) (taken : List Column) → GivesCells p q r k.view new None → IsSketch s p f h taken k
       → IsFailure s p f (h ++ entry_of q r ∷ []) (failures.Lost n)
-  lost_now h q r k new n gives i =
+  lost_now h q r k new n taken gives i =
       let all = h ++ entry_of q r ∷ [] in (
         picked_only (map name_of k.signals.items) (picks_in k.view) gives.cells.0 i.signals,
         record { before = all; behind = []; stands = sym (append-nil all); none = gives.cells.1 f h i.followed },
@@ -75,14 +88,14 @@ module _ (s : Selection) (p : Program) (f : ℕ) where
 
   module _ (h : List Entry) (q : Request) (r : Reply) (k k' : Sketch) (same : k'.signals ≡ k.signals) where
     pub sketched : (rows : List Row) → GivesCells p q r k.view k'.view (Some rows)
-        → ((es : List Noted) → HasNoted es k.table → HasNoted (es ++ noted q r rows ∷ []) k'.table)
-        → IsSketch s p f h k → IsSketch s p f (h ++ entry_of q r ∷ []) k'
-    sketched rows gives on i = record {
+        → ((taken : List Column) (es : List Noted) → HasNoted taken es k.table → HasNoted taken (es ++ noted q r rows ∷ []) k'.table)
+        → (taken : List Column) → IsSketch s p f h taken k → IsSketch s p f (h ++ entry_of q r ∷ []) taken k'
+    sketched rows gives on taken i = record {
       noted = i.noted ++ noted q r rows ∷ [];
       signals = subst (λ v. AreChosen p f s (map name_of v.items) (picks_in k'.view)) (sym same)
           (subst (λ ks. AreChosen p f s (map name_of k.signals.items) ks) (sym gives.picks) i.signals);
       cells = subst (λ ks. AreNoted p f ks [] (h ++ entry_of q r ∷ []) (i.noted ++ noted q r rows ∷ [])) (sym gives.picks)
           (noted_next p f (picks_in k.view) [] h (entry_of q r) i.noted rows i.cells (gives.cells f h i.followed));
-      table = on i.noted i.table;
+      table = on taken i.noted i.table;
       followed = gives.followed f h i.followed;
     }

@@ -1,6 +1,6 @@
 //! What is drawn of a journal, as its entries are replayed.
 
-ghost use Rattle.std.specs.Prelude.{◌≡◌, ◌<◌, ◌++◌, ◌∷◌, ℕ, List, [], IfOk, OnOk, length, option_map};
+ghost use Rattle.std.specs.Prelude.{◌≡◌, ◌<◌, ◌++◌, ◌∷◌, ℕ, List, [], IfOk, OnOk, length, map, option_map};
 ghost use Rattle.lus_values.specs.Lists.{Each};
 ghost use Rattle.lus_program.specs.Programs.{Program as PlainProgram};
 ghost use Rattle.lus_program.specs.Resolved.{Resolved};
@@ -10,12 +10,14 @@ ghost use Rattle.lus_streams.specs.OnClock.{ProgramOnClocks};
 ghost use Rattle.lus_streams.specs.Order.{IsCausal};
 ghost use Rattle.lus_order.specs.Orders.{IsNarrow, NeedsVariables};
 ghost use Rattle.lus_play.specs.Plays.{entry_of};
+ghost use Rattle.lus_diagrams.specs.Columns.{Column as PlainColumn};
+ghost use Rattle.lus_diagrams.specs.ColumnView.{column_seen};
 ghost use Rattle.lus_sketches.specs.Selections.{Selection as PlainSelection, selection_seen};
-ghost use Rattle.lus_sketches.specs.Sketches.{BeginsView, GivesCells, HasSketched};
+ghost use Rattle.lus_sketches.specs.Sketches.{BeginsView, GivesCells, HasSketched, IsSameSketch};
 
 use crate::selection::Selection;
 use crate::signals::{Choice, choose};
-use lus_diagrams::{Table, given_rows};
+use lus_diagrams::{Column, Part, Table, given_rows};
 use lus_program::Program;
 use lus_requests::{Reply, Request};
 use lus_traces::Signal;
@@ -39,7 +41,7 @@ pub enum Failure {
     Lost(u64),
 }
 
-/// What is drawn of a journal, from its first line up to the last so far.
+/// What is drawn of a part of a journal, from its first line up to the last so far.
 #[derive(Drop)]
 pub struct Sketch {
     pub first: u64,
@@ -104,15 +106,17 @@ impl Sketch {
         names: &Names,
         node: u32,
         selection: Selection<'_>,
+        part: Part,
         first: u64,
     ) -> Result<Sketch, Memory>
         requires resolved { Resolved (program_seen program.now) }
         requires node { node < length (program_seen program.now).nodes }
         requires needs { Each NeedsVariables (program_seen program.now).nodes }
         requires narrow { Each IsNarrow (program_seen program.now).nodes }
-        ensures { IfOk result (λ s. HasSketched (selection_seen selection.entry) (program_seen program.now) node [] s) }
+        ensures sketched { IfOk result (λ s. HasSketched (selection_seen selection.entry) (program_seen program.now) node [] [] s) }
+        ensures part { IfOk result (λ s. s.table.part ≡ part) }
     {
-        let table = Table::new(alloc, first);
+        let table = Table::new(alloc, part, first);
         match choose(alloc, program, names, node, selection)? {
             Ok(Choice { signals, picks }) => Ok(Sketch {
                 first,
@@ -141,9 +145,10 @@ impl Sketch {
     ) -> Result<(), Memory>
         requires causal { IsCausal (program_seen program.now) }
         requires clocks { ProgramOnClocks (program_seen program.now) }
-        ensures { let p = program_seen program.now in
-            OnOk result ((s : PlainSelection) (f : ℕ) (h : List Entry) → HasSketched s p f h self.old
-            → HasSketched s p f (h ++ entry_of request.now reply.now ∷ []) self.new) }
+        ensures sketched { let p = program_seen program.now in
+            OnOk result ((s : PlainSelection) (f : ℕ) (h : List Entry) (taken : List PlainColumn) → HasSketched s p f h taken self.old
+            → HasSketched s p f (h ++ entry_of request.now reply.now ∷ []) taken self.new) }
+        ensures same { IsSameSketch self.old self.new }
     {
         if self.failure.is_some() {
             return Ok(());
@@ -157,9 +162,22 @@ impl Sketch {
         }
     }
 
+    /// Takes out the columns of the table so far.
+    pub fn take(&mut self, alloc: Global) -> Vec<Column>
+        ensures sketched { (s : PlainSelection) (p : PlainProgram) (f : ℕ) (h : List Entry) (taken : List PlainColumn)
+            → HasSketched s p f h taken self.old → HasSketched s p f h (taken ++ map column_seen result.items) self.new }
+        ensures empty { self.new.table.columns.items ≡ [] }
+        ensures failure { self.new.failure ≡ self.old.failure }
+        ensures same { IsSameSketch self.old self.new }
+    {
+        self.table.take(alloc)
+    }
+
     /// Goes on behind a line that is no entry.
     pub fn pass(&mut self)
-        ensures { (s : PlainSelection) (p : PlainProgram) (f : ℕ) (h : List Entry) → HasSketched s p f h self.old → HasSketched s p f h self.new }
+        ensures sketched { (s : PlainSelection) (p : PlainProgram) (f : ℕ) (h : List Entry) (taken : List PlainColumn)
+            → HasSketched s p f h taken self.old → HasSketched s p f h taken self.new }
+        ensures same { IsSameSketch self.old self.new }
     {
         self.table.pass();
     }

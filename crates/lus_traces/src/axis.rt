@@ -1,11 +1,10 @@
 //! What stands above and across the lanes of a picture of waves: numbers of instants, events, and refused calls.
 
 use crate::frames::Frame;
-use crate::lines::{Line, text_at};
 use crate::markup::push_escaped;
 use crate::time::Time;
+use crate::trace::Trace;
 use crate::words::{push_word, width};
-use lus_diagrams::Refusal;
 use lus_printable::printable;
 use std::alloc::{AllocError, Global};
 
@@ -86,13 +85,12 @@ pub(crate) fn push_refusals(
     alloc: Global,
     out: &mut String,
     time: Time,
-    lines: &[Line<'_>],
-    refusals: &[Refusal],
+    trace: &Trace,
     top: usize,
 ) -> Result<(), AllocError> {
     let y = top.saturating_add(REFUSALS);
     let mut last: Option<u64> = None;
-    for refusal in refusals {
+    for (refusal, line) in trace.table.refusals.iter().zip(&trace.refused) {
         if last == Some(refusal.behind) {
             out.push_str("\n")?;
         } else {
@@ -106,8 +104,7 @@ pub(crate) fn push_refusals(
             )?;
             last = Some(refusal.behind);
         }
-        let line = printable(alloc, text_at(lines, refusal.line).as_bytes())?;
-        push_escaped(out, &line)?;
+        push_escaped(out, &printable(alloc, line)?)?;
     }
     if last.is_some() {
         out.push_str("</title></path>\n")?;

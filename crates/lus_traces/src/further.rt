@@ -4,10 +4,9 @@ ghost use Rattle.std.specs.Prelude.{◌≡◌, map};
 ghost use Rattle.lus_traces.specs.Pages.{text_of};
 
 use crate::lines::Line;
-use crate::parts::is_instant;
 use crate::trace::{Signal, Trace, is_local};
 use crate::values::entry_text;
-use lus_diagrams::Column;
+use lus_diagrams::{Column, is_instant};
 use lus_values::{Memory, Names};
 use std::alloc::{AllocError, Global};
 use std::slice;

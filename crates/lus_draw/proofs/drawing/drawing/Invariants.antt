@@ -1,6 +1,6 @@
--- What is gathered is of the signals that the drawing selects.
+-- What is gathered is what the drawing asks for.
 use Rattle.lus_sketches.specs.Selections.{selection_seen}
 use Rattle.lus_draw.proofs.drawing.drawing.Given as goal
 
 abbrev pub ghosts-gathered : goal.ghosts-gathered
-ghosts-gathered a = record { selection = selection_seen a.selection }
+ghosts-gathered g a = record { selection = selection_seen a.wanted.selection; part = a.wanted.part; format = a.wanted.format }
