@@ -8,6 +8,7 @@ TOP = Path(__file__).resolve().parents[2]
 # A program that isn't proved may check memory as it runs, and would hold back what is freed; a proved one reads nothing of this.
 BARE = {"ASAN_OPTIONS": "detect_leaks=0:quarantine_size_mb=0:thread_local_quarantine_size_kb=0"}
 LIMIT = 600.0  # seconds of any run, also on a slow and busy machine
+TOOLS = ["lus_explain", "lus_format", "lus_draw", "lus_audit", "lus_live", "lus_lsp"]
 
 
 class Check:
@@ -47,5 +48,8 @@ def run(words, given="", env=BARE, cwd=TOP, **how):
 
 
 def user_environment(lus):
-    """What a user has whose tools are those beside a `lus`."""
+    """What a user has whose tools are those beside a `lus`. Ends the script where one isn't there, since the shell would take another."""
+    for tool in TOOLS:
+        if not (lus.parent / tool).is_file():
+            sys.exit(f"there is no {tool} beside {lus}")
     return {**os.environ, **BARE, "PATH": f"{lus.parent}:{os.environ['PATH']}", "LC_ALL": "C.UTF-8"}
