@@ -15,14 +15,15 @@ TOKEN`; FILE has a line `CLIENT TOKEN` for each client. `GET /ready` says whethe
 from __future__ import annotations
 
 import argparse
+import contextlib
 import functools
 import hmac
 import logging
 import queue
+import socket
 import threading
 import time
 from collections.abc import Callable
-from contextlib import closing
 from dataclasses import dataclass, field
 from http.server import BaseHTTPRequestHandler, ThreadingHTTPServer
 from pathlib import Path
@@ -74,7 +75,7 @@ class Door:
     def run(self) -> None:
         while True:
             try:
-                with closing(self.connect()) as engine:
+                with contextlib.closing(self.connect()) as engine:
                     self.is_ready = True
                     self.work(engine)
             except (EngineError, OSError) as error:
@@ -163,13 +164,11 @@ class Handler(BaseHTTPRequestHandler):
         return int(text) if is_said else -1
 
     def body(self) -> bytes | None:
-        """The body, or none, which is then answered. One that is too long is read first: who still sends doesn't listen, and closing
-        a connection on which something comes takes back what was answered."""
+        """The body, or none, which is then answered."""
         length = self.length()
         if length < 0:
             self.refuse(411, "the body has no length")
         elif length > MOST_CALL:
-            self.discard(min(length, MOST_DISCARDED))
             self.refuse(413, f"a call has at most {MOST_CALL} bytes")
         else:
             data = self.rfile.read(length)
@@ -177,10 +176,6 @@ class Handler(BaseHTTPRequestHandler):
                 return data
             self.close_connection = True
         return None
-
-    def discard(self, length: int) -> None:
-        while length > 0 and (data := self.rfile.read(min(length, 1 << 16))):
-            length -= len(data)
 
     def handle_expect_100(self) -> bool:
         """(Who asks before it sends what is too long doesn't send it.)"""
@@ -190,9 +185,15 @@ class Handler(BaseHTTPRequestHandler):
         return super().handle_expect_100()
 
     def refuse(self, code: int, text: str) -> None:
-        """Answers what ends the connection."""
+        """Answers what ends the connection, and reads on until the client ends it: who still sends doesn't listen, and closing a connection
+        on which something comes takes back what was answered."""
         self.close_connection = True
         self.answer(code, text)
+        left = MOST_DISCARDED
+        with contextlib.suppress(OSError):
+            self.connection.shutdown(socket.SHUT_WR)
+            while left > 0 and (data := self.rfile.read1(1 << 16)):
+                left -= len(data)
 
     def answer(self, code: int, text: str) -> None:
         data = f"{text}\n".encode()
