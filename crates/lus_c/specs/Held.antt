@@ -23,21 +23,13 @@ HeldAccepted text (Some (IsProgram p)) = Accepted text (program_of (arc_value p)
 HeldAccepted text _ = ⊥
 
 -- the seat has seen so many entries
-abbrev pub ContentSees : ContentType → ContentType → ℕ → Type 0
-ContentSees (IsSeat s) (IsSeat t) n = Sees s.standing t.standing n
-ContentSees _ _ n = ⊥
-
 abbrev pub HeldSees : Option ContentType → Option ContentType → ℕ → Type 0
-HeldSees (Some a) (Some b) n = ContentSees a b n
+HeldSees (Some (IsSeat s)) (Some (IsSeat t)) n = Sees s.standing t.standing n
 HeldSees _ _ n = ⊥
-
-abbrev pub ContentEnds : ContentType → ContentType → Type 0
-ContentEnds (IsGroup ss) (IsJournal c) = Ends ss c
-ContentEnds _ _ = ⊥
 
 -- the handle held seats, and holds what their instance left
 abbrev pub HeldEnds : Option ContentType → Option ContentType → Type 0
-HeldEnds (Some a) (Some b) = ContentEnds a b
+HeldEnds (Some (IsGroup ss)) (Some (IsJournal c)) = Ends ss c
 HeldEnds _ _ = ⊥
 
 -- a seat goes behind these seats
@@ -49,13 +41,9 @@ abbrev pub HeldJoins : List Seated → Option ContentType → List Seated → Ty
 HeldJoins ss (Some a) ts = ContentJoins ss a ts
 HeldJoins _ _ _ = ⊥
 
-abbrev pub ContentGathers : ContentType → Option ContentType → ContentType → Type 0
-ContentGathers (IsGroup ss) a (IsGroup ts) = HeldJoins ss a ts
-ContentGathers _ _ _ = ⊥
-
 -- the one handle held seats, and holds them with the seat that the other held
 abbrev pub HeldGathers : Option ContentType → Option ContentType → Option ContentType → Type 0
-HeldGathers (Some a) s (Some b) = ContentGathers a s b
+HeldGathers (Some (IsGroup ss)) a (Some (IsGroup ts)) = HeldJoins ss a ts
 HeldGathers _ _ _ = ⊥
 
 -- the handle holds no seats yet

@@ -1,5 +1,5 @@
 -- What C is told of a journal that a handle holds.
-use Rattle.std.specs.Prelude.{◌≡◌, ◌≤◌, ℕ, List, Option, Some, None, length, slice_get}
+use Rattle.std.specs.Prelude.{◌≡◌, ◌≤◌, ℕ, List, Option, Some, length, slice_get}
 use Rattle.lus_requests.specs.declared.request.Entry.{Entry}
 use Rattle.lus_leaves.specs.declared.leaf.Leaf.{Leaf}
 use Rattle.lus_leaves.specs.declared.requests.EntryOut.{EntryOut}
@@ -13,28 +13,16 @@ pub record TellsEntry (entries : List Entry) (place : ℕ) (out : EntryOut) (old
   pub here : slice_get entries place ≡ Some entry
   pub told : EntryIsTold entry out old_inputs new_inputs old_outputs new_outputs
 
-abbrev pub ContentTellsEntry : ContentType → ℕ → EntryOut → (old_inputs new_inputs old_outputs new_outputs : List Leaf) → Type 0
-ContentTellsEntry (IsJournal c) place out old_inputs new_inputs old_outputs new_outputs = TellsEntry c.entries.items place out old_inputs new_inputs old_outputs new_outputs
-ContentTellsEntry _ place out old_inputs new_inputs old_outputs new_outputs = ⊥
-
 abbrev pub HeldTellsEntry : Option ContentType → ℕ → EntryOut → (old_inputs new_inputs old_outputs new_outputs : List Leaf) → Type 0
-HeldTellsEntry (Some a) place out old_inputs new_inputs old_outputs new_outputs = ContentTellsEntry a place out old_inputs new_inputs old_outputs new_outputs
-HeldTellsEntry None place out old_inputs new_inputs old_outputs new_outputs = ⊥
+HeldTellsEntry (Some (IsJournal c)) place out old_inputs new_inputs old_outputs new_outputs = TellsEntry c.entries.items place out old_inputs new_inputs old_outputs new_outputs
+HeldTellsEntry _ place out old_inputs new_inputs old_outputs new_outputs = ⊥
 
 -- the journal has so many entries
-abbrev pub ContentCounts : ContentType → ℕ → Type 0
-ContentCounts (IsJournal c) n = length c.entries.items ≡ n
-ContentCounts _ n = ⊥
-
 abbrev pub HeldCounts : Option ContentType → ℕ → Type 0
-HeldCounts (Some a) n = ContentCounts a n
-HeldCounts None n = ⊥
+HeldCounts (Some (IsJournal c)) n = length c.entries.items ≡ n
+HeldCounts _ n = ⊥
 
 -- the journal has no entry at this place
-abbrev pub ContentEndsBefore : ContentType → ℕ → Type 0
-ContentEndsBefore (IsJournal c) place = length c.entries.items ≤ place
-ContentEndsBefore _ place = ⊥
-
 abbrev pub HeldEndsBefore : Option ContentType → ℕ → Type 0
-HeldEndsBefore (Some a) place = ContentEndsBefore a place
-HeldEndsBefore None place = ⊥
+HeldEndsBefore (Some (IsJournal c)) place = length c.entries.items ≤ place
+HeldEndsBefore _ place = ⊥

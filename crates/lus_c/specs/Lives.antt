@@ -23,27 +23,15 @@ abbrev pub IsWrong : ℕ → Type 0
 IsWrong n = IsTrue (n == 11)
 
 -- this holds of the live instance behind the handle; where there is none C is answered HANDLE
-abbrev pub OfLive : ContentType → ℕ → (Live → Type 0) → Type 0
-OfLive (IsLive l) status P = P l
-OfLive _ status P = IsHandle status
-
 abbrev pub OfHeldLive : Option ContentType → ℕ → (Live → Type 0) → Type 0
-OfHeldLive (Some a) status P = OfLive a status P
-OfHeldLive None status P = IsHandle status
+OfHeldLive (Some (IsLive l)) status P = P l
+OfHeldLive _ status P = IsHandle status
 
 -- the one handle holds a program, and the other an instance of its node that was never called
-abbrev pub ContentOpensLive : ContentType → (node : ℕ) → ContentType → Type 0
-ContentOpensLive (IsProgram p) node (IsLive l) =
-    (l ≡ record { instance = record { program = program_of (arc_value p); node = node; history = [] }; last = None }) × IsLawful l.instance
-ContentOpensLive _ node _ = ⊥
-
-abbrev pub ContentOpenedLive : ContentType → (node : ℕ) → Option ContentType → Type 0
-ContentOpenedLive a node (Some b) = ContentOpensLive a node b
-ContentOpenedLive a node None = ⊥
-
 abbrev pub HeldOpensLive : Option ContentType → (node : ℕ) → Option ContentType → Type 0
-HeldOpensLive (Some a) node b = ContentOpenedLive a node b
-HeldOpensLive None node b = ⊥
+HeldOpensLive (Some (IsProgram p)) node (Some (IsLive l)) =
+    (l ≡ record { instance = record { program = program_of (arc_value p); node = node; history = [] }; last = None }) × IsLawful l.instance
+HeldOpensLive _ node _ = ⊥
 
 -- no number is left for a further entry
 abbrev pub HasNoNumber : Live → Type 0
@@ -56,21 +44,13 @@ EntersLive l l' kind slot inputs answer olds news =
     (request : Request) × ((reply : Reply) × Spells kind slot inputs request × Enters l l' request reply × IsLawful l'.instance
     × IsTold reply answer olds news)
 
-abbrev pub ContentEntersLive : ContentType → ContentType → (kind slot : ℕ) → List Leaf → Answer → (olds news : List Leaf) → Type 0
-ContentEntersLive (IsLive l) (IsLive l') kind slot inputs answer olds news = EntersLive l l' kind slot inputs answer olds news
-ContentEntersLive _ _ kind slot inputs answer olds news = ⊥
-
 abbrev pub HeldEntersLive : Option ContentType → Option ContentType → (kind slot : ℕ) → List Leaf → Answer → (olds news : List Leaf) → Type 0
-HeldEntersLive (Some a) (Some b) kind slot inputs answer olds news = ContentEntersLive a b kind slot inputs answer olds news
+HeldEntersLive (Some (IsLive l)) (Some (IsLive l')) kind slot inputs answer olds news = EntersLive l l' kind slot inputs answer olds news
 HeldEntersLive _ _ kind slot inputs answer olds news = ⊥
 
 -- the line was the right next one of the instance's journal, and its entry is new in the history, which is lawful
-abbrev pub ContentReplays : Text → ContentType → ContentType → Type 0
-ContentReplays line (IsLive l) (IsLive l') = IsNext line l.instance l'.instance × (l'.last ≡ None)
-ContentReplays line _ _ = ⊥
-
 abbrev pub HeldReplays : Text → Option ContentType → Option ContentType → Type 0
-HeldReplays line (Some a) (Some b) = ContentReplays line a b
+HeldReplays line (Some (IsLive l)) (Some (IsLive l')) = IsNext line l.instance l'.instance × (l'.last ≡ None)
 HeldReplays line _ _ = ⊥
 
 -- C is told the entry, or that none is kept

@@ -19,19 +19,11 @@ HeldMeet (Some a) (Some b) (Some c) (Some d) = ContentsMeet a b c d
 HeldMeet _ _ _ _ = ⊥
 
 -- the seat has the machine to itself
-abbrev pub ContentHolds : ContentType → ContentType → Type 0
-ContentHolds (IsSeat s) (IsHeld t) = Waits s t
-ContentHolds _ _ = ⊥
-
 abbrev pub HeldHolds : Option ContentType → Option ContentType → Type 0
-HeldHolds (Some a) (Some b) = ContentHolds a b
+HeldHolds (Some (IsSeat s)) (Some (IsHeld t)) = Waits s t
 HeldHolds _ _ = ⊥
 
 -- the seat gave the machine back, and is as it was
-abbrev pub ContentReleases : ContentType → ContentType → Type 0
-ContentReleases (IsHeld s) (IsSeat t) = t ≡ s
-ContentReleases _ _ = ⊥
-
 abbrev pub HeldReleases : Option ContentType → Option ContentType → Type 0
-HeldReleases (Some a) (Some b) = ContentReleases a b
+HeldReleases (Some (IsHeld s)) (Some (IsSeat t)) = t ≡ s
 HeldReleases _ _ = ⊥

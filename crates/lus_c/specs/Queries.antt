@@ -26,13 +26,9 @@ abbrev pub IsText : ℕ → Type 0
 IsText n = IsTrue (n == 10)
 
 -- this holds of the program behind the handle; where there is none C is answered HANDLE
-abbrev pub OfProgram : ContentType → ℕ → (Program → Type 0) → Type 0
-OfProgram (IsProgram p) status P = P (program_of (arc_value p))
-OfProgram _ status P = IsHandle status
-
 abbrev pub OfHeldProgram : Option ContentType → ℕ → (Program → Type 0) → Type 0
-OfHeldProgram (Some a) status P = OfProgram a status P
-OfHeldProgram None status P = IsHandle status
+OfHeldProgram (Some (IsProgram p)) status P = P (program_of (arc_value p))
+OfHeldProgram _ status P = IsHandle status
 
 -- how many nodes there are
 abbrev pub NodesAreTold : Program → (status count : ℕ) → Type 0

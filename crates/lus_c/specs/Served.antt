@@ -5,9 +5,11 @@ use Rattle.lus_requests.specs.declared.request.Reply.{Reply}
 use Rattle.lus_leaves.specs.declared.leaf.Leaf.{Leaf}
 use Rattle.lus_leaves.specs.declared.requests.Answer.{Answer}
 use Rattle.lus_leaves.specs.Requests.{Spells, RequestFits, IsTold}
-use Rattle.lus_shared.specs.Views.{Adds, Sees}
+use Rattle.lus_shared.specs.Views.{Adds}
+use Rattle.lus_foreign.specs.Seated.{Seated}
 use Rattle.lus_foreign.specs.declared.content.Content.{Content as ContentType}
 use Rattle.lus_foreign.specs.declared.content.Content.TheVariants.{Seat as IsSeat}
+use Rattle.lus_c.specs.Met.{Waits}
 
 -- the numbers OK and SHORT
 abbrev pub IsEntered : ℕ → Type 0
@@ -35,57 +37,36 @@ NoneSpelled kind slot inputs = (request : Request) → RequestFits request → S
 
 -- the seat has seen a legal history that begins with what it had seen and ends in its call, which its own calls have gained, and
 -- keeps the reply
-abbrev pub ContentAdds : ContentType → ContentType → Request → Reply → Type 0
-ContentAdds (IsSeat s) (IsSeat t) request reply = (t.id ≡ s.id) × Adds s.standing t.standing request reply × (t.last ≡ Some reply)
-ContentAdds _ _ _ _ = ⊥
+abbrev pub Called : Seated → Seated → Request → Reply → Type 0
+Called s t request reply = (t.id ≡ s.id) × Adds s.standing t.standing request reply × (t.last ≡ Some reply)
 
 -- the handle held a seat, and holds it after its call: the request is what C's numbers spell, and C is told the reply
 abbrev pub HeldEnters : Option ContentType → Option ContentType → (kind slot : ℕ) → List Leaf → Answer → (olds news : List Leaf) → Type 0
-HeldEnters (Some a) (Some b) kind slot inputs answer olds news =
-    (request : Request) × ((reply : Reply) × Spells kind slot inputs request × ContentAdds a b request reply × IsTold reply answer olds news)
+HeldEnters (Some (IsSeat s)) (Some (IsSeat t)) kind slot inputs answer olds news =
+    (request : Request) × ((reply : Reply) × Spells kind slot inputs request × Called s t request reply × IsTold reply answer olds news)
 HeldEnters _ _ _ _ _ _ _ _ = ⊥
 
 -- a seat that made no call: it may have seen more of a legal history
-abbrev pub ContentWaits : ContentType → ContentType → Type 0
-ContentWaits (IsSeat s) (IsSeat t) = (t.id ≡ s.id) × Sees s.standing t.standing (length t.standing.seen) × (t.last ≡ s.last)
-ContentWaits _ _ = ⊥
-
 abbrev pub HeldWaits : Option ContentType → Option ContentType → Type 0
-HeldWaits (Some a) (Some b) = ContentWaits a b
+HeldWaits (Some (IsSeat s)) (Some (IsSeat t)) = Waits s t
 HeldWaits _ _ = ⊥
 
 -- the seat that made no call has seen so many entries
-abbrev pub ContentMisses : ContentType → ContentType → ℕ → Type 0
-ContentMisses (IsSeat s) (IsSeat t) n = ContentWaits (IsSeat s) (IsSeat t) × (length t.standing.seen ≡ n)
-ContentMisses _ _ n = ⊥
-
 abbrev pub HeldMisses : Option ContentType → Option ContentType → ℕ → Type 0
-HeldMisses (Some a) (Some b) n = ContentMisses a b n
+HeldMisses (Some (IsSeat s)) (Some (IsSeat t)) n = Waits s t × (length t.standing.seen ≡ n)
 HeldMisses _ _ n = ⊥
 
 -- C is told the reply that the seat keeps
-abbrev pub ContentTold : ContentType → Answer → (olds news : List Leaf) → Type 0
-ContentTold (IsSeat s) answer olds news = (reply : Reply) × (s.last ≡ Some reply) × IsTold reply answer olds news
-ContentTold _ answer olds news = ⊥
-
 abbrev pub HeldTold : Option ContentType → Answer → (olds news : List Leaf) → Type 0
-HeldTold (Some a) answer olds news = ContentTold a answer olds news
-HeldTold None answer olds news = ⊥
+HeldTold (Some (IsSeat s)) answer olds news = (reply : Reply) × (s.last ≡ Some reply) × IsTold reply answer olds news
+HeldTold _ answer olds news = ⊥
 
 -- the seat has made no call
-abbrev pub ContentUntold : ContentType → Type 0
-ContentUntold (IsSeat s) = s.last ≡ None
-ContentUntold _ = ⊥
-
 abbrev pub HeldUntold : Option ContentType → Type 0
-HeldUntold (Some a) = ContentUntold a
-HeldUntold None = ⊥
+HeldUntold (Some (IsSeat s)) = s.last ≡ None
+HeldUntold _ = ⊥
 
 -- the seat has this number
-abbrev pub ContentNumbered : ContentType → ℕ → Type 0
-ContentNumbered (IsSeat s) n = s.standing.number ≡ n
-ContentNumbered _ n = ⊥
-
 abbrev pub HeldNumbered : Option ContentType → ℕ → Type 0
-HeldNumbered (Some a) n = ContentNumbered a n
-HeldNumbered None n = ⊥
+HeldNumbered (Some (IsSeat s)) n = s.standing.number ≡ n
+HeldNumbered _ n = ⊥

@@ -25,13 +25,9 @@ abbrev pub IsMemory : ℕ → Type 0
 IsMemory n = IsTrue (n == 2)
 
 -- this holds of the journal behind the handle; where there is none C is answered HANDLE
-abbrev pub OfJournal : ContentType → ℕ → (ClosedNode → Type 0) → Type 0
-OfJournal (IsJournal c) status P = P c
-OfJournal _ status P = IsHandle status
-
 abbrev pub OfHeldJournal : Option ContentType → ℕ → (ClosedNode → Type 0) → Type 0
-OfHeldJournal (Some a) status P = OfJournal a status P
-OfHeldJournal None status P = IsHandle status
+OfHeldJournal (Some (IsJournal c)) status P = P c
+OfHeldJournal _ status P = IsHandle status
 
 -- a text goes into an array that has room for it, and otherwise the array stays as it is
 abbrev pub text_status : (text olds : Text) → ℕ
