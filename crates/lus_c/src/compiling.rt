@@ -1,7 +1,8 @@
 //! Texts become programs, or are refused.
-ghost use Rattle.std.specs.Prelude.{◌≡◌, ◌≢◌};
+ghost use Rattle.std.specs.Prelude.{◌≡◌, ◌≢◌, false};
 ghost use Rattle.lus_syntax.specs.declared.refusal.RefusalNumber.TheVariants as numbers;
 ghost use Rattle.lus_shared.specs.MachineSpecs.Acceptance.{IsRefused};
+ghost use Rattle.lus_foreign.specs.Holds.{has_content};
 ghost use Rattle.lus_c.specs.Held.{IsOkay, IsRefusal, HeldAccepted};
 ghost use Rattle.lus_c.specs.Refusals.{code, IsWritten, TellsRefusal};
 
@@ -88,6 +89,29 @@ fn write_why(refused: &mut Refused, names: &mut [u8], refusal: &Refusal) -> u32
     }
 }
 
+fn compile_in(
+    alloc: Global,
+    text: &str,
+    out: &mut Handle,
+    refused: &mut Refused,
+    names: &mut [u8],
+) -> u32
+    requires { has_content out.old.kept.held ≡ false }
+    ensures accepted { IsOkay result → HeldAccepted text.now out.new.kept.held }
+    ensures refused { IsRefusal result → IsRefused text.now }
+    ensures told { IsRefusal result → TellsRefusal text.now refused.new }
+{
+    match lus_machine::compile(alloc, text) {
+        Ok(program) => {
+            let Ok(program) = Arc::new(alloc, program) else {
+                return MEMORY;
+            };
+            fill(alloc, out, Content::Program(program))
+        }
+        Err(refusal) => write_why(refused, names, &refusal),
+    }
+}
+
 /// The program of a text, in `out`; or why it is refused, with the names of a cycle's variables.
 #[unsafe(no_mangle)]
 pub extern "C" fn lus_raw_compile(
@@ -104,14 +128,8 @@ pub extern "C" fn lus_raw_compile(
     if !out.is_free() {
         return HANDLE;
     }
-    let Ok(text) = str::from_utf8(text) else {
-        return TEXT;
-    };
-    match lus_machine::compile(alloc, text) {
-        Ok(program) => match Arc::new(alloc, program) {
-            Ok(program) => fill(alloc, out, Content::Program(program)),
-            Err(_) => MEMORY,
-        },
-        Err(refusal) => write_why(refused, names, &refusal),
+    match str::from_utf8(text) {
+        Ok(text) => compile_in(alloc, text, out, refused, names),
+        Err(_) => TEXT,
     }
 }
