@@ -1,9 +1,10 @@
 //! Instances that are opened, and calls at them.
-ghost use Rattle.std.specs.Prelude.{◌≡◌, ◌⊎◌, ◌≤◌, ◌<◌, [], length, Some, IfOk, MatchOption};
+ghost use Rattle.std.specs.Prelude.{◌≡◌, ◌⊎◌, ◌≤◌, ◌<◌, [], length, Some, IfOk, MatchOption, ℕ, List};
 ghost use Rattle.std.specs.Arc.{arc_value};
 ghost use Rattle.lus_c.specs.Held.{IsOkay, HeldSees};
 ghost use Rattle.lus_c.specs.Served.{IsEntered, IsBusy, IsFull, IsNone, IsValue, IsShort, NoneSpelled, HeldEnters, HeldWaits, HeldMisses, HeldTold, HeldUntold, HeldNumbered};
-ghost use Rattle.lus_leaves.specs.Requests.{IsTold};
+ghost use Rattle.lus_leaves.specs.Requests.{IsTold, Spells};
+ghost use Rattle.lus_leaves.specs.declared.leaf.Leaf.{Leaf as LeafType};
 ghost use Rattle.lus_foreign.specs.Seated.{AreOpened};
 ghost use Rattle.lus_c.specs.Opened.{HeldOpens, HeldLacks};
 ghost use Rattle.lus_shared.specs.CodeSpecs.Codes.{program_of};
@@ -111,6 +112,26 @@ fn call_at(seat: &mut NodeSeat, request: &Request, answer: &mut Answer, outputs:
     }
 }
 
+fn call_in(
+    content: &mut Content,
+    request: &Request,
+    answer: &mut Answer,
+    outputs: &mut [Leaf],
+) -> u32
+    ensures entered { (kind slot : ℕ) (inputs : List LeafType) → IsEntered result → Spells kind slot inputs request.now
+        → HeldEnters (Some content.old) (Some content.new) kind slot inputs answer.new outputs.old outputs.new }
+    ensures room { IsOkay result → answer.new.count ≤ length outputs.new }
+    ensures missed { IsEntered result ⊎ ((content.new ≡ content.old) ⊎ HeldWaits (Some content.old) (Some content.new)) }
+    ensures busy { IsBusy result → HeldMisses (Some content.old) (Some content.new) answer.new.count }
+    ensures full { IsFull result → HeldMisses (Some content.old) (Some content.new) 4294967295 }
+    ensures valued { IsValue result → ⊥ }
+{
+    match content {
+        Content::Seat(seat) => call_at(seat, request, answer, outputs),
+        _ => HANDLE,
+    }
+}
+
 /// One call where the machine is free: 1 is a step, 2 a reset, 3 a save, 4 a restore, and 5 a burst of as many rows as `slot` says.
 #[unsafe(no_mangle)]
 pub extern "C" fn lus_raw_try_call(
@@ -137,11 +158,12 @@ pub extern "C" fn lus_raw_try_call(
         Ok(None) => return VALUE,
         Err(_) => return MEMORY,
     };
-    let mut ask = |content: &mut Content| match content {
-        Content::Seat(seat) => call_at(seat, &request, answer, outputs),
-        _ => HANDLE,
+    let Some(mut content) = seat.take(alloc) else {
+        return HANDLE;
     };
-    seat.with_mut(alloc, &mut ask)
+    let status = call_in(&mut content, &request, answer, outputs);
+    seat.put(content);
+    status
 }
 
 /// The reply to the seat's last call again.

@@ -107,6 +107,28 @@ fn call_spelled(
     }
 }
 
+fn call_in(
+    alloc: Global,
+    content: &mut Content,
+    kind: u32,
+    slot: u64,
+    inputs: &[Leaf],
+    answer: &mut Answer,
+    outputs: &mut [Leaf],
+) -> u32
+    ensures entered { IsEntered result → HeldEntersLive (Some content.old) (Some content.new) kind slot inputs.now answer.new outputs.old outputs.new }
+    ensures room { IsOkay result → answer.new.count ≤ length outputs.new }
+    ensures missed { IsEntered result ⊎ (content.new ≡ content.old) }
+    ensures valued { IsValue result → NoneSpelled kind slot inputs.now }
+    ensures full { IsFull result → OfHeldLive (Some content.old) result HasNoNumber }
+    ensures handle { OfHeldLive (Some content.old) result (λ l. IsHandle result → ⊥) }
+{
+    match content {
+        Content::Live(live) => call_spelled(alloc, live, kind, slot, inputs, answer, outputs),
+        _ => HANDLE,
+    }
+}
+
 /// One call, by the numbers of `lus_raw_try_call`.
 #[unsafe(no_mangle)]
 pub extern "C" fn lus_raw_live_call(
@@ -128,11 +150,12 @@ pub extern "C" fn lus_raw_live_call(
     answer.kind = 0;
     answer.why = 0;
     answer.count = 0;
-    let mut ask = |content: &mut Content| match content {
-        Content::Live(live) => call_spelled(alloc, live, kind, slot, inputs, answer, outputs),
-        _ => HANDLE,
+    let Some(mut content) = live.take(alloc) else {
+        return HANDLE;
     };
-    live.with_mut(alloc, &mut ask)
+    let status = call_in(alloc, &mut content, kind, slot, inputs, answer, outputs);
+    live.put(content);
+    status
 }
 
 fn replay_at(alloc: Global, live: &mut LiveNode, line: &[u8]) -> u32
@@ -152,6 +175,20 @@ fn replay_at(alloc: Global, live: &mut LiveNode, line: &[u8]) -> u32
     }
 }
 
+fn replay_in(alloc: Global, content: &mut Content, line: &[u8]) -> u32
+    ensures right { IsOkay result → HeldReplays line.now (Some content.old) (Some content.new) }
+    ensures other { IsWrong result → OfHeldLive (Some content.old) result (λ l. IsOther line.now l.instance) }
+    ensures none { IsValue result → OfHeldLive (Some content.old) result (λ l. IsNoEntry line.now l.instance) }
+    ensures missed { IsOkay result ⊎ (content.new ≡ content.old) }
+    ensures full { IsFull result → OfHeldLive (Some content.old) result HasNoNumber }
+    ensures handle { OfHeldLive (Some content.old) result (λ l. IsHandle result → ⊥) }
+{
+    match content {
+        Content::Live(live) => replay_at(alloc, live, line),
+        _ => HANDLE,
+    }
+}
+
 /// Makes the entry of a line of a journal, with its line feed, where that is the right next one.
 #[unsafe(no_mangle)]
 pub extern "C" fn lus_raw_live_replay(alloc: Global, live: &mut Handle, line: &[u8]) -> u32
@@ -162,11 +199,12 @@ pub extern "C" fn lus_raw_live_replay(alloc: Global, live: &mut Handle, line: &[
     ensures full { IsFull result → OfHeldLive live.old.kept.held result HasNoNumber }
     ensures handle { OfHeldLive live.old.kept.held result (λ l. IsHandle result → ⊥) }
 {
-    let mut ask = |content: &mut Content| match content {
-        Content::Live(live) => replay_at(alloc, live, line),
-        _ => HANDLE,
+    let Some(mut content) = live.take(alloc) else {
+        return HANDLE;
     };
-    live.with_mut(alloc, &mut ask)
+    let status = replay_in(alloc, &mut content, line);
+    live.put(content);
+    status
 }
 
 /// The last entry, where a call made it.
