@@ -1,4 +1,4 @@
-//! What C calls: the calls of `lus_foreign` by C's names. The header is `lus.h`; `lus.c` tests for null first.
+//! What C calls: each function is a call of `lus.h`, whose `lus.c` tests for null first.
 #![tactic(auto)]
 
 mod calls;
@@ -9,4 +9,5 @@ mod holding;
 mod journals;
 mod live;
 mod programs;
+mod status;
 mod texts;

@@ -1,5 +1,5 @@
 -- What a handle owns.
-use Rattle.std.specs.Prelude.{ℕ, zero, suc, Bool, true, false, Option, None, Some}
+use Rattle.std.specs.Prelude.{◌==◌, IsTrue, ℕ, zero, suc, Bool, true, false, Option, None, Some}
 use base.Fml.{Fml, ftrue}
 use base.Stored.{Coded}
 use denote.RawPtr.{Ptr}
@@ -23,3 +23,7 @@ is_live (suc n) = true
 abbrev pub has_content : Option the_row.Denot → Bool
 has_content None = false
 has_content (Some x) = true
+
+-- the number HANDLE
+abbrev pub IsHandle : ℕ → Type 0
+IsHandle n = IsTrue (n == 8)

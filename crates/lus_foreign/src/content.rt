@@ -5,6 +5,7 @@ use crate::node_seat::{HeldSeat, NodeSeat};
 use crate::seat_group::{ClosedNode, SeatGroup};
 use lus_live_node::LiveNode;
 use lus_shared::lus_machine::Program;
+use std::alloc::Global;
 use std::sync::Arc;
 
 /// What is behind a handle of C's.
@@ -19,6 +20,13 @@ pub enum Content {
     Journal(ClosedNode),
     /// An instance whose entries are handed out.
     Live(LiveNode),
+}
+
+impl Content {
+    /// What is in a box while its content is elsewhere.
+    pub fn none(alloc: Global) -> Content {
+        Content::Group(SeatGroup::empty(alloc))
+    }
 }
 
 /// Takes what may go to another thread.

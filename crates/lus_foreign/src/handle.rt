@@ -1,7 +1,9 @@
 //! A box that C keeps.
 ghost use Rattle.std.specs.Prelude.{◌≡◌, false, Some, None, MatchOption, IsTrue};
+ghost use Rattle.std.specs.Borrow.{Bor, MutBor};
 ghost use mathlib.Core.Logic.{◌↔◌};
-ghost use Rattle.lus_foreign.specs.Holds.{is_live, has_content};
+ghost use Rattle.lus_foreign.specs.Holds.{is_live, has_content, IsHandle};
+ghost use Rattle.lus_foreign.specs.declared.content.Content.{Content as ContentType};
 
 mod kept;
 mod parts;
@@ -12,6 +14,9 @@ use parts::Parts;
 use std::alloc::Global;
 use std::mem;
 
+/// Nothing was done: a handle is empty or of another kind, or one that is to be filled isn't empty.
+pub const HANDLE: u32 = 8;
+
 /// What C keeps: `live` is 0 where it holds nothing.
 #[repr(C)]
 pub struct Handle {
@@ -21,13 +26,15 @@ pub struct Handle {
 }
 
 impl Handle {
-    pub(crate) fn is_free(&self) -> bool
+    /// Whether it holds nothing.
+    pub fn is_free(&self) -> bool
         ensures { IsTrue result ↔ (has_content self.now.kept.held ≡ false) }
     {
         self.live == 0
     }
 
-    pub(crate) fn take(&mut self, alloc: Global) -> Option<Box<Content>>
+    /// What it holds, and then it holds nothing.
+    pub fn take(&mut self, alloc: Global) -> Option<Box<Content>>
         ensures { MatchOption result ((self.old.kept.held ≡ None) × (self.new ≡ self.old)) (λ b. (self.old.kept.held ≡ Some b.value) × (self.new.kept.held ≡ None)) }
     {
         if self.live == 0 {
@@ -42,7 +49,8 @@ impl Handle {
         Some(kept.into_parts().into_box())
     }
 
-    pub(crate) fn put(&mut self, content: Box<Content>)
+    /// Holds this, where it holds nothing.
+    pub fn put(&mut self, content: Box<Content>)
         requires { has_content self.old.kept.held ≡ false }
         ensures { self.new.kept.held ≡ Some content.value }
     {
@@ -53,5 +61,54 @@ impl Handle {
         let old = mem::replace(self, some);
         let Handle { live: _, kept } = old;
         kept.let_go();
+    }
+
+    /// What is answered of what this holds; `HANDLE`, where that is nothing.
+    pub fn with<F: FnMut(&Content) -> u32>(&mut self, alloc: Global, ask: &mut F) -> u32
+        requires { F.IsAlwaysCallable ask.old }
+        ensures asked { MatchOption self.old.kept.held (IsHandle result × (ask.new ≡ ask.old))
+            (λ c. (p : Bor ContentType) × (p.now ≡ c) × F.step ask.old p result ask.new) }
+        ensures same { self.new.kept.held ≡ self.old.kept.held }
+    {
+        let Some(content) = self.take(alloc) else {
+            return HANDLE;
+        };
+        let status = ask(&content);
+        self.put(content);
+        status
+    }
+
+    /// What is answered of what this holds, and it holds what is left of that.
+    pub fn with_mut<F: FnMut(&mut Content) -> u32>(&mut self, alloc: Global, ask: &mut F) -> u32
+        requires { F.IsAlwaysCallable ask.old }
+        ensures { MatchOption self.old.kept.held (IsHandle result × (ask.new ≡ ask.old) × (self.new.kept.held ≡ self.old.kept.held))
+            (λ c. (p : MutBor ContentType) × (q : MutBor ContentType) × (p.now ≡ c) × F.step ask.old p result q ask.new × (self.new.kept.held ≡ Some q.now)) }
+    {
+        let Some(mut content) = self.take(alloc) else {
+            return HANDLE;
+        };
+        let status = ask(&mut content);
+        self.put(content);
+        status
+    }
+
+    /// What is answered of what this holds, and it holds what is given back.
+    pub fn replace<F: FnMut(Content) -> (Content, u32)>(
+        &mut self,
+        alloc: Global,
+        ask: &mut F,
+    ) -> u32
+        requires { F.IsAlwaysCallable ask.old }
+        ensures { MatchOption self.old.kept.held (IsHandle result × (ask.new ≡ ask.old) × (self.new.kept.held ≡ self.old.kept.held))
+            (λ c. (d : ContentType) × F.step ask.old c (d, result) ask.new × (self.new.kept.held ≡ Some d)) }
+    {
+        let Some(mut content) = self.take(alloc) else {
+            return HANDLE;
+        };
+        let held = mem::replace(&mut *content, Content::none(alloc));
+        let (held, status) = ask(held);
+        *content = held;
+        self.put(content);
+        status
     }
 }

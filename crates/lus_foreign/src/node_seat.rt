@@ -51,13 +51,15 @@ impl Model for NodeSeat {
 }
 
 impl NodeSeat {
-    pub(crate) fn id(&self) -> u64
+    /// The number by which C's calls tell its instance from others.
+    pub fn id(&self) -> u64
         ensures { result ≡ self.now.id }
     {
         self.node.id
     }
 
-    pub(crate) fn number(&self) -> u32
+    /// Its number among the seats of its instance.
+    pub fn number(&self) -> u32
         ensures { result ≡ self.now.standing.number }
     {
         self.seat.number()
@@ -69,7 +71,8 @@ impl NodeSeat {
         self.node.node.callers()
     }
 
-    pub(crate) fn count(&mut self) -> u64
+    /// How many entries its instance has.
+    pub fn count(&mut self) -> u64
         ensures id { self.new.id ≡ self.old.id }
         ensures last { self.new.last ≡ self.old.last }
         ensures sees { Sees self.old.standing self.new.standing result }
@@ -78,7 +81,7 @@ impl NodeSeat {
     }
 
     /// One call where the machine is free.
-    pub(crate) fn try_call(&mut self, request: &Request) -> Result<Reply, TryError>
+    pub fn try_call(&mut self, request: &Request) -> Result<Reply, TryError>
         ensures id { self.new.id ≡ self.old.id }
         ensures last { self.new.last ≡ self.old.last }
         ensures ok { IfOk result (λ a. Adds self.old.standing self.new.standing request.now a) }
@@ -89,7 +92,7 @@ impl NodeSeat {
     }
 
     /// Keeps a reply, so that it can be given again.
-    pub(crate) fn keep(&mut self, reply: Reply)
+    pub fn keep(&mut self, reply: Reply)
         ensures id { self.new.id ≡ self.old.id }
         ensures standing { self.new.standing ≡ self.old.standing }
         ensures last { self.new.last ≡ Some reply }
@@ -98,14 +101,14 @@ impl NodeSeat {
     }
 
     /// The reply to its last call.
-    pub(crate) fn last(&self) -> Option<&Reply>
+    pub fn last(&self) -> Option<&Reply>
         ensures { MatchOption result (self.now.last ≡ None) (λ r. self.now.last ≡ Some r.now) }
     {
         self.last.as_ref()
     }
 
     /// Both seats, in their order, which have now seen the same.
-    pub(crate) fn meet(self, other: NodeSeat) -> (NodeSeat, NodeSeat)
+    pub fn meet(self, other: NodeSeat) -> (NodeSeat, NodeSeat)
         requires { other.standing.instance ≡ self.standing.instance }
         ensures ids { (result.0.id ≡ self.id) × (result.1.id ≡ other.id) }
         ensures lasts { (result.0.last ≡ self.last) × (result.1.last ≡ other.last) }
@@ -130,7 +133,7 @@ impl NodeSeat {
     }
 
     /// Takes the machine, where it is free, and makes no entry.
-    pub(crate) fn hold(self) -> Result<HeldSeat, (NodeSeat, Busy)>
+    pub fn hold(self) -> Result<HeldSeat, (NodeSeat, Busy)>
         ensures last { MatchResult result (λ h. h.last ≡ self.last) (λ e. e.0.last ≡ self.last) }
         ensures ok { IfOk result (λ h. (h.id ≡ self.id) × Sees self.standing h.standing (length h.standing.seen)) }
         ensures err { IfErr result (λ e. (e.0.id ≡ self.id) × Sees self.standing e.0.standing (length e.0.standing.seen)
@@ -170,7 +173,7 @@ impl Model for HeldSeat {
 
 impl HeldSeat {
     /// Gives the machine back as it was.
-    pub(crate) fn release(self) -> NodeSeat
+    pub fn release(self) -> NodeSeat
         ensures { result ≡ self }
     {
         let HeldSeat { node, held, last } = self;

@@ -3,7 +3,7 @@ ghost use Rattle.std.specs.Prelude.{◌≡◌, ◌++◌, ◌∷◌, [], IfOk, If
 ghost use Rattle.std.specs.Arc.{arc_value};
 ghost use Rattle.lus_shared.specs.CodeSpecs.Codes.{program_of};
 ghost use Rattle.lus_shared.specs.Knowledge.{Instance};
-ghost use Rattle.lus_foreign.specs.Held.{EndLeaves};
+ghost use Rattle.lus_foreign.specs.Closing.{EndLeaves};
 ghost use Rattle.lus_foreign.specs.Seated.{AreOpened, Belongs, IsMate};
 
 use crate::node_seat::{NodeSeat, Opened};
@@ -40,9 +40,9 @@ impl Model for SeatGroup {
 /// The entries of an instance that was closed, and the node of a program that it was an instance of.
 #[derive(Drop)]
 pub struct ClosedNode {
-    pub(crate) entries: Vec<Entry>,
-    pub(crate) program: Arc<Program>,
-    pub(crate) kind: NodeId,
+    pub entries: Vec<Entry>,
+    pub program: Arc<Program>,
+    pub kind: NodeId,
 }
 
 /// What becomes of seats that are closed.
@@ -59,10 +59,10 @@ pub enum Ended {
 
 /// What an instance is opened with: the number by which C's calls tell it from others, and the node of a program.
 #[derive(Drop)]
-pub(crate) struct Opening {
-    pub(crate) id: u64,
-    pub(crate) program: Arc<Program>,
-    pub(crate) kind: NodeId,
+pub struct Opening {
+    pub id: u64,
+    pub program: Arc<Program>,
+    pub kind: NodeId,
 }
 
 /// Whether a seat is behind the others, and the instance, where its last seat came.
@@ -94,7 +94,7 @@ fn part(seats: &mut Vec<Seat>, place: NodeSeat, found: Option<Opened>) -> Parted
 
 impl SeatGroup {
     /// The instance of this machine, with all of its seats.
-    pub(crate) fn open(
+    pub fn open(
         alloc: Global,
         machine: Machine,
         callers: u32,
@@ -127,7 +127,7 @@ impl SeatGroup {
     }
 
     /// No seats.
-    pub(crate) fn empty(alloc: Global) -> SeatGroup
+    pub fn empty(alloc: Global) -> SeatGroup
         ensures { result ≡ [] }
     {
         SeatGroup {
@@ -136,7 +136,7 @@ impl SeatGroup {
     }
 
     /// Whether the seat is of the instance of these.
-    pub(crate) fn is_mate(&self, seat: &NodeSeat) -> bool
+    pub fn is_mate(&self, seat: &NodeSeat) -> bool
         ensures { IsTrue result → IsMate self.now seat.now }
     {
         match self.seats.first() {
@@ -145,7 +145,8 @@ impl SeatGroup {
         }
     }
 
-    pub(crate) fn push(&mut self, seat: NodeSeat) -> Result<(), NodeSeat>
+    /// Puts a seat behind these, or gives it back where a growth is refused.
+    pub fn push(&mut self, seat: NodeSeat) -> Result<(), NodeSeat>
         requires { Belongs self.old seat }
         ensures ok { IfOk result (λ u. self.new ≡ self.old ++ seat ∷ []) }
         ensures err { IfErr result (λ s. (s ≡ seat) × (self.new ≡ self.old)) }
@@ -156,7 +157,8 @@ impl SeatGroup {
         }
     }
 
-    pub(crate) fn pop(&mut self) -> Option<NodeSeat>
+    /// Takes the last of these.
+    pub fn pop(&mut self) -> Option<NodeSeat>
         ensures { MatchOption result ((self.old ≡ []) × (self.new ≡ [])) (λ s. self.old ≡ self.new ++ s ∷ []) }
     {
         self.seats.pop()
@@ -186,7 +188,7 @@ impl SeatGroup {
     }
 
     /// The entries, where these are all seats of their instance.
-    pub(crate) fn close(self, alloc: Global) -> Ended
+    pub fn close(self, alloc: Global) -> Ended
         ensures { EndLeaves self result }
     {
         if !self.is_whole() {

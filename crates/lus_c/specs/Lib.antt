@@ -1,0 +1,11 @@
+pub mod Owed
+pub mod Served
+pub mod Held
+pub mod Refusals
+pub mod Met
+pub mod Opened
+pub mod Kept
+pub mod Queries
+pub mod Texts
+pub mod Lives
+pub mod Explained

@@ -1,9 +1,0 @@
--- The parts are those of the bytes.
-use Rattle.std.proofs.lemmas.Iterator.Consumers.{map_from_collect}
-use Rattle.std.proofs.lemmas.Iterator.Splits.{YieldsList-from_str_split}
-use Rattle.std.proofs.Common.{lit<}
-use Rattle.lus_foreign.proofs.texts.parts.Goals as goal
-
-pub returns : goal.returns
-returns c =
-    map_from_collect _ c.collect.ensures.ran (YieldsList-from_str_split 0 c.args.text.now (lit< tt) c.split.ensures.text c.split.ensures.has_more c.split.ensures.pattern)
