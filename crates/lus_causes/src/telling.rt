@@ -2,24 +2,22 @@
 
 use lus_clock_causes::clock_cause;
 use lus_faults::Finding;
-use lus_grammar::parse;
 use lus_limit_causes::{depth_cause, limit_cause};
 use lus_misreadings::{keeps_operators, misread};
 use lus_name_causes::name_cause;
 use lus_nil_causes::nil_cause;
 use lus_round_causes::{cycle_cause, recursion_cause};
-use lus_syntax::{Refusal, RefusalNumber, lex};
+use lus_syntax::{Refusal, RefusalNumber, Tree};
 use lus_type_causes::type_cause;
 use std::alloc::{AllocError, Global};
 
 /// What is said of the case of a refusal that a source's tree shows.
-fn of_tree(alloc: Global, source: &str, refusal: &Refusal) -> Result<Option<Finding>, AllocError> {
-    let Ok(tokens) = lex(alloc, source) else {
-        return Ok(None);
-    };
-    let Ok(tree) = parse(alloc, &tokens) else {
-        return Ok(None);
-    };
+fn of_tree(
+    alloc: Global,
+    source: &str,
+    tree: Tree,
+    refusal: &Refusal,
+) -> Result<Option<Finding>, AllocError> {
     match refusal.number {
         RefusalNumber::Name => name_cause(alloc, &tree, refusal),
         RefusalNumber::Type => type_cause(alloc, source, tree),
@@ -27,6 +25,7 @@ fn of_tree(alloc: Global, source: &str, refusal: &Refusal) -> Result<Option<Find
         RefusalNumber::Nil => nil_cause(alloc, source, &tree, refusal),
         RefusalNumber::Cycle => cycle_cause(alloc, source, &tree, refusal),
         RefusalNumber::Recursion => recursion_cause(alloc, &tree, refusal),
+        RefusalNumber::Limit => limit_cause(alloc, &tree, refusal),
         _ => Ok(None),
     }
 }
@@ -98,29 +97,16 @@ fn gated(
     }
 }
 
-/// What is said of the case of a refusal, where its change of the source leaves out and puts in only what it is about.
-fn of_meaning(
-    alloc: Global,
-    source: &str,
-    refusal: &Refusal,
-) -> Result<Option<Finding>, AllocError> {
-    match of_tree(alloc, source, refusal)? {
-        Some(finding) => Ok(Some(gated(alloc, source, refusal.number, finding)?)),
-        None => Ok(None),
-    }
-}
-
-/// What is said of the case of a refusal of a source that isn't shown by its spelling alone (`spelling_finding`); nothing where no more
-/// is known than its number and its place.
+/// What is said of the case of a refusal of a source that a tree shows whose places are the source's, where its change of the source leaves
+/// out and puts in only what it is about; nothing where no more is known than its number and its place.
 pub fn finding_of(
     alloc: Global,
     source: &str,
+    tree: Tree,
     refusal: &Refusal,
 ) -> Result<Option<Finding>, AllocError> {
-    match refusal.number {
-        RefusalNumber::Lexical | RefusalNumber::Unsupported | RefusalNumber::Syntax => Ok(None),
-        RefusalNumber::Limit => limit_cause(alloc, source, refusal),
-        RefusalNumber::Memory => Ok(None),
-        _ => of_meaning(alloc, source, refusal),
+    match of_tree(alloc, source, tree, refusal)? {
+        Some(finding) => Ok(Some(gated(alloc, source, refusal.number, finding)?)),
+        None => Ok(None),
     }
 }

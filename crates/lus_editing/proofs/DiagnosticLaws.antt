@@ -1,6 +1,6 @@
 -- What is said of faults and of warnings.
 use Rattle.std.proofs.Common.{◌≡◌, ◌∙◌, ◌++◌, List, [], ◌∷◌, ap, append_assoc, length, map, arith}
-use Rattle.lus_further.specs.declared.told.Told.{Told}
+use Rattle.lus_error_recovery.specs.declared.told.Told.{Told}
 use Rattle.lus_syntax.specs.Lexemes.{Text}
 use Rattle.lus_editing.specs.Diagnostics.{IsSaidOf}
 use Rattle.lus_editing.specs.Messages.{SentText}

@@ -3,7 +3,7 @@
 ghost use Rattle.std.specs.Prelude.{IfOk, map, string_bytes};
 ghost use Rattle.lus_editing.specs.Diagnostics.{AreFaults};
 
-use lus_further::Told;
+use lus_error_recovery::Told;
 use lus_queries::Fact;
 use lus_syntax::Place;
 use lus_warnings::Warning;

@@ -1,7 +1,7 @@
 //! What a server keeps: how far it has come, and the documents that are open.
 
 use indexmap::IndexMap;
-use lus_further::Told;
+use lus_error_recovery::Told;
 use lus_warnings::Warning;
 use std::alloc::{AllocError, Global};
 

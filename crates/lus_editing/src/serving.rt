@@ -21,7 +21,7 @@ use crate::messages::{
 use crate::queries::{queried, query_of};
 use crate::renames::renamed;
 use crate::server::{Document, Server, Stage};
-use lus_further::Told;
+use lus_error_recovery::Told;
 use lus_warnings::Warning;
 use serde_json::Value;
 use std::alloc::{AllocError, Global};

@@ -13,21 +13,20 @@ use lus_json_faults::{fault_lines, push_number, push_string};
 use lus_reports::lus_cli::lus_host::{Program, text_of};
 use lus_reports::lus_cli::{Fault, script_text};
 use lus_reports::{
-    Complaint, File, Found, Verdict, accept, explain, explain_scripts, further_faults, judge,
-    known_finding, meaning_of,
+    Complaint, File, Found, Verdict, accept, explain, explain_scripts, findings_of, judge,
+    meaning_of,
 };
 use lus_scripts::ScriptRefusal;
 use lus_syntax::{Refusal, RefusalNumber};
 use std::alloc::{AllocError, Global};
 
 /// The line of a program's refusal, and those of its further faults.
-fn program_lines(alloc: Global, program: File<'_>, refusal: &Refusal) -> Result<String, Refusal>
+fn program_lines(alloc: Global, program: File<'_>, refusal: &Refusal) -> Result<String, AllocError>
     ensures { IfOk result (λ lines. SaysFault program.entry.name.now refusal.now (string_bytes lines)) }
 {
     let source = text_of(program.bytes).unwrap_or("");
-    let finding = known_finding(alloc, program.bytes, refusal)?;
-    let others = further_faults(alloc, program.bytes, refusal)?;
-    Ok(fault_lines(alloc, program.name, source, refusal, &finding, &others)?)
+    let (finding, others) = findings_of(alloc, program.bytes, refusal)?;
+    fault_lines(alloc, program.name, source, refusal, &finding, &others)
 }
 
 /// Of a refused program.

@@ -4,8 +4,8 @@ ghost use Rattle.std.specs.Prelude.{◌≡◌, ◌++◌, IfOk, OnOk, string_byte
 ghost use Rattle.lus_json_faults.specs.Lines.{SaysFault, number_json, position_json, quoted, start_json};
 
 use crate::members::further_members;
+use lus_error_recovery::Told;
 use lus_faults::{Finding, Position};
-use lus_further::Told;
 use lus_syntax::Refusal;
 use serde_json::Value;
 use std::alloc::{AllocError, Global};

@@ -50,8 +50,13 @@ fn large_node(
     Ok(Some(finding.with_note(alloc, note)?))
 }
 
-/// What is said of a limit that a tree passes at a place.
-fn of_tree(alloc: Global, tree: &Tree, sought: Sought) -> Result<Option<Finding>, AllocError> {
+/// What is said of a limit that a tree passes; nothing where it is none of declarations, or of types and nodes.
+pub fn limit_cause(
+    alloc: Global,
+    tree: &Tree,
+    refusal: &Refusal,
+) -> Result<Option<Finding>, AllocError> {
+    let sought = Sought::of(refusal);
     if let Some(excess) = excess_at(sought, tree) {
         return too_many(alloc, excess);
     }
@@ -68,36 +73,14 @@ fn of_tree(alloc: Global, tree: &Tree, sought: Sought) -> Result<Option<Finding>
     Ok(None)
 }
 
-/// What is said of a limit that is passed; nothing where it is none of declarations, or of types and nodes.
-pub fn limit_cause(
-    alloc: Global,
-    source: &str,
-    refusal: &Refusal,
-) -> Result<Option<Finding>, AllocError> {
-    let Ok(tokens) = lex(alloc, source) else {
-        return Ok(None);
-    };
-    match parse(alloc, &tokens) {
-        Ok(tree) => of_tree(alloc, &tree, Sought::of(refusal)),
-        Err(_) => Ok(None),
-    }
-}
-
-/// Whether a text spells no tree that is within the limit of depth.
-fn is_too_deep(alloc: Global, source: &str) -> bool {
-    let Ok(tokens) = lex(alloc, source) else {
-        return false;
-    };
-    match parse(alloc, &tokens) {
-        Ok(_) => false,
-        Err(found) => found.number == RefusalNumber::Limit,
-    }
-}
-
 /// What is said of a text with an expression that is too deep; nothing of others.
 pub fn depth_cause(alloc: Global, source: &str) -> Result<Option<Finding>, AllocError> {
-    if !is_too_deep(alloc, source) {
+    let Ok(tokens) = lex(alloc, source) else {
         return Ok(None);
+    };
+    match parse(alloc, &tokens) {
+        Err(found) if found.number == RefusalNumber::Limit => {}
+        _ => return Ok(None),
     }
     let sentence = format!(in alloc; "this expression is nested more than {MOST_DEPTH} deep")?;
     let finding = Finding::new(alloc, sentence, 1);

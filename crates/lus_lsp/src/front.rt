@@ -7,10 +7,10 @@ ghost use Rattle.lus_lsp.specs.Verdicts.{IsAccepted, IsRefused};
 
 use crate::facts::fact_of;
 use lus_editing::{Compiler, Fact, RenameProblem};
+use lus_error_recovery::Told;
 use lus_format::{FormatError, format};
-use lus_further::Told;
 use lus_rename::{RenameError, renamed};
-use lus_reports::{accept, further_faults, known_finding};
+use lus_reports::{accept, findings_of};
 use lus_syntax::{Place, Refusal, RefusalNumber};
 use lus_warnings::{Warning, warnings_of};
 use std::alloc::{AllocError, Global};
@@ -26,10 +26,7 @@ fn faults_with(alloc: Global, bytes: &[u8], refusal: Refusal) -> Result<Vec<Told
     if refusal.number == RefusalNumber::Memory {
         return Err(AllocError);
     }
-    let finding = known_finding(alloc, bytes, &refusal)?;
-    let Ok(mut faults) = further_faults(alloc, bytes, &refusal) else {
-        return Err(AllocError);
-    };
+    let (finding, mut faults) = findings_of(alloc, bytes, &refusal)?;
     let first = Told { refusal, finding };
     faults.insert(0, first)?;
     Ok(faults)

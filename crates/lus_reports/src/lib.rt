@@ -1,7 +1,6 @@
 //! What is said to people of programs and their scripts: why and where they are refused, and which nodes an accepted program has.
 #![tactic(auto)]
 
-mod changes;
 mod check;
 mod detail;
 mod explanation;
@@ -14,7 +13,6 @@ mod lines;
 mod nodes;
 mod outlining;
 mod reporting;
-mod rest;
 mod scripts;
 mod sentences;
 mod shown;
@@ -24,10 +22,9 @@ mod value;
 mod verdict;
 
 pub use check::Check;
-pub use detail::{Detail, detail_of, known_finding};
+pub use detail::{Detail, detail_of, findings_of};
 pub use explanation::{Explanation, accept, explain};
 pub use finding::{Finding, Found};
-pub use further::further_faults;
 pub use lus_causes::lus_faults;
 pub use lus_cli;
 pub use outlining::outline;

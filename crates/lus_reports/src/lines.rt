@@ -38,19 +38,3 @@ fn push_blank(blanks: &mut String, byte: u8) -> Result<(), AllocError>
         _ => Ok(()),
     }
 }
-
-/// The line and the column behind the first bytes of a text, from 1: a line more than the line feeds among them, and a column
-/// more than the characters since the last of them.
-pub(crate) fn place_behind(bytes: &[u8]) -> (usize, usize) {
-    let mut line = 1usize;
-    let mut column = 1usize;
-    for byte in bytes {
-        if *byte == b'\n' {
-            line = line.saturating_add(1);
-            column = 1;
-        } else if *byte < 128 || *byte >= 192 {
-            column = column.saturating_add(1);
-        }
-    }
-    (line, column)
-}

@@ -12,12 +12,11 @@ use crate::finding::{Finding, Found};
 use crate::form::wrong_form;
 use crate::json::fault_at;
 use crate::known::{doubled_name, too_many, unknown_name};
-use crate::lines::place_behind;
 use crate::value::wrong_value;
 use lus_cli::lus_host::Program;
 use lus_cli::script_text;
 use lus_scripts::{ScriptRefusal, Scripts, read_scripts};
-use lus_syntax::MOST_BYTES;
+use lus_syntax::{MOST_BYTES, Place, place_behind};
 use serde_json::Value;
 use std::alloc::{AllocError, Global};
 
@@ -65,7 +64,7 @@ fn no_json(alloc: Global, bytes: &[u8], line: usize, column: usize) -> Option<Fi
     } else {
         Check::Json
     };
-    let (line, column) = place_behind(&bytes[..offset]);
+    let Place { line, column, .. } = place_behind(&bytes[..offset]);
     Some(Finding {
         found: Some(Found::Bytes { line, column }),
         check,

@@ -1,7 +1,7 @@
 -- Of the first fault, or of none.
 use Rattle.std.proofs.Common.{IfOk, List, map, string_bytes, subst, sym}
 use Rattle.std.proofs.lemmas.Result.{IfOk-weaker}
-use Rattle.lus_further.specs.declared.told.Told.{Told}
+use Rattle.lus_error_recovery.specs.declared.told.Told.{Told}
 use Rattle.lus_editing.specs.Diagnostics.{IsSaidOf}
 use Rattle.lus_editing.specs.Messages.{sent_seen}
 use Rattle.lus_editing.proofs.DiagnosticLaws.{said_of_none}

@@ -1,6 +1,6 @@
 -- What is said is said of the faults that the compiler finds.
 use Rattle.std.proofs.Common.{List, map, string_bytes, subst}
-use Rattle.lus_further.specs.declared.told.Told.{Told}
+use Rattle.lus_error_recovery.specs.declared.told.Told.{Told}
 use Rattle.lus_editing.specs.Diagnostics.{IsSaidOf}
 use Rattle.lus_editing.specs.Messages.{sent_seen}
 use Rattle.lus_editing.proofs.serving.take.Goals as goal

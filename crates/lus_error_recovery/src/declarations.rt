@@ -1,0 +1,164 @@
+//! Declarations and statements, by their tokens.
+
+use lus_syntax::{Place, Span, Symbol, Token, TokenKind, Word};
+use std::alloc::{AllocError, Global};
+
+/// A node, or a group of types or constants: where it begins, what is left of its tokens, and where those stood that were taken out.
+/// Of a node whether variables without an equation have values.
+#[derive(Drop)]
+pub(crate) struct Declaration<'s> {
+    pub start: Place,
+    pub is_node: bool,
+    pub is_filled: bool,
+    pub tokens: Vec<Token<'s>>,
+    pub taken: Vec<Span>,
+}
+
+/// Some tokens: the place of the first, and the one behind the last.
+pub(crate) type Range = (usize, usize);
+
+/// Whether a token opens a declaration.
+fn opens(token: &Token<'_>) -> bool {
+    matches!(
+        token.kind,
+        TokenKind::Keyword(Word::Node | Word::Function | Word::Type | Word::Const)
+    )
+}
+
+/// The declarations of a source. What stands before the first belongs to it.
+pub(crate) fn declarations_of<'s>(
+    alloc: Global,
+    tokens: &[Token<'s>],
+) -> Result<Vec<Declaration<'s>>, AllocError> {
+    let mut declarations: Vec<Declaration<'s>> = Vec::new(alloc);
+    for token in tokens {
+        if opens(token) || declarations.is_empty() {
+            declarations.push(Declaration {
+                start: token.span.start,
+                is_node: matches!(token.kind, TokenKind::Keyword(Word::Node | Word::Function)),
+                is_filled: false,
+                tokens: Vec::new(alloc),
+                taken: Vec::new(alloc),
+            })?;
+        }
+        if let Some(last) = declarations.last_mut() {
+            last.tokens.push(*token)?;
+        }
+    }
+    Ok(declarations)
+}
+
+/// How many braces are open behind a token, of which so many are open before it.
+fn braces_behind(braces: usize, token: &Token<'_>) -> usize {
+    match token.kind {
+        TokenKind::Punctuation(Symbol::OpenBrace) => braces.saturating_add(1),
+        TokenKind::Punctuation(Symbol::CloseBrace) => braces.saturating_sub(1),
+        _ => braces,
+    }
+}
+
+impl<'s> Declaration<'s> {
+    /// The place of the first token that doesn't stand before a line and a column.
+    pub fn place_at(&self, line: usize, column: usize) -> usize {
+        for (place, token) in self.tokens.iter().enumerate() {
+            let start = token.span.start;
+            if start.line > line || (start.line == line && start.column >= column) {
+                return place;
+            }
+        }
+        self.tokens.len()
+    }
+
+    /// The tokens of the statement that a token stands in, with its semicolon; nothing outside of the equations of a node.
+    pub fn statement_at(&self, at: usize) -> Option<Range> {
+        let mut first = self.tokens.len();
+        let mut braces = 0;
+        for (place, token) in self.tokens.iter().enumerate() {
+            let behind = place.saturating_add(1);
+            match token.kind {
+                TokenKind::Keyword(Word::Let) => first = first.min(behind),
+                TokenKind::Keyword(Word::Tel) => {
+                    let is_inside = first <= at && at <= place && first < place;
+                    return if is_inside {
+                        Some((first, place))
+                    } else {
+                        None
+                    };
+                }
+                TokenKind::Punctuation(Symbol::Semicolon) if braces == 0 && first <= place => {
+                    if first <= at && at <= place {
+                        return Some((first, behind));
+                    }
+                    first = behind;
+                }
+                _ => braces = braces_behind(braces, token),
+            }
+        }
+        None
+    }
+
+    /// The place of the sign behind the left side of a statement, if it begins as an equation does.
+    pub fn sign_of(&self, statement: Range) -> Option<usize> {
+        let (first, behind) = statement;
+        for place in first..behind {
+            match self.tokens.get(place)?.kind {
+                TokenKind::Identifier(_) => {}
+                TokenKind::Punctuation(Symbol::Comma | Symbol::Open | Symbol::Close) => {}
+                TokenKind::Punctuation(Symbol::Equal) if place > first => return Some(place),
+                _ => return None,
+            }
+        }
+        None
+    }
+
+    /// Whether a token stands in a statement that begins as an equation does.
+    pub fn is_equation_at(&self, at: usize) -> bool {
+        match self.statement_at(at) {
+            Some(statement) => self.sign_of(statement).is_some(),
+            None => false,
+        }
+    }
+
+    /// The names that it declares: of a node its own.
+    pub fn names(&self, alloc: Global) -> Result<Vec<&'s str>, AllocError> {
+        let mut names = Vec::new(alloc);
+        let mut braces = 0;
+        let (mut is_listed, mut is_next) = (false, self.is_node);
+        for token in &self.tokens {
+            match token.kind {
+                TokenKind::Identifier(name) if is_listed || (is_next && braces == 0) => {
+                    names.push(name)?;
+                    if self.is_node {
+                        return Ok(names);
+                    }
+                }
+                TokenKind::Keyword(Word::Enum) => is_listed = true,
+                TokenKind::Punctuation(Symbol::CloseBrace) => is_listed = false,
+                _ => {}
+            }
+            braces = braces_behind(braces, token);
+            is_next = self.is_node
+                || opens(token)
+                || matches!(
+                    token.kind,
+                    TokenKind::Punctuation(Symbol::Semicolon | Symbol::Comma)
+                );
+        }
+        Ok(names)
+    }
+
+    /// Takes some tokens out.
+    pub fn take(&mut self, alloc: Global, range: Range) -> Result<(), AllocError> {
+        let (from, to) = range;
+        let mut kept = Vec::new(alloc);
+        for (place, token) in self.tokens.iter().enumerate() {
+            if from <= place && place < to {
+                self.taken.push(token.span)?;
+            } else {
+                kept.push(*token)?;
+            }
+        }
+        self.tokens = kept;
+        Ok(())
+    }
+}

@@ -1,0 +1,173 @@
+//! Parts of a source: a declaration, with as much of the others as a pass reads of them.
+
+use crate::declarations::Declaration;
+use crate::reading::tokens_from;
+use crate::rest::Rest;
+use indexmap::IndexMap;
+use lus_faults::Edit;
+use lus_syntax::{Token, TokenKind, Word};
+use std::alloc::{AllocError, Global};
+
+/// For each name the place of the first declaration that declares it.
+pub(crate) type Names = IndexMap<String, usize>;
+
+/// What a part has beside its own declaration: of those that this one needs what they declare, of all others what they declare, or all.
+#[derive(Clone, Copy, PartialEq, Eq)]
+pub(crate) enum Beside {
+    Needed,
+    Declared,
+    Whole,
+}
+
+/// The first declarations of names.
+pub(crate) fn names_of(
+    alloc: Global,
+    declarations: &[Declaration<'_>],
+) -> Result<Names, AllocError> {
+    let mut names = IndexMap::new(alloc);
+    for (place, declaration) in declarations.iter().enumerate() {
+        for name in &declaration.names(alloc)? {
+            if names.get(*name).is_none() {
+                let _before = names.insert(String::from_str(alloc, name)?, place)?;
+            }
+        }
+    }
+    Ok(names)
+}
+
+/// Whether a byte is one of some tokens, or between them.
+pub(crate) fn is_among(tokens: &[Token<'_>], byte: usize) -> bool {
+    match (tokens.first(), tokens.last()) {
+        (Some(first), Some(last)) => {
+            first.span.start.byte <= byte && byte <= last.span.start.byte
+        }
+        _ => false,
+    }
+}
+
+/// Tokens of a declaration after a change of the source: what it puts in stands where the first token did that it takes out, or before
+/// which it is put in. A change elsewhere is none.
+fn changed<'p>(
+    alloc: Global,
+    tokens: Vec<Token<'p>>,
+    edit: &'p Edit,
+) -> Result<Vec<Token<'p>>, AllocError> {
+    if !is_among(&tokens, edit.byte) {
+        return Ok(tokens);
+    }
+    let end = edit.byte.saturating_add(edit.length);
+    let mut changed = Vec::new(alloc);
+    let mut is_made = false;
+    for token in &tokens {
+        let at = token.span.start;
+        let is_gone = edit.byte <= at.byte && at.byte < end;
+        if !is_made && (is_gone || edit.length == 0 && edit.byte <= at.byte) {
+            is_made = true;
+            if let Ok(made) = tokens_from(alloc, &edit.text, at) {
+                changed.extend_from_slice(&made)?;
+            }
+        }
+        if !is_gone {
+            changed.push(*token)?;
+        }
+    }
+    Ok(changed)
+}
+
+/// How many tokens of a node stand before its locals and its equations.
+fn head_of(tokens: &[Token<'_>]) -> usize {
+    for (place, token) in tokens.iter().enumerate() {
+        if let TokenKind::Keyword(Word::Var | Word::Let) = token.kind {
+            return place;
+        }
+    }
+    tokens.len()
+}
+
+impl Rest<'_> {
+    /// The tokens that are left of a declaration, after the changes that were made and one that is tried.
+    fn tokens_of<'p>(
+        &'p self,
+        alloc: Global,
+        place: usize,
+        tried: Option<&'p Edit>,
+    ) -> Result<Vec<Token<'p>>, AllocError> {
+        let mut tokens = Vec::new(alloc);
+        if let Some(declaration) = self.declarations.get(place) {
+            tokens.extend_from_slice(&declaration.tokens)?;
+        }
+        for edit in &self.edits {
+            tokens = changed(alloc, tokens, edit)?;
+        }
+        match tried {
+            Some(edit) => changed(alloc, tokens, edit),
+            None => Ok(tokens),
+        }
+    }
+
+    /// Which declarations the names among some tokens need, directly or by others.
+    fn needed<'p>(&'p self, alloc: Global, tokens: &[Token<'p>]) -> Result<Vec<bool>, AllocError> {
+        let mut flags = Vec::new(alloc);
+        for _declaration in &self.declarations {
+            flags.push(false)?;
+        }
+        let mut open = Vec::new(alloc);
+        open.extend_from_slice(tokens)?;
+        // each token of the source is opened twice at most
+        for _turn in 0..self.source.len().saturating_mul(2) {
+            let Some(token) = open.pop() else {
+                return Ok(flags);
+            };
+            if let TokenKind::Identifier(name) = token.kind
+                && let Some(place) = self.names.get(name).copied()
+                && let Some(flag) = flags.get_mut(place)
+                && !*flag
+            {
+                *flag = true;
+                if let Some(found) = self.declarations.get(place) {
+                    let head = found
+                        .tokens
+                        .get(..head_of(&found.tokens))
+                        .unwrap_or(&found.tokens);
+                    open.extend_from_slice(head)?;
+                }
+            }
+        }
+        Ok(flags)
+    }
+
+    /// The tokens of the part with the declaration at a place. Nodes beside it have no equations, unless it is all that is left.
+    pub(crate) fn part<'p>(
+        &'p self,
+        alloc: Global,
+        own: usize,
+        beside: Beside,
+        tried: Option<&'p Edit>,
+    ) -> Result<Vec<Token<'p>>, AllocError> {
+        let mut part = Vec::new(alloc);
+        let whole = self.tokens_of(alloc, own, tried)?;
+        let needed = self.needed(alloc, &whole)?;
+        for (place, declaration) in self.declarations.iter().enumerate() {
+            let is_needed = needed.get(place).copied().unwrap_or(false);
+            if place == own {
+                part.extend_from_slice(&whole)?;
+            } else if is_needed || beside != Beside::Needed {
+                let tokens = self.tokens_of(alloc, place, tried)?;
+                if beside == Beside::Whole {
+                    part.extend_from_slice(&tokens)?;
+                    continue;
+                }
+                part.extend_from_slice(tokens.get(..head_of(&tokens)).unwrap_or(&tokens))?;
+                if declaration.is_node
+                    && let Some(last) = tokens.last().copied()
+                {
+                    for word in [Word::Let, Word::Tel] {
+                        let kind = TokenKind::Keyword(word);
+                        part.push(Token { kind, ..last })?;
+                    }
+                }
+            }
+        }
+        Ok(part)
+    }
+}

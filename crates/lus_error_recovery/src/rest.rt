@@ -1,0 +1,307 @@
+//! What is left of a source.
+
+use crate::declarations::{Declaration, declarations_of};
+use crate::filling::fill;
+use crate::parts::{Beside, Names, names_of};
+use crate::passes::{check_tree, in_memory, is_later, is_of_grammar};
+use crate::reading::{Unread, reading_of};
+use crate::taking::Fault;
+use crate::window::{Window, window_of};
+use lus_faults::{Edit, edited};
+use lus_grammar::parse;
+use lus_syntax::{Cycle, Place, Refusal, RefusalNumber, Tree, lex};
+use std::alloc::{AllocError, Global};
+
+/// How often the tokens of a source are checked again while faults are looked for, and how many tokens are where that is less. Reading
+/// them without checks counts for a quarter.
+const MOST_CHECKS: usize = 2;
+
+const LEAST_TOKENS: usize = 100000;
+
+/// The most faults that are taken out.
+const MOST_TURNS: usize = 400;
+
+/// What is left of a source: its declarations, and what is no token; the changes that were made, the names of what was taken out, and
+/// the faults that were found. Declarations are looked through in steps: each by its grammar, then each by its meaning, then all together.
+#[derive(Drop)]
+pub struct Rest<'s> {
+    pub(crate) source: &'s str,
+    pub(crate) declarations: Vec<Declaration<'s>>,
+    pub(crate) names: Names,
+    pub(crate) unread: Vec<Unread>,
+    pub(crate) edits: Vec<Edit>,
+    pub(crate) lost: Vec<&'s str>,
+    pub(crate) found: Vec<Fault<'s>>,
+    step: usize,
+    left: usize,
+}
+
+impl<'s> Rest<'s> {
+    /// All of a source.
+    pub fn new(alloc: Global, source: &'s str) -> Result<Rest<'s>, AllocError> {
+        let reading = reading_of(alloc, source)?;
+        let declarations = declarations_of(alloc, &reading.tokens)?;
+        let mut rest = Rest {
+            source,
+            names: names_of(alloc, &declarations)?,
+            declarations,
+            left: LEAST_TOKENS.max(reading.tokens.len().saturating_mul(MOST_CHECKS)),
+            unread: Vec::new(alloc),
+            edits: Vec::new(alloc),
+            lost: Vec::new(alloc),
+            found: Vec::new(alloc),
+            step: 0,
+        };
+        for unread in &reading.unread {
+            let start = unread.span.start;
+            let declaration = rest.declaration_at(start.line, start.column);
+            rest.unread.push(Unread {
+                declaration,
+                ..*unread
+            })?;
+        }
+        Ok(rest)
+    }
+
+    /// The place of the last declaration that doesn't begin behind a line and a column.
+    pub(crate) fn declaration_at(&self, line: usize, column: usize) -> usize {
+        let mut found = 0;
+        for (place, declaration) in self.declarations.iter().enumerate() {
+            let start = declaration.start;
+            if start.line > line || (start.line == line && start.column > column) {
+                return found;
+            }
+            found = place;
+        }
+        found
+    }
+
+    /// What is no token in a declaration, and wasn't found before.
+    fn unread_in(&self, alloc: Global, place: usize) -> Option<Refusal> {
+        for unread in &self.unread {
+            let (line, column) = (unread.span.start.line, unread.span.start.column);
+            if unread.declaration == place
+                && !self
+                    .found
+                    .iter()
+                    .any(|other| other.line == line && other.column == column)
+            {
+                return Some(Refusal {
+                    number: unread.number,
+                    line,
+                    column,
+                    cycle: Cycle::new(Vec::new(alloc)),
+                });
+            }
+        }
+        None
+    }
+
+    /// The refusal of a declaration by its tokens or its grammar. Where it ends before it should, that is at the next one.
+    fn misspelt(&mut self, alloc: Global, place: usize) -> Result<Option<Refusal>, AllocError> {
+        if let Some(refusal) = self.unread_in(alloc, place) {
+            return Ok(Some(refusal));
+        }
+        let Some(declaration) = self.declarations.get(place) else {
+            return Ok(None);
+        };
+        self.left = self.left.saturating_sub(declaration.tokens.len() / 4);
+        let Err(refusal) = in_memory(parse(alloc, &declaration.tokens))? else {
+            return Ok(None);
+        };
+        let at = declaration.place_at(refusal.line, refusal.column);
+        let (mut line, mut column) = (refusal.line, refusal.column);
+        if let Some(next) = self.declarations.get(place.saturating_add(1))
+            && at >= declaration.tokens.len()
+        {
+            line = next.start.line;
+            column = next.start.column;
+        }
+        Ok(Some(Refusal {
+            number: refusal.number,
+            line,
+            column,
+            cycle: refusal.cycle,
+        }))
+    }
+
+    /// Where the names of some nodes begin: of a declaration unless its variables have values, or of those whose variables have.
+    fn names_at(
+        &self,
+        alloc: Global,
+        own: usize,
+        is_whole: bool,
+    ) -> Result<Vec<usize>, AllocError> {
+        let mut bytes = Vec::new(alloc);
+        for (place, declaration) in self.declarations.iter().enumerate() {
+            if declaration.is_filled == is_whole
+                && (is_whole || place == own)
+                && let Some(name) = declaration.tokens.get(1)
+            {
+                bytes.push(name.span.start.byte)?;
+            }
+        }
+        Ok(bytes)
+    }
+
+    /// The tree of a part. Of all others than its own declaration the variables have values, unless it is all that is left.
+    fn read(
+        &mut self,
+        alloc: Global,
+        own: usize,
+        beside: Beside,
+        tried: Option<&Edit>,
+    ) -> Result<Result<Tree, Refusal>, AllocError> {
+        let (count, found) = {
+            let tokens = self.part(alloc, own, beside, tried)?;
+            (tokens.len(), in_memory(parse(alloc, &tokens))?)
+        };
+        let spent = (count / 4).saturating_add(self.declarations.len() / 64);
+        self.left = self.left.saturating_sub(spent);
+        let mut tree = match found {
+            Ok(tree) => tree,
+            Err(refusal) => return Ok(Err(refusal)),
+        };
+        let is_whole = beside == Beside::Whole;
+        let bytes = self.names_at(alloc, own, is_whole)?;
+        fill(alloc, &mut tree, &bytes, is_whole, &mut self.left)?;
+        Ok(Ok(tree))
+    }
+
+    /// Checks a part.
+    fn check(
+        &mut self,
+        alloc: Global,
+        own: usize,
+        beside: Beside,
+        tried: Option<&Edit>,
+    ) -> Result<Result<(), Refusal>, AllocError> {
+        let before = self.left;
+        match self.read(alloc, own, beside, tried)? {
+            Ok(tree) => {
+                let spent = before.saturating_sub(self.left).saturating_mul(3);
+                self.left = self.left.saturating_sub(spent);
+                in_memory(check_tree(alloc, tree))
+            }
+            Err(refusal) => Ok(Err(refusal)),
+        }
+    }
+
+    /// The refusal that a step finds: none that is of a limit, or of another declaration than its own.
+    fn refusal_at(&mut self, alloc: Global, step: usize) -> Result<Option<Refusal>, AllocError> {
+        let count = self.declarations.len();
+        if step < count {
+            return self.misspelt(alloc, step);
+        }
+        let own = step.saturating_sub(count);
+        let beside = if own < count {
+            Beside::Needed
+        } else {
+            Beside::Whole
+        };
+        match self.check(alloc, own, beside, None)? {
+            Err(refusal) if refusal.number != RefusalNumber::Limit => {
+                let here = self.declaration_at(refusal.line, refusal.column);
+                let is_own = here == own || beside == Beside::Whole;
+                Ok(if is_own { Some(refusal) } else { None })
+            }
+            _ => Ok(None),
+        }
+    }
+
+    /// The first refusal of what is left, as long as not too much was read. All together is read only where the passes over names weren't
+    /// run before.
+    fn refusal(&mut self, alloc: Global) -> Result<Option<Refusal>, AllocError> {
+        let is_unread = self.found.iter().any(|fault| {
+            is_of_grammar(fault.number) || fault.number == RefusalNumber::Name
+        });
+        let last = self.declarations.len().saturating_mul(2);
+        for step in self.step..last.saturating_add(usize::from(is_unread)) {
+            self.step = step;
+            if self.left == 0 {
+                return Ok(None);
+            }
+            let found = self.refusal_at(alloc, step)?;
+            if found.is_some() && self.left > 0 {
+                return Ok(found);
+            }
+        }
+        Ok(None)
+    }
+
+    /// The next fault that follows from no other one, which is still to be taken out.
+    pub fn next(&mut self, alloc: Global) -> Result<Option<Refusal>, AllocError> {
+        for _turn in 0..MOST_TURNS {
+            let Some(refusal) = self.refusal(alloc)? else {
+                return Ok(None);
+            };
+            if self.is_new(&refusal) {
+                return Ok(Some(refusal));
+            }
+            self.take(alloc, &refusal, None)?;
+        }
+        Ok(None)
+    }
+
+    /// The text by which a refusal is told of tokens or of grammar: its declaration and the one before, without what was taken out.
+    pub fn window(&mut self, alloc: Global, refusal: &Refusal) -> Result<Window, AllocError> {
+        let here = self.declaration_at(refusal.line, refusal.column);
+        let before = here.saturating_sub(1);
+        let start = match self.declarations.get(before) {
+            Some(declaration) if before > 0 => declaration.start,
+            _ => Place::START,
+        };
+        let end = match self.declarations.get(here.saturating_add(1)) {
+            Some(next) => next.start.byte,
+            None => self.source.len(),
+        };
+        self.left = self.left.saturating_sub(end.saturating_sub(start.byte) / 4);
+        let mut window = window_of(alloc, self.source, start, end)?;
+        for place in before..here.saturating_add(1) {
+            if let Some(declaration) = self.declarations.get(place) {
+                window.blank(&declaration.taken);
+            }
+        }
+        Ok(window)
+    }
+
+    /// The tree by which a refusal is told that is of a pass over it: the declaration there, with as much of others as it needs.
+    pub fn tree(&mut self, alloc: Global, refusal: &Refusal) -> Result<Option<Tree>, AllocError> {
+        let own = self.fault_of(refusal).declaration;
+        let beside = match refusal.number {
+            RefusalNumber::Name => Beside::Declared,
+            RefusalNumber::Recursion | RefusalNumber::Limit => Beside::Whole,
+            _ => Beside::Needed,
+        };
+        Ok(self.read(alloc, own, beside, None)?.ok())
+    }
+
+    /// Whether a change of the source helps against a refusal: the declaration there is accepted then, or refused later.
+    pub fn helps(
+        &mut self,
+        alloc: Global,
+        refusal: &Refusal,
+        edit: &Edit,
+    ) -> Result<bool, AllocError> {
+        let own = self.fault_of(refusal).declaration;
+        let found = self.check(alloc, own, Beside::Needed, Some(edit))?.err();
+        Ok(is_later(&found, refusal))
+    }
+}
+
+/// Whether a change of a text helps against a refusal of its tokens or its grammar: it has none then, or one further on.
+pub fn reads_on(
+    alloc: Global,
+    text: &str,
+    refusal: &Refusal,
+    edit: &Edit,
+) -> Result<bool, AllocError> {
+    let Some(changed) = edited(alloc, text, edit)? else {
+        return Ok(false);
+    };
+    let found = match in_memory(lex(alloc, &changed))? {
+        Ok(tokens) => in_memory(parse(alloc, &tokens))?.err(),
+        Err(refusal) => Some(refusal),
+    };
+    Ok(is_later(&found, refusal))
+}

@@ -1,0 +1,224 @@
+//! How faults are taken out of what is left of a source, and which only follow from others.
+
+use crate::parts::is_among;
+use crate::passes::is_of_grammar;
+use crate::rest::Rest;
+use lus_faults::{Edit, Finding, slice_of};
+use lus_syntax::{Refusal, RefusalNumber};
+use std::alloc::{AllocError, Global};
+
+/// A fault of a source: its number, its line and its column; the place of the declaration that stands there, and of the one that it is of;
+/// the word there, and the one that opens the declaration where that stands right before it; and whether it is in an equation.
+#[derive(Clone, Copy)]
+pub(crate) struct Fault<'s> {
+    pub number: RefusalNumber,
+    pub line: usize,
+    pub column: usize,
+    pub here: usize,
+    pub declaration: usize,
+    pub word: &'s str,
+    pub opening: &'s str,
+    pub is_in_equation: bool,
+}
+
+impl Fault<'_> {
+    /// Whether two faults are one.
+    fn is(&self, other: &Fault<'_>) -> bool {
+        self.number == other.number && self.line == other.line && self.column == other.column
+    }
+
+    /// Whether it may follow from a fault of grammar: itself one of grammar, in the same declaration or in what was taken for the next
+    /// one, on the same line, or behind the same word, which can stand in a declaration where it was taken to open another one; or one of
+    /// meaning, in a declaration of which what is at fault is no equation.
+    fn follows(&self, other: &Fault<'_>) -> bool {
+        if !is_of_grammar(other.number) {
+            return false;
+        }
+        if !is_of_grammar(self.number) {
+            return self.declaration == other.declaration && !other.is_in_equation;
+        }
+        self.declaration == other.declaration
+            || self.declaration == other.here
+            || self.line == other.line
+            || !self.opening.is_empty() && self.opening == other.word
+    }
+
+    /// Whether it is of the name that another fault of the same declaration is of.
+    fn repeats(&self, other: &Fault<'_>) -> bool {
+        self.number == RefusalNumber::Name
+            && other.number == RefusalNumber::Name
+            && self.declaration == other.declaration
+            && self.word == other.word
+    }
+}
+
+impl<'s> Rest<'s> {
+    /// The text of a token of a declaration.
+    fn word_at(&self, place: usize, at: usize) -> Option<&'s str> {
+        let token = self.declarations.get(place)?.tokens.get(at)?;
+        Some(slice_of(self.source, token.span))
+    }
+
+    /// The fault that a refusal is of. One of grammar at the word that opens a declaration is of the one before, which isn't closed.
+    pub(crate) fn fault_of(&self, refusal: &Refusal) -> Fault<'s> {
+        let (line, column) = (refusal.line, refusal.column);
+        let here = self.declaration_at(line, column);
+        let (mut at, mut is_opened, mut is_in_equation) = (0, false, false);
+        if let Some(declaration) = self.declarations.get(here) {
+            let start = declaration.start;
+            is_opened = start.line == line && start.column == column;
+            at = declaration.place_at(line, column);
+            is_in_equation = declaration.is_equation_at(at);
+        }
+        let is_before = is_opened && refusal.number == RefusalNumber::Syntax;
+        Fault {
+            number: refusal.number,
+            line,
+            column,
+            here,
+            declaration: here.saturating_sub(usize::from(is_before)),
+            word: self.word_at(here, at).unwrap_or(""),
+            opening: if at == 1 {
+                self.word_at(here, 0).unwrap_or("")
+            } else {
+                ""
+            },
+            is_in_equation,
+        }
+    }
+
+    /// Whether a refusal is of a fault that wasn't found before, is of no limit, and follows from none. One of grammar that may follow from
+    /// another is of its own where it is in an equation.
+    pub(crate) fn is_new(&self, refusal: &Refusal) -> bool {
+        let fault = self.fault_of(refusal);
+        if self
+            .found
+            .iter()
+            .any(|other| fault.is(other) || fault.repeats(other))
+            || fault.number == RefusalNumber::Limit
+        {
+            return false;
+        }
+        if self.found.iter().any(|other| fault.follows(other)) {
+            return fault.is_in_equation && is_of_grammar(fault.number);
+        }
+        fault.number != RefusalNumber::Name || !self.lost.contains(&fault.word)
+    }
+
+    /// Whether a change leaves the equation as it is that a fault of meaning is in: it is of what the declaration there declares, or of a
+    /// name that an equation defines.
+    fn is_declared(&self, fault: &Fault<'_>, edit: &Edit) -> bool {
+        let Some(declaration) = self.declarations.get(fault.declaration) else {
+            return false;
+        };
+        if !is_among(&declaration.tokens, edit.byte) {
+            return false;
+        }
+        let at = declaration
+            .tokens
+            .iter()
+            .take_while(|token| token.span.start.byte < edit.byte)
+            .count();
+        match (fault.number, declaration.statement_at(at)) {
+            (RefusalNumber::Name, Some(statement)) => {
+                declaration.sign_of(statement).unwrap_or(0) > at
+            }
+            (RefusalNumber::Name | RefusalNumber::Type | RefusalNumber::Clock, None) => true,
+            _ => false,
+        }
+    }
+
+    /// Takes out the statement at a line and a column of a declaration, if one is there: its variables have values.
+    fn take_statement(
+        &mut self,
+        alloc: Global,
+        place: usize,
+        line: usize,
+        column: usize,
+    ) -> Result<bool, AllocError> {
+        let Some(declaration) = self.declarations.get_mut(place) else {
+            return Ok(false);
+        };
+        let at = declaration.place_at(line, column);
+        let Some(statement) = declaration.statement_at(at) else {
+            return Ok(false);
+        };
+        declaration.is_filled = true;
+        declaration.take(alloc, statement)?;
+        Ok(true)
+    }
+
+    /// Takes out a declaration, whose names are lost.
+    fn take_declaration(&mut self, alloc: Global, place: usize) -> Result<(), AllocError> {
+        let Some(declaration) = self.declarations.get_mut(place) else {
+            return Ok(());
+        };
+        for name in &declaration.names(alloc)? {
+            if self.names.get(*name).copied() == Some(place) {
+                self.lost.push(*name)?;
+            }
+        }
+        let all = declaration.tokens.len();
+        declaration.take(alloc, (0, all))
+    }
+
+    /// Takes out what a fault is in: its statement, or of a node that a variable has no equation, else the declaration; nothing more than what
+    /// is no token behind a declaration.
+    fn take_place(&mut self, alloc: Global, fault: &Fault<'_>) -> Result<(), AllocError> {
+        for unread in &self.unread {
+            let start = unread.span.start;
+            if start.line == fault.line
+                && start.column == fault.column
+                && let Some(declaration) = self.declarations.get_mut(fault.declaration)
+            {
+                declaration.taken.push(unread.span)?;
+                if declaration.place_at(start.line, start.column) >= declaration.tokens.len() {
+                    return Ok(());
+                }
+            }
+        }
+        if self.take_statement(alloc, fault.declaration, fault.line, fault.column)? {
+            return Ok(());
+        }
+        match self.declarations.get_mut(fault.declaration) {
+            Some(found) if found.is_node && !found.is_filled && !is_of_grammar(fault.number) => {
+                found.is_filled = true;
+                Ok(())
+            }
+            _ => self.take_declaration(alloc, fault.declaration),
+        }
+    }
+
+    /// Takes a refusal's fault out, where it comes from if a finding says so: a change of a declaration is made, and of a value that may be
+    /// nil the last place is taken on the way to what has no value.
+    pub fn take(
+        &mut self,
+        alloc: Global,
+        refusal: &Refusal,
+        finding: Option<&Finding>,
+    ) -> Result<(), AllocError> {
+        let fault = self.fault_of(refusal);
+        self.found.push(fault)?;
+        if let Some(finding) = finding
+            && !is_of_grammar(fault.number)
+        {
+            if let Some(edit) = &finding.edit
+                && self.is_declared(&fault, edit)
+            {
+                let text = edit.text.clone()?;
+                let (byte, length) = (edit.byte, edit.length);
+                self.edits.push(Edit { byte, length, text })?;
+                return Ok(());
+            }
+            if let Some(last) = finding.related.last()
+                && fault.number == RefusalNumber::Nil
+            {
+                let start = last.span.start;
+                if self.take_statement(alloc, fault.declaration, start.line, start.column)? {
+                    return Ok(());
+                }
+            }
+        }
+        self.take_place(alloc, &fault)
+    }
+}

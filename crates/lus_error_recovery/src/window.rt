@@ -1,0 +1,67 @@
+//! Parts of a source as texts of their own, by which faults of tokens and of grammar are told.
+
+use lus_faults::Finding;
+use lus_syntax::{Place, Span};
+use std::alloc::{AllocError, Global};
+use std::str;
+
+/// A part of a source as a text of its own: behind line feeds and blanks, so that all is on its line and at its column, and so many
+/// bytes further on in the source.
+#[derive(Drop)]
+pub struct Window {
+    bytes: Vec<u8>,
+    ahead: usize,
+}
+
+/// What of a source stands from a place up to a byte.
+pub(crate) fn window_of(
+    alloc: Global,
+    source: &str,
+    start: Place,
+    end: usize,
+) -> Result<Window, AllocError> {
+    let mut bytes = Vec::new(alloc);
+    for _feed in 1..start.line {
+        bytes.push(b'\n')?;
+    }
+    for _blank in 1..start.column {
+        bytes.push(b' ')?;
+    }
+    let ahead = start.byte.saturating_sub(bytes.len());
+    bytes.extend_from_slice(source.as_bytes().get(start.byte..end).unwrap_or(&[]))?;
+    Ok(Window { bytes, ahead })
+}
+
+impl Window {
+    /// The text.
+    pub fn text(&self) -> &str {
+        str::from_utf8(&self.bytes).unwrap_or("")
+    }
+
+    /// Puts blanks in the places of what was taken out of the source.
+    pub(crate) fn blank(&mut self, taken: &[Span]) {
+        for span in taken {
+            let start = span.start.byte.saturating_sub(self.ahead);
+            for place in start..start.saturating_add(span.length) {
+                if let Some(byte) = self.bytes.get_mut(place) {
+                    *byte = b' ';
+                }
+            }
+        }
+    }
+
+    /// A finding of the text, for the source.
+    pub fn further_on(&self, finding: Finding) -> Finding {
+        let mut finding = finding;
+        if let Some(place) = &mut finding.place {
+            place.byte = place.byte.saturating_add(self.ahead);
+        }
+        for related in &mut finding.related {
+            related.span.start.byte = related.span.start.byte.saturating_add(self.ahead);
+        }
+        if let Some(edit) = &mut finding.edit {
+            edit.byte = edit.byte.saturating_add(self.ahead);
+        }
+        finding
+    }
+}
