@@ -119,11 +119,12 @@ impl<'s> Declaration<'s> {
         }
     }
 
-    /// The names that it declares: of a node its own.
+    /// The names that it declares: of a node its own, and all of what opens no declaration.
     pub fn names(&self, alloc: Global) -> Result<Vec<&'s str>, AllocError> {
         let mut names = Vec::new(alloc);
         let mut braces = 0;
-        let (mut is_listed, mut is_next) = (false, self.is_node);
+        let mut is_listed = self.tokens.first().is_some_and(|first| !opens(first));
+        let mut is_next = self.is_node;
         for token in &self.tokens {
             match token.kind {
                 TokenKind::Identifier(name) if is_listed || (is_next && braces == 0) => {

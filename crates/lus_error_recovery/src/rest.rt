@@ -9,7 +9,7 @@ use crate::taking::Fault;
 use crate::window::{Window, window_of};
 use lus_faults::{Edit, edited};
 use lus_grammar::parse;
-use lus_syntax::{Cycle, Place, Refusal, RefusalNumber, Tree, lex};
+use lus_syntax::{Place, Refusal, RefusalNumber, Tree, lex};
 use std::alloc::{AllocError, Global};
 
 /// How often the tokens of a source are checked again while faults are looked for, and how many tokens are where that is less. Reading
@@ -77,7 +77,7 @@ impl<'s> Rest<'s> {
     }
 
     /// What is no token in a declaration, and wasn't found before.
-    fn unread_in(&self, alloc: Global, place: usize) -> Option<Refusal> {
+    fn unread_in(&self, place: usize) -> Option<Refusal> {
         for unread in &self.unread {
             let (line, column) = (unread.span.start.line, unread.span.start.column);
             if unread.declaration == place
@@ -86,11 +86,12 @@ impl<'s> Rest<'s> {
                     .iter()
                     .any(|other| other.line == line && other.column == column)
             {
-                return Some(Refusal {
-                    number: unread.number,
-                    line,
-                    column,
-                    cycle: Cycle::new(Vec::new(alloc)),
+                return Some(match unread.number {
+                    RefusalNumber::Lexical => Refusal::new(RefusalNumber::Lexical, line, column),
+                    RefusalNumber::Unsupported => {
+                        Refusal::new(RefusalNumber::Unsupported, line, column)
+                    }
+                    _ => Refusal::new(RefusalNumber::Limit, line, column),
                 });
             }
         }
@@ -99,7 +100,7 @@ impl<'s> Rest<'s> {
 
     /// The refusal of a declaration by its tokens or its grammar. Where it ends before it should, that is at the next one.
     fn misspelt(&mut self, alloc: Global, place: usize) -> Result<Option<Refusal>, AllocError> {
-        if let Some(refusal) = self.unread_in(alloc, place) {
+        if let Some(refusal) = self.unread_in(place) {
             return Ok(Some(refusal));
         }
         let Some(declaration) = self.declarations.get(place) else {
