@@ -60,13 +60,13 @@ fn braces_behind(braces: usize, token: &Token<'_>) -> usize {
 impl<'s> Declaration<'s> {
     /// The place of the first token that doesn't stand before a line and a column.
     pub fn place_at(&self, line: usize, column: usize) -> usize {
-        for (place, token) in self.tokens.iter().enumerate() {
-            let start = token.span.start;
-            if start.line > line || (start.line == line && start.column >= column) {
-                return place;
-            }
-        }
-        self.tokens.len()
+        self.tokens
+            .iter()
+            .take_while(|token| {
+                let start = token.span.start;
+                start.line < line || (start.line == line && start.column < column)
+            })
+            .count()
     }
 
     /// The tokens of the statement that a token stands in, with its semicolon; nothing outside of the equations of a node.
@@ -77,14 +77,10 @@ impl<'s> Declaration<'s> {
             let behind = place.saturating_add(1);
             match token.kind {
                 TokenKind::Keyword(Word::Let) => first = first.min(behind),
-                TokenKind::Keyword(Word::Tel) => {
-                    let is_inside = first <= at && at <= place && first < place;
-                    return if is_inside {
-                        Some((first, place))
-                    } else {
-                        None
-                    };
+                TokenKind::Keyword(Word::Tel) if first <= at && at <= place && first < place => {
+                    return Some((first, place));
                 }
+                TokenKind::Keyword(Word::Tel) => return None,
                 TokenKind::Punctuation(Symbol::Semicolon) if braces == 0 && first <= place => {
                     if first <= at && at <= place {
                         return Some((first, behind));
@@ -97,9 +93,9 @@ impl<'s> Declaration<'s> {
         None
     }
 
-    /// The place of the sign behind the left side of a statement, if it begins as an equation does.
-    pub fn sign_of(&self, statement: Range) -> Option<usize> {
-        let (first, behind) = statement;
+    /// The place of the sign behind the left side of the statement that a token stands in, if that begins as an equation does.
+    pub fn sign_at(&self, at: usize) -> Option<usize> {
+        let (first, behind) = self.statement_at(at)?;
         for place in first..behind {
             match self.tokens.get(place)?.kind {
                 TokenKind::Identifier(_) => {}
@@ -111,20 +107,12 @@ impl<'s> Declaration<'s> {
         None
     }
 
-    /// Whether a token stands in a statement that begins as an equation does.
-    pub fn is_equation_at(&self, at: usize) -> bool {
-        match self.statement_at(at) {
-            Some(statement) => self.sign_of(statement).is_some(),
-            None => false,
-        }
-    }
-
     /// The names that it declares: of a node its own, and all of what opens no declaration.
     pub fn names(&self, alloc: Global) -> Result<Vec<&'s str>, AllocError> {
         let mut names = Vec::new(alloc);
         let mut braces = 0;
         let mut is_listed = self.tokens.first().is_some_and(|first| !opens(first));
-        let mut is_next = self.is_node;
+        let mut is_next = false;
         for token in &self.tokens {
             match token.kind {
                 TokenKind::Identifier(name) if is_listed || (is_next && braces == 0) => {
@@ -138,12 +126,11 @@ impl<'s> Declaration<'s> {
                 _ => {}
             }
             braces = braces_behind(braces, token);
-            is_next = self.is_node
-                || opens(token)
-                || matches!(
-                    token.kind,
-                    TokenKind::Punctuation(Symbol::Semicolon | Symbol::Comma)
-                );
+            let is_behind = matches!(
+                token.kind,
+                TokenKind::Punctuation(Symbol::Semicolon | Symbol::Comma)
+            );
+            is_next = is_behind || opens(token);
         }
         Ok(names)
     }

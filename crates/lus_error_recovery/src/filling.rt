@@ -118,19 +118,17 @@ fn push_values(
     Ok(())
 }
 
-/// Gives values of their types to the variables without equations, in the nodes whose names begin at some bytes, or in all others; as long
-/// as there is room for so many parts.
+/// Gives values of their types to the variables without equations, in the nodes with a flag; as long as there is room for so many parts.
 pub(crate) fn fill(
     alloc: Global,
     tree: &mut Tree,
-    bytes: &[usize],
-    is_there: bool,
+    flags: &[bool],
     room: &mut usize,
 ) -> Result<(), AllocError> {
     let mut all = Vec::new(alloc);
-    for node in &tree.nodes {
+    for (node, is_filled) in tree.nodes.iter().zip(flags.iter()) {
         let mut added = Vec::new(alloc);
-        if bytes.contains(&node.name.span.start.byte) == is_there {
+        if *is_filled {
             let defined = defined_in(alloc, node)?;
             push_values(alloc, tree, &node.outputs, &defined, room, &mut added)?;
             push_values(alloc, tree, &node.locals, &defined, room, &mut added)?;

@@ -12,6 +12,6 @@ mod taking;
 mod told;
 mod window;
 
-pub use rest::{Rest, reads_on};
+pub use rest::Rest;
 pub use told::Told;
 pub use window::Window;

@@ -1,6 +1,7 @@
 //! Parts of a source: a declaration, with as much of the others as a pass reads of them.
 
 use crate::declarations::Declaration;
+use crate::passes::in_memory;
 use crate::reading::tokens_from;
 use crate::rest::Rest;
 use indexmap::IndexMap;
@@ -35,6 +36,14 @@ pub(crate) fn names_of(
     Ok(names)
 }
 
+/// How many of some tokens begin before a byte.
+pub(crate) fn count_before(tokens: &[Token<'_>], byte: usize) -> usize {
+    tokens
+        .iter()
+        .take_while(|token| token.span.start.byte < byte)
+        .count()
+}
+
 /// Whether a byte is one of some tokens, or between them.
 pub(crate) fn is_among(tokens: &[Token<'_>], byte: usize) -> bool {
     match (tokens.first(), tokens.last()) {
@@ -45,8 +54,8 @@ pub(crate) fn is_among(tokens: &[Token<'_>], byte: usize) -> bool {
     }
 }
 
-/// Tokens of a declaration after a change of the source: what it puts in stands where the first token did that it takes out, or before
-/// which it is put in. A change elsewhere is none.
+/// Tokens of a declaration after a change of the source: what it puts in stands where the first token did that begins there or behind. A
+/// change elsewhere is none.
 fn changed<'p>(
     alloc: Global,
     tokens: Vec<Token<'p>>,
@@ -55,33 +64,26 @@ fn changed<'p>(
     if !is_among(&tokens, edit.byte) {
         return Ok(tokens);
     }
-    let end = edit.byte.saturating_add(edit.length);
+    let from = count_before(&tokens, edit.byte);
+    let to = count_before(&tokens, edit.byte.saturating_add(edit.length));
     let mut changed = Vec::new(alloc);
-    let mut is_made = false;
-    for token in &tokens {
-        let at = token.span.start;
-        let is_gone = edit.byte <= at.byte && at.byte < end;
-        if !is_made && (is_gone || edit.length == 0 && edit.byte <= at.byte) {
-            is_made = true;
-            if let Ok(made) = tokens_from(alloc, &edit.text, at) {
-                changed.extend_from_slice(&made)?;
-            }
-        }
-        if !is_gone {
-            changed.push(*token)?;
-        }
+    changed.extend_from_slice(tokens.get(..from).unwrap_or(&[]))?;
+    if let Some(first) = tokens.get(from)
+        && let Ok(made) = in_memory(tokens_from(alloc, &edit.text, first.span.start))?
+    {
+        changed.extend_from_slice(&made)?;
     }
+    changed.extend_from_slice(tokens.get(to..).unwrap_or(&[]))?;
     Ok(changed)
 }
 
-/// How many tokens of a node stand before its locals and its equations.
-fn head_of(tokens: &[Token<'_>]) -> usize {
-    for (place, token) in tokens.iter().enumerate() {
-        if let TokenKind::Keyword(Word::Var | Word::Let) = token.kind {
-            return place;
-        }
-    }
-    tokens.len()
+/// The tokens of a node that stand before its locals and its equations.
+fn head_of<'t, 'p>(tokens: &'t [Token<'p>]) -> &'t [Token<'p>] {
+    let count = tokens
+        .iter()
+        .take_while(|token| !matches!(token.kind, TokenKind::Keyword(Word::Var | Word::Let)))
+        .count();
+    tokens.get(..count).unwrap_or(tokens)
 }
 
 impl Rest<'_> {
@@ -125,15 +127,34 @@ impl Rest<'_> {
             {
                 *flag = true;
                 if let Some(found) = self.declarations.get(place) {
-                    let head = found
-                        .tokens
-                        .get(..head_of(&found.tokens))
-                        .unwrap_or(&found.tokens);
-                    open.extend_from_slice(head)?;
+                    open.extend_from_slice(head_of(&found.tokens))?;
                 }
             }
         }
         Ok(flags)
+    }
+
+    /// The tokens of a declaration that say what it declares: a node has no equations then.
+    fn declared<'p>(
+        &'p self,
+        alloc: Global,
+        place: usize,
+        tried: Option<&'p Edit>,
+    ) -> Result<Vec<Token<'p>>, AllocError> {
+        let tokens = self.tokens_of(alloc, place, tried)?;
+        let mut declared = Vec::new(alloc);
+        declared.extend_from_slice(head_of(&tokens))?;
+        let is_node = self
+            .declarations
+            .get(place)
+            .is_some_and(|found| found.is_node);
+        if is_node && let Some(last) = tokens.last().copied() {
+            for word in [Word::Let, Word::Tel] {
+                let kind = TokenKind::Keyword(word);
+                declared.push(Token { kind, ..last })?;
+            }
+        }
+        Ok(declared)
     }
 
     /// The tokens of the part with the declaration at a place. Nodes beside it have no equations, unless it is all that is left.
@@ -147,25 +168,13 @@ impl Rest<'_> {
         let mut part = Vec::new(alloc);
         let whole = self.tokens_of(alloc, own, tried)?;
         let needed = self.needed(alloc, &whole)?;
-        for (place, declaration) in self.declarations.iter().enumerate() {
-            let is_needed = needed.get(place).copied().unwrap_or(false);
+        for (place, is_needed) in needed.iter().enumerate() {
             if place == own {
                 part.extend_from_slice(&whole)?;
-            } else if is_needed || beside != Beside::Needed {
-                let tokens = self.tokens_of(alloc, place, tried)?;
-                if beside == Beside::Whole {
-                    part.extend_from_slice(&tokens)?;
-                    continue;
-                }
-                part.extend_from_slice(tokens.get(..head_of(&tokens)).unwrap_or(&tokens))?;
-                if declaration.is_node
-                    && let Some(last) = tokens.last().copied()
-                {
-                    for word in [Word::Let, Word::Tel] {
-                        let kind = TokenKind::Keyword(word);
-                        part.push(Token { kind, ..last })?;
-                    }
-                }
+            } else if beside == Beside::Whole {
+                part.extend_from_slice(&self.tokens_of(alloc, place, tried)?)?;
+            } else if *is_needed || beside == Beside::Declared {
+                part.extend_from_slice(&self.declared(alloc, place, tried)?)?;
             }
         }
         Ok(part)

@@ -45,6 +45,15 @@ fn pass_of(number: RefusalNumber) -> u32 {
     }
 }
 
+/// A refusal with a number at a line and a column, with no cycle.
+pub(crate) fn refused_at(number: RefusalNumber, line: usize, column: usize) -> Refusal {
+    if number == RefusalNumber::Memory {
+        Refusal::memory()
+    } else {
+        Refusal::new(number, line, column)
+    }
+}
+
 /// Whether a pass refuses with a number that reads tokens or grammar.
 pub(crate) fn is_of_grammar(number: RefusalNumber) -> bool {
     pass_of(number) < 3

@@ -1,5 +1,6 @@
 //! The tokens of a source that may have what is no token.
 
+use crate::passes::in_memory;
 use lus_faults::{bytes_at, offset_of};
 use lus_syntax::{Place, Refusal, RefusalNumber, Span, Token, lex, place_behind};
 use std::alloc::{AllocError, Global};
@@ -7,12 +8,11 @@ use std::alloc::{AllocError, Global};
 /// The most places of a source at which no token begins that are passed over.
 const MOST_UNREAD: usize = 20;
 
-/// What no token is made of: the number that refuses it, where it stands, and the place of the declaration there.
+/// What no token is made of: the number that refuses it, and where it stands.
 #[derive(Clone, Copy)]
 pub(crate) struct Unread {
     pub number: RefusalNumber,
     pub span: Span,
-    pub declaration: usize,
 }
 
 /// What a source has: its tokens, and what none is made of.
@@ -54,36 +54,18 @@ fn width_of(text: &str) -> usize {
     if text.starts_with("(*") || text.starts_with("/*") {
         return text.len();
     }
-    let mut is_word = true;
-    for (width, byte) in text.as_bytes().iter().enumerate() {
-        let is_letter = byte.is_ascii_alphanumeric() || *byte == b'_';
-        let is_later = *byte >= 128 && *byte < 192;
-        if width > 0 && !is_later && !(is_word && is_letter) {
-            return width;
-        }
-        is_word = is_word && is_letter;
+    let word = text
+        .as_bytes()
+        .iter()
+        .take_while(|byte| byte.is_ascii_alphanumeric() || **byte == b'_')
+        .count();
+    match text.chars().next() {
+        Some(first) if word == 0 => first.len_utf8(),
+        _ => word,
     }
-    text.len()
 }
 
 impl<'s> Reading<'s> {
-    /// Adds the tokens of a part of the source that begins at a place. Gives the refusal of what is no token in it.
-    fn add(
-        &mut self,
-        alloc: Global,
-        part: &'s str,
-        base: Place,
-    ) -> Result<Option<Refusal>, AllocError> {
-        match tokens_from(alloc, part, base) {
-            Ok(tokens) => {
-                self.tokens.extend_from_slice(&tokens)?;
-                Ok(None)
-            }
-            Err(refusal) if refusal.number == RefusalNumber::Memory => Err(AllocError),
-            Err(refusal) => Ok(Some(refusal)),
-        }
-    }
-
     /// Reads a source on from a place, up to what is no token. Says where that is left behind, if there is more.
     fn read_on(
         &mut self,
@@ -92,24 +74,27 @@ impl<'s> Reading<'s> {
         base: Place,
     ) -> Result<Option<Place>, AllocError> {
         let rest = bytes_at(source, base.byte, source.len()).unwrap_or("");
-        let Some(refusal) = self.add(alloc, rest, base)? else {
-            return Ok(None);
+        let refusal = match in_memory(tokens_from(alloc, rest, base))? {
+            Ok(tokens) => {
+                self.tokens.extend_from_slice(&tokens)?;
+                return Ok(None);
+            }
+            Err(refusal) => refusal,
         };
         let at = offset_of(rest, refusal.line, refusal.column);
-        let _all = self.add(alloc, bytes_at(rest, 0, at).unwrap_or(""), base)?;
+        let before = bytes_at(rest, 0, at).unwrap_or("");
+        if let Ok(tokens) = in_memory(tokens_from(alloc, before, base))? {
+            self.tokens.extend_from_slice(&tokens)?;
+        }
         let wrong = bytes_at(rest, at, rest.len()).unwrap_or("");
         let length = width_of(wrong);
-        let start = moved(base, place_behind(rest.as_bytes().get(..at).unwrap_or(&[])));
-        let width = place_behind(wrong.as_bytes().get(..length).unwrap_or(&[]));
-        let number = refusal.number;
-        let span = Span { start, length };
-        let declaration = 0;
+        let start = moved(base, place_behind(before.as_bytes()));
         self.unread.push(Unread {
-            number,
-            span,
-            declaration,
+            number: refusal.number,
+            span: Span { start, length },
         })?;
-        Ok(Some(moved(start, width)))
+        let width = bytes_at(wrong, 0, length).unwrap_or(wrong);
+        Ok(Some(moved(start, place_behind(width.as_bytes()))))
     }
 }
 

@@ -3,13 +3,13 @@
 use crate::declarations::{Declaration, declarations_of};
 use crate::filling::fill;
 use crate::parts::{Beside, Names, names_of};
-use crate::passes::{check_tree, in_memory, is_later, is_of_grammar};
-use crate::reading::{Unread, reading_of};
+use crate::passes::{check_tree, in_memory, is_later, is_of_grammar, refused_at};
+use crate::reading::{Reading, Unread, reading_of};
 use crate::taking::Fault;
 use crate::window::{Window, window_of};
-use lus_faults::{Edit, edited};
+use lus_faults::Edit;
 use lus_grammar::parse;
-use lus_syntax::{Place, Refusal, RefusalNumber, Tree, lex};
+use lus_syntax::{Node, Place, Refusal, RefusalNumber, Tree};
 use std::alloc::{AllocError, Global};
 
 /// How often the tokens of a source are checked again while faults are looked for, and how many tokens are where that is less. Reading
@@ -39,60 +39,45 @@ pub struct Rest<'s> {
 impl<'s> Rest<'s> {
     /// All of a source.
     pub fn new(alloc: Global, source: &'s str) -> Result<Rest<'s>, AllocError> {
-        let reading = reading_of(alloc, source)?;
-        let declarations = declarations_of(alloc, &reading.tokens)?;
-        let mut rest = Rest {
+        let Reading { tokens, unread } = reading_of(alloc, source)?;
+        let declarations = declarations_of(alloc, &tokens)?;
+        Ok(Rest {
             source,
             names: names_of(alloc, &declarations)?,
             declarations,
-            left: LEAST_TOKENS.max(reading.tokens.len().saturating_mul(MOST_CHECKS)),
-            unread: Vec::new(alloc),
+            unread,
             edits: Vec::new(alloc),
             lost: Vec::new(alloc),
             found: Vec::new(alloc),
             step: 0,
-        };
-        for unread in &reading.unread {
-            let start = unread.span.start;
-            let declaration = rest.declaration_at(start.line, start.column);
-            rest.unread.push(Unread {
-                declaration,
-                ..*unread
-            })?;
-        }
-        Ok(rest)
+            left: LEAST_TOKENS.max(tokens.len().saturating_mul(MOST_CHECKS)),
+        })
     }
 
     /// The place of the last declaration that doesn't begin behind a line and a column.
     pub(crate) fn declaration_at(&self, line: usize, column: usize) -> usize {
-        let mut found = 0;
-        for (place, declaration) in self.declarations.iter().enumerate() {
-            let start = declaration.start;
-            if start.line > line || (start.line == line && start.column > column) {
-                return found;
-            }
-            found = place;
-        }
-        found
+        let count = self
+            .declarations
+            .iter()
+            .take_while(|declaration| {
+                let start = declaration.start;
+                start.line < line || (start.line == line && start.column <= column)
+            })
+            .count();
+        count.saturating_sub(1)
     }
 
     /// What is no token in a declaration, and wasn't found before.
     fn unread_in(&self, place: usize) -> Option<Refusal> {
         for unread in &self.unread {
-            let (line, column) = (unread.span.start.line, unread.span.start.column);
-            if unread.declaration == place
+            let Place { line, column, .. } = unread.span.start;
+            if self.declaration_at(line, column) == place
                 && !self
                     .found
                     .iter()
                     .any(|other| other.line == line && other.column == column)
             {
-                return Some(match unread.number {
-                    RefusalNumber::Lexical => Refusal::new(RefusalNumber::Lexical, line, column),
-                    RefusalNumber::Unsupported => {
-                        Refusal::new(RefusalNumber::Unsupported, line, column)
-                    }
-                    _ => Refusal::new(RefusalNumber::Limit, line, column),
-                });
+                return Some(refused_at(unread.number, line, column));
             }
         }
         None
@@ -111,38 +96,26 @@ impl<'s> Rest<'s> {
             return Ok(None);
         };
         let at = declaration.place_at(refusal.line, refusal.column);
-        let (mut line, mut column) = (refusal.line, refusal.column);
-        if let Some(next) = self.declarations.get(place.saturating_add(1))
-            && at >= declaration.tokens.len()
-        {
-            line = next.start.line;
-            column = next.start.column;
+        match self.declarations.get(place.saturating_add(1)) {
+            Some(next) if at >= declaration.tokens.len() => {
+                let Place { line, column, .. } = next.start;
+                Ok(Some(refused_at(refusal.number, line, column)))
+            }
+            _ => Ok(Some(refusal)),
         }
-        Ok(Some(Refusal {
-            number: refusal.number,
-            line,
-            column,
-            cycle: refusal.cycle,
-        }))
     }
 
-    /// Where the names of some nodes begin: of a declaration unless its variables have values, or of those whose variables have.
-    fn names_at(
-        &self,
-        alloc: Global,
-        own: usize,
-        is_whole: bool,
-    ) -> Result<Vec<usize>, AllocError> {
-        let mut bytes = Vec::new(alloc);
-        for (place, declaration) in self.declarations.iter().enumerate() {
-            if declaration.is_filled == is_whole
-                && (is_whole || place == own)
-                && let Some(name) = declaration.tokens.get(1)
-            {
-                bytes.push(name.span.start.byte)?;
-            }
-        }
-        Ok(bytes)
+    /// Whether the variables without equations of a node in a part have values: they do of a declaration from which a statement was
+    /// taken out, and of nodes beside a part's own.
+    fn is_filled(&self, node: &Node, own: usize, beside: Beside) -> bool {
+        let start = node.name.span.start;
+        let place = self.declaration_at(start.line, start.column);
+        let is_beside = place != own && beside != Beside::Whole;
+        is_beside
+            || self
+                .declarations
+                .get(place)
+                .is_some_and(|found| found.is_filled)
     }
 
     /// The tree of a part. Of all others than its own declaration the variables have values, unless it is all that is left.
@@ -163,9 +136,11 @@ impl<'s> Rest<'s> {
             Ok(tree) => tree,
             Err(refusal) => return Ok(Err(refusal)),
         };
-        let is_whole = beside == Beside::Whole;
-        let bytes = self.names_at(alloc, own, is_whole)?;
-        fill(alloc, &mut tree, &bytes, is_whole, &mut self.left)?;
+        let mut flags = Vec::new(alloc);
+        for node in &tree.nodes {
+            flags.push(self.is_filled(node, own, beside))?;
+        }
+        fill(alloc, &mut tree, &flags, &mut self.left)?;
         Ok(Ok(tree))
     }
 
@@ -188,7 +163,13 @@ impl<'s> Rest<'s> {
         }
     }
 
-    /// The refusal that a step finds: none that is of a limit, or of another declaration than its own.
+    /// Whether a part's refusal is told of it: it is of no limit, and of no other declaration than the part's own.
+    fn is_of_part(&self, refusal: &Refusal, own: usize, beside: Beside) -> bool {
+        refusal.number != RefusalNumber::Limit
+            && (beside == Beside::Whole || self.declaration_at(refusal.line, refusal.column) == own)
+    }
+
+    /// The refusal that a step finds, if its part tells one.
     fn refusal_at(&mut self, alloc: Global, step: usize) -> Result<Option<Refusal>, AllocError> {
         let count = self.declarations.len();
         if step < count {
@@ -201,11 +182,7 @@ impl<'s> Rest<'s> {
             Beside::Whole
         };
         match self.check(alloc, own, beside, None)? {
-            Err(refusal) if refusal.number != RefusalNumber::Limit => {
-                let here = self.declaration_at(refusal.line, refusal.column);
-                let is_own = here == own || beside == Beside::Whole;
-                Ok(if is_own { Some(refusal) } else { None })
-            }
+            Err(refusal) if self.is_of_part(&refusal, own, beside) => Ok(Some(refusal)),
             _ => Ok(None),
         }
     }
@@ -244,8 +221,16 @@ impl<'s> Rest<'s> {
         Ok(None)
     }
 
-    /// The text by which a refusal is told of tokens or of grammar: its declaration and the one before, without what was taken out.
-    pub fn window(&mut self, alloc: Global, refusal: &Refusal) -> Result<Window, AllocError> {
+    /// The text by which a refusal is told of tokens, of grammar or of a limit: its declaration and the one before, without what was
+    /// taken out.
+    pub fn window(
+        &mut self,
+        alloc: Global,
+        refusal: &Refusal,
+    ) -> Result<Option<Window>, AllocError> {
+        if !is_of_grammar(refusal.number) && refusal.number != RefusalNumber::Limit {
+            return Ok(None);
+        }
         let here = self.declaration_at(refusal.line, refusal.column);
         let before = here.saturating_sub(1);
         let start = match self.declarations.get(before) {
@@ -263,7 +248,7 @@ impl<'s> Rest<'s> {
                 window.blank(&declaration.taken);
             }
         }
-        Ok(window)
+        Ok(Some(window))
     }
 
     /// The tree by which a refusal is told that is of a pass over it: the declaration there, with as much of others as it needs.
@@ -288,21 +273,4 @@ impl<'s> Rest<'s> {
         let found = self.check(alloc, own, Beside::Needed, Some(edit))?.err();
         Ok(is_later(&found, refusal))
     }
-}
-
-/// Whether a change of a text helps against a refusal of its tokens or its grammar: it has none then, or one further on.
-pub fn reads_on(
-    alloc: Global,
-    text: &str,
-    refusal: &Refusal,
-    edit: &Edit,
-) -> Result<bool, AllocError> {
-    let Some(changed) = edited(alloc, text, edit)? else {
-        return Ok(false);
-    };
-    let found = match in_memory(lex(alloc, &changed))? {
-        Ok(tokens) => in_memory(parse(alloc, &tokens))?.err(),
-        Err(refusal) => Some(refusal),
-    };
-    Ok(is_later(&found, refusal))
 }

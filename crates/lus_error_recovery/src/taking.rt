@@ -1,6 +1,6 @@
 //! How faults are taken out of what is left of a source, and which only follow from others.
 
-use crate::parts::is_among;
+use crate::parts::{count_before, is_among};
 use crate::passes::is_of_grammar;
 use crate::rest::Rest;
 use lus_faults::{Edit, Finding, slice_of};
@@ -68,7 +68,7 @@ impl<'s> Rest<'s> {
             let start = declaration.start;
             is_opened = start.line == line && start.column == column;
             at = declaration.place_at(line, column);
-            is_in_equation = declaration.is_equation_at(at);
+            is_in_equation = declaration.sign_at(at).is_some();
         }
         let is_before = is_opened && refusal.number == RefusalNumber::Syntax;
         Fault {
@@ -114,16 +114,13 @@ impl<'s> Rest<'s> {
         if !is_among(&declaration.tokens, edit.byte) {
             return false;
         }
-        let at = declaration
-            .tokens
-            .iter()
-            .take_while(|token| token.span.start.byte < edit.byte)
-            .count();
-        match (fault.number, declaration.statement_at(at)) {
-            (RefusalNumber::Name, Some(statement)) => {
-                declaration.sign_of(statement).unwrap_or(0) > at
+        let at = count_before(&declaration.tokens, edit.byte);
+        let is_outside = declaration.statement_at(at).is_none();
+        match fault.number {
+            RefusalNumber::Name => {
+                is_outside || declaration.sign_at(at).is_some_and(|sign| sign > at)
             }
-            (RefusalNumber::Name | RefusalNumber::Type | RefusalNumber::Clock, None) => true,
+            RefusalNumber::Type | RefusalNumber::Clock => is_outside,
             _ => false,
         }
     }

@@ -1,7 +1,9 @@
 //! Parts of a source as texts of their own, by which faults of tokens and of grammar are told.
 
-use lus_faults::Finding;
-use lus_syntax::{Place, Span};
+use crate::passes::{in_memory, is_later};
+use lus_faults::{Edit, Finding, edited};
+use lus_grammar::parse;
+use lus_syntax::{Place, Refusal, Span, lex};
 use std::alloc::{AllocError, Global};
 use std::str;
 
@@ -48,6 +50,18 @@ impl Window {
                 }
             }
         }
+    }
+
+    /// Whether a change of the text helps against a refusal: it is read then, or refused further on.
+    pub fn helps(&self, alloc: Global, refusal: &Refusal, edit: &Edit) -> Result<bool, AllocError> {
+        let Some(changed) = edited(alloc, self.text(), edit)? else {
+            return Ok(false);
+        };
+        let found = match in_memory(lex(alloc, &changed))? {
+            Ok(tokens) => in_memory(parse(alloc, &tokens))?.err(),
+            Err(refusal) => Some(refusal),
+        };
+        Ok(is_later(&found, refusal))
     }
 
     /// A finding of the text, for the source.

@@ -1,3 +1,2 @@
-pub mod Blanks
 pub mod Statuses
 pub use Rattle.lus_cli.proofs as CliProofs

@@ -9,7 +9,8 @@ use Rattle.lus_syntax.specs.declared.refusal.RefusalNumber.{RefusalNumber}
 use Rattle.lus_syntax.specs.declared.refusal.RefusalNumber.TheVariants as numbers
 use Rattle.lus_cli.specs.MachineSpecs.Acceptance.{RefusedWith}
 use Rattle.lus_cli.specs.HostSpecs.Sources.{IsNoText}
-use Rattle.lus_reports.specs.Lines.{blanks, line_at}
+use Rattle.lus_citing.specs.Citing.{pointed}
+use Rattle.lus_reports.specs.Lines.{line_at}
 
 -- the bytes are no text, which has no lines to show, or a text whose refusal, unless out of memory, is its own, and the line
 -- is that of the refusal
@@ -42,10 +43,10 @@ pub record Telling : Type 0 where
 abbrev pub error_text : RefusalNumber → Text → Text
 error_text number sentence = codes "error " ++ number_text number ++ codes ": " ++ sentence ++ codes "\n"
 
--- the line, a caret under the column, and those behind it
+-- what is shown of the line, a caret under the column, and those behind it
 abbrev pub line_text : Option Text → ℕ → Text → Text
 line_text None column marks = []
-line_text (Some line) column marks = line ++ codes "\n" ++ blanks line column ++ codes "^" ++ marks ++ codes "\n"
+line_text (Some line) column marks = pointed line column ++ codes "^" ++ marks ++ codes "\n"
 
 -- the variables of a cycle
 abbrev pub cycle_line : List Text → Text

@@ -8,10 +8,11 @@ use crate::explanation::Explanation;
 use crate::further::{push_fault, push_sections};
 use crate::sentences::{fault_of, sentence_of};
 use crate::shown::{Shown, shown_of};
-use lus_causes::lus_faults::{Finding, further_marks, push_finding};
+use lus_causes::lus_faults::{Finding, lines_of};
 use lus_causes::{finding_of, spelling_finding};
+use lus_citing::{further_marks, push_finding};
 use lus_cli::lus_host::text_of;
-use lus_error_recovery::{Rest, Told, reads_on};
+use lus_error_recovery::{Rest, Told};
 use lus_syntax::{Refusal, RefusalNumber};
 use std::alloc::{AllocError, Global};
 
@@ -46,12 +47,14 @@ fn spelled_finding(
     rest: &mut Rest<'_>,
     refusal: &Refusal,
 ) -> Result<Option<Finding>, AllocError> {
-    let window = rest.window(alloc, refusal)?;
+    let Some(window) = rest.window(alloc, refusal)? else {
+        return Ok(None);
+    };
     let Some(finding) = spelling_finding(alloc, window.text(), refusal)? else {
         return Ok(None);
     };
     let is_helpful = match &finding.edit {
-        Some(edit) => reads_on(alloc, window.text(), refusal, edit)?,
+        Some(edit) => window.helps(alloc, refusal, edit)?,
         None => true,
     };
     Ok(Some(window.further_on(kept(finding, is_helpful))))
@@ -153,10 +156,11 @@ pub fn detail_of<'s>(
 {
     let source = text_of(bytes).unwrap_or("");
     let (finding, others) = findings_of(alloc, bytes, &explanation.refusal)?;
+    let lines = lines_of(alloc, source)?;
     let mut more = String::new(alloc);
-    push_finding(alloc, &mut more, name, source, &finding)?;
+    push_finding(alloc, &mut more, name, source, &lines, &finding)?;
     for told in &others {
-        push_fault(alloc, &mut more, name, source, told)?;
+        push_fault(alloc, &mut more, name, source, &lines, told)?;
     }
     push_sections(&mut more, &explanation.refusal, &others)?;
     let shown = shown_of(bytes, explanation, finding.place);

@@ -1,7 +1,7 @@
 //! What is said of faults behind the first.
 
-use crate::lines::line_at;
-use lus_causes::lus_faults::{Position, push_finding, push_marked};
+use lus_causes::lus_faults::{Lines, Position};
+use lus_citing::{push_finding, push_marked};
 use lus_error_recovery::Told;
 use lus_syntax::Refusal;
 use std::alloc::{AllocError, Global};
@@ -12,6 +12,7 @@ pub(crate) fn push_fault(
     text: &mut String,
     name: &str,
     source: &str,
+    lines: &Lines<'_>,
     told: &Told,
 ) -> Result<(), AllocError> {
     let refusal = &told.refusal;
@@ -22,14 +23,14 @@ pub(crate) fn push_fault(
         text,
         "\n{name}:{line}:{column}: error {number}: {sentence}\n"
     )?;
-    if let Some(shown) = line_at(source, line) {
+    if let Some(shown) = lines.line(line) {
         push_marked(alloc, text, shown, column, told.finding.length)?;
     }
     let cycle = &refusal.cycle;
     if !cycle.names().is_empty() {
         write!(text, "{cycle}\n")?;
     }
-    push_finding(alloc, text, name, source, &told.finding)
+    push_finding(alloc, text, name, source, lines, &told.finding)
 }
 
 /// Appends which sections of the documents say more of the first fault and of others: each once, in the order of the faults.

@@ -5,8 +5,8 @@ ghost use Rattle.lus_reports.specs.Explanations.{cycle_line, error_text, line_te
 ghost use Rattle.lus_reports.specs.Details.{detail_seen, shown_seen};
 
 use crate::detail::Detail;
-use crate::lines::blanks;
 use crate::shown::Shown;
+use lus_citing::pointed;
 use lus_syntax::Refusal;
 use std::alloc::{AllocError, Global};
 
@@ -31,7 +31,7 @@ fn push_fault(report: &mut String, refusal: &Refusal, detail: &Detail<'_>) -> Re
     Ok(())
 }
 
-/// The line, a caret under the column, and those behind it.
+/// What is shown of the line, a caret under the column, and those behind it.
 fn push_line(
     alloc: Global,
     report: &mut String,
@@ -44,8 +44,8 @@ fn push_line(
     let Some(line) = shown.text else {
         return Ok(());
     };
-    let blanks = blanks(alloc, line, shown.column)?;
-    write!(report, "{line}\n{blanks}^{marks}\n")
+    let cited = pointed(alloc, line, shown.column)?;
+    write!(report, "{cited}^{marks}\n")
 }
 
 /// The variables of a cycle.
