@@ -12,11 +12,13 @@ use std::alloc::{AllocError, Global};
 /// For each name the place of the first declaration that declares it.
 pub(crate) type Names = IndexMap<String, usize>;
 
-/// What a part has beside its own declaration: of those that this one needs what they declare, of all others what they declare, or all.
+/// What a part has beside its own declaration: of those that this one needs what they declare; what all others declare; those that this one
+/// leads to, with their equations; or all.
 #[derive(Clone, Copy, PartialEq, Eq)]
 pub(crate) enum Beside {
     Needed,
     Declared,
+    Reached,
     Whole,
 }
 
@@ -107,8 +109,13 @@ impl Rest<'_> {
         }
     }
 
-    /// Which declarations the names among some tokens need, directly or by others.
-    fn needed<'p>(&'p self, alloc: Global, tokens: &[Token<'p>]) -> Result<Vec<bool>, AllocError> {
+    /// Which declarations the names among some tokens need, directly or by others: by all of these, or by what they declare.
+    fn needed<'p>(
+        &'p self,
+        alloc: Global,
+        tokens: &[Token<'p>],
+        is_whole: bool,
+    ) -> Result<Vec<bool>, AllocError> {
         let mut flags = Vec::new(alloc);
         for _declaration in &self.declarations {
             flags.push(false)?;
@@ -127,7 +134,8 @@ impl Rest<'_> {
             {
                 *flag = true;
                 if let Some(found) = self.declarations.get(place) {
-                    open.extend_from_slice(head_of(&found.tokens))?;
+                    let all = found.tokens.as_slice();
+                    open.extend_from_slice(if is_whole { all } else { head_of(all) })?;
                 }
             }
         }
@@ -167,11 +175,11 @@ impl Rest<'_> {
     ) -> Result<Vec<Token<'p>>, AllocError> {
         let mut part = Vec::new(alloc);
         let whole = self.tokens_of(alloc, own, tried)?;
-        let needed = self.needed(alloc, &whole)?;
+        let needed = self.needed(alloc, &whole, beside == Beside::Reached)?;
         for (place, is_needed) in needed.iter().enumerate() {
             if place == own {
                 part.extend_from_slice(&whole)?;
-            } else if beside == Beside::Whole {
+            } else if beside == Beside::Whole || *is_needed && beside == Beside::Reached {
                 part.extend_from_slice(&self.tokens_of(alloc, place, tried)?)?;
             } else if *is_needed || beside == Beside::Declared {
                 part.extend_from_slice(&self.declared(alloc, place, tried)?)?;

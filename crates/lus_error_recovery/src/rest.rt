@@ -256,7 +256,8 @@ impl<'s> Rest<'s> {
         let own = self.fault_of(refusal).declaration;
         let beside = match refusal.number {
             RefusalNumber::Name => Beside::Declared,
-            RefusalNumber::Recursion | RefusalNumber::Limit => Beside::Whole,
+            RefusalNumber::Recursion => Beside::Reached,
+            RefusalNumber::Limit => Beside::Whole,
             _ => Beside::Needed,
         };
         Ok(self.read(alloc, own, beside, None)?.ok())
