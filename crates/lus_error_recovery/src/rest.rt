@@ -105,12 +105,12 @@ impl<'s> Rest<'s> {
         }
     }
 
-    /// Whether the variables without equations of a node in a part have values: they do of a declaration from which a statement was
-    /// taken out, and of nodes beside a part's own.
+    /// Whether a node's variables without equations have values in a part: where a statement was taken out of the node, and where the part
+    /// has its head alone, to be checked.
     fn is_filled(&self, node: &Node, own: usize, beside: Beside) -> bool {
         let start = node.name.span.start;
         let place = self.declaration_at(start.line, start.column);
-        let is_beside = place != own && beside != Beside::Whole;
+        let is_beside = place != own && beside == Beside::Needed;
         is_beside
             || self
                 .declarations
@@ -187,14 +187,19 @@ impl<'s> Rest<'s> {
         }
     }
 
-    /// The first refusal of what is left, as long as not too much was read. All together is read only where the passes over names weren't
-    /// run before.
+    /// The first refusal of what is left, as long as not too much was read. Grammar is read again only where it is at fault, and all
+    /// together only where the passes over names weren't run before.
     fn refusal(&mut self, alloc: Global) -> Result<Option<Refusal>, AllocError> {
-        let is_unread = self.found.iter().any(|fault| {
-            is_of_grammar(fault.number) || fault.number == RefusalNumber::Name
-        });
-        let last = self.declarations.len().saturating_mul(2);
-        for step in self.step..last.saturating_add(usize::from(is_unread)) {
+        let count = self.declarations.len();
+        let is_misspelt = self.found.iter().any(|fault| is_of_grammar(fault.number));
+        let is_misnamed = self
+            .found
+            .iter()
+            .any(|fault| fault.number == RefusalNumber::Name);
+        let first = if is_misspelt { 0 } else { count };
+        let parts = count.saturating_mul(2);
+        let last = parts.saturating_add(usize::from(is_misspelt || is_misnamed));
+        for step in self.step.max(first)..last {
             self.step = step;
             if self.left == 0 {
                 return Ok(None);
