@@ -73,14 +73,21 @@ pub fn limit_cause(
     Ok(None)
 }
 
-/// What is said of a text with an expression that is too deep; nothing of others.
-pub fn depth_cause(alloc: Global, source: &str) -> Result<Option<Finding>, AllocError> {
+/// Whether a text spells no tree that is within the limit of depth.
+fn is_too_deep(alloc: Global, source: &str) -> bool {
     let Ok(tokens) = lex(alloc, source) else {
-        return Ok(None);
+        return false;
     };
     match parse(alloc, &tokens) {
-        Err(found) if found.number == RefusalNumber::Limit => {}
-        _ => return Ok(None),
+        Ok(_) => false,
+        Err(found) => found.number == RefusalNumber::Limit,
+    }
+}
+
+/// What is said of a text with an expression that is too deep; nothing of others.
+pub fn depth_cause(alloc: Global, source: &str) -> Result<Option<Finding>, AllocError> {
+    if !is_too_deep(alloc, source) {
+        return Ok(None);
     }
     let sentence = format!(in alloc; "this expression is nested more than {MOST_DEPTH} deep")?;
     let finding = Finding::new(alloc, sentence, 1);
