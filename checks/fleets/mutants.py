@@ -5,7 +5,7 @@ import re
 from dataclasses import dataclass, replace
 from pathlib import Path
 
-from kinds import AGAIN, ASLEEP, CALM, DOOR, FOLLOW, GAP, HOSTILE, KEPT, LEASES, LOST, MISREAD, POISON, SLOW
+from kinds import AGAIN, ASLEEP, CALM, DOOR, FOLLOW, GAP, HOSTILE, KEPT, LAPSED, LEASES, LOST, MISREAD, POISON, SLOW
 from trials import FLEET, Plan
 
 
@@ -79,6 +79,8 @@ MUTANTS = [
            CALM, "its host ends at once", "ends"),
     Mutant("who followed reads all anew", "worker.py", "if self.followed and self.followed.number == lease.partition:", "if not lease:",
            FOLLOW, "reads none of them again", "follow"),
+    Mutant("a host ends with its lease to follow", "worker.py", "        self.keep(partition, following.seconds)\n", "        self.stop_following()\n",
+           LAPSED, "a worker whose lease to follow ended goes on with its host", "lapsed"),
     Mutant("what is given up isn't in the log", "service.py", "        self.append([reply])\n", "", POISON, "some requests are given up",
            "poison"),
     Mutant("what ends hosts isn't given up", "service.py", "self.blamed[request.key] >= MOST_BLAMES", "self.blamed[request.key] < 0",

@@ -12,6 +12,7 @@ from trials import HOLDS, Held, Trial, end_group, steady
 from engine import Engine, Role, connect
 from engine_nats import NatsEngine, partition_of
 
+READ = re.compile(r" follows partition \d+ behind \d+ entries, of which it read (\d+)")
 FOLLOWS = re.compile(r"\S+ \S+ (\d+) (?:doesn't follow|follows) partition 0 (?:behind (\d+) entries)?")
 
 
@@ -52,6 +53,20 @@ class FollowTrial(Trial):
     def judge_more(self, entries: list[str]) -> None:
         for held, known in self.taken_over:
             self.expect(f"who followed {known} entries reads none of them again: {held}", held.read <= held.entries - known)
+
+
+class LapsedTrial(Trial):
+    """A trial of a worker whose lease to follow ends. It follows on by the host that it has, and reads nothing again."""
+
+    def call(self, client: str) -> None:
+        self.wait_until(lambda: self.is_struck() and len(self.reads()) > 1)
+
+    def reads(self) -> list[int]:
+        """How many entries were read each time that a worker came to follow."""
+        return [int(match[1]) for line in self.told.lines if (match := READ.search(line))]
+
+    def judge_more(self, entries: list[str]) -> None:
+        self.expect(f"a worker whose lease to follow ended goes on with its host: {self.reads()}", sum(self.reads()) <= len(entries))
 
 
 class CutTrial(Trial):

@@ -8,7 +8,7 @@ itself once before an append, at `hostless` its host is killed once. At `mute` i
 of which isn't made, and at `broken` the engine fails there. At `slow` a read of the log waits until the lease was renewed for five leases.
 At `gap` some messages of the log are lost in the connection; at `forgotten` the server forgets its reader. At `rogue` it leases partitions
 whoever has them. At `late` its leases aren't renewed in time, and are given back while a renewal goes on. At `short` an append has few
-bytes. At `follow` it follows, at `kept` it keeps its host however long its partition is lost, at `never` it goes on. It says so, `struck: MOMENT`, each time that something of this has happened.
+bytes. At `follow` it follows, at `lapsed` its first lease for that isn't renewed, at `kept` it keeps its host however long its partition is lost, at `never` it goes on. It says so, `struck: MOMENT`, each time that something of this has happened.
 """
 from __future__ import annotations
 
@@ -182,6 +182,21 @@ def late_lease(lease: Any, moment: Moment, error: Callable[[str], Exception]) ->
     return LateLease
 
 
+def lapsed_lease(lease: Any, moment: Moment, error: Callable[[str], Exception]) -> Any:
+    """A lease to follow whose renewal fails until the lease has ended; later ones are renewed."""
+    class LapsedLease(lease.Lease):  # type: ignore[misc]
+        def renew(self) -> None:
+            if self.role.value == "follow" and not moment.seen:
+                if self.ends - time.monotonic() < self.seconds / 2:
+                    time.sleep(max(0.0, self.ends - time.monotonic()))
+                    moment.seen = 1
+                    moment.strike()
+                raise error("no answer")
+            super().renew()
+
+    return LapsedLease
+
+
 def main() -> None:
     folder, url, name, times, *host = sys.argv[1:]
     sys.path.insert(0, folder)
@@ -195,9 +210,11 @@ def main() -> None:
         worker.KEPT_LEASES = KEPT_LEASES
     if name == "late":
         worker.Lease = late_lease(lease, moment, engine.EngineError)
+    if name == "lapsed":
+        worker.Lease = lapsed_lease(lease, moment, engine.EngineError)
     is_stopped: list[bool] = []
     signal.signal(signal.SIGTERM, lambda *_: is_stopped.append(True))
-    follows = name == "follow"
+    follows = name in ("follow", "lapsed")
     worker.Worker(lambda: Struck(engine.connect(url), moment, engine.EngineError), host, lambda: bool(is_stopped), follows).work()
 
 

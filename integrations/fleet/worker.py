@@ -43,7 +43,7 @@ AVOID_SECONDS = 10.0  # how long others come first where a log was misread
 
 
 class LeaseEnded(Lost):
-    """The lease wasn't renewed in time. What the host replayed is still the log's."""
+    """The lease wasn't renewed in time."""
 
 
 class Worker:
@@ -58,6 +58,7 @@ class Worker:
         self.followed: Partition | None = None
         self.following: Lease | None = None
         self.kept_until = 0.0
+        self.known = 0  # entries that the host had replayed when we began to follow
         self.freed: dict[int, float] = {}
         self.avoided: dict[int, float] = {}
 
@@ -133,13 +134,15 @@ class Worker:
             self.status.role = "waits"
             return
         assert self.following and self.followed
+        if not self.following.is_ours():
+            self.let_follow(self.followed, self.following)
+            return
         end = time.monotonic() + READ_SECONDS
         try:
-            if not self.following.is_ours():
-                raise LeaseEnded("its lease ended")
             is_behind = self.read_some(engine, self.followed, lambda: time.monotonic() < end) < 0
             if not is_behind and self.status.role != "follows":
-                log.info("follows partition %d behind %d entries", self.followed.number, self.followed.entries)
+                log.info("follows partition %d behind %d entries, of which it read %d", self.followed.number, self.followed.entries,
+                         self.followed.entries - self.known)
             self.status.role = "replays" if is_behind else "follows"
         except Lost as reason:
             log.warning("doesn't follow partition %d any more: %s", self.followed.number, reason)
@@ -154,12 +157,23 @@ class Worker:
                 lease = stack.enter_context(closing(Lease(self.connect, Role.FOLLOW, number, engine.head().lease, self.status)))
                 if lease.claim():
                     self.followed = self.followed or Partition(number, self.take_spare(), self.status)
-                    self.following, self.status.role = lease, "replays"
+                    self.following, self.known, self.status.role = lease, self.followed.entries, "replays"
                     stack.pop_all()
                     return True
         if self.followed and time.monotonic() > self.kept_until:
             self.stop_following()
         return False
+
+    def let_follow(self, partition: Partition, following: Lease) -> None:
+        """Lets others follow a partition, since our lease ended."""
+        log.warning("doesn't follow partition %d for now: its lease ended", partition.number)
+        following.close()
+        self.following, self.status.role = None, "waits"
+        self.keep(partition, following.seconds)
+
+    def keep(self, partition: Partition, seconds: float) -> None:
+        """Keeps a host for some leases of so many seconds. What it replayed is still the log's, and it may go on from there."""
+        self.followed, self.kept_until = partition, time.monotonic() + KEPT_LEASES * seconds + RETRY_SECONDS
 
     def stop_following(self) -> None:
         partition, lease = self.followed, self.following
@@ -211,7 +225,7 @@ class Worker:
             self.answer(engine, lease, partition)
         except (LeaseEnded, EngineError, OSError):
             if not partition.is_behind and not partition.is_spoilt:
-                self.followed, self.kept_until = partition, time.monotonic() + KEPT_LEASES * lease.seconds + RETRY_SECONDS
+                self.keep(partition, lease.seconds)
             raise
         finally:
             if self.followed is not partition:
