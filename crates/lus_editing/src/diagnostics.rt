@@ -6,8 +6,8 @@ ghost use Rattle.lus_editing.specs.Messages.{sent_seen};
 
 use crate::messages::Sent;
 use crate::warned::warning_diagnostics;
-use lus_faults::{Related, offset_of};
 use lus_error_recovery::Told;
+use lus_faults::{Related, offset_of};
 use lus_json_faults::push_string;
 use lus_queries::spot_at;
 use lus_syntax::Refusal;
