@@ -6,9 +6,9 @@ use Rattle.serde_json.specs.View.{items_view, view}
 use Rattle.serde_json.specs.declared.value.Value.{Value}
 use Rattle.lus_editing.specs.Messages.{last_of}
 
-pub seen_copied : (r : Option (Bor Value)) → option_map (λ v. view v.now) r ≡ option_map view (option_copied r)
-seen_copied None = refl
-seen_copied (Some v) = refl
+pub seen_copied : {A B : Type 0} (f : A → B) (r : Option (Bor A)) → option_map (λ v. f v.now) r ≡ option_map f (option_copied r)
+seen_copied f None = refl
+seen_copied f (Some v) = refl
 
 last_at : (vs : List Value) (i : ℕ) → length vs ≡ suc i → option_map view (slice_get vs i) ≡ last_of (items_view vs)
 last_at [] i h = absurd (omega (arith, h))

@@ -1,5 +1,5 @@
 -- Answers to requests (JSON-RPC 2.0, "Response object"; Language Server Protocol 3.17, "Response Message").
-use Rattle.std.specs.Prelude.{◌≡◌, ℕ, ◌++◌, codes}
+use Rattle.std.specs.Prelude.{ℕ, ◌++◌, codes}
 use Rattle.std.specs.Fmt.{decimal}
 use Rattle.lus_syntax.specs.Lexemes.{Text}
 use Rattle.lus_editing.specs.declared.answers.Problem.{Problem}
@@ -43,10 +43,10 @@ error_text code message = codes "\"error\":{\"code\":-" ++ (decimal code ++ (cod
 abbrev pub result_text : Text → Text
 result_text given = codes "\"result\":" ++ (given ++ codes "}")
 
+-- the answer to the request of an id with what it gives
+abbrev pub given_text : Text → Text → Text
+given_text id given = answer_text id ++ result_text given
+
 -- the answer to the request of an id that it isn't done
 abbrev pub fault_text : Text → Problem → Text
 fault_text id problem = answer_text id ++ error_text (problem_code problem) (problem_message problem)
-
--- an answer to the request of an id, with a result or an error
-abbrev pub IsAnswerOf : Text → Text → Type 0
-IsAnswerOf id said = (rest : Text) × (said ≡ answer_text id ++ rest)

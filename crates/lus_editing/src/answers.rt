@@ -1,7 +1,7 @@
 //! Answers to requests.
 
 ghost use Rattle.std.specs.Prelude.{◌≡◌, ◌++◌, IfOk, OnOk, string_bytes};
-ghost use Rattle.lus_editing.specs.Answers.{IsAnswerOf, answer_text, error_text, fault_text, problem_code, problem_message, result_text};
+ghost use Rattle.lus_editing.specs.Answers.{answer_text, error_text, fault_text, given_text, problem_code, problem_message, result_text};
 
 use std::alloc::{AllocError, Global};
 
@@ -101,7 +101,7 @@ fn push_result(text: &mut String, given: &str) -> Result<(), AllocError>
 
 /// The answer to the request of an id with what it gives.
 pub(crate) fn result(alloc: Global, id: &str, given: &str) -> Result<String, AllocError>
-    ensures { IfOk result (λ t. IsAnswerOf id.now (string_bytes t)) }
+    ensures { IfOk result (λ t. string_bytes t ≡ given_text id.now given.now) }
 {
     let mut text = begun(alloc, id)?;
     push_result(&mut text, given)?;

@@ -44,7 +44,7 @@ fn changes<C: Compiler>(
     at: Spot,
     name: &str,
 ) -> Result<Result<String, Problem>, AllocError>
-    ensures { IfOk result (λ r. IfOk r (λ t. IsRenamed C.renames uri.now name.now (string_bytes t))) }
+    ensures { IfOk result (λ r. IfOk r (λ t. IsRenamed C.renames uri.now source.now name.now (string_bytes t))) }
 {
     let byte = lines_of(alloc, source)?.byte_at(at);
     let renamed = compiler.renamed(alloc, source, byte, name)?;
@@ -64,7 +64,7 @@ pub(crate) fn renamed<C: Compiler>(
     server: &Server,
     parameters: Option<&Value>,
 ) -> Result<Result<String, Problem>, AllocError>
-    ensures { IfOk result (λ r. IfOk r (λ t. AnswersRename C.renames (option_map (λ v. view v.now) parameters.entry) (string_bytes t))) }
+    ensures { IfOk result (λ r. IfOk r (λ t. AnswersRename C.renames server.now (option_map (λ v. view v.now) parameters.entry) (string_bytes t))) }
 {
     let Some((uri, at, name)) = asked(parameters) else {
         return Ok(Err(Problem::Parameters));

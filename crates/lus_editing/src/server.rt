@@ -1,5 +1,8 @@
 //! What a server keeps: how far it has come, and the documents that are open.
 
+ghost use Rattle.std.specs.Prelude.{◌≡◌, option_map, string_bytes};
+ghost use Rattle.lus_editing.specs.Renames.{source_in};
+
 use indexmap::IndexMap;
 use lus_error_recovery::Told;
 use lus_warnings::Warning;
@@ -54,7 +57,9 @@ impl Server {
     }
 
     /// The open document of a name.
-    pub(crate) fn document(&self, uri: &str) -> Option<&Document> {
+    pub(crate) fn document(&self, uri: &str) -> Option<&Document>
+        ensures { option_map (λ d. string_bytes d.now.text) result ≡ source_in self.now uri.now }
+    {
         self.documents.get(uri)
     }
 

@@ -4,9 +4,9 @@ ghost use Rattle.std.specs.Prelude.{◌≡◌, IfOk, codes, option_map, string_b
 ghost use Rattle.std.specs.Str.{IsUtf8, bytes_eq};
 ghost use Rattle.serde_json.specs.Read.{read};
 ghost use Rattle.serde_json.specs.View.{view};
-ghost use Rattle.lus_editing.specs.Answers.{IsAnswerOf};
+ghost use Rattle.lus_editing.specs.Renames.{Gives};
 ghost use Rattle.lus_editing.specs.Messages.{id_of, parameters_of, sent_by, sent_seen};
-ghost use Rattle.lus_editing.specs.Serving.{IsAnswer, IsAnswered, IsNamedAnswered, IsNamelessAnswered, IsNotified, IsServed, heard, stage_problem};
+ghost use Rattle.lus_editing.specs.Serving.{IsAnswer, IsAnswered, IsDone, IsNamedAnswered, IsNamelessAnswered, IsNotified, IsServed, heard, stage_problem};
 ghost use Rattle.lus_editing.specs.Diagnostics.{Publishes};
 
 use crate::actions::actions_of;
@@ -39,8 +39,8 @@ fn stage_problem(stage: Stage, is_initialize: bool) -> Option<Problem>
     }
 }
 
-/// What a request gives that can be done at this stage, or why its method can't take its parameters.
-fn outcome<C: Compiler>(
+/// What a request gives that can be done at this stage but that for another name, or why its method can't take its parameters.
+fn outcome_otherwise<C: Compiler>(
     alloc: Global,
     compiler: &C,
     server: &mut Server,
@@ -59,11 +59,28 @@ fn outcome<C: Compiler>(
         }
         "textDocument/formatting" => formatted(alloc, compiler, server, parameters),
         "textDocument/codeAction" => actions_of(alloc, server, parameters),
-        "textDocument/rename" => renamed(alloc, compiler, server, parameters),
         _ => match query_of(method) {
             Some(query) => queried(alloc, compiler, server, query, parameters),
             None => Ok(Err(Problem::Method)),
         },
+    }
+}
+
+/// What a request gives that can be done at this stage, or why it isn't done.
+fn outcome<C: Compiler>(
+    alloc: Global,
+    compiler: &C,
+    server: &mut Server,
+    method: &str,
+    parameters: Option<&Value>,
+) -> Result<Result<String, Problem>, AllocError>
+    ensures { IfOk result (λ r. IfOk r (λ t. Gives C.renames server.old (bytes_eq method.now (codes "textDocument/rename"))
+        (option_map (λ v. view v.now) parameters.entry) (string_bytes t))) }
+{
+    if method == "textDocument/rename" {
+        renamed(alloc, compiler, server, parameters)
+    } else {
+        outcome_otherwise(alloc, compiler, server, method, parameters)
     }
 }
 
@@ -76,7 +93,8 @@ fn perform<C: Compiler>(
     method: &str,
     parameters: Option<&Value>,
 ) -> Result<String, AllocError>
-    ensures { IfOk result (λ t. IsAnswerOf id.now (string_bytes t)) }
+    ensures { IfOk result (λ t. IsDone (Gives C.renames server.old (bytes_eq method.now (codes "textDocument/rename"))
+        (option_map (λ v. view v.now) parameters.entry)) id.now (string_bytes t)) }
 {
     let done = outcome(alloc, compiler, server, method, parameters)?;
     match done {
@@ -94,7 +112,9 @@ fn answer<C: Compiler>(
     method: &str,
     parameters: Option<&Value>,
 ) -> Result<String, AllocError>
-    ensures { IfOk result (λ t. IsAnswer (stage_problem server.old.stage (bytes_eq method.now (codes "initialize"))) id.now (string_bytes t)) }
+    ensures { IfOk result (λ t. IsAnswer (Gives C.renames server.old (bytes_eq method.now (codes "textDocument/rename"))
+        (option_map (λ v. view v.now) parameters.entry))
+        (stage_problem server.old.stage (bytes_eq method.now (codes "initialize"))) id.now (string_bytes t)) }
 {
     match stage_problem(server.stage, method == "initialize") {
         Some(problem) => fault(alloc, id, problem),
@@ -224,7 +244,7 @@ fn serve_named<C: Compiler>(
     method: &str,
     message: &Value,
 ) -> Result<Option<String>, AllocError>
-    ensures { IfOk result (λ o. IsNamedAnswered C.accepts C.refuses server.old.stage method.now (id_of (view message.now))
+    ensures { IfOk result (λ o. IsNamedAnswered C.accepts C.refuses C.renames server.old method.now (id_of (view message.now))
         (parameters_of (view message.now)) (option_map string_bytes o)) }
 {
     let parameters = parameters_of(message);
@@ -245,7 +265,7 @@ fn serve_value<C: Compiler>(
     server: &mut Server,
     message: &Value,
 ) -> Result<Option<String>, AllocError>
-    ensures { IfOk result (λ o. IsAnswered C.accepts C.refuses server.old.stage (view message.now) (option_map string_bytes o)) }
+    ensures { IfOk result (λ o. IsAnswered C.accepts C.refuses C.renames server.old (view message.now) (option_map string_bytes o)) }
 {
     match method_of(message) {
         Some(method) => serve_named(alloc, compiler, server, method, message),
@@ -262,7 +282,7 @@ pub fn serve<C: Compiler>(
     message: &[u8],
 ) -> Result<Option<String>, AllocError>
     ensures { IfOk result (λ o. IsUtf8 message.now
-        → IsServed C.accepts C.refuses server.old.stage (read message.now) (option_map string_bytes o)) }
+        → IsServed C.accepts C.refuses C.renames server.old (read message.now) (option_map string_bytes o)) }
 {
     let parsed = parse(alloc, message)?;
     match &parsed {
