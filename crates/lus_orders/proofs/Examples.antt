@@ -12,6 +12,9 @@ use Rattle.lus_classes.specs.Classes.{Step, named, fixed, compute, recall, choos
 use Rattle.lus_classes.specs.Classes.{Class as PlainClass}
 use Rattle.lus_values.specs.Entries.{chosen}
 use Rattle.lus_instructions.specs.Applied.{applied}
+use Rattle.lus_instructions.specs.Executed.{put}
+use Rattle.lus_instructions.specs.declared.instruction.Instruction.{Instruction}
+use Rattle.lus_instructions.specs.declared.located.Located.TheVariants as located
 use Rattle.lus_instructions.specs.declared.instruction.Operand.TheVariants as operands
 use Rattle.lus_instructions.specs.declared.words.word.Word.TheVariants as words
 use Rattle.lus_orders.specs.declared.order.Order.{Order}
@@ -19,7 +22,7 @@ use Rattle.lus_orders.specs.declared.order.Order.TheVariants as orders
 use Rattle.lus_orders.specs.declared.class.Target.{Target}
 use Rattle.lus_orders.specs.declared.class.Call.{Call}
 use Rattle.lus_orders.specs.declared.class.Class.{Class}
-use Rattle.lus_orders.specs.Orders.{Board, Calls, Next, is_first, obey, put}
+use Rattle.lus_orders.specs.Orders.{Board, Calls, Next, is_first, obey, on_row}
 use Rattle.lus_orders.specs.Made.{flags_in}
 use Rattle.lus_orders.specs.Segments.{GivesRow, GivesSteps, IsCodeOf, MakesCall, Segment, Stored, Stores, calls, gives, own_cells, own_flags, taken}
 
@@ -41,24 +44,24 @@ abbrev pub caller : PlainClass
 caller = record { inputs = 0; clocks = [] ∷ []; steps = record { target = 0; code = answer 0 0 } ∷ []; memories = []; firsts = []; calls = record { node = 0; base = []; arguments = [] } ∷ [] }
 
 abbrev pub counter_code : List Order
-counter_code = orders.First 0 1 (operands.Fixed (words.Int zero_int)) (operands.Place 1) ∷ orders.Two ops.Add 1 (operands.Cell 0) (operands.Fixed (words.Int one_int)) ∷ []
+counter_code = orders.First 0 1 (operands.Fixed (words.Int zero_int)) (operands.Place 1) ∷ orders.Act (located.Add 1 (operands.Cell 0) (operands.Fixed (words.Int one_int))) ∷ []
 
 abbrev pub counter_stores : List Order
-counter_stores = orders.Store 1 (operands.Fixed (words.Bool false)) ∷ orders.Store 0 (operands.Place 0) ∷ []
+counter_stores = orders.Started 1 ∷ orders.Keep 0 0 ∷ []
 
-module _ (vs : List Value) (does : Calls) (ns : List Value) (e0 e1 : Option Value) where
+module _ (others : List Instruction) (vs : List Value) (does : Calls) (ns : List Value) (e0 e1 : Option Value) where
   abbrev row : Row
   row = e0 ∷ e1 ∷ []
 
   -- what the code does, by what its operator gives
   abbrev end_of : Option Value → Next
-  end_of o = option_and_then {T = ℕ × Board} (λ s. obey vs does (orders.First 0 1 (operands.Fixed (words.Int zero_int)) (operands.Place 1)) s.0 s.1) (put 1 (ns, row) o)
+  end_of o = option_and_then {T = ℕ × Board} (λ s. obey others vs does (orders.First 0 1 (operands.Fixed (words.Int zero_int)) (operands.Place 1)) s.0 s.1) (on_row (ns, row) (put 1 row o))
 
   abbrev ran_by : Option Bool → Option Value → Option Row
   ran_by b o = option_and_then (λ e. Some (slice_set (e0 ∷ []) 0 e)) (option_map Some (chosen b (Some (int zero_int)) o))
 
   abbrev last : Option Bool → Value → Next
-  last b v = put 0 (ns, e0 ∷ Some v ∷ []) (chosen b (Some (int zero_int)) (Some v))
+  last b v = on_row (ns, e0 ∷ Some v ∷ []) (put 0 (e0 ∷ Some v ∷ []) (chosen b (Some (int zero_int)) (Some v)))
 
   first_by : (b : Option Bool) (v : Value) → ((last b v ≡ None) × (ran_by b (Some v) ≡ None)) ⊎ GivesRow counter 2 (ran_by b (Some v)) ns (last b v)
   first_by None v = inl (refl, refl)
@@ -73,25 +76,25 @@ module _ (vs : List Value) (does : Calls) (ns : List Value) (e0 e1 : Option Valu
   both None = inl (refl, none_by (is_first vs 1))
   both (Some v) = first_by (is_first vs 1) v
 
-counter_gives : GivesSteps counter 2 (one_step ∷ []) counter_code
-counter_gives vs given does known new ns [] long unknown on = absurd (omega arith)
-counter_gives vs given does known new ns (e0 ∷ []) long unknown on = absurd (omega arith)
-counter_gives [] given does known new ns (e0 ∷ e1 ∷ []) long unknown on = both [] does ns e0 e1 None
-counter_gives (v ∷ []) given does known new ns (e0 ∷ e1 ∷ []) long unknown on = both (v ∷ []) does ns e0 e1 (applied (Compute ops.Add) (Some v ∷ Some (int one_int) ∷ []))
-counter_gives (v ∷ u ∷ vs) given does known new ns (e0 ∷ e1 ∷ []) long unknown on =
-    both (v ∷ u ∷ vs) does ns e0 e1 (applied (Compute ops.Add) (Some v ∷ Some (int one_int) ∷ []))
-counter_gives vs given does known new ns (e0 ∷ e1 ∷ e2 ∷ r) long unknown on = absurd (omega arith)
+counter_gives : (others : List Instruction) → GivesSteps counter others 2 (one_step ∷ []) counter_code
+counter_gives others vs given does known new ns [] long unknown on = absurd (omega arith)
+counter_gives others vs given does known new ns (e0 ∷ []) long unknown on = absurd (omega arith)
+counter_gives others [] given does known new ns (e0 ∷ e1 ∷ []) long unknown on = both others [] does ns e0 e1 None
+counter_gives others (v ∷ []) given does known new ns (e0 ∷ e1 ∷ []) long unknown on = both others (v ∷ []) does ns e0 e1 (applied (Compute ops.Add) (Some v ∷ Some (int one_int) ∷ []))
+counter_gives others (v ∷ u ∷ vs) given does known new ns (e0 ∷ e1 ∷ []) long unknown on =
+    both others (v ∷ u ∷ vs) does ns e0 e1 (applied (Compute ops.Add) (Some v ∷ Some (int one_int) ∷ []))
+counter_gives others vs given does known new ns (e0 ∷ e1 ∷ e2 ∷ r) long unknown on = absurd (omega arith)
 
-counter_keeps : Stores counter 2 counter_stores
-counter_keeps vs does ns [] long same le own = absurd (omega arith)
-counter_keeps vs does ns (e0 ∷ []) long same le own = absurd (omega arith)
-counter_keeps vs does ns (e0 ∷ e1 ∷ e2 ∷ r) long same le own = absurd (omega arith)
-counter_keeps [] does ns (e0 ∷ e1 ∷ []) long same le own = absurd (let l : 2 ≤ 0 = le in omega (arith, l))
-counter_keeps (v ∷ []) does ns (e0 ∷ e1 ∷ []) long same le own = absurd (let l : 2 ≤ 1 = le in omega (arith, l))
-counter_keeps (v ∷ u ∷ vs) does [] (e0 ∷ e1 ∷ []) long same le own = absurd (omega arith)
-counter_keeps (v ∷ u ∷ vs) does (n ∷ []) (e0 ∷ e1 ∷ []) long same le own = absurd (omega arith)
-counter_keeps (v ∷ u ∷ vs) does (n ∷ m ∷ ns) (e0 ∷ e1 ∷ []) long same le own =
-    record { next = unwrap_or e0 Rattle.lus_values.specs.Values.nil ∷ bool false ∷ ns; ended = refl; cells = refl; flags = refl; behind = refl; long = refl }
+counter_keeps : (others : List Instruction) → Stores counter others 2 counter_stores
+counter_keeps others vs does ns [] long same le own = absurd (omega arith)
+counter_keeps others vs does ns (e0 ∷ []) long same le own = absurd (omega arith)
+counter_keeps others vs does ns (e0 ∷ e1 ∷ e2 ∷ r) long same le own = absurd (omega arith)
+counter_keeps others [] does ns (e0 ∷ e1 ∷ []) long same le own = absurd (let l : 2 ≤ 0 = le in omega (arith, l))
+counter_keeps others (v ∷ []) does ns (e0 ∷ e1 ∷ []) long same le own = absurd (let l : 2 ≤ 1 = le in omega (arith, l))
+counter_keeps others (v ∷ u ∷ vs) does [] (e0 ∷ e1 ∷ []) long same le own = absurd (omega arith)
+counter_keeps others (v ∷ u ∷ vs) does (n ∷ []) (e0 ∷ e1 ∷ []) long same le own = absurd (omega arith)
+counter_keeps others (v ∷ u ∷ vs) does (n ∷ m ∷ ns) (e0 ∷ e1 ∷ []) long same le own =
+    record { next = unwrap_or e0 Rattle.lus_values.specs.Values.nil ∷ bool false ∷ ns; row = e0 ∷ e1 ∷ []; ended = refl; same = refl; cells = refl; flags = refl; behind = refl; long = refl }
 
 module _ (c e : Class) (call : Call)
     (c_own : c.own ≡ 2) (c_cells : c.cells ≡ 2) (c_code : c.code.items ≡ counter_stores ++ counter_code) (c_calls : c.calls.items ≡ [])
@@ -112,8 +115,8 @@ module _ (c e : Class) (call : Call)
     stores = counter_stores;
     steps = refl;
     code = sym c_code;
-    make = (subst (λ n. GivesSteps counter n (one_step ∷ []) counter_code) (sym c_own) counter_gives, tt);
-    keep = subst (λ n. Stores counter n counter_stores) (sym c_own) counter_keeps;
+    make = (subst (λ n. GivesSteps counter c.others.items n (one_step ∷ []) counter_code) (sym c_own) (counter_gives c.others.items), tt);
+    keep = subst (λ n. Stores counter c.others.items n counter_stores) (sym c_own) (counter_keeps c.others.items);
     once = tt;
     every = λ n lt. absurd (let none = ap (λ (l : List Call). length l) c_calls in omega (arith, none, lt));
     turns = (tt, refl, (let l : 0 < 1 = omega arith in l), tt);
@@ -140,8 +143,8 @@ module _ (c e : Class) (call : Call)
     off = λ r le on looks_off. absurd (let no_base : true ≡ false = sym (ap (λ b. Rattle.lus_orders.specs.Looks.looks b r) base) ∙ looks_off in cc);
   }
 
-  keeps : Stores caller e.own []
-  keeps vs does ns r long same le own = record { next = ns; ended = refl; cells = refl; flags = refl; behind = refl; long = refl }
+  keeps : Stores caller e.others.items e.own []
+  keeps vs does ns r long same le own = record { next = ns; row = r; ended = refl; same = refl; cells = refl; flags = refl; behind = refl; long = refl }
 
   only_one : (i j : ℕ) (p q : Call) → slice_get (call ∷ []) i ≡ Some p → slice_get (call ∷ []) j ≡ Some q → (i ≡ j → ⊥)
       → (p.cells + p.length ≤ q.cells) ⊎ (q.cells + q.length ≤ p.cells)
@@ -156,22 +159,22 @@ module _ (c e : Class) (call : Call)
   call_is = record {
     node = sym node;
     base = λ r le. ap (λ b. Rattle.lus_orders.specs.Looks.looks b r) base;
-    passing = λ vs r le. ap (λ l. Rattle.lus_orders.specs.Classes.passed l vs r) arguments;
+    passing = λ r le. ap (λ l. Rattle.lus_orders.specs.Classes.passed l r) arguments;
     called = c;
     found = ap (slice_get classes) node;
     long = length_is ∙ sym c_cells;
     cells = omega (arith, cells, length_is, e_cells);
   }
 
-  nothing_given : (g : ℕ) → g ≡ 0 → (vs : List Value) (r : Row) → Fits g (Rattle.lus_orders.specs.Classes.passed call.arguments.items vs r)
-  nothing_given g is vs r =
-      subst (λ l. Fits g (Rattle.lus_orders.specs.Classes.passed l vs r)) (sym arguments)
+  nothing_given : (g : ℕ) → g ≡ 0 → (r : Row) → Fits g (Rattle.lus_orders.specs.Classes.passed call.arguments.items r)
+  nothing_given g is r =
+      subst (λ l. Fits g (Rattle.lus_orders.specs.Classes.passed l r)) (sym arguments)
       (subst (λ h. Fits h []) (sym is) (refl, λ x some. absurd (let no_entry : false ≡ true = some in cc)))
 
-  passes_one : (n : ℕ) (q : Call) → slice_get (call ∷ []) n ≡ Some q → (vs : List Value) (r : Row) → Fits q.node (Rattle.lus_orders.specs.Classes.passed q.arguments.items vs r)
-  passes_one zero q found vs r =
-      subst (λ (p : Call). Fits p.node (Rattle.lus_orders.specs.Classes.passed p.arguments.items vs r)) (same_Some call q found) (nothing_given call.node node vs r)
-  passes_one (suc n) q found vs r = absurd (none-some q found)
+  passes_one : (n : ℕ) (q : Call) → slice_get (call ∷ []) n ≡ Some q → (r : Row) → Fits q.node (Rattle.lus_orders.specs.Classes.passed q.arguments.items r)
+  passes_one zero q found r =
+      subst (λ (p : Call). Fits p.node (Rattle.lus_orders.specs.Classes.passed p.arguments.items r)) (same_Some call q found) (nothing_given call.node node r)
+  passes_one (suc n) q found r = absurd (none-some q found)
 
   pub caller_has_code : IsCodeOf plain classes 1 e
   caller_has_code = record {
@@ -191,7 +194,7 @@ module _ (c e : Class) (call : Call)
     apart = subst (λ (l : List Call). (i j : ℕ) (p q : Call) → slice_get l i ≡ Some p → slice_get l j ≡ Some q → (i ≡ j → ⊥) → (p.cells + p.length ≤ q.cells) ⊎ (q.cells + q.length ≤ p.cells))
         (sym e_calls) only_one;
     calls_are = subst (λ (l : List Call). Rattle.lus_orders.specs.Made.AreCallsOf plain classes Fits e 1 l (record { node = 0; base = []; arguments = [] } ∷ [])) (sym e_calls) (call_is, tt);
-    passing = λ n q found vs r long on base_on. passes_one n q (subst (λ (l : List Call). slice_get l n ≡ Some q) e_calls found) vs r;
+    passing = λ n q found r long on base_on. passes_one n q (subst (λ (l : List Call). slice_get l n ≡ Some q) e_calls found) r;
   }
 
   -- both have

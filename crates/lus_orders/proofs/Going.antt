@@ -102,7 +102,7 @@ module _ (plain : List PlainClass) (classes : List Class) (f : StateOf) (g : ℕ
   ran ss r = run_steps k us fs given ss r
 
   abbrev runs : List Order → List Value → Row → Next
-  runs os ns r = exec vs does os 0 (ns, r)
+  runs os ns r = exec c.others.items vs does os 0 (ns, r)
 
   fits : (n : ℕ) (q : Call) → slice_get qs n ≡ Some q → q.cells + q.length ≤ c.cells
   fits n q found = by qs (class_at plain g).calls code.calls_are n found
@@ -151,7 +151,7 @@ module _ (plain : List PlainClass) (classes : List Class) (f : StateOf) (g : ℕ
     none_played e = ap (option_and_then (λ (t : Row). option_map {U = Row × States} (λ ss. (t, ss)) (states_after given t))) e
 
     -- orders that give variables
-    given_goes : (ss : List Step) (os : List Order) (rest : List Segment) → GivesSteps k c.own ss os → (ns : List Value) (row : Row) → Going (gives ss os ∷ rest) ns row
+    given_goes : (ss : List Step) (os : List Order) (rest : List Segment) → GivesSteps k c.others.items c.own ss os → (ns : List Value) (row : Row) → Going (gives ss os ∷ rest) ns row
         → NextGoing rest (runs os ns row)
     given_goes ss os rest segment ns row go = by (segment vs given does go.known new ns row go.long go.unknown go.on)
       where
@@ -338,7 +338,7 @@ module _ (plain : List PlainClass) (classes : List Class) (f : StateOf) (g : ℕ
               })
 
       call_goes : NextGoing rest end
-      call_goes = by (answers n q makes.found ns row room waiting (λ on. code.passing n q makes.found vs row go.long go.on on))
+      call_goes = by (answers n q makes.found ns row room waiting (λ on. code.passing n q makes.found row go.long go.on on))
         where
           by : CallMade plain classes (FitsClass plain) f w q ask ns row (does n (ns, row)) ⊎ CallStays plain classes (FitsClass plain) f w q ask vs ns row (does n (ns, row))
               ⊎ CallFaults plain classes (FitsClass plain) w ask row (does n (ns, row)) → NextGoing rest end
@@ -351,12 +351,12 @@ module _ (plain : List PlainClass) (classes : List Class) (f : StateOf) (g : ℕ
         → ((ms : List Value) (t : Row) → Going ss ms t → NextGoing [] (runs (code_made ss) ms t))
         → NextGoing [] (runs (code_made ss ++ one) ns row)
     behind_one one ss ns row (inl none) rest =
-        inl (exec_append vs does (code_made ss) one 0 (ns, row) ∙ ap (option_and_then (λ (s : ℕ × Board). exec vs does (code_made ss) s.0 s.1)) none.0, none.1)
+        inl (exec_append c.others.items vs does (code_made ss) one 0 (ns, row) ∙ ap (option_and_then (λ (s : ℕ × Board). exec c.others.items vs does (code_made ss) s.0 s.1)) none.0, none.1)
     behind_one one ss ns row (inr to) rest =
-        subst (NextGoing []) (sym (exec_append vs does (code_made ss) one 0 (ns, row) ∙ ap (option_and_then (λ (s : ℕ × Board). exec vs does (code_made ss) s.0 s.1)) to.ended)) (rest to.cells to.row to.going)
+        subst (NextGoing []) (sym (exec_append c.others.items vs does (code_made ss) one 0 (ns, row) ∙ ap (option_and_then (λ (s : ℕ × Board). exec c.others.items vs does (code_made ss) s.0 s.1)) to.ended)) (rest to.cells to.row to.going)
 
     -- all segments
-    pub all_go : (ss : List Segment) → Each (IsSegment k (λ h. length (class_at plain h).clocks) qs c.own) ss → (ns : List Value) (row : Row) → Going ss ns row
+    pub all_go : (ss : List Segment) → Each (IsSegment k c.others.items (λ h. length (class_at plain h).clocks) qs c.own) ss → (ns : List Value) (row : Row) → Going ss ns row
         → NextGoing [] (runs (code_made ss) ns row)
     all_go [] all ns row go = inr (record { cells = ns; row = row; ended = refl; going = go })
     all_go (gives mine os ∷ ss) all ns row go = behind_one os ss ns row (given_goes mine os ss all.0 ns row go) (λ ms t going. all_go ss all.1 ms t going)

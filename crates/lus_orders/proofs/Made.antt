@@ -68,19 +68,19 @@ module _ (plain : List PlainClass) (classes : List Class) (Given : ℕ → Row �
     follows_is i =
         ap (λ o. elim o [
           | None ↦ None
-          | Some k ↦ after us (called (λ h xs ms j. follows classes d h xs ms j) k.calls.items us) k.code.items 0 (us, begun k.own i)
+          | Some k ↦ after k.others.items us (called (λ h xs ms j. follows classes d h xs ms j) k.calls.items us) k.code.items 0 (us, begun k.own i)
         ]) has.is.found
 
     call_is : (b : Bool) (ns : List Value) (r : Row) → looks q.base r ≡ b
-        → call (ns, r) ≡ (if b then option_and_then {T = Board} (back q (ns, r)) (does q.node us (part q.cells q.length ns) (passed q.arguments.items vs r)) else Some (ns, r))
+        → call (ns, r) ≡ (if b then option_and_then {T = Board} (back q (ns, r)) (does q.node us (part q.cells q.length ns) (passed q.arguments.items r)) else Some (ns, r))
     call_is b ns r e =
         ap (λ o. elim o [
           | None ↦ None
           | Some k ↦ if looks k.base r
-              then option_and_then {T = Board} (back k (ns, r)) (does k.node (part k.cells k.length vs) (part k.cells k.length ns) (passed k.arguments.items vs r))
+              then option_and_then {T = Board} (back k (ns, r)) (does k.node (part k.cells k.length vs) (part k.cells k.length ns) (passed k.arguments.items r))
               else Some (ns, r)
         ]) found
-        ∙ ap (λ t. if t then option_and_then {T = Board} (back q (ns, r)) (does q.node us (part q.cells q.length ns) (passed q.arguments.items vs r)) else Some (ns, r)) e
+        ∙ ap (λ t. if t then option_and_then {T = Board} (back q (ns, r)) (does q.node us (part q.cells q.length ns) (passed q.arguments.items r)) else Some (ns, r)) e
 
     -- a call makes the called node's instant and its stores, and gives what its targets are
     answers_call : AnswersCall plain classes Given (λ h xs. state_in plain classes (suc d) h xs) w vs q call ask
@@ -92,8 +92,8 @@ module _ (plain : List PlainClass) (classes : List Class) (Given : ℕ → Row �
         ask_is : (b : Bool) → looks q.base r ≡ b → ask (take w r) ≡ asked b s (λ i. step plain s has.call.node i) (passes has.call.arguments (take w r))
         ask_is b e = has.asks_it (take w r) ∙ ap (λ t. asked t s (λ i. step plain s has.call.node i) (passes has.call.arguments (take w r))) (sym (has.is.base r wide) ∙ e)
 
-        passed_same : passes has.call.arguments (take w r) ≡ passed q.arguments.items vs r
-        passed_same = sym (has.is.passing vs r wide)
+        passed_same : passes has.call.arguments (take w r) ≡ passed q.arguments.items r
+        passed_same = sym (has.is.passing r wide)
 
         by : (b : Bool) → looks q.base r ≡ b → CallMade plain classes Given (λ h xs. state_in plain classes (suc d) h xs) w q ask ns r (call (ns, r))
             ⊎ CallStays plain classes Given (λ h xs. state_in plain classes (suc d) h xs) w q ask vs ns r (call (ns, r))
@@ -102,7 +102,7 @@ module _ (plain : List PlainClass) (classes : List Class) (Given : ℕ → Row �
         by true e = ends (follows_class classes d has.is.called us (us, begun has.is.called.own i)) refl
           where
             i : Row
-            i = passed q.arguments.items vs r
+            i = passed q.arguments.items r
 
             made : Makes plain classes Given (λ h xs. state_in plain classes d h xs) q.node (given_asks plain classes (λ h xs. state_in plain classes d h xs) q.node us) us i
                 (follows_class classes d has.is.called us (us, begun has.is.called.own i))

@@ -94,7 +94,7 @@ module _ (plain : List PlainClass) (classes : List Class) (g : ℕ) (c : Class) 
   first = take w row
 
   abbrev end : Option Board
-  end = after vs does c.code.items 0 (vs, row)
+  end = after c.others.items vs does c.code.items 0 (vs, row)
 
   first_same : first_row k.clocks inputs ≡ first
   first_same = first_is k.clocks c.own inputs code.own
@@ -117,17 +117,17 @@ module _ (plain : List PlainClass) (classes : List Class) (g : ℕ) (c : Class) 
     holds = λ n q found over t is. absurd (over (code.every n (Rattle.std.proofs.lemmas.Option.slice_get_within c.calls.items n q found)));
   }
 
-  all : NextGoing plain classes f g c code vs vs_long given does agree many answers first [] (exec vs does (code_made code.segments) 0 (vs, row))
+  all : NextGoing plain classes f g c code vs vs_long given does agree many answers first [] (exec c.others.items vs does (code_made code.segments) 0 (vs, row))
   all = all_go plain classes f g c code vs vs_long given does agree many answers first code.segments code.make vs row start
 
   instant_played : instant_of k (own_cells k vs) (own_flags k vs) given inputs
       ≡ option_map (answer_of k (own_cells k vs) (own_flags k vs) given) (played plain classes f g c code vs vs_long given does agree many answers first)
   instant_played = instant_is k (own_cells k vs) (own_flags k vs) given inputs first first_same
 
-  end_is : end ≡ option_map (λ s. s.1) (option_and_then (λ (s : ℕ × Board). exec vs does code.stores s.0 s.1) (exec vs does (code_made code.segments) 0 (vs, row)))
+  end_is : end ≡ option_map (λ s. s.1) (option_and_then (λ (s : ℕ × Board). exec c.others.items vs does code.stores s.0 s.1) (exec c.others.items vs does (code_made code.segments) 0 (vs, row)))
   end_is =
-      sym (ap (λ os. after vs does os 0 (vs, row)) code.code)
-      ∙ ap (option_map (λ s. s.1)) (exec_append vs does code.stores (code_made code.segments) 0 (vs, row))
+      sym (ap (λ os. after c.others.items vs does os 0 (vs, row)) code.code)
+      ∙ ap (option_map (λ s. s.1)) (exec_append c.others.items vs does code.stores (code_made code.segments) 0 (vs, row))
 
   calls_are : calls_of plain classes g ≡ c.calls.items
   calls_are = ap (λ o. elim o [ None ↦ [] | Some x ↦ x.calls.items ]) there
@@ -135,21 +135,21 @@ module _ (plain : List PlainClass) (classes : List Class) (g : ℕ) (c : Class) 
   made : Makes plain classes (FitsClass plain) f g given vs inputs end
   made = by all
     where
-      by : NextGoing plain classes f g c code vs vs_long given does agree many answers first [] (exec vs does (code_made code.segments) 0 (vs, row))
+      by : NextGoing plain classes f g c code vs vs_long given does agree many answers first [] (exec c.others.items vs does (code_made code.segments) 0 (vs, row))
           → Makes plain classes (FitsClass plain) f g given vs inputs end
       by (inl none) =
-          let nothing : end ≡ None = end_is ∙ ap (λ o. option_map (λ s. s.1) (option_and_then (λ (s : ℕ × Board). exec vs does code.stores s.0 s.1) o)) none.0 in
+          let nothing : end ≡ None = end_is ∙ ap (λ o. option_map (λ s. s.1) (option_and_then (λ (s : ℕ × Board). exec c.others.items vs does code.stores s.0 s.1) o)) none.0 in
           record {
             answers = instant_played ∙ ap (option_map (answer_of k (own_cells k vs) (own_flags k vs) given)) none.1 ∙ sym (ap (option_map (read_of plain classes f g)) nothing);
             long = subst (λ o. IfSome o (λ u. length u.0 ≡ length vs)) (sym nothing) tt;
           }
       by (inr to) =
           let go = to.going in
-          let store : Stored k vs to.cells to.row (exec vs does code.stores 0 (to.cells, to.row)) =
+          let store : Stored k vs to.cells to.row (exec c.others.items vs does code.stores 0 (to.cells, to.row)) =
           code.keep vs does to.cells to.row go.long go.cells (let a = code.long in omega (arith, a, vs_long)) go.own in
-          let done : end ≡ Some (store.next, to.row) =
+          let done : end ≡ Some (store.next, store.row) =
           end_is
-          ∙ ap (λ o. option_map (λ s. s.1) (option_and_then (λ (s : ℕ × Board). exec vs does code.stores s.0 s.1) o)) to.ended
+          ∙ ap (λ o. option_map (λ s. s.1) (option_and_then (λ (s : ℕ × Board). exec c.others.items vs does code.stores s.0 s.1) o)) to.ended
           ∙ ap (option_map (λ s. s.1)) store.ended in
           let states : states_with f c.calls.items to.cells ≡ states_with f (calls_of plain classes g) store.next =
           sym (states_behind f (kept k) c.calls.items store.next to.cells code.behind store.behind)
@@ -159,7 +159,7 @@ module _ (plain : List PlainClass) (classes : List Class) (g : ℕ) (c : Class) 
                 instant_played
                 ∙ ap (option_map (answer_of k (own_cells k vs) (own_flags k vs) given))
                 (all_played plain classes f g c code vs vs_long given does agree many answers first to.cells to.row go)
-                ∙ (λ i. Some (take w to.row, state (sym store.cells i) (sym store.flags i) (states i)))
+                ∙ (λ i. Some (sym store.same i, state (sym store.cells i) (sym store.flags i) (states i)))
                 ∙ sym (ap (option_map (read_of plain classes f g)) done);
             long = subst (λ o. IfSome o (λ u. length u.0 ≡ length vs)) (sym done) (store.long ∙ go.cells);
           }

@@ -1,5 +1,6 @@
 pub mod Looks
 pub mod Orders
+pub mod Boards
 pub mod Classes
 pub mod Made
 pub mod Segments

@@ -87,7 +87,7 @@ module _ (plain : List PlainClass) (classes : List Class) where
     abbrev pub AnswersCall : StateOf → ℕ → List Value → Call → (Board → Option Board) → Ask → Type 0
     AnswersCall f w vs q call ask =
         (ns : List Value) (r : Row) → w ≤ length r → part q.cells q.length ns ≡ part q.cells q.length vs
-        → (looks q.base r ≡ true → Given q.node (passed q.arguments.items vs r))
+        → (looks q.base r ≡ true → Given q.node (passed q.arguments.items r))
         → CallMade f w q ask ns r (call (ns, r)) ⊎ CallStays f w q ask vs ns r (call (ns, r)) ⊎ CallFaults w ask r (call (ns, r))
 
     -- an instant was made: the board says what it answers, and has as many cells as before
@@ -102,13 +102,13 @@ module _ (plain : List PlainClass) (classes : List Class) where
         (f : StateOf) (vs : List Value) (inputs : Row) → length vs ≡ c.cells → Given g inputs → (calls : Calls) (given : List Ask)
         → AsksAgree (class_at plain g) given → length given ≡ length c.calls.items
         → ((n : ℕ) (q : Call) → slice_get c.calls.items n ≡ Some q → AnswersCall f (width g) vs q (calls n) (item silent given n))
-        → Makes f g given vs inputs (after vs calls c.code.items 0 (vs, begun c.own inputs))
+        → Makes f g given vs inputs (after c.others.items vs calls c.code.items 0 (vs, begun c.own inputs))
 
     -- a call of the code is one of the class
     pub record IsCallOf (c : Class) (w : ℕ) (q : Call) (p : PlainCall) : Type 0 where
       pub node : p.node ≡ q.node
       pub base : (r : Row) → w ≤ length r → looks q.base r ≡ is_on_row p.base (take w r)
-      pub passing : (vs : List Value) (r : Row) → w ≤ length r → passed q.arguments.items vs r ≡ passes p.arguments (take w r)
+      pub passing : (r : Row) → w ≤ length r → passed q.arguments.items r ≡ passes p.arguments (take w r)
       pub called : Class
       pub found : slice_get classes q.node ≡ Some called
       pub long : q.length ≡ called.cells

@@ -7,6 +7,7 @@ use Rattle.lus_classes.specs.Classes.{Class as PlainClass}
 use Rattle.lus_classes.specs.ClassesOf.{InTurn}
 use Rattle.lus_classes.specs.Steps.{Ask, cells_after, flags_after, is_on_row, run_steps, step}
 use Rattle.lus_classes.specs.Played.{AreNew, GivenOnClocks, Unknown}
+use Rattle.lus_instructions.specs.declared.instruction.Instruction.{Instruction}
 use Rattle.lus_orders.specs.Looks.{looks}
 use Rattle.lus_orders.specs.declared.order.Order.{Order}
 use Rattle.lus_orders.specs.declared.order.Order.TheVariants as orders
@@ -69,13 +70,13 @@ module _ (k : PlainClass) where
     pub ran_to : ran ≡ Some (take wide new)
     pub long : length new ≡ own
 
-  -- orders make steps
-  abbrev pub GivesSteps : ℕ → List Step → List Order → Type 0
-  GivesSteps own ss code =
+  -- orders make steps, where the instructions among them that aren't located are these
+  abbrev pub GivesSteps : List Instruction → ℕ → List Step → List Order → Type 0
+  GivesSteps others own ss code =
       (vs : List Value) (given : List Ask) (calls : Calls) (known : ℕ → Bool) → AreNew ss known → (ns : List Value) (r : Row) → length r ≡ own
       → Unknown known (take wide r) → GivenOnClocks k (take wide r)
-      → ((exec vs calls code 0 (ns, r) ≡ None) × (run_steps k (own_cells vs) (own_flags vs) given ss (take wide r) ≡ None))
-      ⊎ GivesRow own (run_steps k (own_cells vs) (own_flags vs) given ss (take wide r)) ns (exec vs calls code 0 (ns, r))
+      → ((exec others vs calls code 0 (ns, r) ≡ None) × (run_steps k (own_cells vs) (own_flags vs) given ss (take wide r) ≡ None))
+      ⊎ GivesRow own (run_steps k (own_cells vs) (own_flags vs) given ss (take wide r)) ns (exec others vs calls code 0 (ns, r))
 
   -- a target is one of the variables and given where its clock is present, and what it is given is one of so many
   pub record TargetOf (called : ℕ) (t : Target) : Type 0 where
@@ -93,23 +94,25 @@ module _ (k : PlainClass) where
     pub off : (r : Row) → wide ≤ length r → GivenOnClocks k (take wide r) → looks call.base r ≡ false
         → Each (λ t. is_on_row (clock_in k t.variable) (take wide r) ≡ false) ts
 
-  abbrev pub IsSegment : (ℕ → ℕ) → List Call → ℕ → Segment → Type 0
-  IsSegment widths qs own (gives ss code) = GivesSteps own ss code
-  IsSegment widths qs own (calls n ts) = MakesCall widths qs n ts
+  abbrev pub IsSegment : List Instruction → (ℕ → ℕ) → List Call → ℕ → Segment → Type 0
+  IsSegment others widths qs own (gives ss code) = GivesSteps others own ss code
+  IsSegment others widths qs own (calls n ts) = MakesCall widths qs n ts
 
-  -- what is kept was stored: own cells are those after the instant, and the others as they were
+  -- what is kept was stored: own cells are those after the instant, and the others and all variables as they were
   pub record Stored (vs ns : List Value) (r : Row) (end : Next) : Type 0 where
     pub next : List Value
-    pub ended : end ≡ Some (0, (next, r))
+    pub row : Row
+    pub ended : end ≡ Some (0, (next, row))
+    pub same : take wide row ≡ take wide r
     pub cells : own_cells next ≡ cells_after k.memories (own_cells vs) (take wide r)
     pub flags : own_flags next ≡ flags_after k.firsts (own_flags vs) (take wide r)
     pub behind : drop kept next ≡ drop kept ns
     pub long : length next ≡ length ns
 
-  abbrev pub Stores : ℕ → List Order → Type 0
-  Stores own code =
+  abbrev pub Stores : List Instruction → ℕ → List Order → Type 0
+  Stores others own code =
       (vs : List Value) (calls : Calls) (ns : List Value) (r : Row) → length r ≡ own → length ns ≡ length vs → kept ≤ length vs → take kept ns ≡ take kept vs
-      → Stored vs ns r (exec vs calls code 0 (ns, r))
+      → Stored vs ns r (exec others vs calls code 0 (ns, r))
 
 -- the code of a class makes its steps and calls, and then stores what is kept
 pub record IsCodeOf (plain : List PlainClass) (classes : List Class) (g : ℕ) (c : Class) : Type 0 where
@@ -119,8 +122,8 @@ pub record IsCodeOf (plain : List PlainClass) (classes : List Class) (g : ℕ) (
   pub stores : List Order
   pub steps : steps_made segments ≡ (class_at plain g).steps
   pub code : stores ++ code_made segments ≡ c.code.items
-  pub make : Each (IsSegment (class_at plain g) (λ h. length (class_at plain h).clocks) c.calls.items c.own) segments
-  pub keep : Stores (class_at plain g) c.own stores
+  pub make : Each (IsSegment (class_at plain g) c.others.items (λ h. length (class_at plain h).clocks) c.calls.items c.own) segments
+  pub keep : Stores (class_at plain g) c.others.items c.own stores
   pub once : AreOnce segments
   pub every : (n : ℕ) → n < length c.calls.items → Making n segments
   pub turns : InTurn (class_at plain g) (class_at plain g).steps (λ x. nat_lt x (class_at plain g).inputs)
@@ -129,8 +132,8 @@ pub record IsCodeOf (plain : List PlainClass) (classes : List Class) (g : ℕ) (
   pub apart : (i j : ℕ) (p q : Call) → slice_get c.calls.items i ≡ Some p → slice_get c.calls.items j ≡ Some q → (i ≡ j → ⊥)
       → (p.cells + p.length ≤ q.cells) ⊎ (q.cells + q.length ≤ p.cells)
   pub calls_are : AreCallsOf plain classes (FitsClass plain) c (length (class_at plain g).clocks) c.calls.items (class_at plain g).calls
-  pub passing : (n : ℕ) (q : Call) → slice_get c.calls.items n ≡ Some q → (vs : List Value) (r : Row) → length r ≡ c.own
-      → GivenOnClocks (class_at plain g) (take (length (class_at plain g).clocks) r) → looks q.base r ≡ true → FitsClass plain q.node (passed q.arguments.items vs r)
+  pub passing : (n : ℕ) (q : Call) → slice_get c.calls.items n ≡ Some q → (r : Row) → length r ≡ c.own
+      → GivenOnClocks (class_at plain g) (take (length (class_at plain g).clocks) r) → looks q.base r ≡ true → FitsClass plain q.node (passed q.arguments.items r)
 
 -- code of classes makes their instants, with all that they call: what it leaves on the row and in the next cells is what a step answers
 abbrev pub CodeMakesInstants : Type 0

@@ -1,15 +1,8 @@
 //! Classes whose code calls.
 
 use crate::order::Order;
-use lus_instructions::Operand;
+use lus_instructions::{Argument, Instruction};
 use lus_values::Test;
-
-/// What is passed to a place of a frame, where a test holds.
-#[derive(Clone, Copy, Drop)]
-pub struct Argument {
-    pub test: Option<Test>,
-    pub operand: Operand,
-}
 
 /// A place that is given what stands in a frame, where a test holds.
 #[derive(Clone, Copy, Drop)]
@@ -30,13 +23,14 @@ pub struct Call {
     pub targets: Vec<Target>,
 }
 
-/// The code of a class, with how many places are its own, how many the frames of its calls need behind them, and how many cells
-/// it has with those of its calls.
+/// The code of a class, with the instructions in it that aren't located, how many places are its own, how many the frames of its calls
+/// need behind them, and how many cells it has with those of its calls.
 #[derive(Drop)]
 pub struct Class {
-    pub own: u32,
-    pub behind: u32,
+    pub own: usize,
+    pub behind: usize,
     pub cells: u32,
     pub code: Vec<Order>,
+    pub others: Vec<Instruction>,
     pub calls: Vec<Call>,
 }
