@@ -1,3 +1,4 @@
 pub mod Emitted
 pub mod Given
 pub mod Layout
+pub mod Stored
