@@ -82,7 +82,7 @@ states_some f ns t (a ∷ given) (q ∷ qs) long h =
 module _ (plain : List PlainClass) (classes : List Class) (f : StateOf) (g : ℕ) (c : Class) (code : IsCodeOf plain classes g c)
     (vs : List Value) (vs_long : length vs ≡ c.cells) (given : List Ask) (does : Calls) (agree : AsksAgree (class_at plain g) given) (many : length given ≡ length c.calls.items)
     (answers : (n : ℕ) (q : Call) → slice_get c.calls.items n ≡ Some q
-        → AnswersCall plain classes (FitsClass plain) f (length (class_at plain g).clocks) vs q (does n) (item silent given n)) where
+    → AnswersCall plain classes (FitsClass plain) f (length (class_at plain g).clocks) vs q (does n) (item silent given n)) where
   abbrev k : PlainClass
   k = class_at plain g
 
@@ -323,8 +323,10 @@ module _ (plain : List PlainClass) (classes : List Class) (f : StateOf) (g : ℕ
 
           by : (o : Option Row) → bound_in k seen ts variables ≡ o → NextGoing rest end
           by None is =
-              inl (ended ∙ ap (λ (o : Option Row). option_map (λ u. (0, u)) (option_map {U = Board} (λ t. (next, t)) (option_map (λ v. v ++ drop w row) o))) is,
-              none_bound seen (f q.node m.new) m.answers is)
+              inl (
+                ended ∙ ap (λ (o : Option Row). option_map (λ u. (0, u)) (option_map {U = Board} (λ t. (next, t)) (option_map (λ v. v ++ drop w row) o))) is,
+                none_bound seen (f q.node m.new) m.answers is,
+              )
           by (Some t) is =
               inr (record {
                 cells = next;

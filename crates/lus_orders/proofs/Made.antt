@@ -18,8 +18,8 @@ use Rattle.lus_orders.specs.Looks.{looks}
 use Rattle.lus_orders.specs.declared.class.Call.{Call}
 use Rattle.lus_orders.specs.declared.class.Class.{Class}
 use Rattle.lus_orders.specs.Orders.{Board, after}
-use Rattle.lus_orders.specs.Classes.{back, begun, called, follows, follows_class, part, passed}
-use Rattle.lus_orders.specs.Made.{AnswersCall, AreCallsOf, AreRealised, CallFaults, CallMade, CallStays, CodeMakesSteps, FitsClass, IsCallOf, Makes, Nests, StateOf, calls_of, given_asks, read_of, state_in, states_with, width}
+use Rattle.lus_orders.specs.Classes.{Nests, back, begun, called, calls_of, follows, follows_class, part, passed}
+use Rattle.lus_orders.specs.Made.{AnswersCall, AreCallsOf, AreRealised, CallFaults, CallMade, CallStays, CodeMakesSteps, FitsClass, IsCallOf, Makes, StateOf, given_asks, read_of, state_in, states_with, width}
 
 part_long : {X : Type 0} (from long : ℕ) (xs : List X) → from + long ≤ length xs → length (part from long xs) ≡ long
 part_long from long xs le = length-take-le long (drop from xs) (let e = length-drop from xs in omega (arith, e, le))
@@ -45,13 +45,13 @@ module _ (plain : List PlainClass) (classes : List Class) (Given : ℕ → Row �
   -- what a node's code makes, whose calls are nested within a depth
   abbrev pub MakesSteps : ℕ → Type 0
   MakesSteps d =
-      (g : ℕ) (c : Class) → slice_get classes g ≡ Some c → Nests plain classes (suc d) g → (vs : List Value) (inputs : Row) → length vs ≡ c.cells → Given g inputs
+      (g : ℕ) (c : Class) → slice_get classes g ≡ Some c → Nests classes (suc d) g → (vs : List Value) (inputs : Row) → length vs ≡ c.cells → Given g inputs
       → Makes plain classes Given (λ h us. state_in plain classes d h us) g (given_asks plain classes (λ h us. state_in plain classes d h us) g vs) vs inputs
       (follows_class classes d c vs (vs, begun c.own inputs))
 
   module _ (d : ℕ) (below : MakesSteps d) (c : Class) (w : ℕ) (vs : List Value) (long : length vs ≡ c.cells)
       (n : ℕ) (q : Call) (found : slice_get c.calls.items n ≡ Some q) (ask : Ask)
-      (has : HasPlain (λ h us. state_in plain classes (suc d) h us) w c q vs ask) (nests : Nests plain classes (suc d) q.node) where
+      (has : HasPlain (λ h us. state_in plain classes (suc d) h us) w c q vs ask) (nests : Nests classes (suc d) q.node) where
     abbrev us : List Value
     us = part q.cells q.length vs
 
@@ -151,26 +151,26 @@ module _ (plain : List PlainClass) (classes : List Class) (Given : ℕ → Row �
       ap (λ o. length (asks plain (states_with f (elim o [ None ↦ [] | Some k ↦ k.calls.items ]) vs) (class_at plain g).calls)) found
       ∙ asks_long f (width plain classes g) c c.calls.items (class_at plain g).calls vs all
 
-  nests_at : (d g : ℕ) (c : Class) → slice_get classes g ≡ Some c → Nests plain classes (suc d) g → Each (λ q. Nests plain classes d q.node) c.calls.items
-  nests_at d g c found nests = subst (λ o. Each (λ q. Nests plain classes d q.node) (elim o [ None ↦ [] | Some k ↦ k.calls.items ])) found nests
+  nests_at : (d g : ℕ) (c : Class) → slice_get classes g ≡ Some c → Nests classes (suc d) g → Each (λ q. Nests classes d q.node) c.calls.items
+  nests_at d g c found nests = subst (λ o. Each (λ q. Nests classes d q.node) (elim o [ None ↦ [] | Some k ↦ k.calls.items ])) found nests
 
   module _ (all : AreRealised plain classes Given) where
     pub makes : (d : ℕ) → MakesSteps d
     makes zero g c found nests vs inputs long given =
         (all g c found).realises (λ h us. state_in plain classes 0 h us) vs inputs long given _ _
-        (λ n r t h. asks_same plain (states_with (λ h us. state_in plain classes 0 h us) (calls_of plain classes g) vs) (class_at plain g).calls n r t h)
+        (λ n r t h. asks_same plain (states_with (λ h us. state_in plain classes 0 h us) (calls_of classes g) vs) (class_at plain g).calls n r t h)
         (given_long (λ h us. state_in plain classes 0 h us) g c vs found (all g c found).calls)
-        (λ n q at. absurd (each_found (λ p. Nests plain classes 0 p.node) c.calls.items n q (nests_at 0 g c found nests) at))
+        (λ n q at. absurd (each_found (λ p. Nests classes 0 p.node) c.calls.items n q (nests_at 0 g c found nests) at))
     makes (suc d) g c found nests vs inputs long given =
         (all g c found).realises (λ h us. state_in plain classes (suc d) h us) vs inputs long given _ _
-        (λ n r t h. asks_same plain (states_with (λ h us. state_in plain classes (suc d) h us) (calls_of plain classes g) vs) (class_at plain g).calls n r t h)
+        (λ n r t h. asks_same plain (states_with (λ h us. state_in plain classes (suc d) h us) (calls_of classes g) vs) (class_at plain g).calls n r t h)
         (given_long (λ h us. state_in plain classes (suc d) h us) g c vs found (all g c found).calls)
         (λ n q at. answers_call d (makes d) c (width plain classes g) vs long n q at
         (item silent (given_asks plain classes (λ h us. state_in plain classes (suc d) h us) g vs) n)
         (subst (λ qs. HasPlain (λ h us. state_in plain classes (suc d) h us) (width plain classes g) c q vs (item silent (asks plain (states_with (λ h us. state_in plain classes (suc d) h us) qs vs) (class_at plain g).calls) n))
         (sym (ap (λ o. elim o [ None ↦ [] | Some k ↦ k.calls.items ]) found))
         (plain_at (λ h us. state_in plain classes (suc d) h us) (width plain classes g) c c.calls.items (class_at plain g).calls vs (all g c found).calls n q at))
-        (each_found (λ p. Nests plain classes (suc d) p.node) c.calls.items n q (nests_at (suc d) g c found nests) at))
+        (each_found (λ p. Nests classes (suc d) p.node) c.calls.items n q (nests_at (suc d) g c found nests) at))
 
 pub code_makes_steps : CodeMakesSteps
 code_makes_steps plain classes all d g c found nests vs inputs long given = (makes plain classes (FitsClass plain) all d g c found nests vs inputs long given).answers

@@ -18,8 +18,8 @@ use Rattle.lus_classes.specs.Played.{GivenOnClocks}
 use Rattle.lus_orders.specs.declared.class.Call.{Call}
 use Rattle.lus_orders.specs.declared.class.Class.{Class}
 use Rattle.lus_orders.specs.Orders.{Board, Calls, after, exec}
-use Rattle.lus_orders.specs.Classes.{begun}
-use Rattle.lus_orders.specs.Made.{AnswersCall, AreRealised, AsksAgree, FitsClass, Makes, StateOf, calls_of, read_of, states_with}
+use Rattle.lus_orders.specs.Classes.{begun, calls_of}
+use Rattle.lus_orders.specs.Made.{AnswersCall, AreRealised, AsksAgree, FitsClass, Makes, StateOf, read_of, states_with}
 use Rattle.lus_orders.specs.Segments.{IsCodeOf, Stored, code_made, kept, own_cells, own_flags, wide}
 use Rattle.lus_orders.proofs.Going.{Going, NextGoing, all_go, all_played, played}
 use Rattle.lus_orders.proofs.Lists.{begun_long}
@@ -80,7 +80,7 @@ module _ (plain : List PlainClass) (classes : List Class) (g : ℕ) (c : Class) 
     (f : StateOf) (vs : List Value) (inputs : Row) (vs_long : length vs ≡ c.cells) (fits : FitsClass plain g inputs) (does : Calls) (given : List Ask)
     (agree : AsksAgree (class_at plain g) given) (many : length given ≡ length c.calls.items)
     (answers : (n : ℕ) (q : Call) → slice_get c.calls.items n ≡ Some q
-        → AnswersCall plain classes (FitsClass plain) f (length (class_at plain g).clocks) vs q (does n) (item silent given n)) where
+    → AnswersCall plain classes (FitsClass plain) f (length (class_at plain g).clocks) vs q (does n) (item silent given n)) where
   abbrev k : PlainClass
   k = class_at plain g
 
@@ -129,7 +129,7 @@ module _ (plain : List PlainClass) (classes : List Class) (g : ℕ) (c : Class) 
       sym (ap (λ os. after c.others.items vs does os 0 (vs, row)) code.code)
       ∙ ap (option_map (λ s. s.1)) (exec_append c.others.items vs does code.stores (code_made code.segments) 0 (vs, row))
 
-  calls_are : calls_of plain classes g ≡ c.calls.items
+  calls_are : calls_of classes g ≡ c.calls.items
   calls_are = ap (λ o. elim o [ None ↦ [] | Some x ↦ x.calls.items ]) there
 
   made : Makes plain classes (FitsClass plain) f g given vs inputs end
@@ -151,7 +151,7 @@ module _ (plain : List PlainClass) (classes : List Class) (g : ℕ) (c : Class) 
           end_is
           ∙ ap (λ o. option_map (λ s. s.1) (option_and_then (λ (s : ℕ × Board). exec c.others.items vs does code.stores s.0 s.1) o)) to.ended
           ∙ ap (option_map (λ s. s.1)) store.ended in
-          let states : states_with f c.calls.items to.cells ≡ states_with f (calls_of plain classes g) store.next =
+          let states : states_with f c.calls.items to.cells ≡ states_with f (calls_of classes g) store.next =
           sym (states_behind f (kept k) c.calls.items store.next to.cells code.behind store.behind)
           ∙ ap (λ qs. states_with f qs store.next) (sym calls_are) in
           record {

@@ -14,7 +14,7 @@ use Rattle.lus_orders.specs.Looks.{looks}
 use Rattle.lus_orders.specs.declared.class.Call.{Call}
 use Rattle.lus_orders.specs.declared.class.Class.{Class}
 use Rattle.lus_orders.specs.Orders.{Board, Calls, after}
-use Rattle.lus_orders.specs.Classes.{begun, bound, follows_class, part, passed, replaced}
+use Rattle.lus_orders.specs.Classes.{Nests, begun, bound, calls_of, follows_class, part, passed, replaced}
 
 -- what a call's cells are as a state, where that of each node is known
 abbrev pub StateOf : Type 0
@@ -43,12 +43,9 @@ module _ (plain : List PlainClass) (classes : List Class) where
   abbrev pub firsts : ℕ → ℕ
   firsts g = length (class_at plain g).firsts
 
-  abbrev pub calls_of : ℕ → List Call
-  calls_of g = elim (slice_get classes g) [ None ↦ [] | Some c ↦ c.calls.items ]
-
   -- the cells of a node are its memories, its first-flags, and then those of its calls
   abbrev pub state_with : StateOf → ℕ → List Value → State
-  state_with f g vs = state (take (memories g) vs) (flags_in (part (memories g) (firsts g) vs)) (states_with f (calls_of g) vs)
+  state_with f g vs = state (take (memories g) vs) (flags_in (part (memories g) (firsts g) vs)) (states_with f (calls_of classes g) vs)
 
   abbrev pub state_in : (depth : ℕ) → StateOf
   state_in zero g vs = state [] [] no_state
@@ -60,7 +57,7 @@ module _ (plain : List PlainClass) (classes : List Class) where
 
   -- what a call asks, from the cells of its caller
   abbrev pub given_asks : StateOf → ℕ → List Value → List Ask
-  given_asks f g vs = asks plain (states_with f (calls_of g) vs) (class_at plain g).calls
+  given_asks f g vs = asks plain (states_with f (calls_of classes g) vs) (class_at plain g).calls
 
   module _ (Given : ℕ → Row → Type 0) where
     -- a call was made, and answered: its cells are its next state, and its targets are given
@@ -126,11 +123,6 @@ module _ (plain : List PlainClass) (classes : List Class) where
     abbrev pub AreRealised : Type 0
     AreRealised = (g : ℕ) (c : Class) → slice_get classes g ≡ Some c → IsRealised g c
 
-  -- the calls of a node are nested within a depth
-  abbrev pub Nests : (depth node : ℕ) → Type 0
-  Nests zero g = ⊥
-  Nests (suc d) g = Each (λ q. Nests d q.node) (calls_of g)
-
 -- inputs of a node, which stand on their clocks
 abbrev pub FitsClass : List PlainClass → ℕ → Row → Type 0
 FitsClass plain g i = (length i ≡ (class_at plain g).inputs) × GivenOnClocks (class_at plain g) i
@@ -139,7 +131,7 @@ FitsClass plain g i = (length i ≡ (class_at plain g).inputs) × GivenOnClocks 
 abbrev pub CodeMakesSteps : Type 0
 CodeMakesSteps =
     (plain : List PlainClass) (classes : List Class) → AreRealised plain classes (FitsClass plain)
-    → (d g : ℕ) (c : Class) → slice_get classes g ≡ Some c → Nests plain classes (suc d) g
+    → (d g : ℕ) (c : Class) → slice_get classes g ≡ Some c → Nests classes (suc d) g
     → (vs : List Value) (inputs : Row) → length vs ≡ c.cells → FitsClass plain g inputs
     → step plain (state_in plain classes (suc d) g vs) g inputs
     ≡ option_map (read_of plain classes (λ h us. state_in plain classes d h us) g) (follows_class classes d c vs (vs, begun c.own inputs))

@@ -15,8 +15,8 @@ use Rattle.lus_orders.specs.declared.class.Target.{Target}
 use Rattle.lus_orders.specs.declared.class.Call.{Call}
 use Rattle.lus_orders.specs.declared.class.Class.{Class}
 use Rattle.lus_orders.specs.Orders.{Calls, Next, exec}
-use Rattle.lus_orders.specs.Classes.{begun, follows_class, part, passed}
-use Rattle.lus_orders.specs.Made.{AreCallsOf, FitsClass, Nests, flags_in, read_of, state_in}
+use Rattle.lus_orders.specs.Classes.{Nests, begun, follows_class, part, passed}
+use Rattle.lus_orders.specs.Made.{AreCallsOf, FitsClass, flags_in, read_of, state_in}
 
 pub data Segment : Type 0 where
   gives : List Step → List Order → Segment
@@ -139,7 +139,7 @@ pub record IsCodeOf (plain : List PlainClass) (classes : List Class) (g : ℕ) (
 abbrev pub CodeMakesInstants : Type 0
 CodeMakesInstants =
     (plain : List PlainClass) (classes : List Class) → ((g : ℕ) (c : Class) → slice_get classes g ≡ Some c → IsCodeOf plain classes g c)
-    → (d g : ℕ) (c : Class) → slice_get classes g ≡ Some c → Nests plain classes (suc d) g
+    → (d g : ℕ) (c : Class) → slice_get classes g ≡ Some c → Nests classes (suc d) g
     → (vs : List Value) (inputs : Row) → length vs ≡ c.cells → FitsClass plain g inputs
     → step plain (state_in plain classes (suc d) g vs) g inputs
     ≡ option_map (read_of plain classes (λ h us. state_in plain classes d h us) g) (follows_class classes d c vs (vs, begun c.own inputs))

@@ -15,7 +15,6 @@ pub fn code_makes_instants()
     ensures { CodeMakesInstants }
 {}
 
-
 /// Orders that store one cell after another store what a class keeps.
 pub fn stores_store()
     ensures { StoresStore }
