@@ -1,4 +1,14 @@
+pub mod Belonging
+pub mod CallOrders
 pub mod Emitted
+pub mod Extended
+pub mod Fits
+pub mod Framed
 pub mod Given
+pub mod Keeping
 pub mod Layout
+pub mod Segments
+pub mod Standing
 pub mod Stored
+pub mod Underway
+pub mod Within

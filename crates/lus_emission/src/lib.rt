@@ -1,8 +1,14 @@
 //! The code of classes as orders: a class after those that it calls.
 #![tactic(auto)]
 
+mod calls;
+mod class;
+mod classes;
 mod instructions;
 mod laws;
+mod parts;
+mod stores;
+mod targets;
 
-pub use instructions::{add_orders, order_of};
+pub use classes::emit_classes;
 pub use laws::{orders_give_steps, parts_are_apart};
