@@ -1,3 +1,4 @@
+pub mod Adding
 pub mod Belonging
 pub mod CallOrders
 pub mod Emitted
@@ -5,8 +6,11 @@ pub mod Extended
 pub mod Fits
 pub mod Framed
 pub mod Given
+pub mod Giving
 pub mod Keeping
 pub mod Layout
+pub mod OnClocks
+pub mod Rooms
 pub mod Segments
 pub mod Standing
 pub mod Stored
