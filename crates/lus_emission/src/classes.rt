@@ -4,8 +4,7 @@ ghost use Rattle.std.specs.Prelude.{◌≡◌, ◌≢◌, ◌<◌, ◌^◌, ℕ,
 ghost use Rattle.lus_graph.specs.Ways.{IsOrder};
 ghost use Rattle.lus_classes.specs.Passing.{PassGiven};
 ghost use Rattle.lus_orders.specs.Classes.{AreFramed};
-ghost use Rattle.lus_emission.specs.Laws.{HaveCode};
-ghost use Rattle.lus_emission.specs.Made.{AreBlank};
+ghost use Rattle.lus_emission.specs.Made.{AreBlank, HaveCode};
 ghost use Rattle.lus_emission.specs.Sources.{AreFew, CanAllBeEmitted, HaveParts, class_uses};
 
 use crate::class::emit_class;

@@ -5,10 +5,8 @@ mod calls;
 mod class;
 mod classes;
 mod instructions;
-mod laws;
 mod parts;
 mod stores;
 mod targets;
 
 pub use classes::emit_classes;
-pub use laws::{orders_give_steps, parts_are_apart};
