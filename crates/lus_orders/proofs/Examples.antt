@@ -5,10 +5,10 @@ use Rattle.std.specs.Prelude.{option_map}
 use Rattle.std.specs.Option.{option_and_then, unwrap_or}
 use Rattle.std.proofs.lemmas.Option.{none-some, same_Some}
 use Rattle.lus_values.specs.Lists.{Each}
-use Rattle.lus_values.specs.Values.{Value, Row, bool, int}
+use Rattle.lus_values.specs.Values.{Value, Row, bool, int, nil}
 use Rattle.lus_values.specs.declared.operator.Op.TheVariants as ops
 use Rattle.lus_values.specs.declared.operator.Operator.TheVariants.{Compute}
-use Rattle.lus_classes.specs.Classes.{Step, named, fixed, compute, recall, choose, answer, also_code, no_code}
+use Rattle.lus_classes.specs.Classes.{Step, class_at, named, fixed, compute, recall, choose, answer, also_code, no_code}
 use Rattle.lus_classes.specs.Classes.{Class as PlainClass}
 use Rattle.lus_values.specs.Entries.{chosen}
 use Rattle.lus_instructions.specs.Applied.{applied}
@@ -23,8 +23,10 @@ use Rattle.lus_orders.specs.declared.class.Target.{Target}
 use Rattle.lus_orders.specs.declared.class.Call.{Call}
 use Rattle.lus_orders.specs.declared.class.Class.{Class}
 use Rattle.lus_orders.specs.Orders.{Board, Calls, Next, is_first, obey, on_row}
-use Rattle.lus_orders.specs.Made.{flags_in}
-use Rattle.lus_orders.specs.Segments.{GivesRow, GivesSteps, IsCodeOf, MakesCall, Segment, Stored, Stores, calls, gives, own_cells, own_flags, taken}
+use Rattle.lus_orders.specs.Classes.{passed}
+use Rattle.lus_orders.specs.Looks.{looks}
+use Rattle.lus_orders.specs.Made.{AreCallsOf, FitsClass, IsCallOf}
+use Rattle.lus_orders.specs.Segments.{AreLaidOut, GivesRow, GivesSteps, IsCodeOf, MakesCall, TargetOf, Segment, Stored, Stores, calls, gives, own_cells, own_flags, taken}
 
 abbrev pub zero_int : ℤ
 zero_int = pos 0
@@ -94,7 +96,7 @@ counter_keeps others (v ∷ []) does ns (e0 ∷ e1 ∷ []) long same le own = ab
 counter_keeps others (v ∷ u ∷ vs) does [] (e0 ∷ e1 ∷ []) long same le own = absurd (omega arith)
 counter_keeps others (v ∷ u ∷ vs) does (n ∷ []) (e0 ∷ e1 ∷ []) long same le own = absurd (omega arith)
 counter_keeps others (v ∷ u ∷ vs) does (n ∷ m ∷ ns) (e0 ∷ e1 ∷ []) long same le own =
-    record { next = unwrap_or e0 Rattle.lus_values.specs.Values.nil ∷ bool false ∷ ns; row = e0 ∷ e1 ∷ []; ended = refl; same = refl; cells = refl; flags = refl; behind = refl; long = refl }
+    record { next = unwrap_or e0 nil ∷ bool false ∷ ns; row = e0 ∷ e1 ∷ []; ended = refl; same = refl; cells = refl; flags = refl; behind = refl; long = refl }
 
 module _ (c e : Class) (call : Call)
     (c_own : c.own ≡ 2) (c_cells : c.cells ≡ 2) (c_code : c.code.items ≡ counter_stores ++ counter_code) (c_calls : c.calls.items ≡ [])
@@ -107,7 +109,7 @@ module _ (c e : Class) (call : Call)
   abbrev classes : List Class
   classes = c ∷ e ∷ []
 
-  pub counter_has_code : IsCodeOf plain classes 0 c
+  pub counter_has_code : IsCodeOf plain classes counter c
   counter_has_code = record {
     own = omega (arith, c_own);
     inputs = omega arith;
@@ -120,27 +122,25 @@ module _ (c e : Class) (call : Call)
     once = tt;
     every = λ n lt. absurd (let none = ap (λ (l : List Call). length l) c_calls in omega (arith, none, lt));
     turns = (tt, refl, (let l : 0 < 1 = omega arith in l), tt);
-    long = omega (arith, c_cells);
-    behind = subst (Each (λ (q : Call). 2 ≤ q.cells)) (sym c_calls) tt;
-    apart = λ i j p q found. absurd (none-some p (subst (λ (l : List Call). slice_get l i ≡ Some p) c_calls found));
-    calls_are = subst (λ (l : List Call). Rattle.lus_orders.specs.Made.AreCallsOf plain classes (Rattle.lus_orders.specs.Made.FitsClass plain) c 1 l []) (sym c_calls) tt;
+    laid = subst (AreLaidOut 2 c.cells) (sym c_calls) (record { own = omega (arith, c_cells); behind = tt; within = tt; apart = λ i j p q found. absurd (none-some p found) });
+    calls_are = subst (λ (l : List Call). AreCallsOf plain classes (FitsClass plain) c 1 l []) (sym c_calls) tt;
     passing = λ n q found. absurd (none-some q (subst (λ (l : List Call). slice_get l n ≡ Some q) c_calls found));
   }
 
-  target_here : Rattle.lus_orders.specs.Segments.TargetOf caller 1 (record { variable = 0; test = None; place = 0 })
+  target_here : TargetOf caller 1 (record { variable = 0; test = None; place = 0 })
   target_here = record { variable = omega arith; place = omega arith; test = λ r le. refl }
 
   abbrev target : Target
   target = record { variable = 0; test = None; place = 0 }
 
-  makes : MakesCall caller (λ h. length (Rattle.lus_classes.specs.Classes.class_at plain h).clocks) (call ∷ []) 0 (target ∷ [])
+  makes : MakesCall caller (λ h. length (class_at plain h).clocks) (call ∷ []) 0 (target ∷ [])
   makes = record {
     call = call;
     found = refl;
     targets = targets;
-    each = subst (λ n. Each (Rattle.lus_orders.specs.Segments.TargetOf caller (length (Rattle.lus_classes.specs.Classes.class_at plain n).clocks)) (target ∷ [])) (sym node) (target_here, tt);
+    each = subst (λ n. Each (TargetOf caller (length (class_at plain n).clocks)) (target ∷ [])) (sym node) (target_here, tt);
     some = omega arith;
-    off = λ r le on looks_off. absurd (let no_base : true ≡ false = sym (ap (λ b. Rattle.lus_orders.specs.Looks.looks b r) base) ∙ looks_off in cc);
+    off = λ r le on looks_off. absurd (let no_base : true ≡ false = sym (ap (λ b. looks b r) base) ∙ looks_off in cc);
   }
 
   keeps : Stores caller e.others.items e.own []
@@ -153,30 +153,30 @@ module _ (c e : Class) (call : Call)
   only_one (suc i) j p q ep eq other = absurd (none-some p ep)
 
   abbrev Fits : ℕ → Row → Type 0
-  Fits = Rattle.lus_orders.specs.Made.FitsClass plain
+  Fits = FitsClass plain
 
-  call_is : Rattle.lus_orders.specs.Made.IsCallOf plain classes Fits e 1 call (record { node = 0; base = []; arguments = [] })
+  call_is : IsCallOf plain classes Fits e 1 call (record { node = 0; base = []; arguments = [] })
   call_is = record {
     node = sym node;
-    base = λ r le. ap (λ b. Rattle.lus_orders.specs.Looks.looks b r) base;
-    passing = λ r le. ap (λ l. Rattle.lus_orders.specs.Classes.passed l r) arguments;
+    base = λ r le. ap (λ b. looks b r) base;
+    passing = λ r le. ap (λ l. passed l r) arguments;
     called = c;
     found = ap (slice_get classes) node;
     long = length_is ∙ sym c_cells;
     cells = omega (arith, cells, length_is, e_cells);
   }
 
-  nothing_given : (g : ℕ) → g ≡ 0 → (r : Row) → Fits g (Rattle.lus_orders.specs.Classes.passed call.arguments.items r)
+  nothing_given : (g : ℕ) → g ≡ 0 → (r : Row) → Fits g (passed call.arguments.items r)
   nothing_given g is r =
-      subst (λ l. Fits g (Rattle.lus_orders.specs.Classes.passed l r)) (sym arguments)
+      subst (λ l. Fits g (passed l r)) (sym arguments)
       (subst (λ h. Fits h []) (sym is) (refl, λ x some. absurd (let no_entry : false ≡ true = some in cc)))
 
-  passes_one : (n : ℕ) (q : Call) → slice_get (call ∷ []) n ≡ Some q → (r : Row) → Fits q.node (Rattle.lus_orders.specs.Classes.passed q.arguments.items r)
+  passes_one : (n : ℕ) (q : Call) → slice_get (call ∷ []) n ≡ Some q → (r : Row) → Fits q.node (passed q.arguments.items r)
   passes_one zero q found r =
-      subst (λ (p : Call). Fits p.node (Rattle.lus_orders.specs.Classes.passed p.arguments.items r)) (same_Some call q found) (nothing_given call.node node r)
+      subst (λ (p : Call). Fits p.node (passed p.arguments.items r)) (same_Some call q found) (nothing_given call.node node r)
   passes_one (suc n) q found r = absurd (none-some q found)
 
-  pub caller_has_code : IsCodeOf plain classes 1 e
+  pub caller_has_code : IsCodeOf plain classes caller e
   caller_has_code = record {
     own = omega (arith, e_own);
     inputs = omega arith;
@@ -184,21 +184,19 @@ module _ (c e : Class) (call : Call)
     stores = [];
     steps = refl;
     code = sym e_code;
-    make = (subst (λ qs. MakesCall caller (λ h. length (Rattle.lus_classes.specs.Classes.class_at plain h).clocks) qs 0 (target ∷ [])) (sym e_calls) makes, tt);
+    make = (subst (λ qs. MakesCall caller (λ h. length (class_at plain h).clocks) qs 0 (target ∷ [])) (sym e_calls) makes, tt);
     keep = keeps;
     once = (λ m. m, tt);
     every = λ n lt. inl (let one = ap (λ (l : List Call). length l) e_calls in omega (arith, one, lt));
     turns = (tt, refl, (let l : 0 < 1 = omega arith in l), tt);
-    long = omega arith;
-    behind = subst (Each (λ (q : Call). 0 ≤ q.cells)) (sym e_calls) (omega arith, tt);
-    apart = subst (λ (l : List Call). (i j : ℕ) (p q : Call) → slice_get l i ≡ Some p → slice_get l j ≡ Some q → (i ≡ j → ⊥) → (p.cells + p.length ≤ q.cells) ⊎ (q.cells + q.length ≤ p.cells))
-        (sym e_calls) only_one;
-    calls_are = subst (λ (l : List Call). Rattle.lus_orders.specs.Made.AreCallsOf plain classes Fits e 1 l (record { node = 0; base = []; arguments = [] } ∷ [])) (sym e_calls) (call_is, tt);
+    laid = subst (AreLaidOut 0 e.cells) (sym e_calls)
+        (record { own = omega arith; behind = (omega arith, tt); within = (omega (arith, cells, length_is, e_cells), tt); apart = only_one });
+    calls_are = subst (λ (l : List Call). AreCallsOf plain classes Fits e 1 l (record { node = 0; base = []; arguments = [] } ∷ [])) (sym e_calls) (call_is, tt);
     passing = λ n q found r long on base_on. passes_one n q (subst (λ (l : List Call). slice_get l n ≡ Some q) e_calls found) r;
   }
 
   -- both have
-  pub all_have_code : (g : ℕ) (k : Class) → slice_get classes g ≡ Some k → IsCodeOf plain classes g k
-  all_have_code zero k found = subst (λ (x : Class). IsCodeOf plain classes 0 x) (same_Some c k found) counter_has_code
-  all_have_code (suc zero) k found = subst (λ (x : Class). IsCodeOf plain classes 1 x) (same_Some e k found) caller_has_code
+  pub all_have_code : (g : ℕ) (k : Class) → slice_get classes g ≡ Some k → IsCodeOf plain classes (class_at plain g) k
+  all_have_code zero k found = subst (λ (x : Class). IsCodeOf plain classes counter x) (same_Some c k found) counter_has_code
+  all_have_code (suc zero) k found = subst (λ (x : Class). IsCodeOf plain classes caller x) (same_Some e k found) caller_has_code
   all_have_code (suc (suc g)) k found = absurd (none-some k found)

@@ -17,7 +17,7 @@ use Rattle.lus_classes.specs.States.{State, States, also_state}
 use Rattle.lus_classes.specs.Steps.{Ask, run_steps, silent, states_after}
 use Rattle.lus_classes.proofs.Rows.{Agree}
 use Rattle.lus_classes.proofs.Solving.{stays}
-use Rattle.lus_classes.specs.Played.{GivenOnClocks, Unknown}
+use Rattle.lus_classes.specs.Played.{AreNew, GivenOnClocks, Unknown}
 use Rattle.lus_classes.proofs.OnClocks.{steps_given}
 use Rattle.lus_orders.specs.declared.order.Order.{Order}
 use Rattle.lus_orders.specs.declared.order.Order.TheVariants as orders
@@ -26,7 +26,7 @@ use Rattle.lus_orders.specs.declared.class.Call.{Call}
 use Rattle.lus_orders.specs.declared.class.Class.{Class}
 use Rattle.lus_orders.specs.Orders.{Board, Calls, Next, exec}
 use Rattle.lus_orders.specs.Classes.{bound, part, replaced}
-use Rattle.lus_orders.specs.Made.{AnswersCall, AsksAgree, CallFaults, CallMade, CallStays, FitsClass, StateOf, states_with}
+use Rattle.lus_orders.specs.Made.{AnswersCall, AreCallsOf, AsksAgree, CallFaults, CallMade, CallStays, FitsClass, StateOf, states_with}
 use Rattle.lus_orders.specs.Segments.{AreOnce, GivesRow, GivesSteps, IsCodeOf, IsSegment, MakesCall, Making, Segment, calls, code_made, gives, kept, own_cells, own_flags, steps_made, taken, wide}
 use Rattle.lus_orders.proofs.Binding.{bind_is, bound_off}
 use Rattle.lus_orders.proofs.Obeyed.{exec_append}
@@ -79,7 +79,7 @@ states_some f ns t (a ∷ given) (q ∷ qs) long h =
     ap (option_and_then (λ (first : Row × State). option_map (λ ss. also_state first.1 ss) (states_after given t))) (h 0 q refl).1
     ∙ ap (option_map (λ ss. also_state (f q.node (part q.cells q.length ns)) ss)) (states_some f ns t given qs (omega (arith, long)) (λ n p e. h (suc n) p e))
 
-module _ (plain : List PlainClass) (classes : List Class) (f : StateOf) (g : ℕ) (c : Class) (code : IsCodeOf plain classes g c)
+module _ (plain : List PlainClass) (classes : List Class) (f : StateOf) (g : ℕ) (c : Class) (code : IsCodeOf plain classes (class_at plain g) c)
     (vs : List Value) (vs_long : length vs ≡ c.cells) (given : List Ask) (does : Calls) (agree : AsksAgree (class_at plain g) given) (many : length given ≡ length c.calls.items)
     (answers : (n : ℕ) (q : Call) → slice_get c.calls.items n ≡ Some q
     → AnswersCall plain classes (FitsClass plain) f (length (class_at plain g).clocks) vs q (does n) (item silent given n)) where
@@ -107,7 +107,7 @@ module _ (plain : List PlainClass) (classes : List Class) (f : StateOf) (g : ℕ
   fits : (n : ℕ) (q : Call) → slice_get qs n ≡ Some q → q.cells + q.length ≤ c.cells
   fits n q found = by qs (class_at plain g).calls code.calls_are n found
     where
-      by : (ps : List Call) (rs : _) → Rattle.lus_orders.specs.Made.AreCallsOf plain classes (FitsClass plain) c w ps rs → (n : ℕ) → slice_get ps n ≡ Some q → q.cells + q.length ≤ c.cells
+      by : (ps : List Call) (rs : _) → AreCallsOf plain classes (FitsClass plain) c w ps rs → (n : ℕ) → slice_get ps n ≡ Some q → q.cells + q.length ≤ c.cells
       by [] rs all n e = absurd (none-some q e)
       by (p ∷ ps) [] all n e = absurd all
       by (p ∷ ps) (r ∷ rs) all zero e = subst (λ (h : Call). h.cells + h.length ≤ c.cells) (same_Some p q e) all.0.cells
@@ -155,7 +155,7 @@ module _ (plain : List PlainClass) (classes : List Class) (f : StateOf) (g : ℕ
         → NextGoing rest (runs os ns row)
     given_goes ss os rest segment ns row go = by (segment vs given does go.known new ns row go.long go.unknown go.on)
       where
-        new : Rattle.lus_classes.specs.Played.AreNew ss go.known
+        new : AreNew ss go.known
         new = are_new k ss (steps_made rest) go.known go.turn
 
         whole_is : whole ≡ option_and_then (ran (steps_made rest)) (ran ss (take w row))
@@ -205,7 +205,7 @@ module _ (plain : List PlainClass) (classes : List Class) (f : StateOf) (g : ℕ
       within : q.cells + q.length ≤ length ns
       within = let a = fits n q makes.found in let b = go.cells in omega (arith, a, b, vs_long)
 
-      new_targets : Rattle.lus_classes.specs.Played.AreNew (map (taken n) ts) go.known
+      new_targets : AreNew (map (taken n) ts) go.known
       new_targets = are_new k (map (taken n) ts) (steps_made rest) go.known go.turn
 
       waiting : part q.cells q.length ns ≡ part q.cells q.length vs
@@ -315,7 +315,7 @@ module _ (plain : List PlainClass) (classes : List Class) (f : StateOf) (g : ℕ
           ended = ap (option_map (λ u. (0, u))) (m.ended ∙ ap (option_map {U = Board} (λ t. (next, t))) binds)
 
           others : (j : ℕ) (p : Call) → slice_get qs j ≡ Some p → (j ≡ n → ⊥) → part p.cells p.length next ≡ part p.cells p.length ns
-          others j p found other = go_by (code.apart j n p q found makes.found other)
+          others j p found other = go_by (code.laid.apart j n p q found makes.found other)
             where
               go_by : (p.cells + p.length ≤ q.cells) ⊎ (q.cells + q.length ≤ p.cells) → part p.cells p.length next ≡ part p.cells p.length ns
               go_by (inl le) = part_before p.cells p.length q.cells next ns le (replaced_front q.cells q.length m.new ns m.long within)
@@ -334,7 +334,7 @@ module _ (plain : List PlainClass) (classes : List Class) (f : StateOf) (g : ℕ
                 ended = ended ∙ ap (λ (o : Option Row). option_map (λ u. (0, u)) (option_map {U = Board} (λ t. (next, t)) (option_map (λ v. v ++ drop w row) o))) is;
                 going = going_on seen next t is (f q.node m.new) m.answers
                     (replaced_long q.cells q.length m.new ns m.long within ∙ go.cells)
-                    (sooner (kept k) q.cells next ns (each_found (λ p. kept k ≤ p.cells) qs n q code.behind makes.found) (replaced_front q.cells q.length m.new ns m.long within) ∙ go.own)
+                    (sooner (kept k) q.cells next ns (each_found (λ p. kept k ≤ p.cells) qs n q code.laid.behind makes.found) (replaced_front q.cells q.length m.new ns m.long within) ∙ go.own)
                     (ap (f q.node) (replaced_part q.cells q.length m.new ns m.long within))
                     others;
               })

@@ -4,6 +4,7 @@ use Rattle.std.proofs.Math.Logic.{inl, inr}
 use Rattle.std.specs.Prelude.{option_map}
 use Rattle.std.specs.Option.{IfSome, option_and_then}
 use Rattle.std.proofs.lemmas.Bool.{ltb-false}
+use Rattle.std.proofs.lemmas.Option.{slice_get_within}
 use Rattle.lus_values.specs.Lists.{item, Each}
 use Rattle.lus_values.specs.Values.{Value, Row}
 use Rattle.lus_streams.specs.Clocks.{Clock}
@@ -11,7 +12,8 @@ use Rattle.lus_streams.specs.Order.{clock_variables}
 use Rattle.lus_streams.proofs.Lists.{each_all}
 use Rattle.lus_classes.specs.Classes.{class_at, clock_in}
 use Rattle.lus_classes.specs.Classes.{Class as PlainClass}
-use Rattle.lus_classes.specs.States.{State, States, state}
+use Rattle.lus_classes.specs.ClassesOf.{InTurn}
+use Rattle.lus_classes.specs.States.{State, States, also_state, state}
 use Rattle.lus_classes.specs.Steps.{Ask, answer_after, first_row, instant_of, run_steps, silent, state_after, states_after}
 use Rattle.lus_classes.proofs.Rows.{Agree, is_on_row_same}
 use Rattle.lus_classes.specs.Played.{GivenOnClocks}
@@ -54,7 +56,7 @@ given_same c r t agree given x some =
 states_behind : (f : StateOf) (a : ℕ) (qs : List Call) (xs ys : List Value) → Each (λ q. a ≤ q.cells) qs → drop a xs ≡ drop a ys → states_with f qs xs ≡ states_with f qs ys
 states_behind f a [] xs ys all same = refl
 states_behind f a (q ∷ qs) xs ys all same =
-    ap₂ Rattle.lus_classes.specs.States.also_state (ap (f q.node) (part_behind q.cells q.length a xs ys all.0 same)) (states_behind f a qs xs ys all.1 same)
+    ap₂ also_state (ap (f q.node) (part_behind q.cells q.length a xs ys all.0 same)) (states_behind f a qs xs ys all.1 same)
 
 module _ (k : PlainClass) (us : List Value) (fs : List Bool) (given : List Ask) where
   abbrev answer_of : Row × States → Row × State
@@ -76,7 +78,7 @@ module _ (k : PlainClass) (us : List Value) (fs : List Bool) (given : List Ask) 
       by None = refl
       by (Some t) = one_kept t (states_after given t)
 
-module _ (plain : List PlainClass) (classes : List Class) (g : ℕ) (c : Class) (there : slice_get classes g ≡ Some c) (code : IsCodeOf plain classes g c)
+module _ (plain : List PlainClass) (classes : List Class) (g : ℕ) (c : Class) (there : slice_get classes g ≡ Some c) (code : IsCodeOf plain classes (class_at plain g) c)
     (f : StateOf) (vs : List Value) (inputs : Row) (vs_long : length vs ≡ c.cells) (fits : FitsClass plain g inputs) (does : Calls) (given : List Ask)
     (agree : AsksAgree (class_at plain g) given) (many : length given ≡ length c.calls.items)
     (answers : (n : ℕ) (q : Call) → slice_get c.calls.items n ≡ Some q
@@ -107,14 +109,14 @@ module _ (plain : List PlainClass) (classes : List Class) (g : ℕ) (c : Class) 
     long = begun_long c.own inputs;
     same = ap (λ ss. run_steps k (own_cells k vs) (own_flags k vs) given ss first) code.steps;
     known = λ x. nat_lt x k.inputs;
-    turn = subst (λ ss. Rattle.lus_classes.specs.ClassesOf.InTurn k ss (λ x. nat_lt x k.inputs)) (sym code.steps) code.turns;
+    turn = subst (λ ss. InTurn k ss (λ x. nat_lt x k.inputs)) (sym code.steps) code.turns;
     unknown = λ x u. seen x ∙ item_past x inputs (let a = ltb-false x k.inputs u in let b = fits.0 in omega (arith, a, b));
     on = given_same k inputs first seen fits.1;
     once = code.once;
     cells = refl;
     own = refl;
     waits = λ n q found m. refl;
-    holds = λ n q found over t is. absurd (over (code.every n (Rattle.std.proofs.lemmas.Option.slice_get_within c.calls.items n q found)));
+    holds = λ n q found over t is. absurd (over (code.every n (slice_get_within c.calls.items n q found)));
   }
 
   all : NextGoing plain classes f g c code vs vs_long given does agree many answers first [] (exec c.others.items vs does (code_made code.segments) 0 (vs, row))
@@ -146,13 +148,13 @@ module _ (plain : List PlainClass) (classes : List Class) (g : ℕ) (c : Class) 
       by (inr to) =
           let go = to.going in
           let store : Stored k vs to.cells to.row (exec c.others.items vs does code.stores 0 (to.cells, to.row)) =
-          code.keep vs does to.cells to.row go.long go.cells (let a = code.long in omega (arith, a, vs_long)) go.own in
+          code.keep vs does to.cells to.row go.long go.cells (let a = code.laid.own in omega (arith, a, vs_long)) go.own in
           let done : end ≡ Some (store.next, store.row) =
           end_is
           ∙ ap (λ o. option_map (λ s. s.1) (option_and_then (λ (s : ℕ × Board). exec c.others.items vs does code.stores s.0 s.1) o)) to.ended
           ∙ ap (option_map (λ s. s.1)) store.ended in
           let states : states_with f c.calls.items to.cells ≡ states_with f (calls_of classes g) store.next =
-          sym (states_behind f (kept k) c.calls.items store.next to.cells code.behind store.behind)
+          sym (states_behind f (kept k) c.calls.items store.next to.cells code.laid.behind store.behind)
           ∙ ap (λ qs. states_with f qs store.next) (sym calls_are) in
           record {
             answers =
@@ -165,7 +167,7 @@ module _ (plain : List PlainClass) (classes : List Class) (g : ℕ) (c : Class) 
           }
 
 -- classes whose code is made so are realised
-pub codes_realise : (plain : List PlainClass) (classes : List Class) → ((g : ℕ) (c : Class) → slice_get classes g ≡ Some c → IsCodeOf plain classes g c)
+pub codes_realise : (plain : List PlainClass) (classes : List Class) → ((g : ℕ) (c : Class) → slice_get classes g ≡ Some c → IsCodeOf plain classes (class_at plain g) c)
     → AreRealised plain classes (FitsClass plain)
 codes_realise plain classes codes g c there =
     let code = codes g c there in

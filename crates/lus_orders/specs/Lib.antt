@@ -5,4 +5,3 @@ pub mod Classes
 pub mod Made
 pub mod Segments
 pub mod Stores
-pub mod Static

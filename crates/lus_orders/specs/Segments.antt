@@ -16,7 +16,7 @@ use Rattle.lus_orders.specs.declared.class.Call.{Call}
 use Rattle.lus_orders.specs.declared.class.Class.{Class}
 use Rattle.lus_orders.specs.Orders.{Calls, Next, exec}
 use Rattle.lus_orders.specs.Classes.{Nests, begun, follows_class, part, passed}
-use Rattle.lus_orders.specs.Made.{AreCallsOf, FitsClass, flags_in, read_of, state_in}
+use Rattle.lus_orders.specs.Made.{AreCallsOf, FitsClass, flags_in, read_of, state_in, width}
 
 pub data Segment : Type 0 where
   gives : List Step → List Order → Segment
@@ -114,31 +114,45 @@ module _ (k : PlainClass) where
       (vs : List Value) (calls : Calls) (ns : List Value) (r : Row) → length r ≡ own → length ns ≡ length vs → kept ≤ length vs → take kept ns ≡ take kept vs
       → Stored vs ns r (exec others vs calls code 0 (ns, r))
 
--- the code of a class makes its steps and calls, and then stores what is kept
-pub record IsCodeOf (plain : List PlainClass) (classes : List Class) (g : ℕ) (c : Class) : Type 0 where
-  pub own : length (class_at plain g).clocks ≤ c.own
-  pub inputs : (class_at plain g).inputs ≤ length (class_at plain g).clocks
+-- cells are laid out: so many are a class's own, and behind them stand those of its calls, which are apart
+pub record AreLaidOut (own cells : ℕ) (qs : List Call) : Type 0 where
+  pub own : own ≤ cells
+  pub behind : Each (λ q. own ≤ q.cells) qs
+  pub within : Each (λ q. q.cells + q.length ≤ cells) qs
+  pub apart : (i j : ℕ) (p q : Call) → slice_get qs i ≡ Some p → slice_get qs j ≡ Some q → (i ≡ j → ⊥)
+      → (p.cells + p.length ≤ q.cells) ⊎ (q.cells + q.length ≤ p.cells)
+
+-- wherever its base is present, each call passes what fits the called class
+abbrev pub PassWhatFits : List PlainClass → PlainClass → Class → Type 0
+PassWhatFits plain k c =
+    (n : ℕ) (q : Call) → slice_get c.calls.items n ≡ Some q → (r : Row) → length r ≡ c.own → GivenOnClocks k (take (wide k) r) → looks q.base r ≡ true
+    → FitsClass plain q.node (passed q.arguments.items r)
+
+-- code belongs to class k, among classes that have theirs
+pub record IsCodeOf (plain : List PlainClass) (classes : List Class) (k : PlainClass) (c : Class) : Type 0 where
+  -- the class reads what it has given, in so many places;
+  pub turns : InTurn k k.steps (λ x. nat_lt x k.inputs)
+  pub inputs : k.inputs ≤ wide k
+  pub own : wide k ≤ c.own
+  -- the code is made of segments, which make its steps and each of its calls once,
   pub segments : List Segment
-  pub stores : List Order
-  pub steps : steps_made segments ≡ (class_at plain g).steps
-  pub code : stores ++ code_made segments ≡ c.code.items
-  pub make : Each (IsSegment (class_at plain g) c.others.items (λ h. length (class_at plain h).clocks) c.calls.items c.own) segments
-  pub keep : Stores (class_at plain g) c.others.items c.own stores
+  pub steps : steps_made segments ≡ k.steps
+  pub make : Each (IsSegment k c.others.items (width plain classes) c.calls.items c.own) segments
   pub once : AreOnce segments
   pub every : (n : ℕ) → n < length c.calls.items → Making n segments
-  pub turns : InTurn (class_at plain g) (class_at plain g).steps (λ x. nat_lt x (class_at plain g).inputs)
-  pub long : length (class_at plain g).memories + length (class_at plain g).firsts ≤ c.cells
-  pub behind : Each (λ q. length (class_at plain g).memories + length (class_at plain g).firsts ≤ q.cells) c.calls.items
-  pub apart : (i j : ℕ) (p q : Call) → slice_get c.calls.items i ≡ Some p → slice_get c.calls.items j ≡ Some q → (i ≡ j → ⊥)
-      → (p.cells + p.length ≤ q.cells) ⊎ (q.cells + q.length ≤ p.cells)
-  pub calls_are : AreCallsOf plain classes (FitsClass plain) c (length (class_at plain g).clocks) c.calls.items (class_at plain g).calls
-  pub passing : (n : ℕ) (q : Call) → slice_get c.calls.items n ≡ Some q → (r : Row) → length r ≡ c.own
-      → GivenOnClocks (class_at plain g) (take (length (class_at plain g).clocks) r) → looks q.base r ≡ true → FitsClass plain q.node (passed q.arguments.items r)
+  -- and of stores behind them;
+  pub stores : List Order
+  pub keep : Stores k c.others.items c.own stores
+  pub code : stores ++ code_made segments ≡ c.code.items
+  -- its calls are those of the class, and have cells of their own.
+  pub calls_are : AreCallsOf plain classes (FitsClass plain) c (wide k) c.calls.items k.calls
+  pub passing : PassWhatFits plain k c
+  pub laid : AreLaidOut (kept k) c.cells c.calls.items
 
 -- code of classes makes their instants, with all that they call: what it leaves on the row and in the next cells is what a step answers
 abbrev pub CodeMakesInstants : Type 0
 CodeMakesInstants =
-    (plain : List PlainClass) (classes : List Class) → ((g : ℕ) (c : Class) → slice_get classes g ≡ Some c → IsCodeOf plain classes g c)
+    (plain : List PlainClass) (classes : List Class) → ((g : ℕ) (c : Class) → slice_get classes g ≡ Some c → IsCodeOf plain classes (class_at plain g) c)
     → (d g : ℕ) (c : Class) → slice_get classes g ≡ Some c → Nests classes (suc d) g
     → (vs : List Value) (inputs : Row) → length vs ≡ c.cells → FitsClass plain g inputs
     → step plain (state_in plain classes (suc d) g vs) g inputs

@@ -2,7 +2,6 @@
 
 ghost use Rattle.lus_orders.specs.Made.{CodeMakesSteps};
 ghost use Rattle.lus_orders.specs.Segments.{CodeMakesInstants};
-ghost use Rattle.lus_orders.specs.Static.{BasesTakeAlong, TurnsAreOfVariables};
 ghost use Rattle.lus_orders.specs.Stores.{StoresStore};
 
 /// Code that makes the instants of each class alone makes those of all nodes, with all that they call.
@@ -18,10 +17,4 @@ pub fn code_makes_instants()
 /// Orders that store one cell after another store what a class keeps.
 pub fn stores_store()
     ensures { StoresStore }
-{}
-
-/// What steps in turn read and give are variables; and where the base of a call is absent, so are the clocks that lead to it.
-pub fn classes_are_sound()
-    ensures variables { TurnsAreOfVariables }
-    ensures bases { BasesTakeAlong }
 {}
