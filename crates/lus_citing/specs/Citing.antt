@@ -1,5 +1,6 @@
 -- What is shown of a line of a source round a column, and what stands under it. Columns count characters, from 1.
-use Rattle.std.specs.Prelude.{◌==◌, ◌-◌, ◌++◌, ℕ, Bool, [], chars, codes, drop, encode_utf8_all, length, map, nat_le, nat_lt, take, if◌then◌else◌}
+use Rattle.std.specs.Prelude.{◌==◌, ◌&&◌, ◌-◌, ◌++◌, ℕ, Bool, [], chars, codes, drop, encode_utf8_all, length, map, nat_le, nat_lt, not, take, if◌then◌else◌}
+use Rattle.std.specs.Char.{is_control}
 use Rattle.lus_syntax.specs.Lexemes.{Text}
 
 -- the most characters of a line that are shown
@@ -10,9 +11,13 @@ most_shown = 200
 abbrev pub left_out : Text → ℕ → ℕ
 left_out line column = if nat_le (length (chars line)) most_shown then 0 else column - 101
 
+-- a character as it is shown: U+FFFD for one that a terminal would obey, but for a tab
+abbrev pub seen : ℕ → ℕ
+seen c = if is_control c && not (c == 9) then 0xFFFD else c
+
 -- what is shown behind these
 abbrev pub part : Text → ℕ → Text
-part line from = encode_utf8_all (take most_shown (drop from (chars line)))
+part line from = encode_utf8_all (map seen (take most_shown (drop from (chars line))))
 
 -- what stands where a line is cut
 abbrev pub dots : Bool → Text

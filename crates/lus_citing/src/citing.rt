@@ -1,7 +1,7 @@
 //! Lines as they are shown.
 
 ghost use Rattle.std.specs.Prelude.{◌≡◌, chars, IfOk, length, string_bytes};
-ghost use Rattle.lus_citing.specs.Citing.{blank, blanks, cited, dots, ended, left_out, part, pointed, shown, under, under_dots};
+ghost use Rattle.lus_citing.specs.Citing.{blank, blanks, cited, dots, ended, left_out, part, pointed, seen, shown, under, under_dots};
 
 use std::alloc::{AllocError, Global};
 
@@ -26,11 +26,30 @@ pub(crate) fn left_out(line: &str, column: usize) -> usize
     }
 }
 
+/// A character as it is shown: U+FFFD for one that a terminal would obey.
+fn seen(letter: char) -> char
+    ensures { result ≡ seen letter }
+{
+    if letter.is_control() && letter != '\t' {
+        '\u{fffd}'
+    } else {
+        letter
+    }
+}
+
 /// What is shown of a line behind its first characters.
 fn part_of(alloc: Global, line: &str, from: usize) -> Result<String, AllocError>
     ensures { IfOk result (λ text. string_bytes text ≡ part line.now from) }
 {
-    line.chars().skip(from).take(MOST_SHOWN).collect(alloc)
+    line.chars()
+        .skip(from)
+        .take(MOST_SHOWN)
+        .map(
+            |letter|
+                ensures { result ≡ seen letter }
+            { seen(letter) },
+        )
+        .collect(alloc)
 }
 
 /// What stands under a character: a blank, and a tab under a tab.
