@@ -56,14 +56,10 @@ impl<'s> Rest<'s> {
 
     /// The place of the last declaration that doesn't begin behind a line and a column.
     pub(crate) fn declaration_at(&self, line: usize, column: usize) -> usize {
-        let count = self
-            .declarations
-            .iter()
-            .take_while(|declaration| {
-                let start = declaration.start;
-                start.line < line || (start.line == line && start.column <= column)
-            })
-            .count();
+        let count = self.declarations.partition_point(|declaration| {
+            let start = declaration.start;
+            start.line < line || (start.line == line && start.column <= column)
+        });
         count.saturating_sub(1)
     }
 
